@@ -1,0 +1,39 @@
+-- The submission entry of 64 bytes: Base Specification, "Common Command Format"; NVM Command Set
+-- Specification, Read and Write, command dwords 10 to 12. All numbers are little endian.
+use Rattle.std.specs.Prelude.{◌≡◌, ℕ, ◌+◌, ◌*◌, ◌%◌, if◌then◌else◌, List, [], ◌∷◌, ◌++◌, length, take, drop, slice_index, replicate}
+use Rattle.byteorder.specs.Endian.{little_number, little_bytes}
+use Rattle.nvm_record.specs.Op.{op_of, opcode_of, IsProper, fuse_of, bits_of, carries_data}
+use Rattle.nvm_record.specs.declared.op.Op.{Op}
+use Rattle.nvm_record.specs.declared.command.Command.{Command}
+
+-- These 64 bytes are an entry of the command. What no field here names may be anything.
+pub record IsEntryOf (entry : List ℕ) (c : Command) : Type 0 where
+  pub whole : length entry ≡ 64
+  pub op : c.op ≡ op_of (slice_index entry 0)
+  pub fuse : c.fuse ≡ fuse_of (slice_index entry 1 % 4)
+  pub cid : c.cid ≡ little_number 2 (drop 2 entry)
+  pub nsid : c.nsid ≡ little_number 4 (drop 4 entry)
+  pub slba : c.slba ≡ little_number 8 (drop 40 entry)
+  pub nlb : c.nlb ≡ little_number 2 (drop 48 entry)
+
+-- how many bytes of data go with an operation on `nlb + 1` blocks
+abbrev pub data_length : ℕ → Op → ℕ → ℕ
+data_length size op nlb = if carries_data op then (nlb + 1) * size else 0
+
+-- The command has just the data that it calls for, and its opcode can be read back.
+pub record IsWhole (size : ℕ) (c : Command) : Type 0 where
+  pub payload : length c.payload ≡ data_length size c.op c.nlb
+  pub op : IsProper c.op
+
+-- These bytes are the command's entry and the data that it calls for.
+pub record IsSpelling (size : ℕ) (bytes : List ℕ) (c : Command) : Type 0 where
+  pub entry : IsEntryOf (take 64 bytes) c
+  pub payload : c.payload ≡ drop 64 bytes
+  pub called_for : length c.payload ≡ data_length size c.op c.nlb
+
+-- the entry whose unnamed bits are all 0
+abbrev pub entry_of : Command → List ℕ
+entry_of c =
+    opcode_of c.op ∷ bits_of c.fuse ∷
+    (little_bytes 2 c.cid ++ (little_bytes 4 c.nsid ++ (replicate 32 0
+    ++ (little_bytes 8 c.slba ++ (little_bytes 2 c.nlb ++ replicate 14 0)))))

@@ -1,0 +1,79 @@
+-- The host file: its name, then each command of one host with its data.
+use Rattle.std.specs.Prelude.{◌≡◌, ◌≢◌, ◌⊎◌, ℕ, ◌+◌, ◌<◌, ◌≤◌, List, [], ◌∷◌, ◌++◌, length, take, drop, slice_index, Result, MatchResult, Vec}
+use Rattle.byteorder.specs.Endian.{little_number}
+use Rattle.nvm_record.specs.Op.{op_of}
+use Rattle.nvm_record.specs.Entry.{IsSpelling, data_length}
+use Rattle.nvm_record.specs.declared.command.Command.{Command}
+use Rattle.nvm_record.specs.declared.host_fault.HostFault.{HostFault}
+use Rattle.nvm_record.specs.declared.host_fault.HostFault.TheVariants.{BadName, Truncated, TooMany, NoMemory}
+
+-- `NVQ1`
+abbrev pub file_name : List ℕ
+file_name = 78 ∷ 86 ∷ 81 ∷ 49 ∷ []
+
+-- a file has so many commands at most
+abbrev pub most_commands : ℕ
+most_commands = 65536
+
+-- The bytes begin with a spelling of the command, and then comes the rest.
+abbrev pub BeginsWith : ℕ → List ℕ → Command → List ℕ → Type 0
+BeginsWith size bytes c rest = (front : List ℕ) × (bytes ≡ front ++ rest) × IsSpelling size front c
+
+-- The bytes are spellings of the commands, one after the other, and then the rest.
+abbrev pub Begins : ℕ → List ℕ → List Command → List ℕ → Type 0
+Begins size bytes [] rest = bytes ≡ rest
+Begins size bytes (c ∷ cs) rest = (after : List ℕ) × BeginsWith size bytes c after × Begins size after cs rest
+
+-- The whole file is the name and the commands.
+pub record IsHostFile (size : ℕ) (bytes : List ℕ) (cs : List Command) : Type 0 where
+  pub name : take 4 bytes ≡ file_name
+  pub commands : Begins size (drop 4 bytes) cs []
+  pub few : length cs ≤ most_commands
+
+-- how many bytes of data the entry at the front of the bytes calls for
+abbrev pub called_for : ℕ → List ℕ → ℕ
+called_for size bytes = data_length size (op_of (slice_index bytes 0)) (little_number 2 (drop 48 bytes))
+
+-- Bytes are left, and they aren't a whole entry; or they are, and the data after it isn't whole. What
+-- isn't whole begins at place `at` of what is left.
+abbrev pub IsCut : ℕ → List ℕ → ℕ → Type 0
+IsCut size rest at =
+    ((0 < length rest) × (length rest < 64) × (at ≡ 0))
+    ⊎ ((64 ≤ length rest) × (length rest < 64 + called_for size rest) × (at ≡ 64))
+
+-- After these whole commands, something at offset `offset` of the file isn't whole.
+pub record IsTruncated (size : ℕ) (bytes : List ℕ) (offset : ℕ) (cs : List Command) (rest : List ℕ) (at : ℕ) : Type 0 where
+  pub name : take 4 bytes ≡ file_name
+  pub commands : Begins size (drop 4 bytes) cs rest
+  pub few : length cs < most_commands
+  pub cut : IsCut size rest at
+  pub place : offset + length rest ≡ length bytes + at
+
+-- Bytes are left after as many commands as a file may have.
+pub record HasTooMany (size : ℕ) (bytes : List ℕ) (cs : List Command) (rest : List ℕ) : Type 0 where
+  pub name : take 4 bytes ≡ file_name
+  pub commands : Begins size (drop 4 bytes) cs rest
+  pub many : length cs ≡ most_commands
+  pub left : 0 < length rest
+
+-- The first fault of the bytes, from the front. Memory isn't a fault of the bytes.
+abbrev pub IsFaultOf : ℕ → List ℕ → HostFault → Type 0
+IsFaultOf size bytes BadName = take 4 bytes ≢ file_name
+IsFaultOf size bytes (Truncated offset) =
+    (cs : List Command) × (rest : List ℕ) × (at : ℕ) × IsTruncated size bytes offset cs rest at
+IsFaultOf size bytes TooMany = (cs : List Command) × (rest : List ℕ) × HasTooMany size bytes cs rest
+IsFaultOf size bytes NoMemory = ⊥
+
+-- What reading the command at the front of `rest`, at `offset` of the file, may answer in place of it.
+abbrev pub IsCutFault : ℕ → List ℕ → ℕ → HostFault → Type 0
+IsCutFault size rest offset BadName = ⊥
+IsCutFault size rest offset (Truncated place) = (at : ℕ) × IsCut size rest at × (place ≡ offset + at)
+IsCutFault size rest offset TooMany = ⊥
+IsCutFault size rest offset NoMemory = Unit {0}
+
+-- What is answered of a file: a fault that is one, or want of memory.
+abbrev pub IsAnsweredFault : ℕ → List ℕ → HostFault → Type 0
+IsAnsweredFault size bytes BadName = IsFaultOf size bytes BadName
+IsAnsweredFault size bytes (Truncated offset) = IsFaultOf size bytes (Truncated offset)
+IsAnsweredFault size bytes TooMany = IsFaultOf size bytes TooMany
+IsAnsweredFault size bytes NoMemory = Unit {0}

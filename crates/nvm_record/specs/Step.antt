@@ -1,0 +1,91 @@
+-- What a command does to a medium, LBA by LBA, and what its host is told: NVM Command Set
+-- Specification, the commands Write, Read, Write Zeroes, Write Uncorrectable and Compare; Base
+-- Specification, "Fused Operation". No unit, part or version occurs here.
+use Rattle.std.specs.Prelude.{◌≡◌, ℕ, ◌+◌, ◌*◌, ◌-◌, ◌<◌, ◌≤◌, nat_le, nat_lt, if◌then◌else◌, List, [], ◌∷◌, length, take, drop, replicate, Bool, true, false, ◌&&◌, Option, Some, None}
+use Rattle.std.specs.Str.{bytes_eq}
+use Rattle.nvm_record.specs.declared.block.Block.{Block}
+use Rattle.nvm_record.specs.declared.block.Block.TheVariants.{Bytes, Uncorrectable}
+use Rattle.nvm_record.specs.declared.status.Status.{Status}
+use Rattle.nvm_record.specs.declared.status.Statuses.{Statuses}
+use Rattle.nvm_record.specs.declared.status.Statuses.TheVariants.{One, Two}
+use Rattle.nvm_record.specs.Status.{successful_completion, unrecovered_read_error, compare_failure, aborted_due_to_failed_fused_command}
+use Rattle.nvm_record.specs.Medium.{Medium, range, has_mark, joined}
+
+-- what is done to a range of blocks
+pub data Deed : Type 0 where
+  writes : List ℕ → Deed
+  zeroes : Deed
+  marks : Deed
+  reads : Deed
+  compares : List ℕ → Deed
+  -- a fused Compare and Write: the data to compare with, then the data to write
+  pairs : List ℕ → List ℕ → Deed
+
+-- a deed on the `blocks` LBAs from `first`
+pub record Operation : Type 0 where
+  pub first : ℕ
+  pub blocks : ℕ
+  pub deed : Deed
+
+-- how a comparison of blocks with data ends: a mark decides before any byte does
+abbrev pub comparison : List Block → List ℕ → Status
+comparison blocks payload =
+    if has_mark blocks then unrecovered_read_error else
+    if bytes_eq (joined blocks) payload then successful_completion else compare_failure
+
+-- the comparison holds
+abbrev pub compares_equal : List Block → List ℕ → Bool
+compares_equal blocks payload = if has_mark blocks then false else bytes_eq (joined blocks) payload
+
+-- what the host is told, by the blocks of the range
+abbrev pub statuses_on : List Block → Deed → Statuses
+statuses_on blocks (writes payload) = One successful_completion
+statuses_on blocks zeroes = One successful_completion
+statuses_on blocks marks = One successful_completion
+statuses_on blocks reads = One (if has_mark blocks then unrecovered_read_error else successful_completion)
+statuses_on blocks (compares payload) = One (comparison blocks payload)
+statuses_on blocks (pairs payload new) =
+    Two (comparison blocks payload) (if compares_equal blocks payload then successful_completion else aborted_due_to_failed_fused_command)
+
+-- a Read's data, by the blocks of the range
+abbrev pub data_on : List Block → Deed → Option (List ℕ)
+data_on blocks (writes payload) = None
+data_on blocks zeroes = None
+data_on blocks marks = None
+data_on blocks reads = if has_mark blocks then None else Some (joined blocks)
+data_on blocks (compares payload) = None
+data_on blocks (pairs payload new) = None
+
+-- the block at place i of data
+abbrev pub block_at : ℕ → List ℕ → ℕ → Block
+block_at size payload i = Bytes (take size (drop (i * size) payload))
+
+-- the block at place i of the range, where `old` stood there before
+abbrev pub block_after : ℕ → List Block → Deed → ℕ → Block → Block
+block_after size blocks (writes payload) i old = block_at size payload i
+block_after size blocks zeroes i old = Bytes (replicate size 0)
+block_after size blocks marks i old = Uncorrectable
+block_after size blocks reads i old = old
+block_after size blocks (compares payload) i old = old
+block_after size blocks (pairs payload new) i old = if compares_equal blocks payload then block_at size new i else old
+
+-- the blocks of the operation's range
+abbrev pub range_of : Operation → Medium → List Block
+range_of op m = range m op.first op.blocks
+
+-- the LBA lies in the operation's range
+abbrev pub is_in_range : Operation → ℕ → Bool
+is_in_range op lba = nat_le op.first lba && nat_lt lba (op.first + op.blocks)
+
+-- the statuses of the operation: one for a command, two for a pair
+abbrev pub statuses_of : Operation → Medium → Statuses
+statuses_of op m = statuses_on (range_of op m) op.deed
+
+-- a Read's data, where it succeeds
+abbrev pub data_of : Operation → Medium → Option (List ℕ)
+data_of op m = data_on (range_of op m) op.deed
+
+-- The medium after the operation. A block outside its range stays as it is.
+abbrev pub medium_after : ℕ → Operation → Medium → Medium
+medium_after size op m lba =
+    if is_in_range op lba then block_after size (range_of op m) op.deed (lba - op.first) (m lba) else m lba

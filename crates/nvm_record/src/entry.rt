@@ -1,0 +1,62 @@
+ghost use Rattle.std.specs.Prelude.{◌≡◌, ◌%◌, ℕ, length, drop, slice_index, ◌++◌};
+ghost use Rattle.byteorder.specs.Endian.{little_number};
+ghost use Rattle.nvm_record.specs.Entry.{entry_of, IsWhole, IsSpelling};
+ghost use Rattle.nvm_record.specs.Op.{op_of, fuse_of};
+
+use crate::command::Command;
+use crate::op::{Fuse, Op};
+use byteorder::{ByteOrder, LittleEndian};
+
+/// A submission entry has so many bytes.
+pub const ENTRY_BYTES: usize = 64;
+
+/// What an entry says of its command.
+#[derive(Clone, Copy)]
+pub struct Fields {
+    pub cid: u16,
+    pub nsid: u32,
+    pub fuse: Fuse,
+    pub op: Op,
+    pub slba: u64,
+    pub nlb: u16,
+}
+
+/// The fields of an entry. All other bits may be anything.
+pub fn fields_of(entry: &[u8]) -> Fields
+    requires { length entry.now ≡ 64 }
+    ensures op { result.op ≡ op_of (slice_index entry.now 0) }
+    ensures fuse { result.fuse ≡ fuse_of (slice_index entry.now 1 % 4) }
+    ensures cid { result.cid ≡ little_number 2 (drop 2 entry.now) }
+    ensures nsid { result.nsid ≡ little_number 4 (drop 4 entry.now) }
+    ensures slba { result.slba ≡ little_number 8 (drop 40 entry.now) }
+    ensures nlb { result.nlb ≡ little_number 2 (drop 48 entry.now) }
+{
+    Fields {
+        cid: LittleEndian::read_u16(&entry[2..]),
+        nsid: LittleEndian::read_u32(&entry[4..]),
+        fuse: Fuse::of_bits(entry[1] % 4),
+        op: Op::of_opcode(entry[0]),
+        slba: LittleEndian::read_u64(&entry[40..]),
+        nlb: LittleEndian::read_u16(&entry[48..]),
+    }
+}
+
+/// The command's submission entry, every bit that no field of `Command` names being 0 (Base
+/// Specification, "Common Command Format"). It takes no memory.
+///
+/// With the data after it, it is a spelling of the command, where the data is as long as the command
+/// calls for and an `Other` holds no opcode that has a name of its own.
+pub fn command_bytes(command: &Command) -> [u8; 64]
+    ensures entry { result ≡ entry_of command.now }
+    ensures spelling { (size : ℕ) → IsWhole size command.now
+        → IsSpelling size (result ++ command.now.payload) command.now }
+{
+    let mut entry = [0; 64];
+    entry[0] = command.op.opcode();
+    entry[1] = command.fuse.bits();
+    LittleEndian::write_u16(&mut entry[2..], command.cid);
+    LittleEndian::write_u32(&mut entry[4..], command.nsid);
+    LittleEndian::write_u64(&mut entry[40..], command.slba);
+    LittleEndian::write_u16(&mut entry[48..], command.nlb);
+    entry
+}
