@@ -33,15 +33,24 @@ pub fn read_host(alloc: Global, bytes: &[u8], size: BlockSize) -> Result<Vec<Com
     ensures each_fault { (f : Fault) → IsFaultOf size bytes.now f
         → MatchResult result (λ _. ⊥) (λ e. (e ≡ f) ⊎ (e ≡ NoMemory)) }
 {
+    commands_of(alloc, bytes, size)
+}
+
+/// What the file reads as.
+fn commands_of(alloc: Global, bytes: &[u8], size: BlockSize) -> Result<Vec<Command>, HostFault>
+    ensures commands { IfOk result (λ v. IsHostFile size bytes.now v.items) }
+    ensures fault { IfErr result (IsAnsweredFault size bytes.now) }
+{
     let Some(mut rest) = bytes.strip_prefix(NAME) else {
         return Err(HostFault::BadName);
     };
+    let length = bytes.len();
     let mut commands = Vec::new(alloc);
     while !rest.is_empty() {
         if commands.len() == MOST_COMMANDS {
             return Err(HostFault::TooMany);
         }
-        let (command, after) = read_command(alloc, rest, size, bytes.len() - rest.len())?;
+        let (command, after) = read_command(alloc, rest, size, length - rest.len())?;
         commands.push(command)?;
         rest = after;
     }
@@ -66,11 +75,7 @@ fn read_command(
     }
     let (entry, after) = rest.split_at(ENTRY_BYTES);
     let fields = fields_of(entry);
-    let wanted = if fields.op.carries_data() {
-        (fields.nlb as usize + 1) * size.bytes() as usize
-    } else {
-        0
-    };
+    let wanted = fields.data_length(size);
     if after.len() < wanted {
         return Err(HostFault::Truncated {
             at: (offset + ENTRY_BYTES) as u64,
