@@ -1,0 +1,7 @@
+-- Which operation an act stands for.
+use Rattle.nvm_record.specs.Step.{Operation, writes}
+use Rattle.nvm_store.specs.declared.act.Act.{Act}
+use Rattle.nvm_store.specs.declared.act.Act.TheVariants.{Write}
+
+abbrev pub operation_of : Act → Operation
+operation_of (Write first blocks payload) = record { first = first; blocks = blocks; deed = writes payload }

@@ -1,0 +1,18 @@
+//! The blocks of one unit, what is done to them and asked of them, and the histories that say how they
+//! came to be.
+#![tactic(auto)]
+
+mod act;
+mod act_ref;
+mod answer;
+mod entry;
+mod limit;
+mod look;
+mod stored_block;
+
+pub use act::Act;
+pub use act_ref::ActRef;
+pub use answer::Answer;
+pub use entry::{Entry, History};
+pub use limit::Limit;
+pub use look::Look;
