@@ -1,5 +1,5 @@
 -- One stored block: its bytes, and whether it is marked. A marked block keeps room for its bytes.
-use Rattle.std.specs.Prelude.{◌≡◌, ℕ, ◌+◌, ◌<◌, ◌≤◌, ◌∷◌, [], List, length, map, Bool, if◌then◌else◌, slice_index_or}
+use Rattle.std.specs.Prelude.{◌≡◌, ◌⊎◌, ℕ, ◌+◌, ◌*◌, ◌<◌, ◌≤◌, List, length, map, replicate, take, drop, Bool, false, if◌then◌else◌, slice_index_or}
 use Rattle.nvm_record.specs.declared.block.Block.{Block}
 use Rattle.nvm_record.specs.declared.block.Block.TheVariants.{Bytes, Uncorrectable}
 
@@ -24,3 +24,16 @@ pub record AreSound (first size : ℕ) (blocks : List Stored) : Type 0 where
   pub some : 0 < length blocks
   pub low : first + length blocks ≤ 65536
   pub sized : AreSized size blocks
+
+-- a block of zero bytes
+abbrev pub zero_block : ℕ → Stored
+zero_block size = record { bytes = replicate size 0; is_marked = false }
+
+-- the block that takes the bytes at place i of data
+abbrev pub written : ℕ → List ℕ → ℕ → Stored
+written size payload i = record { bytes = take size (drop (i * size) payload); is_marked = false }
+
+-- The blocks outside the `count` from place `at` stay.
+abbrev pub KeepsAllBut : ℕ → ℕ → List Stored → List Stored → Type 0
+KeepsAllBut at count old new =
+    (d : Stored) (i : ℕ) → (i < at) ⊎ (at + count ≤ i) → slice_index_or new i d ≡ slice_index_or old i d

@@ -9,6 +9,7 @@ mod entry;
 mod limit;
 mod look;
 mod stored_block;
+mod stored_blocks;
 
 pub use act::Act;
 pub use act_ref::ActRef;
