@@ -41,11 +41,15 @@ HasData bytes reads = Unit {0}
 HasData bytes (compares payload) = length payload ≡ bytes
 HasData bytes (pairs payload new) = (length payload ≡ bytes) × (length new ≡ bytes)
 
+-- The `blocks` LBAs from `first` are at least one, and lie among the `count` from `start`.
+pub record IsWithin (start count first blocks : ℕ) : Type 0 where
+  pub some : 0 < blocks
+  pub above : start ≤ first
+  pub below : first + blocks ≤ start + count
+
 -- The operation's range has a block and lies in the unit, and its data has just the range's blocks.
 pub record IsCovered (start count block_size : ℕ) (op : Operation) : Type 0 where
-  pub some : 0 < op.blocks
-  pub above : start ≤ op.first
-  pub below : op.first + op.blocks ≤ start + count
+  pub range : IsWithin start count op.first op.blocks
   pub payload : HasData (op.blocks * block_size) op.deed
 
 abbrev pub Covers : Contents → Operation → Type 0

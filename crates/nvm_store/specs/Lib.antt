@@ -1,5 +1,6 @@
 pub mod Contents
 pub mod Stored
+pub mod Operation
 pub mod Act
 pub mod ActRef
 pub mod Look

@@ -4,16 +4,20 @@
 
 mod act;
 mod act_ref;
-mod answer;
+mod answers;
 mod entry;
 mod limit;
 mod look;
+mod step;
 mod stored_block;
 mod stored_blocks;
+mod unit_blocks;
 
 pub use act::Act;
 pub use act_ref::ActRef;
-pub use answer::Answer;
+pub use answers::Answer;
 pub use entry::{Entry, History};
 pub use limit::Limit;
 pub use look::Look;
+pub use step::{answer, apply, judge};
+pub use unit_blocks::UnitBlocks;

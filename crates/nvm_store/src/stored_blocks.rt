@@ -59,6 +59,7 @@ pub fn write_range(blocks: &mut Vec<StoredBlock>, at: usize, count: usize, size:
     requires payload { length payload.now ≡ count * size }
     requires sized { AreSized size blocks.old.items }
     ensures len { length blocks.new.items ≡ length blocks.old.items }
+    ensures sized { AreSized size blocks.new.items }
     ensures written { (d : Stored) (i : ℕ) → i < count → slice_index_or blocks.new.items (at + i) d ≡ written size payload.now i }
     ensures others { KeepsAllBut at count blocks.old.items blocks.new.items }
 {
