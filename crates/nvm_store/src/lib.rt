@@ -1,0 +1,23 @@
+//! The blocks of one unit, what is done to them and asked of them, and the histories that say how they
+//! came to be.
+#![tactic(auto)]
+
+mod act;
+mod act_ref;
+mod answers;
+mod entry;
+mod limit;
+mod look;
+mod step;
+mod stored_block;
+mod stored_blocks;
+mod unit_blocks;
+
+pub use act::Act;
+pub use act_ref::ActRef;
+pub use answers::Answer;
+pub use entry::{Entry, History};
+pub use limit::Limit;
+pub use look::Look;
+pub use step::{answer, apply, judge};
+pub use unit_blocks::UnitBlocks;
