@@ -1,0 +1,5 @@
+pub mod Checks
+pub mod Run
+pub mod Fault
+pub mod Words
+pub mod Shown
