@@ -1,3 +1,4 @@
 pub mod EntryLemmas
 pub mod HostFileLemmas
 pub mod OneReading
+pub mod WholeCommands

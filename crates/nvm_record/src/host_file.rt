@@ -1,4 +1,5 @@
-ghost use Rattle.std.specs.Prelude.{◌≡◌, ◌⊎◌, ◌+◌, ◌^◌, ◌<◌, ℕ, List, IfOk, IfErr, MatchResult, length};
+ghost use Rattle.std.specs.Prelude.{◌≡◌, ◌⊎◌, ◌+◌, ◌^◌, ◌<◌, All, ℕ, List, IfOk, IfErr, MatchResult, length};
+ghost use Rattle.nvm_record.specs.Entry.{IsWhole};
 ghost use Rattle.nvm_record.specs.HostFile.{IsHostFile, IsFaultOf, IsAnsweredFault, BeginsWith, IsCutFault};
 ghost use Rattle.nvm_record.specs.declared.command.Command.{Command as Spelled};
 ghost use Rattle.nvm_record.specs.declared.host_fault.HostFault.{HostFault as Fault};
@@ -26,6 +27,8 @@ pub fn read_host(alloc: Global, bytes: &[u8], size: BlockSize) -> Result<Vec<Com
     // What is answered is what the file reads as.
     ensures commands { IfOk result (λ v. IsHostFile size bytes.now v.items) }
     ensures fault { IfErr result (IsAnsweredFault size bytes.now) }
+    // Each command has just the data that it calls for, and no `Other` has an opcode with a name.
+    ensures whole { IfOk result (λ v. All (IsWhole size) v.items) }
 
     // A file reads as one thing alone, so nothing but want of memory is answered in its place.
     ensures all_commands { (cs : List Spelled) → IsHostFile size bytes.now cs
