@@ -1,6 +1,6 @@
 -- The checks of a command before anything is done, in their order; the first that applies decides.
 -- A fused command is always without its partner here, since every command is a job by itself.
-use Rattle.std.specs.Prelude.{ℕ, ◌+◌, ◌==◌, nat_lt, if◌then◌else◌, List, [], ◌∷◌, Option, Some, None, Bool, true, false, not}
+use Rattle.std.specs.Prelude.{◌≡◌, ℕ, ◌+◌, ◌≤◌, ◌==◌, nat_lt, if◌then◌else◌, List, [], ◌∷◌, Option, Some, None, Bool, true, false, not}
 use Rattle.nvm_record.specs.declared.op.Op.{Op}
 use Rattle.nvm_record.specs.declared.op.Op.TheVariants.{Write, Read, WriteUncorrectable, Compare, WriteZeroes, Other}
 use Rattle.nvm_record.specs.declared.op.Fuse.{Fuse}
@@ -55,3 +55,8 @@ first_of (check ∷ rest) = if check.applies then Some check.status else first_o
 -- the status with which a command is refused, if it is
 abbrev pub refusal_of : ℕ → Command → Option Status
 refusal_of nsze c = first_of (checks nsze c)
+
+-- What holds of a command that isn't refused: it is served, and its range lies in the namespace.
+pub record IsServed (nsze : ℕ) (c : Command) : Type 0 where
+  pub op : is_served c.op ≡ true
+  pub range : c.slba + c.nlb + 1 ≤ nsze

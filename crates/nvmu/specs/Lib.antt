@@ -3,3 +3,5 @@ pub mod Run
 pub mod Fault
 pub mod Words
 pub mod Shown
+pub mod Whole
+pub mod OneUnit

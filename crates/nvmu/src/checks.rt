@@ -1,6 +1,6 @@
-ghost use Rattle.std.specs.Prelude.{◌≡◌};
+ghost use Rattle.std.specs.Prelude.{◌≡◌, IfNone};
 ghost use Rattle.nvmu.specs.Checks as spec;
-ghost use Rattle.nvmu.specs.Checks.{refusal_of};
+ghost use Rattle.nvmu.specs.Checks.{refusal_of, IsServed};
 
 use nvm_record::{Command, Fuse, Op, Status};
 
@@ -10,7 +10,8 @@ const NSID: u32 = 1;
 /// The status with which a command is refused before anything is done, if it is: that of the first
 /// check that applies.
 pub fn refusal(nsze: u64, command: &Command) -> Option<Status>
-    ensures { result ≡ refusal_of nsze command.now }
+    ensures first { result ≡ refusal_of nsze command.now }
+    ensures none { IfNone result (IsServed nsze command.now) }
 {
     if !is_served(command.op) {
         return Some(Status::INVALID_COMMAND_OPCODE);
