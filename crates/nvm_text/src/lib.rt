@@ -12,3 +12,6 @@ mod run;
 
 pub use line::{push_line, push_lines, push_name, push_status};
 pub use run::push_runs;
+
+#[cfg(test)]
+mod tests;
