@@ -3,9 +3,11 @@ use Rattle.std.proofs.Common.{◌≡◌, ◌⊎◌, ℕ, zero, suc, ◌+◌, ◌
 use Rattle.std.proofs.lemmas.Bool.Decides.{nat_tests, leb_tells}
 use Rattle.std.proofs.lemmas.List.{get_or-map, get_or-take, get_or-drop, get_or-replicate, length-map, length-take-le, length-drop, length-replicate}
 use Rattle.nvm_record.specs.declared.block.Block.{Block}
-use Rattle.nvm_record.specs.declared.block.Block.TheVariants.{Bytes}
+use Rattle.nvm_record.specs.declared.block.Block.TheVariants.{Bytes, Uncorrectable}
 use Rattle.nvm_record.specs.Medium.{Medium, range}
-use Rattle.nvm_record.specs.Step.{medium_after}
+use Rattle.nvm_record.specs.Status.{IsSuccess}
+use Rattle.nvm_record.specs.Step.{Operation, statuses_of, medium_after}
+use Rattle.nvm_store.specs.Contents.{Contents, Holds, IsWithin, Covers, Succeeds}
 use Rattle.nvm_store.specs.Operation.{write_operation}
 use Rattle.nvm_store.specs.Stored.{Stored, block_of, blocks_of, zero_block, KeepsAllBut, written}
 
@@ -104,3 +106,33 @@ held-written m old new d start size first count at payload held place len put ot
         ]
     | inr below ↦ outside (inl below.1)
     ]
+
+-- Media that agree on the LBAs of a range have the same range.
+pub range-same : (m n : Medium) (first count : ℕ) → ((i : ℕ) → i < count → m (first + i) ≡ n (first + i))
+    → range m first count ≡ range n first count
+range-same m n first zero same = refl
+range-same m n first (suc count) same =
+    let here : m (first + 0) ≡ n (first + 0) = same 0 (omega arith) in
+    let at : first + 0 ≡ first = omega arith in
+    let rest : range m (suc first) count ≡ range n (suc first) count =
+        range-same m n (suc first) count
+        (λ i lt. let next : suc first + i ≡ first + suc i = omega arith in rw next (same (suc i) (omega arith))) in
+    cc
+
+-- All media that a unit holds have the same range there.
+pub range-held_same : (blocks : List Block) (start first count : ℕ) (m n : Medium) → IsWithin start (length blocks) first count
+    → AreAt blocks start m → AreAt blocks start n → range m first count ≡ range n first count
+range-held_same blocks start first count m n within held held' =
+    range-same m n first count
+    (λ i lt.
+    let above : start ≤ first = within.above in
+    let below : first + count ≤ start + length blocks = within.below in
+    let at : start + (first - start + i) ≡ first + i = omega arith in
+    let lt' : first - start + i < length blocks = omega arith in
+    rw (← at) (sym (held Uncorrectable (first - start + i) lt') ∙ held' Uncorrectable (first - start + i) lt'))
+
+-- An operation that succeeds on one medium that the unit holds succeeds on all of them.
+pub succeeds_on_held : (unit : Contents) (op : Operation) (m : Medium) → Covers unit op → Holds unit m
+    → IsSuccess (statuses_of op m) → Succeeds unit op
+succeeds_on_held unit op m covered held success n held' =
+    rw (range-held_same unit.blocks unit.first op.first op.blocks m n covered.range held held') at success

@@ -7,6 +7,7 @@ mod act_ref;
 mod answers;
 mod entry;
 mod history;
+pub mod laws;
 mod limit;
 mod look;
 mod step;
