@@ -47,14 +47,14 @@ pub lawful_push : (start count size : ℕ) (history : List Line) (line : Line)
 lawful_push start count size history line lawful follows d i lt =
     let n = length history in
     elim (leb_tells n i) [
-      inl end ↦
-        let is : i ≡ n = omega (arith, length_push history line) in
-        let taken : take i (history ++ line ∷ []) ≡ history = rw is (take_at history (line ∷ []) n refl) in
-        let read : get_or (history ++ line ∷ []) i d ≡ line = get_or_push history line d i (sym is) in
-        rw (taken, read) follows
-    | inr before ↦
-        let taken : take i (history ++ line ∷ []) ≡ take i history = take-append-le i history (line ∷ []) (omega arith) in
-        let read : get_or (history ++ line ∷ []) i d ≡ get_or history i d =
-            get_or_append_left history (line ∷ []) d i (omega arith) in
-        rw (taken, read) (lawful d i (omega arith))
+      | inl end ↦
+          let is : i ≡ n = omega (arith, length_push history line) in
+          let taken : take i (history ++ line ∷ []) ≡ history = rw is (take_at history (line ∷ []) n refl) in
+          let read : get_or (history ++ line ∷ []) i d ≡ line = get_or_push history line d i (sym is) in
+          rw (taken, read) follows
+      | inr before ↦
+          let taken : take i (history ++ line ∷ []) ≡ take i history = take-append-le i history (line ∷ []) (omega arith) in
+          let read : get_or (history ++ line ∷ []) i d ≡ get_or history i d =
+          get_or_append_left history (line ∷ []) d i (omega arith) in
+          rw (taken, read) (lawful d i (omega arith))
     ]

@@ -13,42 +13,36 @@ ghost use Rattle.nvm_store.specs.Point.{point};
 pub fn replay_of_one_more()
     ensures { (size : ℕ) (history : List Line) (line : Line)
         → replay_of size (history ++ line ∷ []) ≡ medium_after size line.operation (replay_of size history) }
-{
-}
+{}
 
 /// A history with one entry more is lawful exactly where the others are, and the entry can follow them.
 pub fn lawful_with_one_more()
     ensures { (start count size : ℕ) (history : List Line) (line : Line)
         → IsLawfulHistory start count size (history ++ line ∷ [])
         ↔ (IsLawfulHistory start count size history × CanFollow start count size history line) }
-{
-}
+{}
 
 /// What a lawful history begins with is lawful.
 pub fn lawful_beginning()
     ensures { (start count size : ℕ) (begin rest : List Line)
         → IsLawfulHistory start count size (begin ++ rest) → IsLawfulHistory start count size begin }
-{
-}
+{}
 
 /// A point is the same in each history that begins with its entries.
 pub fn point_of_beginning()
     ensures { (size : ℕ) (begin rest : List Line) (n : ℕ) → n ≤ length begin
         → point size (begin ++ rest) n ≡ point size begin n }
-{
-}
+{}
 
 /// All media whose blocks a unit holds have the same blocks in the range of an operation that the unit
 /// covers. So the operation's statuses and data are the same on them.
 pub fn same_range_on_held()
     ensures { (unit : Contents) (operation : Operation) (m n : Medium)
         → Covers unit operation → Holds unit m → Holds unit n → range_of operation m ≡ range_of operation n }
-{
-}
+{}
 
 /// An operation that succeeds on one medium whose blocks the unit holds succeeds on the unit.
 pub fn success_on_held()
     ensures { (unit : Contents) (operation : Operation) (m : Medium)
         → Covers unit operation → Holds unit m → IsSuccess (statuses_of operation m) → Succeeds unit operation }
-{
-}
+{}

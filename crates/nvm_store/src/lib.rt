@@ -13,6 +13,8 @@ mod look;
 mod step;
 mod stored_block;
 mod stored_blocks;
+#[cfg(test)]
+mod tests;
 mod unit_blocks;
 
 pub use act::Act;

@@ -13,11 +13,11 @@ loop-entry-preserved c =
     let here : at < length lines = search rules in
     let line_is : get_or lines at line ≡ line = sym (rw c.deref-entry-items.ensures.value at c.entry-item.is) in
     let does : lent_operation_of c.as_ref.result ≡ line.operation =
-        c.as_ref.ensures ∙ ap (λ (l : Line). l.operation) c.entry.view_is in
+    c.as_ref.ensures ∙ ap (λ (l : Line). l.operation) c.entry.view_is in
     let stepped = c.change.ensures.step (point c.args.size lines at) c.loop-entry.invariant.replayed in
     record {
       place = search rules;
       replayed =
-        rw (point-more c.args.size lines line at here, line_is)
-        (rw (c.loop-entry.invariant.place.size, does) at stepped);
+          rw (point-more c.args.size lines line at here, line_is)
+          (rw (c.loop-entry.invariant.place.size, does) at stepped);
     }
