@@ -7,3 +7,5 @@ pub mod Look
 pub mod Answer
 pub mod Line
 pub mod Limit
+pub mod History
+pub mod Point

@@ -22,6 +22,3 @@ impl Model for Entry {
 
     ghost view = { λ e. record { pass = e.pass; job = e.job; operation = operation_of e.act } };
 }
-
-/// The changes of a unit, oldest first.
-pub type History = Vec<Entry>;

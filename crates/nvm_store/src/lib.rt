@@ -6,17 +6,22 @@ mod act;
 mod act_ref;
 mod answers;
 mod entry;
+mod history;
+pub mod laws;
 mod limit;
 mod look;
 mod step;
 mod stored_block;
 mod stored_blocks;
+#[cfg(test)]
+mod tests;
 mod unit_blocks;
 
 pub use act::Act;
 pub use act_ref::ActRef;
 pub use answers::Answer;
-pub use entry::{Entry, History};
+pub use entry::Entry;
+pub use history::{History, replay};
 pub use limit::Limit;
 pub use look::Look;
 pub use step::{answer, apply, judge};

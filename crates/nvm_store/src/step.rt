@@ -21,7 +21,6 @@ pub fn judge(unit: &UnitBlocks, act: ActRef<'_>) -> Statuses
     requires { Covers unit.now (lent_operation_of act) }
     ensures { (m : Medium) → Holds unit.now m → result ≡ statuses_of (lent_operation_of act.entry) m }
 {
-    let _ = unit;
     match act {
         ActRef::Write { .. } => Statuses::One(Status::SUCCESSFUL_COMPLETION),
     }

@@ -7,7 +7,11 @@ use nvm_record::NoMemory;
 use std::alloc::Global;
 
 /// So many blocks of zero bytes.
-pub fn zeroed_blocks(alloc: Global, blocks: usize, size: usize) -> Result<Vec<StoredBlock>, NoMemory>
+pub fn zeroed_blocks(
+    alloc: Global,
+    blocks: usize,
+    size: usize,
+) -> Result<Vec<StoredBlock>, NoMemory>
     ensures { IfOk result (λ v. v.items ≡ replicate blocks (zero_block size)) }
 {
     let mut zeroes = Vec::with_capacity(alloc, blocks)?;
@@ -54,7 +58,13 @@ pub fn joined(alloc: Global, blocks: &[StoredBlock], size: usize) -> Result<Vec<
 }
 
 /// The `count` blocks from place `at` take the data, and the others stay. It takes no memory.
-pub fn write_range(blocks: &mut Vec<StoredBlock>, at: usize, count: usize, size: usize, payload: &[u8])
+pub fn write_range(
+    blocks: &mut Vec<StoredBlock>,
+    at: usize,
+    count: usize,
+    size: usize,
+    payload: &[u8],
+)
     requires range { at + count ≤ length blocks.old.items }
     requires payload { length payload.now ≡ count * size }
     requires sized { AreSized size blocks.old.items }

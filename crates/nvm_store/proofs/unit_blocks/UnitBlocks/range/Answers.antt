@@ -12,7 +12,7 @@ returns-clause-blocks c m held =
     let within = rw (← c.self.view_is) at c.requires in
     let place : c.self.inside.first + at ≡ c.args.first = omega (arith, within.above) in
     let fits : at + c.args.blocks ≤ length items =
-        omega (arith, within.above, within.below, length-map items block_of) in
+    omega (arith, within.above, within.below, length-map items block_of) in
     let some : at + c.args.blocks - at ≡ c.args.blocks = omega arith in
     rw (some, c.deref.ensures.value)
     (range-held m items (zero_block 0) c.self.inside.first c.args.first c.args.blocks at held' place fits)
