@@ -24,20 +24,20 @@ HasSize s = (1 ≤ s.nsze) × (s.nsze ≤ 65536)
 abbrev pub IsNamespace : Settings → Type 0
 IsNamespace s = HasSize s × IsBlockSize s.block
 
--- The first fault of the options and of the one host file, or want of memory.
+-- The first fault of the options.
+abbrev pub IsGeometryFault : Settings → Fault → Type 0
+IsGeometryFault s (Geometry Size) = ¬ (HasSize s)
+IsGeometryFault s (Geometry BlockSize) = HasSize s × ¬ (IsBlockSize s.block)
+IsGeometryFault s fault = ⊥
+
+-- The first fault of host 1's file, where a block has `size` bytes.
+abbrev pub IsFileFault : ℕ → List ℕ → Fault → Type 0
+IsFileFault size file (HostBadName host) = (host ≡ 1) × IsFaultOf size file of_file.BadName
+IsFileFault size file (HostTruncated host at) = (host ≡ 1) × IsFaultOf size file (of_file.Truncated at)
+IsFileFault size file (HostTooMany host) = (host ≡ 1) × IsFaultOf size file of_file.TooMany
+IsFileFault size file NoMemory = Unit {0}
+IsFileFault size file fault = ⊥
+
+-- The first fault of the options and then of host 1's file; or memory was refused.
 abbrev pub IsFirstFault : Settings → List ℕ → Fault → Type 0
-IsFirstFault s file (Geometry Size) = ¬ (HasSize s)
-IsFirstFault s file (Geometry BlockSize) = HasSize s × ¬ (IsBlockSize s.block)
-IsFirstFault s file TooManyHosts = ⊥
-IsFirstFault s file (CannotRead path) = ⊥
-IsFirstFault s file (CannotWrite path) = ⊥
-IsFirstFault s file (HostBadName host) = IsNamespace s × (host ≡ 1) × IsFaultOf s.block file of_file.BadName
-IsFirstFault s file (HostTruncated host at) = IsNamespace s × (host ≡ 1) × IsFaultOf s.block file (of_file.Truncated at)
-IsFirstFault s file (HostTooMany host) = IsNamespace s × (host ≡ 1) × IsFaultOf s.block file of_file.TooMany
-IsFirstFault s file RecordBadName = ⊥
-IsFirstFault s file RecordUnknownVersion = ⊥
-IsFirstFault s file (RecordTruncated at) = ⊥
-IsFirstFault s file (RecordTrailing at) = ⊥
-IsFirstFault s file (RecordBadValue at) = ⊥
-IsFirstFault s file RecordNoVersion1 = ⊥
-IsFirstFault s file NoMemory = Unit {0}
+IsFirstFault s file fault = IsGeometryFault s fault ⊎ (IsNamespace s × IsFileFault s.block file fault) ⊎ (fault ≡ NoMemory)

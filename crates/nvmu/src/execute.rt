@@ -1,3 +1,11 @@
+ghost use Rattle.std.specs.Prelude.{◌≡◌, ◌≤◌, ℕ, All, IfOk, IfErr, OnOk, length};
+ghost use Rattle.nvm_record.specs.Entry.{IsWhole};
+ghost use Rattle.nvm_record.specs.HostFile.{IsHostFile};
+ghost use Rattle.nvm_record.specs.Medium.{zero_medium};
+ghost use Rattle.nvmu.specs.Fault.{IsNamespace, IsFirstFault, IsGeometryFault, IsFileFault};
+ghost use Rattle.nvmu.specs.Run.{IsRun};
+ghost use Rattle.nvmu.specs.Shown.{namespace_of, Shows};
+
 use crate::fault::{Fault, GeometryFault};
 use crate::one_unit::OneUnit;
 use crate::settings::Settings;
@@ -13,7 +21,18 @@ const MOST_BLOCKS: u64 = 65_536;
 /// show: for each command the line of its completion.
 ///
 /// The first fault is answered, of the settings before those of the file; nothing is shown then.
-pub fn execute(alloc: Global, settings: &Settings, files: &[Vec<u8>]) -> Result<Shown, Fault> {
+pub fn execute(alloc: Global, settings: &Settings, files: &[Vec<u8>]) -> Result<Shown, Fault>
+    requires nabsn { settings.now.nabsn ≡ 0 }
+    requires nabo { settings.now.nabo ≡ 0 }
+    requires workers { 1 ≤ settings.now.workers }
+    requires most_workers { settings.now.workers ≤ 64 }
+    requires limit { 1 ≤ settings.now.limit }
+    requires most_limit { settings.now.limit ≤ 65536 }
+    requires file { length files.now ≡ 1 }
+    // What is shown is the text of a run of the file's commands, and it ends well.
+    ensures shown { IfOk result (λ shown. All (λ file. Shows settings.now file.items shown) files.now) }
+    ensures fault { IfErr result (λ fault. All (λ file. IsFirstFault settings.now file.items fault) files.now) }
+{
     let size = block_size(settings)?;
     let commands = commands_of(alloc, files[0].as_slice(), size)?;
     let completions = completions_of(alloc, settings, size, commands.as_slice())?;
@@ -27,7 +46,11 @@ pub fn execute(alloc: Global, settings: &Settings, files: &[Vec<u8>]) -> Result<
 }
 
 /// The block size, where the settings describe a namespace.
-fn block_size(settings: &Settings) -> Result<BlockSize, Fault> {
+fn block_size(settings: &Settings) -> Result<BlockSize, Fault>
+    ensures size { IfOk result (λ size. size ≡ settings.now.block) }
+    ensures namespace { OnOk result (IsNamespace settings.now) }
+    ensures fault { IfErr result (IsGeometryFault settings.now) }
+{
     if settings.nsze == 0 || settings.nsze > MOST_BLOCKS {
         return Err(Fault::Geometry(GeometryFault::Size));
     }
@@ -38,7 +61,11 @@ fn block_size(settings: &Settings) -> Result<BlockSize, Fault> {
 }
 
 /// The commands of the one host file.
-fn commands_of(alloc: Global, file: &[u8], size: BlockSize) -> Result<Vec<Command>, Fault> {
+fn commands_of(alloc: Global, file: &[u8], size: BlockSize) -> Result<Vec<Command>, Fault>
+    ensures commands { IfOk result (λ commands. IsHostFile size file.now commands.items) }
+    ensures whole { IfOk result (λ commands. All (IsWhole size) commands.items) }
+    ensures fault { IfErr result (IsFileFault size file.now) }
+{
     match read_host(alloc, file, size) {
         Ok(commands) => Ok(commands),
         Err(fault) => Err(Fault::of_host(1, fault)),
@@ -51,7 +78,14 @@ fn completions_of(
     settings: &Settings,
     size: BlockSize,
     commands: &[Command],
-) -> Result<Vec<Completion>, NoMemory> {
+) -> Result<Vec<Completion>, NoMemory>
+    requires size { size ≡ settings.now.block }
+    requires namespace { IsNamespace settings.now }
+    requires whole { All (IsWhole size) commands.now }
+    requires few { length commands.now ≤ 65536 }
+    ensures run { IfOk result (λ done. IsRun (namespace_of settings.now) (zero_medium size) 0 commands.now done.items) }
+    ensures length { IfOk result (λ done. length done.items ≡ length commands.now) }
+{
     let mut unit = OneUnit::new(alloc, settings.nsze, size, settings.limit)?;
     let mut completions = Vec::with_capacity(alloc, commands.len())?;
     for (job, command) in commands.iter().enumerate() {
