@@ -4,6 +4,7 @@ ghost use Rattle.nvm_record.specs.HostFile.{IsHostFile};
 ghost use Rattle.nvm_record.specs.Medium.{zero_medium};
 ghost use Rattle.nvmu.specs.Fault.{IsNamespace, IsFirstFault, IsGeometryFault, IsFileFault};
 ghost use Rattle.nvmu.specs.Run.{IsRun};
+ghost use Rattle.nvmu.specs.Words.{IsInRange};
 ghost use Rattle.nvmu.specs.Shown.{namespace_of, Shows};
 
 use crate::fault::{Fault, GeometryFault};
@@ -22,12 +23,7 @@ const MOST_BLOCKS: u64 = 65_536;
 ///
 /// The first fault is answered, of the settings before those of the file; nothing is shown then.
 pub fn execute(alloc: Global, settings: &Settings, files: &[Vec<u8>]) -> Result<Shown, Fault>
-    requires nabsn { settings.now.nabsn ≡ 0 }
-    requires nabo { settings.now.nabo ≡ 0 }
-    requires workers { 1 ≤ settings.now.workers }
-    requires most_workers { settings.now.workers ≤ 64 }
-    requires limit { 1 ≤ settings.now.limit }
-    requires most_limit { settings.now.limit ≤ 65536 }
+    requires settings { IsInRange settings.now }
     requires file { length files.now ≡ 1 }
     // What is shown is the text of a run of the file's commands, and it ends well.
     ensures shown { IfOk result (λ shown. All (λ file. Shows settings.now file.items shown) files.now) }

@@ -11,6 +11,8 @@ mod settings;
 mod shown;
 mod words;
 
+ghost use Rattle.nvmu.specs.Words.{IsAsked};
+
 use crate::execute::execute;
 use crate::fault::Fault;
 use crate::files::read_files;
@@ -79,7 +81,9 @@ fn texts_of(alloc: Global, words: &[String]) -> Result<Vec<&str>, AllocError> {
 }
 
 /// Reads the files and does their commands.
-fn run<R: AllocGlobal + Files>(rt: &R, asked: Asked) -> Result<Shown, Fault> {
+fn run<R: AllocGlobal + Files>(rt: &R, asked: Asked) -> Result<Shown, Fault>
+    requires { IsAsked asked }
+{
     let Asked::Run {
         settings,
         out: _out,

@@ -1,5 +1,5 @@
-ghost use Rattle.std.specs.Prelude.{◌≡◌, ◌≤◌, IfOk};
-ghost use Rattle.nvmu.specs.Words.{IsAsked};
+ghost use Rattle.std.specs.Prelude.{IfOk, IfSome};
+ghost use Rattle.nvmu.specs.Words.{IsAsked, IsInRange};
 
 use crate::settings::Settings;
 use clap::builder::ValueParser;
@@ -59,15 +59,19 @@ pub fn read_words<'a>(alloc: Global, words: &'a [&'a str]) -> Result<Asked, Word
 {
     let mut command = program(alloc)?;
     let matches = command.try_get_matches_from_mut(words)?;
+    match asked_of(alloc, &matches)? {
+        Some(asked) => Ok(asked),
+        None => Err(missing(&mut command)),
+    }
+}
+
+/// What the matches ask for, or `None` where something is missing or out of its range.
+fn asked_of(alloc: Global, matches: &ArgMatches<'_>) -> Result<Option<Asked>, WordFault>
+    ensures { IfOk result (λ asked. IfSome asked IsAsked) }
+{
     match matches.subcommand() {
-        Some(("run", run)) => {
-            let asked = run_asked(alloc, run)?;
-            match asked {
-                Some(asked) => Ok(asked),
-                None => Err(missing(&mut command)),
-            }
-        }
-        _ => Err(missing(&mut command)),
+        Some(("run", run)) => run_asked(alloc, run),
+        _ => Ok(None),
     }
 }
 
@@ -141,29 +145,75 @@ fn run_command<'a>(alloc: Global) -> Result<Command<'a>, Error> {
     let command = Command::new(alloc, "run").about(
         "Does the commands of a host file and prints a line for each",
     );
-    let command = command
-        .arg(number(alloc, "nsze", value_parser!(u64)).help(
-            "Size of the namespace in logical blocks",
-        ))?
-        .arg(number(alloc, "block", value_parser!(u32)).help(
-            "Size of a logical block in bytes: 512 or 4096",
-        ))?
-        .arg(number(alloc, "nabsn", value_parser!(u16).range(0..=0)).help(
-            "Atomic boundary size, zeroes-based: 0 yet",
-        ))?
-        .arg(number(alloc, "nabo", value_parser!(u16).range(0..=0)).help(
-            "Atomic boundary offset: 0 yet",
-        ))?
-        .arg(number(alloc, "nawun", value_parser!(u16)).help("Atomic write unit, zeroes-based"))?
-        .arg(number(alloc, "nacwu", value_parser!(u16)).help(
-            "Atomic compare and write unit, zeroes-based",
-        ))?
-        .arg(number(alloc, "workers", value_parser!(u16).range(1..=64)).help(
-            "Number of workers, 1 to 64",
-        ))?
-        .arg(number(alloc, "limit", value_parser!(u32).range(1..=65_536)).help(
-            "Most changes of a unit, 1 to 65536",
-        ))?;
+    let command = with_size(alloc, command)?;
+    let command = with_boundaries(alloc, command)?;
+    let command = with_units(alloc, command)?;
+    let command = with_limits(alloc, command)?;
+    with_files(alloc, command)
+}
+
+/// The options that say how large the namespace is.
+fn with_size<'a>(alloc: Global, command: Command<'a>) -> Result<Command<'a>, Error> {
+    let nsze = number(
+        alloc,
+        "nsze",
+        value_parser!(u64),
+        "Size of the namespace in logical blocks",
+    );
+    let block = number(
+        alloc,
+        "block",
+        value_parser!(u32),
+        "Size of a logical block in bytes: 512 or 4096",
+    );
+    Ok(command.arg(nsze)?.arg(block)?)
+}
+
+/// The options that say where its boundaries are.
+fn with_boundaries<'a>(alloc: Global, command: Command<'a>) -> Result<Command<'a>, Error> {
+    let nabsn = number(
+        alloc,
+        "nabsn",
+        value_parser!(u16).range(0..=0),
+        "Atomic boundary size, zeroes-based: 0 yet",
+    );
+    let nabo = number(
+        alloc,
+        "nabo",
+        value_parser!(u16).range(0..=0),
+        "Atomic boundary offset: 0 yet",
+    );
+    Ok(command.arg(nabsn)?.arg(nabo)?)
+}
+
+/// The options that say what it keeps atomic.
+fn with_units<'a>(alloc: Global, command: Command<'a>) -> Result<Command<'a>, Error> {
+    let nawun = number(
+        alloc,
+        "nawun",
+        value_parser!(u16),
+        "Atomic write unit, zeroes-based",
+    );
+    let nacwu = number(
+        alloc,
+        "nacwu",
+        value_parser!(u16),
+        "Atomic compare and write unit, zeroes-based",
+    );
+    Ok(command.arg(nawun)?.arg(nacwu)?)
+}
+
+/// The options that say how the run goes.
+fn with_limits<'a>(alloc: Global, command: Command<'a>) -> Result<Command<'a>, Error> {
+    let workers = value_parser!(u16).range(1..=64);
+    let workers = number(alloc, "workers", workers, "Number of workers, 1 to 64");
+    let limit = value_parser!(u32).range(1..=65_536);
+    let limit = number(alloc, "limit", limit, "Most changes of a unit, 1 to 65536");
+    Ok(command.arg(workers)?.arg(limit)?)
+}
+
+/// The files.
+fn with_files<'a>(alloc: Global, command: Command<'a>) -> Result<Command<'a>, Error> {
     let out = Arg::new(alloc, "out")
         .long("out")
         .required(true)
@@ -177,10 +227,11 @@ fn run_command<'a>(alloc: Global) -> Result<Command<'a>, Error> {
 }
 
 /// A required option that takes a number.
-fn number<'a>(alloc: Global, name: &'a str, parser: ValueParser<'a>) -> Arg<'a> {
+fn number<'a>(alloc: Global, name: &'a str, parser: ValueParser<'a>, help: &'a str) -> Arg<'a> {
     Arg::new(alloc, name)
         .long(name)
         .required(true)
         .value_name("N")
         .value_parser(parser)
+        .help(help)
 }
