@@ -6,9 +6,15 @@ mod checks;
 mod execute;
 mod fault;
 mod files;
+#[cfg(test)]
+mod host_file;
 mod one_unit;
+#[cfg(test)]
+mod run_tests;
 mod settings;
 mod shown;
+#[cfg(test)]
+mod word_tests;
 mod words;
 
 ghost use Rattle.nvmu.specs.Words.{IsAsked};

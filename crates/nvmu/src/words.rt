@@ -21,7 +21,7 @@ pub enum Asked {
 }
 
 /// Why the words of the command line ask for nothing that can be done.
-#[derive(Drop)]
+#[derive(Debug, Drop)]
 pub enum WordFault {
     /// What `clap` says of them. A call for help is one, too.
     Words(Error),
