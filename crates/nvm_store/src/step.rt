@@ -59,6 +59,6 @@ fn read(alloc: Global, unit: &UnitBlocks, first: u64, blocks: u32) -> Result<Ans
     if has_mark(range) {
         return Ok(Answer::Status(Status::UNRECOVERED_READ_ERROR));
     }
-    let bytes = joined(alloc, range, unit.size().bytes() as usize)?;
+    let bytes = joined(alloc, range, unit.place().size.bytes() as usize)?;
     Ok(Answer::Payload(Payload::new(bytes)))
 }
