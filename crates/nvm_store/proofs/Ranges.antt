@@ -1,5 +1,5 @@
 -- A range of a medium, and the stored blocks of a unit that hold it.
-use Rattle.std.proofs.Common.{◌≡◌, ◌⊎◌, ℕ, zero, suc, ◌+◌, ◌*◌, ◌-◌, ◌<◌, ◌≤◌, List, [], ◌∷◌, length, get_or, take, drop, map, replicate, refl, sym, ap, ◌∙◌, arith, inl, inr, leb, ltb, cond, ◌&&◌, true, false}
+use Rattle.std.proofs.Common.{◌≡◌, ◌⊎◌, ℕ, zero, suc, ◌+◌, ◌-◌, ◌<◌, ◌≤◌, List, [], ◌∷◌, length, get_or, take, drop, replicate, refl, sym, ap, ◌∙◌, arith, inl, inr}
 use Rattle.std.proofs.lemmas.Bool.Decides.{nat_tests, leb_tells}
 use Rattle.std.proofs.lemmas.List.{get_or-map, get_or-take, get_or-drop, get_or-replicate, length-map, length-take-le, length-drop, length-replicate, get_or_default}
 use Rattle.nvm_record.specs.declared.block.Block.{Block}
@@ -143,9 +143,9 @@ medium_with unit lba = get_or unit.blocks (lba - unit.first) Uncorrectable
 
 -- The unit holds it.
 pub some_medium_is_held : (unit : Contents) → (m : Medium) × Holds unit m
-some_medium_is_held unit =
-    ( medium_with unit
-    , λ d i lt.
+some_medium_is_held unit = (
+  medium_with unit,
+  λ d i lt.
       let at : unit.first + i - unit.first ≡ i = omega arith in
-      rw at (get_or_default unit.blocks i d Uncorrectable lt)
-    )
+      rw at (get_or_default unit.blocks i d Uncorrectable lt),
+)

@@ -37,8 +37,7 @@ pub fn point_of_beginning()
 /// Each unit holds the blocks of some medium.
 pub fn some_medium_is_held()
     ensures { (unit : Contents) → (m : Medium) × Holds unit m }
-{
-}
+{}
 
 /// All media whose blocks a unit holds have the same blocks in the range of an operation that the unit
 /// covers. So the operation's statuses and data are the same on them.

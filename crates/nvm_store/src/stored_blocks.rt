@@ -58,13 +58,7 @@ pub fn joined(alloc: Global, blocks: &[StoredBlock], size: usize) -> Result<Vec<
 }
 
 /// The `count` blocks from place `at` take the data, and the others stay. It takes no memory.
-pub fn write_range(
-    blocks: &mut [StoredBlock],
-    at: usize,
-    count: usize,
-    size: usize,
-    payload: &[u8],
-)
+pub fn write_range(blocks: &mut [StoredBlock], at: usize, count: usize, size: usize, payload: &[u8])
     requires range { at + count ≤ length blocks.old }
     requires payload { length payload.now ≡ count * size }
     requires sized { AreSized size blocks.old }
