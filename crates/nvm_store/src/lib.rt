@@ -1,5 +1,10 @@
-//! The blocks of one unit, what is done to them and asked of them, and the histories that say how they
-//! came to be.
+//! The blocks of one unit, what is done to them and asked of them, and the histories that say how
+//! they came to be.
+//!
+//! [`judge`], [`apply`] and [`answer`] are the step of a command on the unit's LBAs, for every medium
+//! whose blocks the unit holds; [`UnitBlocks::change`] is the same step in place, and [`replay`] the
+//! steps of a whole history. Which acts and looks lie in a unit, [`Place::covers`] and
+//! [`Place::covers_look`] tell.
 #![tactic(auto)]
 
 mod act;

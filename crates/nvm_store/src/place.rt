@@ -19,10 +19,11 @@ pub struct Place {
 }
 
 impl Place {
-    /// Whether the act's range has a block and lies here, and its data has just the blocks of the range.
-    /// No LBA makes it wrap.
+    /// Whether the act's range has a block and lies here, and its data has just the blocks of the
+    /// range. No LBA makes it wrap.
     pub fn covers(&self, act: ActRef<'_>) -> bool
-        ensures { IsTrue result ↔ IsCovered self.now.first self.now.blocks self.now.size (lent_operation_of act.entry) }
+        ensures { IsTrue result
+            ↔ IsCovered self.now.first self.now.blocks self.now.size (lent_operation_of act.entry) }
     {
         match act {
             ActRef::Write {
@@ -35,7 +36,8 @@ impl Place {
 
     /// Whether the look's range has a block and lies here. No LBA makes it wrap.
     pub fn covers_look(&self, look: Look) -> bool
-        ensures { IsTrue result ↔ IsCovered self.now.first self.now.blocks self.now.size (look_operation_of look) }
+        ensures { IsTrue result
+            ↔ IsCovered self.now.first self.now.blocks self.now.size (look_operation_of look) }
     {
         match look {
             Look::Read { first, blocks } => self.has_range(first, blocks),

@@ -15,11 +15,12 @@ use crate::unit_blocks::UnitBlocks;
 use nvm_record::{NoMemory, Payload, Status, Statuses};
 use std::alloc::Global;
 
-/// The statuses that the act's command, or its two commands, complete with on these blocks: 0/00 for a
-/// Write. It takes no memory, and changes nothing.
+/// The statuses that the act's command, or its two commands, complete with on these blocks: 0/00 for
+/// a Write. It takes no memory, and changes nothing.
 pub fn judge(unit: &UnitBlocks, act: ActRef<'_>) -> Statuses
     requires { Covers unit.now (lent_operation_of act) }
-    ensures { (m : Medium) → Holds unit.now m → result ≡ statuses_of (lent_operation_of act.entry) m }
+    ensures { (m : Medium) → Holds unit.now m
+        → result ≡ statuses_of (lent_operation_of act.entry) m }
 {
     match act {
         ActRef::Write { .. } => Statuses::One(Status::SUCCESSFUL_COMPLETION),
@@ -43,7 +44,8 @@ pub fn apply(alloc: Global, unit: &UnitBlocks, act: ActRef<'_>) -> Result<UnitBl
 /// length; a Read that fails takes no memory.
 pub fn answer(alloc: Global, unit: &UnitBlocks, look: Look) -> Result<Answer, NoMemory>
     requires { Covers unit.now (look_operation_of look) }
-    ensures { IfOk result (λ answer. (m : Medium) → Holds unit.now m → IsAnswer (look_operation_of look) m answer) }
+    ensures { IfOk result (λ answer. (m : Medium) → Holds unit.now m
+        → IsAnswer (look_operation_of look) m answer) }
 {
     match look {
         Look::Read { first, blocks } => read(alloc, unit, first, blocks),
@@ -53,7 +55,8 @@ pub fn answer(alloc: Global, unit: &UnitBlocks, look: Look) -> Result<Answer, No
 /// The answer of a Read of the `blocks` LBAs from `first`.
 fn read(alloc: Global, unit: &UnitBlocks, first: u64, blocks: u32) -> Result<Answer, NoMemory>
     requires { IsWithin unit.now.first (length unit.now.blocks) first blocks }
-    ensures { IfOk result (λ answer. (m : Medium) → Holds unit.now m → IsAnswer (read_operation first blocks) m answer) }
+    ensures { IfOk result (λ answer. (m : Medium) → Holds unit.now m
+        → IsAnswer (read_operation first blocks) m answer) }
 {
     let range = unit.range(first, blocks);
     if has_mark(range) {

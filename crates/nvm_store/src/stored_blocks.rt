@@ -64,7 +64,8 @@ pub fn write_range(blocks: &mut [StoredBlock], at: usize, count: usize, size: us
     requires sized { AreSized size blocks.old }
     ensures len { length blocks.new ≡ length blocks.old }
     ensures sized { AreSized size blocks.new }
-    ensures written { (d : Stored) (i : ℕ) → i < count → slice_index_or blocks.new (at + i) d ≡ written size payload.now i }
+    ensures written { (d : Stored) (i : ℕ) → i < count
+        → slice_index_or blocks.new (at + i) d ≡ written size payload.now i }
     ensures others { KeepsAllBut at count blocks.old blocks.new }
 {
     for i in 0..count {

@@ -32,7 +32,11 @@ impl Model for UnitBlocks {
 
     ghost Value = { Contents };
 
-    ghost view = { λ u. record { first = u.first; size = u.size; blocks = blocks_of u.blocks.items } };
+    ghost view = { λ u. record {
+      first = u.first;
+      size = u.size;
+      blocks = blocks_of u.blocks.items;
+    } };
 
     ghost invariant = { λ u. AreSound u.first u.size u.blocks.items };
 }
@@ -83,24 +87,24 @@ impl UnitBlocks {
         }
     }
 
-    /// Whether the act's range has a block and lies in the unit, and its data has just the blocks of the
-    /// range. It takes no memory, and no LBA makes it wrap.
+    /// Whether the act's range has a block and lies in the unit, and its data has just the blocks of
+    /// the range. It takes no memory, and no LBA makes it wrap.
     pub fn covers(&self, act: ActRef<'_>) -> bool
         ensures { IsTrue result ↔ Covers self.now (lent_operation_of act.entry) }
     {
         self.place().covers(act)
     }
 
-    /// Whether the look's range has a block and lies in the unit. It takes no memory, and no LBA makes it
-    /// wrap.
+    /// Whether the look's range has a block and lies in the unit. It takes no memory, and no LBA makes
+    /// it wrap.
     pub fn covers_look(&self, look: Look) -> bool
         ensures { IsTrue result ↔ Covers self.now (look_operation_of look) }
     {
         self.place().covers_look(look)
     }
 
-    /// Makes the act's step in place: the blocks of its range change, and cost is by these alone. It takes
-    /// no memory, and nothing can fail once it has begun.
+    /// Makes the act's step in place, at the cost of its own blocks, whatever else the unit holds. It
+    /// takes no memory, and nothing can fail once it has begun.
     pub fn change(&mut self, act: ActRef<'_>)
         requires covered { Covers self.old (lent_operation_of act) }
         requires success { Succeeds self.old (lent_operation_of act) }
@@ -122,7 +126,8 @@ impl UnitBlocks {
         requires range { IsWithin self.old.first (length self.old.blocks) first blocks }
         requires payload { length payload.now ≡ blocks * self.old.size }
         ensures step { (m : Medium) → Holds self.old m
-            → Holds self.new (medium_after self.old.size (write_operation first blocks payload.now) m) }
+            → Holds self.new
+            (medium_after self.old.size (write_operation first blocks payload.now) m) }
         ensures place { StaysInPlace self.old self.new }
     {
         let at = (first - self.first) as usize;
@@ -133,7 +138,8 @@ impl UnitBlocks {
     /// The stored blocks of the `blocks` LBAs from `first`.
     pub(crate) fn range(&self, first: u64, blocks: u32) -> &[StoredBlock]
         requires { IsWithin self.now.first (length self.now.blocks) first blocks }
-        ensures blocks { (m : Medium) → Holds self.now m → range m first blocks ≡ blocks_of result.now }
+        ensures blocks { (m : Medium) → Holds self.now m
+            → range m first blocks ≡ blocks_of result.now }
         ensures len { length result.now ≡ blocks }
         ensures sized { AreSized self.now.size result.now }
     {
