@@ -1,6 +1,6 @@
-ghost use Rattle.std.specs.Prelude.{◌≡◌, IfOk, length};
+ghost use Rattle.std.specs.Prelude.{◌≡◌, IfOk, IsSome, OnErr, length};
 ghost use Rattle.nvm_record.specs.Medium.{Medium};
-ghost use Rattle.nvm_record.specs.Step.{statuses_of, medium_after};
+ghost use Rattle.nvm_record.specs.Step.{statuses_of, data_of, medium_after};
 ghost use Rattle.nvm_store.specs.ActRef.{lent_operation_of};
 ghost use Rattle.nvm_store.specs.Look.{look_operation_of};
 ghost use Rattle.nvm_store.specs.Answer.{IsAnswer};
@@ -44,8 +44,12 @@ pub fn apply(alloc: Global, unit: &UnitBlocks, act: ActRef<'_>) -> Result<UnitBl
 /// length; a Read that fails takes no memory.
 pub fn answer(alloc: Global, unit: &UnitBlocks, look: Look) -> Result<Answer, NoMemory>
     requires { Covers unit.now (look_operation_of look) }
-    ensures { IfOk result (λ answer. (m : Medium) → Holds unit.now m
+    ensures step { IfOk result (λ answer. (m : Medium) → Holds unit.now m
         → IsAnswer (look_operation_of look) m answer) }
+
+    // Only the data of a Read wants memory.
+    ensures memory { OnErr result ((m : Medium) → Holds unit.now m
+        → IsSome (data_of (look_operation_of look) m)) }
 {
     match look {
         Look::Read { first, blocks } => read(alloc, unit, first, blocks),
@@ -55,8 +59,10 @@ pub fn answer(alloc: Global, unit: &UnitBlocks, look: Look) -> Result<Answer, No
 /// The answer of a Read of the `blocks` LBAs from `first`.
 fn read(alloc: Global, unit: &UnitBlocks, first: u64, blocks: u32) -> Result<Answer, NoMemory>
     requires { IsWithin unit.now.first (length unit.now.blocks) first blocks }
-    ensures { IfOk result (λ answer. (m : Medium) → Holds unit.now m
+    ensures step { IfOk result (λ answer. (m : Medium) → Holds unit.now m
         → IsAnswer (read_operation first blocks) m answer) }
+    ensures memory { OnErr result ((m : Medium) → Holds unit.now m
+        → IsSome (data_of (read_operation first blocks) m)) }
 {
     let range = unit.range(first, blocks);
     if has_mark(range) {

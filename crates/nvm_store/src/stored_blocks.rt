@@ -1,4 +1,4 @@
-ghost use Rattle.std.specs.Prelude.{◌≡◌, ◌+◌, ◌*◌, ◌-◌, ◌<◌, ◌≤◌, ◌^◌, ℕ, false, IfOk, length, replicate, nat_le, nat_lt, ◌&&◌, if◌then◌else◌, slice_index_or};
+ghost use Rattle.std.specs.Prelude.{◌≡◌, ◌+◌, ◌*◌, ◌<◌, ◌≤◌, ◌^◌, ℕ, false, IfOk, length, replicate, slice_index_or};
 ghost use Rattle.nvm_record.specs.Medium as medium;
 ghost use Rattle.nvm_store.specs.Stored.{Stored, AreSized, blocks_of, zero_block, KeepsAllBut, written};
 
