@@ -30,16 +30,16 @@ pub record IsHostFile (size : ℕ) (bytes : List ℕ) (cs : List Command) : Type
   pub commands : Begins size (drop 4 bytes) cs []
   pub few : length cs ≤ most_commands
 
--- how many bytes of data the entry at the front of the bytes calls for
+-- how many bytes of data an entry calls for
 abbrev pub called_for : ℕ → List ℕ → ℕ
-called_for size bytes = data_length size (op_of (slice_index bytes 0)) (little_number 2 (drop 48 bytes))
+called_for size entry = data_length size (op_of (slice_index entry 0)) (little_number 2 (drop 48 entry))
 
 -- Bytes are left, and they aren't a whole entry; or they are, and the data after it isn't whole. What
 -- isn't whole begins at place `at` of what is left.
 abbrev pub IsCut : ℕ → List ℕ → ℕ → Type 0
 IsCut size rest at =
     ((0 < length rest) × (length rest < 64) × (at ≡ 0))
-    ⊎ ((64 ≤ length rest) × (length rest < 64 + called_for size rest) × (at ≡ 64))
+    ⊎ ((64 ≤ length rest) × (length rest < 64 + called_for size (take 64 rest)) × (at ≡ 64))
 
 -- After these whole commands, something at offset `offset` of the file isn't whole.
 pub record IsTruncated (size : ℕ) (bytes : List ℕ) (offset : ℕ) (cs : List Command) (rest : List ℕ) (at : ℕ) : Type 0 where
