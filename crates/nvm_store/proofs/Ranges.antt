@@ -1,7 +1,7 @@
 -- A range of a medium, and the stored blocks of a unit that hold it.
-use Rattle.std.proofs.Common.{◌≡◌, ◌⊎◌, ℕ, zero, suc, ◌+◌, ◌*◌, ◌-◌, ◌<◌, ◌≤◌, List, [], ◌∷◌, length, get_or, take, drop, map, replicate, refl, sym, ap, ◌∙◌, arith, inl, inr, leb, ltb, cond, ◌&&◌, true, false}
+use Rattle.std.proofs.Common.{◌≡◌, ◌⊎◌, ℕ, zero, suc, ◌+◌, ◌-◌, ◌<◌, ◌≤◌, List, [], ◌∷◌, length, get_or, take, drop, replicate, refl, sym, ap, ◌∙◌, arith, inl, inr}
 use Rattle.std.proofs.lemmas.Bool.Decides.{nat_tests, leb_tells}
-use Rattle.std.proofs.lemmas.List.{get_or-map, get_or-take, get_or-drop, get_or-replicate, length-map, length-take-le, length-drop, length-replicate}
+use Rattle.std.proofs.lemmas.List.{get_or-map, get_or-take, get_or-drop, get_or-replicate, length-map, length-take-le, length-drop, length-replicate, get_or_default}
 use Rattle.nvm_record.specs.declared.block.Block.{Block}
 use Rattle.nvm_record.specs.declared.block.Block.TheVariants.{Bytes, Uncorrectable}
 use Rattle.nvm_record.specs.Medium.{Medium, range}
@@ -136,3 +136,16 @@ pub succeeds_on_held : (unit : Contents) (op : Operation) (m : Medium) → Cover
     → IsSuccess (statuses_of op m) → Succeeds unit op
 succeeds_on_held unit op m covered held success n held' =
     rw (range-held_same unit.blocks unit.first op.first op.blocks m n covered.range held held') at success
+
+-- a medium that has a unit's blocks
+abbrev medium_with : Contents → Medium
+medium_with unit lba = get_or unit.blocks (lba - unit.first) Uncorrectable
+
+-- The unit holds it.
+pub some_medium_is_held : (unit : Contents) → (m : Medium) × Holds unit m
+some_medium_is_held unit = (
+  medium_with unit,
+  λ d i lt.
+      let at : unit.first + i - unit.first ≡ i = omega arith in
+      rw at (get_or_default unit.blocks i d Uncorrectable lt),
+)

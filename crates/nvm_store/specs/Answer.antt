@@ -9,5 +9,6 @@ use Rattle.nvm_store.specs.declared.answers.Answer.TheVariants.{Payload, Status}
 
 -- The answer is that of the step: data with success, or else a status.
 abbrev pub IsAnswer : Operation → Medium → Answer → Type 0
-IsAnswer op m (Payload bytes) = (statuses_of op m ≡ One successful_completion) × (data_of op m ≡ Some bytes)
+IsAnswer op m (Payload bytes) =
+    (statuses_of op m ≡ One successful_completion) × (data_of op m ≡ Some bytes)
 IsAnswer op m (Status status) = (statuses_of op m ≡ One status) × (data_of op m ≡ None)

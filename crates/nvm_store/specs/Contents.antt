@@ -1,7 +1,6 @@
 -- What one unit holds: the blocks of the LBAs from `first` on.
 use Rattle.std.specs.Prelude.{◌≡◌, ℕ, ◌+◌, ◌*◌, ◌<◌, ◌≤◌, List, length, slice_index_or}
 use Rattle.nvm_record.specs.declared.block.Block.{Block}
-use Rattle.nvm_record.specs.BlockSize.{IsBlockSize}
 use Rattle.nvm_record.specs.Medium.{Medium}
 use Rattle.nvm_record.specs.Status.{IsSuccess}
 use Rattle.nvm_record.specs.Step.{Deed, writes, zeroes, marks, reads, compares, pairs, Operation, statuses_of}
@@ -14,13 +13,8 @@ pub record Contents : Type 0 where
 
 -- The blocks are the medium's, each at its LBA.
 abbrev pub Holds : Contents → Medium → Type 0
-Holds u m = (d : Block) (i : ℕ) → i < length u.blocks → slice_index_or u.blocks i d ≡ m (u.first + i)
-
--- Where a unit can lie: at least one block, no LBA above 65,535, and a size that blocks have.
-pub record IsPlace (start count block_size : ℕ) : Type 0 where
-  pub some : 0 < count
-  pub low : start + count ≤ 65536
-  pub size : IsBlockSize block_size
+Holds u m =
+    (d : Block) (i : ℕ) → i < length u.blocks → slice_index_or u.blocks i d ≡ m (u.first + i)
 
 -- The unit is that of `count` blocks of this size, from LBA `start`.
 pub record IsUnit (start count block_size : ℕ) (u : Contents) : Type 0 where

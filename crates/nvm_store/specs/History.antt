@@ -23,4 +23,5 @@ pub record CanFollow (start count block_size : ℕ) (before : List Line) (line :
 -- Each entry can stand after those before it, in the unit of `count` blocks from LBA `start`.
 abbrev pub IsLawfulHistory : ℕ → ℕ → ℕ → List Line → Type 0
 IsLawfulHistory start count size history =
-    (d : Line) (i : ℕ) → i < length history → CanFollow start count size (take i history) (slice_index_or history i d)
+    (d : Line) (i : ℕ) → i < length history
+    → CanFollow start count size (take i history) (slice_index_or history i d)

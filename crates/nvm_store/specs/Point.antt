@@ -11,6 +11,7 @@ abbrev pub point : ℕ → List Line → ℕ → Medium
 point size history n = replay_of size (take n history)
 
 -- What was answered of the operation is what the step gives at point n.
-pub record RestsOn (block_size : ℕ) (history : List Line) (n : ℕ) (op : Operation) (told : Statuses) (read : Option (List ℕ)) : Type 0 where
+pub record RestsOn (block_size : ℕ) (history : List Line) (n : ℕ) (op : Operation) (told : Statuses)
+    (read : Option (List ℕ)) : Type 0 where
   pub statuses : told ≡ statuses_of op (point block_size history n)
   pub payload : read ≡ data_of op (point block_size history n)

@@ -17,7 +17,8 @@ blocks_of blocks = map block_of blocks
 
 -- Each has bytes of the block size, also a marked one.
 abbrev pub AreSized : ℕ → List Stored → Type 0
-AreSized size blocks = (d : Stored) (k : ℕ) → k < length blocks → length (slice_index_or blocks k d).bytes ≡ size
+AreSized size blocks =
+    (d : Stored) (k : ℕ) → k < length blocks → length (slice_index_or blocks k d).bytes ≡ size
 
 -- What holds of the stored blocks of a unit.
 pub record AreSound (first size : ℕ) (blocks : List Stored) : Type 0 where
@@ -36,4 +37,5 @@ written size payload i = record { bytes = take size (drop (i * size) payload); i
 -- The blocks outside the `count` from place `at` stay.
 abbrev pub KeepsAllBut : ℕ → ℕ → List Stored → List Stored → Type 0
 KeepsAllBut at count old new =
-    (d : Stored) (i : ℕ) → (i < at) ⊎ (at + count ≤ i) → slice_index_or new i d ≡ slice_index_or old i d
+    (d : Stored) (i : ℕ) → (i < at) ⊎ (at + count ≤ i)
+    → slice_index_or new i d ≡ slice_index_or old i d

@@ -10,8 +10,8 @@ use std::alloc::Global;
 /// The changes of a unit, oldest first.
 pub type History = Vec<Entry>;
 
-/// The unit of `blocks` blocks from LBA `first` after all entries of its history, in order. Without an
-/// entry all its blocks are zero bytes.
+/// The unit of `blocks` blocks from LBA `first` after all entries of its history, in order. Without
+/// an entry all its blocks are zero bytes.
 ///
 /// Each entry costs what its own blocks cost. Once the zero blocks are made, no memory is taken.
 pub fn replay(

@@ -1,6 +1,6 @@
-ghost use Rattle.std.specs.Prelude.{◌≡◌, IfOk, length};
+ghost use Rattle.std.specs.Prelude.{◌≡◌, IfOk, IsSome, OnErr, length};
 ghost use Rattle.nvm_record.specs.Medium.{Medium};
-ghost use Rattle.nvm_record.specs.Step.{statuses_of, medium_after};
+ghost use Rattle.nvm_record.specs.Step.{statuses_of, data_of, medium_after};
 ghost use Rattle.nvm_store.specs.ActRef.{lent_operation_of};
 ghost use Rattle.nvm_store.specs.Look.{look_operation_of};
 ghost use Rattle.nvm_store.specs.Answer.{IsAnswer};
@@ -15,11 +15,12 @@ use crate::unit_blocks::UnitBlocks;
 use nvm_record::{NoMemory, Payload, Status, Statuses};
 use std::alloc::Global;
 
-/// The statuses that the act's command, or its two commands, complete with on these blocks: 0/00 for a
-/// Write. It takes no memory, and changes nothing.
+/// The statuses that the act's command, or its two commands, complete with on these blocks: 0/00 for
+/// a Write. It takes no memory, and changes nothing.
 pub fn judge(unit: &UnitBlocks, act: ActRef<'_>) -> Statuses
     requires { Covers unit.now (lent_operation_of act) }
-    ensures { (m : Medium) → Holds unit.now m → result ≡ statuses_of (lent_operation_of act.entry) m }
+    ensures { (m : Medium) → Holds unit.now m
+        → result ≡ statuses_of (lent_operation_of act.entry) m }
 {
     match act {
         ActRef::Write { .. } => Statuses::One(Status::SUCCESSFUL_COMPLETION),
@@ -43,7 +44,12 @@ pub fn apply(alloc: Global, unit: &UnitBlocks, act: ActRef<'_>) -> Result<UnitBl
 /// length; a Read that fails takes no memory.
 pub fn answer(alloc: Global, unit: &UnitBlocks, look: Look) -> Result<Answer, NoMemory>
     requires { Covers unit.now (look_operation_of look) }
-    ensures { IfOk result (λ answer. (m : Medium) → Holds unit.now m → IsAnswer (look_operation_of look) m answer) }
+    ensures step { IfOk result (λ answer. (m : Medium) → Holds unit.now m
+        → IsAnswer (look_operation_of look) m answer) }
+
+    // Only the data of a Read wants memory.
+    ensures memory { OnErr result ((m : Medium) → Holds unit.now m
+        → IsSome (data_of (look_operation_of look) m)) }
 {
     match look {
         Look::Read { first, blocks } => read(alloc, unit, first, blocks),
@@ -53,12 +59,15 @@ pub fn answer(alloc: Global, unit: &UnitBlocks, look: Look) -> Result<Answer, No
 /// The answer of a Read of the `blocks` LBAs from `first`.
 fn read(alloc: Global, unit: &UnitBlocks, first: u64, blocks: u32) -> Result<Answer, NoMemory>
     requires { IsWithin unit.now.first (length unit.now.blocks) first blocks }
-    ensures { IfOk result (λ answer. (m : Medium) → Holds unit.now m → IsAnswer (read_operation first blocks) m answer) }
+    ensures step { IfOk result (λ answer. (m : Medium) → Holds unit.now m
+        → IsAnswer (read_operation first blocks) m answer) }
+    ensures memory { OnErr result ((m : Medium) → Holds unit.now m
+        → IsSome (data_of (read_operation first blocks) m)) }
 {
     let range = unit.range(first, blocks);
     if has_mark(range) {
         return Ok(Answer::Status(Status::UNRECOVERED_READ_ERROR));
     }
-    let bytes = joined(alloc, range, unit.size().bytes() as usize)?;
+    let bytes = joined(alloc, range, unit.place().size.bytes() as usize)?;
     Ok(Answer::Payload(Payload::new(bytes)))
 }

@@ -1,4 +1,4 @@
-ghost use Rattle.std.specs.Prelude.{◌≡◌, ◌+◌, ◌*◌, ◌-◌, ◌<◌, ◌≤◌, ◌^◌, ℕ, false, IfOk, length, replicate, nat_le, nat_lt, ◌&&◌, if◌then◌else◌, slice_index_or};
+ghost use Rattle.std.specs.Prelude.{◌≡◌, ◌+◌, ◌*◌, ◌<◌, ◌≤◌, ◌^◌, ℕ, false, IfOk, length, replicate, slice_index_or};
 ghost use Rattle.nvm_record.specs.Medium as medium;
 ghost use Rattle.nvm_store.specs.Stored.{Stored, AreSized, blocks_of, zero_block, KeepsAllBut, written};
 
@@ -58,20 +58,15 @@ pub fn joined(alloc: Global, blocks: &[StoredBlock], size: usize) -> Result<Vec<
 }
 
 /// The `count` blocks from place `at` take the data, and the others stay. It takes no memory.
-pub fn write_range(
-    blocks: &mut Vec<StoredBlock>,
-    at: usize,
-    count: usize,
-    size: usize,
-    payload: &[u8],
-)
-    requires range { at + count ≤ length blocks.old.items }
+pub fn write_range(blocks: &mut [StoredBlock], at: usize, count: usize, size: usize, payload: &[u8])
+    requires range { at + count ≤ length blocks.old }
     requires payload { length payload.now ≡ count * size }
-    requires sized { AreSized size blocks.old.items }
-    ensures len { length blocks.new.items ≡ length blocks.old.items }
-    ensures sized { AreSized size blocks.new.items }
-    ensures written { (d : Stored) (i : ℕ) → i < count → slice_index_or blocks.new.items (at + i) d ≡ written size payload.now i }
-    ensures others { KeepsAllBut at count blocks.old.items blocks.new.items }
+    requires sized { AreSized size blocks.old }
+    ensures len { length blocks.new ≡ length blocks.old }
+    ensures sized { AreSized size blocks.new }
+    ensures written { (d : Stored) (i : ℕ) → i < count
+        → slice_index_or blocks.new (at + i) d ≡ written size payload.now i }
+    ensures others { KeepsAllBut at count blocks.old blocks.new }
 {
     for i in 0..count {
         let block = &mut blocks[at + i];

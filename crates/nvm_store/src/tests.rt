@@ -109,8 +109,8 @@ fn an_owned_act_has_the_same_data(rt: HostRuntime) -> Result<(), Fail> {
     Ok(())
 }
 
-/// Adds a Write of one byte over the `blocks` blocks from `first` to a history of the unit of the 3 blocks
-/// from LBA 8.
+/// Adds a Write of one byte over the `blocks` blocks from `first` to a history of the unit of the
+/// 3 blocks from LBA 8.
 fn push_write(
     alloc: Global,
     history: &mut History,

@@ -9,6 +9,7 @@ ghost use Rattle.nvm_store.specs.Stored.{AreSized, blocks_of};
 
 use crate::act_ref::ActRef;
 use crate::look::Look;
+use crate::place::Place;
 use crate::stored_block::StoredBlock;
 use crate::stored_blocks::{copies_of, write_range, zeroed_blocks};
 use nvm_record::{BlockSize, NoMemory};
@@ -31,7 +32,11 @@ impl Model for UnitBlocks {
 
     ghost Value = { Contents };
 
-    ghost view = { λ u. record { first = u.first; size = u.size; blocks = blocks_of u.blocks.items } };
+    ghost view = { λ u. record {
+      first = u.first;
+      size = u.size;
+      blocks = blocks_of u.blocks.items;
+    } };
 
     ghost invariant = { λ u. AreSound u.first u.size u.blocks.items };
 }
@@ -69,32 +74,37 @@ impl UnitBlocks {
         })
     }
 
-    /// Whether the act's range has a block and lies in the unit, and its data has just the blocks of the
-    /// range. It takes no memory, and no LBA makes it wrap.
+    /// Where the unit lies.
+    pub fn place(&self) -> Place
+        ensures first { result.first ≡ self.now.first }
+        ensures blocks { result.blocks ≡ length self.now.blocks }
+        ensures size { result.size ≡ self.now.size }
+    {
+        Place {
+            first: self.first,
+            blocks: self.blocks.len() as u32,
+            size: self.size,
+        }
+    }
+
+    /// Whether the act's range has a block and lies in the unit, and its data has just the blocks of
+    /// the range. It takes no memory, and no LBA makes it wrap.
     pub fn covers(&self, act: ActRef<'_>) -> bool
         ensures { IsTrue result ↔ Covers self.now (lent_operation_of act.entry) }
     {
-        match act {
-            ActRef::Write {
-                first,
-                blocks,
-                payload,
-            } => self.has_range(first, blocks) && self.is_data_of(blocks, payload),
-        }
+        self.place().covers(act)
     }
 
-    /// Whether the look's range has a block and lies in the unit. It takes no memory, and no LBA makes it
-    /// wrap.
+    /// Whether the look's range has a block and lies in the unit. It takes no memory, and no LBA makes
+    /// it wrap.
     pub fn covers_look(&self, look: Look) -> bool
         ensures { IsTrue result ↔ Covers self.now (look_operation_of look) }
     {
-        match look {
-            Look::Read { first, blocks } => self.has_range(first, blocks),
-        }
+        self.place().covers_look(look)
     }
 
-    /// Makes the act's step in place: the blocks of its range change, and cost is by these alone. It takes
-    /// no memory, and nothing can fail once it has begun.
+    /// Makes the act's step in place, at the cost of its own blocks, whatever else the unit holds. It
+    /// takes no memory, and nothing can fail once it has begun.
     pub fn change(&mut self, act: ActRef<'_>)
         requires covered { Covers self.old (lent_operation_of act) }
         requires success { Succeeds self.old (lent_operation_of act) }
@@ -116,7 +126,8 @@ impl UnitBlocks {
         requires range { IsWithin self.old.first (length self.old.blocks) first blocks }
         requires payload { length payload.now ≡ blocks * self.old.size }
         ensures step { (m : Medium) → Holds self.old m
-            → Holds self.new (medium_after self.old.size (write_operation first blocks payload.now) m) }
+            → Holds self.new
+            (medium_after self.old.size (write_operation first blocks payload.now) m) }
         ensures place { StaysInPlace self.old self.new }
     {
         let at = (first - self.first) as usize;
@@ -127,36 +138,12 @@ impl UnitBlocks {
     /// The stored blocks of the `blocks` LBAs from `first`.
     pub(crate) fn range(&self, first: u64, blocks: u32) -> &[StoredBlock]
         requires { IsWithin self.now.first (length self.now.blocks) first blocks }
-        ensures blocks { (m : Medium) → Holds self.now m → range m first blocks ≡ blocks_of result.now }
+        ensures blocks { (m : Medium) → Holds self.now m
+            → range m first blocks ≡ blocks_of result.now }
         ensures len { length result.now ≡ blocks }
         ensures sized { AreSized self.now.size result.now }
     {
         let at = (first - self.first) as usize;
         &self.blocks[at..at + blocks as usize]
-    }
-
-    /// The size of a block in bytes.
-    pub(crate) fn size(&self) -> BlockSize
-        ensures { result ≡ self.now.size }
-    {
-        self.size
-    }
-
-    /// Whether there is a block among the `blocks` LBAs from `first`, and all of them lie in the unit.
-    fn has_range(&self, first: u64, blocks: u32) -> bool
-        ensures { IsTrue result ↔ IsWithin self.now.first (length self.now.blocks) first blocks }
-    {
-        let count = self.blocks.len() as u64;
-        blocks > 0
-            && first >= self.first
-            && first - self.first < count
-            && u64::from(blocks) <= count - (first - self.first)
-    }
-
-    /// Whether the data has just so many blocks.
-    fn is_data_of(&self, blocks: u32, payload: &[u8]) -> bool
-        ensures { IsTrue result ↔ (length payload.now ≡ blocks * self.now.size) }
-    {
-        payload.len() as u64 == u64::from(blocks) * u64::from(self.size.bytes())
     }
 }

@@ -5,8 +5,8 @@ use Rattle.nvm_store.proofs.stored_blocks.write_range.Given as goal
 -- The first `i` blocks of the range have the data, and the others are as they were.
 abbrev pub invariant-loop-i : goal.invariant-loop-i
 invariant-loop-i l = record {
-  len : length l.blocks.items ≡ length l.initial.blocks.items;
-  sized : AreSized l.size l.blocks.items;
-  written : (d : Stored) (k : ℕ) → k < l.i → get_or l.blocks.items (l.at + k) d ≡ written l.size l.payload k;
-  others : KeepsAllBut l.at l.i l.initial.blocks.items l.blocks.items;
+  len : length l.blocks ≡ length l.initial.blocks;
+  sized : AreSized l.size l.blocks;
+  written : (d : Stored) (k : ℕ) → k < l.i → get_or l.blocks (l.at + k) d ≡ written l.size l.payload k;
+  others : KeepsAllBut l.at l.i l.initial.blocks l.blocks;
 }
