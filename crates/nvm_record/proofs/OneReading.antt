@@ -1,12 +1,12 @@
 -- A file reads as one thing alone: one list of commands, or one fault.
-use Rattle.std.proofs.Common.{◌≡◌, ◌≢◌, ◌⊎◌, inl, inr, ℕ, suc, ◌+◌, ◌<◌, ◌≤◌, List, [], ◌∷◌, ◌++◌, length, take, drop, slice_index, refl, sym, ap, ◌∙◌, subst, arith, rules, length-append, length-drop}
+use Rattle.std.proofs.Common.{◌≡◌, ◌⊎◌, inl, inr, ℕ, suc, ◌+◌, ◌<◌, ◌≤◌, List, [], ◌∷◌, ◌++◌, length, take, drop, slice_index, refl, sym, ap, ◌∙◌, subst, arith, length-append, length-drop}
 use Rattle.std.proofs.Common.{Result, Ok, Err, IfOk, IfErr, MatchResult, Vec, Global}
 use Rattle.std.proofs.Math.Seq.{take-append_seam, drop-append_seam}
-use Rattle.std.proofs.lemmas.List.{take-append-drop, length-take-le, length-take, take-append-le, drop-append-le}
+use Rattle.std.proofs.lemmas.List.{length-take, take-append-le, drop-append-le}
 use Rattle.byteorder.specs.Endian.{little_number}
 use Rattle.nvm_record.specs.Op.{op_of}
 use Rattle.nvm_record.specs.Entry.{IsEntryOf, IsSpelling, data_length}
-use Rattle.nvm_record.specs.HostFile.{BeginsWith, Begins, IsHostFile, IsCut, IsTruncated, HasTooMany, IsFaultOf, IsAnsweredFault, called_for, file_name}
+use Rattle.nvm_record.specs.HostFile.{BeginsWith, Begins, IsHostFile, IsCut, IsTruncated, HasTooMany, IsFaultOf, IsAnsweredFault, called_for}
 use Rattle.nvm_record.specs.declared.command.Command.{Command}
 use Rattle.nvm_record.specs.declared.op.Op.{Op}
 use Rattle.nvm_record.specs.declared.op.Fuse.{Fuse}
