@@ -1,10 +1,10 @@
 -- The written entry is a spelling of its command.
-use Rattle.std.proofs.Common.{◌≡◌, ℕ, ◌+◌, ◌%◌, ◌^◌, ◌<◌, List, [], ◌∷◌, ◌++◌, length, take, drop, slice_index, replicate, refl, sym, ap, ◌∙◌, arith, rules}
+use Rattle.std.proofs.Common.{◌≡◌, ℕ, ◌%◌, List, ◌++◌, length, take, drop, replicate, refl, sym}
 use Rattle.std.proofs.Math.Seq.{take-append_seam, drop-append_seam}
 use Rattle.byteorder.specs.Numbers.{little_number-reads_back}
-use Rattle.byteorder.specs.Endian.{little_number, little_bytes}
+use Rattle.byteorder.specs.Endian.{little_bytes}
 use Rattle.nvm_record.specs.Op.{op_of, opcode_of, IsProper, fuse_of, bits_of}
-use Rattle.nvm_record.specs.Entry.{IsEntryOf, HasFieldsInRange, IsWhole, IsSpelling, entry_of, data_length}
+use Rattle.nvm_record.specs.Entry.{IsEntryOf, HasFieldsInRange, IsWhole, IsSpelling, entry_of}
 use Rattle.nvm_record.specs.declared.op.Op.{Op}
 use Rattle.nvm_record.specs.declared.op.Op.TheVariants.{Write, Read, WriteUncorrectable, Compare, WriteZeroes, Other}
 use Rattle.nvm_record.specs.declared.op.Fuse.{Fuse}

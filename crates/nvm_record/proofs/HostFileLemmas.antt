@@ -1,8 +1,8 @@
 -- Reading a host file from its front.
-use Rattle.std.proofs.Common.{◌≡◌, ◌≢◌, ◌⊎◌, inl, inr, ℕ, ◌+◌, ◌<◌, ◌≤◌, List, [], ◌∷◌, ◌++◌, length, take, drop, slice_index, refl, sym, ap, ◌∙◌, subst, arith, rules, append_assoc, length-append, length-drop}
+use Rattle.std.proofs.Common.{inl, inr, ◌≡◌, ℕ, ◌+◌, ◌<◌, ◌≤◌, List, [], ◌∷◌, ◌++◌, length, take, drop, refl, sym, ap, ◌∙◌, subst, arith, append_assoc, length-append, length-drop}
 use Rattle.std.proofs.Math.Seq.{take-append_seam, drop-append_seam}
 use Rattle.std.proofs.lemmas.List.{take-append-drop, length-take-le}
-use Rattle.nvm_record.specs.Entry.{IsEntryOf, IsSpelling, data_length}
+use Rattle.nvm_record.specs.Entry.{IsEntryOf, data_length}
 use Rattle.nvm_record.specs.HostFile.{BeginsWith, Begins, IsCutFault, IsAnsweredFault, file_name}
 use Rattle.nvm_record.specs.declared.command.Command.{Command}
 use Rattle.nvm_record.specs.declared.host_fault.HostFault.{HostFault}
@@ -61,6 +61,6 @@ reading_shorter size bytes cs rest h = omega (arith, begins_shorter size (drop 4
 -- What isn't whole there is the file's first fault.
 pub reading_fault : (size : ℕ) (bytes : List ℕ) (cs : List Command) (rest : List ℕ) (offset : ℕ) (f : HostFault) → length cs < 65536 → IsReading size bytes cs rest → offset + length rest ≡ length bytes → IsCutFault size rest offset f → IsAnsweredFault size bytes f
 reading_fault size bytes cs rest offset BadName few h place k = absurd k
-reading_fault size bytes cs rest offset (Truncated found) few h place (at, cut, e) = (cs, rest, at, record { name = h.name; commands = h.commands; few = few; cut = cut; place = omega arith })
+reading_fault size bytes cs rest offset (Truncated found) few h place (inside, cut, e) = inl (cs, rest, inside, record { name = h.name; commands = h.commands; few = few; cut = cut; place = omega arith })
 reading_fault size bytes cs rest offset TooMany few h place k = absurd k
-reading_fault size bytes cs rest offset NoMemory few h place k = tt
+reading_fault size bytes cs rest offset NoMemory few h place k = inr refl

@@ -1,12 +1,12 @@
 -- A file reads as one thing alone: one list of commands, or one fault.
-use Rattle.std.proofs.Common.{◌≡◌, ◌≢◌, ◌⊎◌, inl, inr, ℕ, suc, ◌+◌, ◌<◌, ◌≤◌, List, [], ◌∷◌, ◌++◌, length, take, drop, slice_index, refl, sym, ap, ◌∙◌, subst, arith, rules, length-append, length-drop}
+use Rattle.std.proofs.Common.{◌≡◌, ◌⊎◌, inl, inr, ℕ, suc, ◌+◌, ◌<◌, ◌≤◌, List, [], ◌∷◌, ◌++◌, length, take, drop, slice_index, refl, sym, ap, ◌∙◌, subst, arith, length-append, length-drop}
 use Rattle.std.proofs.Common.{Result, Ok, Err, IfOk, IfErr, MatchResult, Vec, Global}
 use Rattle.std.proofs.Math.Seq.{take-append_seam, drop-append_seam}
-use Rattle.std.proofs.lemmas.List.{take-append-drop, length-take-le, length-take, take-append-le, drop-append-le}
+use Rattle.std.proofs.lemmas.List.{length-take, take-append-le, drop-append-le}
 use Rattle.byteorder.specs.Endian.{little_number}
 use Rattle.nvm_record.specs.Op.{op_of}
 use Rattle.nvm_record.specs.Entry.{IsEntryOf, IsSpelling, data_length}
-use Rattle.nvm_record.specs.HostFile.{BeginsWith, Begins, IsHostFile, IsCut, IsTruncated, HasTooMany, IsFaultOf, IsAnsweredFault, called_for, file_name}
+use Rattle.nvm_record.specs.HostFile.{BeginsWith, Begins, IsHostFile, IsCut, IsTruncated, HasTooMany, IsFaultOf, IsAnsweredFault, called_for}
 use Rattle.nvm_record.specs.declared.command.Command.{Command}
 use Rattle.nvm_record.specs.declared.op.Op.{Op}
 use Rattle.nvm_record.specs.declared.op.Fuse.{Fuse}
@@ -186,16 +186,12 @@ one_fault size bytes NoMemory g h k = absurd h
 pub all_alone : (size : ℕ) (bytes : List ℕ) (cs : List Command) (r : Result (Vec Command Global) HostFault) → IsHostFile size bytes cs → IfOk r (λ v. IsHostFile size bytes v.items) → IfErr r (IsAnsweredFault size bytes)
     → MatchResult r (λ v. v.items ≡ cs) (λ e. e ≡ NoMemory)
 all_alone size bytes cs (Ok v) h ok err = one_list size bytes v.items cs ok h
-all_alone size bytes cs (Err BadName) h ok err = absurd (no_list size bytes cs BadName h err)
-all_alone size bytes cs (Err (Truncated offset)) h ok err = absurd (no_list size bytes cs (Truncated offset) h err)
-all_alone size bytes cs (Err TooMany) h ok err = absurd (no_list size bytes cs TooMany h err)
-all_alone size bytes cs (Err NoMemory) h ok err = refl
+all_alone size bytes cs (Err e) h ok (inl fault) = absurd (no_list size bytes cs e h fault)
+all_alone size bytes cs (Err e) h ok (inr memory) = memory
 
 -- what is answered where the file has a fault
 pub each_alone : (size : ℕ) (bytes : List ℕ) (f : HostFault) (r : Result (Vec Command Global) HostFault) → IsFaultOf size bytes f → IfOk r (λ v. IsHostFile size bytes v.items) → IfErr r (IsAnsweredFault size bytes)
     → MatchResult r (λ _. ⊥) (λ e. (e ≡ f) ⊎ (e ≡ NoMemory))
 each_alone size bytes f (Ok v) h ok err = no_list size bytes v.items f ok h
-each_alone size bytes f (Err BadName) h ok err = inl (one_fault size bytes BadName f err h)
-each_alone size bytes f (Err (Truncated offset)) h ok err = inl (one_fault size bytes (Truncated offset) f err h)
-each_alone size bytes f (Err TooMany) h ok err = inl (one_fault size bytes TooMany f err h)
-each_alone size bytes f (Err NoMemory) h ok err = inr refl
+each_alone size bytes f (Err e) h ok (inl fault) = inl (one_fault size bytes e f fault h)
+each_alone size bytes f (Err e) h ok (inr memory) = inr memory

@@ -1,6 +1,6 @@
 -- The submission entry of 64 bytes: Base Specification, "Common Command Format"; NVM Command Set
 -- Specification, Read and Write, command dwords 10 to 12. All numbers are little endian.
-use Rattle.std.specs.Prelude.{◌≡◌, ℕ, ◌+◌, ◌*◌, ◌%◌, ◌^◌, ◌<◌, if◌then◌else◌, List, [], ◌∷◌, ◌++◌, length, take, drop, slice_index, replicate}
+use Rattle.std.specs.Prelude.{◌≡◌, ℕ, ◌+◌, ◌*◌, ◌%◌, ◌^◌, ◌<◌, if◌then◌else◌, List, ◌∷◌, ◌++◌, length, take, drop, slice_index, replicate}
 use Rattle.byteorder.specs.Endian.{little_number, little_bytes}
 use Rattle.nvm_record.specs.Op.{op_of, opcode_of, IsProper, fuse_of, bits_of, carries_data}
 use Rattle.nvm_record.specs.declared.op.Op.{Op}

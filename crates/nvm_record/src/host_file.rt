@@ -22,7 +22,7 @@ pub const MOST_COMMANDS: usize = 65_536;
 /// submission entry of 64 bytes and, after that of a Write or a Compare, its data of `nlb + 1` blocks
 /// of `size`.
 ///
-/// The first fault from the front is answered.
+/// The first fault from the front is answered, or `NoMemory` where a growth was refused before it.
 pub fn read_host(alloc: Global, bytes: &[u8], size: BlockSize) -> Result<Vec<Command>, HostFault>
     // What is answered is what the file reads as.
     ensures commands { IfOk result (λ v. IsHostFile size bytes.now v.items) }

@@ -3,7 +3,7 @@ use Rattle.std.specs.Prelude.{◌≡◌, ℕ, ◌+◌, ◌*◌, ◌<◌, ◌≤�
 use Rattle.nvm_record.specs.declared.block.Block.{Block}
 use Rattle.nvm_record.specs.Medium.{Medium}
 use Rattle.nvm_record.specs.Status.{IsSuccess}
-use Rattle.nvm_record.specs.Step.{Deed, writes, zeroes, marks, reads, compares, pairs, Operation, statuses_of}
+use Rattle.nvm_record.specs.Step.{Deed, writes, zeroes, uncorrectable, reads, compares, pairs, Operation, statuses_of}
 
 -- The block size is in bytes.
 pub record Contents : Type 0 where
@@ -30,7 +30,7 @@ StaysInPlace old new = IsUnit old.first (length old.blocks) old.size new
 abbrev pub HasData : ℕ → Deed → Type 0
 HasData bytes (writes payload) = length payload ≡ bytes
 HasData bytes zeroes = Unit {0}
-HasData bytes marks = Unit {0}
+HasData bytes uncorrectable = Unit {0}
 HasData bytes reads = Unit {0}
 HasData bytes (compares payload) = length payload ≡ bytes
 HasData bytes (pairs payload new) = (length payload ≡ bytes) × (length new ≡ bytes)

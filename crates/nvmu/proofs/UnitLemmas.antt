@@ -15,7 +15,7 @@ use Rattle.nvm_store.specs.Contents.{Contents, Holds, Covers, IsCovered, IsWithi
 use Rattle.nvm_store.specs.Answer.{IsAnswer}
 use Rattle.nvm_store.specs.declared.answers.Answer.{Answer}
 use Rattle.nvm_store.specs.declared.answers.Answer.TheVariants as answers
-use Rattle.nvmu.specs.Checks.{is_served, refusal_of}
+use Rattle.nvmu.specs.Checks.{is_in_profile, refusal_of}
 use Rattle.nvmu.specs.Run.{operation_of, status_of, changes_of, completion, Namespace, Serves, Answers}
 use Rattle.nvmu.specs.Whole.{IsWholeNamespace}
 use Rattle.nvmu.specs.OneUnit.{namespace_of, AnswersTo, IsKept, IsStepped, WritesOrKeeps}
@@ -26,7 +26,7 @@ pub read_is : (c : Command) → c.op ≡ Read → record { first = c.slba; block
 read_is c op = rw op refl
 
 -- what is served and is no Write is a Read
-pub served_read : (op : Op) → is_served op ≡ true → (op ≡ Write → ⊥) → op ≡ Read
+pub served_read : (op : Op) → is_in_profile op ≡ true → (op ≡ Write → ⊥) → op ≡ Read
 served_read Write h n = absurd (n refl)
 served_read Read h n = refl
 served_read WriteUncorrectable h n = absurd (cc)
@@ -55,8 +55,8 @@ read_holds u size c m op holds =
     subst keeps (read_is c op) (λ d i h. holds d i h ∙ sym (reads_keep size c.slba (c.nlb + 1) m (u.first + i)))
 
 -- a Read is no change
-read_changes : (c : Command) → c.op ≡ Read → changes_of (operation_of c).deed ≡ 0
-read_changes c op = ap (λ (o : Operation). changes_of o.deed) (sym (read_is c op))
+read_changes : (c : Command) (m : Medium) → c.op ≡ Read → changes_of (operation_of c) m ≡ 0
+read_changes c m op = ap (λ (o : Operation). changes_of o m) (sym (read_is c op))
 
 -- A Read's completion is that of its step, and nothing changes.
 pub answers_read : (u : OneUnit) (c : Command) (status : Status) (payload : Option (List ℕ)) (done : Completion) → refusal_of u.nsze c ≡ None → c.op ≡ Read
@@ -64,7 +64,7 @@ pub answers_read : (u : OneUnit) (c : Command) (status : Status) (payload : Opti
 answers_read u c status payload done served op h is =
     answers_served u u c done served (λ m holds.
     let step = h m holds in
-    let none : changes_of (operation_of c).deed ≡ 0 = read_changes c op in
+    let none : changes_of (operation_of c) m ≡ 0 = read_changes c m op in
     let few : vec_len u.history ≤ u.limit = u.few in
     inr (
       is ∙ ap (λ (s : Statuses). completion c (status_of s) payload) (sym step.0) ∙ ap (λ (d : Option (List ℕ)). completion c (status_of (statuses_of (operation_of c) m)) d) (sym step.1),

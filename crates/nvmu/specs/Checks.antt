@@ -9,14 +9,14 @@ use Rattle.nvm_record.specs.declared.command.Command.{Command}
 use Rattle.nvm_record.specs.declared.status.Status.{Status}
 use Rattle.nvm_record.specs.Status.{invalid_command_opcode, invalid_field_in_command, aborted_due_to_missing_fused_command, invalid_namespace_or_format, lba_out_of_range}
 
--- the opcodes that are served yet: Write and Read
-abbrev pub is_served : Op → Bool
-is_served Write = true
-is_served Read = true
-is_served WriteUncorrectable = false
-is_served Compare = false
-is_served WriteZeroes = false
-is_served (Other opcode) = false
+-- the opcodes of the profile, which are yet Write and Read
+abbrev pub is_in_profile : Op → Bool
+is_in_profile Write = true
+is_in_profile Read = true
+is_in_profile WriteUncorrectable = false
+is_in_profile Compare = false
+is_in_profile WriteZeroes = false
+is_in_profile (Other opcode) = false
 
 -- FUSE is 11b
 abbrev pub is_reserved : Fuse → Bool
@@ -40,7 +40,7 @@ pub record Check : Type 0 where
 -- the table of checks
 abbrev pub checks : ℕ → Command → List Check
 checks nsze c =
-    record { applies = not (is_served c.op); status = invalid_command_opcode }
+    record { applies = not (is_in_profile c.op); status = invalid_command_opcode }
     ∷ (record { applies = is_reserved c.fuse; status = invalid_field_in_command }
     ∷ (record { applies = is_fused c.fuse; status = aborted_due_to_missing_fused_command }
     ∷ (record { applies = not (c.nsid == 1); status = invalid_namespace_or_format }
@@ -56,7 +56,8 @@ first_of (check ∷ rest) = if check.applies then Some check.status else first_o
 abbrev pub refusal_of : ℕ → Command → Option Status
 refusal_of nsze c = first_of (checks nsze c)
 
--- What holds of a command that isn't refused: it is served, and its range lies in the namespace.
-pub record IsServed (nsze : ℕ) (c : Command) : Type 0 where
-  pub op : is_served c.op ≡ true
+-- What the rest stands on where a command isn't refused: its opcode is of the profile, and its range
+-- lies in the namespace.
+pub record IsAccepted (nsze : ℕ) (c : Command) : Type 0 where
+  pub op : is_in_profile c.op ≡ true
   pub range : c.slba + c.nlb + 1 ≤ nsze

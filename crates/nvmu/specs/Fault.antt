@@ -1,4 +1,4 @@
--- The faults of the program, in the order in which they are looked for.
+-- The faults of a run, in the order in which they are looked for: the options', then the file's.
 use Rattle.std.specs.Prelude.{◌≡◌, ◌⊎◌, ◌<◌, ◌≤◌, ℕ, List}
 use Rattle.nvm_record.specs.BlockSize.{IsBlockSize}
 use Rattle.nvm_record.specs.HostFile.{IsFaultOf}
@@ -35,9 +35,8 @@ abbrev pub IsFileFault : ℕ → List ℕ → Fault → Type 0
 IsFileFault size file (HostBadName host) = (host ≡ 1) × IsFaultOf size file of_file.BadName
 IsFileFault size file (HostTruncated host at) = (host ≡ 1) × IsFaultOf size file (of_file.Truncated at)
 IsFileFault size file (HostTooMany host) = (host ≡ 1) × IsFaultOf size file of_file.TooMany
-IsFileFault size file NoMemory = Unit {0}
 IsFileFault size file fault = ⊥
 
--- The first fault of the options and then of host 1's file; or memory was refused.
+-- The first fault, of the options and then of host 1's file; or memory was refused.
 abbrev pub IsFirstFault : Settings → List ℕ → Fault → Type 0
 IsFirstFault s file fault = IsGeometryFault s fault ⊎ (IsNamespace s × IsFileFault s.block file fault) ⊎ (fault ≡ NoMemory)

@@ -20,9 +20,9 @@ AnswersTo old new c done =
     (m : Medium) → Holds old.blocks m
     → Answers (namespace_of old) m (vec_len old.history) c done (λ after changes. Holds new.blocks after × (changes ≡ vec_len new.history))
 
--- Nothing has changed.
+-- The blocks and the history are as before.
 abbrev pub IsKept : OneUnit → OneUnit → Type 0
-IsKept old new = (new.blocks ≡ old.blocks) × (vec_len new.history ≡ vec_len old.history)
+IsKept old new = (new.blocks ≡ old.blocks) × (new.history.items ≡ old.history.items) × (vec_len new.history ≡ vec_len old.history)
 
 -- The command's step was made, and the history has one change more.
 pub record IsStepped (old new : OneUnit) (c : Command) : Type 0 where

@@ -1,22 +1,23 @@
 -- A run of commands, one after the other, on one medium.
-use Rattle.std.specs.Prelude.{◌≡◌, ◌⊎◌, ℕ, ◌+◌, ◌<◌, ◌≤◌, List, [], ◌∷◌, Option, Some, None, MatchOption}
+use Rattle.std.specs.Prelude.{◌≡◌, ◌⊎◌, ℕ, ◌+◌, ◌<◌, ◌≤◌, List, [], ◌∷◌, Option, Some, None, MatchOption, if◌then◌else◌}
 use Rattle.nvm_record.specs.declared.op.Op.{Op}
 use Rattle.nvm_record.specs.declared.op.Op.TheVariants.{Write, Read, WriteUncorrectable, Compare, WriteZeroes, Other}
 use Rattle.nvm_record.specs.declared.command.Command.{Command}
+use Rattle.nvm_record.specs.declared.block.Block.{Block}
 use Rattle.nvm_record.specs.declared.completion.Completion.{Completion}
 use Rattle.nvm_record.specs.declared.status.Status.{Status}
 use Rattle.nvm_record.specs.declared.status.Statuses.{Statuses}
 use Rattle.nvm_record.specs.declared.status.Statuses.TheVariants.{One, Two}
 use Rattle.nvm_record.specs.Status.{internal_error}
 use Rattle.nvm_record.specs.Medium.{Medium}
-use Rattle.nvm_record.specs.Step.{Deed, writes, zeroes, marks, reads, compares, pairs, Operation, statuses_of, data_of, medium_after}
+use Rattle.nvm_record.specs.Step.{Deed, writes, zeroes, uncorrectable, reads, compares, pairs, Operation, compares_equal, range_of, statuses_of, data_of, medium_after}
 use Rattle.nvmu.specs.Checks.{refusal_of}
 
 -- what a command with this opcode does; one without a name is refused before it does anything
 abbrev pub deed_of : Op → List ℕ → Deed
 deed_of Write payload = writes payload
 deed_of Read payload = reads
-deed_of WriteUncorrectable payload = marks
+deed_of WriteUncorrectable payload = uncorrectable
 deed_of Compare payload = compares payload
 deed_of WriteZeroes payload = zeroes
 deed_of (Other opcode) payload = reads
@@ -25,16 +26,20 @@ deed_of (Other opcode) payload = reads
 abbrev pub operation_of : Command → Operation
 operation_of c = record { first = c.slba; blocks = c.nlb + 1; deed = deed_of c.op c.payload }
 
--- how many changes of the medium such a deed is
-abbrev pub changes_of : Deed → ℕ
-changes_of (writes payload) = 1
-changes_of zeroes = 1
-changes_of marks = 1
-changes_of reads = 0
-changes_of (compares payload) = 0
-changes_of (pairs payload new) = 1
+-- how many changes of the medium such a deed is, by the blocks of its range
+abbrev pub changes_on : List Block → Deed → ℕ
+changes_on blocks (writes payload) = 1
+changes_on blocks zeroes = 1
+changes_on blocks uncorrectable = 1
+changes_on blocks reads = 0
+changes_on blocks (compares payload) = 0
+changes_on blocks (pairs payload new) = if compares_equal blocks payload then 1 else 0
 
--- the status of a command that is done by itself
+-- how many changes of the medium the operation is
+abbrev pub changes_of : Operation → Medium → ℕ
+changes_of op m = changes_on (range_of op m) op.deed
+
+-- the status of a command that is done by itself, which has one
 abbrev pub status_of : Statuses → Status
 status_of (One s) = s
 status_of (Two s t) = s
@@ -49,14 +54,15 @@ pub record Namespace : Type 0 where
   pub size : ℕ
   pub limit : ℕ
 
--- A command that isn't refused, from a medium after so many changes. Either memory was refused or the
--- changes are at their limit, and the medium stays; or it is a step, and the medium is the one after it.
+-- A command that isn't refused, from a medium after so many changes. It may be answered 0/06, and then
+-- the medium stays: that is for want of memory, of which nothing can be said here, and for a change at
+-- the limit it is the only answer. Else it is a step, and the medium is the one after it.
 abbrev pub Serves : Namespace → Medium → ℕ → Command → Completion → (Medium → ℕ → Type 0) → Type 0
 Serves n m changes c done next =
     ((done ≡ completion c internal_error None) × next m changes)
     ⊎ ((done ≡ completion c (status_of (statuses_of (operation_of c) m)) (data_of (operation_of c) m))
-    × (changes + changes_of (operation_of c).deed ≤ n.limit)
-    × next (medium_after n.size (operation_of c) m) (changes + changes_of (operation_of c).deed))
+    × (changes + changes_of (operation_of c) m ≤ n.limit)
+    × next (medium_after n.size (operation_of c) m) (changes + changes_of (operation_of c) m))
 
 -- A command: it is refused and nothing happens, or it is served.
 abbrev pub Answers : Namespace → Medium → ℕ → Command → Completion → (Medium → ℕ → Type 0) → Type 0

@@ -1,6 +1,6 @@
 ghost use Rattle.std.specs.Prelude.{◌≡◌, IfNone};
 ghost use Rattle.nvmu.specs.Checks as spec;
-ghost use Rattle.nvmu.specs.Checks.{refusal_of, IsServed};
+ghost use Rattle.nvmu.specs.Checks.{refusal_of, IsAccepted};
 
 use nvm_record::{Command, Fuse, Op, Status};
 
@@ -11,9 +11,9 @@ const NSID: u32 = 1;
 /// check that applies.
 pub fn refusal(nsze: u64, command: &Command) -> Option<Status>
     ensures first { result ≡ refusal_of nsze command.now }
-    ensures none { IfNone result (IsServed nsze command.now) }
+    ensures none { IfNone result (IsAccepted nsze command.now) }
 {
-    if !is_served(command.op) {
+    if !is_in_profile(command.op) {
         return Some(Status::INVALID_COMMAND_OPCODE);
     }
     match command.fuse {
@@ -33,9 +33,9 @@ pub fn refusal(nsze: u64, command: &Command) -> Option<Status>
     None
 }
 
-/// Whether commands with this opcode are served yet.
-fn is_served(op: Op) -> bool
-    ensures { result ≡ spec.is_served op }
+/// Whether the opcode is of the profile, which is Write and Read yet.
+fn is_in_profile(op: Op) -> bool
+    ensures { result ≡ spec.is_in_profile op }
 {
     matches!(op, Op::Write | Op::Read)
 }

@@ -1,7 +1,8 @@
-ghost use Rattle.std.specs.Prelude.{◌≡◌, ◌≤◌, ℕ, All, IfOk, IfErr, OnOk, length};
+ghost use Rattle.std.specs.Prelude.{◌≡◌, ◌≤◌, ◌⊎◌, ℕ, All, IfOk, IfErr, OnOk, length};
 ghost use Rattle.nvm_record.specs.Entry.{IsWhole};
 ghost use Rattle.nvm_record.specs.HostFile.{IsHostFile};
 ghost use Rattle.nvm_record.specs.Medium.{zero_medium};
+ghost use Rattle.nvmu.specs.declared.fault.Fault.TheVariants.{NoMemory};
 ghost use Rattle.nvmu.specs.Fault.{IsNamespace, IsFirstFault, IsGeometryFault, IsFileFault};
 ghost use Rattle.nvmu.specs.Run.{IsRun};
 ghost use Rattle.nvmu.specs.Words.{IsInRange};
@@ -21,7 +22,8 @@ const MOST_BLOCKS: u64 = 65_536;
 /// Does the commands of a host file on a namespace of zero bytes, in their order, and says what to
 /// show: for each command the line of its completion.
 ///
-/// The first fault is answered, of the settings before those of the file; nothing is shown then.
+/// The first fault is answered, one of the settings before one of the file, or `NoMemory` where a growth
+/// outside a command was refused. Nothing is shown then.
 pub fn execute(alloc: Global, settings: &Settings, files: &[Vec<u8>]) -> Result<Shown, Fault>
     requires settings { IsInRange settings.now }
     requires file { length files.now ≡ 1 }
@@ -60,7 +62,7 @@ fn block_size(settings: &Settings) -> Result<BlockSize, Fault>
 fn commands_of(alloc: Global, file: &[u8], size: BlockSize) -> Result<Vec<Command>, Fault>
     ensures commands { IfOk result (λ commands. IsHostFile size file.now commands.items) }
     ensures whole { IfOk result (λ commands. All (IsWhole size) commands.items) }
-    ensures fault { IfErr result (IsFileFault size file.now) }
+    ensures fault { IfErr result (λ fault. IsFileFault size file.now fault ⊎ (fault ≡ NoMemory)) }
 {
     match read_host(alloc, file, size) {
         Ok(commands) => Ok(commands),

@@ -1,4 +1,4 @@
-use Rattle.std.proofs.Common.{◌≡◌, ◌≢◌, ◌+◌, ◌-◌, ◌<◌, ◌≤◌, length, vec_len, arith}
+use Rattle.std.proofs.Common.{◌<◌, length, arith}
 use Rattle.std.proofs.lemmas.Result.{err_from_is_err_and}
 use Rattle.nvm_record.proofs.HostFileLemmas.{reading_shorter, reading_more, reading_fault}
 use Rattle.nvm_record.proofs.host_file.commands_of.Goals as goal

@@ -1,5 +1,4 @@
-use Rattle.std.proofs.Common.{◌≡◌, ◌≤◌, length, take, drop}
-use Rattle.nvm_record.specs.HostFile.{Begins, file_name}
+use Rattle.std.proofs.Common.{length}
 use Rattle.nvm_record.proofs.HostFileLemmas.{IsReading}
 use Rattle.nvm_record.proofs.host_file.commands_of.Given as goal
 

@@ -1,4 +1,4 @@
-use Rattle.std.proofs.Common.{◌≡◌, ◌≤◌, length, take, drop, sym, ◌∙◌, arith, rules}
+use Rattle.std.proofs.Common.{◌≡◌, ◌≤◌, length, take, drop, ◌∙◌, arith}
 use Rattle.nvm_record.specs.Entry.{IsEntryOf}
 use Rattle.nvm_record.specs.declared.command.Command.{Command}
 use Rattle.nvm_record.proofs.HostFileLemmas.{begins_with}

@@ -1,4 +1,3 @@
-use Rattle.std.proofs.Common.{◌≡◌, ◌⊎◌, MatchResult, inl, inr}
 use Rattle.nvm_record.proofs.WholeCommands.{all_whole_read}
 use Rattle.nvm_record.proofs.OneReading.{all_alone, each_alone}
 use Rattle.nvm_record.proofs.host_file.read_host.Goals as goal
