@@ -28,9 +28,11 @@ one_more_at : (n : Namespace) (m : Medium) (k : ℕ) (c : Command) (p : Completi
     → MatchOption refusal (Serves n m k c p (λ after changes. Holds u.blocks after × (changes ≡ vec_len u.history))) (λ s. (p ≡ completion c s None) × (Holds u.blocks m × (k ≡ vec_len u.history)))
     → (after : Medium) × Continues n m k c p cs refusal u after
 one_more_at n m k c p cs u None (inl kept) =
-    (m, (kept.1.0, λ more run. inl (kept.0, subst (λ (i : ℕ). IsRun n m i cs more) (sym kept.1.1) run)))
-one_more_at n m k c p cs u None (inr stepped) =
-    (medium_after n.size (operation_of c) m, (stepped.2.0, λ more run. inr (stepped.0, stepped.1, subst (λ (i : ℕ). IsRun n (medium_after n.size (operation_of c) m) i cs more) (sym stepped.2.1) run)))
+    (m, (kept.2.0, λ more run. inl (kept.0, kept.1, subst (λ (i : ℕ). IsRun n m i cs more) (sym kept.2.1) run)))
+one_more_at n m k c p cs u None (inr (inl kept)) =
+    (m, (kept.2.0, λ more run. inr (inl (kept.0, kept.1, subst (λ (i : ℕ). IsRun n m i cs more) (sym kept.2.1) run))))
+one_more_at n m k c p cs u None (inr (inr stepped)) =
+    (medium_after n.size (operation_of c) m, (stepped.2.0, λ more run. inr (inr (stepped.0, stepped.1, subst (λ (i : ℕ). IsRun n (medium_after n.size (operation_of c) m) i cs more) (sym stepped.2.1) run))))
 one_more_at n m k c p cs u (Some s) kept =
     (m, (kept.1.0, λ more run. (kept.0, subst (λ (i : ℕ). IsRun n m i cs more) (sym kept.1.1) run)))
 

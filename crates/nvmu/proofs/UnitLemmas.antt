@@ -18,7 +18,7 @@ use Rattle.nvm_store.specs.declared.answers.Answer.TheVariants as answers
 use Rattle.nvmu.specs.Checks.{is_in_profile, refusal_of}
 use Rattle.nvmu.specs.Run.{operation_of, status_of, changes_of, completion, Namespace, Serves, Answers}
 use Rattle.nvmu.specs.Whole.{IsWholeNamespace}
-use Rattle.nvmu.specs.OneUnit.{namespace_of, AnswersTo, IsKept, IsStepped, WritesOrKeeps}
+use Rattle.nvmu.specs.OneUnit.{namespace_of, AnswersTo, IsKept, IsStepped}
 use Rattle.nvmu.specs.declared.one_unit.OneUnit.{OneUnit}
 
 -- what a Read stands for
@@ -66,8 +66,8 @@ answers_read u c status payload done served op h is =
     let step = h m holds in
     let none : changes_of (operation_of c) m ≡ 0 = read_changes c m op in
     let few : vec_len u.history ≤ u.limit = u.few in
-    inr (
+    inr (inr (
       is ∙ ap (λ (s : Statuses). completion c (status_of s) payload) (sym step.0) ∙ ap (λ (d : Option (List ℕ)). completion c (status_of (statuses_of (operation_of c) m)) d) (sym step.1),
       (omega arith),
       (read_holds u.blocks u.blocks.size c m op holds, omega arith),
-    ))
+    )))

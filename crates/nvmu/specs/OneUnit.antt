@@ -9,6 +9,8 @@ use Rattle.nvm_record.specs.Status.{internal_error, successful_completion}
 use Rattle.nvm_record.specs.Step.{medium_after}
 use Rattle.nvmu.specs.Run.{Namespace, Answers, operation_of}
 use Rattle.nvmu.specs.declared.one_unit.OneUnit.{OneUnit}
+use Rattle.nvmu.specs.declared.one_unit.Written.{Written}
+use Rattle.nvmu.specs.declared.one_unit.Written.TheVariants.{Done, NoMemory, Full}
 
 -- the namespace that the unit is
 abbrev pub namespace_of : OneUnit → Namespace
@@ -29,8 +31,8 @@ pub record IsStepped (old new : OneUnit) (c : Command) : Type 0 where
   pub blocks : (m : Medium) → Holds old.blocks m → Holds new.blocks (medium_after old.blocks.size (operation_of c) m)
   pub changes : vec_len new.history ≡ vec_len old.history + 1
 
--- A Write is done, below the limit, or nothing has changed.
-abbrev pub WritesOrKeeps : OneUnit → OneUnit → Command → Status → Type 0
-WritesOrKeeps old new c status =
-    ((status ≡ internal_error) × IsKept old new)
-    ⊎ ((status ≡ successful_completion) × (vec_len old.history < old.limit) × IsStepped old new c)
+-- What a Write did: it is done or finds no memory below the limit, and finds the history full at it.
+abbrev pub Writes : OneUnit → OneUnit → Command → Written → Type 0
+Writes old new c Done = (vec_len old.history < old.limit) × IsStepped old new c
+Writes old new c NoMemory = (vec_len old.history < old.limit) × IsKept old new
+Writes old new c Full = (vec_len old.history ≡ old.limit) × IsKept old new

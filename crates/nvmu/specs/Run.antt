@@ -54,15 +54,16 @@ pub record Namespace : Type 0 where
   pub size : ℕ
   pub limit : ℕ
 
--- A command that isn't refused, from a medium after so many changes. It may be answered 0/06, and then
--- the medium stays: that is for want of memory, of which nothing can be said here, and for a change at
--- the limit it is the only answer. Else it is a step, and the medium is the one after it.
+-- A command that isn't refused, from a medium after so many changes. Memory may be refused to it where
+-- there is room for its change; where there is none it is always 0/06; in both cases nothing changes.
+-- Else it is a step, and the medium is the one after it.
 abbrev pub Serves : Namespace → Medium → ℕ → Command → Completion → (Medium → ℕ → Type 0) → Type 0
 Serves n m changes c done next =
-    ((done ≡ completion c internal_error None) × next m changes)
+    let after : ℕ = changes + changes_of (operation_of c) m in
+    ((done ≡ completion c internal_error None) × (after ≤ n.limit) × next m changes)
+    ⊎ (((done ≡ completion c internal_error None) × (n.limit < after) × next m changes)
     ⊎ ((done ≡ completion c (status_of (statuses_of (operation_of c) m)) (data_of (operation_of c) m))
-    × (changes + changes_of (operation_of c) m ≤ n.limit)
-    × next (medium_after n.size (operation_of c) m) (changes + changes_of (operation_of c) m))
+    × (after ≤ n.limit) × next (medium_after n.size (operation_of c) m) after))
 
 -- A command: it is refused and nothing happens, or it is served.
 abbrev pub Answers : Namespace → Medium → ℕ → Command → Completion → (Medium → ℕ → Type 0) → Type 0

@@ -17,6 +17,16 @@ use std::alloc::Global;
 /// The number of the one host that there is yet.
 const HOST: u16 = 1;
 
+/// What became of a Write.
+#[derive(Clone, Copy, Debug, PartialEq, Eq)]
+enum Written {
+    Done,
+    /// A growth was refused, below the limit.
+    NoMemory,
+    /// The history is at its limit.
+    Full,
+}
+
 /// A whole namespace as one unit: its blocks, and the changes that made them.
 #[derive(Drop)]
 pub struct OneUnit {
@@ -29,7 +39,7 @@ pub struct OneUnit {
 }
 
 impl OneUnit {
-    ghost use Rattle.nvmu.specs.OneUnit.{namespace_of, AnswersTo, WritesOrKeeps, IsStepped, IsKept};
+    ghost use Rattle.nvmu.specs.OneUnit.{namespace_of, AnswersTo, Writes, IsStepped, IsKept};
 
     /// The unit of `nsze` blocks of zero bytes, whose history may have `limit` changes.
     pub fn new(alloc: Global, nsze: u64, size: BlockSize, limit: u32) -> Result<OneUnit, NoMemory>
@@ -59,7 +69,10 @@ impl OneUnit {
         }
         match command.op {
             Op::Write => {
-                let status = self.write(alloc, job, command);
+                let status = match self.write(alloc, job, command) {
+                    Written::Done => Status::SUCCESSFUL_COMPLETION,
+                    Written::NoMemory | Written::Full => Status::INTERNAL_ERROR,
+                };
                 completion(command, status, None)
             }
             _ => match self.read(alloc, command) {
@@ -75,19 +88,19 @@ impl OneUnit {
     }
 
     /// Does a Write where the history has room for it.
-    fn write(&mut self, alloc: Global, job: u32, command: &Command) -> Status
+    fn write(&mut self, alloc: Global, job: u32, command: &Command) -> Written
         requires op { command.now.op ≡ Op.Write }
         requires payload { length command.now.payload ≡ data_length self.old.blocks.size command.now.op command.now.nlb }
         requires range { command.now.slba + command.now.nlb + 1 ≤ self.old.nsze }
-        ensures answer { WritesOrKeeps self.old self.new command.now result }
+        ensures answer { Writes self.old self.new command.now result }
         ensures namespace { namespace_of self.new ≡ namespace_of self.old }
     {
-        if self.history.len() >= self.limit as usize {
-            return Status::INTERNAL_ERROR;
+        if self.history.len() == self.limit as usize {
+            return Written::Full;
         }
         match self.change(alloc, job, command) {
-            Ok(()) => Status::SUCCESSFUL_COMPLETION,
-            Err(_) => Status::INTERNAL_ERROR,
+            Ok(()) => Written::Done,
+            Err(_) => Written::NoMemory,
         }
     }
 
