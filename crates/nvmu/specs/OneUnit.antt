@@ -7,7 +7,7 @@ use Rattle.nvm_store.specs.Contents.{Holds}
 use Rattle.nvm_record.specs.declared.status.Status.{Status}
 use Rattle.nvm_record.specs.Status.{internal_error, successful_completion}
 use Rattle.nvm_record.specs.Step.{medium_after}
-use Rattle.nvmu.specs.Run.{Namespace, Answers, operation_of}
+use Rattle.nvmu.specs.Run.{Namespace, Counts, Answers, operation_of}
 use Rattle.nvmu.specs.declared.one_unit.OneUnit.{OneUnit}
 use Rattle.nvmu.specs.declared.one_unit.Written.{Written}
 use Rattle.nvmu.specs.declared.one_unit.Written.TheVariants.{Done, NoMemory, Full}
@@ -19,8 +19,8 @@ namespace_of u = record { nsze = u.nsze; size = u.blocks.size; limit = u.limit }
 -- From the unit as it was to the unit as it is, the command got this completion.
 abbrev pub AnswersTo : OneUnit → OneUnit → Command → Completion → Type 0
 AnswersTo old new c done =
-    (m : Medium) → Holds old.blocks m
-    → Answers (namespace_of old) m (vec_len old.history) c done (λ after changes. Holds new.blocks after × (changes ≡ vec_len new.history))
+    (m : Medium) (counts : Counts) → Holds old.blocks m → counts 0 ≡ vec_len old.history
+    → Answers (namespace_of old) m counts c done (λ after counted. Holds new.blocks after × (counted 0 ≡ vec_len new.history))
 
 -- The blocks and the history are as before.
 abbrev pub IsKept : OneUnit → OneUnit → Type 0

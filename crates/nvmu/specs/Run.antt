@@ -1,5 +1,5 @@
 -- A run of commands, one after the other, on one medium.
-use Rattle.std.specs.Prelude.{◌≡◌, ◌⊎◌, ℕ, ◌+◌, ◌<◌, ◌≤◌, List, [], ◌∷◌, Option, Some, None, MatchOption, if◌then◌else◌}
+use Rattle.std.specs.Prelude.{◌≡◌, ◌≢◌, ◌==◌, ◌⊎◌, ◌++◌, unwrap_or, ℕ, ◌+◌, ◌<◌, ◌≤◌, List, [], ◌∷◌, Option, Some, None, MatchOption, if◌then◌else◌}
 use Rattle.nvm_record.specs.declared.op.Op.{Op}
 use Rattle.nvm_record.specs.declared.op.Op.TheVariants.{Write, Read, WriteUncorrectable, Compare, WriteZeroes, Other}
 use Rattle.nvm_record.specs.declared.command.Command.{Command}
@@ -8,7 +8,7 @@ use Rattle.nvm_record.specs.declared.completion.Completion.{Completion}
 use Rattle.nvm_record.specs.declared.status.Status.{Status}
 use Rattle.nvm_record.specs.declared.status.Statuses.{Statuses}
 use Rattle.nvm_record.specs.declared.status.Statuses.TheVariants.{One, Two}
-use Rattle.nvm_record.specs.Status.{internal_error}
+use Rattle.nvm_record.specs.Status.{internal_error, successful_completion}
 use Rattle.nvm_record.specs.Medium.{Medium}
 use Rattle.nvm_record.specs.Step.{Deed, writes, zeroes, uncorrectable, reads, compares, pairs, Operation, compares_equal, range_of, statuses_of, data_of, medium_after}
 use Rattle.nvmu.specs.Checks.{refusal_of}
@@ -48,34 +48,70 @@ status_of (Two s t) = s
 abbrev pub completion : Command → Status → Option (List ℕ) → Completion
 completion c status payload = record { host = 1; cid = c.cid; status = status; payload = payload }
 
--- what a namespace is: its size in blocks, its block size in bytes, and the most changes of its unit
+-- what a Read is answered where all its parts succeed; no other command has data
+abbrev pub answered : Op → List ℕ → Option (List ℕ)
+answered Write bytes = None
+answered Read bytes = Some bytes
+answered WriteUncorrectable bytes = None
+answered Compare bytes = None
+answered WriteZeroes bytes = None
+answered (Other opcode) bytes = None
+
+-- what a namespace is: its size in blocks, its block size in bytes, and the most changes of a unit
 pub record Namespace : Type 0 where
   pub nsze : ℕ
   pub size : ℕ
   pub limit : ℕ
 
--- A command that isn't refused, from a medium after so many changes. Memory may be refused to it where
--- there is room for its change; where there is none it is always 0/06; in both cases nothing changes.
--- Else it is a step, and the medium is the one after it.
-abbrev pub Serves : Namespace → Medium → ℕ → Command → Completion → (Medium → ℕ → Type 0) → Type 0
-Serves n m changes c done next =
-    let after : ℕ = changes + changes_of (operation_of c) m in
-    ((done ≡ completion c internal_error None) × (after ≤ n.limit) × next m changes)
-    ⊎ (((done ≡ completion c internal_error None) × (n.limit < after) × next m changes)
-    ⊎ ((done ≡ completion c (status_of (statuses_of (operation_of c) m)) (data_of (operation_of c) m))
-    × (after ≤ n.limit) × next (medium_after n.size (operation_of c) m) after))
+-- a part of a command: its unit, and the operation there
+pub record Part : Type 0 where
+  pub unit : ℕ
+  pub operation : Operation
 
--- A command: it is refused and nothing happens, or it is served.
-abbrev pub Answers : Namespace → Medium → ℕ → Command → Completion → (Medium → ℕ → Type 0) → Type 0
-Answers n m changes c done next =
+-- The parts of a command, in ascending order. As long as the namespace is one unit, there is one.
+abbrev pub parts_of : Namespace → Command → List Part
+parts_of n c = record { unit = 0; operation = operation_of c } ∷ []
+
+-- how many changes each unit had
+abbrev pub Counts : Type 0
+Counts = ℕ → ℕ
+
+-- no unit had any
+abbrev pub no_changes : Counts
+no_changes unit = 0
+
+-- the same, but for one unit
+abbrev pub recounted : Counts → ℕ → ℕ → Counts
+recounted counts unit count u = if u == unit then count else counts u
+
+-- The parts of a command that are left, from a medium, the units' changes, and the bytes read so far.
+-- They stop at the first that isn't successful, whose status is the command's; what was done before
+-- it stays done. Memory may be refused to a part where its unit has room for its change; where there is
+-- no room it is always 0/06; in both cases the part changes nothing.
+abbrev pub Does : Namespace → Medium → Counts → List Part → List ℕ → Command → Completion → (Medium → Counts → Type 0) → Type 0
+Does n m counts [] bytes c done next =
+    (done ≡ completion c successful_completion (answered c.op bytes)) × next m counts
+Does n m counts (part ∷ parts) bytes c done next =
+    let after : ℕ = counts part.unit + changes_of part.operation m in
+    let status : Status = status_of (statuses_of part.operation m) in
+    ((done ≡ completion c internal_error None) × (after ≤ n.limit) × next m counts)
+    ⊎ (((done ≡ completion c internal_error None) × (n.limit < after) × next m counts)
+    ⊎ (((status ≢ successful_completion) × (done ≡ completion c status None) × next m counts)
+    ⊎ ((status ≡ successful_completion) × (after ≤ n.limit)
+    × Does n (medium_after n.size part.operation m) (recounted counts part.unit after) parts
+    (bytes ++ unwrap_or (data_of part.operation m) []) c done next)))
+
+-- A command: it is refused and nothing happens, or its parts are done.
+abbrev pub Answers : Namespace → Medium → Counts → Command → Completion → (Medium → Counts → Type 0) → Type 0
+Answers n m counts c done next =
     MatchOption (refusal_of n.nsze c)
-    (Serves n m changes c done next)
-    (λ status. (done ≡ completion c status None) × next m changes)
+    (Does n m counts (parts_of n c) [] c done next)
+    (λ status. (done ≡ completion c status None) × next m counts)
 
 -- The completions are those of the commands, one after the other, from this medium.
-abbrev pub IsRun : Namespace → Medium → ℕ → List Command → List Completion → Type 0
-IsRun n m changes [] [] = Unit {0}
-IsRun n m changes [] (done ∷ rest) = ⊥
-IsRun n m changes (c ∷ cs) [] = ⊥
-IsRun n m changes (c ∷ cs) (done ∷ rest) =
-    Answers n m changes c done (λ after count. IsRun n after count cs rest)
+abbrev pub IsRun : Namespace → Medium → Counts → List Command → List Completion → Type 0
+IsRun n m counts [] [] = Unit {0}
+IsRun n m counts [] (done ∷ rest) = ⊥
+IsRun n m counts (c ∷ cs) [] = ⊥
+IsRun n m counts (c ∷ cs) (done ∷ rest) =
+    Answers n m counts c done (λ after counted. IsRun n after counted cs rest)

@@ -4,7 +4,7 @@ ghost use Rattle.nvm_record.specs.HostFile.{IsHostFile};
 ghost use Rattle.nvm_record.specs.Medium.{zero_medium};
 ghost use Rattle.nvmu.specs.declared.fault.Fault.TheVariants.{NoMemory};
 ghost use Rattle.nvmu.specs.Fault.{IsNamespace, IsFirstFault, IsGeometryFault, IsFileFault};
-ghost use Rattle.nvmu.specs.Run.{IsRun};
+ghost use Rattle.nvmu.specs.Run.{no_changes, IsRun};
 ghost use Rattle.nvmu.specs.Words.{IsInRange};
 ghost use Rattle.nvmu.specs.Shown.{namespace_of, Shows};
 
@@ -81,7 +81,7 @@ fn completions_of(
     requires namespace { IsNamespace settings.now }
     requires whole { All (IsWhole size) commands.now }
     requires few { length commands.now ≤ 65536 }
-    ensures run { IfOk result (λ done. IsRun (namespace_of settings.now) (zero_medium size) 0 commands.now done.items) }
+    ensures run { IfOk result (λ done. IsRun (namespace_of settings.now) (zero_medium size) no_changes commands.now done.items) }
     ensures length { IfOk result (λ done. length done.items ≡ length commands.now) }
 {
     let mut unit = OneUnit::new(alloc, settings.nsze, size, settings.limit)?;

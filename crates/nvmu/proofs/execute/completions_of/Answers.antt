@@ -5,7 +5,7 @@ use Rattle.nvm_record.specs.Medium.{Medium, zero_medium}
 use Rattle.nvm_record.specs.declared.command.Command.{Command}
 use Rattle.nvm_record.specs.declared.completion.Completion.{Completion}
 use Rattle.nvm_store.specs.Contents.{Holds}
-use Rattle.nvmu.specs.Run.{Namespace, IsRun}
+use Rattle.nvmu.specs.Run.{no_changes, IsRun}
 use Rattle.nvmu.specs.Shown.{namespace_of}
 use Rattle.nvmu.specs.OneUnit as unit
 use Rattle.nvmu.proofs.Serving.{IsServing, none_yet, one_more, all_served}
@@ -24,9 +24,9 @@ loop-job-preserved c =
     let at : drop c.loop-job.job c.args.commands.now ≡ c.index-commands-job.result ∷ drop (c.loop-job.job + 1) c.args.commands.now =
     rw (add-one, drop-cons c.args.commands.now c.loop-job.job c.index-commands-job.result, ← c.index-commands-job.is) refl in
     let found = c.loop-job.invariant.1 in
-    let serving : IsServing (namespace_of c.args.settings.now) c.loop-job.unit c.args.commands.now c.loop-job.completions.items (c.index-commands-job.result ∷ drop (c.loop-job.job + 1) c.args.commands.now) found.0 =
-    subst (λ (rest : List Command). IsServing (namespace_of c.args.settings.now) c.loop-job.unit c.args.commands.now c.loop-job.completions.items rest found.0) at found.1 in
-    let more = one_more (namespace_of c.args.settings.now) c.loop-job.unit c.answer_to.new.self c.args.commands.now c.loop-job.completions.items c.index-commands-job.result (drop (c.loop-job.job + 1) c.args.commands.now) c.answer_to.result found.0 serving c.answer_to.ensures.answer c.answer_to.ensures.namespace in
+    let serving : IsServing (namespace_of c.args.settings.now) c.loop-job.unit c.args.commands.now c.loop-job.completions.items (c.index-commands-job.result ∷ drop (c.loop-job.job + 1) c.args.commands.now) found.0 found.1 =
+    subst (λ (rest : List Command). IsServing (namespace_of c.args.settings.now) c.loop-job.unit c.args.commands.now c.loop-job.completions.items rest found.0 found.1) at found.2 in
+    let more = one_more (namespace_of c.args.settings.now) c.loop-job.unit c.answer_to.new.self c.args.commands.now c.loop-job.completions.items c.index-commands-job.result (drop (c.loop-job.job + 1) c.args.commands.now) c.answer_to.result found.0 found.1 serving c.answer_to.ensures.answer c.answer_to.ensures.namespace in
     let count : length c.loop-job.completions.items ≡ c.loop-job.job = c.loop-job.invariant.0 in
     rw c.in_ok-push.ensures.items (omega (arith, length-append c.loop-job.completions.items (c.answer_to.result ∷ [])), more)
 
@@ -34,6 +34,6 @@ pub returns-clause-run : goal.returns-clause-run
 returns-clause-run c =
     let found = c.loop-job.invariant.1 in
     let none : drop c.loop-job.job c.args.commands.now ≡ [] = drop_of_length-le c.args.commands.now c.loop-job-test.false in
-    let served = all_served (namespace_of c.args.settings.now) c.loop-job.unit c.args.commands.now c.loop-job.completions.items found.0
-    (subst (λ (rest : List Command). IsServing (namespace_of c.args.settings.now) c.loop-job.unit c.args.commands.now c.loop-job.completions.items rest found.0) none found.1) in
-    subst (λ (s : ℕ). IsRun (namespace_of c.args.settings.now) (zero_medium s) 0 c.args.commands.now c.loop-job.completions.items) (sym c.requires.size) served
+    let served = all_served (namespace_of c.args.settings.now) c.loop-job.unit c.args.commands.now c.loop-job.completions.items found.0 found.1
+    (subst (λ (rest : List Command). IsServing (namespace_of c.args.settings.now) c.loop-job.unit c.args.commands.now c.loop-job.completions.items rest found.0 found.1) none found.2) in
+    subst (λ (s : ℕ). IsRun (namespace_of c.args.settings.now) (zero_medium s) no_changes c.args.commands.now c.loop-job.completions.items) (sym c.requires.size) served
