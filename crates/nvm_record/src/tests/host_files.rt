@@ -18,16 +18,16 @@ fn a_write_and_a_read_are_read(rt: HostRuntime) -> Result<(), Fail> {
     assert_eq!(rt; file.len(), 644);
     let commands = read_host(rt.alloc(), &file, block_size(512)?)?;
     assert_eq!(rt; commands.len(), 2);
-    assert_eq!(rt;
-        fields_of(&commands[0]),
-        (1, 1, Fuse::Normal, Op::Write, 0, 0)
-    );
-    assert_eq!(rt; commands[0].payload.as_slice(), [0x41; 512].as_slice());
-    assert_eq!(rt;
-        fields_of(&commands[1]),
-        (2, 1, Fuse::Normal, Op::Read, 0, 0)
-    );
-    assert!(rt; commands[1].payload.is_empty());
+    let expected = [
+        ((1, 1, Fuse::Normal, Op::Write, 0, 0), 512),
+        ((2, 1, Fuse::Normal, Op::Read, 0, 0), 0),
+    ];
+    for (command, (fields, length)) in commands.iter().zip(expected) {
+        let mut payload = Vec::new(rt.alloc());
+        put_bytes(&mut payload, length, 0x41)?;
+        assert_eq!(rt; fields_of(command), fields);
+        assert_eq!(rt; command.payload.as_slice(), payload.as_slice());
+    }
     Ok(())
 }
 
