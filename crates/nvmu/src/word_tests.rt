@@ -76,17 +76,24 @@ fn ends_of_ranges_are_taken(rt: HostRuntime) -> Result<(), Fail> {
         (10, "65535"),
     ] {
         let words = with_word(rt.alloc(), place, word)?;
-        assert!(rt; read_words(rt.alloc(), words.as_slice()).is_ok(), "{word}");
+        read_words(rt.alloc(), words.as_slice())?;
     }
     Ok(())
 }
 
-/// Whether the words are refused as a fault on standard error, and for want of nothing.
-fn is_refused(alloc: Global, words: &[&str]) -> bool {
+/// Whether what is said of the words goes to standard error, or `None` where they are taken. Want of
+/// memory says nothing of them.
+fn uses_stderr(alloc: Global, words: &[&str]) -> Result<Option<bool>, WordFault> {
     match read_words(alloc, words) {
-        Err(WordFault::Words(error)) => error.use_stderr(),
-        _ => false,
+        Ok(_) => Ok(None),
+        Err(WordFault::Words(error)) => Ok(Some(error.use_stderr())),
+        Err(WordFault::NoMemory) => Err(WordFault::NoMemory),
     }
+}
+
+/// Whether the words are refused as a fault on standard error.
+fn is_refused(alloc: Global, words: &[&str]) -> Result<bool, WordFault> {
+    Ok(uses_stderr(alloc, words)? == Some(true))
 }
 
 #[test]
@@ -108,7 +115,8 @@ fn words_out_of_range_are_refused(rt: HostRuntime) -> Result<(), Fail> {
     ];
     for (place, word) in wrong {
         let words = with_word(rt.alloc(), place, word)?;
-        assert!(rt; is_refused(rt.alloc(), words.as_slice()), "{place} {word}");
+        let refused = is_refused(rt.alloc(), words.as_slice())?;
+        assert!(rt; refused, "{place} {word}");
     }
     Ok(())
 }
@@ -117,24 +125,22 @@ fn words_out_of_range_are_refused(rt: HostRuntime) -> Result<(), Fail> {
 fn missing_and_second_words_are_refused(rt: HostRuntime) -> Result<(), Fail> {
     let mut words = with_word(rt.alloc(), 0, "run")?;
     words.push("b")?;
-    assert!(rt; is_refused(rt.alloc(), words.as_slice()), "two files");
+    let refused = is_refused(rt.alloc(), words.as_slice())?;
+    assert!(rt; refused, "two files");
     words.truncate(19);
-    assert!(rt; is_refused(rt.alloc(), words.as_slice()), "no file");
+    let refused = is_refused(rt.alloc(), words.as_slice())?;
+    assert!(rt; refused, "no file");
     let words: [&str; 0] = [];
-    assert!(rt; is_refused(rt.alloc(), words.as_slice()), "no words");
+    let refused = is_refused(rt.alloc(), words.as_slice())?;
+    assert!(rt; refused, "no words");
     Ok(())
 }
 
-/// Whether the words ask for help, whose text goes to standard output.
-fn is_help(alloc: Global, words: &[&str]) -> bool {
-    match read_words(alloc, words) {
-        Err(WordFault::Words(error)) => !error.use_stderr(),
-        _ => false,
-    }
-}
-
 #[test]
-fn help_is_no_mistake(rt: HostRuntime) {
-    assert!(rt; is_help(rt.alloc(), ["--help"].as_slice()));
-    assert!(rt; is_help(rt.alloc(), ["run", "--help"].as_slice()));
+fn help_is_no_mistake(rt: HostRuntime) -> Result<(), Fail> {
+    for words in [["--help", "--help"], ["run", "--help"]] {
+        let used = uses_stderr(rt.alloc(), words.as_slice())?;
+        assert!(rt; used == Some(false), "help is answered by its text");
+    }
+    Ok(())
 }
