@@ -1,0 +1,2 @@
+pub mod BoundaryCount
+pub mod UnitOrder

@@ -1,0 +1,12 @@
+//! The geometry that a namespace advertises: its boundaries and atomic units, its limits, and how a
+//! range of LBAs is cut at the boundaries.
+#![tactic(auto)]
+
+mod boundaries;
+mod geometry;
+mod geometry_fault;
+mod piece;
+
+pub use geometry::{Geometry, MOST_BLOCKS, MOST_UNITS};
+pub use geometry_fault::GeometryFault;
+pub use piece::Piece;
