@@ -1,2 +1,4 @@
 pub mod BoundaryCount
 pub mod UnitOrder
+pub mod Counting
+pub mod Pieces

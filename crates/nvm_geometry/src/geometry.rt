@@ -9,6 +9,7 @@ ghost use Rattle.nvm_geometry.specs.declared.geometry_fault.GeometryFault.{Geome
 
 use crate::boundaries::{unit_at, unit_start};
 use crate::geometry_fault::GeometryFault;
+use crate::parts::Parts;
 use nvm_record::BlockSize;
 use std::marker::Model;
 
@@ -49,6 +50,8 @@ impl Model for Geometry {
 }
 
 impl Geometry {
+    ghost use Rattle.nvm_geometry.specs.Parts.{pieces_of};
+
     /// The geometry of these numbers, or the first fault that applies to them, in the order of
     /// [`GeometryFault`].
     ///
@@ -213,6 +216,15 @@ impl Geometry {
         ensures { IsTrue result ↔ IsWithinPairLimit self slba blocks }
     {
         blocks <= u32::from(self.nacwu) + 1 && !self.crosses(slba, blocks)
+    }
+
+    /// The range cut at the boundaries: a piece for each unit that it meets, ascending.
+    pub fn parts(self, slba: u64, blocks: u32) -> Parts
+        requires some { 0 < blocks }
+        requires in_range { slba + blocks ≤ self.nsze }
+        ensures { result ≡ pieces_of self slba blocks }
+    {
+        Parts::new(self, slba, blocks)
     }
 
     /// Whether the range lies below NSZE, for any first LBA and any number of blocks, 0 too.

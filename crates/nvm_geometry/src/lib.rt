@@ -5,8 +5,10 @@
 mod boundaries;
 mod geometry;
 mod geometry_fault;
+mod parts;
 mod piece;
 
 pub use geometry::{Geometry, MOST_BLOCKS, MOST_UNITS};
 pub use geometry_fault::GeometryFault;
+pub use parts::Parts;
 pub use piece::Piece;
