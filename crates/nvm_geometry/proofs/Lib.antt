@@ -2,3 +2,4 @@ pub mod BoundaryCount
 pub mod UnitOrder
 pub mod Counting
 pub mod Pieces
+pub mod Places

@@ -1,5 +1,5 @@
 -- How the count of boundaries rises from LBA to LBA, and where it does.
-use Rattle.std.proofs.Common.{◌≡◌, ◌≢◌, ◌⊎◌, ◌↔◌, inl, inr, ℕ, zero, suc, ◌+◌, ◌*◌, ◌-◌, ◌<◌, ◌≤◌, Bool, true, false, eqb, not, IsTrue, refl, sym, ◌∙◌, arith, min, max}
+use Rattle.std.proofs.Common.{◌≡◌, ◌≢◌, ◌⊎◌, ◌↔◌, inl, inr, ℕ, zero, suc, ◌+◌, ◌*◌, ◌-◌, ◌<◌, ◌≤◌, Bool, true, false, eqb, not, IsTrue, refl, sym, ◌∙◌, add-one, arith, min, max}
 use Rattle.std.specs.Bool.{OnFalse}
 use Rattle.std.proofs.lemmas.Bool.{cases_Bool, cases_lt, cases_eq, eq-eqb, ne_eqb, false≢true, OnFalse_from}
 use Rattle.std.proofs.Math.Nat.{lt_of_mul-lt-mul_right, mul-le-mul_right}
@@ -162,3 +162,32 @@ one_unit_tested ns slba blocks a b low high =
         inl same ↦ shares_from_number ns slba (slba + blocks - 1) (omega (arith, same, low, high))
       | inr other ↦ absurd (false≢true (sym f ∙ rw (ne_eqb a b other) refl))
       ])
+
+-- the number rises by 1 at a boundary
+pub number_at_boundary : (ns : Namespace) (lba : ℕ) → IsBoundary ns (lba + 1) → unit_number ns (lba + 1) ≡ unit_number ns lba + 1
+number_at_boundary ns lba b =
+    rw add-one
+      (count_at_boundary ns.nabsn ns.nabo lba
+        (is_boundary_complete ns.nabsn ns.nabo (suc lba) b.k (omega (arith, b.exists)) (omega arith) (omega (arith, b.form))))
+
+-- and nowhere else
+pub number_elsewhere : (ns : Namespace) (lba : ℕ) → ¬ (IsBoundary ns (lba + 1)) → unit_number ns (lba + 1) ≡ unit_number ns lba
+number_elsewhere ns lba apart =
+    rw add-one
+      (elim (cases_Bool (is_boundary ns.nabsn ns.nabo (suc lba))) [
+        inl here ↦
+          let s = is_boundary_sound ns.nabsn ns.nabo (suc lba) here in
+          absurd (apart record { exists = λ e. absurd (omega (arith, s.0, e)); above = omega arith; k = s.2.0; form = omega (arith, s.2.1) })
+      | inr f ↦ count_elsewhere ns.nabsn ns.nabo lba f
+      ])
+
+-- each number up to that of an LBA is that of an LBA up to it
+pub number_reached : (ns : Namespace) (unit last : ℕ) → unit ≤ unit_number ns last → (lba : ℕ) × (lba ≤ last) × (unit_number ns lba ≡ unit)
+number_reached ns unit zero known = (0, omega arith, omega (arith, known, count_zero ns.nabsn ns.nabo))
+number_reached ns unit (suc last) known =
+    elim (cases_eq (unit_number ns (suc last)) unit) [
+      inl e ↦ (suc last, omega arith, e)
+    | inr other ↦
+        let r = number_reached ns unit last (omega (arith, known, other, (count_next ns.nabsn ns.nabo last).1)) in
+        (r.0, omega (arith, r.1), r.2)
+    ]

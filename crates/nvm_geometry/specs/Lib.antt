@@ -3,3 +3,4 @@ pub mod Boundaries
 pub mod Faults
 pub mod Limits
 pub mod Parts
+pub mod Turns

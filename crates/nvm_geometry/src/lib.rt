@@ -5,6 +5,7 @@
 mod boundaries;
 mod geometry;
 mod geometry_fault;
+pub mod laws;
 mod parts;
 mod piece;
 
