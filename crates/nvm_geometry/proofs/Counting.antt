@@ -1,9 +1,9 @@
 -- Counts and filters of the numbers from `a` on, where a test agrees with another from some place on.
 use Rattle.std.proofs.Common.{◌≡◌, ◌≢◌, inl, inr, ℕ, zero, suc, ◌+◌, ◌<◌, ◌≤◌, Bool, true, false, cond, List, [], ◌∷◌, length, map, refl, sym, ap, ◌∙◌, arith, add-suc, add-zero}
-use Rattle.std.specs.Prelude.{count_by, filter}
+use Rattle.std.specs.Prelude.{count_by, filter, ◌==◌}
 use Rattle.std.specs.List.{range_with_len}
 use Rattle.std.proofs.lemmas.List.Sums.{length-filter}
-use Rattle.std.proofs.lemmas.Bool.{cases_Bool, cases_lt, cases_eq, cases_order}
+use Rattle.std.proofs.lemmas.Bool.{cases_Bool, cases_lt, cases_eq, eq-eqb, ne_eqb}
 
 pub count_yes : (p : ℕ → Bool) (x : ℕ) (xs : List ℕ) → p x ≡ true → count_by p (x ∷ xs) ≡ count_by p xs + 1
 count_yes p x xs h =
@@ -81,4 +81,19 @@ kept_from p q f g a (suc n) u fails passes none same alike low high =
     | inr other ↦
         rw (fails a (omega (arith, other)), none a low)
           (kept_from p q f g (a + 1) n u fails passes none same alike (omega (arith, other)) (omega arith))
+    ]
+
+-- a number of the range that passes is among those kept
+pub kept_member : (p : ℕ → Bool) (a n u : ℕ) → p u ≡ true → a ≤ u → u < a + n
+    → 0 < count_by (λ v. v == u) (filter p (range_with_len a n))
+kept_member p a zero u passes low high = absurd (omega arith)
+kept_member p a (suc n) u passes low high =
+    elim (cases_eq a u) [
+      inl e ↦ rw (e, passes) (omega (arith, count_yes (λ v. v == u) u (filter p (range_with_len (u + 1) n)) (eq-eqb u u refl)))
+    | inr o ↦
+        let rest = kept_member p (a + 1) n u passes (omega (arith, o)) (omega arith) in
+        elim (cases_Bool (p a)) [
+          inl t ↦ rw t (omega (arith, rest, count_no (λ v. v == u) a (filter p (range_with_len (a + 1) n)) (ne_eqb a u o)))
+        | inr f ↦ rw f rest
+        ]
     ]

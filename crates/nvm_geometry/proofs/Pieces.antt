@@ -1,6 +1,6 @@
 -- The pieces of a range: none of an empty one, and else the LBAs up to the end of the first unit,
 -- and then the pieces of the rest.
-use Rattle.std.proofs.Common.{◌≡◌, ℕ, zero, suc, ◌+◌, ◌-◌, ◌<◌, ◌≤◌, min, Bool, true, false, inl, inr, eqb, ltb, List, [], ◌∷◌, map, refl, sym, ◌∙◌, add-zero, add_assoc, arith}
+use Rattle.std.proofs.Common.{◌≡◌, ℕ, zero, suc, ◌+◌, ◌-◌, ◌<◌, ◌≤◌, min, Bool, true, false, inl, inr, eqb, ltb, List, [], ◌∷◌, map, refl, sym, ap, ◌∙◌, add-zero, add_assoc, arith}
 use Rattle.std.specs.Prelude.{count_by, filter, nat_lt, ◌==◌}
 use Rattle.std.specs.List.{range_with_len}
 use Rattle.std.proofs.lemmas.Bool.{lt-ltb, le-ltb, eq-eqb, ne_eqb, cases_eq}
@@ -25,7 +25,7 @@ below_beyond ns at left n unit v front above =
     count_front_passes (λ lba. nat_lt (unit_number ns lba) v) at n left (at + n) (left - n) (omega (arith, front.inside)) refl
       (λ lba low high. lt-ltb _ _ (omega (arith, front.here lba low high)))
 
-below_here : (ns : Namespace) (at left n unit : ℕ) → IsFront ns at left n unit → blocks_below ns at left unit ≡ 0
+pub below_here : (ns : Namespace) (at left n unit : ℕ) → IsFront ns at left n unit → blocks_below ns at left unit ≡ 0
 unfolding blocks_below
 below_here ns at left n unit front =
     count_none_pass (λ lba. nat_lt (unit_number ns lba) unit) at left
@@ -51,7 +51,7 @@ in_front ns at left n unit front =
     count_front_passes (λ lba. unit_number ns lba == unit) at n left (at + n) (left - n) (omega (arith, front.inside)) refl
       (λ lba low high. eq-eqb _ _ (front.here lba low high))
 
-in_here : (ns : Namespace) (at left n unit : ℕ) → IsFront ns at left n unit → blocks_in ns at left unit ≡ n
+pub in_here : (ns : Namespace) (at left n unit : ℕ) → IsFront ns at left n unit → blocks_in ns at left unit ≡ n
 in_here ns at left n unit front = omega (arith, in_front ns at left n unit front, in_rest ns at left n unit unit front (omega arith))
 
 in_lower : (ns : Namespace) (at left n unit v : ℕ) → IsFront ns at left n unit → v < unit → blocks_in ns at left v ≡ 0
@@ -121,3 +121,28 @@ pub next_piece : (ns : Namespace) (at left n unit first blocks : ℕ) → unit �
     → pieces_of ns at left ≡ record { unit = unit; first = at; blocks = n } ∷ pieces_of ns (at + n) (left - n)
 next_piece ns at left n unit first blocks here known some inside lies whole length =
     pieces_front ns at left n unit (front_of_unit ns at left n unit first blocks here some inside lies whole length) known
+
+map_same : (xs : List ℕ) → map (λ x. x) xs ≡ xs
+map_same [] = refl
+map_same (x ∷ xs) = ap (λ ys. x ∷ ys) (map_same xs)
+
+-- the units that a range with a front meets
+pub units_front : (ns : Namespace) (at left n unit : ℕ) → IsFront ns at left n unit → unit < units_of ns
+    → units_met ns at left ≡ unit ∷ units_met ns (at + n) (left - n)
+unfolding units_met
+units_front ns at left n unit front known =
+    sym (map_same (filter (λ v. nat_lt 0 (blocks_in ns at left v)) (range_with_len 0 (units_of ns))))
+    ∙ kept_from (λ v. nat_lt 0 (blocks_in ns at left v)) (λ v. nat_lt 0 (blocks_in ns (at + n) (left - n) v))
+        (λ v. v) (λ v. v) 0 (units_of ns) unit
+        (λ v low. le-ltb _ _ (omega (arith, in_lower ns at left n unit v front low)))
+        (lt-ltb _ _ (omega (arith, in_here ns at left n unit front, front.some)))
+        (λ v low. le-ltb _ _ (omega (arith, in_rest ns at left n unit v front low)))
+        (λ v above. rw (in_beyond ns at left n unit v front above) refl)
+        (λ v above. refl)
+        (omega arith) (omega (arith, known))
+    ∙ rw (map_same (filter (λ v. nat_lt 0 (blocks_in ns (at + n) (left - n) v)) (range_with_len 0 (units_of ns)))) refl
+
+-- the units of an empty range
+pub units_none : (ns : Namespace) (at : ℕ) → units_met ns at 0 ≡ []
+unfolding units_met blocks_in
+units_none ns at = sym (map_same (filter (λ _. false) (range_with_len 0 (units_of ns)))) ∙ kept_none (λ x. x) 0 (units_of ns)
