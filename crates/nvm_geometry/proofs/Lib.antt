@@ -5,3 +5,6 @@ pub mod Pieces
 pub mod Places
 pub mod OneUnit
 pub mod PartsMedium
+pub mod Success
+pub mod PartsSuccess
+pub mod PartsData

@@ -1,5 +1,5 @@
 -- The medium after the parts of a single command, LBA by LBA.
-use Rattle.std.proofs.Common.{◌≡◌, ℕ, zero, suc, ◌+◌, ◌*◌, ◌-◌, ◌<◌, ◌≤◌, Bool, true, false, ◌&&◌, List, [], ◌∷◌, inl, inr, refl, sym, ap, ◌∙◌, arith}
+use Rattle.std.proofs.Common.{◌≡◌, ℕ, zero, suc, ◌+◌, ◌*◌, ◌-◌, ◌<◌, ◌≤◌, Bool, true, false, cond, ◌&&◌, List, [], ◌∷◌, inl, inr, refl, sym, ap, ◌∙◌, arith}
 use Rattle.std.specs.Prelude.{count_by, nat_lt, nat_le, ◌==◌, IsPermutation}
 use Rattle.std.proofs.lemmas.Bool.{cases_Bool, cases_lt, cases_eq, and_parts, leb-true, ltb-true, lt-ltb, eq-eqb, ne_eqb, and_right}
 use Rattle.std.proofs.lemmas.List.Sorted.{sum_by-IsPermutation}
@@ -72,7 +72,19 @@ range_bounds op lba inside =
 part_here : (ns : Namespace) (op : Operation) (unit : ℕ) (m : Medium) (lba : ℕ) → IsSingle op.deed → is_in_range op lba ≡ true
     → unit ≡ unit_number ns lba
     → medium_after ns.block_size (part_in ns op unit) m lba ≡ left_by ns.block_size op.deed (lba - op.first) (m lba)
-part_here ns op unit m lba single inside here = ?
+part_here ns op unit m lba single inside here =
+    let bounds = range_bounds op lba inside in
+    let skipped = blocks_below ns op.first op.blocks unit in
+    let i = lba - op.first in
+    let j = lba - (op.first + skipped) in
+    let at : op.first + i ≡ lba = omega (arith, bounds.0) in
+    let place = place_in ns op.first op.blocks unit i (omega (arith, bounds.0, bounds.1)) (rw at (sym here)) in
+    let same : skipped + j ≡ i = omega (arith, place.0, bounds.0) in
+    let in_part : is_in_range (part_in ns op unit) lba ≡ true = part_lbas ns op unit lba ∙ rw (inside, eq-eqb (unit_number ns lba) unit (sym here)) refl in
+    after_inside ns.block_size (part_in ns op unit) m lba
+      (part_single ns.block_size skipped (blocks_in ns op.first op.blocks unit) op.deed single) in_part
+    ∙ part_left ns.block_size skipped (blocks_in ns op.first op.blocks unit) op.deed j (m lba) single (omega (arith, place.0, place.1, bounds.0))
+    ∙ ap (λ k. left_by ns.block_size op.deed k (m lba)) same
 
 -- the part in another unit leaves the LBA as it is
 part_apart : (ns : Namespace) (op : Operation) (unit : ℕ) (m : Medium) (lba : ℕ) → (unit ≡ unit_number ns lba → ⊥)
@@ -125,11 +137,26 @@ parts_inside ns op (unit ∷ units) m lba single inside some =
         ∙ ap (λ b. left_by ns.block_size op.deed (lba - op.first) b) (part_apart ns op unit m lba o)
     ]
 
--- the unit of each LBA of the range is among those in order
+-- each unit that the operation meets is among those in order
+pub met_among : (ns : Namespace) (op : Operation) (units : List ℕ) (unit : ℕ) → IsOrderOf ns op units
+    → 0 < blocks_in ns op.first op.blocks unit → unit < units_of ns → 0 < count_by (λ v. v == unit) units
+unfolding units_met
+met_among ns op units unit order some known =
+    let met = kept_member (λ u. nat_lt 0 (blocks_in ns op.first op.blocks u)) 0 (units_of ns) unit
+      (lt-ltb 0 (blocks_in ns op.first op.blocks unit) some) (omega arith) (omega (arith, known)) in
+    let same = sum_by-IsPermutation (λ v. cond (v == unit) 1 0) (units_met ns op.first op.blocks) units order.each in
+    omega (arith, met, same)
+
+-- and so is the unit of each LBA of the range
 pub unit_among : (ns : Namespace) (op : Operation) (units : List ℕ) (lba : ℕ) → IsOrderOf ns op units → is_in_range op lba ≡ true
     → 0 < count_by (λ v. v == unit_number ns lba) units
-unfolding units_met
-unit_among ns op units lba order inside = ?
+unit_among ns op units lba order inside =
+    let bounds = range_bounds op lba inside in
+    let i = lba - op.first in
+    let at : op.first + i ≡ lba = omega (arith, bounds.0) in
+    let place = place_in ns op.first op.blocks (unit_number ns lba) i (omega (arith, bounds.0, bounds.1)) (rw at refl) in
+    met_among ns op units (unit_number ns lba) order (omega (arith, place.0, place.1))
+      (unit_below ns lba (omega (arith, bounds.1, order.inside)))
 
 pub parts_medium : (ns : Namespace) (op : Operation) (units : List ℕ) (m : Medium) → IsSingle op.deed → IsOrderOf ns op units
     → (lba : ℕ) → medium_after_parts ns op units m lba ≡ medium_after ns.block_size op m lba

@@ -12,7 +12,7 @@ use Rattle.nvm_record.specs.Step.{Operation, block_at, is_in_range}
 use Rattle.nvm_geometry.specs.Namespace.{Namespace}
 use Rattle.nvm_geometry.specs.Boundaries.{unit_number, units_of}
 use Rattle.nvm_geometry.specs.Parts.{blocks_below, blocks_in, data_part, part_in}
-use Rattle.nvm_geometry.proofs.UnitOrder.{count_rises}
+use Rattle.nvm_geometry.proofs.UnitOrder.{count_rises, unit_below}
 use Rattle.nvm_geometry.proofs.Counting.{count_yes, count_no, count_none_pass}
 
 -- where f takes the first number above u, it does so with all
@@ -80,6 +80,18 @@ unfolding blocks_below
 blocks_below_few ns first blocks unit =
     omega (arith, count_by-le-length (λ lba. nat_lt (unit_number ns lba) unit) (range_with_len first blocks), length-range_with_len first blocks)
 
+-- nothing lies below unit 0, and all of a range in the namespace below the units' number
+pub blocks_below_first : (ns : Namespace) (first blocks : ℕ) → blocks_below ns first blocks 0 ≡ 0
+unfolding blocks_below
+blocks_below_first ns first blocks =
+    count_none_pass (λ lba. nat_lt (unit_number ns lba) 0) first blocks (λ lba _ _. le-ltb (unit_number ns lba) 0 (omega arith))
+
+pub blocks_below_all : (ns : Namespace) (first blocks : ℕ) → first + blocks ≤ ns.nsze → blocks_below ns first blocks (units_of ns) ≡ blocks
+blocks_below_all ns first zero inside = omega (arith, blocks_below_few ns first 0 (units_of ns))
+blocks_below_all ns first (suc blocks) inside =
+    omega (arith, blocks_below_few ns first (suc blocks) (units_of ns),
+      (is_below ns first (suc blocks) (units_of ns) blocks (omega arith)).1 (unit_below ns (first + blocks) (omega (arith, inside))))
+
 -- the part's place
 pub part_inside : (ns : Namespace) (first blocks unit : ℕ) → blocks_below ns first blocks unit + blocks_in ns first blocks unit ≤ blocks
 part_inside ns first blocks unit =
@@ -107,18 +119,21 @@ place_here ns first blocks unit i inside =
     | inr l ↦ omega (arith, low, l)
     ]
 
--- the block of data at a place of the part
-pub block_of_part : (size skipped blocks i : ℕ) (payload : List ℕ) → i < blocks
-    → block_at size (data_part size skipped blocks payload) i ≡ block_at size payload (skipped + i)
-block_of_part size skipped blocks i payload inside =
+-- the data at a place of the part
+pub data_of_part : (size skipped blocks i : ℕ) (payload : List ℕ) → i < blocks
+    → take size (drop (i * size) (data_part size skipped blocks payload)) ≡ take size (drop ((skipped + i) * size) payload)
+data_of_part size skipped blocks i payload inside =
     let k = blocks - i - 1 in
     let whole : blocks ≡ i + (k + 1) = omega (arith, inside) in
     let split : (i + (k + 1)) * size ≡ i * size + (k + 1) * size = omega arith in
     let joined : skipped * size + i * size ≡ (skipped + i) * size = omega arith in
-    ap Bytes
-      (rw (whole, split, drop-take (i * size) ((k + 1) * size) (drop (skipped * size) payload),
-        take-take size ((k + 1) * size) (drop (i * size) (drop (skipped * size) payload)) (omega arith),
-        drop-drop (i * size) (skipped * size) payload, joined) refl)
+    rw (whole, split, drop-take (i * size) ((k + 1) * size) (drop (skipped * size) payload),
+      take-take size ((k + 1) * size) (drop (i * size) (drop (skipped * size) payload)) (omega arith),
+      drop-drop (i * size) (skipped * size) payload, joined) refl
+
+pub block_of_part : (size skipped blocks i : ℕ) (payload : List ℕ) → i < blocks
+    → block_at size (data_part size skipped blocks payload) i ≡ block_at size payload (skipped + i)
+block_of_part size skipped blocks i payload inside = ap Bytes (data_of_part size skipped blocks i payload inside)
 
 -- for an LBA of the range
 inside_lbas : (ns : Namespace) (op : Operation) (unit lba : ℕ) → op.first ≤ lba → lba < op.first + op.blocks
