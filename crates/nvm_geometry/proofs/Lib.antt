@@ -8,3 +8,4 @@ pub mod PartsMedium
 pub mod Success
 pub mod PartsSuccess
 pub mod PartsData
+pub mod InLine

@@ -1,6 +1,6 @@
 -- What a command does in each unit that it meets. A unit's number never falls as the LBA rises, so
 -- the LBAs of a range that lie in lower units are its first ones.
-use Rattle.std.specs.Prelude.{◌==◌, ℕ, ◌+◌, ◌*◌, nat_lt, List, take, drop, map, filter, count_by}
+use Rattle.std.specs.Prelude.{◌≡◌, ◌==◌, ℕ, ◌+◌, ◌-◌, ◌*◌, ◌<◌, ◌≤◌, nat_lt, List, [], ◌∷◌, take, drop, map, filter, count_by}
 use Rattle.std.specs.List.{range_with_len}
 use Rattle.nvm_record.specs.Step.{Deed, Operation, writes, zeroes, marks, reads, compares, pairs}
 use Rattle.nvm_geometry.specs.Namespace.{Namespace}
@@ -51,3 +51,14 @@ part_in ns op unit =
       blocks = blocks_in ns op.first op.blocks unit;
       deed = deed_part ns.block_size (blocks_below ns op.first op.blocks unit) (blocks_in ns op.first op.blocks unit) op.deed
     }
+
+-- The pieces follow one another from `first` on, and together have `blocks` blocks. None is empty.
+abbrev pub AreInLine : ℕ → ℕ → List Piece → Type 0
+AreInLine first blocks [] = blocks ≡ 0
+AreInLine first blocks (p ∷ ps) =
+    (p.first ≡ first) × (0 < p.blocks) × (p.blocks ≤ blocks) × AreInLine (first + p.blocks) (blocks - p.blocks) ps
+
+-- All LBAs of the piece lie in its unit.
+pub record IsInUnit (ns : Namespace) (p : Piece) : Type 0 where
+  pub known : p.unit < units_of ns
+  pub lies : (lba : ℕ) → p.first ≤ lba → lba < p.first + p.blocks → unit_number ns lba ≡ p.unit

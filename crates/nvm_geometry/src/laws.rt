@@ -1,14 +1,14 @@
 //! What holds of boundaries, units and parts by their definitions alone. Each law is a call that does
 //! nothing and whose contract is the law.
 
-ghost use Rattle.std.specs.Prelude.{◌≡◌, ◌==◌, ◌↔◌, ℕ, ◌+◌, ◌*◌, ◌-◌, ◌<◌, ◌≤◌, ◌&&◌, List, [], ◌∷◌};
+ghost use Rattle.std.specs.Prelude.{◌≡◌, ◌==◌, ◌↔◌, ℕ, ◌+◌, ◌*◌, ◌-◌, ◌<◌, ◌≤◌, ◌&&◌, List, [], ◌∷◌, All, map};
 ghost use Rattle.nvm_record.specs.Status.{IsSuccess};
 ghost use Rattle.nvm_record.specs.Medium.{Medium};
 ghost use Rattle.nvm_record.specs.Step.{Operation, reads, block_at, is_in_range, medium_after, statuses_of, data_of};
 ghost use Rattle.nvm_geometry.specs.Namespace.{Namespace};
 ghost use Rattle.nvm_geometry.specs.Boundaries.{IsBoundary, SharesUnit, unit_number, units_of};
 ghost use Rattle.nvm_geometry.specs.Limits.{LiesInUnit};
-ghost use Rattle.nvm_geometry.specs.Parts.{blocks_below, blocks_in, units_met, data_part, part_in, pieces_of};
+ghost use Rattle.nvm_geometry.specs.Parts.{units_met, data_part, part_in, piece_in, pieces_of, AreInLine, IsInUnit};
 ghost use Rattle.nvm_geometry.specs.Turns.{IsSingle, HasData, HoldsBlocks, IsOrderOf, medium_after_parts, EachSucceeds, answer_of_part, joined_data};
 
 /// Units number the LBAs of a namespace from 0 upwards: LBA 0 lies in unit 0, the number rises by 1 at
@@ -30,6 +30,21 @@ pub fn units_number_the_namespace()
 pub fn sharing_is_one_number()
     ensures number { (ns : Namespace) (a b : ℕ) → SharesUnit ns a b → unit_number ns a ≡ unit_number ns b }
     ensures shares { (ns : Namespace) (a b : ℕ) → unit_number ns a ≡ unit_number ns b → SharesUnit ns a b }
+{
+}
+
+/// The pieces of a range stand in line: the first begins where the range does, each other one where the
+/// one before it ends, and the last ends where the range does. None is empty, and there is one for each
+/// unit that the range meets, inside that unit.
+pub fn pieces_stand_in_line()
+    ensures in_line { (ns : Namespace) (first blocks : ℕ) → first + blocks ≤ ns.nsze
+        → AreInLine first blocks (pieces_of ns first blocks) }
+    ensures in_unit { (ns : Namespace) (first blocks : ℕ) → first + blocks ≤ ns.nsze
+        → All (IsInUnit ns) (pieces_of ns first blocks) }
+    ensures units { (ns : Namespace) (first blocks : ℕ)
+        → map (λ p. p.unit) (pieces_of ns first blocks) ≡ units_met ns first blocks }
+    ensures each { (ns : Namespace) (first blocks : ℕ)
+        → All (λ p. p ≡ piece_in ns first blocks p.unit) (pieces_of ns first blocks) }
 {
 }
 
