@@ -1,9 +1,9 @@
 -- Counts and filters of the numbers from `a` on, where a test agrees with another from some place on.
-use Rattle.std.proofs.Common.{◌≡◌, ◌≢◌, inl, inr, ℕ, zero, suc, ◌+◌, ◌<◌, ◌≤◌, Bool, true, false, cond, List, [], ◌∷◌, length, map, refl, sym, ap, ◌∙◌, arith, add-suc, add-zero}
+use Rattle.std.proofs.Common.{◌≡◌, inl, inr, ℕ, zero, suc, ◌+◌, ◌<◌, ◌≤◌, Bool, true, false, List, ◌∷◌, map, refl, sym, ap, ◌∙◌, arith}
 use Rattle.std.specs.Prelude.{count_by, filter, ◌==◌}
 use Rattle.std.specs.List.{range_with_len}
 use Rattle.std.proofs.lemmas.List.Sums.{length-filter}
-use Rattle.std.proofs.lemmas.Bool.{cases_Bool, cases_lt, cases_eq, eq-eqb, ne_eqb}
+use Rattle.std.proofs.lemmas.Bool.{cases_Bool, cases_eq, eq-eqb, ne_eqb}
 
 pub count_yes : (p : ℕ → Bool) (x : ℕ) (xs : List ℕ) → p x ≡ true → count_by p (x ∷ xs) ≡ count_by p xs + 1
 count_yes p x xs h =
@@ -20,16 +20,19 @@ count_agree p q a (suc n) same =
     let rest = count_agree p q (a + 1) n (λ x low high. same x (omega (arith, low)) (omega (arith, high))) in
     let here = same a (omega arith) (omega arith) in
     elim (cases_Bool (q a)) [
-      inl t ↦ omega (arith, rest, count_yes p a (range_with_len (a + 1) n) (here ∙ t), count_yes q a (range_with_len (a + 1) n) t)
-    | inr f ↦ omega (arith, rest, count_no p a (range_with_len (a + 1) n) (here ∙ f), count_no q a (range_with_len (a + 1) n) f)
+      | inl t ↦ omega (arith, rest, count_yes p a (range_with_len (a + 1) n) (here ∙ t), count_yes q a (range_with_len (a + 1) n) t)
+      | inr f ↦ omega (arith, rest, count_no p a (range_with_len (a + 1) n) (here ∙ f), count_no q a (range_with_len (a + 1) n) f)
     ]
 
 -- no number passes
 pub count_none_pass : (p : ℕ → Bool) (a n : ℕ) → ((x : ℕ) → a ≤ x → x < a + n → p x ≡ false) → count_by p (range_with_len a n) ≡ 0
 count_none_pass p a zero fails = refl
 count_none_pass p a (suc n) fails =
-    omega (arith, count_no p a (range_with_len (a + 1) n) (fails a (omega arith) (omega arith)),
-      count_none_pass p (a + 1) n (λ x low high. fails x (omega (arith, low)) (omega (arith, high))))
+    omega (
+      arith,
+      count_no p a (range_with_len (a + 1) n) (fails a (omega arith) (omega arith)),
+      count_none_pass p (a + 1) n (λ x low high. fails x (omega (arith, low)) (omega (arith, high))),
+    )
 
 -- the first n of m numbers pass, and the others are counted
 pub count_front_passes : (p : ℕ → Bool) (a n m b k : ℕ) → m ≡ n + k → b ≡ a + n → ((x : ℕ) → a ≤ x → x < a + n → p x ≡ true)
@@ -40,8 +43,11 @@ count_front_passes p a zero m b k whole next passes =
     rw (all, here) (omega arith)
 count_front_passes p a (suc n) zero b k whole next passes = absurd (omega arith)
 count_front_passes p a (suc n) (suc m) b k whole next passes =
-    omega (arith, count_yes p a (range_with_len (a + 1) m) (passes a (omega arith) (omega arith)),
-      count_front_passes p (a + 1) n m b k (omega arith) (omega arith) (λ x low high. passes x (omega (arith, low)) (omega (arith, high))))
+    omega (
+      arith,
+      count_yes p a (range_with_len (a + 1) m) (passes a (omega arith) (omega arith)),
+      count_front_passes p (a + 1) n m b k (omega arith) (omega arith) (λ x low high. passes x (omega (arith, low)) (omega (arith, high))),
+    )
 
 -- the first n of m numbers don't pass, and the others are counted
 pub count_front_fails : (p : ℕ → Bool) (a n m b k : ℕ) → m ≡ n + k → b ≡ a + n → ((x : ℕ) → a ≤ x → x < a + n → p x ≡ false)
@@ -52,8 +58,11 @@ count_front_fails p a zero m b k whole next fails =
     rw (all, here) refl
 count_front_fails p a (suc n) zero b k whole next fails = absurd (omega arith)
 count_front_fails p a (suc n) (suc m) b k whole next fails =
-    omega (arith, count_no p a (range_with_len (a + 1) m) (fails a (omega arith) (omega arith)),
-      count_front_fails p (a + 1) n m b k (omega arith) (omega arith) (λ x low high. fails x (omega (arith, low)) (omega (arith, high))))
+    omega (
+      arith,
+      count_no p a (range_with_len (a + 1) m) (fails a (omega arith) (omega arith)),
+      count_front_fails p (a + 1) n m b k (omega arith) (omega arith) (λ x low high. fails x (omega (arith, low)) (omega (arith, high))),
+    )
 
 -- tests and functions that agree on the numbers give one list
 pub kept_agree : {X : Type 0} (p q : ℕ → Bool) (f g : ℕ → X) (a n : ℕ) → ((x : ℕ) → a ≤ x → p x ≡ q x) → ((x : ℕ) → a ≤ x → f x ≡ g x)
@@ -62,10 +71,10 @@ kept_agree p q f g a zero same alike = refl
 kept_agree p q f g a (suc n) same alike =
     let rest = kept_agree p q f g (a + 1) n (λ x low. same x (omega (arith, low))) (λ x low. alike x (omega (arith, low))) in
     rw (same a (omega arith))
-      (elim (cases_Bool (q a)) [
-        inl t ↦ rw (t, alike a (omega arith), rest) refl
+    (elim (cases_Bool (q a)) [
+      | inl t ↦ rw (t, alike a (omega arith), rest) refl
       | inr f ↦ rw (f, rest) refl
-      ])
+    ])
 
 -- The first number that passes is u, and above it the tests and functions agree.
 pub kept_from : {X : Type 0} (p q : ℕ → Bool) (f g : ℕ → X) (a n u : ℕ)
@@ -75,11 +84,11 @@ pub kept_from : {X : Type 0} (p q : ℕ → Bool) (f g : ℕ → X) (a n u : ℕ
 kept_from p q f g a zero u fails passes none same alike low high = absurd (omega arith)
 kept_from p q f g a (suc n) u fails passes none same alike low high =
     elim (cases_eq a u) [
-      inl e ↦
-        rw (e, passes, none u (omega arith))
+      | inl e ↦
+          rw (e, passes, none u (omega arith))
           (ap (λ xs. f u ∷ xs) (kept_agree p q f g (u + 1) n (λ x l. same x (omega (arith, l))) (λ x l. alike x (omega (arith, l)))))
-    | inr other ↦
-        rw (fails a (omega (arith, other)), none a low)
+      | inr other ↦
+          rw (fails a (omega (arith, other)), none a low)
           (kept_from p q f g (a + 1) n u fails passes none same alike (omega (arith, other)) (omega arith))
     ]
 
@@ -89,11 +98,11 @@ pub kept_member : (p : ℕ → Bool) (a n u : ℕ) → p u ≡ true → a ≤ u 
 kept_member p a zero u passes low high = absurd (omega arith)
 kept_member p a (suc n) u passes low high =
     elim (cases_eq a u) [
-      inl e ↦ rw (e, passes) (omega (arith, count_yes (λ v. v == u) u (filter p (range_with_len (u + 1) n)) (eq-eqb u u refl)))
-    | inr o ↦
-        let rest = kept_member p (a + 1) n u passes (omega (arith, o)) (omega arith) in
-        elim (cases_Bool (p a)) [
-          inl t ↦ rw t (omega (arith, rest, count_no (λ v. v == u) a (filter p (range_with_len (a + 1) n)) (ne_eqb a u o)))
-        | inr f ↦ rw f rest
-        ]
+      | inl e ↦ rw (e, passes) (omega (arith, count_yes (λ v. v == u) u (filter p (range_with_len (u + 1) n)) (eq-eqb u u refl)))
+      | inr o ↦
+          let rest = kept_member p (a + 1) n u passes (omega (arith, o)) (omega arith) in
+          elim (cases_Bool (p a)) [
+            | inl t ↦ rw t (omega (arith, rest, count_no (λ v. v == u) a (filter p (range_with_len (a + 1) n)) (ne_eqb a u o)))
+            | inr f ↦ rw f rest
+          ]
     ]

@@ -1,11 +1,11 @@
 -- A range in one unit has one part, which is the whole.
-use Rattle.std.proofs.Common.{◌≡◌, ℕ, zero, suc, ◌+◌, ◌*◌, ◌-◌, ◌<◌, ◌≤◌, List, [], ◌∷◌, length, take, drop, refl, sym, ap, ap₂, ◌∙◌, add-zero, arith}
+use Rattle.std.proofs.Common.{◌≡◌, ℕ, ◌+◌, ◌*◌, ◌-◌, ◌<◌, ◌≤◌, List, [], ◌∷◌, length, refl, ap, ap₂, ◌∙◌, add-zero, arith}
 use Rattle.std.proofs.lemmas.List.{take_all}
 use Rattle.nvm_record.specs.Step.{Deed, Operation, writes, zeroes, marks, reads, compares, pairs}
 use Rattle.nvm_geometry.specs.Namespace.{Namespace}
-use Rattle.nvm_geometry.specs.Boundaries.{unit_number, units_of}
+use Rattle.nvm_geometry.specs.Boundaries.{unit_number}
 use Rattle.nvm_geometry.specs.Limits.{LiesInUnit}
-use Rattle.nvm_geometry.specs.Parts.{blocks_below, blocks_in, units_met, data_part, deed_part, part_in}
+use Rattle.nvm_geometry.specs.Parts.{units_met, data_part, deed_part, part_in}
 use Rattle.nvm_geometry.specs.Turns.{HasData}
 use Rattle.nvm_geometry.proofs.UnitOrder.{count_rises, unit_below, same_number}
 use Rattle.nvm_geometry.proofs.Pieces.{IsFront, below_here, in_here, units_front, units_none}
@@ -15,10 +15,14 @@ one_front : (ns : Namespace) (first blocks : ℕ) → 0 < blocks → LiesInUnit 
 one_front ns first blocks some one = record {
   some = some;
   inside = omega arith;
-  here = λ lba low high. omega (arith, same_number ns first (first + blocks - 1) one, count_rises ns.nabsn ns.nabo first lba low,
-    count_rises ns.nabsn ns.nabo lba (first + blocks - 1) (omega (arith, high)));
-  beyond = λ lba low high. absurd (omega (arith, low, high))
-  }
+  here = λ lba low high. omega (
+    arith,
+    same_number ns first (first + blocks - 1) one,
+    count_rises ns.nabsn ns.nabo first lba low,
+    count_rises ns.nabsn ns.nabo lba (first + blocks - 1) (omega (arith, high)),
+  );
+  beyond = λ lba low high. absurd (omega (arith, low, high));
+}
 
 pub one_unit : (ns : Namespace) (first blocks : ℕ) → 0 < blocks → first + blocks ≤ ns.nsze → LiesInUnit ns first blocks
     → units_met ns first blocks ≡ unit_number ns first ∷ []
@@ -45,5 +49,9 @@ pub one_part : (ns : Namespace) (op : Operation) → 0 < op.blocks → op.first 
     → HasData (op.blocks * ns.block_size) op.deed → part_in ns op (unit_number ns op.first) ≡ op
 one_part ns op some inside one has =
     let front = one_front ns op.first op.blocks some one in
-    rw (below_here ns op.first op.blocks op.blocks (unit_number ns op.first) front,
-      in_here ns op.first op.blocks op.blocks (unit_number ns op.first) front, add-zero, deed_whole ns.block_size op.blocks op.deed has) refl
+    rw (
+      below_here ns op.first op.blocks op.blocks (unit_number ns op.first) front,
+      in_here ns op.first op.blocks op.blocks (unit_number ns op.first) front,
+      add-zero,
+      deed_whole ns.block_size op.blocks op.deed has,
+    ) refl

@@ -1,12 +1,12 @@
 -- The data that the parts of a Read answer, joined, is the Read's.
-use Rattle.std.proofs.Common.{◌≡◌, ℕ, zero, suc, ◌+◌, ◌-◌, ◌<◌, ◌≤◌, Bool, true, false, ◌||◌, List, [], ◌∷◌, ◌++◌, Option, Some, None, inl, inr, refl, sym, ap, ap₂, ◌∙◌, append_assoc, add-zero, arith}
+use Rattle.std.proofs.Common.{◌≡◌, ℕ, zero, suc, ◌+◌, ◌-◌, ◌<◌, ◌≤◌, Bool, true, false, ◌||◌, List, [], ◌∷◌, ◌++◌, Option, Some, None, inl, inr, refl, sym, ap, ◌∙◌, append_assoc, add-zero, arith}
 use Rattle.std.specs.Prelude.{count_by, filter, nat_lt, ◌==◌}
 use Rattle.std.specs.List.{range_with_len}
 use Rattle.std.proofs.lemmas.Bool.{cases_Bool, cases_eq, eq-eqb, ne_eqb, ltb-true, ltb-false}
 use Rattle.nvm_record.specs.declared.block.Block.{Block}
 use Rattle.nvm_record.specs.declared.block.Block.TheVariants.{Bytes, Uncorrectable}
-use Rattle.nvm_record.specs.Medium.{Medium, range, is_marked, has_mark, bytes_of, joined}
-use Rattle.nvm_record.specs.Step.{Deed, Operation, reads, data_on, data_of, range_of}
+use Rattle.nvm_record.specs.Medium.{Medium, range, has_mark, bytes_of, joined}
+use Rattle.nvm_record.specs.Step.{Operation, reads, data_on, data_of}
 use Rattle.nvm_geometry.specs.Namespace.{Namespace}
 use Rattle.nvm_geometry.specs.Boundaries.{units_of}
 use Rattle.nvm_geometry.specs.Parts.{blocks_below, blocks_in, units_met, part_in}
@@ -38,12 +38,12 @@ joined-append (x ∷ xs) ys = ap (λ bs. bytes_of x ++ bs) (joined-append xs ys)
 both_read : (xs ys : List Block) → both_data (data_on xs reads) (data_on ys reads) ≡ data_on (xs ++ ys) reads
 both_read xs ys =
     elim (cases_Bool (has_mark xs)) [
-      inl t ↦ rw (has_mark-append xs ys, t) refl
-    | inr f ↦
-        elim (cases_Bool (has_mark ys)) [
-          inl t ↦ rw (has_mark-append xs ys, f, t) refl
-        | inr g ↦ rw (has_mark-append xs ys, joined-append xs ys, f, g) refl
-        ]
+      | inl t ↦ rw (has_mark-append xs ys, t) refl
+      | inr f ↦
+          elim (cases_Bool (has_mark ys)) [
+            | inl t ↦ rw (has_mark-append xs ys, f, t) refl
+            | inr g ↦ rw (has_mark-append xs ys, joined-append xs ys, f, g) refl
+          ]
     ]
 
 -- what a Read of the part in the unit answers
@@ -73,10 +73,10 @@ joined_run ns m first blocks a (suc k) end n at whole =
     let start : first + blocks_below ns first blocks (a + 1) ≡ first + blocks_below ns first blocks a + size = omega (arith, next) in
     let long : size + (n - size) ≡ n = omega (arith, next, whole, above) in
     rw rest
-      (rw start
-        (both_read (range m (first + blocks_below ns first blocks a) size) (range m (first + blocks_below ns first blocks a + size) (n - size))
-        ∙ ap (λ bs. data_on bs reads) (sym (range_append m (first + blocks_below ns first blocks a) size (n - size)))
-        ∙ ap (λ k. data_on (range m (first + blocks_below ns first blocks a) k) reads) long))
+    (rw start
+    (both_read (range m (first + blocks_below ns first blocks a) size) (range m (first + blocks_below ns first blocks a + size) (n - size))
+    ∙ ap (λ bs. data_on bs reads) (sym (range_append m (first + blocks_below ns first blocks a) size (n - size)))
+    ∙ ap (λ k. data_on (range m (first + blocks_below ns first blocks a) k) reads) long))
 
 -- a unit that the range doesn't meet adds nothing
 joined_kept : (p : ℕ → Bool) (f g : ℕ → Option (List ℕ)) (a k : ℕ) → ((u : ℕ) → u < a + k → p u ≡ true → f u ≡ g u)
@@ -85,8 +85,8 @@ joined_kept p f g a zero same none = refl
 joined_kept p f g a (suc k) same none =
     let rest = joined_kept p f g (a + 1) k (λ u below t. same u (omega (arith, below)) t) none in
     elim (cases_Bool (p a)) [
-      inl t ↦ rw (t, same a (omega arith) t, rest) refl
-    | inr e ↦ rw (e, none a e, rest) (add_nothing (joined_data g (range_with_len (a + 1) k)))
+      | inl t ↦ rw (t, same a (omega arith) t, rest) refl
+      | inr e ↦ rw (e, none a e, rest) (add_nothing (joined_data g (range_with_len (a + 1) k)))
     ]
   where
     add_nothing : (o : Option (List ℕ)) → o ≡ both_data (Some []) o
@@ -99,9 +99,9 @@ answer_is : (ns : Namespace) (op : Operation) (units : List ℕ) (m : Medium) (u
 answer_is ns op [] m unit look some = absurd (omega (arith, some))
 answer_is ns op (u ∷ units) m unit look some =
     elim (cases_eq u unit) [
-      inl e ↦ rw (e, eq-eqb unit unit refl) refl
-    | inr o ↦
-        rw (ne_eqb u unit o, part_unchanged ns op u m look)
+      | inl e ↦ rw (e, eq-eqb unit unit refl) refl
+      | inr o ↦
+          rw (ne_eqb u unit o, part_unchanged ns op u m look)
           (answer_is ns op units m unit look (omega (arith, some, count_no (λ v. v == unit) u units (ne_eqb u unit o))))
     ]
 
@@ -111,10 +111,10 @@ unfolding units_met
 parts_data ns op units m is_read order =
     let look : IsLook op.deed = rw is_read tt in
     joined_kept (λ u. nat_lt 0 (blocks_in ns op.first op.blocks u)) (answer_of_part ns op units m) (read_part ns m op.first op.blocks) 0 (units_of ns)
-      (λ u below t.
-        answer_is ns op units m u look (met_among ns op units u order (ltb-true 0 (blocks_in ns op.first op.blocks u) t) (omega (arith, below)))
-        ∙ rw is_read refl)
-      (λ u f. let none : blocks_in ns op.first op.blocks u ≡ 0 = omega (arith, ltb-false 0 (blocks_in ns op.first op.blocks u) f) in rw none refl)
+    (λ u below t.
+    answer_is ns op units m u look (met_among ns op units u order (ltb-true 0 (blocks_in ns op.first op.blocks u) t) (omega (arith, below)))
+    ∙ rw is_read refl)
+    (λ u f. let none : blocks_in ns op.first op.blocks u ≡ 0 = omega (arith, ltb-false 0 (blocks_in ns op.first op.blocks u) f) in rw none refl)
     ∙ joined_run ns m op.first op.blocks 0 (units_of ns) (units_of ns) op.blocks (omega arith)
-        (omega (arith, blocks_below_first ns op.first op.blocks, blocks_below_all ns op.first op.blocks order.inside))
+    (omega (arith, blocks_below_first ns op.first op.blocks, blocks_below_all ns op.first op.blocks order.inside))
     ∙ rw (blocks_below_first ns op.first op.blocks, add-zero op.first, is_read) refl

@@ -1,6 +1,6 @@
 -- The medium after the parts of a single command, LBA by LBA.
-use Rattle.std.proofs.Common.{◌≡◌, ℕ, zero, suc, ◌+◌, ◌*◌, ◌-◌, ◌<◌, ◌≤◌, Bool, true, false, cond, ◌&&◌, List, [], ◌∷◌, inl, inr, refl, sym, ap, ◌∙◌, arith}
-use Rattle.std.specs.Prelude.{count_by, nat_lt, nat_le, ◌==◌, IsPermutation}
+use Rattle.std.proofs.Common.{◌≡◌, ℕ, ◌+◌, ◌-◌, ◌<◌, ◌≤◌, true, false, cond, List, [], ◌∷◌, inl, inr, refl, sym, ap, ◌∙◌, arith}
+use Rattle.std.specs.Prelude.{count_by, nat_lt, ◌==◌}
 use Rattle.std.proofs.lemmas.Bool.{cases_Bool, cases_lt, cases_eq, and_parts, leb-true, ltb-true, lt-ltb, eq-eqb, ne_eqb, and_right}
 use Rattle.std.proofs.lemmas.List.Sorted.{sum_by-IsPermutation}
 use Rattle.nvm_record.specs.declared.block.Block.{Block}
@@ -82,7 +82,7 @@ part_here ns op unit m lba single inside here =
     let same : skipped + j ≡ i = omega (arith, place.0, bounds.0) in
     let in_part : is_in_range (part_in ns op unit) lba ≡ true = part_lbas ns op unit lba ∙ rw (inside, eq-eqb (unit_number ns lba) unit (sym here)) refl in
     after_inside ns.block_size (part_in ns op unit) m lba
-      (part_single ns.block_size skipped (blocks_in ns op.first op.blocks unit) op.deed single) in_part
+    (part_single ns.block_size skipped (blocks_in ns op.first op.blocks unit) op.deed single) in_part
     ∙ part_left ns.block_size skipped (blocks_in ns op.first op.blocks unit) op.deed j (m lba) single (omega (arith, place.0, place.1, bounds.0))
     ∙ ap (λ k. left_by ns.block_size op.deed k (m lba)) same
 
@@ -91,7 +91,7 @@ part_apart : (ns : Namespace) (op : Operation) (unit : ℕ) (m : Medium) (lba : 
     → medium_after ns.block_size (part_in ns op unit) m lba ≡ m lba
 part_apart ns op unit m lba apart =
     after_outside ns.block_size (part_in ns op unit) m lba
-      (part_lbas ns op unit lba ∙ and_right _ _ (ne_eqb (unit_number ns lba) unit (λ e. apart (sym e))))
+    (part_lbas ns op unit lba ∙ and_right _ _ (ne_eqb (unit_number ns lba) unit (λ e. apart (sym e))))
 
 -- outside the range nothing changes
 parts_outside : (ns : Namespace) (op : Operation) (units : List ℕ) (m : Medium) (lba : ℕ) → is_in_range op lba ≡ false
@@ -107,11 +107,11 @@ parts_apart : (ns : Namespace) (op : Operation) (units : List ℕ) (m : Medium) 
 parts_apart ns op [] m lba none = refl
 parts_apart ns op (unit ∷ units) m lba none =
     elim (cases_eq unit (unit_number ns lba)) [
-      inl e ↦ absurd (omega (arith, none, count_yes (λ v. v == unit_number ns lba) unit units (eq-eqb _ _ e)))
-    | inr o ↦
-        parts_apart ns op units (medium_after ns.block_size (part_in ns op unit) m) lba
+      | inl e ↦ absurd (omega (arith, none, count_yes (λ v. v == unit_number ns lba) unit units (eq-eqb _ _ e)))
+      | inr o ↦
+          parts_apart ns op units (medium_after ns.block_size (part_in ns op unit) m) lba
           (omega (arith, none, count_no (λ v. v == unit_number ns lba) unit units (ne_eqb _ _ o)))
-        ∙ part_apart ns op unit m lba o
+          ∙ part_apart ns op unit m lba o
     ]
 
 -- an LBA of the range whose unit is among these is left as the whole leaves it
@@ -122,19 +122,19 @@ parts_inside ns op [] m lba single inside some = absurd (omega (arith, some))
 parts_inside ns op (unit ∷ units) m lba single inside some =
     let next = medium_after ns.block_size (part_in ns op unit) m in
     elim (cases_eq unit (unit_number ns lba)) [
-      inl e ↦
-        let here = part_here ns op unit m lba single inside e in
-        elim (cases_lt 0 (count_by (λ v. v == unit_number ns lba) units)) [
-          inl more ↦
-            parts_inside ns op units next lba single inside more
-            ∙ ap (λ b. left_by ns.block_size op.deed (lba - op.first) b) here
-            ∙ left_twice ns.block_size op.deed (lba - op.first) (m lba) single
-        | inr none ↦ parts_apart ns op units next lba (omega (arith, none)) ∙ here
-        ]
-    | inr o ↦
-        parts_inside ns op units next lba single inside
+      | inl e ↦
+          let here = part_here ns op unit m lba single inside e in
+          elim (cases_lt 0 (count_by (λ v. v == unit_number ns lba) units)) [
+            | inl more ↦
+                parts_inside ns op units next lba single inside more
+                ∙ ap (λ b. left_by ns.block_size op.deed (lba - op.first) b) here
+                ∙ left_twice ns.block_size op.deed (lba - op.first) (m lba) single
+            | inr none ↦ parts_apart ns op units next lba (omega (arith, none)) ∙ here
+          ]
+      | inr o ↦
+          parts_inside ns op units next lba single inside
           (omega (arith, some, count_no (λ v. v == unit_number ns lba) unit units (ne_eqb _ _ o)))
-        ∙ ap (λ b. left_by ns.block_size op.deed (lba - op.first) b) (part_apart ns op unit m lba o)
+          ∙ ap (λ b. left_by ns.block_size op.deed (lba - op.first) b) (part_apart ns op unit m lba o)
     ]
 
 -- each unit that the operation meets is among those in order
@@ -143,7 +143,7 @@ pub met_among : (ns : Namespace) (op : Operation) (units : List ℕ) (unit : ℕ
 unfolding units_met
 met_among ns op units unit order some known =
     let met = kept_member (λ u. nat_lt 0 (blocks_in ns op.first op.blocks u)) 0 (units_of ns) unit
-      (lt-ltb 0 (blocks_in ns op.first op.blocks unit) some) (omega arith) (omega (arith, known)) in
+    (lt-ltb 0 (blocks_in ns op.first op.blocks unit) some) (omega arith) (omega (arith, known)) in
     let same = sum_by-IsPermutation (λ v. cond (v == unit) 1 0) (units_met ns op.first op.blocks) units order.each in
     omega (arith, met, same)
 
@@ -156,12 +156,12 @@ unit_among ns op units lba order inside =
     let at : op.first + i ≡ lba = omega (arith, bounds.0) in
     let place = place_in ns op.first op.blocks (unit_number ns lba) i (omega (arith, bounds.0, bounds.1)) (rw at refl) in
     met_among ns op units (unit_number ns lba) order (omega (arith, place.0, place.1))
-      (unit_below ns lba (omega (arith, bounds.1, order.inside)))
+    (unit_below ns lba (omega (arith, bounds.1, order.inside)))
 
 pub parts_medium : (ns : Namespace) (op : Operation) (units : List ℕ) (m : Medium) → IsSingle op.deed → IsOrderOf ns op units
     → (lba : ℕ) → medium_after_parts ns op units m lba ≡ medium_after ns.block_size op m lba
 parts_medium ns op units m single order lba =
     elim (cases_Bool (is_in_range op lba)) [
-      inl t ↦ parts_inside ns op units m lba single t (unit_among ns op units lba order t) ∙ sym (after_inside ns.block_size op m lba single t)
-    | inr f ↦ parts_outside ns op units m lba f ∙ sym (after_outside ns.block_size op m lba f)
+      | inl t ↦ parts_inside ns op units m lba single t (unit_among ns op units lba order t) ∙ sym (after_inside ns.block_size op m lba single t)
+      | inr f ↦ parts_outside ns op units m lba f ∙ sym (after_outside ns.block_size op m lba f)
     ]

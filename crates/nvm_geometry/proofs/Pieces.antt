@@ -1,15 +1,14 @@
 -- The pieces of a range: none of an empty one, and else the LBAs up to the end of the first unit,
 -- and then the pieces of the rest.
-use Rattle.std.proofs.Common.{◌≡◌, ℕ, zero, suc, ◌+◌, ◌-◌, ◌<◌, ◌≤◌, min, Bool, true, false, inl, inr, eqb, ltb, List, [], ◌∷◌, map, refl, sym, ap, ◌∙◌, add-zero, add_assoc, arith}
-use Rattle.std.specs.Prelude.{count_by, filter, nat_lt, ◌==◌}
+use Rattle.std.proofs.Common.{◌≡◌, ℕ, zero, suc, ◌+◌, ◌-◌, ◌<◌, ◌≤◌, min, false, inl, inr, List, [], ◌∷◌, map, refl, sym, ap, ◌∙◌, add-zero, add_assoc, arith}
+use Rattle.std.specs.Prelude.{filter, nat_lt, ◌==◌}
 use Rattle.std.specs.List.{range_with_len}
 use Rattle.std.proofs.lemmas.Bool.{lt-ltb, le-ltb, eq-eqb, ne_eqb, cases_eq}
 use Rattle.nvm_geometry.specs.Namespace.{Namespace}
 use Rattle.nvm_geometry.specs.Boundaries.{unit_number, units_of}
 use Rattle.nvm_geometry.specs.Parts.{blocks_below, blocks_in, units_met, piece_in, pieces_of}
-use Rattle.nvm_geometry.specs.declared.piece.Piece.{Piece}
-use Rattle.nvm_geometry.proofs.UnitOrder.{count_rises, unit_below}
-use Rattle.nvm_geometry.proofs.Counting.{count_agree, count_none_pass, count_front_passes, count_front_fails, kept_agree, kept_from}
+use Rattle.nvm_geometry.proofs.UnitOrder.{count_rises}
+use Rattle.nvm_geometry.proofs.Counting.{count_none_pass, count_front_passes, count_front_fails, kept_from}
 
 -- The first n LBAs of the range lie in the unit, and the others in higher ones.
 pub record IsFront (ns : Namespace) (at left n unit : ℕ) : Type 0 where
@@ -23,33 +22,33 @@ below_beyond : (ns : Namespace) (at left n unit v : ℕ) → IsFront ns at left 
 unfolding blocks_below
 below_beyond ns at left n unit v front above =
     count_front_passes (λ lba. nat_lt (unit_number ns lba) v) at n left (at + n) (left - n) (omega (arith, front.inside)) refl
-      (λ lba low high. lt-ltb _ _ (omega (arith, front.here lba low high)))
+    (λ lba low high. lt-ltb _ _ (omega (arith, front.here lba low high)))
 
 pub below_here : (ns : Namespace) (at left n unit : ℕ) → IsFront ns at left n unit → blocks_below ns at left unit ≡ 0
 unfolding blocks_below
 below_here ns at left n unit front =
     count_none_pass (λ lba. nat_lt (unit_number ns lba) unit) at left
-      (λ lba low high. le-ltb (unit_number ns lba) unit
-        (omega (arith, front.here at (omega arith) (omega (arith, front.some)), count_rises ns.nabsn ns.nabo at lba low)))
+    (λ lba low high. le-ltb (unit_number ns lba) unit
+    (omega (arith, front.here at (omega arith) (omega (arith, front.some)), count_rises ns.nabsn ns.nabo at lba low)))
 
 in_beyond : (ns : Namespace) (at left n unit v : ℕ) → IsFront ns at left n unit → unit < v
     → blocks_in ns at left v ≡ blocks_in ns (at + n) (left - n) v
 unfolding blocks_in
 in_beyond ns at left n unit v front above =
     count_front_fails (λ lba. unit_number ns lba == v) at n left (at + n) (left - n) (omega (arith, front.inside)) refl
-      (λ lba low high. ne_eqb _ _ (λ e. omega (arith, front.here lba low high, e)))
+    (λ lba low high. ne_eqb _ _ (λ e. omega (arith, front.here lba low high, e)))
 
 in_rest : (ns : Namespace) (at left n unit v : ℕ) → IsFront ns at left n unit → v ≤ unit → blocks_in ns (at + n) (left - n) v ≡ 0
 unfolding blocks_in
 in_rest ns at left n unit v front low =
     count_none_pass (λ lba. unit_number ns lba == v) (at + n) (left - n)
-      (λ lba above below. ne_eqb _ _ (λ e. omega (arith, front.beyond lba above (omega (arith, below, front.inside)), e)))
+    (λ lba above below. ne_eqb _ _ (λ e. omega (arith, front.beyond lba above (omega (arith, below, front.inside)), e)))
 
 in_front : (ns : Namespace) (at left n unit : ℕ) → IsFront ns at left n unit → blocks_in ns at left unit ≡ n + blocks_in ns (at + n) (left - n) unit
 unfolding blocks_in
 in_front ns at left n unit front =
     count_front_passes (λ lba. unit_number ns lba == unit) at n left (at + n) (left - n) (omega (arith, front.inside)) refl
-      (λ lba low high. eq-eqb _ _ (front.here lba low high))
+    (λ lba low high. eq-eqb _ _ (front.here lba low high))
 
 pub in_here : (ns : Namespace) (at left n unit : ℕ) → IsFront ns at left n unit → blocks_in ns at left unit ≡ n
 in_here ns at left n unit front = omega (arith, in_front ns at left n unit front, in_rest ns at left n unit unit front (omega arith))
@@ -58,8 +57,8 @@ in_lower : (ns : Namespace) (at left n unit v : ℕ) → IsFront ns at left n un
 unfolding blocks_in
 in_lower ns at left n unit v front low =
     count_none_pass (λ lba. unit_number ns lba == v) at left
-      (λ lba above below. ne_eqb _ _ (λ e.
-        omega (arith, front.here at (omega arith) (omega (arith, front.some)), count_rises ns.nabsn ns.nabo at lba above, e)))
+    (λ lba above below. ne_eqb _ _ (λ e.
+    omega (arith, front.here at (omega arith) (omega (arith, front.some)), count_rises ns.nabsn ns.nabo at lba above, e)))
 
 kept_none : {X : Type 0} (f : ℕ → X) (a k : ℕ) → map f (filter (λ _. false) (range_with_len a k)) ≡ []
 kept_none f a zero = refl
@@ -86,13 +85,13 @@ pub pieces_front : (ns : Namespace) (at left n unit : ℕ) → IsFront ns at lef
 unfolding units_met
 pieces_front ns at left n unit front known =
     kept_from (λ v. nat_lt 0 (blocks_in ns at left v)) (λ v. nat_lt 0 (blocks_in ns (at + n) (left - n) v))
-      (piece_in ns at left) (piece_in ns (at + n) (left - n)) 0 (units_of ns) unit
-      (λ v low. le-ltb _ _ (omega (arith, in_lower ns at left n unit v front low)))
-      (lt-ltb _ _ (omega (arith, in_here ns at left n unit front, front.some)))
-      (λ v low. le-ltb _ _ (omega (arith, in_rest ns at left n unit v front low)))
-      (λ v above. rw (in_beyond ns at left n unit v front above) refl)
-      (λ v above. piece_beyond ns at left n unit v front above)
-      (omega arith) (omega (arith, known))
+    (piece_in ns at left) (piece_in ns (at + n) (left - n)) 0 (units_of ns) unit
+    (λ v low. le-ltb _ _ (omega (arith, in_lower ns at left n unit v front low)))
+    (lt-ltb _ _ (omega (arith, in_here ns at left n unit front, front.some)))
+    (λ v low. le-ltb _ _ (omega (arith, in_rest ns at left n unit v front low)))
+    (λ v above. rw (in_beyond ns at left n unit v front above) refl)
+    (λ v above. piece_beyond ns at left n unit v front above)
+    (omega arith) (omega (arith, known))
     ∙ rw (piece_front ns at left n unit front) refl
 
 -- the rest of a unit, or of the range, is a front
@@ -107,10 +106,10 @@ front_of_unit ns at left n unit first blocks here some inside lies whole length 
       inside = omega (arith, length);
       here = λ lba low high. lies lba (omega (arith, place.0, low)) (omega (arith, high, length));
       beyond = λ lba low high.
-        elim (cases_eq (unit_number ns lba) unit) [
-          inl same ↦ absurd (omega (arith, (whole lba (omega (arith, high, inside)) same).1, low, high, length))
-        | inr other ↦ omega (arith, other, here, count_rises ns.nabsn ns.nabo at lba (omega (arith, low)))
-        ]
+          elim (cases_eq (unit_number ns lba) unit) [
+            | inl same ↦ absurd (omega (arith, (whole lba (omega (arith, high, inside)) same).1, low, high, length))
+            | inr other ↦ omega (arith, other, here, count_rises ns.nabsn ns.nabo at lba (omega (arith, low)))
+          ];
     }
 
 -- the piece up to the end of the unit, and then the pieces of the rest
@@ -133,13 +132,13 @@ unfolding units_met
 units_front ns at left n unit front known =
     sym (map_same (filter (λ v. nat_lt 0 (blocks_in ns at left v)) (range_with_len 0 (units_of ns))))
     ∙ kept_from (λ v. nat_lt 0 (blocks_in ns at left v)) (λ v. nat_lt 0 (blocks_in ns (at + n) (left - n) v))
-        (λ v. v) (λ v. v) 0 (units_of ns) unit
-        (λ v low. le-ltb _ _ (omega (arith, in_lower ns at left n unit v front low)))
-        (lt-ltb _ _ (omega (arith, in_here ns at left n unit front, front.some)))
-        (λ v low. le-ltb _ _ (omega (arith, in_rest ns at left n unit v front low)))
-        (λ v above. rw (in_beyond ns at left n unit v front above) refl)
-        (λ v above. refl)
-        (omega arith) (omega (arith, known))
+    (λ v. v) (λ v. v) 0 (units_of ns) unit
+    (λ v low. le-ltb _ _ (omega (arith, in_lower ns at left n unit v front low)))
+    (lt-ltb _ _ (omega (arith, in_here ns at left n unit front, front.some)))
+    (λ v low. le-ltb _ _ (omega (arith, in_rest ns at left n unit v front low)))
+    (λ v above. rw (in_beyond ns at left n unit v front above) refl)
+    (λ v above. refl)
+    (omega arith) (omega (arith, known))
     ∙ rw (map_same (filter (λ v. nat_lt 0 (blocks_in ns (at + n) (left - n) v)) (range_with_len 0 (units_of ns)))) refl
 
 -- the units of an empty range

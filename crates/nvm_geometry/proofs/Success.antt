@@ -1,5 +1,5 @@
 -- When a single command succeeds, block by block.
-use Rattle.std.proofs.Common.{◌≡◌, ◌↔◌, ◌⊎◌, ℕ, zero, suc, ◌+◌, ◌*◌, ◌-◌, ◌<◌, ◌≤◌, Bool, true, false, List, [], ◌∷◌, ◌++◌, length, take, drop, inl, inr, refl, sym, ap, ap₂, ◌∙◌, add-zero, arith}
+use Rattle.std.proofs.Common.{◌≡◌, ℕ, zero, suc, ◌+◌, ◌*◌, ◌<◌, false, List, [], ◌∷◌, ◌++◌, length, take, drop, inl, inr, refl, sym, ap, ap₂, ◌∙◌, add-zero, arith}
 use Rattle.std.specs.Str.{bytes_eq}
 use Rattle.std.proofs.lemmas.Bool.{cases_Bool, or_parts, or_from}
 use Rattle.std.proofs.lemmas.Slice.Eq.{bytes_eq-Decides}
@@ -33,9 +33,9 @@ unmarked_from : (m : Medium) (first n : ℕ) → ((i : ℕ) → i < n → is_mar
 unmarked_from m first zero each = refl
 unmarked_from m first (suc n) each =
     or_from _ _ (rw (add-zero first) at (each 0 (omega arith)))
-      (unmarked_from m (suc first) n (λ i inside.
-        let next : first + suc i ≡ suc first + i = omega arith in
-        rw next at (each (suc i) (omega (arith, inside)))))
+    (unmarked_from m (suc first) n (λ i inside.
+    let next : first + suc i ≡ suc first + i = omega arith in
+    rw next at (each (suc i) (omega (arith, inside)))))
 
 unmarked_size : (size : ℕ) (b : Block) → HasSize size b → is_marked b ≡ false → length (bytes_of b) ≡ size
 unmarked_size size (Bytes bytes) has unmarked = has
@@ -48,13 +48,17 @@ joined_at size m first zero i holds none inside = absurd (omega (arith, inside))
 joined_at size m first (suc n) zero holds none inside =
     let start : 0 * size ≡ 0 = omega arith in
     rw (start, add-zero first)
-      (take_at (bytes_of (m first)) (joined (range m (suc first) n)) size (unmarked_size size (m first) (holds first) (or_parts _ _ none).0))
+    (take_at (bytes_of (m first)) (joined (range m (suc first) n)) size (unmarked_size size (m first) (holds first) (or_parts _ _ none).0))
 joined_at size m first (suc n) (suc i) holds none inside =
     let later : suc i * size ≡ size + i * size = omega arith in
     let next : first + suc i ≡ suc first + i = omega arith in
-    rw (later, next, ← drop-drop (i * size) size (bytes_of (m first) ++ joined (range m (suc first) n)),
-      drop_at (bytes_of (m first)) (joined (range m (suc first) n)) size (unmarked_size size (m first) (holds first) (or_parts _ _ none).0))
-      (joined_at size m (suc first) n i holds (or_parts _ _ none).1 (omega (arith, inside)))
+    rw (
+      later,
+      next,
+      ← drop-drop (i * size) size (bytes_of (m first) ++ joined (range m (suc first) n)),
+      drop_at (bytes_of (m first)) (joined (range m (suc first) n)) size (unmarked_size size (m first) (holds first) (or_parts _ _ none).0),
+    )
+    (joined_at size m (suc first) n i holds (or_parts _ _ none).1 (omega (arith, inside)))
 
 -- data whose every place has a block's bytes is these blocks' bytes
 joined_from : (size : ℕ) (m : Medium) (first n : ℕ) (payload : List ℕ) → length payload ≡ n * size
@@ -65,11 +69,11 @@ joined_from size m first (suc n) payload long each =
     let start : 0 * size ≡ 0 = omega arith in
     let here = rw (start, add-zero first) at (each 0 (omega arith)) in
     let rest =
-      joined_from size m (suc first) n (drop size payload) (length-drop size payload ∙ omega (arith, long))
-        (λ i inside.
-          let later : suc i * size ≡ size + i * size = omega arith in
-          let next : first + suc i ≡ suc first + i = omega arith in
-          rw (drop-drop (i * size) size payload) (rw (later, next) at (each (suc i) (omega (arith, inside))))) in
+    joined_from size m (suc first) n (drop size payload) (length-drop size payload ∙ omega (arith, long))
+    (λ i inside.
+    let later : suc i * size ≡ size + i * size = omega arith in
+    let next : first + suc i ≡ suc first + i = omega arith in
+    rw (drop-drop (i * size) size payload) (rw (later, next) at (each (suc i) (omega (arith, inside))))) in
     ap₂ (λ x y. x ++ y) here rest ∙ take-append-drop size payload
 
 marked_fails : unrecovered_read_error ≡ successful_completion → ⊥
@@ -86,20 +90,21 @@ good_from_success size m first n zeroes single holds success i inside = tt
 good_from_success size m first n marks single holds success i inside = tt
 good_from_success size m first n reads single holds success i inside =
     elim (cases_Bool (has_mark (range m first n))) [
-      inl t ↦ absurd (marked_fails (rw t at success))
-    | inr f ↦ unmarked_at m first n i f inside
+      | inl t ↦ absurd (marked_fails (rw t at success))
+      | inr f ↦ unmarked_at m first n i f inside
     ]
 good_from_success size m first n (compares payload) single holds success i inside =
     elim (cases_Bool (has_mark (range m first n))) [
-      inl t ↦ absurd (marked_fails (rw t at success))
-    | inr f ↦
-        elim (cases_Bool (bytes_eq (joined (range m first n)) payload)) [
-          inl t ↦
-            (unmarked_at m first n i f inside,
+      | inl t ↦ absurd (marked_fails (rw t at success))
+      | inr f ↦
+          elim (cases_Bool (bytes_eq (joined (range m first n)) payload)) [
+            | inl t ↦ (
+              unmarked_at m first n i f inside,
               sym (joined_at size m first n i holds f inside)
-              ∙ ap (λ xs. take size (drop (i * size) xs)) ((bytes_eq-Decides (joined (range m first n)) payload).0 t))
-        | inr d ↦ absurd (differing_fails (rw (f, d) at success))
-        ]
+                  ∙ ap (λ xs. take size (drop (i * size) xs)) ((bytes_eq-Decides (joined (range m first n)) payload).0 t),
+            )
+            | inr d ↦ absurd (differing_fails (rw (f, d) at success))
+          ]
     ]
 good_from_success size m first n (pairs payload new) single holds success i inside = absurd single
 

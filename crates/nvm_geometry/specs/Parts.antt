@@ -49,7 +49,7 @@ part_in ns op unit =
     record {
       first = op.first + blocks_below ns op.first op.blocks unit;
       blocks = blocks_in ns op.first op.blocks unit;
-      deed = deed_part ns.block_size (blocks_below ns op.first op.blocks unit) (blocks_in ns op.first op.blocks unit) op.deed
+      deed = deed_part ns.block_size (blocks_below ns op.first op.blocks unit) (blocks_in ns op.first op.blocks unit) op.deed;
     }
 
 -- The pieces follow one another from `first` on, and together have `blocks` blocks. None is empty.

@@ -45,7 +45,12 @@ impl Model for Geometry {
     ghost invariant = { λ g. IsValid (namespace_of g.nsze g.block_size g.nabsn g.nabo g.nawun g.nacwu) };
 
     ghost inverse = { λ ns. record {
-        nsze = ns.nsze; block_size = ns.block_size; nabsn = ns.nabsn; nabo = ns.nabo; nawun = ns.nawun; nacwu = ns.nacwu
+      nsze = ns.nsze;
+      block_size = ns.block_size;
+      nabsn = ns.nabsn;
+      nabo = ns.nabo;
+      nawun = ns.nawun;
+      nacwu = ns.nacwu;
     } };
 }
 

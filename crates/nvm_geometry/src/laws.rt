@@ -23,15 +23,13 @@ pub fn units_number_the_namespace()
     ensures below { (ns : Namespace) (lba : ℕ) → lba < ns.nsze → unit_number ns lba < units_of ns }
     ensures no_gap { (ns : Namespace) (unit : ℕ) → 0 < ns.nsze → unit < units_of ns
         → (lba : ℕ) × (lba < ns.nsze) × (unit_number ns lba ≡ unit) }
-{
-}
+{}
 
 /// Two LBAs share a unit exactly where their units have one number.
 pub fn sharing_is_one_number()
     ensures number { (ns : Namespace) (a b : ℕ) → SharesUnit ns a b → unit_number ns a ≡ unit_number ns b }
     ensures shares { (ns : Namespace) (a b : ℕ) → unit_number ns a ≡ unit_number ns b → SharesUnit ns a b }
-{
-}
+{}
 
 /// The pieces of a range stand in line: the first begins where the range does, each other one where the
 /// one before it ends, and the last ends where the range does. None is empty, and there is one for each
@@ -45,8 +43,7 @@ pub fn pieces_stand_in_line()
         → map (λ p. p.unit) (pieces_of ns first blocks) ≡ units_met ns first blocks }
     ensures each { (ns : Namespace) (first blocks : ℕ)
         → All (λ p. p ≡ piece_in ns first blocks p.unit) (pieces_of ns first blocks) }
-{
-}
+{}
 
 /// The part of an operation in a unit has just those LBAs of its range that lie in the unit, and the
 /// block of data at each of them is the operation's.
@@ -55,8 +52,7 @@ pub fn part_has_its_blocks()
         → is_in_range (part_in ns op unit) lba ≡ (is_in_range op lba && unit_number ns lba == unit) }
     ensures payload { (size skipped blocks i : ℕ) (payload : List ℕ) → i < blocks
         → block_at size (data_part size skipped blocks payload) i ≡ block_at size payload (skipped + i) }
-{
-}
+{}
 
 /// An operation whose range lies in one unit has one part, which is the operation itself.
 pub fn one_unit_is_one_part()
@@ -65,8 +61,7 @@ pub fn one_unit_is_one_part()
     ensures part { (ns : Namespace) (op : Operation) → 0 < op.blocks → op.first + op.blocks ≤ ns.nsze
         → LiesInUnit ns op.first op.blocks → HasData (op.blocks * ns.block_size) op.deed
         → part_in ns op (unit_number ns op.first) ≡ op }
-{
-}
+{}
 
 /// The parts of a command, done one after the other in any order of the units that it meets, are the
 /// command: they leave the same medium, all succeed exactly where it does, and the data that they
@@ -81,5 +76,4 @@ pub fn parts_are_the_whole()
     ensures data { (ns : Namespace) (op : Operation) (units : List ℕ) (m : Medium) → op.deed ≡ reads
         → IsOrderOf ns op units
         → joined_data (answer_of_part ns op units m) (units_met ns op.first op.blocks) ≡ data_of op m }
-{
-}
+{}

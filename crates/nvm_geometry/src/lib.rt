@@ -8,6 +8,8 @@ mod geometry_fault;
 pub mod laws;
 mod parts;
 mod piece;
+#[cfg(test)]
+mod tests;
 
 pub use geometry::{Geometry, MOST_BLOCKS, MOST_UNITS};
 pub use geometry_fault::GeometryFault;

@@ -1,5 +1,4 @@
-use Rattle.std.proofs.Common.{◌≡◌, ◌+◌, ◌/◌, ◌<◌, ◌≤◌, arith}
-use Rattle.nvm_geometry.specs.Boundaries.{boundary_count}
+use Rattle.std.proofs.Common.{arith}
 use Rattle.nvm_geometry.proofs.BoundaryCount.{IsShift, quotient}
 use Rattle.nvm_geometry.proofs.UnitOrder.{count_none, count_small}
 use Rattle.nvm_geometry.proofs.boundaries.unit_at.Goals as goal
@@ -10,7 +9,7 @@ returns-then-nabsn-eq0-clause-value c = omega (arith, count_none c.args.nabsn c.
 pub returns : goal.returns
 returns c =
     let s : IsShift c.args.nabsn c.args.nabo c.shift.result =
-      record { none = c.shift.ensures.none; rest = c.shift.ensures.rest; offset = c.requires.offset } in
+    record { none = c.shift.ensures.none; rest = c.shift.ensures.rest; offset = c.requires.offset } in
     rw c.from.ensures
-      (let q = quotient c.args.nabsn c.args.nabo c.shift.result c.args.lba s (omega arith) in
-       record { value = q; few = omega (arith, q, count_small c.args.nabsn c.args.nabo c.args.lba) })
+    (let q = quotient c.args.nabsn c.args.nabo c.shift.result c.args.lba s (omega arith) in
+    record { value = q; few = omega (arith, q, count_small c.args.nabsn c.args.nabo c.args.lba) })

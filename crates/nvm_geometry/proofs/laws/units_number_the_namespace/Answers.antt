@@ -1,4 +1,4 @@
-use Rattle.std.proofs.Common.{◌≡◌, ◌+◌, ◌-◌, ◌<◌, suc, add-one, arith}
+use Rattle.std.proofs.Common.{◌-◌, arith}
 use Rattle.nvm_geometry.proofs.BoundaryCount.{count_zero}
 use Rattle.nvm_geometry.proofs.UnitOrder.{count_rises, unit_below, number_at_boundary, number_elsewhere, number_reached}
 use Rattle.nvm_geometry.proofs.laws.units_number_the_namespace.Goals as goal

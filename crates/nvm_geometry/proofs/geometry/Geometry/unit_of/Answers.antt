@@ -1,5 +1,4 @@
-use Rattle.std.proofs.Common.{◌<◌, ◌≤◌, arith}
-use Rattle.nvm_geometry.specs.Boundaries.{unit_number, units_of}
+use Rattle.std.proofs.Common.{arith}
 use Rattle.nvm_geometry.proofs.UnitOrder.{unit_below}
 use Rattle.nvm_geometry.proofs.geometry.Geometry.unit_of.Goals as goal
 
