@@ -169,14 +169,14 @@ one_unit_tested ns slba blocks a b low high =
 -- the number rises by 1 at a boundary
 pub number_at_boundary : (ns : Namespace) (lba : ℕ) → IsBoundary ns (lba + 1) → unit_number ns (lba + 1) ≡ unit_number ns lba + 1
 number_at_boundary ns lba b =
-    rw add-one
+    rw (add-one lba)
     (count_at_boundary ns.nabsn ns.nabo lba
     (is_boundary_complete ns.nabsn ns.nabo (suc lba) b.k (omega (arith, b.exists)) (omega arith) (omega (arith, b.form))))
 
 -- and nowhere else
 pub number_elsewhere : (ns : Namespace) (lba : ℕ) → ¬ (IsBoundary ns (lba + 1)) → unit_number ns (lba + 1) ≡ unit_number ns lba
 number_elsewhere ns lba apart =
-    rw add-one
+    rw (add-one lba)
     (elim (cases_Bool (is_boundary ns.nabsn ns.nabo (suc lba))) [
       | inl here ↦
           let s = is_boundary_sound ns.nabsn ns.nabo (suc lba) here in

@@ -47,7 +47,7 @@ IsFirstFault ns fault = IsFirstOf faults ns fault
 abbrev pub HasNoFault : Namespace → Type 0
 HasNoFault ns = NoneApplies faults ns
 
--- What every geometry keeps.
+-- What every geometry keeps: that no fault applies, said the other way round.
 pub record IsValid (ns : Namespace) : Type 0 where
   pub some : 0 < ns.nsze
   pub size : ns.nsze ≤ most_blocks

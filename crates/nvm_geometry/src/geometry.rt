@@ -1,4 +1,4 @@
-ghost use Rattle.std.specs.Prelude.{◌≡◌, ◌↔◌, ℕ, ◌+◌, ◌-◌, ◌<◌, ◌≤◌, IsTrue, IfOk, IfErr};
+ghost use Rattle.std.specs.Prelude.{◌≡◌, ◌⊎◌, ◌↔◌, ℕ, ◌+◌, ◌-◌, ◌<◌, ◌≤◌, IsTrue, IfOk, IfErr};
 ghost use Rattle.std.specs.Bool.{OnFalse};
 ghost use Rattle.nvm_record.specs.BlockSize.{IsBlockSize};
 ghost use Rattle.nvm_geometry.specs.Namespace.{namespace_of};
@@ -208,7 +208,8 @@ impl Geometry {
     pub fn within_write_limit(self, slba: u64, blocks: u32) -> bool
         requires some { 0 < blocks }
         requires in_range { slba + blocks ≤ self.nsze }
-        ensures { IsTrue result ↔ IsWithinWriteLimit self slba blocks }
+        ensures within { IsTrue result ↔ IsWithinWriteLimit self slba blocks }
+        ensures beyond { OnFalse result ((self.nawun + 1 < blocks) ⊎ Crosses self slba blocks) }
     {
         blocks <= u32::from(self.nawun) + 1 && !self.crosses(slba, blocks)
     }
@@ -218,7 +219,8 @@ impl Geometry {
     pub fn within_pair_limit(self, slba: u64, blocks: u32) -> bool
         requires some { 0 < blocks }
         requires in_range { slba + blocks ≤ self.nsze }
-        ensures { IsTrue result ↔ IsWithinPairLimit self slba blocks }
+        ensures within { IsTrue result ↔ IsWithinPairLimit self slba blocks }
+        ensures beyond { OnFalse result ((self.nacwu + 1 < blocks) ⊎ Crosses self slba blocks) }
     {
         blocks <= u32::from(self.nacwu) + 1 && !self.crosses(slba, blocks)
     }

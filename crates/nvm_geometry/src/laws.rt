@@ -7,6 +7,7 @@ ghost use Rattle.nvm_record.specs.Medium.{Medium};
 ghost use Rattle.nvm_record.specs.Step.{Operation, reads, block_at, is_in_range, medium_after, statuses_of, data_of};
 ghost use Rattle.nvm_geometry.specs.Namespace.{Namespace};
 ghost use Rattle.nvm_geometry.specs.Boundaries.{IsBoundary, SharesUnit, unit_number, units_of};
+ghost use Rattle.nvm_geometry.specs.Faults.{HasNoFault, IsValid};
 ghost use Rattle.nvm_geometry.specs.Limits.{LiesInUnit};
 ghost use Rattle.nvm_geometry.specs.Parts.{units_met, data_part, part_in, piece_in, pieces_of, AreInLine, IsInUnit};
 ghost use Rattle.nvm_geometry.specs.Turns.{IsSingle, HasData, HoldsBlocks, IsOrderOf, medium_after_parts, EachSucceeds, answer_of_part, joined_data};
@@ -23,6 +24,12 @@ pub fn units_number_the_namespace()
     ensures below { (ns : Namespace) (lba : ℕ) → lba < ns.nsze → unit_number ns lba < units_of ns }
     ensures no_gap { (ns : Namespace) (unit : ℕ) → 0 < ns.nsze → unit < units_of ns
         → (lba : ℕ) × (lba < ns.nsze) × (unit_number ns lba ≡ unit) }
+{}
+
+/// The numbers of every geometry are those to which no fault applies.
+pub fn no_fault_is_valid()
+    ensures valid { (ns : Namespace) → HasNoFault ns → IsValid ns }
+    ensures no_fault { (ns : Namespace) → IsValid ns → HasNoFault ns }
 {}
 
 /// Two LBAs share a unit exactly where their units have one number.
