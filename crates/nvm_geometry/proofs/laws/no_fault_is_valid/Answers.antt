@@ -1,17 +1,16 @@
-use Rattle.std.proofs.Common.{◌≡◌, ◌≢◌, ℕ, ◌<◌, ◌≤◌, ◌⊎◌, inl, inr, ⊎_elim, arith}
+use Rattle.std.proofs.Common.{◌≡◌, ◌≢◌, ℕ, ◌<◌, inl, inr, arith}
 use Rattle.std.proofs.lemmas.Bool.{cases_eq}
 use Rattle.nvm_record.specs.BlockSize.{IsBlockSize}
-use Rattle.nvm_geometry.specs.Namespace.{Namespace}
-use Rattle.nvm_geometry.specs.Faults.{most_blocks, HasNoFault, IsValid}
+use Rattle.nvm_geometry.specs.Faults.{most_blocks}
 use Rattle.nvm_geometry.proofs.laws.no_fault_is_valid.Goals as goal
 
 -- it is decided whether a number is a block size
 block_size_decided : (bytes : ℕ) → ¬ (¬ (IsBlockSize bytes)) → IsBlockSize bytes
 block_size_decided bytes h =
     elim (cases_eq bytes 512) [
-      inl e ↦ inl e
-    | inr n ↦
-        elim (cases_eq bytes 4096) [ inl e ↦ inr e | inr o ↦ absurd (h (λ s. elim s [ inl e ↦ n e | inr e ↦ o e ])) ]
+      | inl e ↦ inl e
+      | inr n ↦
+          elim (cases_eq bytes 4096) [ inl e ↦ inr e | inr o ↦ absurd (h (λ s. elim s [ inl e ↦ n e | inr e ↦ o e ])) ]
     ]
 
 pub returns-clause-valid : goal.returns-clause-valid
@@ -34,9 +33,16 @@ returns-clause-valid c ns n =
     }
 
 pub returns-clause-no_fault : goal.returns-clause-no_fault
-returns-clause-no_fault c ns v =
-    ( (λ h. elim h [ inl e ↦ omega (arith, e, v.some) | inr e ↦ omega (arith, e, v.size) ])
-    , ( (λ h. h v.block_size)
-      , ( (λ h. h.1 (v.no_boundary h.0))
-        , ( (λ h. omega (arith, h.1, v.offset))
-          , ( (λ h. omega (arith, h.1, v.write_unit h.0)), ((λ h. omega (arith, h.1, v.pair_unit h.0)), ((λ h. omega (arith, h, v.units)), tt)) ) ) ) ) )
+returns-clause-no_fault c ns v = (
+  (λ h. elim h [ inl e ↦ omega (arith, e, v.some) | inr e ↦ omega (arith, e, v.size) ]),
+  (
+    (λ h. h v.block_size),
+    (
+      (λ h. h.1 (v.no_boundary h.0)),
+      (
+        (λ h. omega (arith, h.1, v.offset)),
+        ((λ h. omega (arith, h.1, v.write_unit h.0)), ((λ h. omega (arith, h.1, v.pair_unit h.0)), ((λ h. omega (arith, h, v.units)), tt))),
+      ),
+    ),
+  ),
+)
