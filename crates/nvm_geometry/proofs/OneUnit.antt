@@ -1,7 +1,7 @@
 -- A range in one unit has one part, which is the whole.
 use Rattle.std.proofs.Common.{◌≡◌, ℕ, ◌+◌, ◌*◌, ◌-◌, ◌<◌, ◌≤◌, List, [], ◌∷◌, length, refl, ap, ap₂, ◌∙◌, add-zero, arith}
 use Rattle.std.proofs.lemmas.List.{take_all}
-use Rattle.nvm_record.specs.Step.{Deed, Operation, writes, zeroes, marks, reads, compares, pairs}
+use Rattle.nvm_record.specs.Step.{Deed, Operation, writes, zeroes, uncorrectable, reads, compares, pairs}
 use Rattle.nvm_geometry.specs.Namespace.{Namespace}
 use Rattle.nvm_geometry.specs.Boundaries.{unit_number}
 use Rattle.nvm_geometry.specs.Limits.{LiesInUnit}
@@ -40,7 +40,7 @@ data_whole size blocks payload long =
 deed_whole : (size blocks : ℕ) (deed : Deed) → HasData (blocks * size) deed → deed_part size 0 blocks deed ≡ deed
 deed_whole size blocks (writes payload) has = ap writes (data_whole size blocks payload has)
 deed_whole size blocks zeroes has = refl
-deed_whole size blocks marks has = refl
+deed_whole size blocks uncorrectable has = refl
 deed_whole size blocks reads has = refl
 deed_whole size blocks (compares payload) has = ap compares (data_whole size blocks payload has)
 deed_whole size blocks (pairs payload new) has = ap₂ pairs (data_whole size blocks payload has.0) (data_whole size blocks new has.1)

@@ -5,7 +5,7 @@ use Rattle.std.proofs.lemmas.Bool.{cases_Bool, cases_lt, cases_eq, and_parts, le
 use Rattle.std.proofs.lemmas.List.Sorted.{sum_by-IsPermutation}
 use Rattle.nvm_record.specs.declared.block.Block.{Block}
 use Rattle.nvm_record.specs.Medium.{Medium}
-use Rattle.nvm_record.specs.Step.{Deed, Operation, writes, zeroes, marks, reads, compares, pairs, block_after, is_in_range, range_of, medium_after}
+use Rattle.nvm_record.specs.Step.{Deed, Operation, writes, zeroes, uncorrectable, reads, compares, pairs, block_after, is_in_range, range_of, medium_after}
 use Rattle.nvm_geometry.specs.Namespace.{Namespace}
 use Rattle.nvm_geometry.specs.Boundaries.{unit_number, units_of}
 use Rattle.nvm_geometry.specs.Parts.{blocks_below, blocks_in, units_met, deed_part, part_in}
@@ -22,7 +22,7 @@ single_after : (size : ℕ) (blocks : List Block) (deed : Deed) (i : ℕ) (old :
     → block_after size blocks deed i old ≡ left_by size deed i old
 single_after size blocks (writes payload) i old single = refl
 single_after size blocks zeroes i old single = refl
-single_after size blocks marks i old single = refl
+single_after size blocks uncorrectable i old single = refl
 single_after size blocks reads i old single = refl
 single_after size blocks (compares payload) i old single = refl
 single_after size blocks (pairs payload new) i old single = absurd single
@@ -32,7 +32,7 @@ left_twice : (size : ℕ) (deed : Deed) (i : ℕ) (old : Block) → IsSingle dee
     → left_by size deed i (left_by size deed i old) ≡ left_by size deed i old
 left_twice size (writes payload) i old single = refl
 left_twice size zeroes i old single = refl
-left_twice size marks i old single = refl
+left_twice size uncorrectable i old single = refl
 left_twice size reads i old single = refl
 left_twice size (compares payload) i old single = refl
 left_twice size (pairs payload new) i old single = absurd single
@@ -40,7 +40,7 @@ left_twice size (pairs payload new) i old single = absurd single
 pub part_single : (size skipped blocks : ℕ) (deed : Deed) → IsSingle deed → IsSingle (deed_part size skipped blocks deed)
 part_single size skipped blocks (writes payload) single = tt
 part_single size skipped blocks zeroes single = tt
-part_single size skipped blocks marks single = tt
+part_single size skipped blocks uncorrectable single = tt
 part_single size skipped blocks reads single = tt
 part_single size skipped blocks (compares payload) single = tt
 part_single size skipped blocks (pairs payload new) single = absurd single
@@ -50,7 +50,7 @@ part_left : (size skipped blocks : ℕ) (deed : Deed) (i : ℕ) (old : Block) �
     → left_by size (deed_part size skipped blocks deed) i old ≡ left_by size deed (skipped + i) old
 part_left size skipped blocks (writes payload) i old single inside = block_of_part size skipped blocks i payload inside
 part_left size skipped blocks zeroes i old single inside = refl
-part_left size skipped blocks marks i old single inside = refl
+part_left size skipped blocks uncorrectable i old single inside = refl
 part_left size skipped blocks reads i old single inside = refl
 part_left size skipped blocks (compares payload) i old single inside = refl
 part_left size skipped blocks (pairs payload new) i old single inside = absurd single

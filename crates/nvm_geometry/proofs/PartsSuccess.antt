@@ -8,7 +8,7 @@ use Rattle.std.proofs.lemmas.List.{length-take-le, length-drop}
 use Rattle.nvm_record.specs.declared.block.Block.{Block}
 use Rattle.nvm_record.specs.Status.{IsSuccess}
 use Rattle.nvm_record.specs.Medium.{Medium}
-use Rattle.nvm_record.specs.Step.{Deed, Operation, writes, zeroes, marks, reads, compares, pairs, statuses_on, block_after, is_in_range, range_of, medium_after, statuses_of}
+use Rattle.nvm_record.specs.Step.{Deed, Operation, writes, zeroes, uncorrectable, reads, compares, pairs, statuses_on, block_after, is_in_range, range_of, medium_after, statuses_of}
 use Rattle.nvm_geometry.specs.Namespace.{Namespace}
 use Rattle.nvm_geometry.specs.Boundaries.{unit_number}
 use Rattle.nvm_geometry.specs.Parts.{blocks_below, blocks_in, data_part, deed_part, part_in}
@@ -22,7 +22,7 @@ use Rattle.nvm_geometry.proofs.Success.{IsGood, good_from_success, success_from_
 abbrev IsChange : Deed → Type 0
 IsChange (writes payload) = Unit {0}
 IsChange zeroes = Unit {0}
-IsChange marks = Unit {0}
+IsChange uncorrectable = Unit {0}
 IsChange reads = ⊥
 IsChange (compares payload) = ⊥
 IsChange (pairs payload new) = ⊥
@@ -31,7 +31,7 @@ IsChange (pairs payload new) = ⊥
 abbrev pub IsLook : Deed → Type 0
 IsLook (writes payload) = ⊥
 IsLook zeroes = ⊥
-IsLook marks = ⊥
+IsLook uncorrectable = ⊥
 IsLook reads = Unit {0}
 IsLook (compares payload) = Unit {0}
 IsLook (pairs payload new) = ⊥
@@ -39,7 +39,7 @@ IsLook (pairs payload new) = ⊥
 change_or_look : (deed : Deed) → IsSingle deed → IsChange deed ⊎ IsLook deed
 change_or_look (writes payload) single = inl tt
 change_or_look zeroes single = inl tt
-change_or_look marks single = inl tt
+change_or_look uncorrectable single = inl tt
 change_or_look reads single = inr tt
 change_or_look (compares payload) single = inr tt
 change_or_look (pairs payload new) single = absurd single
@@ -47,7 +47,7 @@ change_or_look (pairs payload new) single = absurd single
 change_succeeds : (blocks : List Block) (deed : Deed) → IsChange deed → IsSuccess (statuses_on blocks deed)
 change_succeeds blocks (writes payload) change = refl
 change_succeeds blocks zeroes change = refl
-change_succeeds blocks marks change = refl
+change_succeeds blocks uncorrectable change = refl
 change_succeeds blocks reads change = absurd change
 change_succeeds blocks (compares payload) change = absurd change
 change_succeeds blocks (pairs payload new) change = absurd change
@@ -55,7 +55,7 @@ change_succeeds blocks (pairs payload new) change = absurd change
 part_change : (size skipped blocks : ℕ) (deed : Deed) → IsChange deed → IsChange (deed_part size skipped blocks deed)
 part_change size skipped blocks (writes payload) change = tt
 part_change size skipped blocks zeroes change = tt
-part_change size skipped blocks marks change = tt
+part_change size skipped blocks uncorrectable change = tt
 part_change size skipped blocks reads change = absurd change
 part_change size skipped blocks (compares payload) change = absurd change
 part_change size skipped blocks (pairs payload new) change = absurd change
@@ -63,7 +63,7 @@ part_change size skipped blocks (pairs payload new) change = absurd change
 part_look : (size skipped blocks : ℕ) (deed : Deed) → IsLook deed → IsLook (deed_part size skipped blocks deed)
 part_look size skipped blocks (writes payload) look = absurd look
 part_look size skipped blocks zeroes look = absurd look
-part_look size skipped blocks marks look = absurd look
+part_look size skipped blocks uncorrectable look = absurd look
 part_look size skipped blocks reads look = tt
 part_look size skipped blocks (compares payload) look = tt
 part_look size skipped blocks (pairs payload new) look = absurd look
@@ -79,7 +79,7 @@ each_change ns op (unit ∷ units) m change = (
 look_leaves : (size : ℕ) (blocks : List Block) (deed : Deed) (i : ℕ) (old : Block) → IsLook deed → block_after size blocks deed i old ≡ old
 look_leaves size blocks (writes payload) i old look = absurd look
 look_leaves size blocks zeroes i old look = absurd look
-look_leaves size blocks marks i old look = absurd look
+look_leaves size blocks uncorrectable i old look = absurd look
 look_leaves size blocks reads i old look = refl
 look_leaves size blocks (compares payload) i old look = refl
 look_leaves size blocks (pairs payload new) i old look = absurd look
@@ -122,7 +122,7 @@ part_good : (size skipped blocks : ℕ) (deed : Deed) (i : ℕ) (b : Block) → 
     → IsGood size (deed_part size skipped blocks deed) i b ↔ IsGood size deed (skipped + i) b
 part_good size skipped blocks (writes payload) i b inside = ((λ h. h), (λ h. h))
 part_good size skipped blocks zeroes i b inside = ((λ h. h), (λ h. h))
-part_good size skipped blocks marks i b inside = ((λ h. h), (λ h. h))
+part_good size skipped blocks uncorrectable i b inside = ((λ h. h), (λ h. h))
 part_good size skipped blocks reads i b inside = ((λ h. h), (λ h. h))
 part_good size skipped blocks (compares payload) i b inside =
     let same = data_of_part size skipped blocks i payload inside in
@@ -140,7 +140,7 @@ part_has_data : (size skipped blocks all : ℕ) (deed : Deed) → skipped + bloc
     → HasData (blocks * size) (deed_part size skipped blocks deed)
 part_has_data size skipped blocks all (writes payload) inside has = data_part_length size skipped blocks all payload inside has
 part_has_data size skipped blocks all zeroes inside has = tt
-part_has_data size skipped blocks all marks inside has = tt
+part_has_data size skipped blocks all uncorrectable inside has = tt
 part_has_data size skipped blocks all reads inside has = tt
 part_has_data size skipped blocks all (compares payload) inside has = data_part_length size skipped blocks all payload inside has
 part_has_data size skipped blocks all (pairs payload new) inside has =

@@ -9,14 +9,14 @@ use Rattle.nvm_record.specs.declared.block.Block.TheVariants.{Bytes, Uncorrectab
 use Rattle.nvm_record.specs.declared.status.Status.{Status}
 use Rattle.nvm_record.specs.Status.{IsSuccess, successful_completion, unrecovered_read_error, compare_failure}
 use Rattle.nvm_record.specs.Medium.{Medium, range, is_marked, has_mark, bytes_of, joined}
-use Rattle.nvm_record.specs.Step.{Deed, writes, zeroes, marks, reads, compares, pairs, statuses_on}
+use Rattle.nvm_record.specs.Step.{Deed, writes, zeroes, uncorrectable, reads, compares, pairs, statuses_on}
 use Rattle.nvm_geometry.specs.Turns.{IsSingle, HasData, HasSize, HoldsBlocks}
 
 -- The block at place i of the range lets the command succeed.
 abbrev pub IsGood : ℕ → Deed → ℕ → Block → Type 0
 IsGood size (writes payload) i b = Unit {0}
 IsGood size zeroes i b = Unit {0}
-IsGood size marks i b = Unit {0}
+IsGood size uncorrectable i b = Unit {0}
 IsGood size reads i b = is_marked b ≡ false
 IsGood size (compares payload) i b = (is_marked b ≡ false) × (bytes_of b ≡ take size (drop (i * size) payload))
 IsGood size (pairs payload new) i b = ⊥
@@ -87,7 +87,7 @@ pub good_from_success : (size : ℕ) (m : Medium) (first n : ℕ) (deed : Deed) 
     → IsSuccess (statuses_on (range m first n) deed) → (i : ℕ) → i < n → IsGood size deed i (m (first + i))
 good_from_success size m first n (writes payload) single holds success i inside = tt
 good_from_success size m first n zeroes single holds success i inside = tt
-good_from_success size m first n marks single holds success i inside = tt
+good_from_success size m first n uncorrectable single holds success i inside = tt
 good_from_success size m first n reads single holds success i inside =
     elim (cases_Bool (has_mark (range m first n))) [
       | inl t ↦ absurd (marked_fails (rw t at success))
@@ -113,7 +113,7 @@ pub success_from_good : (size : ℕ) (m : Medium) (first n : ℕ) (deed : Deed) 
     → ((i : ℕ) → i < n → IsGood size deed i (m (first + i))) → IsSuccess (statuses_on (range m first n) deed)
 success_from_good size m first n (writes payload) single has good = refl
 success_from_good size m first n zeroes single has good = refl
-success_from_good size m first n marks single has good = refl
+success_from_good size m first n uncorrectable single has good = refl
 success_from_good size m first n reads single has good = rw (unmarked_from m first n good) refl
 success_from_good size m first n (compares payload) single has good =
     let same = joined_from size m first n payload has (λ i inside. (good i inside).1) in

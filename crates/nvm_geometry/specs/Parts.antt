@@ -2,7 +2,7 @@
 -- the LBAs of a range that lie in lower units are its first ones.
 use Rattle.std.specs.Prelude.{◌≡◌, ◌==◌, ℕ, ◌+◌, ◌-◌, ◌*◌, ◌<◌, ◌≤◌, nat_lt, List, [], ◌∷◌, take, drop, map, filter, count_by}
 use Rattle.std.specs.List.{range_with_len}
-use Rattle.nvm_record.specs.Step.{Deed, Operation, writes, zeroes, marks, reads, compares, pairs}
+use Rattle.nvm_record.specs.Step.{Deed, Operation, writes, zeroes, uncorrectable, reads, compares, pairs}
 use Rattle.nvm_geometry.specs.Namespace.{Namespace}
 use Rattle.nvm_geometry.specs.Boundaries.{unit_number, units_of}
 use Rattle.nvm_geometry.specs.declared.piece.Piece.{Piece}
@@ -36,7 +36,7 @@ data_part size skipped blocks payload = take (blocks * size) (drop (skipped * si
 abbrev pub deed_part : ℕ → ℕ → ℕ → Deed → Deed
 deed_part size skipped blocks (writes payload) = writes (data_part size skipped blocks payload)
 deed_part size skipped blocks zeroes = zeroes
-deed_part size skipped blocks marks = marks
+deed_part size skipped blocks uncorrectable = uncorrectable
 deed_part size skipped blocks reads = reads
 deed_part size skipped blocks (compares payload) = compares (data_part size skipped blocks payload)
 deed_part size skipped blocks (pairs payload new) =

@@ -4,7 +4,7 @@ use Rattle.nvm_record.specs.declared.block.Block.{Block}
 use Rattle.nvm_record.specs.declared.block.Block.TheVariants.{Bytes, Uncorrectable}
 use Rattle.nvm_record.specs.Status.{IsSuccess}
 use Rattle.nvm_record.specs.Medium.{Medium}
-use Rattle.nvm_record.specs.Step.{Deed, Operation, writes, zeroes, marks, reads, compares, pairs, medium_after, statuses_of, data_of}
+use Rattle.nvm_record.specs.Step.{Deed, Operation, writes, zeroes, uncorrectable, reads, compares, pairs, medium_after, statuses_of, data_of}
 use Rattle.nvm_geometry.specs.Namespace.{Namespace}
 use Rattle.nvm_geometry.specs.Parts.{units_met, part_in}
 
@@ -12,7 +12,7 @@ use Rattle.nvm_geometry.specs.Parts.{units_met, part_in}
 abbrev pub IsSingle : Deed → Type 0
 IsSingle (writes payload) = Unit {0}
 IsSingle zeroes = Unit {0}
-IsSingle marks = Unit {0}
+IsSingle uncorrectable = Unit {0}
 IsSingle reads = Unit {0}
 IsSingle (compares payload) = Unit {0}
 IsSingle (pairs payload new) = ⊥
@@ -21,7 +21,7 @@ IsSingle (pairs payload new) = ⊥
 abbrev pub HasData : ℕ → Deed → Type 0
 HasData bytes (writes payload) = length payload ≡ bytes
 HasData bytes zeroes = Unit {0}
-HasData bytes marks = Unit {0}
+HasData bytes uncorrectable = Unit {0}
 HasData bytes reads = Unit {0}
 HasData bytes (compares payload) = length payload ≡ bytes
 HasData bytes (pairs payload new) = (length payload ≡ bytes) × (length new ≡ bytes)

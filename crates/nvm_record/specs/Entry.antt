@@ -1,6 +1,6 @@
 -- The submission entry of 64 bytes: Base Specification, "Common Command Format"; NVM Command Set
 -- Specification, Read and Write, command dwords 10 to 12. All numbers are little endian.
-use Rattle.std.specs.Prelude.{◌≡◌, ℕ, ◌+◌, ◌*◌, ◌%◌, if◌then◌else◌, List, [], ◌∷◌, ◌++◌, length, take, drop, slice_index, replicate}
+use Rattle.std.specs.Prelude.{◌≡◌, ℕ, ◌+◌, ◌*◌, ◌%◌, ◌^◌, ◌<◌, if◌then◌else◌, List, ◌∷◌, ◌++◌, length, take, drop, slice_index, replicate}
 use Rattle.byteorder.specs.Endian.{little_number, little_bytes}
 use Rattle.nvm_record.specs.Op.{op_of, opcode_of, IsProper, fuse_of, bits_of, carries_data}
 use Rattle.nvm_record.specs.declared.op.Op.{Op}
@@ -24,6 +24,13 @@ data_length size op nlb = if carries_data op then (nlb + 1) * size else 0
 pub record IsWhole (size : ℕ) (c : Command) : Type 0 where
   pub payload : length c.payload ≡ data_length size c.op c.nlb
   pub op : IsProper c.op
+
+-- Each field of the command fits its place in the entry, as its type says.
+pub record HasFieldsInRange (c : Command) : Type 0 where
+  pub cid : c.cid < 2 ^ 16
+  pub nsid : c.nsid < 2 ^ 32
+  pub slba : c.slba < 2 ^ 64
+  pub nlb : c.nlb < 2 ^ 16
 
 -- These bytes are the command's entry and the data that it calls for.
 pub record IsSpelling (size : ℕ) (bytes : List ℕ) (c : Command) : Type 0 where

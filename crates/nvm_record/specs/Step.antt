@@ -1,7 +1,7 @@
 -- What a command does to a medium, LBA by LBA, and what its host is told: NVM Command Set
 -- Specification, the commands Write, Read, Write Zeroes, Write Uncorrectable and Compare; Base
 -- Specification, "Fused Operation". No unit, part or version occurs here.
-use Rattle.std.specs.Prelude.{◌≡◌, ℕ, ◌+◌, ◌*◌, ◌-◌, ◌<◌, ◌≤◌, nat_le, nat_lt, if◌then◌else◌, List, [], ◌∷◌, length, take, drop, replicate, Bool, true, false, ◌&&◌, Option, Some, None}
+use Rattle.std.specs.Prelude.{ℕ, ◌+◌, ◌*◌, ◌-◌, nat_le, nat_lt, if◌then◌else◌, List, take, drop, replicate, Bool, false, ◌&&◌, Option, Some, None}
 use Rattle.std.specs.Str.{bytes_eq}
 use Rattle.nvm_record.specs.declared.block.Block.{Block}
 use Rattle.nvm_record.specs.declared.block.Block.TheVariants.{Bytes, Uncorrectable}
@@ -15,7 +15,7 @@ use Rattle.nvm_record.specs.Medium.{Medium, range, has_mark, joined}
 pub data Deed : Type 0 where
   writes : List ℕ → Deed
   zeroes : Deed
-  marks : Deed
+  uncorrectable : Deed
   reads : Deed
   compares : List ℕ → Deed
   -- a fused Compare and Write: the data to compare with, then the data to write
@@ -27,21 +27,21 @@ pub record Operation : Type 0 where
   pub blocks : ℕ
   pub deed : Deed
 
--- how a comparison of blocks with data ends: a mark decides before any byte does
+-- the comparison of blocks with data holds: none is marked, and no byte differs
+abbrev pub compares_equal : List Block → List ℕ → Bool
+compares_equal blocks payload = if has_mark blocks then false else bytes_eq (joined blocks) payload
+
+-- how the comparison ends: a mark decides before any byte does
 abbrev pub comparison : List Block → List ℕ → Status
 comparison blocks payload =
     if has_mark blocks then unrecovered_read_error else
-    if bytes_eq (joined blocks) payload then successful_completion else compare_failure
-
--- the comparison holds
-abbrev pub compares_equal : List Block → List ℕ → Bool
-compares_equal blocks payload = if has_mark blocks then false else bytes_eq (joined blocks) payload
+    if compares_equal blocks payload then successful_completion else compare_failure
 
 -- what the host is told, by the blocks of the range
 abbrev pub statuses_on : List Block → Deed → Statuses
 statuses_on blocks (writes payload) = One successful_completion
 statuses_on blocks zeroes = One successful_completion
-statuses_on blocks marks = One successful_completion
+statuses_on blocks uncorrectable = One successful_completion
 statuses_on blocks reads = One (if has_mark blocks then unrecovered_read_error else successful_completion)
 statuses_on blocks (compares payload) = One (comparison blocks payload)
 statuses_on blocks (pairs payload new) =
@@ -51,7 +51,7 @@ statuses_on blocks (pairs payload new) =
 abbrev pub data_on : List Block → Deed → Option (List ℕ)
 data_on blocks (writes payload) = None
 data_on blocks zeroes = None
-data_on blocks marks = None
+data_on blocks uncorrectable = None
 data_on blocks reads = if has_mark blocks then None else Some (joined blocks)
 data_on blocks (compares payload) = None
 data_on blocks (pairs payload new) = None
@@ -64,7 +64,7 @@ block_at size payload i = Bytes (take size (drop (i * size) payload))
 abbrev pub block_after : ℕ → List Block → Deed → ℕ → Block → Block
 block_after size blocks (writes payload) i old = block_at size payload i
 block_after size blocks zeroes i old = Bytes (replicate size 0)
-block_after size blocks marks i old = Uncorrectable
+block_after size blocks uncorrectable i old = Uncorrectable
 block_after size blocks reads i old = old
 block_after size blocks (compares payload) i old = old
 block_after size blocks (pairs payload new) i old = if compares_equal blocks payload then block_at size new i else old

@@ -1,8 +1,10 @@
 ghost use Rattle.std.specs.Prelude.{◌≡◌, ◌%◌, ℕ, length, drop, slice_index, ◌++◌};
 ghost use Rattle.byteorder.specs.Endian.{little_number};
-ghost use Rattle.nvm_record.specs.Entry.{entry_of, IsWhole, IsSpelling};
+ghost use Rattle.nvm_record.specs.Entry as spec;
+ghost use Rattle.nvm_record.specs.Entry.{entry_of, HasFieldsInRange, IsWhole, IsSpelling};
 ghost use Rattle.nvm_record.specs.Op.{op_of, fuse_of};
 
+use crate::block_size::BlockSize;
 use crate::command::Command;
 use crate::op::{Fuse, Op};
 use byteorder::{ByteOrder, LittleEndian};
@@ -41,6 +43,19 @@ pub fn fields_of(entry: &[u8]) -> Fields
     }
 }
 
+impl Fields {
+    /// How many bytes of data follow the entry, in blocks of `size`.
+    pub fn data_length(self, size: BlockSize) -> usize
+        ensures { result ≡ spec.data_length size self.op self.nlb }
+    {
+        if self.op.carries_data() {
+            (self.nlb as usize + 1) * size.bytes() as usize
+        } else {
+            0
+        }
+    }
+}
+
 /// The command's submission entry, every bit that no field of `Command` names being 0 (Base
 /// Specification, "Common Command Format"). It takes no memory.
 ///
@@ -51,12 +66,24 @@ pub fn command_bytes(command: &Command) -> [u8; 64]
     ensures spelling { (size : ℕ) → IsWhole size command.now
         → IsSpelling size (result ++ command.now.payload) command.now }
 {
+    encoded(command)
+}
+
+/// The entry, field by field.
+fn encoded(command: &Command) -> [u8; 64]
+    ensures entry { result ≡ entry_of command.now }
+    ensures fields { HasFieldsInRange command.now }
+{
+    let cid = command.cid;
+    let nsid = command.nsid;
+    let slba = command.slba;
+    let nlb = command.nlb;
     let mut entry = [0; 64];
     entry[0] = command.op.opcode();
     entry[1] = command.fuse.bits();
-    LittleEndian::write_u16(&mut entry[2..], command.cid);
-    LittleEndian::write_u32(&mut entry[4..], command.nsid);
-    LittleEndian::write_u64(&mut entry[40..], command.slba);
-    LittleEndian::write_u16(&mut entry[48..], command.nlb);
+    LittleEndian::write_u16(&mut entry[2..], cid);
+    LittleEndian::write_u32(&mut entry[4..], nsid);
+    LittleEndian::write_u64(&mut entry[40..], slba);
+    LittleEndian::write_u16(&mut entry[48..], nlb);
     entry
 }

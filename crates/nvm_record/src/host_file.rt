@@ -1,4 +1,5 @@
-ghost use Rattle.std.specs.Prelude.{◌≡◌, ◌⊎◌, ◌+◌, ◌^◌, ◌<◌, ℕ, List, IfOk, IfErr, MatchResult, length};
+ghost use Rattle.std.specs.Prelude.{◌≡◌, ◌⊎◌, ◌+◌, ◌^◌, ◌<◌, All, ℕ, List, IfOk, IfErr, MatchResult, length};
+ghost use Rattle.nvm_record.specs.Entry.{IsWhole};
 ghost use Rattle.nvm_record.specs.HostFile.{IsHostFile, IsFaultOf, IsAnsweredFault, BeginsWith, IsCutFault};
 ghost use Rattle.nvm_record.specs.declared.command.Command.{Command as Spelled};
 ghost use Rattle.nvm_record.specs.declared.host_fault.HostFault.{HostFault as Fault};
@@ -21,11 +22,13 @@ pub const MOST_COMMANDS: usize = 65_536;
 /// submission entry of 64 bytes and, after that of a Write or a Compare, its data of `nlb + 1` blocks
 /// of `size`.
 ///
-/// The first fault from the front is answered.
+/// The first fault from the front is answered, or `NoMemory` where a growth was refused before it.
 pub fn read_host(alloc: Global, bytes: &[u8], size: BlockSize) -> Result<Vec<Command>, HostFault>
     // What is answered is what the file reads as.
     ensures commands { IfOk result (λ v. IsHostFile size bytes.now v.items) }
     ensures fault { IfErr result (IsAnsweredFault size bytes.now) }
+    // Each command has just the data that it calls for, and no `Other` has an opcode with a name.
+    ensures whole { IfOk result (λ v. All (IsWhole size) v.items) }
 
     // A file reads as one thing alone, so nothing but want of memory is answered in its place.
     ensures all_commands { (cs : List Spelled) → IsHostFile size bytes.now cs
@@ -33,15 +36,24 @@ pub fn read_host(alloc: Global, bytes: &[u8], size: BlockSize) -> Result<Vec<Com
     ensures each_fault { (f : Fault) → IsFaultOf size bytes.now f
         → MatchResult result (λ _. ⊥) (λ e. (e ≡ f) ⊎ (e ≡ NoMemory)) }
 {
+    commands_of(alloc, bytes, size)
+}
+
+/// What the file reads as.
+fn commands_of(alloc: Global, bytes: &[u8], size: BlockSize) -> Result<Vec<Command>, HostFault>
+    ensures commands { IfOk result (λ v. IsHostFile size bytes.now v.items) }
+    ensures fault { IfErr result (IsAnsweredFault size bytes.now) }
+{
     let Some(mut rest) = bytes.strip_prefix(NAME) else {
         return Err(HostFault::BadName);
     };
+    let length = bytes.len();
     let mut commands = Vec::new(alloc);
     while !rest.is_empty() {
         if commands.len() == MOST_COMMANDS {
             return Err(HostFault::TooMany);
         }
-        let (command, after) = read_command(alloc, rest, size, bytes.len() - rest.len())?;
+        let (command, after) = read_command(alloc, rest, size, length - rest.len())?;
         commands.push(command)?;
         rest = after;
     }
@@ -66,11 +78,7 @@ fn read_command(
     }
     let (entry, after) = rest.split_at(ENTRY_BYTES);
     let fields = fields_of(entry);
-    let wanted = if fields.op.carries_data() {
-        (fields.nlb as usize + 1) * size.bytes() as usize
-    } else {
-        0
-    };
+    let wanted = fields.data_length(size);
     if after.len() < wanted {
         return Err(HostFault::Truncated {
             at: (offset + ENTRY_BYTES) as u64,

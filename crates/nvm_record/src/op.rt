@@ -10,7 +10,7 @@ pub enum Op {
     Write,
     /// 02h: the blocks' bytes are answered.
     Read,
-    /// 04h: the blocks are marked, and can't be read until they are written.
+    /// 04h: the blocks are marked, and can't be read until they are written or zeroed.
     WriteUncorrectable,
     /// 05h: the blocks are compared with the data that follows the entry.
     Compare,

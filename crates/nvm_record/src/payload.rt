@@ -56,7 +56,8 @@ impl Payload {
     pub fn into_vec(self) -> Vec<u8>
         ensures { result.items ≡ self }
     {
-        self.bytes
+        let Payload { bytes } = self;
+        bytes
     }
 
     /// How many bytes there are.

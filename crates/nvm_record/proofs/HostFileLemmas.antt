@@ -1,0 +1,66 @@
+-- Reading a host file from its front.
+use Rattle.std.proofs.Common.{inl, inr, ◌≡◌, ℕ, ◌+◌, ◌<◌, ◌≤◌, List, [], ◌∷◌, ◌++◌, length, take, drop, refl, sym, ap, ◌∙◌, subst, arith, append_assoc, length-append, length-drop}
+use Rattle.std.proofs.Math.Seq.{take-append_seam, drop-append_seam}
+use Rattle.std.proofs.lemmas.List.{take-append-drop, length-take-le}
+use Rattle.nvm_record.specs.Entry.{IsEntryOf, data_length}
+use Rattle.nvm_record.specs.HostFile.{BeginsWith, Begins, IsCutFault, IsAnsweredFault, file_name}
+use Rattle.nvm_record.specs.declared.command.Command.{Command}
+use Rattle.nvm_record.specs.declared.host_fault.HostFault.{HostFault}
+use Rattle.nvm_record.specs.declared.host_fault.HostFault.TheVariants.{BadName, Truncated, TooMany, NoMemory}
+
+-- the command at the front of the bytes, by its entry and the data after it
+pub begins_with : (size : ℕ) (bytes : List ℕ) (c : Command) (n : ℕ) → 64 ≤ length bytes → n ≡ data_length size c.op c.nlb → n ≤ length (drop 64 bytes)
+    → IsEntryOf (take 64 bytes) c → c.payload ≡ take n (drop 64 bytes) → BeginsWith size bytes c (drop n (drop 64 bytes))
+begins_with size bytes c n whole called_for enough entry payload =
+    let front : List ℕ = take 64 bytes ++ c.payload in
+    let long : length (take 64 bytes) ≡ 64 = length-take-le 64 bytes whole in
+    let first : take 64 front ≡ take 64 bytes = subst (λ (k : ℕ). take k front ≡ take 64 bytes) long (take-append_seam (take 64 bytes) c.payload) in
+    let second : drop 64 front ≡ c.payload = subst (λ (k : ℕ). drop k front ≡ c.payload) long (drop-append_seam (take 64 bytes) c.payload) in (
+      front,
+      sym (ap (λ (x : List ℕ). (take 64 bytes ++ x) ++ drop n (drop 64 bytes)) payload
+          ∙ append_assoc (take 64 bytes) (take n (drop 64 bytes)) (drop n (drop 64 bytes))
+          ∙ ap (λ (x : List ℕ). take 64 bytes ++ x) (take-append-drop n (drop 64 bytes))
+          ∙ take-append-drop 64 bytes),
+      record {
+        entry = rw first entry;
+        payload = sym second;
+        called_for = ap length payload ∙ length-take-le n (drop 64 bytes) enough ∙ called_for;
+      },
+    )
+
+-- So far the file gave these commands, and this is left.
+pub record IsReading (size : ℕ) (bytes : List ℕ) (cs : List Command) (rest : List ℕ) : Type 0 where
+  pub commands : Begins size (drop 4 bytes) cs rest
+  pub few : length cs ≤ 65536
+  pub name : take 4 bytes ≡ file_name
+
+-- What is left is no longer than the whole.
+pub begins_shorter : (size : ℕ) (bytes : List ℕ) (cs : List Command) (rest : List ℕ) → Begins size bytes cs rest → length rest ≤ length bytes
+begins_shorter size bytes [] rest h = let e : length bytes ≡ length rest = ap length h in omega arith
+begins_shorter size bytes (c ∷ cs) rest h =
+    let less : length rest ≤ length h.0 = begins_shorter size h.0 cs rest h.2 in
+    let e : length bytes ≡ length (h.1.0 ++ h.0) = ap length h.1.1 in
+    omega (arith, length-append h.1.0 h.0)
+
+-- One command more.
+pub begins_more : (size : ℕ) (bytes : List ℕ) (cs : List Command) (rest : List ℕ) (c : Command) (after : List ℕ) → Begins size bytes cs rest → BeginsWith size rest c after → Begins size bytes (cs ++ c ∷ []) after
+begins_more size bytes [] rest c after h k = (after, subst (λ (b : List ℕ). BeginsWith size b c after) (sym h) k, refl)
+begins_more size bytes (d ∷ cs) rest c after h k = (h.0, h.1, begins_more size h.0 cs rest c after h.2 k)
+
+pub reading_more : (size : ℕ) (bytes : List ℕ) (cs : List Command) (rest : List ℕ) (c : Command) (after : List ℕ) → length cs < 65536 → IsReading size bytes cs rest → BeginsWith size rest c after → IsReading size bytes (cs ++ c ∷ []) after
+reading_more size bytes cs rest c after few h k = record {
+  commands = begins_more size (drop 4 bytes) cs rest c after h.commands k;
+  few = omega (arith, length-append cs (c ∷ []));
+  name = h.name;
+}
+
+-- What is left of a file is no longer than the file.
+pub reading_shorter : (size : ℕ) (bytes : List ℕ) (cs : List Command) (rest : List ℕ) → IsReading size bytes cs rest → length rest ≤ length bytes
+reading_shorter size bytes cs rest h = omega (arith, begins_shorter size (drop 4 bytes) cs rest h.commands, length-drop 4 bytes)
+
+-- What isn't whole there is the file's first fault.
+pub reading_fault : (size : ℕ) (bytes : List ℕ) (cs : List Command) (rest : List ℕ) (offset : ℕ) (f : HostFault) → length cs < 65536 → IsReading size bytes cs rest → offset + length rest ≡ length bytes → IsCutFault size rest offset f → IsAnsweredFault size bytes f
+reading_fault size bytes cs rest offset BadName few h place k = absurd k
+reading_fault size bytes cs rest offset (Truncated found) few h place (inside, cut, e) = inl (cs, rest, inside, record { name = h.name; commands = h.commands; few = few; cut = cut; place = omega arith })
+reading_fault size bytes cs rest offset TooMany few h place k = absurd k
+reading_fault size bytes cs rest offset NoMemory few h place k = inr refl

@@ -1,0 +1,4 @@
+pub mod EntryLemmas
+pub mod HostFileLemmas
+pub mod OneReading
+pub mod WholeCommands

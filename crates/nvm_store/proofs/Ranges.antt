@@ -1,0 +1,151 @@
+-- A range of a medium, and the stored blocks of a unit that hold it.
+use Rattle.std.proofs.Common.{◌≡◌, ◌⊎◌, ℕ, zero, suc, ◌+◌, ◌-◌, ◌<◌, ◌≤◌, List, [], ◌∷◌, length, get_or, take, drop, replicate, refl, sym, ap, ◌∙◌, arith, inl, inr}
+use Rattle.std.proofs.lemmas.Bool.Decides.{nat_tests, leb_tells}
+use Rattle.std.proofs.lemmas.List.{get_or-map, get_or-take, get_or-drop, get_or-replicate, length-map, length-take-le, length-drop, length-replicate, get_or_default}
+use Rattle.nvm_record.specs.declared.block.Block.{Block}
+use Rattle.nvm_record.specs.declared.block.Block.TheVariants.{Bytes, Uncorrectable}
+use Rattle.nvm_record.specs.Medium.{Medium, range}
+use Rattle.nvm_record.specs.Status.{IsSuccess}
+use Rattle.nvm_record.specs.Step.{Operation, statuses_of, medium_after}
+use Rattle.nvm_store.specs.Contents.{Contents, Holds, IsWithin, Covers, Succeeds}
+use Rattle.nvm_store.specs.Operation.{write_operation}
+use Rattle.nvm_store.specs.Stored.{Stored, block_of, blocks_of, zero_block, KeepsAllBut, written}
+
+-- These blocks are the medium's, from this LBA.
+abbrev pub AreAt : List Block → ℕ → Medium → Type 0
+AreAt blocks first m = (d : Block) (i : ℕ) → i < length blocks → get_or blocks i d ≡ m (first + i)
+
+-- Blocks that are the medium's are its range.
+pub range-is : (m : Medium) (blocks : List Block) (first : ℕ) → AreAt blocks first m → range m first (length blocks) ≡ blocks
+range-is m [] first at = refl
+range-is m (b ∷ bs) first at =
+    let here : b ≡ m (first + 0) = at b 0 (omega arith) in
+    let same : first + 0 ≡ first = omega arith in
+    let rest : range m (suc first) (length bs) ≡ bs =
+    range-is m bs (suc first)
+    (λ d i lt. let next : suc first + i ≡ first + suc i = omega arith in rw next (at d (suc i) (omega arith))) in
+    cc
+
+-- What is read of stored blocks as blocks.
+pub get_or-blocks_of : (items : List Stored) (d : Stored) (e : Block) (i : ℕ) → i < length items → get_or (blocks_of items) i e ≡ block_of (get_or items i d)
+get_or-blocks_of items d e i lt = get_or-map block_of items i d e lt
+
+-- The stored blocks of some of the LBAs are the medium's range there.
+pub range-held : (m : Medium) (items : List Stored) (d : Stored) (start first n at : ℕ)
+    → AreAt (blocks_of items) start m → start + at ≡ first → at + n ≤ length items
+    → range m first n ≡ blocks_of (take n (drop at items))
+range-held m items d start first n at held place fits =
+    let some = take n (drop at items) in
+    let len : length some ≡ n = grind (arith, length-take-le {A = Stored}, length-drop {A = Stored}) in
+    let len' : length (blocks_of some) ≡ n = grind (arith, length-map some block_of, len) in
+    let are : AreAt (blocks_of some) first m =
+    λ e i lt.
+    let lt' : i < n = omega arith in
+    let a : get_or (blocks_of some) i e ≡ block_of (get_or some i d) = get_or-blocks_of some d e i (omega arith) in
+    let b : get_or some i d ≡ get_or (drop at items) i d = get_or-take n (drop at items) i d lt' in
+    let c : get_or (drop at items) i d ≡ get_or items (at + i) d = get_or-drop at items i d in
+    let f : get_or (blocks_of items) (at + i) e ≡ block_of (get_or items (at + i) d) =
+    get_or-blocks_of items d e (at + i) (omega arith) in
+    let h : get_or (blocks_of items) (at + i) e ≡ m (start + (at + i)) =
+    held e (at + i) (omega (arith, length-map items block_of)) in
+    let g : start + (at + i) ≡ first + i = omega arith in
+    cc
+    in
+    rw len' at (range-is m (blocks_of some) first are)
+
+-- Zero blocks are those of the medium that holds zeroes.
+pub zero_blocks : (n size : ℕ) (e : Block) (i : ℕ) → i < length (blocks_of (replicate n (zero_block size)))
+    → get_or (blocks_of (replicate n (zero_block size))) i e ≡ Bytes (replicate size 0)
+zero_blocks n size e i lt =
+    let zeroes = replicate n (zero_block size) in
+    let len : length zeroes ≡ n = length-replicate n (zero_block size) in
+    let lt' : i < n = omega (arith, length-map zeroes block_of) in
+    let a : get_or (blocks_of zeroes) i e ≡ block_of (get_or zeroes i (zero_block size)) =
+    get_or-blocks_of zeroes (zero_block size) e i (omega arith) in
+    a ∙ ap block_of (get_or-replicate n i (zero_block size) (zero_block size) lt')
+
+-- An LBA of the range takes the block at its place of the data.
+medium_after-inside : (m : Medium) (size first count lba : ℕ) (payload : List ℕ) → first ≤ lba → lba < first + count
+    → medium_after size (write_operation first count payload) m lba
+    ≡ block_of (written size payload (lba - first))
+medium_after-inside m size first count lba payload above below = grind (arith, nat_tests)
+
+-- An LBA outside the range keeps its block.
+medium_after-outside : (m : Medium) (size first count lba : ℕ) (payload : List ℕ) → (lba < first) ⊎ (first + count ≤ lba)
+    → medium_after size (write_operation first count payload) m lba ≡ m lba
+medium_after-outside m size first count lba payload out = grind (arith, nat_tests)
+
+-- Stored blocks of which a range was written are those of the medium after the Write.
+pub held-written : (m : Medium) (old new : List Stored) (d : Stored) (start size first count at : ℕ) (payload : List ℕ)
+    → AreAt (blocks_of old) start m → start + at ≡ first → length new ≡ length old
+    → ((i : ℕ) → i < count → get_or new (at + i) d ≡ written size payload i)
+    → KeepsAllBut at count old new
+    → AreAt (blocks_of new) start (medium_after size (write_operation first count payload) m)
+held-written m old new d start size first count at payload held place len put others e i lt =
+    let lt' : i < length new = omega (arith, length-map new block_of) in
+    let a : get_or (blocks_of new) i e ≡ block_of (get_or new i d) = get_or-blocks_of new d e i lt' in
+    let outside : (i < at) ⊎ (at + count ≤ i) → get_or (blocks_of new) i e ≡ medium_after size (write_operation first count payload) m (start + i) =
+    λ out.
+    let b : get_or new i d ≡ get_or old i d = others d i out in
+    let f : get_or (blocks_of old) i e ≡ block_of (get_or old i d) = get_or-blocks_of old d e i (omega arith) in
+    let h : get_or (blocks_of old) i e ≡ m (start + i) = held e i (omega (arith, length-map old block_of)) in
+    let out' : (start + i < first) ⊎ (first + count ≤ start + i) = grind arith in
+    let g = medium_after-outside m size first count (start + i) payload out' in
+    cc
+    in
+    elim (leb_tells at i) [
+      | inl above ↦
+          elim (leb_tells (at + count) i) [
+            | inl past ↦ outside (inr past.1)
+            | inr before ↦
+                let k : at + (i - at) ≡ i = omega arith in
+                let b : get_or new (at + (i - at)) d ≡ written size payload (i - at) = put (i - at) (omega arith) in
+                let g = medium_after-inside m size first count (start + i) payload (omega arith) (omega arith) in
+                let same : start + i - first ≡ i - at = omega arith in
+                cc
+          ]
+      | inr below ↦ outside (inl below.1)
+    ]
+
+-- Media that agree on the LBAs of a range have the same range.
+pub range-same : (m n : Medium) (first count : ℕ) → ((i : ℕ) → i < count → m (first + i) ≡ n (first + i))
+    → range m first count ≡ range n first count
+range-same m n first zero same = refl
+range-same m n first (suc count) same =
+    let here : m (first + 0) ≡ n (first + 0) = same 0 (omega arith) in
+    let at : first + 0 ≡ first = omega arith in
+    let rest : range m (suc first) count ≡ range n (suc first) count =
+    range-same m n (suc first) count
+    (λ i lt. let next : suc first + i ≡ first + suc i = omega arith in rw next (same (suc i) (omega arith))) in
+    cc
+
+-- All media that a unit holds have the same range there.
+pub range-held_same : (blocks : List Block) (start first count : ℕ) (m n : Medium) → IsWithin start (length blocks) first count
+    → AreAt blocks start m → AreAt blocks start n → range m first count ≡ range n first count
+range-held_same blocks start first count m n within held held' =
+    range-same m n first count
+    (λ i lt.
+    let above : start ≤ first = within.above in
+    let below : first + count ≤ start + length blocks = within.below in
+    let at : start + (first - start + i) ≡ first + i = omega arith in
+    let lt' : first - start + i < length blocks = omega arith in
+    rw (← at) (sym (held Uncorrectable (first - start + i) lt') ∙ held' Uncorrectable (first - start + i) lt'))
+
+-- An operation that succeeds on one medium that the unit holds succeeds on all of them.
+pub succeeds_on_held : (unit : Contents) (op : Operation) (m : Medium) → Covers unit op → Holds unit m
+    → IsSuccess (statuses_of op m) → Succeeds unit op
+succeeds_on_held unit op m covered held success n held' =
+    rw (range-held_same unit.blocks unit.first op.first op.blocks m n covered.range held held') at success
+
+-- a medium that has a unit's blocks
+abbrev medium_with : Contents → Medium
+medium_with unit lba = get_or unit.blocks (lba - unit.first) Uncorrectable
+
+-- The unit holds it.
+pub some_medium_is_held : (unit : Contents) → (m : Medium) × Holds unit m
+some_medium_is_held unit = (
+  medium_with unit,
+  λ d i lt.
+      let at : unit.first + i - unit.first ≡ i = omega arith in
+      rw at (get_or_default unit.blocks i d Uncorrectable lt),
+)

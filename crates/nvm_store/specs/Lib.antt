@@ -1,0 +1,11 @@
+pub mod Contents
+pub mod Stored
+pub mod Operation
+pub mod Act
+pub mod ActRef
+pub mod Look
+pub mod Answer
+pub mod Line
+pub mod Limit
+pub mod History
+pub mod Point

@@ -1,0 +1,40 @@
+ghost use Rattle.std.specs.Prelude.{◌≡◌, IfOk};
+ghost use Rattle.nvm_store.specs.Act.{operation_of};
+ghost use Rattle.nvm_store.specs.ActRef.{lent_operation_of};
+
+use crate::act::Act;
+use nvm_record::{NoMemory, Payload};
+use std::alloc::Global;
+
+/// An [`Act`] whose data is borrowed.
+#[derive(Clone, Copy, Debug)]
+pub enum ActRef<'a> {
+    /// See [`Act::Write`].
+    Write {
+        first: u64,
+        blocks: u32,
+        payload: &'a [u8],
+    },
+}
+
+impl<'a> ActRef<'a> {
+    /// The same act with a copy of the data.
+    pub fn to_act(self, alloc: Global) -> Result<Act, NoMemory>
+        ensures { IfOk result (λ act. operation_of act ≡ lent_operation_of self.entry) }
+    {
+        match self {
+            ActRef::Write {
+                first,
+                blocks,
+                payload,
+            } => {
+                let payload = Payload::copy_of(alloc, payload)?;
+                Ok(Act::Write {
+                    first,
+                    blocks,
+                    payload,
+                })
+            }
+        }
+    }
+}

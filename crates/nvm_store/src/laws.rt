@@ -1,0 +1,71 @@
+//! Laws of this crate's definitions, for the crates above. Each function does nothing: its contract
+//! is the law, which a caller then knows.
+ghost use Rattle.std.specs.Prelude.{◌≡◌, ◌↔◌, ℕ, ◌+◌, ◌<◌, ◌≤◌, List, [], ◌∷◌, ◌++◌, length, slice_index_or};
+ghost use Rattle.nvm_record.specs.Medium.{Medium};
+ghost use Rattle.nvm_record.specs.Status.{IsSuccess};
+ghost use Rattle.nvm_record.specs.Step.{Operation, range_of, statuses_of, medium_after};
+ghost use Rattle.nvm_store.specs.Contents.{Contents, Holds, Covers, Succeeds};
+ghost use Rattle.nvm_store.specs.History.{replay_of, CanFollow, IsLawfulHistory};
+ghost use Rattle.nvm_store.specs.Line.{Line};
+ghost use Rattle.nvm_store.specs.Point.{point};
+
+/// The replay of a history with one entry more is that entry's step on the replay of the others.
+pub fn replay_of_one_more()
+    ensures { (size : ℕ) (history : List Line) (line : Line)
+        → replay_of size (history ++ line ∷ [])
+        ≡ medium_after size line.operation (replay_of size history) }
+{}
+
+/// A history with one entry more is lawful exactly where the others are, and the entry can follow
+/// them.
+pub fn lawful_with_one_more()
+    ensures { (start count size : ℕ) (history : List Line) (line : Line)
+        → IsLawfulHistory start count size (history ++ line ∷ [])
+        ↔ (IsLawfulHistory start count size history × CanFollow start count size history line) }
+{}
+
+/// What a lawful history begins with is lawful.
+pub fn lawful_beginning()
+    ensures { (start count size : ℕ) (begin rest : List Line)
+        → IsLawfulHistory start count size (begin ++ rest)
+        → IsLawfulHistory start count size begin }
+{}
+
+/// A point is the same in each history that begins with its entries.
+pub fn point_of_beginning()
+    ensures { (size : ℕ) (begin rest : List Line) (n : ℕ) → n ≤ length begin
+        → point size (begin ++ rest) n ≡ point size begin n }
+{}
+
+/// The next point is the step of the entry between.
+pub fn next_point()
+    ensures { (size : ℕ) (history : List Line) (d : Line) (n : ℕ) → n < length history
+        → point size history (n + 1)
+        ≡ medium_after size (slice_index_or history n d).operation (point size history n) }
+{}
+
+/// The point at a history's end is its replay.
+pub fn point_at_the_end()
+    ensures { (size : ℕ) (history : List Line)
+        → point size history (length history) ≡ replay_of size history }
+{}
+
+/// Each unit holds the blocks of some medium.
+pub fn some_medium_is_held()
+    ensures { (unit : Contents) → (m : Medium) × Holds unit m }
+{}
+
+/// All media whose blocks a unit holds have the same blocks in the range of an operation that the
+/// unit covers. So the operation's statuses and data are the same on them.
+pub fn same_range_on_held()
+    ensures { (unit : Contents) (operation : Operation) (m n : Medium)
+        → Covers unit operation → Holds unit m → Holds unit n
+        → range_of operation m ≡ range_of operation n }
+{}
+
+/// An operation that succeeds on one medium whose blocks the unit holds succeeds on the unit.
+pub fn success_on_held()
+    ensures { (unit : Contents) (operation : Operation) (m : Medium)
+        → Covers unit operation → Holds unit m → IsSuccess (statuses_of operation m)
+        → Succeeds unit operation }
+{}

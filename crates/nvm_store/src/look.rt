@@ -1,0 +1,9 @@
+/// What may be asked of the blocks of a unit. It changes nothing.
+///
+/// `first` is an LBA of the namespace, and `blocks` a number of logical blocks, not zeroes-based.
+#[derive(Clone, Copy, Debug)]
+pub enum Look {
+    /// The blocks' bytes are asked for, one block after the other (NVM Command Set Specification,
+    /// "Read command").
+    Read { first: u64, blocks: u32 },
+}

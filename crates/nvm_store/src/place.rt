@@ -1,0 +1,63 @@
+ghost use Rattle.std.specs.Prelude.{◌≡◌, ◌↔◌, ◌*◌, IsTrue, length};
+ghost use Rattle.nvm_store.specs.ActRef.{lent_operation_of};
+ghost use Rattle.nvm_store.specs.Contents.{IsWithin, IsCovered};
+ghost use Rattle.nvm_store.specs.Look.{look_operation_of};
+
+use crate::act_ref::ActRef;
+use crate::look::Look;
+use nvm_record::BlockSize;
+
+/// Where a unit lies in the namespace, and what it therefore covers.
+#[derive(Clone, Copy, Debug)]
+pub struct Place {
+    /// The unit's first LBA.
+    pub first: u64,
+    /// The number of its logical blocks, not zeroes-based.
+    pub blocks: u32,
+    /// The size of each of them.
+    pub size: BlockSize,
+}
+
+impl Place {
+    /// Whether the act's range has a block and lies here, and its data has just the blocks of the
+    /// range. No LBA makes it wrap.
+    pub fn covers(&self, act: ActRef<'_>) -> bool
+        ensures { IsTrue result
+            ↔ IsCovered self.now.first self.now.blocks self.now.size (lent_operation_of act.entry) }
+    {
+        match act {
+            ActRef::Write {
+                first,
+                blocks,
+                payload,
+            } => self.has_range(first, blocks) && self.is_data_of(blocks, payload),
+        }
+    }
+
+    /// Whether the look's range has a block and lies here. No LBA makes it wrap.
+    pub fn covers_look(&self, look: Look) -> bool
+        ensures { IsTrue result
+            ↔ IsCovered self.now.first self.now.blocks self.now.size (look_operation_of look) }
+    {
+        match look {
+            Look::Read { first, blocks } => self.has_range(first, blocks),
+        }
+    }
+
+    /// Whether there is a block among the `blocks` LBAs from `first`, and all of them lie here.
+    fn has_range(&self, first: u64, blocks: u32) -> bool
+        ensures { IsTrue result ↔ IsWithin self.now.first self.now.blocks first blocks }
+    {
+        blocks > 0
+            && first >= self.first
+            && first - self.first < u64::from(self.blocks)
+            && u64::from(blocks) <= u64::from(self.blocks) - (first - self.first)
+    }
+
+    /// Whether the data has just so many blocks.
+    fn is_data_of(&self, blocks: u32, payload: &[u8]) -> bool
+        ensures { IsTrue result ↔ (length payload.now ≡ blocks * self.now.size) }
+    {
+        payload.len() as u64 == u64::from(blocks) * u64::from(self.size.bytes())
+    }
+}

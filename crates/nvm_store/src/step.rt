@@ -1,0 +1,73 @@
+ghost use Rattle.std.specs.Prelude.{◌≡◌, IfOk, IsSome, OnErr, length};
+ghost use Rattle.nvm_record.specs.Medium.{Medium};
+ghost use Rattle.nvm_record.specs.Step.{statuses_of, data_of, medium_after};
+ghost use Rattle.nvm_store.specs.ActRef.{lent_operation_of};
+ghost use Rattle.nvm_store.specs.Look.{look_operation_of};
+ghost use Rattle.nvm_store.specs.Answer.{IsAnswer};
+ghost use Rattle.nvm_store.specs.Contents.{Holds, IsWithin, Covers, Succeeds, StaysInPlace};
+ghost use Rattle.nvm_store.specs.Operation.{read_operation};
+
+use crate::act_ref::ActRef;
+use crate::answers::Answer;
+use crate::look::Look;
+use crate::stored_blocks::{has_mark, joined};
+use crate::unit_blocks::UnitBlocks;
+use nvm_record::{NoMemory, Payload, Status, Statuses};
+use std::alloc::Global;
+
+/// The statuses that the act's command, or its two commands, complete with on these blocks: 0/00 for
+/// a Write. It takes no memory, and changes nothing.
+pub fn judge(unit: &UnitBlocks, act: ActRef<'_>) -> Statuses
+    requires { Covers unit.now (lent_operation_of act) }
+    ensures { (m : Medium) → Holds unit.now m
+        → result ≡ statuses_of (lent_operation_of act.entry) m }
+{
+    match act {
+        ActRef::Write { .. } => Statuses::One(Status::SUCCESSFUL_COMPLETION),
+    }
+}
+
+/// The unit after the act's step. The unit that is lent stays as it is.
+pub fn apply(alloc: Global, unit: &UnitBlocks, act: ActRef<'_>) -> Result<UnitBlocks, NoMemory>
+    requires covered { Covers unit.now (lent_operation_of act) }
+    requires success { Succeeds unit.now (lent_operation_of act) }
+    ensures step { IfOk result (λ after. (m : Medium) → Holds unit.now m
+        → Holds after (medium_after unit.now.size (lent_operation_of act.entry) m)) }
+    ensures place { IfOk result (StaysInPlace unit.now) }
+{
+    let mut after = unit.copy_of(alloc)?;
+    after.change(act);
+    Ok(after)
+}
+
+/// What the look is answered on these blocks. A Read's data has its room reserved once, at its full
+/// length; a Read that fails takes no memory.
+pub fn answer(alloc: Global, unit: &UnitBlocks, look: Look) -> Result<Answer, NoMemory>
+    requires { Covers unit.now (look_operation_of look) }
+    ensures step { IfOk result (λ answer. (m : Medium) → Holds unit.now m
+        → IsAnswer (look_operation_of look) m answer) }
+
+    // Only the data of a Read wants memory.
+    ensures memory { OnErr result ((m : Medium) → Holds unit.now m
+        → IsSome (data_of (look_operation_of look) m)) }
+{
+    match look {
+        Look::Read { first, blocks } => read(alloc, unit, first, blocks),
+    }
+}
+
+/// The answer of a Read of the `blocks` LBAs from `first`.
+fn read(alloc: Global, unit: &UnitBlocks, first: u64, blocks: u32) -> Result<Answer, NoMemory>
+    requires { IsWithin unit.now.first (length unit.now.blocks) first blocks }
+    ensures step { IfOk result (λ answer. (m : Medium) → Holds unit.now m
+        → IsAnswer (read_operation first blocks) m answer) }
+    ensures memory { OnErr result ((m : Medium) → Holds unit.now m
+        → IsSome (data_of (read_operation first blocks) m)) }
+{
+    let range = unit.range(first, blocks);
+    if has_mark(range) {
+        return Ok(Answer::Status(Status::UNRECOVERED_READ_ERROR));
+    }
+    let bytes = joined(alloc, range, unit.place().size.bytes() as usize)?;
+    Ok(Answer::Payload(Payload::new(bytes)))
+}

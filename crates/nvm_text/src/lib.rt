@@ -1,0 +1,17 @@
+//! What is printed of commands and their completions: a line for each command, with the data that a
+//! Read answers as runs of equal bytes.
+//!
+//! Each function appends to a text. Where memory is refused, what the text held still stands at its
+//! front, and a part of what was to be appended may follow.
+#![tactic(auto)]
+
+pub mod laws;
+mod line;
+mod number;
+mod run;
+
+pub use line::{push_line, push_lines, push_name, push_status};
+pub use run::push_runs;
+
+#[cfg(test)]
+mod tests;

@@ -1,0 +1,7 @@
+pub mod Checks
+pub mod Run
+pub mod Fault
+pub mod Words
+pub mod Shown
+pub mod Whole
+pub mod OneUnit

@@ -1,0 +1,28 @@
+ghost use Rattle.std.specs.Prelude.{◌≡◌, IfOk, length};
+
+use crate::fault::Fault;
+use std::fs;
+use std::io::ErrorKind;
+use std::rt::Files;
+
+/// The bytes of each file, in the files' order. The first that can't be read is the fault.
+pub fn read_files<R: Files + AllocGlobal>(rt: &R, paths: &[String]) -> Result<Vec<Vec<u8>>, Fault>
+    ensures { IfOk result (λ files. length files.items ≡ length paths.now) }
+{
+    let mut files = Vec::with_capacity(rt.alloc(), paths.len())?;
+    for path in paths {
+        files.push(read_file(rt, path.as_str())?)?;
+    }
+    Ok(files)
+}
+
+/// The bytes of a file. Want of memory isn't the file's fault.
+fn read_file<R: Files + AllocGlobal>(rt: &R, path: &str) -> Result<Vec<u8>, Fault> {
+    match fs::read(rt, path) {
+        Ok(bytes) => Ok(bytes),
+        Err(error) if error.kind() == ErrorKind::OutOfMemory => Err(Fault::NoMemory),
+        Err(_) => Err(Fault::CannotRead {
+            path: String::from_str(rt.alloc(), path)?,
+        }),
+    }
+}
