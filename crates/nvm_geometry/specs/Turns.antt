@@ -17,7 +17,7 @@ IsSingle reads = Unit {0}
 IsSingle (compares payload) = Unit {0}
 IsSingle (pairs payload new) = ⊥
 
--- the deed's data is as long as so many blocks
+-- the deed's data, where it has any, is of so many bytes
 abbrev pub HasData : ℕ → Deed → Type 0
 HasData bytes (writes payload) = length payload ≡ bytes
 HasData bytes zeroes = Unit {0}

@@ -3,6 +3,8 @@
 #![tactic(auto)]
 
 mod boundaries;
+#[cfg(test)]
+mod counter_tests;
 mod geometry;
 mod geometry_fault;
 pub mod laws;

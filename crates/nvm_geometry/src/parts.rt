@@ -5,7 +5,7 @@ use crate::piece::Piece;
 use std::marker::Model;
 
 /// The pieces of a range, one for each unit that it meets, ascending: what
-/// [`Geometry::parts`](crate::Geometry::parts) gives. Each step takes a constant number of steps.
+/// [`Geometry::parts`](crate::Geometry::parts) gives. A piece takes a constant number of steps.
 ///
 /// A contract sees it as the list of the pieces that are left.
 #[derive(Debug, Drop)]
