@@ -1,0 +1,11 @@
+pub mod BoundaryCount
+pub mod UnitOrder
+pub mod Counting
+pub mod Pieces
+pub mod Places
+pub mod OneUnit
+pub mod PartsMedium
+pub mod Success
+pub mod PartsSuccess
+pub mod PartsData
+pub mod InLine

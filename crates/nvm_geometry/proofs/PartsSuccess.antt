@@ -1,0 +1,196 @@
+-- The parts of a single command all succeed exactly where it does.
+use Rattle.std.proofs.Common.{◌≡◌, ◌↔◌, ◌⊎◌, ℕ, ◌+◌, ◌*◌, ◌-◌, ◌<◌, ◌≤◌, true, List, [], ◌∷◌, length, drop, inl, inr, refl, sym, ◌∙◌, arith}
+use Rattle.std.proofs.Math.Path.{fun_ext}
+use Rattle.std.proofs.Math.Nat.{mul-le-mul_right}
+use Rattle.std.specs.Prelude.{count_by, ◌==◌}
+use Rattle.std.proofs.lemmas.Bool.{cases_Bool, cases_eq, ne_eqb, lt-ltb, le-leb, and_from}
+use Rattle.std.proofs.lemmas.List.{length-take-le, length-drop}
+use Rattle.nvm_record.specs.declared.block.Block.{Block}
+use Rattle.nvm_record.specs.Status.{IsSuccess}
+use Rattle.nvm_record.specs.Medium.{Medium}
+use Rattle.nvm_record.specs.Step.{Deed, Operation, writes, zeroes, uncorrectable, reads, compares, pairs, statuses_on, block_after, is_in_range, range_of, medium_after, statuses_of}
+use Rattle.nvm_geometry.specs.Namespace.{Namespace}
+use Rattle.nvm_geometry.specs.Boundaries.{unit_number}
+use Rattle.nvm_geometry.specs.Parts.{blocks_below, blocks_in, data_part, deed_part, part_in}
+use Rattle.nvm_geometry.specs.Turns.{IsSingle, HasData, HoldsBlocks, IsOrderOf, EachSucceeds}
+use Rattle.nvm_geometry.proofs.Counting.{count_no}
+use Rattle.nvm_geometry.proofs.Places.{place_in, part_inside, data_of_part}
+use Rattle.nvm_geometry.proofs.PartsMedium.{part_single, unit_among}
+use Rattle.nvm_geometry.proofs.Success.{IsGood, good_from_success, success_from_good}
+
+-- a command that changes blocks, and always succeeds
+abbrev IsChange : Deed → Type 0
+IsChange (writes payload) = Unit {0}
+IsChange zeroes = Unit {0}
+IsChange uncorrectable = Unit {0}
+IsChange reads = ⊥
+IsChange (compares payload) = ⊥
+IsChange (pairs payload new) = ⊥
+
+-- a command that only looks
+abbrev pub IsLook : Deed → Type 0
+IsLook (writes payload) = ⊥
+IsLook zeroes = ⊥
+IsLook uncorrectable = ⊥
+IsLook reads = Unit {0}
+IsLook (compares payload) = Unit {0}
+IsLook (pairs payload new) = ⊥
+
+change_or_look : (deed : Deed) → IsSingle deed → IsChange deed ⊎ IsLook deed
+change_or_look (writes payload) single = inl tt
+change_or_look zeroes single = inl tt
+change_or_look uncorrectable single = inl tt
+change_or_look reads single = inr tt
+change_or_look (compares payload) single = inr tt
+change_or_look (pairs payload new) single = absurd single
+
+change_succeeds : (blocks : List Block) (deed : Deed) → IsChange deed → IsSuccess (statuses_on blocks deed)
+change_succeeds blocks (writes payload) change = refl
+change_succeeds blocks zeroes change = refl
+change_succeeds blocks uncorrectable change = refl
+change_succeeds blocks reads change = absurd change
+change_succeeds blocks (compares payload) change = absurd change
+change_succeeds blocks (pairs payload new) change = absurd change
+
+part_change : (size skipped blocks : ℕ) (deed : Deed) → IsChange deed → IsChange (deed_part size skipped blocks deed)
+part_change size skipped blocks (writes payload) change = tt
+part_change size skipped blocks zeroes change = tt
+part_change size skipped blocks uncorrectable change = tt
+part_change size skipped blocks reads change = absurd change
+part_change size skipped blocks (compares payload) change = absurd change
+part_change size skipped blocks (pairs payload new) change = absurd change
+
+part_look : (size skipped blocks : ℕ) (deed : Deed) → IsLook deed → IsLook (deed_part size skipped blocks deed)
+part_look size skipped blocks (writes payload) look = absurd look
+part_look size skipped blocks zeroes look = absurd look
+part_look size skipped blocks uncorrectable look = absurd look
+part_look size skipped blocks reads look = tt
+part_look size skipped blocks (compares payload) look = tt
+part_look size skipped blocks (pairs payload new) look = absurd look
+
+each_change : (ns : Namespace) (op : Operation) (units : List ℕ) (m : Medium) → IsChange op.deed → EachSucceeds ns op units m
+each_change ns op [] m change = tt
+each_change ns op (unit ∷ units) m change = (
+  change_succeeds (range_of (part_in ns op unit) m) (part_in ns op unit).deed
+      (part_change ns.block_size (blocks_below ns op.first op.blocks unit) (blocks_in ns op.first op.blocks unit) op.deed change),
+  each_change ns op units (medium_after ns.block_size (part_in ns op unit) m) change,
+)
+
+look_leaves : (size : ℕ) (blocks : List Block) (deed : Deed) (i : ℕ) (old : Block) → IsLook deed → block_after size blocks deed i old ≡ old
+look_leaves size blocks (writes payload) i old look = absurd look
+look_leaves size blocks zeroes i old look = absurd look
+look_leaves size blocks uncorrectable i old look = absurd look
+look_leaves size blocks reads i old look = refl
+look_leaves size blocks (compares payload) i old look = refl
+look_leaves size blocks (pairs payload new) i old look = absurd look
+
+-- a look leaves the medium as it is
+look_unchanged : (size : ℕ) (op : Operation) (m : Medium) → IsLook op.deed → medium_after size op m ≡ m
+look_unchanged size op m look =
+    fun_ext (λ lba.
+    elim (cases_Bool (is_in_range op lba)) [
+      | inl t ↦ rw t (look_leaves size (range_of op m) op.deed (lba - op.first) (m lba) look)
+      | inr f ↦ rw f refl
+    ])
+
+-- so does a part of one
+pub part_unchanged : (ns : Namespace) (op : Operation) (unit : ℕ) (m : Medium) → IsLook op.deed
+    → medium_after ns.block_size (part_in ns op unit) m ≡ m
+part_unchanged ns op unit m look =
+    look_unchanged ns.block_size (part_in ns op unit) m
+    (part_look ns.block_size (blocks_below ns op.first op.blocks unit) (blocks_in ns op.first op.blocks unit) op.deed look)
+
+-- each part of a look succeeds on the one medium
+one_of_each : (ns : Namespace) (op : Operation) (units : List ℕ) (m : Medium) (unit : ℕ) → IsLook op.deed → EachSucceeds ns op units m
+    → 0 < count_by (λ v. v == unit) units → IsSuccess (statuses_of (part_in ns op unit) m)
+one_of_each ns op [] m unit look each some = absurd (omega (arith, some))
+one_of_each ns op (u ∷ units) m unit look each some =
+    elim (cases_eq u unit) [
+      | inl e ↦ rw e at each.0
+      | inr o ↦
+          one_of_each ns op units m unit look (rw (part_unchanged ns op u m look) at each.1)
+          (omega (arith, some, count_no (λ v. v == unit) u units (ne_eqb u unit o)))
+    ]
+
+each_of_one : (ns : Namespace) (op : Operation) (units : List ℕ) (m : Medium) → IsLook op.deed
+    → ((unit : ℕ) → IsSuccess (statuses_of (part_in ns op unit) m)) → EachSucceeds ns op units m
+each_of_one ns op [] m look one = tt
+each_of_one ns op (u ∷ units) m look one = (one u, rw (part_unchanged ns op u m look) (each_of_one ns op units m look one))
+
+-- a block is good for a part exactly where it is good for the whole
+part_good : (size skipped blocks : ℕ) (deed : Deed) (i : ℕ) (b : Block) → i < blocks
+    → IsGood size (deed_part size skipped blocks deed) i b ↔ IsGood size deed (skipped + i) b
+part_good size skipped blocks (writes payload) i b inside = ((λ h. h), (λ h. h))
+part_good size skipped blocks zeroes i b inside = ((λ h. h), (λ h. h))
+part_good size skipped blocks uncorrectable i b inside = ((λ h. h), (λ h. h))
+part_good size skipped blocks reads i b inside = ((λ h. h), (λ h. h))
+part_good size skipped blocks (compares payload) i b inside =
+    let same = data_of_part size skipped blocks i payload inside in
+    ((λ h. (h.0, h.1 ∙ same)), (λ h. (h.0, h.1 ∙ sym same)))
+part_good size skipped blocks (pairs payload new) i b inside = ((λ h. h), (λ h. h))
+
+-- the part's data has its length
+data_part_length : (size skipped blocks all : ℕ) (payload : List ℕ) → skipped + blocks ≤ all → length payload ≡ all * size
+    → length (data_part size skipped blocks payload) ≡ blocks * size
+data_part_length size skipped blocks all payload inside long =
+    length-take-le (blocks * size) (drop (skipped * size) payload)
+    (omega (arith, length-drop (skipped * size) payload, long, mul-le-mul_right {m = skipped + blocks} {n = all} size inside))
+
+part_has_data : (size skipped blocks all : ℕ) (deed : Deed) → skipped + blocks ≤ all → HasData (all * size) deed
+    → HasData (blocks * size) (deed_part size skipped blocks deed)
+part_has_data size skipped blocks all (writes payload) inside has = data_part_length size skipped blocks all payload inside has
+part_has_data size skipped blocks all zeroes inside has = tt
+part_has_data size skipped blocks all uncorrectable inside has = tt
+part_has_data size skipped blocks all reads inside has = tt
+part_has_data size skipped blocks all (compares payload) inside has = data_part_length size skipped blocks all payload inside has
+part_has_data size skipped blocks all (pairs payload new) inside has =
+    (data_part_length size skipped blocks all payload inside has.0, data_part_length size skipped blocks all new inside has.1)
+
+-- the place of the range is in it
+place_in_range : (op : Operation) (i : ℕ) → i < op.blocks → is_in_range op (op.first + i) ≡ true
+place_in_range op i inside =
+    and_from _ _ (le-leb op.first (op.first + i) (omega arith)) (lt-ltb (op.first + i) (op.first + op.blocks) (omega (arith, inside)))
+
+-- where each part of a look succeeds, each block is good for the whole
+whole_good : (ns : Namespace) (op : Operation) (units : List ℕ) (m : Medium) → IsSingle op.deed → IsLook op.deed → IsOrderOf ns op units
+    → HoldsBlocks ns.block_size m → EachSucceeds ns op units m
+    → (i : ℕ) → i < op.blocks → IsGood ns.block_size op.deed i (m (op.first + i))
+whole_good ns op units m single look order holds each i inside =
+    let unit = unit_number ns (op.first + i) in
+    let skipped = blocks_below ns op.first op.blocks unit in
+    let blocks = blocks_in ns op.first op.blocks unit in
+    let place = place_in ns op.first op.blocks unit i inside refl in
+    let j = i - skipped in
+    let same : skipped + j ≡ i = omega (arith, place.0) in
+    let at : op.first + skipped + j ≡ op.first + i = omega (arith, place.0) in
+    let below : j < blocks = omega (arith, place.0, place.1) in
+    let part = one_of_each ns op units m unit look each (unit_among ns op units (op.first + i) order (place_in_range op i inside)) in
+    let good = good_from_success ns.block_size m (op.first + skipped) blocks (deed_part ns.block_size skipped blocks op.deed)
+    (part_single ns.block_size skipped blocks op.deed single) holds part j below in
+    rw (same, at) at ((part_good ns.block_size skipped blocks op.deed j (m (op.first + skipped + j)) below).0 good)
+
+-- where each block is good for the whole, each part succeeds
+part_succeeds : (ns : Namespace) (op : Operation) (m : Medium) (unit : ℕ) → IsSingle op.deed → HasData (op.blocks * ns.block_size) op.deed
+    → ((i : ℕ) → i < op.blocks → IsGood ns.block_size op.deed i (m (op.first + i))) → IsSuccess (statuses_of (part_in ns op unit) m)
+part_succeeds ns op m unit single has good =
+    let skipped = blocks_below ns op.first op.blocks unit in
+    let blocks = blocks_in ns op.first op.blocks unit in
+    let inside = part_inside ns op.first op.blocks unit in
+    success_from_good ns.block_size m (op.first + skipped) blocks (deed_part ns.block_size skipped blocks op.deed)
+    (part_single ns.block_size skipped blocks op.deed single) (part_has_data ns.block_size skipped blocks op.blocks op.deed inside has)
+    (λ j below.
+    let at : op.first + (skipped + j) ≡ op.first + skipped + j = omega arith in
+    (part_good ns.block_size skipped blocks op.deed j (m (op.first + skipped + j)) below).1
+    (rw at at (good (skipped + j) (omega (arith, inside, below)))))
+
+pub parts_success : (ns : Namespace) (op : Operation) (units : List ℕ) (m : Medium) → IsSingle op.deed → IsOrderOf ns op units
+    → HasData (op.blocks * ns.block_size) op.deed → HoldsBlocks ns.block_size m → EachSucceeds ns op units m ↔ IsSuccess (statuses_of op m)
+parts_success ns op units m single order has holds =
+    elim (change_or_look op.deed single) [
+      | inl change ↦ ((λ _. change_succeeds (range_of op m) op.deed change), (λ _. each_change ns op units m change))
+      | inr look ↦ (
+        (λ each. success_from_good ns.block_size m op.first op.blocks op.deed single has (whole_good ns op units m single look order holds each)),
+        (λ success. each_of_one ns op units m look
+            (λ unit. part_succeeds ns op m unit single has (good_from_success ns.block_size m op.first op.blocks op.deed single holds success))),
+      )
+    ]

@@ -1,0 +1,6 @@
+pub mod Namespace
+pub mod Boundaries
+pub mod Faults
+pub mod Limits
+pub mod Parts
+pub mod Turns

@@ -1,0 +1,64 @@
+-- What a command does in each unit that it meets. A unit's number never falls as the LBA rises, so
+-- the LBAs of a range that lie in lower units are its first ones.
+use Rattle.std.specs.Prelude.{◌≡◌, ◌==◌, ℕ, ◌+◌, ◌-◌, ◌*◌, ◌<◌, ◌≤◌, nat_lt, List, [], ◌∷◌, take, drop, map, filter, count_by}
+use Rattle.std.specs.List.{range_with_len}
+use Rattle.nvm_record.specs.Step.{Deed, Operation, writes, zeroes, uncorrectable, reads, compares, pairs}
+use Rattle.nvm_geometry.specs.Namespace.{Namespace}
+use Rattle.nvm_geometry.specs.Boundaries.{unit_number, units_of}
+use Rattle.nvm_geometry.specs.declared.piece.Piece.{Piece}
+
+-- how many LBAs of the range lie in units below this one
+unfoldable pub blocks_below : Namespace → ℕ → ℕ → ℕ → ℕ
+blocks_below ns first blocks unit = count_by (λ lba. nat_lt (unit_number ns lba) unit) (range_with_len first blocks)
+
+-- how many LBAs of the range lie in the unit
+unfoldable pub blocks_in : Namespace → ℕ → ℕ → ℕ → ℕ
+blocks_in ns first blocks unit = count_by (λ lba. unit_number ns lba == unit) (range_with_len first blocks)
+
+-- the units that the range meets, ascending
+unfoldable pub units_met : Namespace → ℕ → ℕ → List ℕ
+units_met ns first blocks = filter (λ unit. nat_lt 0 (blocks_in ns first blocks unit)) (range_with_len 0 (units_of ns))
+
+-- the LBAs of the range that lie in the unit
+abbrev pub piece_in : Namespace → ℕ → ℕ → ℕ → Piece
+piece_in ns first blocks unit =
+    record { unit = unit; first = first + blocks_below ns first blocks unit; blocks = blocks_in ns first blocks unit }
+
+-- one piece for each unit that the range meets, ascending
+abbrev pub pieces_of : Namespace → ℕ → ℕ → List Piece
+pieces_of ns first blocks = map (piece_in ns first blocks) (units_met ns first blocks)
+
+-- the data of `blocks` blocks, after that of `skipped` blocks
+abbrev pub data_part : ℕ → ℕ → ℕ → List ℕ → List ℕ
+data_part size skipped blocks payload = take (blocks * size) (drop (skipped * size) payload)
+
+-- the deed with the data of just these blocks
+abbrev pub deed_part : ℕ → ℕ → ℕ → Deed → Deed
+deed_part size skipped blocks (writes payload) = writes (data_part size skipped blocks payload)
+deed_part size skipped blocks zeroes = zeroes
+deed_part size skipped blocks uncorrectable = uncorrectable
+deed_part size skipped blocks reads = reads
+deed_part size skipped blocks (compares payload) = compares (data_part size skipped blocks payload)
+deed_part size skipped blocks (pairs payload new) =
+    pairs (data_part size skipped blocks payload) (data_part size skipped blocks new)
+
+-- The part of an operation in a unit: the operation on just those LBAs of its range that lie there,
+-- with the data of just these.
+abbrev pub part_in : Namespace → Operation → ℕ → Operation
+part_in ns op unit =
+    record {
+      first = op.first + blocks_below ns op.first op.blocks unit;
+      blocks = blocks_in ns op.first op.blocks unit;
+      deed = deed_part ns.block_size (blocks_below ns op.first op.blocks unit) (blocks_in ns op.first op.blocks unit) op.deed;
+    }
+
+-- The pieces follow one another from `first` on, and together have `blocks` blocks. None is empty.
+abbrev pub AreInLine : ℕ → ℕ → List Piece → Type 0
+AreInLine first blocks [] = blocks ≡ 0
+AreInLine first blocks (p ∷ ps) =
+    (p.first ≡ first) × (0 < p.blocks) × (p.blocks ≤ blocks) × AreInLine (first + p.blocks) (blocks - p.blocks) ps
+
+-- All LBAs of the piece lie in its unit.
+pub record IsInUnit (ns : Namespace) (p : Piece) : Type 0 where
+  pub known : p.unit < units_of ns
+  pub lies : (lba : ℕ) → p.first ≤ lba → lba < p.first + p.blocks → unit_number ns lba ≡ p.unit

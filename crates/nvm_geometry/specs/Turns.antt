@@ -1,0 +1,72 @@
+-- An operation done part by part: one unit after the other, in any order of the units that it meets.
+use Rattle.std.specs.Prelude.{◌≡◌, ◌==◌, ℕ, ◌+◌, ◌≤◌, List, [], ◌∷◌, ◌++◌, length, IsPermutation, Option, Some, None, if◌then◌else◌}
+use Rattle.nvm_record.specs.declared.block.Block.{Block}
+use Rattle.nvm_record.specs.declared.block.Block.TheVariants.{Bytes, Uncorrectable}
+use Rattle.nvm_record.specs.Status.{IsSuccess}
+use Rattle.nvm_record.specs.Medium.{Medium}
+use Rattle.nvm_record.specs.Step.{Deed, Operation, writes, zeroes, uncorrectable, reads, compares, pairs, medium_after, statuses_of, data_of}
+use Rattle.nvm_geometry.specs.Namespace.{Namespace}
+use Rattle.nvm_geometry.specs.Parts.{units_met, part_in}
+
+-- the deed of one command; a pair is none
+abbrev pub IsSingle : Deed → Type 0
+IsSingle (writes payload) = Unit {0}
+IsSingle zeroes = Unit {0}
+IsSingle uncorrectable = Unit {0}
+IsSingle reads = Unit {0}
+IsSingle (compares payload) = Unit {0}
+IsSingle (pairs payload new) = ⊥
+
+-- the deed's data, where it has any, is of so many bytes
+abbrev pub HasData : ℕ → Deed → Type 0
+HasData bytes (writes payload) = length payload ≡ bytes
+HasData bytes zeroes = Unit {0}
+HasData bytes uncorrectable = Unit {0}
+HasData bytes reads = Unit {0}
+HasData bytes (compares payload) = length payload ≡ bytes
+HasData bytes (pairs payload new) = (length payload ≡ bytes) × (length new ≡ bytes)
+
+-- the block is marked, or has just so many bytes
+abbrev pub HasSize : ℕ → Block → Type 0
+HasSize size (Bytes bytes) = length bytes ≡ size
+HasSize size Uncorrectable = Unit {0}
+
+-- each block of the medium does
+abbrev pub HoldsBlocks : ℕ → Medium → Type 0
+HoldsBlocks size m = (lba : ℕ) → HasSize size (m lba)
+
+-- The units are those that the operation meets, each once, in any order.
+pub record IsOrderOf (ns : Namespace) (op : Operation) (units : List ℕ) : Type 0 where
+  pub inside : op.first + op.blocks ≤ ns.nsze
+  pub each : IsPermutation (units_met ns op.first op.blocks) units
+
+-- the medium after the parts in these units, in turn
+abbrev pub medium_after_parts : Namespace → Operation → List ℕ → Medium → Medium
+medium_after_parts ns op [] m = m
+medium_after_parts ns op (unit ∷ units) m =
+    medium_after_parts ns op units (medium_after ns.block_size (part_in ns op unit) m)
+
+-- each of the parts in these units succeeds in its turn
+abbrev pub EachSucceeds : Namespace → Operation → List ℕ → Medium → Type 0
+EachSucceeds ns op [] m = Unit {0}
+EachSucceeds ns op (unit ∷ units) m =
+    IsSuccess (statuses_of (part_in ns op unit) m)
+    × EachSucceeds ns op units (medium_after ns.block_size (part_in ns op unit) m)
+
+-- what the part in `asked` answers in its turn
+abbrev pub answer_of_part : Namespace → Operation → List ℕ → Medium → ℕ → Option (List ℕ)
+answer_of_part ns op [] m asked = None
+answer_of_part ns op (unit ∷ units) m asked =
+    if unit == asked then data_of (part_in ns op unit) m
+    else answer_of_part ns op units (medium_after ns.block_size (part_in ns op unit) m) asked
+
+-- both data, one after the other, where both are there
+abbrev pub both_data : Option (List ℕ) → Option (List ℕ) → Option (List ℕ)
+both_data (Some a) (Some b) = Some (a ++ b)
+both_data (Some a) None = None
+both_data None b = None
+
+-- the data of these units, joined
+abbrev pub joined_data : (ℕ → Option (List ℕ)) → List ℕ → Option (List ℕ)
+joined_data answer [] = Some []
+joined_data answer (unit ∷ units) = both_data (answer unit) (joined_data answer units)

@@ -1,0 +1,244 @@
+ghost use Rattle.std.specs.Prelude.{◌≡◌, ◌⊎◌, ◌↔◌, ℕ, ◌+◌, ◌-◌, ◌<◌, ◌≤◌, IsTrue, IfOk, IfErr};
+ghost use Rattle.std.specs.Bool.{OnFalse};
+ghost use Rattle.nvm_record.specs.BlockSize.{IsBlockSize};
+ghost use Rattle.nvm_geometry.specs.Namespace.{namespace_of};
+ghost use Rattle.nvm_geometry.specs.Boundaries.{unit_number, units_of, Crosses};
+ghost use Rattle.nvm_geometry.specs.Limits.{LiesInUnit, IsWithinWriteLimit, IsWithinPairLimit};
+ghost use Rattle.nvm_geometry.specs.Faults.{HasNoFault, IsFirstFault, IsValid, most_units};
+ghost use Rattle.nvm_geometry.specs.declared.geometry_fault.GeometryFault.{GeometryFault as Fault};
+
+use crate::boundaries::{unit_at, unit_start};
+use crate::geometry_fault::GeometryFault;
+use crate::parts::Parts;
+use nvm_record::BlockSize;
+use std::marker::Model;
+
+/// A namespace has at most so many LBAs.
+pub const MOST_BLOCKS: u64 = 65_536;
+
+/// A namespace has at most so many units.
+pub const MOST_UNITS: u64 = 4096;
+
+/// What a namespace advertises of its size and of its atomic units (NVM Command Set Specification,
+/// "Identify Namespace Data Structure" and "Atomic Operation").
+///
+/// LBAs are numbered from 0 up to NSZE, units from 0 up to [`units`](Geometry::units). No call takes
+/// memory.
+#[derive(Clone, Copy, Debug, PartialEq, Eq)]
+pub struct Geometry {
+    nsze: u64,
+    block_size: BlockSize,
+    nabsn: u16,
+    nabo: u16,
+    nawun: u16,
+    nacwu: u16,
+}
+
+impl Model for Geometry {
+    ghost use Rattle.nvm_geometry.specs.Namespace.{Namespace, namespace_of};
+    ghost use Rattle.nvm_geometry.specs.Faults.{IsValid};
+
+    ghost Value = { Namespace };
+
+    ghost view = { λ g. namespace_of g.nsze g.block_size g.nabsn g.nabo g.nawun g.nacwu };
+
+    ghost invariant = { λ g. IsValid (namespace_of g.nsze g.block_size g.nabsn g.nabo g.nawun g.nacwu) };
+
+    ghost inverse = { λ ns. record {
+      nsze = ns.nsze;
+      block_size = ns.block_size;
+      nabsn = ns.nabsn;
+      nabo = ns.nabo;
+      nawun = ns.nawun;
+      nacwu = ns.nacwu;
+    } };
+}
+
+impl Geometry {
+    ghost use Rattle.nvm_geometry.specs.Parts.{pieces_of};
+
+    /// The geometry of these numbers, or the first fault that applies to them, in the order of
+    /// [`GeometryFault`].
+    ///
+    /// `nsze` counts LBAs, `block_size` a block's bytes, and `nabo` LBAs; `nabsn`, `nawun` and `nacwu`
+    /// count blocks and are zeroes-based. Where `nabsn` is 0 there is no boundary.
+    pub fn new(
+        nsze: u64,
+        block_size: u32,
+        nabsn: u16,
+        nabo: u16,
+        nawun: u16,
+        nacwu: u16,
+    ) -> Result<Geometry, GeometryFault>
+        ensures taken { IfOk result (λ g. g ≡ namespace_of nsze block_size nabsn nabo nawun nacwu) }
+        ensures sound { IfOk result (λ g. HasNoFault g) }
+        ensures refused { IfErr result (IsFirstFault (namespace_of nsze block_size nabsn nabo nawun nacwu)) }
+
+        // Where no fault applies the numbers are taken, and else the first that does is answered.
+        ensures each_sound { HasNoFault (namespace_of nsze block_size nabsn nabo nawun nacwu)
+            → result ≡ Ok (namespace_of nsze block_size nabsn nabo nawun nacwu) }
+        ensures each_fault { (f : Fault) → IsFirstFault (namespace_of nsze block_size nabsn nabo nawun nacwu) f
+            → result ≡ Err f }
+    {
+        if nsze == 0 || nsze > MOST_BLOCKS {
+            return Err(GeometryFault::Size);
+        }
+        let Some(block_size) = BlockSize::new(block_size) else {
+            return Err(GeometryFault::BlockSize);
+        };
+        if nabsn == 0 && nabo != 0 {
+            return Err(GeometryFault::OffsetWithoutBoundary);
+        }
+        if nabsn != 0 && nabo > nabsn {
+            return Err(GeometryFault::OffsetAboveBoundary);
+        }
+        if nabsn != 0 && nawun > nabsn {
+            return Err(GeometryFault::WriteUnitAboveBoundary);
+        }
+        if nabsn != 0 && nacwu > nabsn {
+            return Err(GeometryFault::PairUnitAboveBoundary);
+        }
+        if unit_at(nabsn, nabo, nsze - 1) + 1 > MOST_UNITS {
+            return Err(GeometryFault::TooManyUnits);
+        }
+        Ok(Geometry {
+            nsze,
+            block_size,
+            nabsn,
+            nabo,
+            nawun,
+            nacwu,
+        })
+    }
+
+    /// NSZE, the number of LBAs: 1 to 65,536.
+    pub fn nsze(self) -> u64
+        ensures value { result ≡ self.nsze }
+        ensures valid { IsValid self }
+    {
+        self.nsze
+    }
+
+    /// How many bytes of data a block has.
+    pub fn block_size(self) -> BlockSize
+        ensures value { result ≡ self.block_size }
+        ensures valid { IsBlockSize result }
+    {
+        self.block_size
+    }
+
+    /// NABSN, the number of blocks from one boundary to the next, zeroes-based. 0 is no boundary.
+    pub fn nabsn(self) -> u16
+        ensures { result ≡ self.nabsn }
+    {
+        self.nabsn
+    }
+
+    /// NABO, the LBA from which boundaries are counted: at most NABSN.
+    pub fn nabo(self) -> u16
+        ensures { result ≡ self.nabo }
+    {
+        self.nabo
+    }
+
+    /// NAWUN, the most blocks that a write within the limits has, zeroes-based.
+    pub fn nawun(self) -> u16
+        ensures { result ≡ self.nawun }
+    {
+        self.nawun
+    }
+
+    /// NACWU, the most blocks that a fused Compare and Write within the limits has, zeroes-based.
+    pub fn nacwu(self) -> u16
+        ensures { result ≡ self.nacwu }
+    {
+        self.nacwu
+    }
+
+    /// How many units there are: 1 to 4,096.
+    pub fn units(self) -> u16
+        ensures value { result ≡ units_of self }
+        ensures valid { result ≤ most_units }
+    {
+        (unit_at(self.nabsn, self.nabo, self.nsze - 1) + 1) as u16
+    }
+
+    /// The number of the unit in which an LBA below NSZE lies. It takes a constant number of steps.
+    pub fn unit_of(self, lba: u64) -> u16
+        requires { lba < self.nsze }
+        ensures value { result ≡ unit_number self lba }
+        ensures valid { result < units_of self }
+    {
+        unit_at(self.nabsn, self.nabo, lba) as u16
+    }
+
+    /// The first LBA of a unit, and how many blocks it has. The last unit may be cut short by NSZE, and
+    /// the first by NABO. It takes a constant number of steps.
+    pub fn unit_range(self, unit: u16) -> (u64, u32)
+        requires { unit < units_of self }
+        ensures some { 0 < result.1 }
+        ensures inside { result.0 + result.1 ≤ self.nsze }
+
+        // The LBAs of the unit are just these.
+        ensures lies { (lba : ℕ) → result.0 ≤ lba → lba < result.0 + result.1 → unit_number self lba ≡ unit }
+        ensures whole { (lba : ℕ) → lba < self.nsze → unit_number self lba ≡ unit
+            → (result.0 ≤ lba) × (lba < result.0 + result.1) }
+    {
+        if self.nabsn == 0 {
+            return (0, self.nsze as u32);
+        }
+        let first = unit_start(self.nabsn, self.nabo, u64::from(unit));
+        let next = unit_start(self.nabsn, self.nabo, u64::from(unit) + 1);
+        (first, (next.min(self.nsze) - first) as u32)
+    }
+
+    /// Whether a boundary lies inside the range: above its first LBA and at most its last. It takes a
+    /// constant number of steps.
+    pub fn crosses(self, slba: u64, blocks: u32) -> bool
+        requires some { 0 < blocks }
+        requires in_range { slba + blocks ≤ self.nsze }
+        ensures crossed { IsTrue result ↔ Crosses self slba blocks }
+        ensures one_unit { OnFalse result (LiesInUnit self slba blocks) }
+    {
+        self.unit_of(slba) != self.unit_of(slba + u64::from(blocks) - 1)
+    }
+
+    /// Whether a write of the range is within the advertised limits: inside one unit, and of at most
+    /// NAWUN + 1 blocks.
+    pub fn within_write_limit(self, slba: u64, blocks: u32) -> bool
+        requires some { 0 < blocks }
+        requires in_range { slba + blocks ≤ self.nsze }
+        ensures within { IsTrue result ↔ IsWithinWriteLimit self slba blocks }
+        ensures beyond { OnFalse result ((self.nawun + 1 < blocks) ⊎ Crosses self slba blocks) }
+    {
+        blocks <= u32::from(self.nawun) + 1 && !self.crosses(slba, blocks)
+    }
+
+    /// Whether a fused Compare and Write of the range is within the advertised limits: inside one unit,
+    /// and of at most NACWU + 1 blocks.
+    pub fn within_pair_limit(self, slba: u64, blocks: u32) -> bool
+        requires some { 0 < blocks }
+        requires in_range { slba + blocks ≤ self.nsze }
+        ensures within { IsTrue result ↔ IsWithinPairLimit self slba blocks }
+        ensures beyond { OnFalse result ((self.nacwu + 1 < blocks) ⊎ Crosses self slba blocks) }
+    {
+        blocks <= u32::from(self.nacwu) + 1 && !self.crosses(slba, blocks)
+    }
+
+    /// The range cut at the boundaries: a piece for each unit that it meets, ascending.
+    pub fn parts(self, slba: u64, blocks: u32) -> Parts
+        requires some { 0 < blocks }
+        requires in_range { slba + blocks ≤ self.nsze }
+        ensures { result ≡ pieces_of self slba blocks }
+    {
+        Parts::new(self, slba, blocks)
+    }
+
+    /// Whether the range lies below NSZE, for any first LBA and any number of blocks, 0 too.
+    pub fn in_range(self, slba: u64, blocks: u32) -> bool
+        ensures { IsTrue result ↔ (slba + blocks ≤ self.nsze) }
+    {
+        let blocks = u64::from(blocks);
+        blocks <= self.nsze && slba <= self.nsze - blocks
+    }
+}

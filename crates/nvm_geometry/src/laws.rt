@@ -1,0 +1,86 @@
+//! What holds of boundaries, units and parts by their definitions alone. Each law is a call that does
+//! nothing and whose contract is the law.
+
+ghost use Rattle.std.specs.Prelude.{◌≡◌, ◌==◌, ◌↔◌, ℕ, ◌+◌, ◌*◌, ◌-◌, ◌<◌, ◌≤◌, ◌&&◌, List, [], ◌∷◌, All, map};
+ghost use Rattle.nvm_record.specs.Status.{IsSuccess};
+ghost use Rattle.nvm_record.specs.Medium.{Medium};
+ghost use Rattle.nvm_record.specs.Step.{Operation, reads, block_at, is_in_range, medium_after, statuses_of, data_of};
+ghost use Rattle.nvm_geometry.specs.Namespace.{Namespace};
+ghost use Rattle.nvm_geometry.specs.Boundaries.{IsBoundary, SharesUnit, unit_number, units_of};
+ghost use Rattle.nvm_geometry.specs.Faults.{HasNoFault, IsValid};
+ghost use Rattle.nvm_geometry.specs.Limits.{LiesInUnit};
+ghost use Rattle.nvm_geometry.specs.Parts.{units_met, data_part, part_in, piece_in, pieces_of, AreInLine, IsInUnit};
+ghost use Rattle.nvm_geometry.specs.Turns.{IsSingle, HasData, HoldsBlocks, IsOrderOf, medium_after_parts, EachSucceeds, answer_of_part, joined_data};
+
+/// Units number the LBAs of a namespace from 0 upwards: LBA 0 lies in unit 0, the number rises by 1 at
+/// each boundary and nowhere else, and each number below that of the units is some LBA's.
+pub fn units_number_the_namespace()
+    ensures first { (ns : Namespace) → unit_number ns 0 ≡ 0 }
+    ensures at_boundary { (ns : Namespace) (lba : ℕ) → IsBoundary ns (lba + 1)
+        → unit_number ns (lba + 1) ≡ unit_number ns lba + 1 }
+    ensures elsewhere { (ns : Namespace) (lba : ℕ) → ¬ (IsBoundary ns (lba + 1))
+        → unit_number ns (lba + 1) ≡ unit_number ns lba }
+    ensures ascending { (ns : Namespace) (a b : ℕ) → a ≤ b → unit_number ns a ≤ unit_number ns b }
+    ensures below { (ns : Namespace) (lba : ℕ) → lba < ns.nsze → unit_number ns lba < units_of ns }
+    ensures no_gap { (ns : Namespace) (unit : ℕ) → 0 < ns.nsze → unit < units_of ns
+        → (lba : ℕ) × (lba < ns.nsze) × (unit_number ns lba ≡ unit) }
+{}
+
+/// The numbers of every geometry are those to which no fault applies.
+pub fn no_fault_is_valid()
+    ensures valid { (ns : Namespace) → HasNoFault ns → IsValid ns }
+    ensures no_fault { (ns : Namespace) → IsValid ns → HasNoFault ns }
+{}
+
+/// Two LBAs share a unit exactly where their units have one number.
+pub fn sharing_is_one_number()
+    ensures number { (ns : Namespace) (a b : ℕ) → SharesUnit ns a b → unit_number ns a ≡ unit_number ns b }
+    ensures shares { (ns : Namespace) (a b : ℕ) → unit_number ns a ≡ unit_number ns b → SharesUnit ns a b }
+{}
+
+/// The pieces of a range stand in line: the first begins where the range does, each other one where the
+/// one before it ends, and the last ends where the range does. None is empty, and there is one for each
+/// unit that the range meets, inside that unit.
+pub fn pieces_stand_in_line()
+    ensures in_line { (ns : Namespace) (first blocks : ℕ) → first + blocks ≤ ns.nsze
+        → AreInLine first blocks (pieces_of ns first blocks) }
+    ensures in_unit { (ns : Namespace) (first blocks : ℕ) → first + blocks ≤ ns.nsze
+        → All (IsInUnit ns) (pieces_of ns first blocks) }
+    ensures units { (ns : Namespace) (first blocks : ℕ)
+        → map (λ p. p.unit) (pieces_of ns first blocks) ≡ units_met ns first blocks }
+    ensures each { (ns : Namespace) (first blocks : ℕ)
+        → All (λ p. p ≡ piece_in ns first blocks p.unit) (pieces_of ns first blocks) }
+{}
+
+/// The part of an operation in a unit has just those LBAs of its range that lie in the unit, and the
+/// block of data at each of them is the operation's.
+pub fn part_has_its_blocks()
+    ensures lbas { (ns : Namespace) (op : Operation) (unit lba : ℕ)
+        → is_in_range (part_in ns op unit) lba ≡ (is_in_range op lba && unit_number ns lba == unit) }
+    ensures payload { (size skipped blocks i : ℕ) (payload : List ℕ) → i < blocks
+        → block_at size (data_part size skipped blocks payload) i ≡ block_at size payload (skipped + i) }
+{}
+
+/// An operation whose range lies in one unit has one part, which is the operation itself.
+pub fn one_unit_is_one_part()
+    ensures unit { (ns : Namespace) (first blocks : ℕ) → 0 < blocks → first + blocks ≤ ns.nsze
+        → LiesInUnit ns first blocks → units_met ns first blocks ≡ unit_number ns first ∷ [] }
+    ensures part { (ns : Namespace) (op : Operation) → 0 < op.blocks → op.first + op.blocks ≤ ns.nsze
+        → LiesInUnit ns op.first op.blocks → HasData (op.blocks * ns.block_size) op.deed
+        → part_in ns op (unit_number ns op.first) ≡ op }
+{}
+
+/// The parts of a command, done one after the other in any order of the units that it meets, are the
+/// command: they leave the same medium, all succeed exactly where it does, and the data that they
+/// answer, joined by ascending LBAs, is what it answers.
+pub fn parts_are_the_whole()
+    ensures medium { (ns : Namespace) (op : Operation) (units : List ℕ) (m : Medium) → IsSingle op.deed
+        → IsOrderOf ns op units
+        → (lba : ℕ) → medium_after_parts ns op units m lba ≡ medium_after ns.block_size op m lba }
+    ensures success { (ns : Namespace) (op : Operation) (units : List ℕ) (m : Medium) → IsSingle op.deed
+        → IsOrderOf ns op units → HasData (op.blocks * ns.block_size) op.deed → HoldsBlocks ns.block_size m
+        → EachSucceeds ns op units m ↔ IsSuccess (statuses_of op m) }
+    ensures data { (ns : Namespace) (op : Operation) (units : List ℕ) (m : Medium) → op.deed ≡ reads
+        → IsOrderOf ns op units
+        → joined_data (answer_of_part ns op units m) (units_met ns op.first op.blocks) ≡ data_of op m }
+{}

@@ -1,0 +1,19 @@
+//! The geometry that a namespace advertises: its boundaries and atomic units, its limits, and how a
+//! range of LBAs is cut at the boundaries.
+#![tactic(auto)]
+
+mod boundaries;
+#[cfg(test)]
+mod counter_tests;
+mod geometry;
+mod geometry_fault;
+pub mod laws;
+mod parts;
+mod piece;
+#[cfg(test)]
+mod tests;
+
+pub use geometry::{Geometry, MOST_BLOCKS, MOST_UNITS};
+pub use geometry_fault::GeometryFault;
+pub use parts::Parts;
+pub use piece::Piece;
