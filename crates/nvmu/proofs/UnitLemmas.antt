@@ -16,10 +16,13 @@ use Rattle.nvm_store.specs.Answer.{IsAnswer}
 use Rattle.nvm_store.specs.declared.answers.Answer.{Answer}
 use Rattle.nvm_store.specs.declared.answers.Answer.TheVariants as answers
 use Rattle.nvmu.specs.Checks.{is_in_profile, refusal_of}
-use Rattle.nvmu.specs.Run.{operation_of, status_of, changes_of, completion, Counts, parts_of, answered, Does}
+use Rattle.nvmu.specs.Run.{operation_of, status_of, changes_of, completion, Counts, IsState, recounted, parts_of, answered, Does}
 use Rattle.nvmu.specs.Whole.{IsWholeNamespace}
-use Rattle.nvmu.specs.OneUnit.{namespace_of, AnswersTo, IsKept, IsStepped}
+use Rattle.nvmu.specs.OneUnit.{namespace_of, IsAt, AnswersTo, IsKept, IsStepped, Writes}
+use Rattle.nvmu.specs.Written.{status_of_written}
 use Rattle.nvmu.specs.declared.one_unit.OneUnit.{OneUnit}
+use Rattle.nvmu.specs.declared.one_unit.Written.{Written}
+use Rattle.nvmu.specs.declared.one_unit.Written.TheVariants.{Done, NoMemory, Full}
 
 -- what a Read stands for
 pub read_is : (c : Command) → c.op ≡ Read → record { first = c.slba; blocks = c.nlb + 1; deed = reads } ≡ operation_of c
@@ -36,11 +39,12 @@ served_read (Other opcode) h n = absurd (cc)
 
 -- a command that is served
 answers_served : (old new : OneUnit) (c : Command) (done : Completion) → refusal_of old.nsze c ≡ None
-    → ((m : Medium) (counts : Counts) → Holds old.blocks m → counts 0 ≡ vec_len old.history → Does (namespace_of old) m counts (parts_of (namespace_of old) c) [] c done (λ after counted. Holds new.blocks after × (counted 0 ≡ vec_len new.history)))
+    → ((m : Medium) (counts : Counts) → IsAt old m counts → (after : Medium) × (counted : Counts) × Does (namespace_of old) m counts (parts_of (namespace_of old) c) [] c done after counted × IsAt new after counted)
     → AnswersTo old new c done
-answers_served old new c done served does m counts holds counted =
-    let P : Option Status → Type 0 = λ (o : Option Status). MatchOption o (Does (namespace_of old) m counts (parts_of (namespace_of old) c) [] c done (λ after recount. Holds new.blocks after × (recount 0 ≡ vec_len new.history))) (λ s. (done ≡ completion c s None) × (Holds new.blocks m × (counts 0 ≡ vec_len new.history))) in
-    subst P (sym served) (does m counts holds counted)
+answers_served old new c done served does m counts at =
+    let step = does m counts at in
+    let P : Option Status → Type 0 = λ (o : Option Status). MatchOption o (Does (namespace_of old) m counts (parts_of (namespace_of old) c) [] c done step.0 step.1) (λ s. (done ≡ completion c s None) × IsState m counts step.0 step.1) in
+    (step.0, step.1, subst P (sym served) step.2, step.3)
 
 -- a Read leaves each block as it is
 reads_keep : (size first blocks : ℕ) (m : Medium) (lba : ℕ) → medium_after size (record { first = first; blocks = blocks; deed = reads }) m lba ≡ m lba
@@ -62,13 +66,18 @@ read_changes c m op = ap (λ (o : Operation). changes_of o m) (sym (read_is c op
 pub answers_data : (u : OneUnit) (c : Command) (bytes : List ℕ) (done : Completion) → refusal_of u.nsze c ≡ None → c.op ≡ Read
     → ((m : Medium) → Holds u.blocks m → (statuses_of (operation_of c) m ≡ One successful_completion) × (data_of (operation_of c) m ≡ Some bytes)) → done ≡ completion c successful_completion (Some bytes) → AnswersTo u u c done
 answers_data u c bytes done served op h is =
-    answers_served u u c done served (λ m counts holds counted.
-    let step = h m holds in
+    answers_served u u c done served (λ m counts at.
+    let step = h m at.0 in
+    let counted : counts 0 ≡ vec_len u.history = at.1 in
     let none : changes_of (operation_of c) m ≡ 0 = read_changes c m op in
     let few : vec_len u.history ≤ u.limit = u.few in
     let read : Some bytes ≡ answered c.op (unwrap_or (data_of (operation_of c) m) []) =
-    sym (ap (λ (o : Op). answered o (unwrap_or (data_of (operation_of c) m) [])) op ∙ ap (λ (d : Option (List ℕ)). Some (unwrap_or d [])) step.1) in
-    inr (inr (inr (ap status_of step.0, (omega arith), (is ∙ ap (λ (d : Option (List ℕ)). completion c successful_completion d) read, (read_holds u.blocks u.blocks.size c m op holds, omega arith))))))
+    sym (ap (λ (o : Op). answered o (unwrap_or (data_of (operation_of c) m) [])) op ∙ ap (λ (d : Option (List ℕ)). Some (unwrap_or d [])) step.1) in (
+      medium_after u.blocks.size (operation_of c) m,
+      recounted counts 0 (counts 0 + changes_of (operation_of c) m),
+      inr (inr (inr (ap status_of step.0, (omega arith), ((is ∙ ap (λ (d : Option (List ℕ)). completion c successful_completion d) read), (refl, refl))))),
+      (read_holds u.blocks u.blocks.size c m op at.0, omega arith),
+    ))
 
 -- a Read without data has failed
 read_failed : (b : Bool) (bytes : List ℕ) (status : Status) → One (if b then unrecovered_read_error else successful_completion) ≡ One status → (if b then None else Some bytes) ≡ None → status ≢ successful_completion
@@ -88,7 +97,64 @@ read_status c m status op e n =
 pub answers_mark : (u : OneUnit) (c : Command) (status : Status) (done : Completion) → refusal_of u.nsze c ≡ None → c.op ≡ Read
     → ((m : Medium) → Holds u.blocks m → (statuses_of (operation_of c) m ≡ One status) × (data_of (operation_of c) m ≡ None)) → done ≡ completion c status None → AnswersTo u u c done
 answers_mark u c status done served op h is =
-    answers_served u u c done served (λ m counts holds counted.
-    let step = h m holds in
+    answers_served u u c done served (λ m counts at.
+    let step = h m at.0 in
+    let counted : counts 0 ≡ vec_len u.history = at.1 in
     let told : status_of (statuses_of (operation_of c) m) ≡ status = ap status_of step.0 in
-    inr (inr (inl ((λ e. read_status c m status op step.0 step.1 (sym told ∙ e)), (is ∙ ap (λ (s : Status). completion c s None) (sym told)), (holds, counted)))))
+    (m, counts, inr (inr (inl ((λ e. read_status c m status op step.0 step.1 (sym told ∙ e)), (is ∙ ap (λ (s : Status). completion c s None) (sym told)), (refl, refl)))), at))
+
+-- A refused command changes nothing.
+pub answers_refused : (u : OneUnit) (c : Command) (status : Status) (done : Completion) → refusal_of u.nsze c ≡ Some status → done ≡ completion c status None → AnswersTo u u c done
+answers_refused u c status done refused is m counts at =
+    let P : Option Status → Type 0 = λ (o : Option Status). MatchOption o (Does (namespace_of u) m counts (parts_of (namespace_of u) c) [] c done m counts) (λ s. (done ≡ completion c s None) × IsState m counts m counts) in
+    (m, counts, subst P (sym refused) (is, (refl, refl)), at)
+
+-- A Read that found no memory changes nothing.
+pub answers_no_memory : (u : OneUnit) (c : Command) (done : Completion) → refusal_of u.nsze c ≡ None → c.op ≡ Read → done ≡ completion c internal_error None → AnswersTo u u c done
+answers_no_memory u c done served op is =
+    answers_served u u c done served (λ m counts at.
+    let counted : counts 0 ≡ vec_len u.history = at.1 in
+    let none : changes_of (operation_of c) m ≡ 0 = read_changes c m op in
+    let few : vec_len u.history ≤ u.limit = u.few in
+    (m, counts, inl (is, (omega arith), (refl, refl)), at))
+
+-- a Write succeeds, is one change, and answers no data
+write_told : (c : Command) (m : Medium) → c.op ≡ Write → status_of (statuses_of (operation_of c) m) ≡ successful_completion
+write_told c m op = rw op refl
+
+write_changes : (c : Command) (m : Medium) → c.op ≡ Write → changes_of (operation_of c) m ≡ 1
+write_changes c m op = rw op refl
+
+write_answers : (c : Command) (bytes : List ℕ) → c.op ≡ Write → None ≡ answered c.op bytes
+write_answers c bytes op = rw op refl
+
+-- what a unit is that was kept
+kept_at : (old new : OneUnit) (m : Medium) (counts : Counts) → IsKept old new → IsAt old m counts → IsAt new m counts
+kept_at old new m counts kept at = (subst (λ (u : Contents). Holds u m) (sym kept.0) at.0, at.1 ∙ sym kept.2)
+
+-- A Write's completion is that of its step below the limit; where no memory is found, or at the limit, it
+-- is 0/06 and nothing changes.
+pub answers_write : (old new : OneUnit) (c : Command) (written : Written) (done : Completion) → refusal_of old.nsze c ≡ None → c.op ≡ Write → Writes old new c written → done ≡ completion c (status_of_written written) None → AnswersTo old new c done
+answers_write old new c Done done served op h is =
+    answers_served old new c done served (λ m counts at.
+    let counted : counts 0 ≡ vec_len old.history = at.1 in
+    let one : changes_of (operation_of c) m ≡ 1 = write_changes c m op in
+    let below : vec_len old.history < old.limit = h.0 in
+    let more : vec_len new.history ≡ vec_len old.history + 1 = h.1.changes in (
+      medium_after old.blocks.size (operation_of c) m,
+      recounted counts 0 (counts 0 + changes_of (operation_of c) m),
+      inr (inr (inr (write_told c m op, (omega arith), ((is ∙ ap (λ (d : Option (List ℕ)). completion c successful_completion d) (write_answers c (unwrap_or (data_of (operation_of c) m) []) op)), (refl, refl))))),
+      (h.1.blocks m at.0, omega arith),
+    ))
+answers_write old new c NoMemory done served op h is =
+    answers_served old new c done served (λ m counts at.
+    let counted : counts 0 ≡ vec_len old.history = at.1 in
+    let one : changes_of (operation_of c) m ≡ 1 = write_changes c m op in
+    let below : vec_len old.history < old.limit = h.0 in
+    (m, counts, inl (is, (omega arith), (refl, refl)), kept_at old new m counts h.1 at))
+answers_write old new c Full done served op h is =
+    answers_served old new c done served (λ m counts at.
+    let counted : counts 0 ≡ vec_len old.history = at.1 in
+    let one : changes_of (operation_of c) m ≡ 1 = write_changes c m op in
+    let full : vec_len old.history ≡ old.limit = h.0 in
+    (m, counts, inr (inl (is, (omega arith), (refl, refl))), kept_at old new m counts h.1 at))

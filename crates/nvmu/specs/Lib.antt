@@ -4,4 +4,5 @@ pub mod Fault
 pub mod Words
 pub mod Shown
 pub mod Whole
+pub mod Written
 pub mod OneUnit

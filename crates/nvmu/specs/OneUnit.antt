@@ -16,11 +16,15 @@ use Rattle.nvmu.specs.declared.one_unit.Written.TheVariants.{Done, NoMemory, Ful
 abbrev pub namespace_of : OneUnit → Namespace
 namespace_of u = record { nsze = u.nsze; size = u.blocks.size; limit = u.limit }
 
+-- The unit holds the medium, and its history has as many entries as unit 0 had changes.
+abbrev pub IsAt : OneUnit → Medium → Counts → Type 0
+IsAt u m counts = Holds u.blocks m × (counts 0 ≡ vec_len u.history)
+
 -- From the unit as it was to the unit as it is, the command got this completion.
 abbrev pub AnswersTo : OneUnit → OneUnit → Command → Completion → Type 0
 AnswersTo old new c done =
-    (m : Medium) (counts : Counts) → Holds old.blocks m → counts 0 ≡ vec_len old.history
-    → Answers (namespace_of old) m counts c done (λ after counted. Holds new.blocks after × (counted 0 ≡ vec_len new.history))
+    (m : Medium) (counts : Counts) → IsAt old m counts
+    → (after : Medium) × (counted : Counts) × Answers (namespace_of old) m counts c done after counted × IsAt new after counted
 
 -- The blocks and the history are as before.
 abbrev pub IsKept : OneUnit → OneUnit → Type 0

@@ -80,33 +80,38 @@ Counts = ℕ → ℕ
 abbrev pub no_changes : Counts
 no_changes unit = 0
 
--- the same, but for one unit
+-- the medium and the units' changes are these
+abbrev pub IsState : Medium → Counts → Medium → Counts → Type 0
+IsState m counts after counted = (after ≡ m) × (counted ≡ counts)
+
+-- the same counts, but for one unit
 abbrev pub recounted : Counts → ℕ → ℕ → Counts
 recounted counts unit count u = if u == unit then count else counts u
 
--- The parts of a command that are left, from a medium, the units' changes, and the bytes read so far.
--- They stop at the first that isn't successful, whose status is the command's; what was done before
--- it stays done. Memory may be refused to a part where its unit has room for its change; where there is
--- no room it is always 0/06; in both cases the part changes nothing.
-abbrev pub Does : Namespace → Medium → Counts → List Part → List ℕ → Command → Completion → (Medium → Counts → Type 0) → Type 0
-Does n m counts [] bytes c done next =
-    (done ≡ completion c successful_completion (answered c.op bytes)) × next m counts
-Does n m counts (part ∷ parts) bytes c done next =
-    let after : ℕ = counts part.unit + changes_of part.operation m in
+-- The parts of a command that are left: from a medium, the units' changes and the bytes read so far, to
+-- a completion, a medium and the units' changes after it. They stop at the first that isn't successful,
+-- whose status is the command's; what was done before it stays done. Memory may be refused to a part
+-- where its unit has room for its change; where there is no room it is always 0/06; in both cases the
+-- part changes nothing.
+abbrev pub Does : Namespace → Medium → Counts → List Part → List ℕ → Command → Completion → Medium → Counts → Type 0
+Does n m counts [] bytes c done after counted =
+    (done ≡ completion c successful_completion (answered c.op bytes)) × IsState m counts after counted
+Does n m counts (part ∷ parts) bytes c done after counted =
+    let count : ℕ = counts part.unit + changes_of part.operation m in
     let status : Status = status_of (statuses_of part.operation m) in
-    ((done ≡ completion c internal_error None) × (after ≤ n.limit) × next m counts)
-    ⊎ (((done ≡ completion c internal_error None) × (n.limit < after) × next m counts)
-    ⊎ (((status ≢ successful_completion) × (done ≡ completion c status None) × next m counts)
-    ⊎ ((status ≡ successful_completion) × (after ≤ n.limit)
-    × Does n (medium_after n.size part.operation m) (recounted counts part.unit after) parts
-    (bytes ++ unwrap_or (data_of part.operation m) []) c done next)))
+    ((done ≡ completion c internal_error None) × (count ≤ n.limit) × IsState m counts after counted)
+    ⊎ (((done ≡ completion c internal_error None) × (n.limit < count) × IsState m counts after counted)
+    ⊎ (((status ≢ successful_completion) × (done ≡ completion c status None) × IsState m counts after counted)
+    ⊎ ((status ≡ successful_completion) × (count ≤ n.limit)
+    × Does n (medium_after n.size part.operation m) (recounted counts part.unit count) parts
+    (bytes ++ unwrap_or (data_of part.operation m) []) c done after counted)))
 
--- A command: it is refused and nothing happens, or its parts are done.
-abbrev pub Answers : Namespace → Medium → Counts → Command → Completion → (Medium → Counts → Type 0) → Type 0
-Answers n m counts c done next =
+-- A command: it is refused and nothing changes, or its parts are done.
+abbrev pub Answers : Namespace → Medium → Counts → Command → Completion → Medium → Counts → Type 0
+Answers n m counts c done after counted =
     MatchOption (refusal_of n.nsze c)
-    (Does n m counts (parts_of n c) [] c done next)
-    (λ status. (done ≡ completion c status None) × next m counts)
+    (Does n m counts (parts_of n c) [] c done after counted)
+    (λ status. (done ≡ completion c status None) × IsState m counts after counted)
 
 -- The completions are those of the commands, one after the other, from this medium.
 abbrev pub IsRun : Namespace → Medium → Counts → List Command → List Completion → Type 0
@@ -114,4 +119,4 @@ IsRun n m counts [] [] = Unit {0}
 IsRun n m counts [] (done ∷ rest) = ⊥
 IsRun n m counts (c ∷ cs) [] = ⊥
 IsRun n m counts (c ∷ cs) (done ∷ rest) =
-    Answers n m counts c done (λ after counted. IsRun n after counted cs rest)
+    (after : Medium) × (counted : Counts) × Answers n m counts c done after counted × IsRun n after counted cs rest

@@ -8,6 +8,7 @@ ghost use Rattle.nvm_store.specs.Answer.{IsAnswer};
 ghost use Rattle.nvmu.specs.Run as spec;
 ghost use Rattle.nvmu.specs.Run.{operation_of};
 ghost use Rattle.nvmu.specs.Whole.{IsWholeNamespace};
+ghost use Rattle.nvmu.specs.Written.{status_of_written};
 
 use crate::checks::refusal;
 use nvm_record::{BlockSize, Command, Completion, NoMemory, Op, Payload, Status, Statuses};
@@ -25,6 +26,18 @@ enum Written {
     NoMemory,
     /// The history is at its limit.
     Full,
+}
+
+impl Written {
+    /// The status of the Write.
+    fn status(self) -> Status
+        ensures { result ≡ status_of_written self }
+    {
+        match self {
+            Written::Done => Status::SUCCESSFUL_COMPLETION,
+            Written::NoMemory | Written::Full => Status::INTERNAL_ERROR,
+        }
+    }
 }
 
 /// A whole namespace as one unit: its blocks, and the changes that made them.
@@ -69,11 +82,8 @@ impl OneUnit {
         }
         match command.op {
             Op::Write => {
-                let status = match self.write(alloc, job, command) {
-                    Written::Done => Status::SUCCESSFUL_COMPLETION,
-                    Written::NoMemory | Written::Full => Status::INTERNAL_ERROR,
-                };
-                completion(command, status, None)
+                let written = self.write(alloc, job, command);
+                completion(command, written.status(), None)
             }
             _ => match self.read(alloc, command) {
                 Ok(Answer::Payload(payload)) => completion(
