@@ -1,11 +1,12 @@
 -- The faults of a run, in the order in which they are looked for: the options', then the file's.
 use Rattle.std.specs.Prelude.{◌≡◌, ◌⊎◌, ◌<◌, ◌≤◌, ℕ, List}
-use Rattle.nvm_record.specs.BlockSize.{IsBlockSize}
+use Rattle.nvm_geometry.specs.Namespace.{Namespace, namespace_of}
+use Rattle.nvm_geometry.specs.Faults as numbers
+use Rattle.nvm_geometry.specs.Faults.{HasNoFault}
 use Rattle.nvm_record.specs.HostFile.{IsFaultOf}
 use Rattle.nvm_record.specs.declared.host_fault.HostFault.{HostFault}
 use Rattle.nvm_record.specs.declared.host_fault.HostFault.TheVariants as of_file
 use Rattle.nvmu.specs.declared.settings.Settings.{Settings}
-use Rattle.nvmu.specs.declared.fault.GeometryFault.TheVariants.{Size, BlockSize}
 use Rattle.nvmu.specs.declared.fault.Fault.{Fault}
 use Rattle.nvmu.specs.declared.fault.Fault.TheVariants.{Geometry, TooManyHosts, CannotRead, CannotWrite, HostBadName, HostTruncated, HostTooMany, RecordBadName, RecordUnknownVersion, RecordTruncated, RecordTrailing, RecordBadValue, RecordNoVersion1, NoMemory}
 
@@ -16,18 +17,17 @@ fault_of_host host (of_file.Truncated at) = HostTruncated host at
 fault_of_host host of_file.TooMany = HostTooMany host
 fault_of_host host of_file.NoMemory = NoMemory
 
--- the namespace has 1 to 65,536 blocks
-abbrev pub HasSize : Settings → Type 0
-HasSize s = (1 ≤ s.nsze) × (s.nsze ≤ 65536)
+-- the numbers that the options give the namespace
+abbrev pub advertised : Settings → Namespace
+advertised s = namespace_of s.nsze s.block s.nabsn s.nabo s.nawun s.nacwu
 
 -- The options describe a namespace.
 abbrev pub IsNamespace : Settings → Type 0
-IsNamespace s = HasSize s × IsBlockSize s.block
+IsNamespace s = HasNoFault (advertised s)
 
 -- The first fault of the options.
 abbrev pub IsGeometryFault : Settings → Fault → Type 0
-IsGeometryFault s (Geometry Size) = ¬ (HasSize s)
-IsGeometryFault s (Geometry BlockSize) = HasSize s × ¬ (IsBlockSize s.block)
+IsGeometryFault s (Geometry fault) = numbers.IsFirstFault (advertised s) fault
 IsGeometryFault s fault = ⊥
 
 -- The first fault of host 1's file, where a block has `size` bytes.

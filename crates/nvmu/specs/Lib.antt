@@ -3,6 +3,7 @@ pub mod Run
 pub mod Fault
 pub mod Words
 pub mod Shown
-pub mod Whole
 pub mod Written
-pub mod OneUnit
+pub mod AtomicUnit
+pub mod Units
+pub mod Setup

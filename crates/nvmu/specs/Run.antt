@@ -1,5 +1,5 @@
 -- A run of commands, one after the other, on one medium.
-use Rattle.std.specs.Prelude.{◌≡◌, ◌≢◌, ◌==◌, ◌⊎◌, ◌++◌, unwrap_or, ℕ, ◌+◌, ◌<◌, ◌≤◌, List, [], ◌∷◌, Option, Some, None, MatchOption, if◌then◌else◌}
+use Rattle.std.specs.Prelude.{◌≡◌, ◌≢◌, ◌==◌, ◌⊎◌, ◌++◌, unwrap_or, map, ℕ, ◌+◌, ◌<◌, ◌≤◌, List, [], ◌∷◌, Option, Some, None, MatchOption, if◌then◌else◌}
 use Rattle.nvm_record.specs.declared.op.Op.{Op}
 use Rattle.nvm_record.specs.declared.op.Op.TheVariants.{Write, Read, WriteUncorrectable, Compare, WriteZeroes, Other}
 use Rattle.nvm_record.specs.declared.command.Command.{Command}
@@ -11,6 +11,9 @@ use Rattle.nvm_record.specs.declared.status.Statuses.TheVariants.{One, Two}
 use Rattle.nvm_record.specs.Status.{internal_error, successful_completion}
 use Rattle.nvm_record.specs.Medium.{Medium}
 use Rattle.nvm_record.specs.Step.{Deed, writes, zeroes, uncorrectable, reads, compares, pairs, Operation, compares_equal, range_of, statuses_of, data_of, medium_after}
+use Rattle.nvm_geometry.specs.Namespace.{Namespace}
+use Rattle.nvm_geometry.specs.Parts.{pieces_of, part_in}
+use Rattle.nvm_geometry.specs.declared.piece.Piece.{Piece}
 use Rattle.nvmu.specs.Checks.{refusal_of}
 
 -- what a command with this opcode does; one without a name is refused before it does anything
@@ -57,10 +60,9 @@ answered Compare bytes = None
 answered WriteZeroes bytes = None
 answered (Other opcode) bytes = None
 
--- what a namespace is: its size in blocks, its block size in bytes, and the most changes of a unit
-pub record Namespace : Type 0 where
-  pub nsze : ℕ
-  pub size : ℕ
+-- a namespace, and the most changes that a unit of it may have
+pub record Setup : Type 0 where
+  pub namespace : Namespace
   pub limit : ℕ
 
 -- a part of a command: its unit, and the operation there
@@ -68,9 +70,13 @@ pub record Part : Type 0 where
   pub unit : ℕ
   pub operation : Operation
 
--- The parts of a command, in ascending order. As long as the namespace is one unit, there is one.
+-- the part of a command in the unit of a piece of its range
+abbrev pub part_of : Namespace → Command → Piece → Part
+part_of ns c piece = record { unit = piece.unit; operation = part_in ns (operation_of c) piece.unit }
+
+-- the parts of a command, one for each unit that its range meets, in ascending order
 abbrev pub parts_of : Namespace → Command → List Part
-parts_of n c = record { unit = 0; operation = operation_of c } ∷ []
+parts_of ns c = map (part_of ns c) (pieces_of ns c.slba (c.nlb + 1))
 
 -- how many changes each unit had
 abbrev pub Counts : Type 0
@@ -93,7 +99,7 @@ recounted counts unit count u = if u == unit then count else counts u
 -- whose status is the command's; what was done before it stays done. Memory may be refused to a part
 -- where its unit has room for its change; where there is no room it is always 0/06; in both cases the
 -- part changes nothing.
-abbrev pub Does : Namespace → Medium → Counts → List Part → List ℕ → Command → Completion → Medium → Counts → Type 0
+abbrev pub Does : Setup → Medium → Counts → List Part → List ℕ → Command → Completion → Medium → Counts → Type 0
 Does n m counts [] bytes c done after counted =
     (done ≡ completion c successful_completion (answered c.op bytes)) × IsState m counts after counted
 Does n m counts (part ∷ parts) bytes c done after counted =
@@ -103,18 +109,18 @@ Does n m counts (part ∷ parts) bytes c done after counted =
     ⊎ (((done ≡ completion c internal_error None) × (n.limit < count) × IsState m counts after counted)
     ⊎ (((status ≢ successful_completion) × (done ≡ completion c status None) × IsState m counts after counted)
     ⊎ ((status ≡ successful_completion) × (count ≤ n.limit)
-    × Does n (medium_after n.size part.operation m) (recounted counts part.unit count) parts
+    × Does n (medium_after n.namespace.block_size part.operation m) (recounted counts part.unit count) parts
     (bytes ++ unwrap_or (data_of part.operation m) []) c done after counted)))
 
 -- A command: it is refused and nothing changes, or its parts are done.
-abbrev pub Answers : Namespace → Medium → Counts → Command → Completion → Medium → Counts → Type 0
+abbrev pub Answers : Setup → Medium → Counts → Command → Completion → Medium → Counts → Type 0
 Answers n m counts c done after counted =
-    MatchOption (refusal_of n.nsze c)
-    (Does n m counts (parts_of n c) [] c done after counted)
+    MatchOption (refusal_of n.namespace.nsze c)
+    (Does n m counts (parts_of n.namespace c) [] c done after counted)
     (λ status. (done ≡ completion c status None) × IsState m counts after counted)
 
 -- The completions are those of the commands, one after the other, from this medium.
-abbrev pub IsRun : Namespace → Medium → Counts → List Command → List Completion → Type 0
+abbrev pub IsRun : Setup → Medium → Counts → List Command → List Completion → Type 0
 IsRun n m counts [] [] = Unit {0}
 IsRun n m counts [] (done ∷ rest) = ⊥
 IsRun n m counts (c ∷ cs) [] = ⊥

@@ -4,10 +4,8 @@ use Rattle.nvmu.specs.declared.settings.Settings.{Settings}
 use Rattle.nvmu.specs.declared.words.Asked.{Asked}
 use Rattle.nvmu.specs.declared.words.Asked.TheVariants.{Run}
 
--- The numbers that the options take, as long as there is one unit.
+-- The numbers that the options take.
 pub record IsInRange (s : Settings) : Type 0 where
-  pub nabsn : s.nabsn ≡ 0
-  pub nabo : s.nabo ≡ 0
   pub workers : 1 ≤ s.workers
   pub workers_end : s.workers ≤ 64
   pub limit : 1 ≤ s.limit

@@ -2,20 +2,10 @@ ghost use Rattle.std.specs.Prelude.{◌≡◌};
 ghost use Rattle.nvmu.specs.declared.fault.Fault.TheVariants.{NoMemory};
 ghost use Rattle.nvmu.specs.Fault.{fault_of_host};
 
+use nvm_geometry::GeometryFault;
 use nvm_record::HostFault;
 use std::alloc::{AllocError, AllocFailed};
 use thiserror::Error;
-
-/// Why a namespace can't be as the options say.
-#[derive(Clone, Copy, Debug, PartialEq, Eq, Error)]
-pub enum GeometryFault {
-    /// The size is 0, or above 65,536 blocks.
-    #[error("Size")]
-    Size,
-    /// A logical block has neither 512 nor 4,096 bytes.
-    #[error("BlockSize")]
-    BlockSize,
-}
 
 /// Why the program shows no lines. Each prints its one line, which goes to standard error.
 #[derive(Debug, Drop, Error)]

@@ -2,17 +2,18 @@
 //! writes what they show.
 #![tactic(auto)]
 
+mod atomic_unit;
 mod checks;
 mod execute;
 mod fault;
 mod files;
 #[cfg(test)]
 mod host_file;
-mod one_unit;
 #[cfg(test)]
 mod run_tests;
 mod settings;
 mod shown;
+mod units;
 #[cfg(test)]
 mod word_tests;
 mod words;

@@ -6,9 +6,9 @@ pub struct Settings {
     pub nsze: u64,
     /// The size of a logical block in bytes.
     pub block: u32,
-    /// NABSN, the atomic boundary size, zeroes-based. Only 0 is taken yet.
+    /// NABSN, the atomic boundary size, zeroes-based; 0 is no boundary.
     pub nabsn: u16,
-    /// NABO, the atomic boundary offset. Only 0 is taken yet.
+    /// NABO, the atomic boundary offset: the LBA at which the first unit of full size begins.
     pub nabo: u16,
     /// NAWUN, the atomic write unit, zeroes-based.
     pub nawun: u16,

@@ -52,8 +52,8 @@ impl<T: Drop> From<AllocFailed<T>> for WordFault {
 
 /// Reads the words after the program's name.
 ///
-/// Every option stands once. `--workers` takes 1 to 64, `--limit` 1 to 65,536, and, as long as there is
-/// one unit, `--nabsn` and `--nabo` take 0 only and one host file is named.
+/// Every option stands once. `--workers` takes 1 to 64, `--limit` 1 to 65,536, and one host file is named
+/// yet.
 pub fn read_words<'a>(alloc: Global, words: &'a [&'a str]) -> Result<Asked, WordFault>
     ensures { IfOk result IsAsked }
 {
@@ -119,9 +119,7 @@ fn settings_of(run: &ArgMatches<'_>) -> Option<Settings>
         workers: run.get_one::<u16>("workers")?,
         limit: run.get_one::<u32>("limit")?,
     };
-    let is_in_range = settings.nabsn == 0
-        && settings.nabo == 0
-        && 1 <= settings.workers
+    let is_in_range = 1 <= settings.workers
         && settings.workers <= 64
         && 1 <= settings.limit
         && settings.limit <= 65_536;
@@ -174,15 +172,10 @@ fn with_boundaries<'a>(alloc: Global, command: Command<'a>) -> Result<Command<'a
     let nabsn = number(
         alloc,
         "nabsn",
-        value_parser!(u16).range(0..=0),
-        "Atomic boundary size, zeroes-based: 0 yet",
+        value_parser!(u16),
+        "Atomic boundary size, zeroes-based: 0 is none",
     );
-    let nabo = number(
-        alloc,
-        "nabo",
-        value_parser!(u16).range(0..=0),
-        "Atomic boundary offset: 0 yet",
-    );
+    let nabo = number(alloc, "nabo", value_parser!(u16), "Atomic boundary offset");
     Ok(command.arg(nabsn)?.arg(nabo)?)
 }
 
