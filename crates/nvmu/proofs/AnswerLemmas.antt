@@ -1,5 +1,5 @@
 -- What a command is answered is what a run asks of it.
-use Rattle.std.proofs.Common.{◌≡◌, ℕ, ◌+◌, List, [], Option, Some, None, MatchOption, refl, sym, ◌∙◌, ap, subst, true}
+use Rattle.std.proofs.Common.{◌≡◌, ℕ, ◌+◌, List, [], Option, Some, None, MatchOption, refl, sym, subst, true}
 use Rattle.std.specs.List.{AllByRecursion}
 use Rattle.nvm_record.specs.Medium.{Medium}
 use Rattle.nvm_record.specs.Status.{successful_completion, internal_error}
@@ -12,7 +12,7 @@ use Rattle.nvm_geometry.specs.Parts.{AreInLine, pieces_of}
 use Rattle.nvm_store.specs.declared.answers.Answer.TheVariants as answers
 use Rattle.nvmu.specs.Checks.{is_in_profile, refusal_of}
 use Rattle.nvmu.specs.Run.{completion, Setup, Counts, IsState, parts_of, Does}
-use Rattle.nvmu.specs.Units.{AreAt, IsLaidOut, IsPiece, ReadsParts, AnswersTo}
+use Rattle.nvmu.specs.Units.{IsLaidOut, IsPiece, ReadsParts, AnswersTo}
 use Rattle.nvmu.specs.declared.atomic_unit.AtomicUnit.{AtomicUnit}
 use Rattle.nvmu.proofs.ReadLemmas.{no_read}
 

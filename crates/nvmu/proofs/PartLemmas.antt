@@ -1,23 +1,21 @@
 -- A part of a command changes its own unit, and no other one.
-use Rattle.std.proofs.Common.{◌≡◌, ◌≢◌, ◌==◌, ◌⊎◌, inl, inr, ℕ, ◌+◌, ◌-◌, ◌*◌, ◌<◌, ◌≤◌, List, length, take, drop, vec_len, get_or, set, refl, sym, ap, ◌∙◌, subst, Bool, true, false, ◌&&◌, if◌then◌else◌, eq-eqb, arith}
+use Rattle.std.proofs.Common.{◌≡◌, ◌≢◌, ◌==◌, ◌⊎◌, inl, inr, ℕ, ◌+◌, ◌-◌, ◌*◌, ◌<◌, List, length, take, drop, vec_len, get_or, set, refl, sym, ap, ◌∙◌, subst, Bool, true, false, ◌&&◌, if◌then◌else◌, eq-eqb, arith}
 use Rattle.std.proofs.Math.Nat.{add-mul}
 use Rattle.std.proofs.lemmas.Bool.{ne_eqb, eqb-false, eqb-true}
 use Rattle.std.proofs.lemmas.List.{get_or-set_other, get_or-set_same, length-set}
-use Rattle.nvm_record.specs.declared.block.Block.{Block}
 use Rattle.nvm_record.specs.Medium.{Medium}
-use Rattle.nvm_record.specs.Step.{writes, reads, Operation, Deed, is_in_range, block_after, range_of, medium_after}
-use Rattle.nvm_record.specs.declared.op.Op.{Op}
-use Rattle.nvm_record.specs.declared.op.Op.TheVariants.{Write, Read}
+use Rattle.nvm_record.specs.Step.{writes, Operation, is_in_range, block_after, range_of, medium_after}
+use Rattle.nvm_record.specs.declared.op.Op.TheVariants.{Write}
 use Rattle.nvm_record.specs.declared.command.Command.{Command}
 use Rattle.nvm_geometry.specs.Namespace.{Namespace}
 use Rattle.nvm_geometry.specs.Boundaries.{unit_number, units_of}
-use Rattle.nvm_geometry.specs.Parts.{blocks_below, blocks_in, piece_in, data_part, deed_part, part_in}
+use Rattle.nvm_geometry.specs.Parts.{blocks_below, blocks_in, piece_in, data_part, part_in}
 use Rattle.nvm_geometry.specs.declared.piece.Piece.{Piece}
-use Rattle.nvm_store.specs.Operation.{write_operation, read_operation}
+use Rattle.nvm_store.specs.Operation.{write_operation}
 use Rattle.nvm_store.specs.Contents.{Contents, Holds}
-use Rattle.nvmu.specs.Run.{operation_of, Setup, Counts, recounted, Part, part_of}
-use Rattle.nvmu.specs.AtomicUnit.{IsKept, IsStepped, WritesUnit}
-use Rattle.nvmu.specs.Units.{AreOfUnit, AreUnits, IsLaidOut, AreAt, IsPiece, WritesPart}
+use Rattle.nvmu.specs.Run.{operation_of, Setup, Counts, recounted, part_of}
+use Rattle.nvmu.specs.AtomicUnit.{WritesUnit}
+use Rattle.nvmu.specs.Units.{AreOfUnit, IsLaidOut, AreAt, IsPiece, WritesPart}
 use Rattle.nvmu.specs.declared.atomic_unit.AtomicUnit.{AtomicUnit}
 use Rattle.nvmu.specs.declared.atomic_unit.Written.{Written}
 use Rattle.nvmu.specs.declared.atomic_unit.Written.TheVariants.{Done, NoMemory, Full}

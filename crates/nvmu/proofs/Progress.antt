@@ -1,24 +1,15 @@
 -- The parts of a command, one after the other, are the command.
-use Rattle.std.proofs.Common.{◌≡◌, ◌≢◌, ◌⊎◌, inl, inr, ℕ, ◌+◌, ◌-◌, ◌<◌, ◌≤◌, List, [], ◌∷◌, ◌++◌, map, length, vec_len, get_or, Option, Some, None, unwrap_or, refl, sym, ap, ◌∙◌, subst, Bool, true, false, if◌then◌else◌, ◌==◌, arith}
-use Rattle.std.proofs.lemmas.List.{append-nil}
-use Rattle.nvm_record.specs.Medium.{Medium, has_mark, joined}
-use Rattle.nvm_record.specs.Status.{successful_completion, internal_error, unrecovered_read_error}
-use Rattle.nvm_record.specs.Step.{writes, reads, Operation, is_in_range, block_after, range_of, statuses_of, data_of, medium_after}
-use Rattle.nvm_record.specs.declared.op.Op.{Op}
-use Rattle.nvm_record.specs.declared.op.Op.TheVariants.{Write, Read, WriteUncorrectable, Compare, WriteZeroes, Other}
+use Rattle.std.proofs.Common.{◌≡◌, ◌≢◌, inl, inr, ℕ, ◌+◌, ◌<◌, List, [], ◌∷◌, ◌++◌, map, Option, None, unwrap_or, refl, sym, ap, ◌∙◌, subst, arith}
+use Rattle.nvm_record.specs.Medium.{Medium}
+use Rattle.nvm_record.specs.Status.{successful_completion}
+use Rattle.nvm_record.specs.Step.{statuses_of, data_of, medium_after}
+use Rattle.nvm_record.specs.declared.op.Op.TheVariants.{Write}
 use Rattle.nvm_record.specs.declared.command.Command.{Command}
-use Rattle.nvm_record.specs.declared.completion.Completion.{Completion}
-use Rattle.nvm_record.specs.declared.status.Status.{Status}
-use Rattle.nvm_record.specs.declared.status.Statuses.{Statuses}
-use Rattle.nvm_record.specs.declared.status.Statuses.TheVariants.{One, Two}
 use Rattle.nvm_geometry.specs.Namespace.{Namespace}
-use Rattle.nvm_geometry.specs.Parts.{piece_in, blocks_below, blocks_in, part_in}
+use Rattle.nvm_geometry.specs.Parts.{part_in}
 use Rattle.nvm_geometry.specs.declared.piece.Piece.{Piece}
-use Rattle.nvm_store.specs.Contents.{Contents, Holds}
-use Rattle.nvm_store.specs.Operation.{read_operation}
-use Rattle.nvmu.specs.Run.{operation_of, status_of, changes_of, completion, answered, Setup, Counts, IsState, recounted, Part, part_of, parts_of, Does}
-use Rattle.nvmu.specs.Written.{status_of_written}
-use Rattle.nvmu.specs.Units.{AreAt, IsLaidOut, IsPiece, WritesPart, WritesParts, IsUnderWay}
+use Rattle.nvmu.specs.Run.{operation_of, status_of, changes_of, completion, answered, Setup, recounted, Part, part_of, parts_of, Does}
+use Rattle.nvmu.specs.Units.{WritesPart, WritesParts, IsUnderWay}
 use Rattle.nvmu.specs.declared.atomic_unit.AtomicUnit.{AtomicUnit}
 use Rattle.nvmu.specs.declared.atomic_unit.Written.{Written}
 use Rattle.nvmu.specs.declared.atomic_unit.Written.TheVariants.{Done, NoMemory, Full}

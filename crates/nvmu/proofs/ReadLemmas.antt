@@ -1,30 +1,23 @@
 -- The parts of a Read, one after the other, are the Read.
-use Rattle.std.proofs.Common.{◌≡◌, ◌≢◌, ◌⊎◌, inl, inr, ℕ, ◌+◌, ◌-◌, ◌<◌, ◌≤◌, List, [], ◌∷◌, ◌++◌, map, length, vec_len, get_or, Option, Some, None, unwrap_or, refl, sym, ap, ◌∙◌, subst, Bool, true, false, if◌then◌else◌, ◌==◌, arith}
-use Rattle.std.proofs.lemmas.List.{append-nil}
+use Rattle.std.proofs.Common.{◌≡◌, ◌≢◌, inl, inr, ℕ, ◌+◌, ◌-◌, ◌<◌, ◌≤◌, List, [], ◌∷◌, ◌++◌, map, length, vec_len, get_or, Option, Some, None, unwrap_or, refl, sym, ap, ◌∙◌, subst, Bool, true, false, if◌then◌else◌, ◌==◌, arith}
 use Rattle.nvm_record.specs.Medium.{Medium, has_mark, joined}
 use Rattle.nvm_record.specs.Status.{successful_completion, internal_error, unrecovered_read_error}
-use Rattle.nvm_record.specs.Step.{writes, reads, Operation, is_in_range, block_after, range_of, statuses_of, data_of, medium_after}
-use Rattle.nvm_record.specs.declared.op.Op.{Op}
-use Rattle.nvm_record.specs.declared.op.Op.TheVariants.{Write, Read, WriteUncorrectable, Compare, WriteZeroes, Other}
+use Rattle.nvm_record.specs.Step.{reads, Operation, is_in_range, block_after, range_of, statuses_of, medium_after}
+use Rattle.nvm_record.specs.declared.op.Op.TheVariants.{Read}
 use Rattle.nvm_record.specs.declared.command.Command.{Command}
 use Rattle.nvm_record.specs.declared.completion.Completion.{Completion}
 use Rattle.nvm_record.specs.declared.status.Status.{Status}
 use Rattle.nvm_record.specs.declared.status.Statuses.{Statuses}
-use Rattle.nvm_record.specs.declared.status.Statuses.TheVariants.{One, Two}
+use Rattle.nvm_record.specs.declared.status.Statuses.TheVariants.{One}
 use Rattle.nvm_geometry.specs.Namespace.{Namespace}
 use Rattle.nvm_geometry.specs.Parts.{AreInLine, pieces_of, piece_in, blocks_below, blocks_in, part_in}
 use Rattle.nvm_geometry.specs.declared.piece.Piece.{Piece}
-use Rattle.nvm_store.specs.Contents.{Contents, Holds}
 use Rattle.nvm_store.specs.Operation.{read_operation}
-use Rattle.nvmu.specs.Run.{operation_of, status_of, changes_of, completion, answered, Setup, Counts, IsState, recounted, Part, part_of, parts_of, Does}
-use Rattle.nvmu.specs.Written.{status_of_written}
-use Rattle.nvmu.specs.Units.{AreAt, IsLaidOut, IsPiece, WritesPart, WritesParts, ReadsParts, IsUnderWay}
+use Rattle.nvmu.specs.Run.{operation_of, status_of, changes_of, completion, answered, Setup, Counts, recounted, part_of, parts_of, Does}
+use Rattle.nvmu.specs.Units.{AreAt, IsLaidOut, IsPiece, ReadsParts, IsUnderWay}
 use Rattle.nvmu.specs.declared.atomic_unit.AtomicUnit.{AtomicUnit}
-use Rattle.nvmu.specs.declared.atomic_unit.Written.{Written}
-use Rattle.nvmu.specs.declared.atomic_unit.Written.TheVariants.{Done, NoMemory, Full}
 use Rattle.std.specs.List.{AllByRecursion}
 use Rattle.nvm_store.specs.Answer.{IsAnswer}
-use Rattle.nvm_store.specs.declared.answers.Answer.{Answer}
 use Rattle.nvm_store.specs.declared.answers.Answer.TheVariants as answers
 use Rattle.std.proofs.lemmas.Bool.{eqb-true}
 use Rattle.nvm_geometry.specs.Boundaries.{units_of}

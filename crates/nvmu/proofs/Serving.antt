@@ -1,9 +1,9 @@
 -- Serving commands in their order makes a run of them.
-use Rattle.std.proofs.Common.{◌≡◌, List, [], ◌∷◌, ◌++◌, refl, sym, subst, append_assoc, append-nil}
+use Rattle.std.proofs.Common.{List, [], ◌∷◌, ◌++◌, subst, append_assoc, append-nil}
 use Rattle.nvm_record.specs.Medium.{Medium, zero_medium}
 use Rattle.nvm_record.specs.declared.command.Command.{Command}
 use Rattle.nvm_record.specs.declared.completion.Completion.{Completion}
-use Rattle.nvmu.specs.Run.{Setup, Counts, no_changes, Answers, IsRun}
+use Rattle.nvmu.specs.Run.{Setup, Counts, no_changes, IsRun}
 use Rattle.nvmu.specs.Units.{AreAt, AnswersTo}
 use Rattle.nvmu.specs.declared.atomic_unit.AtomicUnit.{AtomicUnit}
 

@@ -1,5 +1,5 @@
 -- The faults of a run, in the order in which they are looked for: the options', then the file's.
-use Rattle.std.specs.Prelude.{◌≡◌, ◌⊎◌, ◌<◌, ◌≤◌, ℕ, List}
+use Rattle.std.specs.Prelude.{◌≡◌, ◌⊎◌, ℕ, List}
 use Rattle.nvm_geometry.specs.Namespace.{Namespace, namespace_of}
 use Rattle.nvm_geometry.specs.Faults as numbers
 use Rattle.nvm_geometry.specs.Faults.{HasNoFault}
@@ -8,7 +8,7 @@ use Rattle.nvm_record.specs.declared.host_fault.HostFault.{HostFault}
 use Rattle.nvm_record.specs.declared.host_fault.HostFault.TheVariants as of_file
 use Rattle.nvmu.specs.declared.settings.Settings.{Settings}
 use Rattle.nvmu.specs.declared.fault.Fault.{Fault}
-use Rattle.nvmu.specs.declared.fault.Fault.TheVariants.{Geometry, TooManyHosts, CannotRead, CannotWrite, HostBadName, HostTruncated, HostTooMany, RecordBadName, RecordUnknownVersion, RecordTruncated, RecordTrailing, RecordBadValue, RecordNoVersion1, NoMemory}
+use Rattle.nvmu.specs.declared.fault.Fault.TheVariants.{Geometry, HostBadName, HostTruncated, HostTooMany, NoMemory}
 
 -- the program's fault for one of a host's file
 abbrev pub fault_of_host : ℕ → HostFault → Fault

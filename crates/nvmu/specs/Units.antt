@@ -1,5 +1,5 @@
 -- The whole namespace as its units.
-use Rattle.std.specs.Prelude.{◌≡◌, ℕ, ◌+◌, ◌*◌, ◌<◌, ◌≤◌, List, [], map, Some, None, length, vec_len, slice_index_or}
+use Rattle.std.specs.Prelude.{◌≡◌, ℕ, ◌+◌, ◌<◌, ◌≤◌, List, [], map, Some, None, length, vec_len, slice_index_or}
 use Rattle.nvm_record.specs.Medium.{Medium}
 use Rattle.nvm_record.specs.Step.{medium_after}
 use Rattle.nvm_record.specs.declared.command.Command.{Command}

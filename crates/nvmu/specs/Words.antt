@@ -1,5 +1,5 @@
 -- What the words of a command line may ask for.
-use Rattle.std.specs.Prelude.{◌≡◌, ◌≤◌, ℕ, length}
+use Rattle.std.specs.Prelude.{◌≡◌, ◌≤◌, length}
 use Rattle.nvmu.specs.declared.settings.Settings.{Settings}
 use Rattle.nvmu.specs.declared.words.Asked.{Asked}
 use Rattle.nvmu.specs.declared.words.Asked.TheVariants.{Run}

@@ -60,6 +60,18 @@ pub fn push_write(file: &mut Vec<u8>, cid: u16, slba: u64, byte: u8) -> Result<(
     push_bytes(file, 512, byte)
 }
 
+/// A Write of so many blocks of 512 equal bytes, at least one.
+pub fn push_blocks(
+    file: &mut Vec<u8>,
+    cid: u16,
+    slba: u64,
+    blocks: u16,
+    byte: u8,
+) -> Result<(), AllocError> {
+    push_entry(file, plain(WRITE, cid, slba, blocks.saturating_sub(1)))?;
+    push_bytes(file, blocks as usize * 512, byte)
+}
+
 /// A Write of 41h to block 0, and a Read of it: 644 bytes.
 pub fn write_then_read(alloc: Global) -> Result<Vec<u8>, AllocError> {
     let mut file = named(alloc)?;

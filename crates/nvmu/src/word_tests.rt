@@ -74,6 +74,8 @@ fn ends_of_ranges_are_taken(rt: HostRuntime) -> Result<(), Fail> {
         (16, "1"),
         (2, "18446744073709551615"),
         (10, "65535"),
+        (6, "65535"),
+        (8, "65535"),
     ] {
         let words = with_word(rt.alloc(), place, word)?;
         read_words(rt.alloc(), words.as_slice())?;
@@ -103,8 +105,8 @@ fn words_out_of_range_are_refused(rt: HostRuntime) -> Result<(), Fail> {
         (14, "65"),
         (16, "0"),
         (16, "65537"),
-        (6, "1"),
-        (8, "1"),
+        (6, "65536"),
+        (8, "65536"),
         (2, "-1"),
         (2, "x"),
         (10, "65536"),

@@ -1,9 +1,8 @@
-use Rattle.std.proofs.Common.{◌≡◌, ℕ, ◌+◌, ◌<◌, List, [], ◌∷◌, ◌++◌, length, drop, refl, ap, ◌∙◌, sym, subst, arith, length-append, add-one}
+use Rattle.std.proofs.Common.{◌≡◌, ◌+◌, ◌<◌, List, [], ◌∷◌, length, drop, refl, ap, ◌∙◌, subst, arith, length-append, add-one}
 use Rattle.std.proofs.Math.Seq.{drop-cons}
 use Rattle.std.proofs.Math.ListN.{drop_of_length-le}
-use Rattle.nvm_record.specs.Medium.{Medium, zero_medium}
+use Rattle.nvm_record.specs.Medium.{zero_medium}
 use Rattle.nvm_record.specs.declared.command.Command.{Command}
-use Rattle.nvm_record.specs.declared.completion.Completion.{Completion}
 use Rattle.nvm_geometry.specs.Namespace.{Namespace}
 use Rattle.nvmu.specs.Run.{Setup, no_changes}
 use Rattle.nvmu.specs.Setup as units

@@ -1,7 +1,6 @@
-use Rattle.std.proofs.Common.{◌≡◌, ℕ, ◌+◌, ◌≤◌, arith, List, Some, None, Option, refl, sym, ap, ◌∙◌, subst}
+use Rattle.std.proofs.Common.{◌≡◌, ℕ, ◌+◌, ◌≤◌, arith, List, Some, None, refl, sym, subst}
 use Rattle.std.specs.List.{AllByRecursion}
 use Rattle.nvm_record.specs.declared.op.Op.TheVariants.{Read}
-use Rattle.nvm_geometry.specs.Parts.{pieces_of}
 use Rattle.nvm_geometry.specs.declared.piece.Piece.{Piece}
 use Rattle.nvm_store.specs.declared.answers.Answer.{Answer}
 use Rattle.nvmu.specs.Checks.{refusal_of}

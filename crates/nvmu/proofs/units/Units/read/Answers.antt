@@ -1,14 +1,14 @@
-use Rattle.std.proofs.Common.{◌≡◌, ℕ, List, [], ◌∷◌, ◌++◌, map, refl, sym, ap, ◌∙◌, subst}
+use Rattle.std.proofs.Common.{◌≡◌, ℕ, List, ◌∷◌, ◌++◌, map, sym, ap, ◌∙◌, subst}
 use Rattle.std.specs.List.{AllByRecursion}
 use Rattle.nvm_geometry.specs.declared.piece.Piece.{Piece}
 use Rattle.nvm_store.specs.Answer.{IsAnswer}
 use Rattle.nvm_store.specs.Operation.{read_operation}
 use Rattle.nvm_store.specs.declared.answers.Answer.{Answer}
-use Rattle.nvmu.specs.Run.{Setup, part_of}
+use Rattle.nvmu.specs.Run.{part_of}
 use Rattle.nvmu.specs.Setup.{setup_of}
-use Rattle.nvmu.specs.Units.{IsLaidOut, IsPiece, IsUnderWay}
+use Rattle.nvmu.specs.Units.{IsPiece, IsUnderWay}
 use Rattle.nvmu.proofs.Progress.{not_begun}
-use Rattle.nvmu.proofs.ReadLemmas.{part_read, part_not_read, all_read}
+use Rattle.nvmu.proofs.ReadLemmas.{part_read, part_not_read}
 use Rattle.nvmu.proofs.units.Units.read.Goals as goal
 
 pub loop-piece-init : goal.loop-piece-init

@@ -1,4 +1,3 @@
-use Rattle.std.proofs.Common.{◌≡◌, [], length}
 use Rattle.std.specs.List.{AllByRecursion}
 use Rattle.nvmu.specs.Setup.{setup_of}
 use Rattle.nvmu.specs.Units.{IsPiece, IsUnderWay}

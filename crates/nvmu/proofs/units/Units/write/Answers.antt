@@ -5,7 +5,7 @@ use Rattle.nvmu.specs.Run.{Setup, part_of}
 use Rattle.nvmu.specs.Setup.{setup_of}
 use Rattle.nvmu.specs.Units.{IsLaidOut, IsPiece, IsUnderWay, WritesPart}
 use Rattle.nvmu.specs.declared.atomic_unit.Written.TheVariants.{Done}
-use Rattle.nvmu.proofs.Progress.{not_begun, part_written, part_not_written, all_written}
+use Rattle.nvmu.proofs.Progress.{not_begun, part_written}
 use Rattle.nvmu.proofs.units.Units.write.Goals as goal
 
 pub loop-piece-init : goal.loop-piece-init

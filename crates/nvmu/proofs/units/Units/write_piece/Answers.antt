@@ -1,4 +1,4 @@
-use Rattle.std.proofs.Common.{◌≡◌, ◌-◌, get_or, sym, ◌∙◌, ap}
+use Rattle.std.proofs.Common.{◌≡◌, ◌-◌, get_or, ◌∙◌}
 use Rattle.nvmu.specs.Run.{operation_of}
 use Rattle.nvmu.specs.Setup.{setup_of}
 use Rattle.nvmu.proofs.PartLemmas.{writes_part, slice_is}
