@@ -1,12 +1,11 @@
 -- A range in one unit has one part, which is the whole.
 use Rattle.std.proofs.Common.{◌≡◌, ℕ, ◌+◌, ◌*◌, ◌-◌, ◌<◌, ◌≤◌, List, [], ◌∷◌, length, refl, ap, ap₂, ◌∙◌, add-zero, arith}
 use Rattle.std.proofs.lemmas.List.{take_all}
-use Rattle.nvm_record.specs.Step.{Deed, Operation, writes, zeroes, uncorrectable, reads, compares, pairs}
+use Rattle.nvm_record.specs.Step.{HasData, Deed, Operation, writes, zeroes, uncorrectable, reads, compares, pairs}
 use Rattle.nvm_geometry.specs.Namespace.{Namespace}
 use Rattle.nvm_geometry.specs.Boundaries.{unit_number}
 use Rattle.nvm_geometry.specs.Limits.{LiesInUnit}
 use Rattle.nvm_geometry.specs.Parts.{units_met, data_part, deed_part, part_in}
-use Rattle.nvm_geometry.specs.Turns.{HasData}
 use Rattle.nvm_geometry.proofs.UnitOrder.{count_rises, unit_below, same_number}
 use Rattle.nvm_geometry.proofs.Pieces.{IsFront, below_here, in_here, units_front, units_none}
 

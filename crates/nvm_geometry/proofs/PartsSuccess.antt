@@ -8,11 +8,11 @@ use Rattle.std.proofs.lemmas.List.{length-take-le, length-drop}
 use Rattle.nvm_record.specs.declared.block.Block.{Block}
 use Rattle.nvm_record.specs.Status.{IsSuccess}
 use Rattle.nvm_record.specs.Medium.{Medium}
-use Rattle.nvm_record.specs.Step.{Deed, Operation, writes, zeroes, uncorrectable, reads, compares, pairs, statuses_on, block_after, is_in_range, range_of, medium_after, statuses_of}
+use Rattle.nvm_record.specs.Step.{HasData, Deed, Operation, writes, zeroes, uncorrectable, reads, compares, pairs, statuses_on, block_after, is_in_range, range_of, medium_after, statuses_of}
 use Rattle.nvm_geometry.specs.Namespace.{Namespace}
 use Rattle.nvm_geometry.specs.Boundaries.{unit_number}
 use Rattle.nvm_geometry.specs.Parts.{blocks_below, blocks_in, data_part, deed_part, part_in}
-use Rattle.nvm_geometry.specs.Turns.{IsSingle, HasData, HoldsBlocks, IsOrderOf, EachSucceeds}
+use Rattle.nvm_geometry.specs.Turns.{IsSingle, HoldsBlocks, IsOrderOf, EachSucceeds}
 use Rattle.nvm_geometry.proofs.Counting.{count_no}
 use Rattle.nvm_geometry.proofs.Places.{place_in, part_inside, data_of_part}
 use Rattle.nvm_geometry.proofs.PartsMedium.{part_single, unit_among}

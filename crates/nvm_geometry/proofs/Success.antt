@@ -9,8 +9,8 @@ use Rattle.nvm_record.specs.declared.block.Block.TheVariants.{Bytes, Uncorrectab
 use Rattle.nvm_record.specs.declared.status.Status.{Status}
 use Rattle.nvm_record.specs.Status.{IsSuccess, successful_completion, unrecovered_read_error, compare_failure}
 use Rattle.nvm_record.specs.Medium.{Medium, range, is_marked, has_mark, bytes_of, joined}
-use Rattle.nvm_record.specs.Step.{Deed, writes, zeroes, uncorrectable, reads, compares, pairs, statuses_on}
-use Rattle.nvm_geometry.specs.Turns.{IsSingle, HasData, HasSize, HoldsBlocks}
+use Rattle.nvm_record.specs.Step.{HasData, Deed, writes, zeroes, uncorrectable, reads, compares, pairs, statuses_on}
+use Rattle.nvm_geometry.specs.Turns.{IsSingle, HasSize, HoldsBlocks}
 
 -- The block at place i of the range lets the command succeed.
 abbrev pub IsGood : ℕ → Deed → ℕ → Block → Type 0

@@ -17,15 +17,6 @@ IsSingle reads = Unit {0}
 IsSingle (compares payload) = Unit {0}
 IsSingle (pairs payload new) = ⊥
 
--- the deed's data, where it has any, is of so many bytes
-abbrev pub HasData : ℕ → Deed → Type 0
-HasData bytes (writes payload) = length payload ≡ bytes
-HasData bytes zeroes = Unit {0}
-HasData bytes uncorrectable = Unit {0}
-HasData bytes reads = Unit {0}
-HasData bytes (compares payload) = length payload ≡ bytes
-HasData bytes (pairs payload new) = (length payload ≡ bytes) × (length new ≡ bytes)
-
 -- the block is marked, or has just so many bytes
 abbrev pub HasSize : ℕ → Block → Type 0
 HasSize size (Bytes bytes) = length bytes ≡ size

@@ -4,13 +4,13 @@
 ghost use Rattle.std.specs.Prelude.{◌≡◌, ◌==◌, ◌↔◌, ℕ, ◌+◌, ◌*◌, ◌-◌, ◌<◌, ◌≤◌, ◌&&◌, List, [], ◌∷◌, All, map};
 ghost use Rattle.nvm_record.specs.Status.{IsSuccess};
 ghost use Rattle.nvm_record.specs.Medium.{Medium};
-ghost use Rattle.nvm_record.specs.Step.{Operation, reads, block_at, is_in_range, medium_after, statuses_of, data_of};
+ghost use Rattle.nvm_record.specs.Step.{HasData, Operation, reads, block_at, is_in_range, medium_after, statuses_of, data_of};
 ghost use Rattle.nvm_geometry.specs.Namespace.{Namespace};
 ghost use Rattle.nvm_geometry.specs.Boundaries.{IsBoundary, SharesUnit, unit_number, units_of};
 ghost use Rattle.nvm_geometry.specs.Faults.{HasNoFault, IsValid};
 ghost use Rattle.nvm_geometry.specs.Limits.{LiesInUnit};
 ghost use Rattle.nvm_geometry.specs.Parts.{units_met, data_part, part_in, piece_in, pieces_of, AreInLine, IsInUnit};
-ghost use Rattle.nvm_geometry.specs.Turns.{IsSingle, HasData, HoldsBlocks, IsOrderOf, medium_after_parts, EachSucceeds, answer_of_part, joined_data};
+ghost use Rattle.nvm_geometry.specs.Turns.{IsSingle, HoldsBlocks, IsOrderOf, medium_after_parts, EachSucceeds, answer_of_part, joined_data};
 
 /// Units number the LBAs of a namespace from 0 upwards: LBA 0 lies in unit 0, the number rises by 1 at
 /// each boundary and nowhere else, and each number below that of the units is some LBA's.

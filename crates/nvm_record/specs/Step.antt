@@ -1,7 +1,7 @@
 -- What a command does to a medium, LBA by LBA, and what its host is told: NVM Command Set
 -- Specification, the commands Write, Read, Write Zeroes, Write Uncorrectable and Compare; Base
 -- Specification, "Fused Operation". No unit, part or version occurs here.
-use Rattle.std.specs.Prelude.{ℕ, ◌+◌, ◌*◌, ◌-◌, nat_le, nat_lt, if◌then◌else◌, List, take, drop, replicate, Bool, false, ◌&&◌, Option, Some, None}
+use Rattle.std.specs.Prelude.{◌≡◌, ℕ, ◌+◌, ◌*◌, ◌-◌, nat_le, nat_lt, if◌then◌else◌, List, length, take, drop, replicate, Bool, false, ◌&&◌, Option, Some, None}
 use Rattle.std.specs.Str.{bytes_eq}
 use Rattle.nvm_record.specs.declared.block.Block.{Block}
 use Rattle.nvm_record.specs.declared.block.Block.TheVariants.{Bytes, Uncorrectable}
@@ -26,6 +26,15 @@ pub record Operation : Type 0 where
   pub first : ℕ
   pub blocks : ℕ
   pub deed : Deed
+
+-- The data of the deed, where it has any, is of so many bytes.
+abbrev pub HasData : ℕ → Deed → Type 0
+HasData bytes (writes payload) = length payload ≡ bytes
+HasData bytes zeroes = Unit {0}
+HasData bytes uncorrectable = Unit {0}
+HasData bytes reads = Unit {0}
+HasData bytes (compares payload) = length payload ≡ bytes
+HasData bytes (pairs payload new) = (length payload ≡ bytes) × (length new ≡ bytes)
 
 -- the comparison of blocks with data holds: none is marked, and no byte differs
 abbrev pub compares_equal : List Block → List ℕ → Bool

@@ -3,7 +3,7 @@ use Rattle.std.specs.Prelude.{◌≡◌, ℕ, ◌+◌, ◌*◌, ◌<◌, ◌≤�
 use Rattle.nvm_record.specs.declared.block.Block.{Block}
 use Rattle.nvm_record.specs.Medium.{Medium}
 use Rattle.nvm_record.specs.Status.{IsSuccess}
-use Rattle.nvm_record.specs.Step.{Deed, writes, zeroes, uncorrectable, reads, compares, pairs, Operation, statuses_of}
+use Rattle.nvm_record.specs.Step.{HasData, Operation, statuses_of}
 
 -- The block size is in bytes.
 pub record Contents : Type 0 where
@@ -25,15 +25,6 @@ pub record IsUnit (start count block_size : ℕ) (u : Contents) : Type 0 where
 -- The unit has the same LBAs and the same block size as before.
 abbrev pub StaysInPlace : Contents → Contents → Type 0
 StaysInPlace old new = IsUnit old.first (length old.blocks) old.size new
-
--- each data of the deed has so many bytes
-abbrev pub HasData : ℕ → Deed → Type 0
-HasData bytes (writes payload) = length payload ≡ bytes
-HasData bytes zeroes = Unit {0}
-HasData bytes uncorrectable = Unit {0}
-HasData bytes reads = Unit {0}
-HasData bytes (compares payload) = length payload ≡ bytes
-HasData bytes (pairs payload new) = (length payload ≡ bytes) × (length new ≡ bytes)
 
 -- The `blocks` LBAs from `first` are at least one, and lie among the `count` from `start`.
 pub record IsWithin (start count first blocks : ℕ) : Type 0 where

@@ -13,6 +13,8 @@ mod host_file;
 mod run_tests;
 mod settings;
 mod shown;
+#[cfg(test)]
+mod unit_tests;
 mod units;
 #[cfg(test)]
 mod word_tests;
