@@ -21,11 +21,12 @@ fn write_over_a_boundary_is_read(rt: HostRuntime) -> Result<(), Fail> {
     let mut file = named(rt.alloc())?;
     push_blocks(&mut file, 1, 6, 4, 0x42)?;
     push_entry(&mut file, plain(READ, 2, 5, 5))?;
+    push_entry(&mut file, plain(READ, 3, 31, 0))?;
     expect(
         &rt,
         &FOUR_UNITS,
         file,
-        "1 1 write 0/00\n1 2 read 0/00 512*00,2048*42,512*00\n",
+        "1 1 write 0/00\n1 2 read 0/00 512*00,2048*42,512*00\n1 3 read 0/00 512*00\n",
     )
 }
 

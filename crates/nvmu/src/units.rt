@@ -94,6 +94,7 @@ impl Units {
                 completion(command, written.status(), None)
             }
             _ => {
+                // For the proof alone: the range has a first part, whose memory it is that was refused.
                 laws::pieces_stand_in_line();
                 let _pieces = pieces(self.geometry, command);
                 match self.read(alloc, command) {
