@@ -1,0 +1,9 @@
+//! Which jobs the hosts' commands are, in which order they are done, and which of them are refused
+//! before anything is done.
+#![tactic(auto)]
+
+mod job;
+mod part;
+
+pub use job::{Body, Job};
+pub use part::{Part, PartResult};
