@@ -5,3 +5,4 @@ pub mod HostFile
 pub mod Status
 pub mod Medium
 pub mod Step
+pub mod Completion

@@ -19,7 +19,7 @@ mod status;
 pub use block::Block;
 pub use block_size::BlockSize;
 pub use command::Command;
-pub use completion::Completion;
+pub use completion::{Completion, completion_bytes};
 pub use entry::command_bytes;
 pub use host_fault::HostFault;
 pub use host_file::{MOST_COMMANDS, read_host};

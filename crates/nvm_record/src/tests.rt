@@ -1,4 +1,5 @@
 //! Bytes that were written by hand, field by field, and what is read of them.
+mod completions;
 mod entries;
 mod host_files;
 
