@@ -1,9 +1,1 @@
-pub mod Checks
-pub mod Run
-pub mod Fault
 pub mod Words
-pub mod Shown
-pub mod Written
-pub mod AtomicUnit
-pub mod Units
-pub mod Setup

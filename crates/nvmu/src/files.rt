@@ -1,6 +1,6 @@
 ghost use Rattle.std.specs.Prelude.{◌≡◌, IfOk, length};
 
-use crate::fault::Fault;
+use nvm_engine::Fault;
 use std::fs::OpenFile;
 use std::io::{ErrorKind, Read};
 use std::rt::Files;

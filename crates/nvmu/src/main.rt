@@ -2,31 +2,16 @@
 //! writes what they show.
 #![tactic(auto)]
 
-mod atomic_unit;
-mod checks;
-mod execute;
-mod fault;
 mod files;
-#[cfg(test)]
-mod host_file;
-#[cfg(test)]
-mod run_tests;
-mod settings;
-mod shown;
-#[cfg(test)]
-mod unit_tests;
-mod units;
 #[cfg(test)]
 mod word_tests;
 mod words;
 
 ghost use Rattle.nvmu.specs.Words.{IsAsked};
 
-use crate::execute::execute;
-use crate::fault::Fault;
 use crate::files::read_files;
-use crate::shown::Shown;
 use crate::words::{Asked, WordFault, read_words};
+use nvm_engine::{Fault, Shown, execute};
 use std::alloc::{AllocError, Global};
 use std::io::{ErrorKind, Write};
 use std::process::ExitCode;

@@ -1,10 +1,11 @@
-ghost use Rattle.std.specs.Prelude.{IfOk, IfSome};
-ghost use Rattle.nvmu.specs.Words.{IsAsked, IsInRange};
+ghost use Rattle.std.specs.Prelude.{◌≡◌, IfOk, IfSome, length};
+ghost use Rattle.nvm_engine.specs.Settings.{IsInRange};
+ghost use Rattle.nvmu.specs.Words.{IsAsked};
 
-use crate::settings::Settings;
 use clap::builder::ValueParser;
 use clap::error::ErrorKind;
-use clap::{Arg, ArgMatches, Command, Error, value_parser};
+use clap::{Arg, ArgAction, ArgMatches, Command, Error, value_parser};
+use nvm_engine::Settings;
 use std::alloc::{AllocError, AllocFailed, Global};
 
 /// What the words of the command line ask for.
@@ -15,7 +16,7 @@ pub enum Asked {
         settings: Settings,
         /// Where the record goes. The path isn't touched yet.
         out: String,
-        /// The host files. There is one yet.
+        /// The host files, at least one.
         files: Vec<String>,
     },
 }
@@ -52,8 +53,8 @@ impl<T: Drop> From<AllocFailed<T>> for WordFault {
 
 /// Reads the words after the program's name.
 ///
-/// Every option stands once. `--workers` takes 1 to 64, `--limit` 1 to 65,536, and one host file is named
-/// yet.
+/// Every option stands once. `--workers` takes 1 to 64, `--limit` 1 to 65,536, and one host file or more
+/// is named.
 pub fn read_words<'a>(alloc: Global, words: &'a [&'a str]) -> Result<Asked, WordFault>
     ensures { IfOk result IsAsked }
 {
@@ -87,22 +88,34 @@ fn missing(command: &mut Command<'_>) -> WordFault {
 fn run_asked(alloc: Global, run: &ArgMatches<'_>) -> Result<Option<Asked>, WordFault>
     ensures { IfOk result (λ asked. IfSome asked IsAsked) }
 {
-    let (Some(settings), Some(out), Some(file)) = (
+    let (Some(settings), Some(out), Some(paths)) = (
         settings_of(run),
         run.get_str("out"),
-        run.get_str("file"),
+        run.get_strs("file"),
     ) else {
         return Ok(None);
     };
+    if paths.is_empty() {
+        return Ok(None);
+    }
     let out = String::from_str(alloc, out)?;
-    let file = String::from_str(alloc, file)?;
-    let mut files = Vec::with_capacity(alloc, 1)?;
-    files.push(file)?;
+    let files = owned(alloc, paths)?;
     Ok(Some(Asked::Run {
         settings,
         out,
         files,
     }))
+}
+
+/// The texts as strings of their own, in their order.
+fn owned(alloc: Global, texts: &[&str]) -> Result<Vec<String>, AllocError>
+    ensures { IfOk result (λ strings. length strings.items ≡ length texts.now) }
+{
+    let mut strings = Vec::with_capacity(alloc, texts.len())?;
+    for text in texts {
+        strings.push(String::from_str(alloc, text)?)?;
+    }
+    Ok(strings)
 }
 
 /// The options that are numbers.
@@ -141,7 +154,7 @@ fn program<'a>(alloc: Global) -> Result<Command<'a>, Error> {
 /// `nvmu run`.
 fn run_command<'a>(alloc: Global) -> Result<Command<'a>, Error> {
     let command = Command::new(alloc, "run").about(
-        "Does the commands of a host file and prints a line for each",
+        "Does the commands of the hosts' files and prints a line for each",
     );
     let command = with_size(alloc, command)?;
     let command = with_boundaries(alloc, command)?;
@@ -214,8 +227,10 @@ fn with_files<'a>(alloc: Global, command: Command<'a>) -> Result<Command<'a>, Er
         .help("Where the record goes: not written yet");
     let file = Arg::new(alloc, "file")
         .required(true)
+        .num_args(1..)
+        .action(ArgAction::Append)
         .value_name("FILE")
-        .help("The host file");
+        .help("The host files, host 1 first");
     Ok(command.arg(out)?.arg(file)?)
 }
 

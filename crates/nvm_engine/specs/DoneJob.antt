@@ -1,0 +1,27 @@
+-- What hosts are told of jobs.
+use Rattle.std.specs.Prelude.{None}
+use Rattle.nvm_record.specs.declared.status.Statuses.{Statuses}
+use Rattle.nvm_record.specs.declared.status.Statuses.TheVariants.{One, Two}
+use Rattle.nvm_record.specs.Status.{successful_completion, internal_error, aborted_due_to_failed_fused_command}
+use Rattle.nvm_plan.specs.declared.job.Body.{Body}
+use Rattle.nvm_plan.specs.declared.job.Body.TheVariants.{Single, Pair}
+use Rattle.nvm_engine.specs.declared.done_job.DoneJob.{DoneJob}
+
+-- statuses, and no data
+abbrev pub told : Statuses → DoneJob
+told statuses = record { statuses = statuses; payload = None }
+
+-- the statuses of success
+abbrev pub success : Body → Statuses
+success (Single c) = One successful_completion
+success (Pair c d) = Two successful_completion successful_completion
+
+-- the statuses where a part found no memory, or a full history
+abbrev pub stopped : Body → Statuses
+stopped (Single c) = One internal_error
+stopped (Pair c d) = Two successful_completion internal_error
+
+-- the statuses where memory was refused before the first part
+abbrev pub unstarted : Body → Statuses
+unstarted (Single c) = One internal_error
+unstarted (Pair c d) = Two internal_error aborted_due_to_failed_fused_command

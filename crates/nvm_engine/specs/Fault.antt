@@ -1,0 +1,52 @@
+-- The faults of a run, in the order in which they are looked for: the number of files, the options, the
+-- files by their hosts' numbers.
+use Rattle.std.specs.Prelude.{◌≡◌, ◌⊎◌, ℕ, ◌≤◌, ◌<◌, suc, List, [], ◌∷◌, length}
+use Rattle.nvm_record.specs.HostFile.{IsFaultOf, IsHostFile}
+use Rattle.nvm_record.specs.declared.command.Command.{Command}
+use Rattle.nvm_record.specs.declared.host_fault.HostFault.{HostFault}
+use Rattle.nvm_record.specs.declared.host_fault.HostFault.TheVariants as of_file
+use Rattle.nvm_geometry.specs.Faults as numbers
+use Rattle.nvm_engine.specs.Settings.{IsNamespace, advertised}
+use Rattle.nvm_engine.specs.declared.settings.Settings.{Settings}
+use Rattle.nvm_engine.specs.declared.fault.Fault.{Fault}
+use Rattle.nvm_engine.specs.declared.fault.Fault.TheVariants.{Geometry, TooManyHosts, HostBadName, HostTruncated, HostTooMany, NoMemory}
+
+-- a namespace has at most so many hosts
+abbrev pub most_hosts : ℕ
+most_hosts = 64
+
+-- the program's fault for one of a host's file
+abbrev pub fault_of_host : ℕ → HostFault → Fault
+fault_of_host host of_file.BadName = HostBadName host
+fault_of_host host (of_file.Truncated at) = HostTruncated host at
+fault_of_host host of_file.TooMany = HostTooMany host
+fault_of_host host of_file.NoMemory = NoMemory
+
+-- The first fault of the options.
+abbrev pub IsGeometryFault : Settings → Fault → Type 0
+IsGeometryFault s (Geometry fault) = numbers.IsFirstFault (advertised s) fault
+IsGeometryFault s fault = ⊥
+
+-- The first fault of this host's file, where a block has `size` bytes.
+abbrev pub IsFileFault : ℕ → ℕ → List ℕ → Fault → Type 0
+IsFileFault size number file (HostBadName host) = (host ≡ number) × IsFaultOf size file of_file.BadName
+IsFileFault size number file (HostTruncated host at) = (host ≡ number) × IsFaultOf size file (of_file.Truncated at)
+IsFileFault size number file (HostTooMany host) = (host ≡ number) × IsFaultOf size file of_file.TooMany
+IsFileFault size number file fault = ⊥
+
+-- The first fault of these files, the first of which is that of host `number`: it is one of a file before
+-- which all are host files.
+abbrev pub IsFilesFault : ℕ → ℕ → List (List ℕ) → Fault → Type 0
+IsFilesFault size number [] fault = ⊥
+IsFilesFault size number (file ∷ files) fault =
+    IsFileFault size number file fault
+    ⊎ (((commands : List Command) × IsHostFile size file commands) × IsFilesFault size (suc number) files fault)
+
+-- The first fault: too many files, or else one of the options, or else one of the files; or memory was
+-- refused.
+abbrev pub IsFirstFault : Settings → List (List ℕ) → Fault → Type 0
+IsFirstFault s files fault =
+    ((most_hosts < length files) × (fault ≡ TooManyHosts))
+    ⊎ (((length files ≤ most_hosts) × IsGeometryFault s fault)
+    ⊎ (((length files ≤ most_hosts) × IsNamespace s × IsFilesFault s.block 1 files fault)
+    ⊎ (fault ≡ NoMemory)))

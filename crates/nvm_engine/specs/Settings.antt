@@ -1,0 +1,20 @@
+-- What the options of a run may be, and the namespace that they describe.
+use Rattle.std.specs.Prelude.{◌≤◌}
+use Rattle.nvm_geometry.specs.Faults.{HasNoFault}
+use Rattle.nvm_geometry.specs.Namespace.{Namespace, namespace_of}
+use Rattle.nvm_engine.specs.declared.settings.Settings.{Settings}
+
+-- The numbers that the options take.
+pub record IsInRange (s : Settings) : Type 0 where
+  pub workers : 1 ≤ s.workers
+  pub workers_end : s.workers ≤ 64
+  pub limit : 1 ≤ s.limit
+  pub limit_end : s.limit ≤ 65536
+
+-- the numbers that the options give the namespace
+abbrev pub advertised : Settings → Namespace
+advertised s = namespace_of s.nsze s.block s.nabsn s.nabo s.nawun s.nacwu
+
+-- The options describe a namespace.
+abbrev pub IsNamespace : Settings → Type 0
+IsNamespace s = HasNoFault (advertised s)

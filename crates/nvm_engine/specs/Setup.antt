@@ -1,0 +1,6 @@
+-- What the units are those of.
+use Rattle.nvm_engine.specs.Run.{Setup}
+use Rattle.nvm_engine.specs.declared.units.Units.{Units}
+
+abbrev pub setup_of : Units → Setup
+setup_of u = record { namespace = u.geometry; limit = u.limit }

@@ -1,0 +1,136 @@
+-- The whole namespace as its units, and jobs that are done there part by part.
+use Rattle.std.specs.Prelude.{◌≡◌, ◌≢◌, ℕ, ◌+◌, ◌<◌, ◌≤◌, List, [], ◌∷◌, ◌++◌, map, Option, Some, None, length, vec_len, slice_index_or, Bool, true, false, IsTrue, not}
+use Rattle.std.specs.List.{AllByRecursion}
+use Rattle.nvm_record.specs.Medium.{Medium}
+use Rattle.nvm_record.specs.Status.{successful_completion}
+use Rattle.nvm_record.specs.Step.{Deed, Operation, reads}
+use Rattle.nvm_record.specs.declared.status.Statuses.{Statuses}
+use Rattle.nvm_record.specs.declared.status.Statuses.TheVariants.{One, Two}
+use Rattle.nvm_geometry.specs.Namespace.{Namespace}
+use Rattle.nvm_geometry.specs.Boundaries.{unit_number, units_of}
+use Rattle.nvm_geometry.specs.Parts.{piece_in, part_in, units_met}
+use Rattle.nvm_geometry.specs.declared.piece.Piece.{Piece}
+use Rattle.nvm_plan.specs.Outcome.{units_told, data_told}
+use Rattle.nvm_plan.specs.Reply.{Reply, is_look, is_pair, success_of, stop_of, IsFailedPair, Succeeds}
+use Rattle.nvm_plan.specs.declared.job.Body.{Body}
+use Rattle.nvm_plan.specs.declared.job.Job.{Job}
+use Rattle.nvm_plan.specs.declared.part.PartResult.TheVariants as result
+use Rattle.nvm_store.specs.Contents.{Contents, Holds}
+use Rattle.nvm_store.specs.declared.answers.Answer.TheVariants.{Payload, Status}
+use Rattle.nvm_engine.specs.DoneJob.{told, stopped}
+use Rattle.nvm_engine.specs.Run.{Setup, Counts, Rests, medium_left, counts_left, Does, RunsJob}
+use Rattle.nvm_engine.specs.declared.atomic_unit.AtomicUnit.{AtomicUnit}
+use Rattle.nvm_engine.specs.declared.atomic_unit.Told.{Told}
+use Rattle.nvm_engine.specs.declared.atomic_unit.Told.TheVariants.{Done, Failed, Looked, NoMemory, Full}
+use Rattle.nvm_engine.specs.declared.done_job.DoneJob.{DoneJob}
+
+-- The contents are those of just the LBAs of unit `k`.
+pub record AreOfUnit (ns : Namespace) (k : ℕ) (u : Contents) : Type 0 where
+  pub size : u.size ≡ ns.block_size
+  pub lies : (lba : ℕ) → u.first ≤ lba → lba < u.first + length u.blocks → unit_number ns lba ≡ k
+  pub whole : (lba : ℕ) → lba < ns.nsze → unit_number ns lba ≡ k → (u.first ≤ lba) × (lba < u.first + length u.blocks)
+
+-- Unit k stands at place k, and its history is within the limit.
+abbrev pub AreUnits : Setup → List AtomicUnit → Type 0
+AreUnits s units =
+    (d : AtomicUnit) (k : ℕ) → k < length units
+    → AreOfUnit s.namespace k (slice_index_or units k d).blocks × (vec_len (slice_index_or units k d).history ≤ s.limit)
+
+-- All units stand there.
+pub record IsLaidOut (s : Setup) (units : List AtomicUnit) : Type 0 where
+  pub count : length units ≡ units_of s.namespace
+  pub each : AreUnits s units
+
+-- Each unit holds the medium's blocks, and its history has as many entries as it had changes.
+abbrev pub AreAt : List AtomicUnit → Medium → Counts → Type 0
+AreAt units m counts =
+    (d : AtomicUnit) (k : ℕ) → k < length units
+    → Holds (slice_index_or units k d).blocks m × (counts k ≡ vec_len (slice_index_or units k d).history)
+
+-- All LBAs of the piece lie in its unit.
+abbrev pub LiesIn : Namespace → Piece → Type 0
+LiesIn ns p = (lba : ℕ) → p.first ≤ lba → lba < p.first + p.blocks → unit_number ns lba ≡ p.unit
+
+-- A piece of the range, inside its unit.
+pub record IsPiece (ns : Namespace) (first blocks : ℕ) (p : Piece) : Type 0 where
+  pub known : p.unit < units_of ns
+  pub is : p ≡ piece_in ns first blocks p.unit
+  pub some : 0 < p.blocks
+  pub low : first ≤ p.first
+  pub high : p.first + p.blocks ≤ first + blocks
+  pub lies : LiesIn ns p
+
+-- the reply that was told of a part of the deed in the unit, at this point
+abbrev pub reply_of : ℕ → ℕ → Deed → Told → Reply
+reply_of unit point deed Done =
+    record { part = record { unit = unit; point = point; result = result.Done }; statuses = success_of deed; payload = None }
+reply_of unit point deed (Failed statuses) =
+    record { part = record { unit = unit; point = point; result = result.Failed }; statuses = statuses; payload = None }
+reply_of unit point deed (Looked (Payload bytes)) =
+    record { part = record { unit = unit; point = point; result = result.Looked }; statuses = One successful_completion; payload = Some bytes }
+reply_of unit point deed (Looked (Status status)) =
+    record { part = record { unit = unit; point = point; result = result.Looked }; statuses = One status; payload = None }
+reply_of unit point deed NoMemory =
+    record { part = record { unit = unit; point = point; result = result.NoMemory }; statuses = stop_of deed; payload = None }
+reply_of unit point deed Full =
+    record { part = record { unit = unit; point = point; result = result.Full }; statuses = stop_of deed; payload = None }
+
+-- What may be told of a part of the deed.
+abbrev pub CanBeTold : Deed → Told → Type 0
+CanBeTold deed Done = IsTrue (not (is_look deed))
+CanBeTold deed (Failed statuses) = IsTrue (is_pair deed) × IsFailedPair statuses
+CanBeTold deed (Looked (Payload bytes)) = deed ≡ reads
+CanBeTold deed (Looked (Status status)) = IsTrue (is_look deed) × (deed ≡ reads → status ≢ successful_completion)
+CanBeTold deed NoMemory = Unit {0}
+CanBeTold deed Full = IsTrue (not (is_look deed))
+
+-- What was told of the operation's part in the unit rests on the units as they were, and the units are as
+-- it leaves them.
+abbrev pub DoesPart : Setup → Operation → List AtomicUnit → List AtomicUnit → ℕ → Told → Type 0
+DoesPart s op old new unit told =
+    CanBeTold op.deed told
+    × ((m : Medium) (counts : Counts) → AreAt old m counts
+    → let reply : Reply = reply_of unit (counts unit) op.deed told in
+    let part : Operation = part_in s.namespace op unit in
+    Rests s part m counts reply
+    × AreAt new (medium_left s.namespace.block_size part reply.part.result m) (counts_left unit reply.part.result counts))
+
+-- The job goes on after this: what the part read is added to the bytes.
+abbrev pub GoesOn : Told → List ℕ → List ℕ → Type 0
+GoesOn Done old new = new ≡ old
+GoesOn (Failed statuses) old new = ⊥
+GoesOn (Looked (Payload bytes)) old new = new ≡ old ++ bytes
+GoesOn (Looked (Status status)) old new = (status ≡ successful_completion) × (new ≡ old)
+GoesOn NoMemory old new = ⊥
+GoesOn Full old new = ⊥
+
+-- The job ends with this.
+abbrev pub EndsWith : Body → Told → DoneJob → Type 0
+EndsWith body Done done = ⊥
+EndsWith body (Failed statuses) done = done ≡ told statuses
+EndsWith body (Looked (Payload bytes)) done = done ≡ told (stopped body)
+EndsWith body (Looked (Status status)) done = (status ≢ successful_completion) × (done ≡ told (One status))
+EndsWith body NoMemory done = done ≡ told (stopped body)
+EndsWith body Full done = done ≡ told (stopped body)
+
+-- The parts that are done from a medium and the units' changes, all with success, up to the pieces that
+-- are left.
+pub record AreDone (s : Setup) (op : Operation) (m : Medium) (counts : Counts) (new : List AtomicUnit) (rest : List Piece) (bytes : List ℕ) : Type 0 where
+  pub replies : List Reply
+  pub after : Medium
+  pub counted : Counts
+  pub at : AreAt new after counted
+  pub does : Does s op m counts replies after counted
+  pub units : units_told replies ++ map (λ p. p.unit) rest ≡ units_met s.namespace op.first op.blocks
+  pub each : AllByRecursion (Succeeds op.deed) replies
+  pub bytes_are : data_told replies ≡ bytes
+
+abbrev pub IsUnderWay : Setup → Operation → List AtomicUnit → List AtomicUnit → List Piece → List ℕ → Type 0
+IsUnderWay s op old new rest bytes =
+    (m : Medium) (counts : Counts) → AreAt old m counts → AreDone s op m counts new rest bytes
+
+-- From the units as they were to the units as they are, this was told of the job.
+abbrev pub AnswersTo : Setup → List AtomicUnit → List AtomicUnit → Job → DoneJob → Type 0
+AnswersTo s old new job done =
+    (m : Medium) (counts : Counts) → AreAt old m counts
+    → (after : Medium) × (counted : Counts) × RunsJob s m counts job done after counted × AreAt new after counted

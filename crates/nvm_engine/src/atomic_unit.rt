@@ -1,0 +1,64 @@
+use nvm_record::{NoMemory, Statuses};
+use nvm_store::{ActRef, Answer, Entry, History, Look, UnitBlocks, answer, judge};
+use std::alloc::Global;
+
+/// One atomic unit: its blocks, and the changes that made them.
+#[derive(Drop)]
+pub struct AtomicUnit {
+    pub blocks: UnitBlocks,
+    pub history: History,
+}
+
+/// What became of a job's part in a unit.
+#[derive(Debug, Drop)]
+pub enum Told {
+    /// The change was made.
+    Done,
+    /// The pair's comparison failed.
+    Failed(Statuses),
+    /// What was asked is answered.
+    Looked(Answer),
+    /// A growth was refused.
+    NoMemory,
+    /// The history is at its limit.
+    Full,
+}
+
+impl AtomicUnit {
+    /// Makes the act's change, unless it is a pair whose comparison fails, where the history has room for it
+    /// below `limit`.
+    pub fn change(&mut self, alloc: Global, job: u32, act: ActRef<'_>, limit: u32) -> Told {
+        let statuses = judge(&self.blocks, act);
+        if !statuses.is_success() {
+            return Told::Failed(statuses);
+        }
+        if self.history.len() == limit as usize {
+            return Told::Full;
+        }
+        match self.put(alloc, job, act) {
+            Ok(()) => Told::Done,
+            Err(_) => Told::NoMemory,
+        }
+    }
+
+    /// Keeps the entry, for which memory may be refused, and then changes the blocks, for which none is
+    /// asked.
+    fn put(&mut self, alloc: Global, job: u32, act: ActRef<'_>) -> Result<(), NoMemory> {
+        let entry = Entry {
+            pass: 0,
+            job,
+            act: act.to_act(alloc)?,
+        };
+        self.history.push(entry)?;
+        self.blocks.change(act);
+        Ok(())
+    }
+
+    /// Answers the look.
+    pub fn look(&self, alloc: Global, look: Look<'_>) -> Told {
+        match answer(alloc, &self.blocks, look) {
+            Ok(answer) => Told::Looked(answer),
+            Err(_) => Told::NoMemory,
+        }
+    }
+}

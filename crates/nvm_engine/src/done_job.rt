@@ -1,0 +1,61 @@
+use nvm_plan::Body;
+use nvm_record::{Op, Payload, Status, Statuses};
+
+/// What the host is told of a job.
+#[derive(Debug, Drop)]
+pub struct DoneJob {
+    /// The status of each of its commands.
+    pub statuses: Statuses,
+    /// The data of a Read of status 0/00.
+    pub payload: Option<Payload>,
+}
+
+impl DoneJob {
+    /// A job whose statuses are all that is told of it.
+    pub fn of(statuses: Statuses) -> DoneJob {
+        DoneJob {
+            statuses,
+            payload: None,
+        }
+    }
+
+    /// A job whose parts were all done with success, where `bytes` are what they read.
+    pub fn of_success(body: &Body, bytes: Vec<u8>) -> DoneJob {
+        match body {
+            Body::Single(command) => DoneJob {
+                statuses: Statuses::One(Status::SUCCESSFUL_COMPLETION),
+                payload: if command.op == Op::Read {
+                    Some(Payload::new(bytes))
+                } else {
+                    None
+                },
+            },
+            Body::Pair(_, _) => DoneJob::of(Statuses::Two(
+                Status::SUCCESSFUL_COMPLETION,
+                Status::SUCCESSFUL_COMPLETION,
+            )),
+        }
+    }
+
+    /// A job whose last part found no memory, or a history at its limit.
+    pub fn of_refused_part(body: &Body) -> DoneJob {
+        match body {
+            Body::Single(_) => DoneJob::of(Statuses::One(Status::INTERNAL_ERROR)),
+            Body::Pair(_, _) => DoneJob::of(Statuses::Two(
+                Status::SUCCESSFUL_COMPLETION,
+                Status::INTERNAL_ERROR,
+            )),
+        }
+    }
+
+    /// A job that found no memory before its first part.
+    pub fn of_no_part(body: &Body) -> DoneJob {
+        match body {
+            Body::Single(_) => DoneJob::of(Statuses::One(Status::INTERNAL_ERROR)),
+            Body::Pair(_, _) => DoneJob::of(Statuses::Two(
+                Status::INTERNAL_ERROR,
+                Status::ABORTED_DUE_TO_FAILED_FUSED_COMMAND,
+            )),
+        }
+    }
+}

@@ -1,0 +1,85 @@
+ghost use Rattle.std.specs.Prelude.{◌≡◌};
+ghost use Rattle.nvm_engine.specs.declared.fault.Fault.TheVariants.{NoMemory};
+ghost use Rattle.nvm_engine.specs.Fault.{fault_of_host};
+
+use nvm_geometry::GeometryFault;
+use nvm_record::HostFault;
+use std::alloc::{AllocError, AllocFailed};
+use thiserror::Error;
+
+/// Why the program shows no lines. Each prints its one line, which goes to standard error.
+#[derive(Debug, Drop, Error)]
+pub enum Fault {
+    /// The options describe no namespace.
+    #[error("nvmu: geometry: {0}")]
+    Geometry(GeometryFault),
+    /// There are more than 64 host files.
+    #[error("nvmu: too many hosts")]
+    TooManyHosts,
+    /// A file couldn't be read.
+    #[error("nvmu: cannot read {path}")]
+    CannotRead { path: String },
+    /// The record couldn't be written.
+    #[error("nvmu: cannot write {path}")]
+    CannotWrite { path: String },
+    /// A host's file doesn't begin as a host file. Hosts count from 1.
+    #[error("nvmu: host {host}: bad name")]
+    HostBadName { host: u16 },
+    /// Something in a host's file isn't whole; it begins at offset `at`, in bytes.
+    #[error("nvmu: host {host}: truncated at {at}")]
+    HostTruncated { host: u16, at: u64 },
+    /// A host's file has bytes after 65,536 commands.
+    #[error("nvmu: host {host}: too many commands")]
+    HostTooMany { host: u16 },
+    /// The file doesn't begin as a record.
+    #[error("nvmu: record: bad name")]
+    RecordBadName,
+    /// The record is of a version that isn't known.
+    #[error("nvmu: record: unknown version")]
+    RecordUnknownVersion,
+    /// A field of the record isn't whole; it begins at offset `at`, in bytes.
+    #[error("nvmu: record: truncated at {at}")]
+    RecordTruncated { at: u64 },
+    /// Bytes follow the record, from offset `at` on.
+    #[error("nvmu: record: trailing at {at}")]
+    RecordTrailing { at: u64 },
+    /// The field at offset `at` of the record has a value that isn't allowed.
+    #[error("nvmu: record: bad value at {at}")]
+    RecordBadValue { at: u64 },
+    /// The run has no record in format 1.
+    #[error("nvmu: record: no version 1")]
+    RecordNoVersion1,
+    /// Memory was asked for and refused, outside a command.
+    #[error("nvmu: no memory")]
+    NoMemory,
+}
+
+impl Fault {
+    /// The fault of a host's file. Hosts count from 1.
+    pub fn of_host(host: u16, fault: HostFault) -> Fault
+        ensures { result ≡ fault_of_host host fault }
+    {
+        match fault {
+            HostFault::BadName => Fault::HostBadName { host },
+            HostFault::Truncated { at } => Fault::HostTruncated { host, at },
+            HostFault::TooMany => Fault::HostTooMany { host },
+            HostFault::NoMemory => Fault::NoMemory,
+        }
+    }
+}
+
+impl From<AllocError> for Fault {
+    ghost from_gives = { λ _ e. e ≡ NoMemory };
+
+    fn from(_e: AllocError) -> Fault {
+        Fault::NoMemory
+    }
+}
+
+impl<T: Drop> From<AllocFailed<T>> for Fault {
+    ghost from_gives = { λ _ e. e ≡ NoMemory };
+
+    fn from(_e: AllocFailed<T>) -> Fault {
+        Fault::NoMemory
+    }
+}

@@ -1,0 +1,32 @@
+//! The engine as one call: the bytes of the hosts' files are read, their commands done on a namespace
+//! of zero bytes, and what became of them is shown as text.
+//!
+//! [`execute`] is that call. Which numbers describe a namespace, [`Settings`] says; why nothing is
+//! shown, [`Fault`].
+#![tactic(auto)]
+
+mod atomic_unit;
+#[cfg(test)]
+mod command_tests;
+mod done_job;
+mod execute;
+mod fault;
+#[cfg(test)]
+mod host_file;
+#[cfg(test)]
+mod host_tests;
+mod lines;
+#[cfg(test)]
+mod pair_tests;
+#[cfg(test)]
+mod run_tests;
+mod settings;
+mod shown;
+#[cfg(test)]
+mod unit_tests;
+mod units;
+
+pub use execute::execute;
+pub use fault::Fault;
+pub use settings::Settings;
+pub use shown::Shown;

@@ -1,6 +1,0 @@
--- What the units are those of.
-use Rattle.nvmu.specs.Run.{Setup}
-use Rattle.nvmu.specs.declared.units.Units.{Units}
-
-abbrev pub setup_of : Units → Setup
-setup_of u = record { namespace = u.geometry; limit = u.limit }
