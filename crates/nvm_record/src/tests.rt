@@ -2,6 +2,7 @@
 mod completions;
 mod entries;
 mod host_files;
+mod statuses;
 
 use crate::{BlockSize, Command, Fuse, Op};
 use std::alloc::{AllocError, Global};
