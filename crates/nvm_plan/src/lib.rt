@@ -2,8 +2,21 @@
 //! before anything is done.
 #![tactic(auto)]
 
+mod condition;
+mod decision;
 mod job;
+pub mod laws;
 mod part;
+mod profile;
+mod table;
 
+pub use condition::fits;
+pub use decision::Plan;
 pub use job::{Body, Job};
 pub use part::{Part, PartResult};
+pub use table::plan;
+
+#[cfg(test)]
+mod fit_tests;
+#[cfg(test)]
+mod plan_tests;
