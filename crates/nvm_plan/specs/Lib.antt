@@ -1,0 +1,2 @@
+pub mod Profile
+pub mod Jobs

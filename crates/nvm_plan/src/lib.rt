@@ -3,7 +3,10 @@
 #![tactic(auto)]
 
 mod job;
+mod order;
+mod pairing;
 mod part;
 
 pub use job::{Body, Job};
+pub use order::jobs;
 pub use part::{Part, PartResult};
