@@ -1,0 +1,3 @@
+pub mod OnePairing
+pub mod TurnOrder
+pub mod TurnSteps

@@ -6,3 +6,4 @@ pub mod Fits
 pub mod Reply
 pub mod Outcome
 pub mod Shape
+pub mod Jobs

@@ -6,6 +6,8 @@ mod condition;
 mod decision;
 mod job;
 pub mod laws;
+mod order;
+mod pairing;
 mod part;
 mod profile;
 mod table;
@@ -13,6 +15,7 @@ mod table;
 pub use condition::fits;
 pub use decision::Plan;
 pub use job::{Body, Job};
+pub use order::jobs;
 pub use part::{Part, PartResult};
 pub use table::plan;
 

@@ -1,0 +1,66 @@
+ghost use Rattle.std.specs.Prelude.{◌≡◌, ◌<◌, ◌^◌, length, map, IfOk};
+ghost use Rattle.std.specs.List.{enumerate_from};
+ghost use Rattle.nvm_plan.specs.Jobs.{IsJobList};
+
+use crate::job::Job;
+use crate::pairing::next_body;
+use nvm_record::{Command, NoMemory};
+use std::alloc::Global;
+use std::collections::VecDeque;
+
+/// A host that waits for its turn.
+#[derive(Drop)]
+struct Waiting {
+    /// The number of the host, from 1.
+    host: u16,
+    /// Its commands that no job has yet.
+    commands: VecDeque<Command>,
+}
+
+/// The jobs of the hosts' commands, in the order in which they are done: one job of each host in turn,
+/// hosts in their order, the first being host 1. A host without a job left is skipped.
+///
+/// The lists are used up, so that no data is copied. `NoMemory` is answered where a growth was refused.
+pub fn jobs(alloc: Global, hosts: Vec<Vec<Command>>) -> Result<Vec<Job>, NoMemory>
+    requires { length hosts.items < 2 ^ 16 }
+    ensures { IfOk result (λ jobs. IsJobList (map (λ commands. commands.items) hosts.items) jobs.items) }
+{
+    let most = commands_in(&hosts);
+    let mut waiting = numbered(alloc, hosts)?;
+    let mut jobs = Vec::with_capacity(alloc, most)?;
+    while let Some(mut next) = waiting.pop_front() {
+        if let Some(body) = next_body(&mut next.commands) {
+            jobs.push(Job {
+                host: next.host,
+                body,
+            })?;
+            waiting.push_back(next)?;
+        }
+    }
+    Ok(jobs)
+}
+
+/// The hosts in their order, numbered from 1.
+fn numbered(alloc: Global, hosts: Vec<Vec<Command>>) -> Result<VecDeque<Waiting>, NoMemory>
+    requires { length hosts.items < 2 ^ 16 }
+    ensures { IfOk result (λ q. map (λ w. (w.host, w.commands.items)) q.items
+        ≡ enumerate_from 1 (map (λ commands. commands.items) hosts.items)) }
+{
+    let mut waiting = VecDeque::with_capacity(alloc, hosts.len())?;
+    for (place, commands) in hosts.into_iter().enumerate() {
+        waiting.push_back(Waiting {
+            host: place as u16 + 1,
+            commands: VecDeque::from_vec(commands),
+        })?;
+    }
+    Ok(waiting)
+}
+
+/// How many commands there are, which is the most jobs that they can be.
+fn commands_in(hosts: &[Vec<Command>]) -> usize {
+    let mut commands: usize = 0;
+    for host in hosts {
+        commands = commands.saturating_add(host.len());
+    }
+    commands
+}
