@@ -1,5 +1,7 @@
 -- What hosts are told of jobs.
-use Rattle.std.specs.Prelude.{None}
+use Rattle.std.specs.Prelude.{ℕ, List, Option, Some, None}
+use Rattle.nvm_record.specs.declared.op.Op.{Op}
+use Rattle.nvm_record.specs.declared.op.Op.TheVariants.{Write, Read, WriteUncorrectable, Compare, WriteZeroes, Other}
 use Rattle.nvm_record.specs.declared.status.Statuses.{Statuses}
 use Rattle.nvm_record.specs.declared.status.Statuses.TheVariants.{One, Two}
 use Rattle.nvm_record.specs.Status.{successful_completion, internal_error, aborted_due_to_failed_fused_command}
@@ -25,3 +27,17 @@ stopped (Pair c d) = Two successful_completion internal_error
 abbrev pub unstarted : Body → Statuses
 unstarted (Single c) = One internal_error
 unstarted (Pair c d) = Two internal_error aborted_due_to_failed_fused_command
+
+-- the data of a command that read these bytes: a Read has them, another one has none
+abbrev pub data_read : Op → List ℕ → Option (List ℕ)
+data_read Write bytes = None
+data_read Read bytes = Some bytes
+data_read WriteUncorrectable bytes = None
+data_read Compare bytes = None
+data_read WriteZeroes bytes = None
+data_read (Other opcode) bytes = None
+
+-- what is told of a job all parts of which succeeded
+abbrev pub succeeded : Body → List ℕ → DoneJob
+succeeded (Single c) bytes = record { statuses = success (Single c); payload = data_read c.op bytes }
+succeeded (Pair c d) bytes = told (success (Pair c d))

@@ -4,15 +4,17 @@ use Rattle.std.specs.List.{AllByRecursion}
 use Rattle.nvm_record.specs.Medium.{Medium}
 use Rattle.nvm_record.specs.Status.{successful_completion}
 use Rattle.nvm_record.specs.Step.{Deed, Operation, reads}
+use Rattle.nvm_record.specs.declared.command.Command.{Command}
 use Rattle.nvm_record.specs.declared.status.Statuses.{Statuses}
 use Rattle.nvm_record.specs.declared.status.Statuses.TheVariants.{One, Two}
 use Rattle.nvm_geometry.specs.Namespace.{Namespace}
 use Rattle.nvm_geometry.specs.Boundaries.{unit_number, units_of}
-use Rattle.nvm_geometry.specs.Parts.{piece_in, part_in, units_met}
+use Rattle.nvm_geometry.specs.Parts.{piece_in, pieces_of, part_in, units_met}
 use Rattle.nvm_geometry.specs.declared.piece.Piece.{Piece}
-use Rattle.nvm_plan.specs.Outcome.{units_told, data_told}
+use Rattle.nvm_plan.specs.Outcome.{units_told, data_told, IsOutcomeOf}
 use Rattle.nvm_plan.specs.Reply.{Reply, is_look, is_pair, success_of, stop_of, IsFailedPair, Succeeds}
 use Rattle.nvm_plan.specs.declared.job.Body.{Body}
+use Rattle.nvm_plan.specs.declared.job.Body.TheVariants.{Single, Pair}
 use Rattle.nvm_plan.specs.declared.job.Job.{Job}
 use Rattle.nvm_plan.specs.declared.part.PartResult.TheVariants as result
 use Rattle.nvm_store.specs.Contents.{Contents, Holds}
@@ -59,6 +61,25 @@ pub record IsPiece (ns : Namespace) (first blocks : ℕ) (p : Piece) : Type 0 wh
   pub low : first ≤ p.first
   pub high : p.first + p.blocks ≤ first + blocks
   pub lies : LiesIn ns p
+
+-- the LBAs of the piece are some, and lie in its unit
+pub record IsInside (ns : Namespace) (p : Piece) : Type 0 where
+  pub known : p.unit < units_of ns
+  pub some : 0 < p.blocks
+  pub high : p.first + p.blocks ≤ ns.nsze
+  pub lies : LiesIn ns p
+
+-- the command whose range is that of the job
+abbrev pub leader : Body → Command
+leader (Single c) = c
+leader (Pair c d) = c
+
+-- the pieces of a job's range
+abbrev pub body_pieces : Namespace → Body → List Piece
+body_pieces ns body = pieces_of ns (leader body).slba ((leader body).nlb + 1)
+
+abbrev pub IsPieceOf : Namespace → Body → Piece → Type 0
+IsPieceOf ns body p = IsPiece ns (leader body).slba ((leader body).nlb + 1) p
 
 -- the reply that was told of a part of the deed in the unit, at this point
 abbrev pub reply_of : ℕ → ℕ → Deed → Told → Reply
@@ -128,6 +149,13 @@ pub record AreDone (s : Setup) (op : Operation) (m : Medium) (counts : Counts) (
 abbrev pub IsUnderWay : Setup → Operation → List AtomicUnit → List AtomicUnit → List Piece → List ℕ → Type 0
 IsUnderWay s op old new rest bytes =
     (m : Medium) (counts : Counts) → AreAt old m counts → AreDone s op m counts new rest bytes
+
+-- From the units as they were to the units as they are, this was told of the operation's parts.
+abbrev pub DoesParts : Setup → Operation → List AtomicUnit → List AtomicUnit → DoneJob → Type 0
+DoesParts s op old new done =
+    (m : Medium) (counts : Counts) → AreAt old m counts
+    → (replies : List Reply) × (after : Medium) × (counted : Counts) × AreAt new after counted
+    × Does s op m counts replies after counted × IsOutcomeOf s.namespace op replies done.statuses done.payload
 
 -- From the units as they were to the units as they are, this was told of the job.
 abbrev pub AnswersTo : Setup → List AtomicUnit → List AtomicUnit → Job → DoneJob → Type 0

@@ -1,3 +1,8 @@
+ghost use Rattle.std.specs.Prelude.{◌≡◌, ◌≤◌, OnOk, OnErr, vec_len};
+ghost use Rattle.nvm_store.specs.ActRef.{lent_operation_of};
+ghost use Rattle.nvm_store.specs.Contents.{Covers, Succeeds};
+ghost use Rattle.nvm_store.specs.Look.{look_operation_of};
+
 use nvm_record::{NoMemory, Statuses};
 use nvm_store::{ActRef, Answer, Entry, History, Look, UnitBlocks, answer, judge};
 use std::alloc::Global;
@@ -25,9 +30,15 @@ pub enum Told {
 }
 
 impl AtomicUnit {
+    ghost use Rattle.nvm_engine.specs.AtomicUnit.{IsChanged, IsLookedAt, IsKept, IsStepped};
+
     /// Makes the act's change, unless it is a pair whose comparison fails, where the history has room for it
     /// below `limit`.
-    pub fn change(&mut self, alloc: Global, job: u32, act: ActRef<'_>, limit: u32) -> Told {
+    pub fn change(&mut self, alloc: Global, job: u32, act: ActRef<'_>, limit: u32) -> Told
+        requires covered { Covers self.old.blocks (lent_operation_of act) }
+        requires few { vec_len self.old.history ≤ limit }
+        ensures { IsChanged limit self.old self.new (lent_operation_of act.entry) result }
+    {
         let statuses = judge(&self.blocks, act);
         if !statuses.is_success() {
             return Told::Failed(statuses);
@@ -43,7 +54,12 @@ impl AtomicUnit {
 
     /// Keeps the entry, for which memory may be refused, and then changes the blocks, for which none is
     /// asked.
-    fn put(&mut self, alloc: Global, job: u32, act: ActRef<'_>) -> Result<(), NoMemory> {
+    fn put(&mut self, alloc: Global, job: u32, act: ActRef<'_>) -> Result<(), NoMemory>
+        requires covered { Covers self.old.blocks (lent_operation_of act) }
+        requires success { Succeeds self.old.blocks (lent_operation_of act) }
+        ensures done { OnOk result (IsStepped self.old self.new (lent_operation_of act.entry)) }
+        ensures kept { OnErr result (IsKept self.old self.new) }
+    {
         let entry = Entry {
             pass: 0,
             job,
@@ -55,7 +71,10 @@ impl AtomicUnit {
     }
 
     /// Answers the look.
-    pub fn look(&self, alloc: Global, look: Look<'_>) -> Told {
+    pub fn look(&self, alloc: Global, look: Look<'_>) -> Told
+        requires { Covers self.now.blocks (look_operation_of look) }
+        ensures { IsLookedAt self.now (look_operation_of look.entry) result }
+    {
         match answer(alloc, &self.blocks, look) {
             Ok(answer) => Told::Looked(answer),
             Err(_) => Told::NoMemory,

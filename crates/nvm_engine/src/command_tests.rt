@@ -82,7 +82,7 @@ fn zeroes_and_compares_cross_units(rt: HostRuntime) -> Result<(), Fail> {
 #[test]
 fn unknown_opcode_reserved_fuse_and_other_namespace(rt: HostRuntime) -> Result<(), Fail> {
     let commands = [
-        brief(0x7f, 0, 1, 0),
+        unfused(0x7f, 0, 1, 0),
         Brief {
             fuse: 3,
             ..write(0, 1, 0x41)

@@ -1,3 +1,7 @@
+ghost use Rattle.std.specs.Prelude.{◌≡◌};
+ghost use Rattle.nvm_engine.specs.DoneJob as spec;
+ghost use Rattle.nvm_engine.specs.DoneJob.{told};
+
 use nvm_plan::Body;
 use nvm_record::{Op, Payload, Status, Statuses};
 
@@ -12,7 +16,9 @@ pub struct DoneJob {
 
 impl DoneJob {
     /// A job whose statuses are all that is told of it.
-    pub fn of(statuses: Statuses) -> DoneJob {
+    pub fn of(statuses: Statuses) -> DoneJob
+        ensures { result ≡ told statuses }
+    {
         DoneJob {
             statuses,
             payload: None,
@@ -20,7 +26,9 @@ impl DoneJob {
     }
 
     /// A job whose parts were all done with success, where `bytes` are what they read.
-    pub fn of_success(body: &Body, bytes: Vec<u8>) -> DoneJob {
+    pub fn of_success(body: &Body, bytes: Vec<u8>) -> DoneJob
+        ensures { result ≡ spec.succeeded body.now bytes.items }
+    {
         match body {
             Body::Single(command) => DoneJob {
                 statuses: Statuses::One(Status::SUCCESSFUL_COMPLETION),
@@ -38,7 +46,9 @@ impl DoneJob {
     }
 
     /// A job whose last part found no memory, or a history at its limit.
-    pub fn of_refused_part(body: &Body) -> DoneJob {
+    pub fn of_refused_part(body: &Body) -> DoneJob
+        ensures { result ≡ told (spec.stopped body.now) }
+    {
         match body {
             Body::Single(_) => DoneJob::of(Statuses::One(Status::INTERNAL_ERROR)),
             Body::Pair(_, _) => DoneJob::of(Statuses::Two(
@@ -49,7 +59,9 @@ impl DoneJob {
     }
 
     /// A job that found no memory before its first part.
-    pub fn of_no_part(body: &Body) -> DoneJob {
+    pub fn of_no_part(body: &Body) -> DoneJob
+        ensures { result ≡ told (spec.unstarted body.now) }
+    {
         match body {
             Body::Single(_) => DoneJob::of(Statuses::One(Status::INTERNAL_ERROR)),
             Body::Pair(_, _) => DoneJob::of(Statuses::Two(

@@ -93,7 +93,7 @@ pub struct Brief {
 }
 
 /// A command in namespace 1 that isn't fused.
-pub fn brief(opcode: u8, slba: u64, blocks: u16, filler: u8) -> Brief {
+pub fn unfused(opcode: u8, slba: u64, blocks: u16, filler: u8) -> Brief {
     Brief {
         opcode,
         fuse: 0,
@@ -105,23 +105,23 @@ pub fn brief(opcode: u8, slba: u64, blocks: u16, filler: u8) -> Brief {
 }
 
 pub fn write(slba: u64, blocks: u16, filler: u8) -> Brief {
-    brief(WRITE, slba, blocks, filler)
+    unfused(WRITE, slba, blocks, filler)
 }
 
 pub fn compare(slba: u64, blocks: u16, filler: u8) -> Brief {
-    brief(COMPARE, slba, blocks, filler)
+    unfused(COMPARE, slba, blocks, filler)
 }
 
 pub fn read(slba: u64, blocks: u16) -> Brief {
-    brief(READ, slba, blocks, 0)
+    unfused(READ, slba, blocks, 0)
 }
 
 pub fn zeroes(slba: u64, blocks: u16) -> Brief {
-    brief(0x08, slba, blocks, 0)
+    unfused(0x08, slba, blocks, 0)
 }
 
 pub fn uncorrectable(slba: u64, blocks: u16) -> Brief {
-    brief(0x04, slba, blocks, 0)
+    unfused(0x04, slba, blocks, 0)
 }
 
 /// The same as the first command of a pair.

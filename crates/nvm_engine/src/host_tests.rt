@@ -1,5 +1,5 @@
 //! Runs of several hosts, and of too many.
-use crate::execute::execute;
+use crate::engine::execute;
 use crate::host_file::*;
 use crate::run_tests::expect_of;
 use crate::unit_tests::FOUR_UNITS;

@@ -9,7 +9,8 @@ mod atomic_unit;
 #[cfg(test)]
 mod command_tests;
 mod done_job;
-mod execute;
+mod ending;
+mod engine;
 mod fault;
 #[cfg(test)]
 mod host_file;
@@ -18,6 +19,7 @@ mod host_tests;
 mod lines;
 #[cfg(test)]
 mod pair_tests;
+mod pieces;
 #[cfg(test)]
 mod run_tests;
 mod settings;
@@ -26,7 +28,7 @@ mod shown;
 mod unit_tests;
 mod units;
 
-pub use execute::execute;
+pub use engine::execute;
 pub use fault::Fault;
 pub use settings::Settings;
 pub use shown::Shown;

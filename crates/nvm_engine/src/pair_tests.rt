@@ -127,7 +127,7 @@ fn comparison_comes_before_the_limit(rt: HostRuntime) -> Result<(), Fail> {
 fn unknown_opcode_between_is_no_partner(rt: HostRuntime) -> Result<(), Fail> {
     let commands = [
         first(compare(0, 1, 0)),
-        second(brief(0x7f, 0, 1, 0)),
+        second(unfused(0x7f, 0, 1, 0)),
         second(write(0, 1, 0x61)),
     ];
     let wanted = "1 1 compare 0/0a\n1 2 op-7f 0/01\n1 3 write 0/0a\n";

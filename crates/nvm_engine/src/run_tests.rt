@@ -1,5 +1,5 @@
 //! Runs of host files, by their text and their faults.
-use crate::execute::execute;
+use crate::engine::execute;
 use crate::fault::Fault;
 use crate::host_file::*;
 use crate::settings::Settings;
@@ -149,7 +149,7 @@ fn first_check_that_applies_decides(rt: HostRuntime) -> Result<(), Fail> {
     push_entry(
         &mut file,
         Entry {
-            fuse: 1,
+            fuse: 2,
             cid: 4,
             ..last
         },
@@ -157,7 +157,7 @@ fn first_check_that_applies_decides(rt: HostRuntime) -> Result<(), Fail> {
     push_entry(
         &mut file,
         Entry {
-            fuse: 2,
+            fuse: 1,
             cid: 5,
             ..last
         },

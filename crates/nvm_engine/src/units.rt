@@ -1,9 +1,25 @@
+ghost use Rattle.std.specs.Prelude.{◌≡◌, ◌+◌, ◌*◌, ◌≤◌, ◌<◌, Some, IfOk, length, vec_len};
+ghost use Rattle.nvm_record.specs.Medium.{zero_medium};
+ghost use Rattle.nvm_record.specs.Step.{Operation, HasData, writes, zeroes, uncorrectable, reads, compares, pairs};
+ghost use Rattle.nvm_geometry.specs.Boundaries.{units_of};
+ghost use Rattle.nvm_geometry.specs.Parts.{part_in};
+ghost use Rattle.nvm_plan.specs.Fits.{FitsNamespace, IsWholeBody};
+ghost use Rattle.nvm_plan.specs.Operation.{on_range, operation_of_body};
+ghost use Rattle.nvm_plan.specs.Ready.{IsReadyBody};
+ghost use Rattle.nvm_store.specs.ActRef.{lent_operation_of};
+ghost use Rattle.nvm_store.specs.Contents.{Holds};
+ghost use Rattle.nvm_store.specs.Look.{look_operation_of};
+ghost use Rattle.nvm_engine.specs.Run.{no_changes};
+ghost use Rattle.nvm_engine.specs.Units.{AreOfUnit, IsPiece, IsPieceOf, IsInside, IsLaidOut, AreAt, DoesPart, DoesParts, AnswersTo};
+
 use crate::atomic_unit::{AtomicUnit, Told};
 use crate::done_job::DoneJob;
-use nvm_geometry::{Geometry, Piece};
+use crate::ending::ended;
+use crate::pieces::{part_of, pieces, room};
+use nvm_geometry::{Geometry, Piece, laws};
 use nvm_plan::{Body, Job, Plan, plan};
-use nvm_record::{Command, NoMemory, Op, Payload, Status};
-use nvm_store::{ActRef, Answer, Look, UnitBlocks};
+use nvm_record::{Command, NoMemory, Op};
+use nvm_store::{ActRef, Look, UnitBlocks};
 use std::alloc::Global;
 
 /// A whole namespace: its units, unit k at place k.
@@ -15,8 +31,14 @@ pub struct Units {
 }
 
 impl Units {
+    ghost use Rattle.nvm_engine.specs.Setup.{setup_of};
+
     /// The units of a namespace of zero bytes, each of which may have `limit` changes.
-    pub fn new(alloc: Global, geometry: Geometry, limit: u32) -> Result<Units, NoMemory> {
+    pub fn new(alloc: Global, geometry: Geometry, limit: u32) -> Result<Units, NoMemory>
+        ensures laid { IfOk result (λ u. IsLaidOut (setup_of u) u.units.items) }
+        ensures setup { IfOk result (λ u. setup_of u ≡ record { namespace = geometry; limit = limit }) }
+        ensures zeroes { IfOk result (λ u. AreAt u.units.items (zero_medium geometry.block_size) no_changes) }
+    {
         let mut units = Vec::with_capacity(alloc, geometry.units() as usize)?;
         for unit in 0..geometry.units() {
             units.push(zeroed(alloc, geometry, unit)?)?;
@@ -29,7 +51,13 @@ impl Units {
     }
 
     /// Does a job, or refuses it, and says what its host is told. `number` is its number.
-    pub fn run_job(&mut self, alloc: Global, number: u32, job: &Job) -> DoneJob {
+    pub fn run_job(&mut self, alloc: Global, number: u32, job: &Job) -> DoneJob
+        requires laid { IsLaidOut (setup_of self.old) self.old.units.items }
+        requires fits { FitsNamespace self.old.geometry job.now }
+        ensures laid { IsLaidOut (setup_of self.new) self.new.units.items }
+        ensures setup { setup_of self.new ≡ setup_of self.old }
+        ensures answer { AnswersTo (setup_of self.old) self.old.units.items self.new.units.items job.now result }
+    {
         match plan(&self.geometry, job) {
             Plan::Refused(statuses) => DoneJob::of(statuses),
             Plan::Ready => self.do_parts(alloc, number, &job.body),
@@ -37,12 +65,19 @@ impl Units {
     }
 
     /// Does the parts of a job, up to the first that isn't successful.
-    fn do_parts(&mut self, alloc: Global, number: u32, body: &Body) -> DoneJob {
-        let Ok(mut bytes) = self.room(alloc, body) else {
+    fn do_parts(&mut self, alloc: Global, number: u32, body: &Body) -> DoneJob
+        requires laid { IsLaidOut (setup_of self.old) self.old.units.items }
+        requires ready { IsReadyBody self.old.geometry body.now }
+        requires whole { IsWholeBody self.old.geometry.block_size body.now }
+        ensures laid { IsLaidOut (setup_of self.new) self.new.units.items }
+        ensures setup { setup_of self.new ≡ setup_of self.old }
+        ensures parts { (op : Operation) → operation_of_body body.now ≡ Some op
+            → DoesParts (setup_of self.old) op self.old.units.items self.new.units.items result }
+    {
+        let Ok(mut bytes) = room(alloc, self.geometry, body) else {
             return DoneJob::of_no_part(body);
         };
-        let first = first_command(body);
-        for piece in self.geometry.parts(first.slba, first.nlb as u32 + 1) {
+        for piece in pieces(self.geometry, body) {
             let told = self.do_part(alloc, number, body, piece);
             if let Some(done) = ended(body, told, &mut bytes) {
                 return done;
@@ -51,70 +86,117 @@ impl Units {
         DoneJob::of_success(body, bytes)
     }
 
-    /// Room for the data of a Read over several units. In one unit, the data of its one part is taken as
-    /// it is.
-    fn room(&self, alloc: Global, body: &Body) -> Result<Vec<u8>, NoMemory> {
-        let first = first_command(body);
-        let blocks = first.nlb as u32 + 1;
-        if first.op == Op::Read && self.geometry.crosses(first.slba, blocks) {
-            Vec::with_capacity(alloc, blocks as usize * self.block_bytes())
-        } else {
-            Ok(Vec::new(alloc))
-        }
-    }
-
     /// Does the part of a job in the unit of a piece of its range.
-    fn do_part(&mut self, alloc: Global, number: u32, body: &Body, piece: Piece) -> Told {
+    fn do_part(&mut self, alloc: Global, number: u32, body: &Body, piece: Piece) -> Told
+        requires laid { IsLaidOut (setup_of self.old) self.old.units.items }
+        requires ready { IsReadyBody self.old.geometry body.now }
+        requires whole { IsWholeBody self.old.geometry.block_size body.now }
+        requires piece { IsPieceOf self.old.geometry body.now piece }
+        ensures laid { IsLaidOut (setup_of self.new) self.new.units.items }
+        ensures setup { setup_of self.new ≡ setup_of self.old }
+        ensures part { (op : Operation) → operation_of_body body.now ≡ Some op
+            → DoesPart (setup_of self.old) op self.old.units.items self.new.units.items piece.unit result }
+    {
         match body {
             Body::Single(command) => match command.op {
-                Op::Read | Op::Compare => self.look_at(alloc, command, piece),
-                _ => self.change(alloc, number, command, piece),
+                Op::Read => self.read(alloc, command, piece),
+                Op::Compare => self.compare(alloc, command, piece),
+                Op::Write => self.write(alloc, number, command, piece),
+                Op::WriteZeroes => self.zero(alloc, number, command, piece),
+                _ => self.mark(alloc, number, command, piece),
             },
-            Body::Pair(compare, write) => self.compare_and_write(alloc, number, compare, write, piece),
+            Body::Pair(compare, write) => {
+                self.compare_and_write(alloc, number, compare, write, piece)
+            }
         }
     }
 
-    /// Does the part of a Read or a Compare.
-    fn look_at(&self, alloc: Global, command: &Command, piece: Piece) -> Told {
-        let Piece {
-            unit,
-            first,
-            blocks,
-        } = piece;
-        let look = if command.op == Op::Read {
-            Look::Read { first, blocks }
-        } else {
-            let payload = part_of(command, piece, self.block_bytes());
-            Look::Compare {
-                first,
-                blocks,
-                payload,
-            }
+    /// Does the part of a Read.
+    fn read(&self, alloc: Global, command: &Command, piece: Piece) -> Told
+        requires laid { IsLaidOut (setup_of self.now) self.now.units.items }
+        requires range { command.now.slba + (command.now.nlb + 1) ≤ self.now.geometry.nsze }
+        requires piece { IsPiece self.now.geometry command.now.slba (command.now.nlb + 1) piece }
+        ensures { DoesPart (setup_of self.now) (on_range command.now reads) self.now.units.items
+            self.now.units.items piece.unit result }
+    {
+        let look = Look::Read {
+            first: piece.first,
+            blocks: piece.blocks,
         };
-        self.units[unit as usize].look(alloc, look)
+        self.look_in(alloc, piece, look)
     }
 
-    /// Does the part of a Write, a Write Zeroes or a Write Uncorrectable.
-    fn change(&mut self, alloc: Global, number: u32, command: &Command, piece: Piece) -> Told {
-        let Piece {
-            unit,
-            first,
-            blocks,
-        } = piece;
-        let act = match command.op {
-            Op::Write => ActRef::Write {
-                first,
-                blocks,
-                payload: part_of(command, piece, self.block_bytes()),
-            },
-            Op::WriteZeroes => ActRef::Zeroes { first, blocks },
-            _ => ActRef::Uncorrectable { first, blocks },
+    /// Does the part of a Compare.
+    fn compare(&self, alloc: Global, command: &Command, piece: Piece) -> Told
+        requires laid { IsLaidOut (setup_of self.now) self.now.units.items }
+        requires payload { length command.now.payload ≡ (command.now.nlb + 1) * self.now.geometry.block_size }
+        requires range { command.now.slba + (command.now.nlb + 1) ≤ self.now.geometry.nsze }
+        requires piece { IsPiece self.now.geometry command.now.slba (command.now.nlb + 1) piece }
+        ensures { DoesPart (setup_of self.now) (on_range command.now (compares command.now.payload))
+            self.now.units.items self.now.units.items piece.unit result }
+    {
+        let look = Look::Compare {
+            first: piece.first,
+            blocks: piece.blocks,
+            payload: part_of(command, piece, self.geometry.block_size()),
         };
-        let limit = self.limit;
-        self.units[unit as usize].change(alloc, number, act, limit)
+        self.look_in(alloc, piece, look)
     }
 
-    /// Does the part of a fused pair.
+    /// Does the part of a Write.
+    fn write(&mut self, alloc: Global, number: u32, command: &Command, piece: Piece) -> Told
+        requires laid { IsLaidOut (setup_of self.old) self.old.units.items }
+        requires payload { length command.now.payload ≡ (command.now.nlb + 1) * self.old.geometry.block_size }
+        requires range { command.now.slba + (command.now.nlb + 1) ≤ self.old.geometry.nsze }
+        requires piece { IsPiece self.old.geometry command.now.slba (command.now.nlb + 1) piece }
+        ensures laid { IsLaidOut (setup_of self.new) self.new.units.items }
+        ensures setup { setup_of self.new ≡ setup_of self.old }
+        ensures part { DoesPart (setup_of self.old) (on_range command.now (writes command.now.payload))
+            self.old.units.items self.new.units.items piece.unit result }
+    {
+        let act = ActRef::Write {
+            first: piece.first,
+            blocks: piece.blocks,
+            payload: part_of(command, piece, self.geometry.block_size()),
+        };
+        self.change_in(alloc, number, piece, act)
+    }
+
+    /// Does the part of a Write Zeroes.
+    fn zero(&mut self, alloc: Global, number: u32, command: &Command, piece: Piece) -> Told
+        requires laid { IsLaidOut (setup_of self.old) self.old.units.items }
+        requires range { command.now.slba + (command.now.nlb + 1) ≤ self.old.geometry.nsze }
+        requires piece { IsPiece self.old.geometry command.now.slba (command.now.nlb + 1) piece }
+        ensures laid { IsLaidOut (setup_of self.new) self.new.units.items }
+        ensures setup { setup_of self.new ≡ setup_of self.old }
+        ensures part { DoesPart (setup_of self.old) (on_range command.now zeroes) self.old.units.items
+            self.new.units.items piece.unit result }
+    {
+        let act = ActRef::Zeroes {
+            first: piece.first,
+            blocks: piece.blocks,
+        };
+        self.change_in(alloc, number, piece, act)
+    }
+
+    /// Does the part of a Write Uncorrectable.
+    fn mark(&mut self, alloc: Global, number: u32, command: &Command, piece: Piece) -> Told
+        requires laid { IsLaidOut (setup_of self.old) self.old.units.items }
+        requires range { command.now.slba + (command.now.nlb + 1) ≤ self.old.geometry.nsze }
+        requires piece { IsPiece self.old.geometry command.now.slba (command.now.nlb + 1) piece }
+        ensures laid { IsLaidOut (setup_of self.new) self.new.units.items }
+        ensures setup { setup_of self.new ≡ setup_of self.old }
+        ensures part { DoesPart (setup_of self.old) (on_range command.now uncorrectable) self.old.units.items
+            self.new.units.items piece.unit result }
+    {
+        let act = ActRef::Uncorrectable {
+            first: piece.first,
+            blocks: piece.blocks,
+        };
+        self.change_in(alloc, number, piece, act)
+    }
+
+    /// Does the part of a fused pair, whose second command has the range of the first.
     fn compare_and_write(
         &mut self,
         alloc: Global,
@@ -122,74 +204,74 @@ impl Units {
         compare: &Command,
         write: &Command,
         piece: Piece,
-    ) -> Told {
-        let size = self.block_bytes();
+    ) -> Told
+        requires laid { IsLaidOut (setup_of self.old) self.old.units.items }
+        requires slba { write.now.slba ≡ compare.now.slba }
+        requires nlb { write.now.nlb ≡ compare.now.nlb }
+        requires compared { length compare.now.payload ≡ (compare.now.nlb + 1) * self.old.geometry.block_size }
+        requires written { length write.now.payload ≡ (compare.now.nlb + 1) * self.old.geometry.block_size }
+        requires range { compare.now.slba + (compare.now.nlb + 1) ≤ self.old.geometry.nsze }
+        requires piece { IsPiece self.old.geometry compare.now.slba (compare.now.nlb + 1) piece }
+        ensures laid { IsLaidOut (setup_of self.new) self.new.units.items }
+        ensures setup { setup_of self.new ≡ setup_of self.old }
+        ensures part { DoesPart (setup_of self.old) (on_range compare.now (pairs compare.now.payload write.now.payload))
+            self.old.units.items self.new.units.items piece.unit result }
+    {
+        let size = self.geometry.block_size();
         let act = ActRef::Pair {
             first: piece.first,
             blocks: piece.blocks,
             compare: part_of(compare, piece, size),
             write: part_of(write, piece, size),
         };
-        let limit = self.limit;
-        self.units[piece.unit as usize].change(alloc, number, act, limit)
+        self.change_in(alloc, number, piece, act)
     }
 
-    /// How many bytes a block has.
-    fn block_bytes(&self) -> usize {
-        self.geometry.block_size().bytes() as usize
+    /// Makes a change in the unit of a piece.
+    fn change_in(&mut self, alloc: Global, number: u32, piece: Piece, act: ActRef<'_>) -> Told
+        requires laid { IsLaidOut (setup_of self.old) self.old.units.items }
+        requires piece { IsInside self.old.geometry piece }
+        requires first { (lent_operation_of act).first ≡ piece.first }
+        requires blocks { (lent_operation_of act).blocks ≡ piece.blocks }
+        requires payload { HasData (piece.blocks * self.old.geometry.block_size) (lent_operation_of act).deed }
+        ensures laid { IsLaidOut (setup_of self.new) self.new.units.items }
+        ensures setup { setup_of self.new ≡ setup_of self.old }
+        ensures part { (op : Operation) → lent_operation_of act.entry ≡ part_in self.old.geometry op piece.unit
+            → DoesPart (setup_of self.old) op self.old.units.items self.new.units.items piece.unit result }
+    {
+        laws::part_has_its_blocks();
+        let limit = self.limit;
+        let unit = &mut self.units[piece.unit as usize];
+        unit.change(alloc, number, act, limit)
+    }
+
+    /// Looks at the unit of a piece.
+    fn look_in(&self, alloc: Global, piece: Piece, look: Look<'_>) -> Told
+        requires laid { IsLaidOut (setup_of self.now) self.now.units.items }
+        requires piece { IsInside self.now.geometry piece }
+        requires first { (look_operation_of look).first ≡ piece.first }
+        requires blocks { (look_operation_of look).blocks ≡ piece.blocks }
+        requires payload { HasData (piece.blocks * self.now.geometry.block_size) (look_operation_of look).deed }
+        ensures { (op : Operation) → look_operation_of look.entry ≡ part_in self.now.geometry op piece.unit
+            → DoesPart (setup_of self.now) op self.now.units.items self.now.units.items piece.unit result }
+    {
+        let unit = &self.units[piece.unit as usize];
+        unit.look(alloc, look)
     }
 }
 
 /// A unit of zero bytes.
-fn zeroed(alloc: Global, geometry: Geometry, unit: u16) -> Result<AtomicUnit, NoMemory> {
+fn zeroed(alloc: Global, geometry: Geometry, unit: u16) -> Result<AtomicUnit, NoMemory>
+    requires { unit < units_of geometry }
+    ensures place { IfOk result (λ u. AreOfUnit geometry unit u.blocks) }
+    ensures zeroes { IfOk result (λ u. Holds u.blocks (zero_medium geometry.block_size)) }
+    ensures empty { IfOk result (λ u. vec_len u.history ≡ 0) }
+{
+    let _nsze = geometry.nsze();
     let (first, blocks) = geometry.unit_range(unit);
     let blocks = UnitBlocks::zeroed(alloc, first, blocks, geometry.block_size())?;
     Ok(AtomicUnit {
         blocks,
         history: Vec::new(alloc),
     })
-}
-
-/// The command whose range is that of the job.
-fn first_command(body: &Body) -> &Command {
-    match body {
-        Body::Single(command) => command,
-        Body::Pair(compare, _) => compare,
-    }
-}
-
-/// The data of a command that belongs to a piece of its range, in blocks of `size` bytes.
-fn part_of(command: &Command, piece: Piece, size: usize) -> &[u8] {
-    let skipped = (piece.first - command.slba) as usize;
-    &command.payload.as_slice()[skipped * size..(skipped + piece.blocks as usize) * size]
-}
-
-/// What the host is told where a job ends with this part, or `None` where it goes on. What a part read is
-/// added to `bytes`.
-fn ended(body: &Body, told: Told, bytes: &mut Vec<u8>) -> Option<DoneJob> {
-    match told {
-        Told::Done => None,
-        Told::Looked(Answer::Payload(payload)) => match add(bytes, payload) {
-            Ok(()) => None,
-            Err(_) => Some(DoneJob::of_refused_part(body)),
-        },
-        Told::Looked(Answer::Status(status)) => {
-            if status == Status::SUCCESSFUL_COMPLETION {
-                None
-            } else {
-                Some(DoneJob::of(nvm_record::Statuses::One(status)))
-            }
-        }
-        Told::Failed(statuses) => Some(DoneJob::of(statuses)),
-        Told::NoMemory | Told::Full => Some(DoneJob::of_refused_part(body)),
-    }
-}
-
-/// Adds what a part read. Where no room was made, it is all that is read, and isn't copied.
-fn add(bytes: &mut Vec<u8>, payload: Payload) -> Result<(), NoMemory> {
-    if bytes.is_empty() && bytes.capacity() < payload.len() {
-        *bytes = payload.into_vec();
-        return Ok(());
-    }
-    bytes.extend_from_slice(payload.as_slice())
 }

@@ -1,0 +1,133 @@
+ghost use Rattle.std.specs.Prelude.{◌≡◌, ◌<◌, ◌≤◌, ◌⊎◌, ◌^◌, ℕ, All, IfOk, IfErr, OnOk, length, map};
+ghost use Rattle.nvm_record.specs.Entry.{IsWhole};
+ghost use Rattle.nvm_record.specs.HostFile.{IsHostFile};
+ghost use Rattle.nvm_record.specs.Medium.{zero_medium};
+ghost use Rattle.nvm_plan.specs.Fits.{FitsNamespace};
+ghost use Rattle.nvm_engine.specs.declared.fault.Fault.TheVariants.{NoMemory};
+ghost use Rattle.nvm_engine.specs.Fault.{IsFirstFault, IsGeometryFault, IsFileFault, IsFilesFault};
+ghost use Rattle.nvm_engine.specs.Run.{no_changes, IsRun};
+ghost use Rattle.nvm_engine.specs.Settings.{IsNamespace, advertised};
+ghost use Rattle.nvm_engine.specs.Shown.{setup_of, AreHostFiles, IsShown};
+
+use crate::done_job::DoneJob;
+use crate::fault::Fault;
+use crate::lines::push_jobs;
+use crate::settings::Settings;
+use crate::shown::Shown;
+use crate::units::Units;
+use nvm_geometry::Geometry;
+use nvm_plan::{Job, jobs};
+use nvm_record::{BlockSize, Command, NoMemory, read_host};
+use std::alloc::Global;
+
+/// A namespace has at most so many hosts.
+const MOST_HOSTS: usize = 64;
+
+/// Does the commands of the hosts' files, of which the first is host 1's, on a namespace of zero bytes,
+/// and says what to show: for each command the line of its completion, in the order in which the jobs are
+/// done.
+///
+/// The first fault is answered: more than 64 files, then one of the settings, then one of a file, or
+/// `NoMemory` where a growth outside a command was refused. Nothing is shown then.
+pub fn execute(alloc: Global, settings: &Settings, files: &[Vec<u8>]) -> Result<Shown, Fault>
+    // What is shown is the text of a run of the files' commands, and it ends well.
+    ensures shown { IfOk result (IsShown settings.now (map (λ file. file.items) files.now)) }
+    ensures fault { IfErr result (IsFirstFault settings.now (map (λ file. file.items) files.now)) }
+{
+    if files.len() > MOST_HOSTS {
+        return Err(Fault::TooManyHosts);
+    }
+    let geometry = geometry_of(settings)?;
+    let hosts = hosts_of(alloc, geometry.block_size(), files)?;
+    let jobs = jobs(alloc, hosts)?;
+    let done = done_jobs(alloc, settings, geometry, jobs.as_slice())?;
+    let mut text = String::new(alloc);
+    push_jobs(&mut text, jobs.as_slice(), done)?;
+    Ok(Shown {
+        text: text.into_bytes(),
+        rec: None,
+        status: 0,
+    })
+}
+
+/// The geometry, where the settings describe a namespace.
+fn geometry_of(settings: &Settings) -> Result<Geometry, Fault>
+    ensures numbers { IfOk result (λ geometry. geometry ≡ advertised settings.now) }
+    ensures namespace { OnOk result (IsNamespace settings.now) }
+    ensures fault { IfErr result (IsGeometryFault settings.now) }
+{
+    let Settings {
+        nsze,
+        block,
+        nabsn,
+        nabo,
+        nawun,
+        nacwu,
+        ..
+    } = *settings;
+    match Geometry::new(nsze, block, nabsn, nabo, nawun, nacwu) {
+        Ok(geometry) => Ok(geometry),
+        Err(fault) => Err(Fault::Geometry(fault)),
+    }
+}
+
+/// The commands of each host's file, in the order of the files.
+fn hosts_of(
+    alloc: Global,
+    size: BlockSize,
+    files: &[Vec<u8>],
+) -> Result<Vec<Vec<Command>>, Fault>
+    requires few { length files.now ≤ 64 }
+    ensures commands { IfOk result (λ hosts. AreHostFiles size (map (λ file. file.items) files.now)
+        (map (λ host. host.items) hosts.items)) }
+    ensures whole { IfOk result (λ hosts. All (λ host. All (IsWhole size) host.items) hosts.items) }
+    ensures few { IfOk result (λ hosts. All (λ host. length host.items ≤ 65536) hosts.items) }
+    ensures count { IfOk result (λ hosts. length hosts.items ≡ length files.now) }
+    ensures fault { IfErr result (λ fault. IsFilesFault size 1 (map (λ file. file.items) files.now) fault
+        ⊎ (fault ≡ NoMemory)) }
+{
+    let mut hosts = Vec::with_capacity(alloc, files.len())?;
+    for (place, file) in files.iter().enumerate() {
+        hosts.push(commands_of(alloc, size, place as u16 + 1, file.as_slice())?)?;
+    }
+    Ok(hosts)
+}
+
+/// The commands of a host's file.
+fn commands_of(
+    alloc: Global,
+    size: BlockSize,
+    host: u16,
+    file: &[u8],
+) -> Result<Vec<Command>, Fault>
+    ensures commands { IfOk result (λ commands. IsHostFile size file.now commands.items) }
+    ensures whole { IfOk result (λ commands. All (IsWhole size) commands.items) }
+    ensures fault { IfErr result (λ fault. IsFileFault size host file.now fault ⊎ (fault ≡ NoMemory)) }
+{
+    match read_host(alloc, file, size) {
+        Ok(commands) => Ok(commands),
+        Err(fault) => Err(Fault::of_host(host, fault)),
+    }
+}
+
+/// What the hosts are told of the jobs, in their order.
+fn done_jobs(
+    alloc: Global,
+    settings: &Settings,
+    geometry: Geometry,
+    jobs: &[Job],
+) -> Result<Vec<DoneJob>, NoMemory>
+    requires geometry { geometry ≡ advertised settings.now }
+    requires fit { All (FitsNamespace geometry) jobs.now }
+    requires few { length jobs.now < 2 ^ 32 }
+    ensures run { IfOk result (λ done. IsRun (setup_of settings.now) (zero_medium settings.now.block) no_changes
+        jobs.now done.items) }
+    ensures length { IfOk result (λ done. length done.items ≡ length jobs.now) }
+{
+    let mut units = Units::new(alloc, geometry, settings.limit)?;
+    let mut done = Vec::with_capacity(alloc, jobs.len())?;
+    for (number, job) in jobs.iter().enumerate() {
+        done.push(units.run_job(alloc, number as u32, job))?;
+    }
+    Ok(done)
+}
