@@ -104,7 +104,8 @@ held-changed m old new d start size at op held place len put others e i lt =
                 let b' : block_of (get_or new i d) ≡ block_after size (range_of op m) op.deed (i - at) (m (start + i)) = rw (k, l) at b in
                 let g = medium_after-inside m size op (start + i) (omega arith) (omega arith) in
                 let same : start + i - op.first ≡ i - at = omega arith in
-                a ∙ b' ∙ sym (rw same at g)
+                let same' = ap (λ (n : ℕ). block_after size (range_of op m) op.deed n (m (start + i))) same in
+                a ∙ b' ∙ sym (g ∙ same')
           ]
       | inr below ↦ outside (inl below.1)
     ]

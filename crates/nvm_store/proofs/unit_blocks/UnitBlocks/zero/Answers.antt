@@ -16,5 +16,5 @@ returns-clause-step c m held =
     let len : length c.zero_range.new.blocks ≡ c.self.inside.blocks.len = search rules in
     rw (with_items_is c.self.inside.blocks c.zero_range.new.blocks len, ← c.self.view_is)
     (held-zeroed m items c.zero_range.new.blocks (zero_block 0) c.self.inside.first
-    c.self.inside.size c.args.first c.args.blocks at held' place fits c.self.inside.ok.sized put.len
+    c.self.inside.size c.args.first c.args.blocks at held' place fits c.self.invariant.sized put.len
     (put.zeroed (zero_block 0)) put.others)
