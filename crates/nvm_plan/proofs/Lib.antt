@@ -1,0 +1,3 @@
+pub mod PairLimit
+pub mod Unrefused
+pub mod Ranges
