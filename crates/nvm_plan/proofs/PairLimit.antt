@@ -14,7 +14,7 @@ SharesByNumber = (ns : Namespace) (a b : ℕ) → unit_number ns a ≡ unit_numb
 abbrev pub NumberByUnit : Type 0
 NumberByUnit = (ns : Namespace) (a b : ℕ) → SharesUnit ns a b → unit_number ns a ≡ unit_number ns b
 
-kept : NumberByUnit → (ns : Namespace) (slba blocks : ℕ) → IsWithinPairLimit ns slba blocks → exceeds_pair_limit ns slba blocks ≡ false
+pub kept : NumberByUnit → (ns : Namespace) (slba blocks : ℕ) → IsWithinPairLimit ns slba blocks → exceeds_pair_limit ns slba blocks ≡ false
 kept number ns slba blocks within =
     or_from _ _ (le-ltb (ns.nacwu + 1) blocks within.few)
     (not_from_true _ (eq-eqb _ _ (number ns slba (slba + blocks - 1) within.one_unit)))
