@@ -76,14 +76,14 @@ MayTell deed NoMemory told = told ≡ stop_of deed
 MayTell deed Full told = told ≡ stop_of deed
 
 -- It was a Read by itself, and succeeded: data is told just of this.
-abbrev pub IsRead : Deed → Statuses → Type 0
-IsRead deed told = (deed ≡ reads) × IsSuccess told
+abbrev pub GivesData : Deed → Statuses → Type 0
+GivesData deed told = (deed ≡ reads) × IsSuccess told
 
 -- The reply is one to a part of the deed.
 pub record IsReplyTo (deed : Deed) (r : Reply) : Type 0 where
   pub result : IsTrue (can_have deed r.part.result)
   pub told : MayTell deed r.part.result r.statuses
-  pub payload : IsSome r.payload ↔ IsRead deed r.statuses
+  pub payload : IsSome r.payload ↔ GivesData deed r.statuses
 
 -- The reply is one to a part of the deed that succeeded.
 pub record Succeeds (deed : Deed) (r : Reply) : Type 0 where

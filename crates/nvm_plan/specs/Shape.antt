@@ -14,7 +14,7 @@ use Rattle.nvm_plan.specs.declared.part.PartResult.{PartResult}
 use Rattle.nvm_plan.specs.declared.part.PartResult.TheVariants.{Done, Failed, Looked, NoMemory, Full}
 use Rattle.nvm_plan.specs.Checks.{refusal_of}
 use Rattle.nvm_plan.specs.Operation.{job_operation_of}
-use Rattle.nvm_plan.specs.Reply.{can_have, success_of, stop_of, IsOneStatus, IsRead}
+use Rattle.nvm_plan.specs.Reply.{can_have, success_of, stop_of, IsOneStatus, GivesData}
 use Rattle.nvm_plan.specs.Outcome.{unstarted_of}
 
 -- a part that ended so may have others after it
@@ -57,7 +57,7 @@ HasEnding ns op parts told = ((parts ≡ []) × (told ≡ unstarted_of op.deed))
 
 pub record HasShapeOf (ns : Namespace) (op : Operation) (parts : List Part) (told : Statuses) (read : Option (List ℕ)) : Type 0 where
   pub ending : HasEnding ns op parts told
-  pub payload : IsSome read ↔ IsRead op.deed told
+  pub payload : IsSome read ↔ GivesData op.deed told
 
 -- Nothing was done.
 pub record HasShapeOfRefusal (refusal : Statuses) (parts : List Part) (told : Statuses) (read : Option (List ℕ)) : Type 0 where

@@ -1,14 +1,15 @@
 //! What holds of plans and outcomes by their definitions alone. Each law is a call that does nothing and
 //! whose contract is the law.
 
-ghost use Rattle.std.specs.Prelude.{◌≡◌, ◌≢◌, ◌*◌, ◌+◌, ◌<◌, ◌≤◌, ℕ, List, [], ◌∷◌, map, Option, None, Some, IsSome, IsTrue};
+ghost use Rattle.std.specs.Prelude.{◌≡◌, ◌≢◌, ◌*◌, ◌+◌, ◌<◌, ◌≤◌, ℕ, List, [], ◌∷◌, map, Option, None, Some, IsSome, IsTrue, false};
 ghost use Rattle.nvm_record.specs.declared.status.Statuses.{Statuses};
 ghost use Rattle.nvm_record.specs.Step.{HasData, Operation};
 ghost use Rattle.nvm_geometry.specs.Namespace.{Namespace};
 ghost use Rattle.nvm_geometry.specs.Boundaries.{unit_number};
+ghost use Rattle.nvm_geometry.specs.Limits.{IsWithinPairLimit};
 ghost use Rattle.nvm_geometry.specs.Parts.{units_met};
 ghost use Rattle.nvm_plan.specs.declared.job.Job.{Job};
-ghost use Rattle.nvm_plan.specs.Checks.{refusal_of};
+ghost use Rattle.nvm_plan.specs.Checks.{exceeds_pair_limit, refusal_of};
 ghost use Rattle.nvm_plan.specs.Fits.{FitsNamespace};
 ghost use Rattle.nvm_plan.specs.Operation.{job_operation_of};
 ghost use Rattle.nvm_plan.specs.Outcome.{IsOutcomeOf, IsOutcome};
@@ -17,6 +18,16 @@ ghost use Rattle.nvm_plan.specs.Reply.{Reply, is_pair};
 ghost use Rattle.nvm_plan.specs.Shape.{HasOutcomeShape};
 
 use nvm_geometry::laws;
+
+/// The last check of a pair applies just where a pair of the range isn't within the advertised limits.
+pub fn pair_limit_is_the_last_check()
+    ensures kept { (ns : Namespace) (slba blocks : ℕ) → IsWithinPairLimit ns slba blocks
+        → exceeds_pair_limit ns slba blocks ≡ false }
+    ensures within { (ns : Namespace) (slba blocks : ℕ) → exceeds_pair_limit ns slba blocks ≡ false
+        → IsWithinPairLimit ns slba blocks }
+{
+    laws::sharing_is_one_number();
+}
 
 /// A job to which no check applies is ready, and there is an operation for which it stands. The
 /// operation's range has a block and lies in the namespace, so it has a part; that of a pair has just

@@ -1,16 +1,16 @@
-ghost use Rattle.std.specs.Prelude.{◌≡◌, ◌+◌, ◌<◌, ◌≤◌, IfNone};
-ghost use Rattle.std.specs.Bool.{OnFalse};
+ghost use Rattle.std.specs.Prelude.{◌≡◌, ◌+◌, ◌<◌, ◌≤◌};
 ghost use Rattle.nvm_record.specs.Status.{aborted_due_to_failed_fused_command};
 ghost use Rattle.nvm_record.specs.declared.status.Statuses.TheVariants.{Two};
-ghost use Rattle.nvm_geometry.specs.Limits.{IsWithinPairLimit};
 ghost use Rattle.nvm_plan.specs.Checks as spec;
-ghost use Rattle.nvm_plan.specs.Checks.{single_checks, pair_checks, first_answer};
-ghost use Rattle.nvm_plan.specs.Ready.{IsPlan, IsReadySingle, IsReadyPair};
+ghost use Rattle.nvm_plan.specs.Checks.{checks, single_checks, pair_checks, first_answer};
+ghost use Rattle.nvm_plan.specs.Ready.{IsPlan};
 
 use crate::decision::Plan;
 use crate::job::{Body, Job};
+use crate::laws;
 use crate::profile::is_in_profile;
-use nvm_geometry::{Geometry, laws};
+use nvm_geometry::Geometry;
+use nvm_geometry::laws::sharing_is_one_number;
 use nvm_record::{Command, Fuse, Op, Status, Statuses};
 
 /// The identifier of the one namespace that there is.
@@ -26,23 +26,30 @@ const NAMESPACE_IDENTIFIER: u32 = 1;
 /// | FUSE is 01b or 10b, without a partner | 0/0a | the ranges differ | 0/02, 0/02 |
 /// | the NSID isn't 1 | 0/0b | the range ends above NSZE | 0/80, 0/09 |
 /// | the range ends above NSZE | 0/80 | it is above the pair limit, or crosses a boundary | 0/14, 0/09 |
+#[tactic(auto, unfolding(crate::specs::Checks::refusal_of))]
 pub fn plan(geometry: &Geometry, job: &Job) -> Plan
     ensures { IsPlan geometry.now job.now result }
 {
-    let refusal = match &job.body {
-        Body::Single(command) => single_refusal(*geometry, command),
-        Body::Pair(first, second) => pair_refusal(*geometry, first, second),
-    };
-    match refusal {
+    laws::ready_jobs();
+    match refusal(*geometry, &job.body) {
         Some(statuses) => Plan::Refused(statuses),
         None => Plan::Ready,
     }
 }
 
+/// The statuses with which a job is refused, if it is.
+fn refusal(geometry: Geometry, body: &Body) -> Option<Statuses>
+    ensures { result ≡ first_answer (checks geometry body.now) }
+{
+    match body {
+        Body::Single(command) => single_refusal(geometry, command),
+        Body::Pair(first, second) => pair_refusal(geometry, first, second),
+    }
+}
+
 /// The status with which a command by itself is refused, if it is.
 fn single_refusal(geometry: Geometry, command: &Command) -> Option<Statuses>
-    ensures first { result ≡ first_answer (single_checks geometry command.now) }
-    ensures ready { IfNone result (IsReadySingle geometry command.now) }
+    ensures { result ≡ first_answer (single_checks geometry command.now) }
 {
     if !is_in_profile(command.op) {
         return Some(Statuses::One(Status::INVALID_COMMAND_OPCODE));
@@ -65,8 +72,7 @@ fn single_refusal(geometry: Geometry, command: &Command) -> Option<Statuses>
 
 /// The statuses with which a fused pair is refused, if it is.
 fn pair_refusal(geometry: Geometry, first: &Command, second: &Command) -> Option<Statuses>
-    ensures first { result ≡ first_answer (pair_checks geometry first.now second.now) }
-    ensures ready { IfNone result (IsReadyPair geometry first.now second.now) }
+    ensures { result ≡ first_answer (pair_checks geometry first.now second.now) }
 {
     if !matches!((first.op, second.op), (Op::Compare, Op::Write)) {
         return Some(Statuses::Two(
@@ -104,9 +110,8 @@ fn write_aborted(compare: Status) -> Statuses
 fn exceeds_pair_limit(geometry: Geometry, slba: u64, blocks: u32) -> bool
     requires some { 0 < blocks }
     requires in_range { slba + blocks ≤ geometry.nsze }
-    ensures value { result ≡ spec.exceeds_pair_limit geometry slba blocks }
-    ensures within { OnFalse result (IsWithinPairLimit geometry slba blocks) }
+    ensures { result ≡ spec.exceeds_pair_limit geometry slba blocks }
 {
-    laws::sharing_is_one_number();
+    sharing_is_one_number();
     !geometry.within_pair_limit(slba, blocks)
 }
