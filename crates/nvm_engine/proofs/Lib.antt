@@ -1,0 +1,5 @@
+pub mod PieceLemmas
+pub mod PartOperations
+pub mod PartLemmas
+pub mod FailedPairs
+pub mod ToldLemmas

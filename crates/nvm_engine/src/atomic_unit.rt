@@ -4,6 +4,7 @@ ghost use Rattle.nvm_store.specs.Contents.{Covers, Succeeds};
 ghost use Rattle.nvm_store.specs.Look.{look_operation_of};
 
 use nvm_record::{NoMemory, Statuses};
+use nvm_store::laws::some_medium_is_held;
 use nvm_store::{ActRef, Answer, Entry, History, Look, UnitBlocks, answer, judge};
 use std::alloc::Global;
 
@@ -39,6 +40,7 @@ impl AtomicUnit {
         requires few { vec_len self.old.history ≤ limit }
         ensures { IsChanged limit self.old self.new (lent_operation_of act.entry) result }
     {
+        some_medium_is_held();
         let statuses = judge(&self.blocks, act);
         if !statuses.is_success() {
             return Told::Failed(statuses);

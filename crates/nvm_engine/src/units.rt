@@ -19,6 +19,7 @@ use crate::pieces::{part_of, pieces, room};
 use nvm_geometry::{Geometry, Piece, laws};
 use nvm_plan::{Body, Job, Plan, plan};
 use nvm_record::{Command, NoMemory, Op};
+use nvm_store::laws::some_medium_is_held;
 use nvm_store::{ActRef, Look, UnitBlocks};
 use std::alloc::Global;
 
@@ -255,6 +256,7 @@ impl Units {
         ensures { (op : Operation) → look_operation_of look.entry ≡ part_in self.now.geometry op piece.unit
             → DoesPart (setup_of self.now) op self.now.units.items self.now.units.items piece.unit result }
     {
+        some_medium_is_held();
         let unit = &self.units[piece.unit as usize];
         unit.look(alloc, look)
     }
