@@ -46,7 +46,7 @@ next_compares b bs size rest none sized len =
     let front : length (take size rest) ≡ size = length-take-le size rest (omega arith) in
     let is : bytes_of (block_of b) ≡ b.bytes = rw plain refl in
     let e : bytes_eq (b.bytes ++ joined (blocks_of bs)) (take size rest ++ drop size rest)
-        ≡ (bytes_eq b.bytes (take size rest) && bytes_eq (joined (blocks_of bs)) (drop size rest)) =
+    ≡ (bytes_eq b.bytes (take size rest) && bytes_eq (joined (blocks_of bs)) (drop size rest)) =
     bytes_eq-append b.bytes (joined (blocks_of bs)) (take size rest) (drop size rest) (sized ∙ sym front) in
     record {
       equal = rw is (rw cut at e);
@@ -103,8 +103,7 @@ failed_pair_told blocks reads fails = absurd fails
 failed_pair_told blocks (compares payload) fails = absurd fails
 failed_pair_told blocks (pairs compare write) fails =
     let aborted : cond (compares_equal blocks compare) successful_completion aborted_due_to_failed_fused_command ≡ aborted_due_to_failed_fused_command =
-    ap (λ (t : Bool). cond t successful_completion aborted_due_to_failed_fused_command) fails in
-    (
+    ap (λ (t : Bool). cond t successful_completion aborted_due_to_failed_fused_command) fails in (
       comparison blocks compare,
       ap (λ (t : Status). Two (comparison blocks compare) t) aborted,
       λ success. absurd (true≢false (sym (holds_where_successful (has_mark blocks) (bytes_eq (joined blocks) compare) success) ∙ fails)),

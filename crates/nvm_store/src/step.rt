@@ -32,7 +32,7 @@ pub fn judge(unit: &UnitBlocks, act: ActRef<'_>) -> Statuses
             first,
             blocks,
             compare,
-            ..
+            write: _,
         } => pair_statuses(unit, first, blocks, compare),
     }
 }

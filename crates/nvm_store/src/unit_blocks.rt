@@ -124,8 +124,8 @@ impl UnitBlocks {
             ActRef::Pair {
                 first,
                 blocks,
+                compare: _,
                 write,
-                ..
             } => self.write(first, blocks, write),
         }
     }

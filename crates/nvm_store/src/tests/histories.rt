@@ -31,8 +31,8 @@ fn push(alloc: Global, history: &mut History, act: Act) -> Result<(), Fail>
 }
 
 /// Blocks of one byte.
-fn blocks_of(alloc: Global, blocks: usize, byte: u8) -> Result<Payload, AllocError> {
-    Ok(Payload::new(vec![in alloc; byte; blocks * BLOCK]?))
+fn blocks_of(alloc: Global, blocks: u32, byte: u8) -> Result<Payload, AllocError> {
+    Ok(Payload::new(vec![in alloc; byte; blocks as usize * BLOCK]?))
 }
 
 fn write(alloc: Global, first: u64, byte: u8) -> Result<Act, AllocError> {

@@ -12,7 +12,7 @@ returns-then-ne c =
     let b = c.block-item.result in
     let here : c.loop-block.block-index < length blocks = search rules in
     let next = next_compares_at blocks c.loop-block.block-index c.args.size b rest here (sym c.block-item.is) c.requires.sized
-        c.loop-block.invariant.unmarked c.loop-block.invariant.len in
+    c.loop-block.invariant.unmarked c.loop-block.invariant.len in
     let told : bytes_eq c.bytes.result.now c.split_at.result.0.now ≡ false = grind (arith, c.ne.ensures, c.if-ne.true) in
     let differ : bytes_eq b.bytes (take c.args.size rest) ≡ false = rw (c.bytes.ensures, c.split_at.ensures.front) at told in
     let behind = bytes_eq (medium.joined (blocks_of (drop (c.loop-block.block-index + 1) blocks))) (drop c.args.size rest) in
@@ -25,7 +25,7 @@ loop-block-preserved c =
     let b = c.block-item.result in
     let here : c.loop-block.block-index < length blocks = search rules in
     let next = next_compares_at blocks c.loop-block.block-index c.args.size b rest here (sym c.block-item.is) c.requires.sized
-        c.loop-block.invariant.unmarked c.loop-block.invariant.len in
+    c.loop-block.invariant.unmarked c.loop-block.invariant.len in
     let told : bytes_eq c.bytes.result.now c.split_at.result.0.now ≡ true = grind (arith, c.ne.ensures, c.if-ne.false) in
     let equal : bytes_eq b.bytes (take c.args.size rest) ≡ true = rw (c.bytes.ensures, c.split_at.ensures.front) at told in
     let behind = bytes_eq (medium.joined (blocks_of (drop (c.loop-block.block-index + 1) blocks))) (drop c.args.size rest) in
