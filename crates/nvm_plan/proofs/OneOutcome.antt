@@ -60,7 +60,7 @@ same_of ns op replies told other read also (inr (inr a)) (inr (inl b)) = absurd 
 same_of ns op replies told other read also (inr (inr a)) (inr (inr b)) = (a.statuses ∙ sym b.statuses, a.payload ∙ sym b.payload)
 
 -- the outcome by a refusal and an operation
-abbrev By : Namespace → Option Statuses → Option Operation → List Reply → Statuses → Option (List ℕ) → Type 0
+abbrev pub By : Namespace → Option Statuses → Option Operation → List Reply → Statuses → Option (List ℕ) → Type 0
 By ns refused stands replies told read =
     MatchOption refused (IsSomeAnd stands (λ op. IsOutcomeOf ns op replies told read)) (λ refusal. IsRefused refusal replies told read)
 
