@@ -2,7 +2,7 @@
 use Rattle.std.proofs.Common.{◌≡◌, ◌≢◌, ◌⊎◌, ◌+◌, ◌≤◌, ℕ, List, [], ◌∷◌, ◌++◌, map, Option, Some, None, MatchOption, IsTrue, refl, sym, ap, subst, ◌∙◌, inl, inr}
 use Rattle.std.specs.List.{AllByRecursion}
 use Rattle.std.specs.Option.{IsSomeAnd}
-use Rattle.std.proofs.lemmas.List.{map_push, append-nil}
+use Rattle.std.proofs.lemmas.List.{map_push, append_assoc}
 use Rattle.nvm_record.specs.declared.status.Statuses.{Statuses}
 use Rattle.nvm_record.specs.Status.{IsSuccess}
 use Rattle.nvm_record.specs.Step.{Deed, Operation}
@@ -72,6 +72,11 @@ units_end : (ns : Namespace) (op : Operation) (replies : List Reply) (left : Lis
     → map (λ part. part.unit) (parts_of replies) ++ left ≡ units_met ns op.first op.blocks
 units_end ns op replies left h = ap (λ units. units ++ left) (units_shown replies) ∙ h
 
+-- the unit of one more reply
+units_more : (before : List Reply) (last : Reply) (left : List ℕ) → units_told (before ++ last ∷ []) ++ left ≡ units_told before ++ last.part.unit ∷ left
+units_more before last left =
+    ap (λ units. units ++ left) (map_push (λ reply. reply.part.unit) before last) ∙ append_assoc (units_told before) (last.part.unit ∷ []) left
+
 parts_end : (replies before : List Reply) (last : Reply) → replies ≡ before ++ last ∷ [] → parts_of replies ≡ parts_of before ++ last.part ∷ []
 parts_end replies before last h = ap parts_of h ∙ map_push (λ reply. reply.part) before last
 
@@ -79,15 +84,15 @@ stop_shape : (ns : Namespace) (op : Operation) (replies : List Reply) (told : St
     → StopsAtLast ns op replies told read → EndsAtLast ns op (parts_of replies) told
 stop_shape ns op replies told read s =
     let all : AllByRecursion (IsReplyTo op.deed) (s.before ++ s.last ∷ []) =
-    all_with_last (IsReplyTo op.deed) s.before s.last (replies_of op.deed s.before s.each) s.reply in
+    all_with_last (IsReplyTo op.deed) s.before s.last (replies_of op.deed s.before s.done.each) s.reply in
     record {
       before = parts_of s.before;
       last = s.last.part;
       left = s.left;
       are = parts_end replies s.before s.last s.are;
-      units = units_end ns op replies s.left s.units;
+      units = units_end ns op replies s.left (ap (λ list. units_told list ++ s.left) s.are ∙ (units_more s.before s.last s.left ∙ s.done.units));
       results = results op.deed replies (subst (AllByRecursion (IsReplyTo op.deed)) (sym s.are) all);
-      going_on = going_on op.deed s.before s.each;
+      going_on = going_on op.deed s.before s.done.each;
       statuses = rw s.statuses (told_shown op.deed s.last.part.result s.last.statuses s.reply.told);
       whole = λ h. absurd (s.failure (subst IsSuccess s.statuses h));
     }
@@ -95,14 +100,14 @@ stop_shape ns op replies told read s =
 succeed_shape : (ns : Namespace) (op : Operation) (replies : List Reply) (told : Statuses) (read : Option (List ℕ))
     → AllSucceed ns op replies told read → Ends replies → EndsAtLast ns op (parts_of replies) told
 succeed_shape ns op replies told read a e =
-    let each = all_but_last (Succeeds op.deed) e.before e.last (subst (AllByRecursion (Succeeds op.deed)) e.are a.each) in
+    let each = all_but_last (Succeeds op.deed) e.before e.last (subst (AllByRecursion (Succeeds op.deed)) e.are a.done.each) in
     record {
       before = parts_of e.before;
       last = e.last.part;
       left = [];
       are = parts_end replies e.before e.last e.are;
-      units = units_end ns op replies [] (append-nil (units_told replies) ∙ a.units);
-      results = results op.deed replies (replies_of op.deed replies a.each);
+      units = units_end ns op replies [] a.done.units;
+      results = results op.deed replies (replies_of op.deed replies a.done.each);
       going_on = going_on op.deed e.before each.0;
       statuses = rw a.statuses (success_shown op.deed e.last.part.result e.last.statuses each.1.reply.result each.1.reply.told each.1.success);
       whole = λ h. refl;
@@ -114,7 +119,7 @@ MeetsSome ns op = units_met ns op.first op.blocks ≢ []
 
 succeed_ends : (ns : Namespace) (op : Operation) (replies : List Reply) (told : Statuses) (read : Option (List ℕ))
     → MeetsSome ns op → AllSucceed ns op replies told read → Ends replies
-succeed_ends ns op [] told read some a = absurd (some (sym a.units))
+succeed_ends ns op [] told read some a = absurd (some (sym a.done.units))
 succeed_ends ns op (r ∷ rs) told read some a = ends_after r rs
 
 shape_of : (ns : Namespace) (op : Operation) (replies : List Reply) (told : Statuses) (read : Option (List ℕ))
