@@ -1,5 +1,5 @@
 -- What a part may tell, against what a record may show of a job that ended with it.
-use Rattle.std.proofs.Common.{◌≡◌, ◌↔◌, ℕ, List, Bool, true, false, Option, Some, None, IsTrue, IsSome, refl, ap, subst, arith}
+use Rattle.std.proofs.Common.{◌≡◌, ◌↔◌, ℕ, List, true, Option, None, IsTrue, IsSome, refl, ap, subst, arith}
 use Rattle.nvm_record.specs.declared.status.Statuses.{Statuses}
 use Rattle.nvm_record.specs.declared.status.Statuses.TheVariants.{One, Two}
 use Rattle.nvm_record.specs.Status.{IsSuccess, successful_completion, internal_error}

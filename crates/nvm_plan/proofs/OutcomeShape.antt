@@ -1,5 +1,5 @@
 -- An outcome has the shape that a record shows.
-use Rattle.std.proofs.Common.{◌≡◌, ◌≢◌, ◌⊎◌, ◌+◌, ◌≤◌, ℕ, List, [], ◌∷◌, ◌++◌, map, Option, Some, None, MatchOption, IsTrue, refl, sym, ap, subst, ◌∙◌, inl, inr}
+use Rattle.std.proofs.Common.{◌≡◌, ◌≢◌, ℕ, List, [], ◌∷◌, ◌++◌, map, Option, Some, None, MatchOption, IsTrue, refl, sym, ap, subst, ◌∙◌, inl, inr}
 use Rattle.std.specs.List.{AllByRecursion}
 use Rattle.std.specs.Option.{IsSomeAnd}
 use Rattle.std.proofs.lemmas.List.{map_push, append_assoc}
@@ -13,8 +13,8 @@ use Rattle.nvm_plan.specs.declared.part.Part.{Part}
 use Rattle.nvm_plan.specs.Checks.{refusal_of}
 use Rattle.nvm_plan.specs.Operation.{job_operation_of}
 use Rattle.nvm_plan.specs.Reply.{Reply, can_have, IsReplyTo, Succeeds}
-use Rattle.nvm_plan.specs.Outcome.{units_told, data_told, AllSucceed, StopsAtLast, IsUnstarted, IsOutcomeOf, IsRefused, IsOutcome}
-use Rattle.nvm_plan.specs.Shape.{goes_on, EndsAtLast, HasEnding, HasShapeOf, HasShapeOfRefusal, HasOutcomeShape}
+use Rattle.nvm_plan.specs.Outcome.{units_told, data_told, AllSucceed, StopsAtLast, IsOutcomeOf, IsOutcome}
+use Rattle.nvm_plan.specs.Shape.{goes_on, EndsAtLast, HasShapeOf, HasShapeOfRefusal, HasOutcomeShape}
 use Rattle.nvm_plan.proofs.Endings.{unstarted_fails, success_goes_on, told_shown, success_shown, answer_gives, no_data}
 use Rattle.nvm_plan.proofs.OneOutcome.{By}
 
