@@ -6,3 +6,5 @@ pub mod Unrefused
 pub mod Ranges
 pub mod OperationData
 pub mod OneOutcome
+pub mod Endings
+pub mod OutcomeShape

@@ -1,13 +1,11 @@
 -- The replies fix the outcome.
-use Rattle.std.proofs.Common.{◌≡◌, ◌≢◌, ◌⊎◌, ℕ, List, [], ◌∷◌, ◌++◌, map, Option, Some, None, MatchOption, refl, sym, ap, subst, ◌∙◌, inl, inr}
+use Rattle.std.proofs.Common.{◌≡◌, ℕ, List, [], ◌∷◌, ◌++◌, Option, Some, None, MatchOption, sym, ap, subst, ◌∙◌, inl, inr}
 use Rattle.std.specs.List.{AllByRecursion}
 use Rattle.std.specs.Option.{IsSomeAnd}
-use Rattle.std.proofs.lemmas.List.{same_from_push}
+use Rattle.std.proofs.lemmas.List.{same_from_push, append-nil}
 use Rattle.nvm_record.specs.declared.status.Statuses.{Statuses}
-use Rattle.nvm_record.specs.Status.{IsSuccess}
-use Rattle.nvm_record.specs.Step.{Deed, Operation}
+use Rattle.nvm_record.specs.Step.{Operation}
 use Rattle.nvm_geometry.specs.Namespace.{Namespace}
-use Rattle.nvm_geometry.specs.Parts.{units_met}
 use Rattle.nvm_plan.specs.declared.job.Job.{Job}
 use Rattle.nvm_plan.specs.Checks.{refusal_of}
 use Rattle.nvm_plan.specs.Operation.{job_operation_of}
@@ -31,11 +29,11 @@ succeed_not_stop : (ns : Namespace) (op : Operation) (replies : List Reply) (tol
     → AllSucceed ns op replies told read → StopsAtLast ns op replies other also → ⊥
 succeed_not_stop ns op replies told other read also a s =
     let P : List Reply → Type 0 = AllByRecursion (Succeeds op.deed) in
-    s.failure (all_last (Succeeds op.deed) s.before s.last (subst P s.are a.each)).success
+    s.failure (all_last (Succeeds op.deed) s.before s.last (subst P s.are a.done.each)).success
 
 succeed_not_unstarted : (ns : Namespace) (op : Operation) (replies : List Reply) (told other : Statuses) (read also : Option (List ℕ))
     → AllSucceed ns op replies told read → IsUnstarted ns op replies other also → ⊥
-succeed_not_unstarted ns op replies told other read also a u = u.some (sym a.units ∙ ap units_told u.none_done)
+succeed_not_unstarted ns op replies told other read also a u = u.some (sym a.done.units ∙ (append-nil (units_told replies) ∙ ap units_told u.none_done))
 
 stop_not_unstarted : (ns : Namespace) (op : Operation) (replies : List Reply) (told other : Statuses) (read also : Option (List ℕ))
     → StopsAtLast ns op replies told read → IsUnstarted ns op replies other also → ⊥
@@ -60,7 +58,7 @@ same_of ns op replies told other read also (inr (inr a)) (inr (inl b)) = absurd 
 same_of ns op replies told other read also (inr (inr a)) (inr (inr b)) = (a.statuses ∙ sym b.statuses, a.payload ∙ sym b.payload)
 
 -- the outcome by a refusal and an operation
-abbrev By : Namespace → Option Statuses → Option Operation → List Reply → Statuses → Option (List ℕ) → Type 0
+abbrev pub By : Namespace → Option Statuses → Option Operation → List Reply → Statuses → Option (List ℕ) → Type 0
 By ns refused stands replies told read =
     MatchOption refused (IsSomeAnd stands (λ op. IsOutcomeOf ns op replies told read)) (λ refusal. IsRefused refusal replies told read)
 

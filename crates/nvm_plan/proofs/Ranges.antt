@@ -1,19 +1,18 @@
 -- The range of the operation that a job stands for, and the units that it meets.
-use Rattle.std.proofs.Common.{◌≡◌, ◌≢◌, ℕ, ◌+◌, ◌<◌, ◌≤◌, List, [], ◌∷◌, map, Bool, true, false, Option, Some, None, IsTrue, refl, sym, ap, subst, arith}
+use Rattle.std.proofs.Common.{◌≡◌, ◌≢◌, ℕ, ◌+◌, ◌<◌, ◌≤◌, List, [], map, Bool, true, false, Some, IsTrue, sym, ap, subst, arith}
 use Rattle.std.proofs.lemmas.Option.{same_Some, none-some}
 use Rattle.nvm_record.specs.declared.op.Op.{Op}
 use Rattle.nvm_record.specs.declared.op.Op.TheVariants.{Write, Read, WriteUncorrectable, Compare, WriteZeroes, Other}
 use Rattle.nvm_record.specs.declared.command.Command.{Command}
 use Rattle.nvm_record.specs.Step.{Deed, Operation, writes, zeroes, uncorrectable, reads, compares, pairs}
 use Rattle.nvm_geometry.specs.Namespace.{Namespace}
-use Rattle.nvm_geometry.specs.Boundaries.{unit_number}
 use Rattle.nvm_geometry.specs.Limits.{LiesInUnit}
 use Rattle.nvm_geometry.specs.Parts.{units_met, pieces_of, AreInLine, piece_in}
 use Rattle.nvm_plan.specs.declared.job.Body.{Body}
 use Rattle.nvm_plan.specs.declared.job.Body.TheVariants.{Single, Pair}
 use Rattle.nvm_plan.specs.declared.job.Job.{Job}
 use Rattle.nvm_plan.specs.Operation.{on_range, single_operation, pair_operation, operation_of_body, job_operation_of}
-use Rattle.nvm_plan.specs.Ready.{IsReadySingle, IsReadyPair, IsReadyBody, IsReady}
+use Rattle.nvm_plan.specs.Ready.{IsReadyBody, IsReady}
 use Rattle.nvm_plan.specs.Reply.{is_pair}
 
 -- the operation has the command's range, and is a pair's exactly where this says

@@ -1,5 +1,5 @@
 -- What a job does to the medium.
-use Rattle.std.specs.Prelude.{ℕ, ◌+◌, List, Option, Some, None}
+use Rattle.std.specs.Prelude.{◌+◌, Option, Some, None}
 use Rattle.nvm_record.specs.declared.op.Op.{Op}
 use Rattle.nvm_record.specs.declared.op.Op.TheVariants.{Write, Read, WriteUncorrectable, Compare, WriteZeroes, Other}
 use Rattle.nvm_record.specs.declared.command.Command.{Command}

@@ -34,22 +34,26 @@ answered (pairs payload new) bytes = None
 abbrev pub unstarted_of : Deed → Statuses
 unstarted_of deed = for_deed deed (One internal_error) (Two internal_error aborted_due_to_failed_fused_command)
 
+-- The parts so far were done in ascending order of units, each with success, and those in `left` are
+-- still to be done.
+pub record AreDone (ns : Namespace) (op : Operation) (replies : List Reply) (left : List ℕ) : Type 0 where
+  pub units : units_told replies ++ left ≡ units_met ns op.first op.blocks
+  pub each : AllByRecursion (Succeeds op.deed) replies
+
 -- All parts were done, each with success.
 pub record AllSucceed (ns : Namespace) (op : Operation) (replies : List Reply) (told : Statuses) (read : Option (List ℕ)) : Type 0 where
-  pub units : units_told replies ≡ units_met ns op.first op.blocks
-  pub each : AllByRecursion (Succeeds op.deed) replies
+  pub done : AreDone ns op replies []
   pub statuses : told ≡ success_of op.deed
   pub payload : read ≡ answered op.deed (data_told replies)
 
--- The parts were done in ascending order of units up to the first that didn't succeed, which decides.
+-- The parts were done up to the first that didn't succeed, which decides.
 pub record StopsAtLast (ns : Namespace) (op : Operation) (replies : List Reply) (told : Statuses) (read : Option (List ℕ)) : Type 0 where
   pub before : List Reply
   pub last : Reply
   -- the units of the parts that weren't done
   pub left : List ℕ
   pub are : replies ≡ before ++ last ∷ []
-  pub units : units_told replies ++ left ≡ units_met ns op.first op.blocks
-  pub each : AllByRecursion (Succeeds op.deed) before
+  pub done : AreDone ns op before (last.part.unit ∷ left)
   pub reply : IsReplyTo op.deed last
   pub failure : ¬ (IsSuccess last.statuses)
   pub statuses : told ≡ last.statuses

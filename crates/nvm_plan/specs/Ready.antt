@@ -38,7 +38,12 @@ IsReadyBody ns (Pair c d) = IsReadyPair ns c d
 abbrev pub IsReady : Namespace → Job → Type 0
 IsReady ns job = IsReadyBody ns job.body
 
--- The plan of a job: its refusal, or that there is none and what then is known.
+-- The plan of a job: the statuses of the first check that applies, or that none does.
 abbrev pub IsPlan : Namespace → Job → Plan → Type 0
 IsPlan ns job (Refused statuses) = refusal_of ns job ≡ Some statuses
-IsPlan ns job Ready = (refusal_of ns job ≡ None) × IsReady ns job
+IsPlan ns job Ready = refusal_of ns job ≡ None
+
+-- The fact holds if the job can be done.
+abbrev pub IfReady : Plan → Type 0 → Type 0
+IfReady (Refused statuses) fact = Unit {0}
+IfReady Ready fact = fact

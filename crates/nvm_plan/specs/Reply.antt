@@ -1,9 +1,12 @@
 -- What a unit tells of the part of an operation that it did.
-use Rattle.std.specs.Prelude.{◌≡◌, ◌≢◌, ◌↔◌, ℕ, List, Bool, true, false, not, Option, IsTrue, IsSome}
+use Rattle.std.specs.Prelude.{◌≡◌, ◌≢◌, ◌↔◌, ℕ, List, Bool, true, false, not, Option, None, IsTrue, IsSome}
 use Rattle.nvm_record.specs.declared.status.Statuses.{Statuses}
 use Rattle.nvm_record.specs.declared.status.Statuses.TheVariants.{One, Two}
 use Rattle.nvm_record.specs.Status.{IsSuccess, successful_completion, internal_error, aborted_due_to_failed_fused_command}
-use Rattle.nvm_record.specs.Step.{Deed, writes, zeroes, uncorrectable, reads, compares, pairs}
+use Rattle.nvm_record.specs.Medium.{Medium}
+use Rattle.nvm_record.specs.Step.{Deed, Operation, writes, zeroes, uncorrectable, reads, compares, pairs, statuses_of, data_of}
+use Rattle.nvm_geometry.specs.Namespace.{Namespace}
+use Rattle.nvm_geometry.specs.Parts.{part_in}
 use Rattle.nvm_plan.specs.declared.part.Part.{Part}
 use Rattle.nvm_plan.specs.declared.part.PartResult.{PartResult}
 use Rattle.nvm_plan.specs.declared.part.PartResult.TheVariants.{Done, Failed, Looked, NoMemory, Full}
@@ -89,3 +92,12 @@ pub record IsReplyTo (deed : Deed) (r : Reply) : Type 0 where
 pub record Succeeds (deed : Deed) (r : Reply) : Type 0 where
   pub reply : IsReplyTo deed r
   pub success : IsSuccess r.statuses
+
+-- the reply of a part that rests on this medium: what the step tells of the operation's part in its unit
+abbrev pub reply_on : Namespace → Operation → Medium → Part → Reply
+reply_on ns op m part =
+    record { part = part; statuses = statuses_of (part_in ns op part.unit) m; payload = data_of (part_in ns op part.unit) m }
+
+-- the reply of a part for which memory was refused, or whose unit was full
+abbrev pub reply_of_stop : Deed → Part → Reply
+reply_of_stop deed part = record { part = part; statuses = stop_of deed; payload = None }

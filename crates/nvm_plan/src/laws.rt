@@ -1,20 +1,24 @@
 //! What holds of plans and outcomes by their definitions alone. Each law is a call that does nothing and
 //! whose contract is the law.
 
-ghost use Rattle.std.specs.Prelude.{◌≡◌, ◌≢◌, ◌*◌, ◌+◌, ◌<◌, ◌≤◌, ℕ, List, [], ◌∷◌, map, Option, None, Some, IsSome, IsTrue, false};
+ghost use Rattle.std.specs.Prelude.{◌≡◌, ◌≢◌, ◌*◌, ◌+◌, ◌<◌, ◌≤◌, ℕ, List, [], ◌∷◌, ◌++◌, map, Option, None, Some, unwrap_or, IsSome, IsTrue, false};
 ghost use Rattle.nvm_record.specs.declared.status.Statuses.{Statuses};
-ghost use Rattle.nvm_record.specs.Step.{HasData, Operation};
+ghost use Rattle.nvm_record.specs.Medium.{Medium};
+ghost use Rattle.nvm_record.specs.Status.{IsSuccess};
+ghost use Rattle.nvm_record.specs.Step.{Deed, HasData, Operation, statuses_of};
 ghost use Rattle.nvm_geometry.specs.Namespace.{Namespace};
 ghost use Rattle.nvm_geometry.specs.Boundaries.{unit_number};
 ghost use Rattle.nvm_geometry.specs.Limits.{IsWithinPairLimit};
-ghost use Rattle.nvm_geometry.specs.Parts.{units_met};
+ghost use Rattle.nvm_geometry.specs.Parts.{part_in, units_met};
 ghost use Rattle.nvm_plan.specs.declared.job.Job.{Job};
+ghost use Rattle.nvm_plan.specs.declared.part.Part.{Part};
+ghost use Rattle.nvm_plan.specs.declared.part.PartResult.TheVariants.{Done, Failed, Looked, NoMemory, Full};
 ghost use Rattle.nvm_plan.specs.Checks.{exceeds_pair_limit, refusal_of};
 ghost use Rattle.nvm_plan.specs.Fits.{FitsNamespace};
 ghost use Rattle.nvm_plan.specs.Operation.{job_operation_of};
-ghost use Rattle.nvm_plan.specs.Outcome.{IsOutcomeOf, IsOutcome};
+ghost use Rattle.nvm_plan.specs.Outcome.{answered, data_told, unstarted_of, AreDone, IsOutcomeOf, IsOutcome};
 ghost use Rattle.nvm_plan.specs.Ready.{IsReady};
-ghost use Rattle.nvm_plan.specs.Reply.{Reply, is_pair};
+ghost use Rattle.nvm_plan.specs.Reply.{Reply, is_look, is_pair, success_of, reply_on, reply_of_stop, IsReplyTo, Succeeds};
 ghost use Rattle.nvm_plan.specs.Shape.{HasOutcomeShape};
 
 use nvm_geometry::laws;
@@ -67,6 +71,41 @@ pub fn outcome_by_plan()
         → IsOutcome ns job replies told read → IsOutcomeOf ns op replies told read }
     ensures refused { (ns : Namespace) (job : Job) (refusal : Statuses) → refusal_of ns job ≡ Some refusal
         → IsOutcome ns job [] refusal None }
+{}
+
+/// What the step tells of a part is a reply to it, and so is what is told where memory was refused or the
+/// unit was full.
+pub fn answers_of_the_step_are_replies()
+    ensures looked { (ns : Namespace) (op : Operation) (m : Medium) (part : Part) → IsTrue (is_look op.deed)
+        → part.result ≡ Looked → IsReplyTo op.deed (reply_on ns op m part) }
+    ensures done { (ns : Namespace) (op : Operation) (m : Medium) (part : Part) → is_look op.deed ≡ false
+        → part.result ≡ Done → IsSuccess (statuses_of (part_in ns op part.unit) m)
+        → IsReplyTo op.deed (reply_on ns op m part) }
+    ensures failed { (ns : Namespace) (op : Operation) (m : Medium) (part : Part) → IsTrue (is_pair op.deed)
+        → part.result ≡ Failed → ¬ (IsSuccess (statuses_of (part_in ns op part.unit) m))
+        → IsReplyTo op.deed (reply_on ns op m part) }
+    ensures no_memory { (deed : Deed) (part : Part) → part.result ≡ NoMemory
+        → IsReplyTo deed (reply_of_stop deed part) }
+    ensures full { (deed : Deed) (part : Part) → is_look deed ≡ false → part.result ≡ Full
+        → IsReplyTo deed (reply_of_stop deed part) }
+{}
+
+/// An outcome is made part by part: one more part that succeeds leaves those after it, one that doesn't
+/// ends the job, and the job has succeeded when no part is left.
+pub fn outcomes_are_made_part_by_part()
+    ensures begun { (ns : Namespace) (op : Operation) → AreDone ns op [] (units_met ns op.first op.blocks) }
+    ensures more { (ns : Namespace) (op : Operation) (replies : List Reply) (r : Reply) (left : List ℕ)
+        → AreDone ns op replies (r.part.unit ∷ left) → Succeeds op.deed r
+        → AreDone ns op (replies ++ r ∷ []) left }
+    ensures payload { (replies : List Reply) (r : Reply)
+        → data_told (replies ++ r ∷ []) ≡ data_told replies ++ unwrap_or r.payload [] }
+    ensures whole { (ns : Namespace) (op : Operation) (replies : List Reply) → AreDone ns op replies []
+        → IsOutcomeOf ns op replies (success_of op.deed) (answered op.deed (data_told replies)) }
+    ensures stopped { (ns : Namespace) (op : Operation) (replies : List Reply) (r : Reply) (left : List ℕ)
+        → AreDone ns op replies (r.part.unit ∷ left) → IsReplyTo op.deed r → ¬ (IsSuccess r.statuses)
+        → IsOutcomeOf ns op (replies ++ r ∷ []) r.statuses None }
+    ensures unstarted { (ns : Namespace) (op : Operation) → units_met ns op.first op.blocks ≢ []
+        → IsOutcomeOf ns op [] (unstarted_of op.deed) None }
 {}
 
 /// The replies to a job's parts fix what its host is told.

@@ -3,7 +3,7 @@ ghost use Rattle.nvm_record.specs.Status.{aborted_due_to_failed_fused_command};
 ghost use Rattle.nvm_record.specs.declared.status.Statuses.TheVariants.{Two};
 ghost use Rattle.nvm_plan.specs.Checks as spec;
 ghost use Rattle.nvm_plan.specs.Checks.{checks, single_checks, pair_checks, first_answer};
-ghost use Rattle.nvm_plan.specs.Ready.{IsPlan};
+ghost use Rattle.nvm_plan.specs.Ready.{IsReady, IsPlan, IfReady};
 
 use crate::decision::Plan;
 use crate::job::{Body, Job};
@@ -28,7 +28,8 @@ const NAMESPACE_IDENTIFIER: u32 = 1;
 /// | the range ends above NSZE | 0/80 | it is above the pair limit, or crosses a boundary | 0/14, 0/09 |
 #[tactic(auto, unfolding(crate::specs::Checks::refusal_of))]
 pub fn plan(geometry: &Geometry, job: &Job) -> Plan
-    ensures { IsPlan geometry.now job.now result }
+    ensures table { IsPlan geometry.now job.now result }
+    ensures ready { IfReady result (IsReady geometry.now job.now) }
 {
     laws::ready_jobs();
     match refusal(*geometry, &job.body) {
