@@ -18,13 +18,14 @@ pub fn next_body(commands: &mut VecDeque<Command>) -> Option<Body>
     ensures none { IfNone result (commands.old.items ≡ []) }
 {
     let first = commands.pop_front()?;
-    if let Some(second) = commands.front()
-        && is_fused_pair(&first, second)
-        && let Some(second) = commands.pop_front()
-    {
-        return Some(Body::Pair(first, second));
+    let Some(second) = commands.front() else {
+        return Some(Body::Single(first));
+    };
+    if !is_fused_pair(&first, second) {
+        return Some(Body::Single(first));
     }
-    Some(Body::Single(first))
+    let second = commands.pop_front()?;
+    Some(Body::Pair(first, second))
 }
 
 /// Whether two neighbours are done as one (Base Specification, "Fused Operation").
