@@ -4,3 +4,4 @@ pub mod TurnOrder
 pub mod TurnSteps
 pub mod WaitingHosts
 pub mod PlacesInTurn
+pub mod Midway
