@@ -5,3 +5,5 @@ pub mod TurnSteps
 pub mod WaitingHosts
 pub mod PlacesInTurn
 pub mod Midway
+pub mod OneOrder
+pub mod JobsMade
