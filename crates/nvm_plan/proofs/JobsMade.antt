@@ -1,6 +1,5 @@
 -- The hosts' commands have a pairing each, and a job list.
 use Rattle.std.proofs.Common.{◌≡◌, ◌≢◌, ◌⊎◌, inl, inr, ℕ, zero, suc, ◌+◌, ◌<◌, ◌≤◌, Bool, true, false, List, [], ◌∷◌, ◌++◌, length, refl, ap, sym, ◌∙◌, arith}
-use Rattle.std.specs.Prelude.{IsTrue}
 use Rattle.std.specs.List.{sum_by, enumerate_from}
 use Rattle.std.proofs.lemmas.Bool.{cases_Bool}
 use Rattle.std.proofs.lemmas.List.Sums.{sum_by-cons, sum_by_push}
@@ -71,10 +70,7 @@ pairing_within (suc most) (c ∷ cs) few =
 pub some_pairing : (commands : List Command) → (bodies : List Body) × IsPairing commands bodies
 some_pairing commands = pairing_within (length commands) commands (omega arith)
 
--- how much waits: each host, and each of its commands
-waiting_size : Queue → ℕ
-waiting_size queue = sum_by (λ w. length w.1 + 1) queue
-
+-- made from midway on, with a bound on the hosts and commands that wait
 job_list_within : (most : ℕ) (all : List (List Command)) (queue : Queue) (jobs : List Job) → sum_by (λ w. length w.1 + 1) queue ≤ most
     → IsMidway all queue jobs → (js : List Job) × IsJobList all js
 job_list_within most all [] jobs few m = (jobs, midway_last all jobs m)

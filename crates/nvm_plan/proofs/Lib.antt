@@ -7,3 +7,4 @@ pub mod PlacesInTurn
 pub mod Midway
 pub mod OneOrder
 pub mod JobsMade
+pub mod JobPlaces

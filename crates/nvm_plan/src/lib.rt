@@ -3,6 +3,7 @@
 #![tactic(auto)]
 
 mod job;
+pub mod job_laws;
 mod order;
 mod pairing;
 mod part;
