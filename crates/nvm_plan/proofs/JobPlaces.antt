@@ -69,9 +69,9 @@ stands_once hosts jobs h number p q all a b =
     elim (cases_lt p q) [
       | inl lower ↦ absurd (not_itself ((all.order h number h number p q a b).0 lower))
       | inr above ↦ elim (cases_lt q p) [
-          | inl lower ↦ absurd (not_itself ((all.order h number h number q p b a).0 lower))
-          | inr below ↦ omega arith
-        ]
+        | inl lower ↦ absurd (not_itself ((all.order h number h number q p b a).0 lower))
+        | inr below ↦ omega arith
+      ]
     ]
 
 contains_later : {X : Type 0} (y : X) (xs : List X) (x : X) → Contains xs x → Contains (y ∷ xs) x

@@ -33,15 +33,15 @@ fused_or_not c d =
     elim (is_first c.fuse) [
       | inr no_first ↦ inr (λ p. no_first p.first)
       | inl first ↦ elim (is_second d.fuse) [
-          | inr no_second ↦ inr (λ p. no_second p.second)
-          | inl second ↦ elim (cases_Bool (is_in_profile c.op)) [
-              | inr not_c ↦ inr (λ p. cc (p.first_op, not_c))
-              | inl c_op ↦ elim (cases_Bool (is_in_profile d.op)) [
-                  | inr not_d ↦ inr (λ p. cc (p.second_op, not_d))
-                  | inl d_op ↦ inl (record { first = first; second = second; first_op = c_op; second_op = d_op })
-                ]
-            ]
+        | inr no_second ↦ inr (λ p. no_second p.second)
+        | inl second ↦ elim (cases_Bool (is_in_profile c.op)) [
+          | inr not_c ↦ inr (λ p. cc (p.first_op, not_c))
+          | inl c_op ↦ elim (cases_Bool (is_in_profile d.op)) [
+            | inr not_d ↦ inr (λ p. cc (p.second_op, not_d))
+            | inl d_op ↦ inl (record { first = first; second = second; first_op = c_op; second_op = d_op })
+          ]
         ]
+      ]
     ]
 
 -- a front of the commands that makes a job with the jobs of the rest

@@ -66,7 +66,7 @@ bodies_push h w body jobs =
     ap (map (λ j. j.body)) (filter-append (λ j. j.host == h) jobs (job w body ∷ []))
     ∙ map-append (λ j. j.body) (filter (λ j. j.host == h) jobs) (cond (w == h) (job w body ∷ []) [])
     ∙ elim (w == h) as (λ b. bodies_of h jobs ++ map (λ j. j.body) (cond b (job w body ∷ []) []) ≡ bodies_of h jobs ++ cond b (body ∷ []) [])
-      [ true ↦ refl | false ↦ refl ]
+    [ true ↦ refl | false ↦ refl ]
 
 bodies_here : (h : ℕ) (body : Body) (jobs : List Job) (rest : List Body)
     → bodies_of h (jobs ++ job h body ∷ []) ++ rest ≡ bodies_of h jobs ++ body ∷ rest
@@ -100,7 +100,7 @@ midway_next all h cs left queue jobs body m made =
           elim (cases_eq h (place + 1)) [
             | inl e ↦
                 subst (λ i. Completes commands (left_of i ((h, cs) ∷ queue)) (bodies_of i jobs)
-                    → Completes commands (left_of i (queue ++ (h, left) ∷ [])) (bodies_of i (jobs ++ job h body ∷ []))) e (here commands) before
+                → Completes commands (left_of i (queue ++ (h, left) ∷ [])) (bodies_of i (jobs ++ job h body ∷ []))) e (here commands) before
             | inr other ↦ elsewhere (place + 1) other commands before
           ];
       known = All-push (λ j. IsKnown (length all) j.host) jobs (job h body) m.known m.waiting_known.0;
@@ -130,7 +130,7 @@ midway_done all h cs queue jobs m none =
           elim (cases_eq h (place + 1)) [
             | inl e ↦
                 subst (λ i. Completes commands (left_of i ((h, cs) ∷ queue)) (bodies_of i jobs)
-                    → Completes commands (left_of i queue) (bodies_of i jobs)) e (here commands) before
+                → Completes commands (left_of i queue) (bodies_of i jobs)) e (here commands) before
             | inr other ↦ elsewhere (place + 1) other commands before
           ];
       known = m.known;

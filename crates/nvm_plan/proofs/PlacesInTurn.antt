@@ -45,25 +45,24 @@ order_of_turns jobs turn h k i l p q a b =
     let at_p = number_is h k jobs p a in
     let at_q = number_is i l jobs q b in
     let forward : p < q → StandsBefore k h l i = λ lower.
-        let stands = turn p q lower at_q.0 in
-        rw (at_p.2, at_p.1, at_q.2, at_q.1) at stands in
+    let stands = turn p q lower at_q.0 in
+    rw (at_p.2, at_p.1, at_q.2, at_q.1) at stands in
     let back : q < p → StandsBefore l i k h = λ lower.
-        let stands = turn q p lower at_p.0 in
-        rw (at_q.2, at_q.1, at_p.2, at_p.1) at stands in
+    let stands = turn q p lower at_p.0 in
+    rw (at_q.2, at_q.1, at_p.2, at_p.1) at stands in
     let same : p ≡ q → StandsBefore k h l i → ⊥ = λ e stands.
-        let one = number_is h k jobs q (rw e at a) in
-        let same_host : h ≡ i = sym one.1 ∙ at_q.1 in
-        let same_number : k ≡ l = sym one.2 ∙ at_q.2 in
-        let itself : StandsBefore l i l i = rw (same_host, same_number) at stands in
-        before_not_after l i l i itself itself in
-    (
+    let one = number_is h k jobs q (rw e at a) in
+    let same_host : h ≡ i = sym one.1 ∙ at_q.1 in
+    let same_number : k ≡ l = sym one.2 ∙ at_q.2 in
+    let itself : StandsBefore l i l i = rw (same_host, same_number) at stands in
+    before_not_after l i l i itself itself in (
       forward,
       λ stands. elim (cases_lt p q) [
         | inl lower ↦ lower
         | inr above ↦ elim (cases_eq p q) [
-            | inl e ↦ absurd (same e stands)
-            | inr other ↦ absurd (before_not_after k h l i stands (back (omega (arith, above, other))))
-          ]
+          | inl e ↦ absurd (same e stands)
+          | inr other ↦ absurd (before_not_after k h l i stands (back (omega (arith, above, other))))
+        ]
       ],
     )
 
@@ -74,5 +73,5 @@ pub turns_of_order : (jobs : List Job)
 turns_of_order jobs order p q lower inside =
     let hs = hosts_of jobs in
     let at : (r : ℕ) → r < length hs → IsJobOf (get_or hs r 0) (round hs r) jobs r = λ r within.
-        record { there = slice_get-get_or hs r 0 within; before = bodies_before (get_or hs r 0) jobs r } in
+    record { there = slice_get-get_or hs r 0 within; before = bodies_before (get_or hs r 0) jobs r } in
     (order (get_or hs p 0) (round hs p) (get_or hs q 0) (round hs q) p q (at p (omega arith)) (at q inside)).0 lower

@@ -30,7 +30,7 @@ pub fn each_job_stands_once()
         → IsJobList hosts jobs → slice_get hosts place ≡ Some commands → IsPairing commands bodies
         → slice_get bodies number ≡ Some body
         → (there : ℕ) × IsJobOf (place + 1) number jobs there
-            × (slice_get jobs there ≡ Some (record { host = place + 1; body = body })) }
+        × (slice_get jobs there ≡ Some (record { host = place + 1; body = body })) }
     ensures once { (hosts : List (List Command)) (jobs : List Job) (host number here there : ℕ)
         → IsJobList hosts jobs → IsJobOf host number jobs here → IsJobOf host number jobs there → here ≡ there }
 {}

@@ -7,7 +7,11 @@ pub mod job_laws;
 mod order;
 mod pairing;
 mod part;
+mod profile;
 
 pub use job::{Body, Job};
 pub use order::jobs;
 pub use part::{Part, PartResult};
+
+#[cfg(test)]
+mod order_tests;
