@@ -1,4 +1,5 @@
 pub mod OnePairing
+pub mod FrontJob
 pub mod TurnOrder
 pub mod TurnSteps
 pub mod PairLimit
@@ -8,3 +9,9 @@ pub mod OperationData
 pub mod OneOutcome
 pub mod Endings
 pub mod OutcomeShape
+pub mod WaitingHosts
+pub mod PlacesInTurn
+pub mod Midway
+pub mod OneOrder
+pub mod JobsMade
+pub mod JobPlaces

@@ -1,5 +1,5 @@
 -- A host's commands have one pairing, which is made from the front.
-use Rattle.std.proofs.Common.{◌≡◌, ◌⊎◌, inl, inr, ℕ, List, [], ◌∷◌, ◌++◌, refl, ap, sym, ◌∙◌, subst, ⊥}
+use Rattle.std.proofs.Common.{◌≡◌, ◌⊎◌, inl, inr, ℕ, List, [], ◌∷◌, ◌++◌, refl, ap, sym, ◌∙◌}
 use Rattle.std.specs.List.{All, AllByRecursion, flat_map}
 use Rattle.std.proofs.lemmas.List.Elements.{All-cons, All-nil, All-from_recursion, recursion_from_All}
 use Rattle.nvm_record.specs.declared.command.Command.{Command}
@@ -20,8 +20,8 @@ leaves_none (x ∷ xs) c d after e = absurd (cc)
 leaves_more : (b : Body) (rest : List Body)
     → ((c d : Command) (after : List Body) → b ≡ Single c → rest ≡ Single d ∷ after → ¬ (IsFusedPair c d))
     → LeavesAlone rest → LeavesAlone (b ∷ rest)
-leaves_more b rest here there [] c d after e = here c d after cc cc
-leaves_more b rest here there (x ∷ xs) c d after e = there xs c d after cc
+leaves_more b rest here there [] c d after e = here c d after (cc) (cc)
+leaves_more b rest here there (x ∷ xs) c d after e = there xs c d after (cc)
 
 leaves_rest : (b : Body) (rest : List Body) → LeavesAlone (b ∷ rest) → LeavesAlone rest
 leaves_rest b rest all before c d after e = all (b ∷ before) c d after (ap (λ bs. b ∷ bs) e)
@@ -74,10 +74,10 @@ one [] (Pair c d ∷ ys) e p q l m = cc
 one (Single c ∷ xs) [] e p q l m = cc
 one (Pair c d ∷ xs) [] e p q l m = cc
 one (Single c ∷ xs) (Single d ∷ ys) e p q l m =
-    let rest = one xs ys cc p.1 q.1 (leaves_rest (Single c) xs l) (leaves_rest (Single d) ys m) in cc
+    let rest = one xs ys (cc) p.1 q.1 (leaves_rest (Single c) xs l) (leaves_rest (Single d) ys m) in cc
 one (Pair c d ∷ xs) (Pair x y ∷ ys) e p q l m =
-    let rest = one xs ys cc p.1 q.1 (leaves_rest (Pair c d) xs l) (leaves_rest (Pair x y) ys m) in cc
-one (Single c ∷ []) (Pair x y ∷ ys) e p q l m = absurd cc
+    let rest = one xs ys (cc) p.1 q.1 (leaves_rest (Pair c d) xs l) (leaves_rest (Pair x y) ys m) in cc
+one (Single c ∷ []) (Pair x y ∷ ys) e p q l m = absurd (cc)
 one (Single c ∷ (Single d ∷ xs)) (Pair x y ∷ ys) e p q l m =
     let same_first : x ≡ c = cc in
     let same_second : y ≡ d = cc in
@@ -85,7 +85,7 @@ one (Single c ∷ (Single d ∷ xs)) (Pair x y ∷ ys) e p q l m =
 one (Single c ∷ (Pair d z ∷ xs)) (Pair x y ∷ ys) e p q l m =
     let same : y ≡ d = cc in
     absurd (not_both x d z (rw same at q.0) p.1.0)
-one (Pair x y ∷ xs) (Single c ∷ []) e p q l m = absurd cc
+one (Pair x y ∷ xs) (Single c ∷ []) e p q l m = absurd (cc)
 one (Pair x y ∷ xs) (Single c ∷ (Single d ∷ ys)) e p q l m =
     let same_first : x ≡ c = cc in
     let same_second : y ≡ d = cc in

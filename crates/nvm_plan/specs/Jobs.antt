@@ -1,7 +1,7 @@
 -- Which jobs the hosts' commands are, and in which order they are done: Base Specification, "Fused
 -- Operation"; that the hosts take turns is this project's own.
 use Rattle.std.specs.Prelude.{◌≡◌, ◌⊎◌, ◌↔◌, ◌==◌, ℕ, ◌+◌, ◌<◌, ◌≤◌, List, [], ◌∷◌, ◌++◌, length, take, map, Some, slice_get}
-use Rattle.std.specs.List.{All, filter, flat_map}
+use Rattle.std.specs.List.{All, Contains, filter, flat_map}
 use Rattle.nvm_record.specs.declared.command.Command.{Command}
 use Rattle.nvm_plan.specs.Profile.{IsFusedPair}
 use Rattle.nvm_plan.specs.declared.job.Body.{Body}
@@ -50,3 +50,12 @@ pub record IsJobList (hosts : List (List Command)) (jobs : List Job) : Type 0 wh
   pub known : All (λ job. (0 < job.host) × (job.host ≤ length hosts)) jobs
   pub order : (h k i l here there : ℕ) → IsJobOf h k jobs here → IsJobOf i l jobs there
       → (here < there) ↔ StandsBefore k h l i
+
+-- The job is of one of the hosts, and so is each of its commands.
+pub record IsOfHosts (hosts : List (List Command)) (job : Job) : Type 0 where
+  pub place : ℕ
+  pub number : job.host ≡ place + 1
+  pub theirs : List Command
+  pub listed : slice_get hosts place ≡ Some theirs
+  pub commands : All (Contains theirs) (commands_of job.body)
+  pub body : IsBody job.body

@@ -6,6 +6,7 @@ mod condition;
 mod decision;
 mod job;
 pub mod laws;
+pub mod job_laws;
 mod order;
 mod pairing;
 mod part;
@@ -23,3 +24,6 @@ pub use table::plan;
 mod fit_tests;
 #[cfg(test)]
 mod plan_tests;
+
+#[cfg(test)]
+mod order_tests;

@@ -1,5 +1,5 @@
-ghost use Rattle.std.specs.Prelude.{◌≡◌, ◌<◌, ◌^◌, length, map, IfOk};
-ghost use Rattle.std.specs.List.{enumerate_from};
+ghost use Rattle.std.specs.Prelude.{◌≡◌, ◌<◌, ◌^◌, min, length, map, IfOk};
+ghost use Rattle.std.specs.List.{enumerate_from, sum_by};
 ghost use Rattle.nvm_plan.specs.Jobs.{IsJobList};
 
 use crate::job::Job;
@@ -57,7 +57,9 @@ fn numbered(alloc: Global, hosts: Vec<Vec<Command>>) -> Result<VecDeque<Waiting>
 }
 
 /// How many commands there are, which is the most jobs that they can be.
-fn commands_in(hosts: &[Vec<Command>]) -> usize {
+fn commands_in(hosts: &[Vec<Command>]) -> usize
+    ensures { result ≡ min (sum_by (λ commands. length commands.items) hosts.now) usize.MAX }
+{
     let mut commands: usize = 0;
     for host in hosts {
         commands = commands.saturating_add(host.len());

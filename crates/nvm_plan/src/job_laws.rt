@@ -1,0 +1,45 @@
+//! What holds of jobs and their order by the definitions alone. Each law is a call that does nothing and
+//! whose contract is the law.
+
+ghost use Rattle.std.specs.Prelude.{◌≡◌, ℕ, ◌+◌, List, Some, slice_get};
+ghost use Rattle.std.specs.List.{All};
+ghost use Rattle.nvm_record.specs.Entry.{IsWhole};
+ghost use Rattle.nvm_record.specs.declared.command.Command.{Command};
+ghost use Rattle.nvm_plan.specs.declared.job.Body.{Body};
+ghost use Rattle.nvm_plan.specs.declared.job.Job.{Job};
+ghost use Rattle.nvm_plan.specs.Jobs.{commands_of, IsPairing, IsJobOf, IsJobList, IsOfHosts};
+
+/// The commands of a host are paired in one way, and no other.
+pub fn one_pairing()
+    ensures some { (commands : List Command) → (bodies : List Body) × IsPairing commands bodies }
+    ensures alone { (commands : List Command) (xs ys : List Body) → IsPairing commands xs → IsPairing commands ys
+        → xs ≡ ys }
+{}
+
+/// The commands of the hosts have one list of jobs, and no other.
+pub fn one_job_list()
+    ensures some { (hosts : List (List Command)) → (jobs : List Job) × IsJobList hosts jobs }
+    ensures alone { (hosts : List (List Command)) (xs ys : List Job) → IsJobList hosts xs → IsJobList hosts ys
+        → xs ≡ ys }
+{}
+
+/// Each job of each host stands in the list, at one place.
+pub fn each_job_stands_once()
+    ensures somewhere { (hosts : List (List Command)) (jobs : List Job) (place : ℕ) (commands : List Command)
+        (bodies : List Body) (number : ℕ) (body : Body)
+        → IsJobList hosts jobs → slice_get hosts place ≡ Some commands → IsPairing commands bodies
+        → slice_get bodies number ≡ Some body
+        → (there : ℕ) × IsJobOf (place + 1) number jobs there
+        × (slice_get jobs there ≡ Some (record { host = place + 1; body = body })) }
+    ensures once { (hosts : List (List Command)) (jobs : List Job) (host number here there : ℕ)
+        → IsJobList hosts jobs → IsJobOf host number jobs here → IsJobOf host number jobs there → here ≡ there }
+{}
+
+/// Each job is of one of the hosts, and its commands are among that host's. So what holds of all commands
+/// holds of those of the jobs, such as that they have the data that they call for.
+pub fn jobs_are_of_their_hosts()
+    ensures hosts { (hosts : List (List Command)) (jobs : List Job) → IsJobList hosts jobs → All (IsOfHosts hosts) jobs }
+    ensures whole { (size : ℕ) (hosts : List (List Command)) (jobs : List Job)
+        → All (λ commands. All (IsWhole size) commands) hosts → IsJobList hosts jobs
+        → All (λ job. All (IsWhole size) (commands_of job.body)) jobs }
+{}
