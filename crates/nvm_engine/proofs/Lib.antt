@@ -3,3 +3,7 @@ pub mod PartOperations
 pub mod PartLemmas
 pub mod FailedPairs
 pub mod ToldLemmas
+pub mod JobOperations
+pub mod ReplyLemmas
+pub mod Progress
+pub mod RunLemmas

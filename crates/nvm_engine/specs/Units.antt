@@ -1,6 +1,5 @@
 -- The whole namespace as its units, and jobs that are done there part by part.
 use Rattle.std.specs.Prelude.{◌≡◌, ◌≢◌, ℕ, ◌+◌, ◌<◌, ◌≤◌, List, [], ◌∷◌, ◌++◌, map, Option, Some, None, length, vec_len, slice_index_or, Bool, true, false, IsTrue, not}
-use Rattle.std.specs.List.{AllByRecursion}
 use Rattle.nvm_record.specs.Medium.{Medium}
 use Rattle.nvm_record.specs.Status.{successful_completion}
 use Rattle.nvm_record.specs.Step.{Deed, Operation, reads}
@@ -9,13 +8,14 @@ use Rattle.nvm_record.specs.declared.status.Statuses.{Statuses}
 use Rattle.nvm_record.specs.declared.status.Statuses.TheVariants.{One, Two}
 use Rattle.nvm_geometry.specs.Namespace.{Namespace}
 use Rattle.nvm_geometry.specs.Boundaries.{unit_number, units_of}
-use Rattle.nvm_geometry.specs.Parts.{piece_in, pieces_of, part_in, units_met}
+use Rattle.nvm_geometry.specs.Parts.{piece_in, pieces_of, part_in}
 use Rattle.nvm_geometry.specs.declared.piece.Piece.{Piece}
-use Rattle.nvm_plan.specs.Outcome.{units_told, data_told, IsOutcomeOf}
-use Rattle.nvm_plan.specs.Reply.{Reply, is_look, is_pair, success_of, stop_of, IsFailedPair, Succeeds}
+use Rattle.nvm_plan.specs.Outcome.{data_told, AreDone, IsOutcomeOf}
+use Rattle.nvm_plan.specs.Reply.{Reply, is_look, is_pair, success_of, stop_of, IsFailedPair}
 use Rattle.nvm_plan.specs.declared.job.Body.{Body}
 use Rattle.nvm_plan.specs.declared.job.Body.TheVariants.{Single, Pair}
 use Rattle.nvm_plan.specs.declared.job.Job.{Job}
+use Rattle.nvm_plan.specs.declared.part.PartResult.{PartResult}
 use Rattle.nvm_plan.specs.declared.part.PartResult.TheVariants as result
 use Rattle.nvm_store.specs.Contents.{Contents, Holds}
 use Rattle.nvm_store.specs.declared.answers.Answer.TheVariants.{Payload, Status}
@@ -81,20 +81,38 @@ body_pieces ns body = pieces_of ns (leader body).slba ((leader body).nlb + 1)
 abbrev pub IsPieceOf : Namespace → Body → Piece → Type 0
 IsPieceOf ns body p = IsPiece ns (leader body).slba ((leader body).nlb + 1) p
 
+-- how the part ended, the statuses that were told of it, and the data
+abbrev pub result_told : Told → PartResult
+result_told Done = result.Done
+result_told (Failed statuses) = result.Failed
+result_told (Looked answer) = result.Looked
+result_told NoMemory = result.NoMemory
+result_told Full = result.Full
+
+abbrev pub statuses_told : Deed → Told → Statuses
+statuses_told deed Done = success_of deed
+statuses_told deed (Failed statuses) = statuses
+statuses_told deed (Looked (Payload bytes)) = One successful_completion
+statuses_told deed (Looked (Status status)) = One status
+statuses_told deed NoMemory = stop_of deed
+statuses_told deed Full = stop_of deed
+
+abbrev pub payload_told : Told → Option (List ℕ)
+payload_told Done = None
+payload_told (Failed statuses) = None
+payload_told (Looked (Payload bytes)) = Some bytes
+payload_told (Looked (Status status)) = None
+payload_told NoMemory = None
+payload_told Full = None
+
 -- the reply that was told of a part of the deed in the unit, at this point
 abbrev pub reply_of : ℕ → ℕ → Deed → Told → Reply
-reply_of unit point deed Done =
-    record { part = record { unit = unit; point = point; result = result.Done }; statuses = success_of deed; payload = None }
-reply_of unit point deed (Failed statuses) =
-    record { part = record { unit = unit; point = point; result = result.Failed }; statuses = statuses; payload = None }
-reply_of unit point deed (Looked (Payload bytes)) =
-    record { part = record { unit = unit; point = point; result = result.Looked }; statuses = One successful_completion; payload = Some bytes }
-reply_of unit point deed (Looked (Status status)) =
-    record { part = record { unit = unit; point = point; result = result.Looked }; statuses = One status; payload = None }
-reply_of unit point deed NoMemory =
-    record { part = record { unit = unit; point = point; result = result.NoMemory }; statuses = stop_of deed; payload = None }
-reply_of unit point deed Full =
-    record { part = record { unit = unit; point = point; result = result.Full }; statuses = stop_of deed; payload = None }
+reply_of unit point deed told =
+    record {
+      part = record { unit = unit; point = point; result = result_told told };
+      statuses = statuses_told deed told;
+      payload = payload_told told;
+    }
 
 -- What may be told of a part of the deed.
 abbrev pub CanBeTold : Deed → Told → Type 0
@@ -134,21 +152,20 @@ EndsWith body (Looked (Status status)) done = (status ≢ successful_completion)
 EndsWith body NoMemory done = done ≡ told (stopped body)
 EndsWith body Full done = done ≡ told (stopped body)
 
--- The parts that are done from a medium and the units' changes, all with success, up to the pieces that
--- are left.
-pub record AreDone (s : Setup) (op : Operation) (m : Medium) (counts : Counts) (new : List AtomicUnit) (rest : List Piece) (bytes : List ℕ) : Type 0 where
+-- The parts that were done from a medium and the units' changes, all with success, up to the pieces that
+-- are left, and the bytes that they read.
+pub record HaveDone (s : Setup) (op : Operation) (m : Medium) (counts : Counts) (new : List AtomicUnit) (rest : List Piece) (bytes : List ℕ) : Type 0 where
   pub replies : List Reply
   pub after : Medium
   pub counted : Counts
   pub at : AreAt new after counted
   pub does : Does s op m counts replies after counted
-  pub units : units_told replies ++ map (λ p. p.unit) rest ≡ units_met s.namespace op.first op.blocks
-  pub each : AllByRecursion (Succeeds op.deed) replies
+  pub done : AreDone s.namespace op replies (map (λ p. p.unit) rest)
   pub bytes_are : data_told replies ≡ bytes
 
 abbrev pub IsUnderWay : Setup → Operation → List AtomicUnit → List AtomicUnit → List Piece → List ℕ → Type 0
 IsUnderWay s op old new rest bytes =
-    (m : Medium) (counts : Counts) → AreAt old m counts → AreDone s op m counts new rest bytes
+    (m : Medium) (counts : Counts) → AreAt old m counts → HaveDone s op m counts new rest bytes
 
 -- From the units as they were to the units as they are, this was told of the operation's parts.
 abbrev pub DoesParts : Setup → Operation → List AtomicUnit → List AtomicUnit → DoneJob → Type 0

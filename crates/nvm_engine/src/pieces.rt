@@ -1,4 +1,4 @@
-ghost use Rattle.std.specs.Prelude.{◌≡◌, ◌+◌, ◌-◌, ◌*◌, ◌≤◌, ◌<◌, IfOk, length};
+ghost use Rattle.std.specs.Prelude.{◌≡◌, [], ◌+◌, ◌-◌, ◌*◌, ◌≤◌, ◌<◌, IfOk, length};
 ghost use Rattle.std.specs.List.{AllByRecursion};
 ghost use Rattle.nvm_geometry.specs.Parts.{data_part};
 ghost use Rattle.nvm_plan.specs.Ready.{IsReadyBody};
@@ -36,7 +36,7 @@ pub fn pieces(geometry: Geometry, body: &Body) -> Parts
 /// is.
 pub fn room(alloc: Global, geometry: Geometry, body: &Body) -> Result<Vec<u8>, NoMemory>
     requires { IsReadyBody geometry body.now }
-    ensures { IfOk result (λ bytes. length bytes.items ≡ 0) }
+    ensures { IfOk result (λ bytes. bytes.items ≡ []) }
 {
     let command = leader(body);
     let blocks = u32::from(command.nlb) + 1;

@@ -17,6 +17,7 @@ use crate::done_job::DoneJob;
 use crate::ending::ended;
 use crate::pieces::{part_of, pieces, room};
 use nvm_geometry::{Geometry, Piece, laws};
+use nvm_plan::laws::{outcome_by_plan, outcomes_are_made_part_by_part, ready_jobs};
 use nvm_plan::{Body, Job, Plan, plan};
 use nvm_record::{Command, NoMemory, Op};
 use nvm_store::laws::some_medium_is_held;
@@ -59,6 +60,8 @@ impl Units {
         ensures setup { setup_of self.new ≡ setup_of self.old }
         ensures answer { AnswersTo (setup_of self.old) self.old.units.items self.new.units.items job.now result }
     {
+        outcome_by_plan();
+        ready_jobs();
         match plan(&self.geometry, job) {
             Plan::Refused(statuses) => DoneJob::of(statuses),
             Plan::Ready => self.do_parts(alloc, number, &job.body),
@@ -75,10 +78,13 @@ impl Units {
         ensures parts { (op : Operation) → operation_of_body body.now ≡ Some op
             → DoesParts (setup_of self.old) op self.old.units.items self.new.units.items result }
     {
+        laws::pieces_stand_in_line();
+        outcomes_are_made_part_by_part();
+        let pieces = pieces(self.geometry, body);
         let Ok(mut bytes) = room(alloc, self.geometry, body) else {
             return DoneJob::of_no_part(body);
         };
-        for piece in pieces(self.geometry, body) {
+        for piece in pieces {
             let told = self.do_part(alloc, number, body, piece);
             if let Some(done) = ended(body, told, &mut bytes) {
                 return done;
