@@ -1,16 +1,15 @@
 -- Where a job stands, and whose commands it has.
-use Rattle.std.proofs.Common.{◌≡◌, ◌≢◌, inl, inr, ℕ, zero, suc, ◌+◌, ◌-◌, ◌<◌, ◌≤◌, Bool, true, false, List, [], ◌∷◌, ◌++◌, length, get_or, take, map, Some, refl, ap, sym, ◌∙◌, subst, arith}
-use Rattle.std.specs.Prelude.{◌==◌, slice_get}
-use Rattle.std.specs.List.{All, Contains, filter, flat_map}
+use Rattle.std.proofs.Common.{◌≡◌, inl, inr, ℕ, zero, suc, ◌+◌, ◌-◌, ◌<◌, List, [], ◌∷◌, length, get_or, take, Some, refl, ap, sym, ◌∙◌, subst, arith}
+use Rattle.std.specs.Prelude.{slice_get}
+use Rattle.std.specs.List.{All, Contains, flat_map}
 use Rattle.std.proofs.lemmas.Bool.{cases_lt, cases_eq}
-use Rattle.std.proofs.lemmas.List.Elements.{All-head, All-nil, All-cons, All-weaker, All-contains, All-contains_itself, All-get_or, All-from_get_or, Contains-append_left, Contains-append_right}
+use Rattle.std.proofs.lemmas.List.Elements.{All-weaker, All-contains, All-contains_itself, Contains-append_left, Contains-append_right}
 use Rattle.std.proofs.lemmas.Option.{slice_get-get_or, slice_get_within, get_or_from_slice_get}
 use Rattle.nvm_record.specs.Entry.{IsWhole}
 use Rattle.nvm_record.specs.declared.command.Command.{Command}
 use Rattle.nvm_plan.specs.declared.job.Body.{Body}
-use Rattle.nvm_plan.specs.declared.job.Body.TheVariants.{Single, Pair}
 use Rattle.nvm_plan.specs.declared.job.Job.{Job}
-use Rattle.nvm_plan.specs.Jobs.{commands_of, IsBody, IsPairing, bodies_of, IsJobOf, StandsBefore, IsJobList, IsOfHosts}
+use Rattle.nvm_plan.specs.Jobs.{commands_of, IsPairing, bodies_of, IsJobOf, StandsBefore, IsJobList, IsOfHosts}
 use Rattle.nvm_plan.proofs.OnePairing.{one_pairing_alone}
 use Rattle.nvm_plan.proofs.TurnOrder.{before_not_after}
 use Rattle.nvm_plan.proofs.OneOrder.{bodies_this, bodies_other}

@@ -1,15 +1,14 @@
 -- Midway: the jobs so far, with the jobs of what is left to the waiting hosts, are those of all commands.
-use Rattle.std.proofs.Common.{◌≡◌, ◌≢◌, inl, inr, ℕ, zero, suc, ◌+◌, ◌<◌, ◌≤◌, Bool, true, false, cond, List, [], ◌∷◌, ◌++◌, length, map, Some, refl, ap, sym, ◌∙◌, subst, arith, append_assoc}
+use Rattle.std.proofs.Common.{◌≡◌, ◌≢◌, inl, inr, ℕ, zero, suc, ◌+◌, ◌<◌, ◌≤◌, true, false, cond, List, [], ◌∷◌, ◌++◌, length, map, Some, refl, ap, sym, ◌∙◌, subst, arith, append_assoc}
 use Rattle.std.specs.Prelude.{◌==◌, slice_get}
 use Rattle.std.specs.List.{All, AllByRecursion, filter, enumerate_from, range_with_len}
 use Rattle.std.proofs.lemmas.Bool.{cases_eq, eq-eqb, ne_eqb}
 use Rattle.std.proofs.lemmas.List.{append-nil, map_push, map-append}
 use Rattle.std.proofs.lemmas.List.Elements.{All-nil, All-push, filter-append}
-use Rattle.std.proofs.lemmas.Option.{slice_get_within}
 use Rattle.nvm_record.specs.declared.command.Command.{Command}
 use Rattle.nvm_plan.specs.declared.job.Body.{Body}
 use Rattle.nvm_plan.specs.declared.job.Job.{Job}
-use Rattle.nvm_plan.specs.Jobs.{bodies_of, IsPairing, IsJobList, StandsBefore}
+use Rattle.nvm_plan.specs.Jobs.{bodies_of, IsPairing, IsJobList}
 use Rattle.nvm_plan.proofs.OnePairing.{pairing_none}
 use Rattle.nvm_plan.proofs.TurnOrder.{times}
 use Rattle.nvm_plan.proofs.TurnSteps.{BeforeEach, AreWaiting, all_append, two_hosts, waiting_rest, waiting_next, waiting_first}

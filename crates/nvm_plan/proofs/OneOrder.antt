@@ -1,17 +1,16 @@
 -- The hosts' commands have one job list.
-use Rattle.std.proofs.Common.{◌≡◌, ◌≢◌, inl, inr, ℕ, zero, suc, ◌+◌, ◌<◌, ◌≤◌, Bool, true, false, cond, List, [], ◌∷◌, ◌++◌, length, get_or, map, Some, refl, ap, sym, ◌∙◌, subst, arith, append_assoc}
-use Rattle.std.specs.Prelude.{◌==◌, slice_get}
-use Rattle.std.specs.List.{All, filter}
+use Rattle.std.proofs.Common.{◌≡◌, ◌≢◌, inl, inr, ℕ, zero, suc, ◌+◌, ◌<◌, ◌≤◌, List, [], ◌∷◌, ◌++◌, length, get_or, refl, sym, ◌∙◌, subst, arith, append_assoc}
+use Rattle.std.specs.Prelude.{◌==◌}
+use Rattle.std.specs.List.{All}
 use Rattle.std.proofs.lemmas.Bool.{cases_lt, cases_eq, eq-eqb, ne_eqb}
 use Rattle.std.proofs.lemmas.List.Elements.{All-head, All-tail}
 use Rattle.std.proofs.lemmas.List.Sums.{length-filter}
 use Rattle.std.proofs.lemmas.Option.{slice_get-get_or}
 use Rattle.nvm_record.specs.declared.command.Command.{Command}
-use Rattle.nvm_plan.specs.declared.job.Body.{Body}
 use Rattle.nvm_plan.specs.declared.job.Job.{Job}
-use Rattle.nvm_plan.specs.Jobs.{bodies_of, IsPairing, IsJobList, StandsBefore}
+use Rattle.nvm_plan.specs.Jobs.{bodies_of, IsJobList, StandsBefore}
 use Rattle.nvm_plan.proofs.OnePairing.{one_pairing_alone}
-use Rattle.nvm_plan.proofs.TurnOrder.{times, times_same, times_other, before_not_after, IsInTurn, in_turn_pair}
+use Rattle.nvm_plan.proofs.TurnOrder.{times, times_other, before_not_after, IsInTurn, in_turn_pair}
 use Rattle.nvm_plan.proofs.PlacesInTurn.{hosts_of, turns_of_order, length_of_bodies}
 
 times_cons_other : (h x : ℕ) (hs : List ℕ) → x ≢ h → times h (x ∷ hs) ≡ times h hs

@@ -1,9 +1,8 @@
 -- A host's commands have one pairing, which is made from the front.
-use Rattle.std.proofs.Common.{◌≡◌, ◌⊎◌, inl, inr, ℕ, List, [], ◌∷◌, ◌++◌, refl, ap, sym, ◌∙◌}
-use Rattle.std.specs.List.{All, AllByRecursion, flat_map}
-use Rattle.std.proofs.lemmas.List.Elements.{All-cons, All-nil, All-from_recursion, recursion_from_All}
+use Rattle.std.proofs.Common.{◌≡◌, List, [], ◌∷◌, ◌++◌, refl, ap, sym, ◌∙◌}
+use Rattle.std.specs.List.{AllByRecursion, flat_map}
+use Rattle.std.proofs.lemmas.List.Elements.{All-cons, All-nil, recursion_from_All}
 use Rattle.nvm_record.specs.declared.command.Command.{Command}
-use Rattle.nvm_record.specs.declared.op.Fuse.TheVariants.{First, Second}
 use Rattle.nvm_plan.specs.declared.job.Body.{Body}
 use Rattle.nvm_plan.specs.declared.job.Body.TheVariants.{Single, Pair}
 use Rattle.nvm_plan.specs.Profile.{IsFusedPair}

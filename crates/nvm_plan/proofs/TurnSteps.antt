@@ -1,6 +1,6 @@
 -- Hosts that wait for their turn: the jobs so far are in turn, and each waiting host's next job comes
 -- after them, in the order in which the hosts wait.
-use Rattle.std.proofs.Common.{◌≡◌, ◌≢◌, inl, inr, ℕ, zero, suc, ◌+◌, ◌<◌, List, [], ◌∷◌, ◌++◌, refl, ap, sym, arith}
+use Rattle.std.proofs.Common.{◌≡◌, ◌≢◌, inl, inr, ℕ, zero, suc, ◌+◌, ◌<◌, List, [], ◌∷◌, ◌++◌, refl, arith}
 use Rattle.std.specs.List.{AllByRecursion, range_with_len}
 use Rattle.nvm_plan.specs.Jobs.{StandsBefore}
 use Rattle.nvm_plan.proofs.TurnOrder.{times, times_same, times_other, before_trans, before_next, before_not_after, IsInTurn, AllBefore, in_turn_push, all_before_push, all_before_weaker}

@@ -1,8 +1,8 @@
 //! What holds of jobs and their order by the definitions alone. Each law is a call that does nothing and
 //! whose contract is the law.
 
-ghost use Rattle.std.specs.Prelude.{◌≡◌, ℕ, ◌+◌, List, Some, slice_get};
-ghost use Rattle.std.specs.List.{All};
+ghost use Rattle.std.specs.Prelude.{◌≡◌, ℕ, ◌+◌, ◌*◌, ◌≤◌, List, length, Some, slice_get};
+ghost use Rattle.std.specs.List.{All, sum_by};
 ghost use Rattle.nvm_record.specs.Entry.{IsWhole};
 ghost use Rattle.nvm_record.specs.declared.command.Command.{Command};
 ghost use Rattle.nvm_plan.specs.declared.job.Body.{Body};
@@ -21,6 +21,14 @@ pub fn one_job_list()
     ensures some { (hosts : List (List Command)) → (jobs : List Job) × IsJobList hosts jobs }
     ensures alone { (hosts : List (List Command)) (xs ys : List Job) → IsJobList hosts xs → IsJobList hosts ys
         → xs ≡ ys }
+{}
+
+/// There are no more jobs than commands. So 64 hosts of 65,536 commands at most have 4,194,304 jobs at most.
+pub fn no_more_jobs_than_commands()
+    ensures jobs { (hosts : List (List Command)) (jobs : List Job) → IsJobList hosts jobs
+        → length jobs ≤ sum_by length hosts }
+    ensures most { (hosts : List (List Command)) (jobs : List Job) (most : ℕ)
+        → All (λ commands. length commands ≤ most) hosts → IsJobList hosts jobs → length jobs ≤ length hosts * most }
 {}
 
 /// Each job of each host stands in the list, at one place.

@@ -17,10 +17,13 @@ struct Waiting {
     commands: VecDeque<Command>,
 }
 
-/// The jobs of the hosts' commands, in the order in which they are done: one job of each host in turn,
-/// hosts in their order, the first being host 1. A host without a job left is skipped.
+/// The jobs of the hosts' commands, in the order in which they are done. Two neighbours of one host that are a
+/// fused pair are one job (Base Specification, "Fused Operation"), and every other command is a job by
+/// itself. One job of each host comes in turn, hosts in their order, the first being host 1; a host without a
+/// job left is skipped.
 ///
-/// The lists are used up, so that no data is copied. `NoMemory` is answered where a growth was refused.
+/// There are fewer than 65,536 hosts, since a job has its host's number in 16 bits. The lists are used up, so
+/// that no data is copied. `NoMemory` is answered where a growth was refused.
 pub fn jobs(alloc: Global, hosts: Vec<Vec<Command>>) -> Result<Vec<Job>, NoMemory>
     requires { length hosts.items < 2 ^ 16 }
     ensures { IfOk result (λ jobs. IsJobList (map (λ commands. commands.items) hosts.items) jobs.items) }

@@ -1,4 +1,4 @@
-use Rattle.std.proofs.Common.{ℕ, ◌+◌, length, map}
+use Rattle.std.proofs.Common.{◌+◌, length, map}
 use Rattle.std.specs.List.{sum_by}
 use Rattle.nvm_plan.proofs.WaitingHosts.{queue_of}
 use Rattle.nvm_plan.proofs.Midway.{IsMidway}
