@@ -5,3 +5,4 @@ pub mod OperationData
 pub mod OneOutcome
 pub mod Endings
 pub mod OutcomeShape
+pub mod Arity

@@ -16,17 +16,17 @@ use Rattle.nvm_plan.specs.Ready.{IsReadyBody, IsReady}
 use Rattle.nvm_plan.specs.Reply.{is_pair}
 
 -- the operation has the command's range, and is a pair's exactly where this says
-record IsOn (c : Command) (pair : Bool) (op : Operation) : Type 0 where
-  first : op.first ≡ c.slba
-  blocks : op.blocks ≡ c.nlb + 1
-  deed : is_pair op.deed ≡ pair
+pub record IsOn (c : Command) (pair : Bool) (op : Operation) : Type 0 where
+  pub first : op.first ≡ c.slba
+  pub blocks : op.blocks ≡ c.nlb + 1
+  pub deed : is_pair op.deed ≡ pair
 
 is_on : (c : Command) (deed : Deed) (op : Operation) → Some (on_range c deed) ≡ Some op → IsOn c (is_pair deed) op
 is_on c deed op h =
     let e : op ≡ on_range c deed = sym (same_Some _ _ h) in
     record { first = ap (λ o. o.first) e; blocks = ap (λ o. o.blocks) e; deed = ap (λ o. is_pair o.deed) e }
 
-single_is_on : (k : Op) (c : Command) (op : Operation) → single_operation k c ≡ Some op → IsOn c false op
+pub single_is_on : (k : Op) (c : Command) (op : Operation) → single_operation k c ≡ Some op → IsOn c false op
 single_is_on Write c op h = is_on c (writes c.payload) op h
 single_is_on Read c op h = is_on c reads op h
 single_is_on WriteUncorrectable c op h = is_on c uncorrectable op h
@@ -34,7 +34,7 @@ single_is_on Compare c op h = is_on c (compares c.payload) op h
 single_is_on WriteZeroes c op h = is_on c zeroes op h
 single_is_on (Other opcode) c op h = absurd (none-some op h)
 
-pair_is_on : (a b : Op) (c d : Command) (op : Operation) → pair_operation a b c d ≡ Some op → IsOn c true op
+pub pair_is_on : (a b : Op) (c d : Command) (op : Operation) → pair_operation a b c d ≡ Some op → IsOn c true op
 pair_is_on Compare Write c d op h = is_on c (pairs c.payload d.payload) op h
 pair_is_on _ _ c d op h = absurd (none-some op h)
 
