@@ -1,24 +1,22 @@
 -- There is a status for each command of a job.
-use Rattle.std.proofs.Common.{◌≡◌, ◌⊎◌, ℕ, List, [], ◌∷◌, ◌++◌, Bool, true, false, cond, Option, Some, None, MatchOption, IsTrue, refl, sym, subst, inl, inr}
+use Rattle.std.proofs.Common.{◌≡◌, ℕ, List, [], ◌∷◌, ◌++◌, Bool, true, false, cond, Option, Some, None, MatchOption, IsTrue, refl, sym, subst, inl, inr, arith}
 use Rattle.std.specs.List.{AllByRecursion}
 use Rattle.std.specs.Option.{IsSomeAnd}
+use Rattle.std.proofs.lemmas.Grind.{common_steps}
 use Rattle.std.proofs.lemmas.Option.{same_Some, none-some}
 use Rattle.nvm_record.specs.declared.command.Command.{Command}
 use Rattle.nvm_record.specs.declared.status.Statuses.{Statuses}
-use Rattle.nvm_record.specs.Step.{Deed, Operation, writes, zeroes, uncorrectable, reads, compares, pairs}
+use Rattle.nvm_record.specs.Step.{Operation}
 use Rattle.nvm_geometry.specs.Namespace.{Namespace}
 use Rattle.nvm_plan.specs.declared.job.Body.{Body}
 use Rattle.nvm_plan.specs.declared.job.Body.TheVariants.{Single, Pair}
 use Rattle.nvm_plan.specs.declared.job.Job.{Job}
 use Rattle.nvm_plan.specs.declared.part.Part.{Part}
-use Rattle.nvm_plan.specs.declared.part.PartResult.{PartResult}
-use Rattle.nvm_plan.specs.declared.part.PartResult.TheVariants.{Done, Failed, Looked, NoMemory, Full}
 use Rattle.nvm_plan.specs.Checks.{Check, checks, single_checks, pair_checks, first_answer, refusal_of}
 use Rattle.nvm_plan.specs.Operation.{operation_of_body, job_operation_of}
-use Rattle.nvm_plan.specs.Reply.{is_look, is_pair, can_have, success_of, stop_of, IsOneStatus}
-use Rattle.nvm_plan.specs.Outcome.{unstarted_of}
-use Rattle.nvm_plan.specs.Shape.{IsTwoStatuses, MayShow, EndsAtLast, HasEnding, HasShapeOf, HasShapeOfRefusal, HasOutcomeShape, IsForEach}
-use Rattle.nvm_plan.proofs.Ranges.{single_is_on, pair_is_on}
+use Rattle.nvm_plan.specs.Reply.{is_pair, can_have, IsOneStatus}
+use Rattle.nvm_plan.specs.Shape.{IsTwoStatuses, EndsAtLast, HasEnding, HasShapeOf, HasShapeOfRefusal, HasOutcomeShape, IsForEach}
+use Rattle.nvm_plan.proofs.Endings.{one_shown, two_shown, one_unstarted, two_unstarted}
 
 -- what holds of each row's answer holds of the first that applies
 row_answer : (P : Statuses → Type 0) (b : Bool) (answer told : Statuses) (rest : Option Statuses) → P answer → (rest ≡ Some told → P told)
@@ -34,73 +32,34 @@ refusal_each : (ns : Namespace) (body : Body) (told : Statuses) → first_answer
 refusal_each ns (Single c) told h = answer_is IsOneStatus (single_checks ns c) (tt, (tt, (tt, (tt, (tt, tt))))) told h
 refusal_each ns (Pair c d) told h = answer_is IsTwoStatuses (pair_checks ns c d) (tt, (tt, (tt, (tt, (tt, tt))))) told h
 
--- one status, or two where the deed is a pair's
-abbrev IsFor : Bool → Statuses → Type 0
-IsFor false told = IsOneStatus told
-IsFor true told = IsTwoStatuses told
-
-success_for : (deed : Deed) → IsFor (is_pair deed) (success_of deed)
-success_for (writes payload) = tt
-success_for zeroes = tt
-success_for uncorrectable = tt
-success_for reads = tt
-success_for (compares payload) = tt
-success_for (pairs payload new) = tt
-
-stop_for : (deed : Deed) → IsFor (is_pair deed) (stop_of deed)
-stop_for (writes payload) = tt
-stop_for zeroes = tt
-stop_for uncorrectable = tt
-stop_for reads = tt
-stop_for (compares payload) = tt
-stop_for (pairs payload new) = tt
-
-unstarted_for : (deed : Deed) → IsFor (is_pair deed) (unstarted_of deed)
-unstarted_for (writes payload) = tt
-unstarted_for zeroes = tt
-unstarted_for uncorrectable = tt
-unstarted_for reads = tt
-unstarted_for (compares payload) = tt
-unstarted_for (pairs payload new) = tt
-
-failed_for : (pair : Bool) (told : Statuses) → pair ≡ true → IsTwoStatuses told → IsFor pair told
-failed_for true told can h = h
-failed_for false told can h = absurd (cc)
-
-looked_for : (deed : Deed) (told : Statuses) → is_look deed ≡ true → IsOneStatus told → IsFor (is_pair deed) told
-looked_for (writes payload) told can h = h
-looked_for zeroes told can h = h
-looked_for uncorrectable told can h = h
-looked_for reads told can h = h
-looked_for (compares payload) told can h = h
-looked_for (pairs payload new) told can h = absurd (cc)
-
-shown_for : (deed : Deed) (result : PartResult) (told : Statuses) → IsTrue (can_have deed result) → MayShow deed result told → IsFor (is_pair deed) told
-shown_for deed Done told can h = subst (IsFor (is_pair deed)) (sym h) (success_for deed)
-shown_for deed Failed told can h = failed_for (is_pair deed) told can h
-shown_for deed Looked told can h = looked_for deed told can h
-shown_for deed NoMemory told can h = subst (IsFor (is_pair deed)) (sym h) (stop_for deed)
-shown_for deed Full told can h = subst (IsFor (is_pair deed)) (sym h) (stop_for deed)
-
 -- what holds of all parts holds of the last
 last_part : (P : Part → Type 0) (before : List Part) (last : Part) → AllByRecursion P (before ++ last ∷ []) → P last
 last_part P [] last h = h.0
 last_part P (p ∷ ps) last h = last_part P ps last h.1
 
-ending_for : (ns : Namespace) (op : Operation) (parts : List Part) (told : Statuses) → HasEnding ns op parts told → IsFor (is_pair op.deed) told
-ending_for ns op parts told (inl h) = subst (IsFor (is_pair op.deed)) (sym h.1) (unstarted_for op.deed)
-ending_for ns op parts told (inr e) =
+can_last : (ns : Namespace) (op : Operation) (parts : List Part) (told : Statuses) (e : EndsAtLast ns op parts told) → IsTrue (can_have op.deed e.last.result)
+can_last ns op parts told e =
     let P : Part → Type 0 = λ part. IsTrue (can_have op.deed part.result) in
-    shown_for op.deed e.last.result told (last_part P e.before e.last (subst (AllByRecursion P) e.are e.results)) e.statuses
+    last_part P e.before e.last (subst (AllByRecursion P) e.are e.results)
+
+one_ending : (ns : Namespace) (op : Operation) (parts : List Part) (told : Statuses) → is_pair op.deed ≡ false → HasEnding ns op parts told → IsOneStatus told
+one_ending ns op parts told pair (inl h) = subst IsOneStatus (sym h.1) (one_unstarted op.deed pair)
+one_ending ns op parts told pair (inr e) = one_shown op.deed e.last.result told pair (can_last ns op parts told e) e.statuses
+
+two_ending : (ns : Namespace) (op : Operation) (parts : List Part) (told : Statuses) → is_pair op.deed ≡ true → HasEnding ns op parts told → IsTwoStatuses told
+two_ending ns op parts told pair (inl h) = subst IsTwoStatuses (sym h.1) (two_unstarted op.deed pair)
+two_ending ns op parts told pair (inr e) = two_shown op.deed e.last.result told pair (can_last ns op parts told e) e.statuses
+
+single_deed : (c : Command) (op : Operation) → operation_of_body (Single c) ≡ Some op → is_pair op.deed ≡ false
+single_deed c op stands = grind (arith, common_steps)
+
+pair_deed : (c d : Command) (op : Operation) → operation_of_body (Pair c d) ≡ Some op → is_pair op.deed ≡ true
+pair_deed c d op stands = grind (arith, common_steps)
 
 operation_each : (ns : Namespace) (body : Body) (op : Operation) (parts : List Part) (told : Statuses) (read : Option (List ℕ))
     → operation_of_body body ≡ Some op → HasShapeOf ns op parts told read → IsForEach body told
-operation_each ns (Single c) op parts told read stands h =
-    let on = single_is_on c.op c op stands in
-    rw on.deed at (ending_for ns op parts told h.ending)
-operation_each ns (Pair c d) op parts told read stands h =
-    let on = pair_is_on c.op d.op c d op stands in
-    rw on.deed at (ending_for ns op parts told h.ending)
+operation_each ns (Single c) op parts told read stands h = one_ending ns op parts told (single_deed c op stands) h.ending
+operation_each ns (Pair c d) op parts told read stands h = two_ending ns op parts told (pair_deed c d op stands) h.ending
 
 by_plan : (ns : Namespace) (body : Body) (refused : Option Statuses) (stands : Option Operation) (parts : List Part) (told : Statuses) (read : Option (List ℕ))
     → ((refusal : Statuses) → refused ≡ Some refusal → IsForEach body refusal)

@@ -1,7 +1,5 @@
 pub mod PairLimit
 pub mod Unrefused
-pub mod Ranges
-pub mod OperationData
 pub mod OneOutcome
 pub mod Endings
 pub mod OutcomeShape

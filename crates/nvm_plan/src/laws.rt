@@ -36,6 +36,7 @@ pub fn pair_limit_is_the_last_check()
 /// A job to which no check applies is ready, and there is an operation for which it stands. The
 /// operation's range has a block and lies in the namespace, so it has a part; that of a pair has just
 /// one.
+#[tactic(auto, unfolding(crate::specs::Checks::refusal_of))]
 pub fn ready_jobs()
     ensures ready { (ns : Namespace) (job : Job) → refusal_of ns job ≡ None → IsReady ns job }
     ensures operation { (ns : Namespace) (job : Job) → refusal_of ns job ≡ None → IsSome (job_operation_of job) }
