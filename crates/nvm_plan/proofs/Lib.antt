@@ -4,8 +4,6 @@ pub mod TurnOrder
 pub mod TurnSteps
 pub mod PairLimit
 pub mod Unrefused
-pub mod Ranges
-pub mod OperationData
 pub mod OneOutcome
 pub mod Endings
 pub mod OutcomeShape
@@ -15,3 +13,4 @@ pub mod Midway
 pub mod OneOrder
 pub mod JobsMade
 pub mod JobPlaces
+pub mod Arity

@@ -8,6 +8,8 @@ use Rattle.nvm_record.specs.Status.{IsSuccess}
 use Rattle.nvm_record.specs.Step.{Deed, Operation}
 use Rattle.nvm_geometry.specs.Namespace.{Namespace}
 use Rattle.nvm_geometry.specs.Parts.{units_met}
+use Rattle.nvm_plan.specs.declared.job.Body.{Body}
+use Rattle.nvm_plan.specs.declared.job.Body.TheVariants.{Single, Pair}
 use Rattle.nvm_plan.specs.declared.job.Job.{Job}
 use Rattle.nvm_plan.specs.declared.part.Part.{Part}
 use Rattle.nvm_plan.specs.declared.part.PartResult.{PartResult}
@@ -71,3 +73,8 @@ HasOutcomeShape ns job parts told read =
     MatchOption (refusal_of ns job)
     (IsSomeAnd (job_operation_of job) (λ op. HasShapeOf ns op parts told read))
     (λ refusal. HasShapeOfRefusal refusal parts told read)
+
+-- There is a status for each command of the body.
+abbrev pub IsForEach : Body → Statuses → Type 0
+IsForEach (Single c) told = IsOneStatus told
+IsForEach (Pair c d) told = IsTwoStatuses told

@@ -1,7 +1,7 @@
 //! What holds of plans and outcomes by their definitions alone. Each law is a call that does nothing and
 //! whose contract is the law.
 
-ghost use Rattle.std.specs.Prelude.{◌≡◌, ◌≢◌, ◌*◌, ◌+◌, ◌<◌, ◌≤◌, ℕ, List, [], ◌∷◌, ◌++◌, map, Option, None, Some, unwrap_or, IsSome, IsTrue, false};
+ghost use Rattle.std.specs.Prelude.{◌≡◌, ◌≢◌, ◌↔◌, ◌*◌, ◌+◌, ◌<◌, ◌≤◌, ℕ, List, [], ◌∷◌, ◌++◌, map, Option, None, Some, unwrap_or, IsSome, IsTrue, false};
 ghost use Rattle.nvm_record.specs.declared.status.Statuses.{Statuses};
 ghost use Rattle.nvm_record.specs.Medium.{Medium};
 ghost use Rattle.nvm_record.specs.Status.{IsSuccess};
@@ -16,10 +16,10 @@ ghost use Rattle.nvm_plan.specs.declared.part.PartResult.TheVariants.{Done, Fail
 ghost use Rattle.nvm_plan.specs.Checks.{exceeds_pair_limit, refusal_of};
 ghost use Rattle.nvm_plan.specs.Fits.{FitsNamespace};
 ghost use Rattle.nvm_plan.specs.Operation.{job_operation_of};
-ghost use Rattle.nvm_plan.specs.Outcome.{answered, data_told, unstarted_of, AreDone, IsOutcomeOf, IsOutcome};
+ghost use Rattle.nvm_plan.specs.Outcome.{answered, data_told, unstarted_of, AreDone, IsOutcomeOf, IsRefused, IsOutcome};
 ghost use Rattle.nvm_plan.specs.Ready.{IsReady};
 ghost use Rattle.nvm_plan.specs.Reply.{Reply, is_look, is_pair, success_of, reply_on, reply_of_stop, IsReplyTo, Succeeds};
-ghost use Rattle.nvm_plan.specs.Shape.{HasOutcomeShape};
+ghost use Rattle.nvm_plan.specs.Shape.{HasShapeOf, HasShapeOfRefusal, HasOutcomeShape, IsForEach};
 
 use nvm_geometry::laws;
 
@@ -36,6 +36,7 @@ pub fn pair_limit_is_the_last_check()
 /// A job to which no check applies is ready, and there is an operation for which it stands. The
 /// operation's range has a block and lies in the namespace, so it has a part; that of a pair has just
 /// one.
+#[tactic(auto, unfolding(crate::specs::Checks::refusal_of))]
 pub fn ready_jobs()
     ensures ready { (ns : Namespace) (job : Job) → refusal_of ns job ≡ None → IsReady ns job }
     ensures operation { (ns : Namespace) (job : Job) → refusal_of ns job ≡ None → IsSome (job_operation_of job) }
@@ -61,16 +62,25 @@ pub fn jobs_that_fit_have_their_data()
     ready_jobs();
 }
 
-/// The outcome of a job that isn't refused is that of its operation, and a refused job has one outcome.
-pub fn outcome_by_plan()
-    ensures made { (ns : Namespace) (job : Job) (op : Operation) (replies : List Reply) (told : Statuses) (read : Option (List ℕ))
-        → refusal_of ns job ≡ None → job_operation_of job ≡ Some op
-        → IsOutcomeOf ns op replies told read → IsOutcome ns job replies told read }
-    ensures known { (ns : Namespace) (job : Job) (op : Operation) (replies : List Reply) (told : Statuses) (read : Option (List ℕ))
-        → refusal_of ns job ≡ None → job_operation_of job ≡ Some op
-        → IsOutcome ns job replies told read → IsOutcomeOf ns op replies told read }
-    ensures refused { (ns : Namespace) (job : Job) (refusal : Statuses) → refusal_of ns job ≡ Some refusal
-        → IsOutcome ns job [] refusal None }
+/// The outcome of a job that isn't refused is that of its operation. Nothing is done of a refused one.
+pub fn outcomes_by_plan()
+    ensures ready { (ns : Namespace) (job : Job) (op : Operation) (replies : List Reply) (told : Statuses)
+        (read : Option (List ℕ)) → refusal_of ns job ≡ None → job_operation_of job ≡ Some op
+        → IsOutcome ns job replies told read ↔ IsOutcomeOf ns op replies told read }
+    ensures refused { (ns : Namespace) (job : Job) (refusal : Statuses) (replies : List Reply) (told : Statuses)
+        (read : Option (List ℕ)) → refusal_of ns job ≡ Some refusal
+        → IsOutcome ns job replies told read ↔ IsRefused refusal replies told read }
+{}
+
+/// What is recorded of a job has the shape of an outcome where it has that of its operation's, or of its
+/// refusal.
+pub fn shapes_by_plan()
+    ensures ready { (ns : Namespace) (job : Job) (op : Operation) (parts : List Part) (told : Statuses)
+        (read : Option (List ℕ)) → refusal_of ns job ≡ None → job_operation_of job ≡ Some op
+        → HasOutcomeShape ns job parts told read ↔ HasShapeOf ns op parts told read }
+    ensures refused { (ns : Namespace) (job : Job) (refusal : Statuses) (parts : List Part) (told : Statuses)
+        (read : Option (List ℕ)) → refusal_of ns job ≡ Some refusal
+        → HasOutcomeShape ns job parts told read ↔ HasShapeOfRefusal refusal parts told read }
 {}
 
 /// What the step tells of a part is a reply to it, and so is what is told where memory was refused or the
@@ -110,9 +120,11 @@ pub fn outcomes_are_made_part_by_part()
 
 /// The replies to a job's parts fix what its host is told.
 pub fn replies_fix_the_outcome()
-    ensures statuses { (ns : Namespace) (job : Job) (replies : List Reply) (told other : Statuses) (read also : Option (List ℕ))
+    ensures statuses { (ns : Namespace) (job : Job) (replies : List Reply) (told other : Statuses)
+        (read also : Option (List ℕ))
         → IsOutcome ns job replies told read → IsOutcome ns job replies other also → told ≡ other }
-    ensures payload { (ns : Namespace) (job : Job) (replies : List Reply) (told other : Statuses) (read also : Option (List ℕ))
+    ensures payload { (ns : Namespace) (job : Job) (replies : List Reply) (told other : Statuses)
+        (read also : Option (List ℕ))
         → IsOutcome ns job replies told read → IsOutcome ns job replies other also → read ≡ also }
 {}
 
@@ -123,4 +135,14 @@ pub fn outcomes_have_their_shape()
         → HasOutcomeShape ns job (map (λ reply. reply.part) replies) told read }
 {
     ready_jobs();
+}
+
+/// An outcome has a status for each command of its job, and so has its shape.
+pub fn each_command_has_a_status()
+    ensures outcome { (ns : Namespace) (job : Job) (replies : List Reply) (told : Statuses) (read : Option (List ℕ))
+        → IsOutcome ns job replies told read → IsForEach job.body told }
+    ensures shape { (ns : Namespace) (job : Job) (parts : List Part) (told : Statuses) (read : Option (List ℕ))
+        → HasOutcomeShape ns job parts told read → IsForEach job.body told }
+{
+    outcomes_have_their_shape();
 }

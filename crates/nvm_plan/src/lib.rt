@@ -1,5 +1,8 @@
 //! Which jobs the hosts' commands are, in which order they are done, and which of them are refused
 //! before anything is done.
+//!
+//! [`plan`] is the table of checks, [`fits`] what a job must be before it. What a job does to the medium
+//! and what its outcome is stands in specs alone; [`laws`] has what holds of these.
 #![tactic(auto)]
 
 mod condition;

@@ -21,11 +21,11 @@ const NAMESPACE_IDENTIFIER: u32 = 1;
 ///
 /// | Single command | Status | Pair | Statuses |
 /// |---|---|---|---|
-/// | the opcode isn't of the profile | 0/01 | it isn't Compare and Write | 0/02, 0/02 |
-/// | FUSE is 11b | 0/02 | an NSID isn't 1 | 0/0b, 0/09 |
-/// | FUSE is 01b or 10b, without a partner | 0/0a | the ranges differ | 0/02, 0/02 |
-/// | the NSID isn't 1 | 0/0b | the range ends above NSZE | 0/80, 0/09 |
-/// | the range ends above NSZE | 0/80 | it is above the pair limit, or crosses a boundary | 0/14, 0/09 |
+/// | an opcode outside the profile | 0/01 | other commands than Compare and Write | 0/02, 0/02 |
+/// | the reserved FUSE value 11b | 0/02 | another namespace than 1 in either | 0/0b, 0/09 |
+/// | a FUSE value that asks for a partner | 0/0a | two ranges that differ | 0/02, 0/02 |
+/// | another namespace than 1 | 0/0b | a range that ends above NSZE | 0/80, 0/09 |
+/// | a range that ends above NSZE | 0/80 | a range above the pair limit, or over a boundary | 0/14, 0/09 |
 #[tactic(auto, unfolding(crate::specs::Checks::refusal_of))]
 pub fn plan(geometry: &Geometry, job: &Job) -> Plan
     ensures table { IsPlan geometry.now job.now result }
