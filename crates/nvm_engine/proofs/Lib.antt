@@ -7,3 +7,6 @@ pub mod JobOperations
 pub mod ReplyLemmas
 pub mod Progress
 pub mod RunLemmas
+pub mod Reading
+pub mod Fitting
+pub mod Serving

@@ -1,6 +1,6 @@
 -- The faults of a run, in the order in which they are looked for: the number of files, the options, the
 -- files by their hosts' numbers.
-use Rattle.std.specs.Prelude.{◌≡◌, ◌⊎◌, ℕ, ◌≤◌, ◌<◌, suc, List, [], ◌∷◌, length}
+use Rattle.std.specs.Prelude.{◌≡◌, ◌⊎◌, ℕ, ◌+◌, ◌≤◌, ◌<◌, List, [], ◌∷◌, length}
 use Rattle.nvm_record.specs.HostFile.{IsFaultOf, IsHostFile}
 use Rattle.nvm_record.specs.declared.command.Command.{Command}
 use Rattle.nvm_record.specs.declared.host_fault.HostFault.{HostFault}
@@ -40,7 +40,7 @@ abbrev pub IsFilesFault : ℕ → ℕ → List (List ℕ) → Fault → Type 0
 IsFilesFault size number [] fault = ⊥
 IsFilesFault size number (file ∷ files) fault =
     IsFileFault size number file fault
-    ⊎ (((commands : List Command) × IsHostFile size file commands) × IsFilesFault size (suc number) files fault)
+    ⊎ (((commands : List Command) × IsHostFile size file commands) × IsFilesFault size (number + 1) files fault)
 
 -- The first fault: too many files, or else one of the options, or else one of the files; or memory was
 -- refused.

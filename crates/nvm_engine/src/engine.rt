@@ -2,7 +2,9 @@ ghost use Rattle.std.specs.Prelude.{◌≡◌, ◌<◌, ◌≤◌, ◌⊎◌, �
 ghost use Rattle.nvm_record.specs.Entry.{IsWhole};
 ghost use Rattle.nvm_record.specs.HostFile.{IsHostFile};
 ghost use Rattle.nvm_record.specs.Medium.{zero_medium};
+ghost use Rattle.nvm_geometry.specs.Namespace.{Namespace};
 ghost use Rattle.nvm_plan.specs.Fits.{FitsNamespace};
+ghost use Rattle.nvm_plan.specs.Jobs.{IsJobList};
 ghost use Rattle.nvm_engine.specs.declared.fault.Fault.TheVariants.{NoMemory};
 ghost use Rattle.nvm_engine.specs.Fault.{IsFirstFault, IsGeometryFault, IsFileFault, IsFilesFault};
 ghost use Rattle.nvm_engine.specs.Run.{no_changes, IsRun};
@@ -16,6 +18,7 @@ use crate::settings::Settings;
 use crate::shown::Shown;
 use crate::units::Units;
 use nvm_geometry::Geometry;
+use nvm_plan::job_laws::{jobs_are_of_their_hosts, no_more_jobs_than_commands};
 use nvm_plan::{Job, jobs};
 use nvm_record::{BlockSize, Command, NoMemory, read_host};
 use std::alloc::Global;
@@ -39,7 +42,7 @@ pub fn execute(alloc: Global, settings: &Settings, files: &[Vec<u8>]) -> Result<
     }
     let geometry = geometry_of(settings)?;
     let hosts = hosts_of(alloc, geometry.block_size(), files)?;
-    let jobs = jobs(alloc, hosts)?;
+    let jobs = jobs_of(alloc, hosts)?;
     let done = done_jobs(alloc, settings, geometry, jobs.as_slice())?;
     let mut text = String::new(alloc);
     push_jobs(&mut text, jobs.as_slice(), done)?;
@@ -81,7 +84,6 @@ fn hosts_of(
     ensures commands { IfOk result (λ hosts. AreHostFiles size (map (λ file. file.items) files.now)
         (map (λ host. host.items) hosts.items)) }
     ensures whole { IfOk result (λ hosts. All (λ host. All (IsWhole size) host.items) hosts.items) }
-    ensures few { IfOk result (λ hosts. All (λ host. length host.items ≤ 65536) hosts.items) }
     ensures count { IfOk result (λ hosts. length hosts.items ≡ length files.now) }
     ensures fault { IfErr result (λ fault. IsFilesFault size 1 (map (λ file. file.items) files.now) fault
         ⊎ (fault ≡ NoMemory)) }
@@ -108,6 +110,22 @@ fn commands_of(
         Ok(commands) => Ok(commands),
         Err(fault) => Err(Fault::of_host(host, fault)),
     }
+}
+
+/// The jobs of the hosts' commands. At most 64 hosts of at most 65,536 commands have few enough of them that
+/// their numbers fit into 32 bits.
+fn jobs_of(alloc: Global, hosts: Vec<Vec<Command>>) -> Result<Vec<Job>, NoMemory>
+    requires hosts { length hosts.items ≤ 64 }
+    requires commands { All (λ host. length host.items ≤ 65536) hosts.items }
+    ensures order { IfOk result (λ jobs. IsJobList (map (λ host. host.items) hosts.items) jobs.items) }
+    ensures fit { IfOk result (λ jobs. (ns : Namespace) → All (λ host. All (IsWhole ns.block_size) host.items) hosts.items
+        → All (FitsNamespace ns) jobs.items) }
+    ensures few { IfOk result (λ jobs. length jobs.items < 2 ^ 32) }
+{
+    jobs_are_of_their_hosts();
+    no_more_jobs_than_commands();
+    let jobs = jobs(alloc, hosts)?;
+    Ok(jobs)
 }
 
 /// What the hosts are told of the jobs, in their order.

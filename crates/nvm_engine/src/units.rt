@@ -17,7 +17,7 @@ use crate::done_job::DoneJob;
 use crate::ending::ended;
 use crate::pieces::{part_of, pieces, room};
 use nvm_geometry::{Geometry, Piece, laws};
-use nvm_plan::laws::{outcome_by_plan, outcomes_are_made_part_by_part, ready_jobs};
+use nvm_plan::laws::{outcomes_by_plan, outcomes_are_made_part_by_part, ready_jobs};
 use nvm_plan::{Body, Job, Plan, plan};
 use nvm_record::{Command, NoMemory, Op};
 use nvm_store::laws::some_medium_is_held;
@@ -60,7 +60,7 @@ impl Units {
         ensures setup { setup_of self.new ≡ setup_of self.old }
         ensures answer { AnswersTo (setup_of self.old) self.old.units.items self.new.units.items job.now result }
     {
-        outcome_by_plan();
+        outcomes_by_plan();
         ready_jobs();
         match plan(&self.geometry, job) {
             Plan::Refused(statuses) => DoneJob::of(statuses),

@@ -1,0 +1,15 @@
+use Rattle.std.proofs.Common.{◌≡◌, ℕ, ◌≤◌, List, length, map, All, ap, ◌∙◌, subst}
+use Rattle.std.proofs.lemmas.List.Elements.{All-from_recursion}
+use Rattle.nvm_record.specs.Entry.{IsWhole}
+use Rattle.nvm_engine.proofs.Reading.{few_commands}
+use Rattle.nvm_engine.proofs.engine.execute.Goals as goal
+
+pub jobs_of-requires-clause-commands : goal.jobs_of-requires-clause-commands
+jobs_of-requires-clause-commands c =
+    All-from_recursion (λ host. length host.items ≤ 65536) c.in_ok-hosts.hosts.items
+    (few_commands c.block_size.result _ (λ host. host.items) c.in_ok-hosts.hosts.items c.in_ok-hosts.ensures.commands)
+
+pub done_jobs-requires-clause-fit : goal.done_jobs-requires-clause-fit
+done_jobs-requires-clause-fit c =
+    rw c.as_slice.ensures.value (c.in_ok-jobs.ensures.fit c.in_ok-geometry.geometry
+    (subst (λ (n : ℕ). All (λ host. All (IsWhole n) host.items) c.in_ok-hosts.hosts.items) c.block_size.ensures.value c.in_ok-hosts.ensures.whole))
