@@ -8,3 +8,10 @@ pub mod Midway
 pub mod OneOrder
 pub mod JobsMade
 pub mod JobPlaces
+pub mod PairLimit
+pub mod Unrefused
+pub mod OneOutcome
+pub mod Endings
+pub mod OutcomeShape
+pub mod Arity
+pub mod JobsFit

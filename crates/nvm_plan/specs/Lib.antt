@@ -1,2 +1,9 @@
 pub mod Profile
 pub mod Jobs
+pub mod Operation
+pub mod Checks
+pub mod Ready
+pub mod Fits
+pub mod Reply
+pub mod Outcome
+pub mod Shape

@@ -1,0 +1,31 @@
+-- What is known of a job to which no check applies.
+use Rattle.std.proofs.Common.{◌≡◌, ◌+◌, ◌≤◌, ◌<◌, Some, None, IsTrue, arith, rules}
+use Rattle.std.proofs.lemmas.Grind.{common_steps}
+use Rattle.nvm_record.specs.Step.{Operation}
+use Rattle.nvm_geometry.specs.Namespace.{Namespace}
+use Rattle.nvm_geometry.specs.Limits.{LiesInUnit}
+use Rattle.nvm_plan.specs.declared.job.Body.{Body}
+use Rattle.nvm_plan.specs.declared.job.Body.TheVariants.{Single, Pair}
+use Rattle.nvm_plan.specs.declared.job.Job.{Job}
+use Rattle.nvm_plan.specs.Checks.{checks, first_answer, refusal_of}
+use Rattle.nvm_plan.specs.Operation.{operation_of_body, job_operation_of}
+use Rattle.nvm_plan.specs.Ready.{IsReadyBody, IsReady}
+use Rattle.nvm_plan.specs.Reply.{is_pair}
+use Rattle.nvm_plan.proofs.PairLimit.{SharesByNumber, within_limit}
+
+ready_body : SharesByNumber → (ns : Namespace) (body : Body) → first_answer (checks ns body) ≡ None → IsReadyBody ns body
+ready_body shares ns (Single c) h = search rules
+ready_body shares ns (Pair c d) h = search (rules, within_limit shares)
+
+pub ready_job : SharesByNumber → (ns : Namespace) (job : Job) → refusal_of ns job ≡ None → IsReady ns job
+unfolding refusal_of
+ready_job shares ns job h = ready_body shares ns job.body h
+
+body_in_unit : (ns : Namespace) (body : Body) (op : Operation) → IsReadyBody ns body → operation_of_body body ≡ Some op → IsTrue (is_pair op.deed)
+    → (0 < op.blocks) × (op.first + op.blocks ≤ ns.nsze) × LiesInUnit ns op.first op.blocks
+body_in_unit ns body op ready stands pair = grind (arith, common_steps)
+
+-- the operation of a pair lies in one unit of the namespace
+pub pair_in_unit : (ns : Namespace) (job : Job) (op : Operation) → IsReady ns job → job_operation_of job ≡ Some op → IsTrue (is_pair op.deed)
+    → (0 < op.blocks) × (op.first + op.blocks ≤ ns.nsze) × LiesInUnit ns op.first op.blocks
+pair_in_unit ns job op = body_in_unit ns job.body op

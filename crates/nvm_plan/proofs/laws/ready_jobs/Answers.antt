@@ -1,0 +1,11 @@
+use Rattle.nvm_plan.proofs.Unrefused.{ready_job, pair_in_unit}
+use Rattle.nvm_plan.proofs.laws.ready_jobs.Goals as goal
+
+pub returns-clause-ready : goal.returns-clause-ready
+returns-clause-ready c = ready_job c.sharing_is_one_number.ensures.shares
+
+pub returns-clause-pair : goal.returns-clause-pair
+returns-clause-pair c ns job op h stands pair =
+    let ready = ready_job c.sharing_is_one_number.ensures.shares ns job h in
+    let place = pair_in_unit ns job op ready stands pair in
+    c.one_unit_is_one_part.ensures.unit ns op.first op.blocks place.0 place.1 place.2

@@ -1,0 +1,23 @@
+-- What a job must be before it is planned, done or recorded.
+use Rattle.std.specs.Prelude.{ℕ, ◌≤◌}
+use Rattle.nvm_record.specs.Entry.{IsWhole}
+use Rattle.nvm_geometry.specs.Namespace.{Namespace}
+use Rattle.nvm_plan.specs.declared.job.Body.{Body}
+use Rattle.nvm_plan.specs.declared.job.Body.TheVariants.{Single, Pair}
+use Rattle.nvm_plan.specs.declared.job.Job.{Job}
+use Rattle.nvm_plan.specs.Profile.{IsFusedPair}
+
+-- a namespace has at most so many hosts, numbered from 1
+abbrev pub most_hosts : ℕ
+most_hosts = 64
+
+-- Each command has just the data that it calls for and a proper opcode, and two of them are a pair.
+abbrev pub IsWholeBody : ℕ → Body → Type 0
+IsWholeBody size (Single c) = IsWhole size c
+IsWholeBody size (Pair c d) = IsWhole size c × IsWhole size d × IsFusedPair c d
+
+-- The job is one of such a namespace.
+pub record FitsNamespace (ns : Namespace) (job : Job) : Type 0 where
+  pub host : 1 ≤ job.host
+  pub host_end : job.host ≤ most_hosts
+  pub body : IsWholeBody ns.block_size job.body

@@ -1,0 +1,103 @@
+-- What a unit tells of the part of an operation that it did.
+use Rattle.std.specs.Prelude.{◌≡◌, ◌≢◌, ◌↔◌, ℕ, List, Bool, true, false, not, Option, None, IsTrue, IsSome}
+use Rattle.nvm_record.specs.declared.status.Statuses.{Statuses}
+use Rattle.nvm_record.specs.declared.status.Statuses.TheVariants.{One, Two}
+use Rattle.nvm_record.specs.Status.{IsSuccess, successful_completion, internal_error, aborted_due_to_failed_fused_command}
+use Rattle.nvm_record.specs.Medium.{Medium}
+use Rattle.nvm_record.specs.Step.{Deed, Operation, writes, zeroes, uncorrectable, reads, compares, pairs, statuses_of, data_of}
+use Rattle.nvm_geometry.specs.Namespace.{Namespace}
+use Rattle.nvm_geometry.specs.Parts.{part_in}
+use Rattle.nvm_plan.specs.declared.part.Part.{Part}
+use Rattle.nvm_plan.specs.declared.part.PartResult.{PartResult}
+use Rattle.nvm_plan.specs.declared.part.PartResult.TheVariants.{Done, Failed, Looked, NoMemory, Full}
+
+-- a part that was done, what its host would be told of it alone, and the data that a Read's part read
+pub record Reply : Type 0 where
+  pub part : Part
+  pub statuses : Statuses
+  pub payload : Option (List ℕ)
+
+-- the deed changes nothing
+abbrev pub is_look : Deed → Bool
+is_look (writes payload) = false
+is_look zeroes = false
+is_look uncorrectable = false
+is_look reads = true
+is_look (compares payload) = true
+is_look (pairs payload new) = false
+
+-- the deed is a fused pair's
+abbrev pub is_pair : Deed → Bool
+is_pair (writes payload) = false
+is_pair zeroes = false
+is_pair uncorrectable = false
+is_pair reads = false
+is_pair (compares payload) = false
+is_pair (pairs payload new) = true
+
+-- which results a part of the deed can have
+abbrev pub can_have : Deed → PartResult → Bool
+can_have deed Done = not (is_look deed)
+can_have deed Failed = is_pair deed
+can_have deed Looked = is_look deed
+can_have deed NoMemory = true
+can_have deed Full = not (is_look deed)
+
+-- one status for a command by itself, two for a pair
+abbrev pub for_deed : Deed → Statuses → Statuses → Statuses
+for_deed (writes payload) one two = one
+for_deed zeroes one two = one
+for_deed uncorrectable one two = one
+for_deed reads one two = one
+for_deed (compares payload) one two = one
+for_deed (pairs payload new) one two = two
+
+-- what is told of success
+abbrev pub success_of : Deed → Statuses
+success_of deed = for_deed deed (One successful_completion) (Two successful_completion successful_completion)
+
+-- What is told where memory was refused in a unit, or its history is full. A pair's comparison came
+-- before that, and held.
+abbrev pub stop_of : Deed → Statuses
+stop_of deed = for_deed deed (One internal_error) (Two successful_completion internal_error)
+
+-- A comparison failed, and the Write with it.
+abbrev pub IsFailedPair : Statuses → Type 0
+IsFailedPair (One s) = ⊥
+IsFailedPair (Two s t) = (s ≢ successful_completion) × (t ≡ aborted_due_to_failed_fused_command)
+
+abbrev pub IsOneStatus : Statuses → Type 0
+IsOneStatus (One s) = Unit {0}
+IsOneStatus (Two s t) = ⊥
+
+-- What may be told of a part that ended so. A failed comparison and a look have statuses of their own.
+abbrev pub MayTell : Deed → PartResult → Statuses → Type 0
+MayTell deed Done told = told ≡ success_of deed
+MayTell deed Failed told = IsFailedPair told
+MayTell deed Looked told = IsOneStatus told
+MayTell deed NoMemory told = told ≡ stop_of deed
+MayTell deed Full told = told ≡ stop_of deed
+
+-- It was a Read by itself, and succeeded: data is told just of this.
+abbrev pub GivesData : Deed → Statuses → Type 0
+GivesData deed told = (deed ≡ reads) × IsSuccess told
+
+-- The reply is one to a part of the deed.
+pub record IsReplyTo (deed : Deed) (r : Reply) : Type 0 where
+  pub result : IsTrue (can_have deed r.part.result)
+  pub told : MayTell deed r.part.result r.statuses
+  pub payload : IsSome r.payload ↔ GivesData deed r.statuses
+
+-- The reply is one to a part of the deed that succeeded.
+pub record Succeeds (deed : Deed) (r : Reply) : Type 0 where
+  pub reply : IsReplyTo deed r
+  pub success : IsSuccess r.statuses
+
+-- the reply of a part that rests on this medium: what the step tells of the operation's part in its unit
+abbrev pub reply_on : Namespace → Operation → Medium → Part → Reply
+reply_on ns op m part =
+    record { part = part; statuses = statuses_of (part_in ns op part.unit) m; payload = data_of (part_in ns op part.unit) m }
+
+-- the reply of a part for which memory was refused, or whose unit was full
+abbrev pub reply_of_stop : Deed → Part → Reply
+reply_of_stop deed part = record { part = part; statuses = stop_of deed; payload = None }

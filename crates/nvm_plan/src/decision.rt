@@ -1,0 +1,10 @@
+use nvm_record::Statuses;
+
+/// What is decided of a job before anything is done.
+#[derive(Clone, Copy, Debug, PartialEq, Eq)]
+pub enum Plan {
+    /// The job is done by nobody, and its host is told these statuses.
+    Refused(Statuses),
+    /// The job can be done.
+    Ready,
+}

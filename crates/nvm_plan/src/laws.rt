@@ -1,0 +1,148 @@
+//! What holds of plans and outcomes by their definitions alone. Each law is a call that does nothing and
+//! whose contract is the law.
+
+ghost use Rattle.std.specs.Prelude.{◌≡◌, ◌≢◌, ◌↔◌, ◌*◌, ◌+◌, ◌<◌, ◌≤◌, ℕ, List, [], ◌∷◌, ◌++◌, map, Option, None, Some, unwrap_or, IsSome, IsTrue, false};
+ghost use Rattle.nvm_record.specs.declared.status.Statuses.{Statuses};
+ghost use Rattle.nvm_record.specs.Medium.{Medium};
+ghost use Rattle.nvm_record.specs.Status.{IsSuccess};
+ghost use Rattle.nvm_record.specs.Step.{Deed, HasData, Operation, statuses_of};
+ghost use Rattle.nvm_geometry.specs.Namespace.{Namespace};
+ghost use Rattle.nvm_geometry.specs.Boundaries.{unit_number};
+ghost use Rattle.nvm_geometry.specs.Limits.{IsWithinPairLimit};
+ghost use Rattle.nvm_geometry.specs.Parts.{part_in, units_met};
+ghost use Rattle.nvm_plan.specs.declared.job.Job.{Job};
+ghost use Rattle.nvm_plan.specs.declared.part.Part.{Part};
+ghost use Rattle.nvm_plan.specs.declared.part.PartResult.TheVariants.{Done, Failed, Looked, NoMemory, Full};
+ghost use Rattle.nvm_plan.specs.Checks.{exceeds_pair_limit, refusal_of};
+ghost use Rattle.nvm_plan.specs.Fits.{FitsNamespace};
+ghost use Rattle.nvm_plan.specs.Operation.{job_operation_of};
+ghost use Rattle.nvm_plan.specs.Outcome.{answered, data_told, unstarted_of, AreDone, IsOutcomeOf, IsRefused, IsOutcome};
+ghost use Rattle.nvm_plan.specs.Ready.{IsReady};
+ghost use Rattle.nvm_plan.specs.Reply.{Reply, is_look, is_pair, success_of, reply_on, reply_of_stop, IsReplyTo, Succeeds};
+ghost use Rattle.nvm_plan.specs.Shape.{HasShapeOf, HasShapeOfRefusal, HasOutcomeShape, IsForEach};
+
+use nvm_geometry::laws;
+
+/// The last check of a pair applies just where a pair of the range isn't within the advertised limits.
+pub fn pair_limit_is_the_last_check()
+    ensures kept { (ns : Namespace) (slba blocks : ℕ) → IsWithinPairLimit ns slba blocks
+        → exceeds_pair_limit ns slba blocks ≡ false }
+    ensures within { (ns : Namespace) (slba blocks : ℕ) → exceeds_pair_limit ns slba blocks ≡ false
+        → IsWithinPairLimit ns slba blocks }
+{
+    laws::sharing_is_one_number();
+}
+
+/// A job to which no check applies is ready, and there is an operation for which it stands. The
+/// operation's range has a block and lies in the namespace, so it has a part; that of a pair has just
+/// one.
+#[tactic(auto, unfolding(crate::specs::Checks::refusal_of))]
+pub fn ready_jobs()
+    ensures ready { (ns : Namespace) (job : Job) → refusal_of ns job ≡ None → IsReady ns job }
+    ensures operation { (ns : Namespace) (job : Job) → refusal_of ns job ≡ None → IsSome (job_operation_of job) }
+    ensures range { (ns : Namespace) (job : Job) (op : Operation) → refusal_of ns job ≡ None
+        → job_operation_of job ≡ Some op → (0 < op.blocks) × (op.first + op.blocks ≤ ns.nsze) }
+    ensures units { (ns : Namespace) (job : Job) (op : Operation) → refusal_of ns job ≡ None
+        → job_operation_of job ≡ Some op → units_met ns op.first op.blocks ≢ [] }
+    ensures pair { (ns : Namespace) (job : Job) (op : Operation) → refusal_of ns job ≡ None
+        → job_operation_of job ≡ Some op → IsTrue (is_pair op.deed)
+        → units_met ns op.first op.blocks ≡ unit_number ns op.first ∷ [] }
+{
+    laws::sharing_is_one_number();
+    laws::pieces_stand_in_line();
+    laws::one_unit_is_one_part();
+}
+
+/// The operation of a job that fits has just the data of its blocks.
+pub fn jobs_that_fit_have_their_data()
+    ensures { (ns : Namespace) (job : Job) (op : Operation) → FitsNamespace ns job
+        → refusal_of ns job ≡ None → job_operation_of job ≡ Some op
+        → HasData (op.blocks * ns.block_size) op.deed }
+{
+    ready_jobs();
+}
+
+/// The outcome of a job that isn't refused is that of its operation. Nothing is done of a refused one.
+pub fn outcomes_by_plan()
+    ensures ready { (ns : Namespace) (job : Job) (op : Operation) (replies : List Reply) (told : Statuses)
+        (read : Option (List ℕ)) → refusal_of ns job ≡ None → job_operation_of job ≡ Some op
+        → IsOutcome ns job replies told read ↔ IsOutcomeOf ns op replies told read }
+    ensures refused { (ns : Namespace) (job : Job) (refusal : Statuses) (replies : List Reply) (told : Statuses)
+        (read : Option (List ℕ)) → refusal_of ns job ≡ Some refusal
+        → IsOutcome ns job replies told read ↔ IsRefused refusal replies told read }
+{}
+
+/// What is recorded of a job has the shape of an outcome where it has that of its operation's, or of its
+/// refusal.
+pub fn shapes_by_plan()
+    ensures ready { (ns : Namespace) (job : Job) (op : Operation) (parts : List Part) (told : Statuses)
+        (read : Option (List ℕ)) → refusal_of ns job ≡ None → job_operation_of job ≡ Some op
+        → HasOutcomeShape ns job parts told read ↔ HasShapeOf ns op parts told read }
+    ensures refused { (ns : Namespace) (job : Job) (refusal : Statuses) (parts : List Part) (told : Statuses)
+        (read : Option (List ℕ)) → refusal_of ns job ≡ Some refusal
+        → HasOutcomeShape ns job parts told read ↔ HasShapeOfRefusal refusal parts told read }
+{}
+
+/// What the step tells of a part is a reply to it, and so is what is told where memory was refused or the
+/// unit was full.
+pub fn answers_of_the_step_are_replies()
+    ensures looked { (ns : Namespace) (op : Operation) (m : Medium) (part : Part) → IsTrue (is_look op.deed)
+        → part.result ≡ Looked → IsReplyTo op.deed (reply_on ns op m part) }
+    ensures done { (ns : Namespace) (op : Operation) (m : Medium) (part : Part) → is_look op.deed ≡ false
+        → part.result ≡ Done → IsSuccess (statuses_of (part_in ns op part.unit) m)
+        → IsReplyTo op.deed (reply_on ns op m part) }
+    ensures failed { (ns : Namespace) (op : Operation) (m : Medium) (part : Part) → IsTrue (is_pair op.deed)
+        → part.result ≡ Failed → ¬ (IsSuccess (statuses_of (part_in ns op part.unit) m))
+        → IsReplyTo op.deed (reply_on ns op m part) }
+    ensures no_memory { (deed : Deed) (part : Part) → part.result ≡ NoMemory
+        → IsReplyTo deed (reply_of_stop deed part) }
+    ensures full { (deed : Deed) (part : Part) → is_look deed ≡ false → part.result ≡ Full
+        → IsReplyTo deed (reply_of_stop deed part) }
+{}
+
+/// An outcome is made part by part: one more part that succeeds leaves those after it, one that doesn't
+/// ends the job, and the job has succeeded when no part is left.
+pub fn outcomes_are_made_part_by_part()
+    ensures begun { (ns : Namespace) (op : Operation) → AreDone ns op [] (units_met ns op.first op.blocks) }
+    ensures more { (ns : Namespace) (op : Operation) (replies : List Reply) (r : Reply) (left : List ℕ)
+        → AreDone ns op replies (r.part.unit ∷ left) → Succeeds op.deed r
+        → AreDone ns op (replies ++ r ∷ []) left }
+    ensures payload { (replies : List Reply) (r : Reply)
+        → data_told (replies ++ r ∷ []) ≡ data_told replies ++ unwrap_or r.payload [] }
+    ensures whole { (ns : Namespace) (op : Operation) (replies : List Reply) → AreDone ns op replies []
+        → IsOutcomeOf ns op replies (success_of op.deed) (answered op.deed (data_told replies)) }
+    ensures stopped { (ns : Namespace) (op : Operation) (replies : List Reply) (r : Reply) (left : List ℕ)
+        → AreDone ns op replies (r.part.unit ∷ left) → IsReplyTo op.deed r → ¬ (IsSuccess r.statuses)
+        → IsOutcomeOf ns op (replies ++ r ∷ []) r.statuses None }
+    ensures unstarted { (ns : Namespace) (op : Operation) → units_met ns op.first op.blocks ≢ []
+        → IsOutcomeOf ns op [] (unstarted_of op.deed) None }
+{}
+
+/// The replies to a job's parts fix what its host is told.
+pub fn replies_fix_the_outcome()
+    ensures statuses { (ns : Namespace) (job : Job) (replies : List Reply) (told other : Statuses)
+        (read also : Option (List ℕ))
+        → IsOutcome ns job replies told read → IsOutcome ns job replies other also → told ≡ other }
+    ensures payload { (ns : Namespace) (job : Job) (replies : List Reply) (told other : Statuses)
+        (read also : Option (List ℕ))
+        → IsOutcome ns job replies told read → IsOutcome ns job replies other also → read ≡ also }
+{}
+
+/// What is recorded of an outcome has the shape of one.
+pub fn outcomes_have_their_shape()
+    ensures { (ns : Namespace) (job : Job) (replies : List Reply) (told : Statuses) (read : Option (List ℕ))
+        → IsOutcome ns job replies told read
+        → HasOutcomeShape ns job (map (λ reply. reply.part) replies) told read }
+{
+    ready_jobs();
+}
+
+/// An outcome has a status for each command of its job, and so has its shape.
+pub fn each_command_has_a_status()
+    ensures outcome { (ns : Namespace) (job : Job) (replies : List Reply) (told : Statuses) (read : Option (List ℕ))
+        → IsOutcome ns job replies told read → IsForEach job.body told }
+    ensures shape { (ns : Namespace) (job : Job) (parts : List Part) (told : Statuses) (read : Option (List ℕ))
+        → HasOutcomeShape ns job parts told read → IsForEach job.body told }
+{
+    outcomes_have_their_shape();
+}
