@@ -1,4 +1,5 @@
 pub mod Profile
+pub mod Jobs
 pub mod Operation
 pub mod Checks
 pub mod Ready
@@ -6,4 +7,3 @@ pub mod Fits
 pub mod Reply
 pub mod Outcome
 pub mod Shape
-pub mod Jobs

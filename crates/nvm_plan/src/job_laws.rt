@@ -7,6 +7,8 @@ ghost use Rattle.nvm_record.specs.Entry.{IsWhole};
 ghost use Rattle.nvm_record.specs.declared.command.Command.{Command};
 ghost use Rattle.nvm_plan.specs.declared.job.Body.{Body};
 ghost use Rattle.nvm_plan.specs.declared.job.Job.{Job};
+ghost use Rattle.nvm_geometry.specs.Namespace.{Namespace};
+ghost use Rattle.nvm_plan.specs.Fits.{most_hosts, FitsNamespace};
 ghost use Rattle.nvm_plan.specs.Jobs.{commands_of, IsPairing, IsJobOf, IsJobList, IsOfHosts};
 
 /// The commands of a host are paired in one way, and no other.
@@ -50,4 +52,12 @@ pub fn jobs_are_of_their_hosts()
     ensures whole { (size : ℕ) (hosts : List (List Command)) (jobs : List Job)
         → All (λ commands. All (IsWhole size) commands) hosts → IsJobList hosts jobs
         → All (λ job. All (IsWhole size) (commands_of job.body)) jobs }
+{}
+
+/// Where there are at most 64 hosts, and their commands have just the data that they call for and proper opcodes,
+/// as those that `read_host` reads have, each job fits.
+pub fn jobs_fit()
+    ensures { (ns : Namespace) (hosts : List (List Command)) (jobs : List Job) → length hosts ≤ most_hosts
+        → All (λ commands. All (IsWhole ns.block_size) commands) hosts → IsJobList hosts jobs
+        → All (FitsNamespace ns) jobs }
 {}

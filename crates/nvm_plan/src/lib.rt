@@ -1,15 +1,16 @@
 //! Which jobs the hosts' commands are, in which order they are done, and which of them are refused
 //! before anything is done.
 //!
-//! [`plan`] is the table of checks, [`fits`] what a job must be before it. What a job does to the medium
+//! [`jobs`] pairs the hosts' commands and puts them in order, [`plan`] is the table of checks, and [`fits`]
+//! what a job must be before it. What a job does to the medium
 //! and what its outcome is stands in specs alone; [`laws`] has what holds of these.
 #![tactic(auto)]
 
 mod condition;
 mod decision;
 mod job;
-pub mod laws;
 pub mod job_laws;
+pub mod laws;
 mod order;
 mod pairing;
 mod part;
@@ -26,7 +27,6 @@ pub use table::plan;
 #[cfg(test)]
 mod fit_tests;
 #[cfg(test)]
-mod plan_tests;
-
-#[cfg(test)]
 mod order_tests;
+#[cfg(test)]
+mod plan_tests;
