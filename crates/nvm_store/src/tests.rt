@@ -105,9 +105,14 @@ fn compare(
         blocks,
         payload,
     };
-    match ask(alloc, unit, look)? {
-        Answer::Status(status) => Ok(status),
-        Answer::Payload(_) => Err(Fail::new("the Compare was answered data")),
+    if !unit.covers_look(look) {
+        return Err(Fail::new("the unit doesn't cover the Compare"));
+    }
+    match answer(alloc, unit, look) {
+        Ok(Answer::Status(status)) => Ok(status),
+        Ok(Answer::Payload(_)) => Err(Fail::new("the Compare was answered data")),
+        // A Compare is always answered.
+        Err(_) => unreachable!(),
     }
 }
 

@@ -1,9 +1,9 @@
-use Rattle.std.proofs.Common.{◌≡◌, ◌++◌, ◌∷◌, [], IsTrue, rules, sym}
+use Rattle.std.proofs.Common.{◌≡◌, ◌++◌, ◌∷◌, [], rules, sym}
 use Rattle.nvm_record.specs.Status.{IsSuccess}
 use Rattle.nvm_record.specs.Step.{statuses_of}
 use Rattle.nvm_store.specs.Act.{operation_of}
 use Rattle.nvm_store.specs.ActRef.{lent_operation_of}
-use Rattle.nvm_store.specs.Contents.{Holds, IsUnit, IsCovered, Covers}
+use Rattle.nvm_store.specs.Contents.{Holds, IsUnit, Covers}
 use Rattle.nvm_store.specs.History.{replay_of, CanFollow}
 use Rattle.nvm_store.specs.Line.{Line}
 use Rattle.nvm_store.proofs.tests.histories.push.Goals as goal

@@ -1,12 +1,15 @@
-use Rattle.std.proofs.Common.{◌+◌, sym, ◌∙◌}
+use Rattle.std.proofs.Common.{◌≡◌, ℕ, rules}
+use Rattle.nvm_record.specs.Step.{medium_after}
+use Rattle.nvm_store.specs.Operation.{write_operation, pair_operation}
 use Rattle.nvm_store.proofs.Comparisons.{pair_is_write}
 use Rattle.nvm_store.proofs.unit_blocks.UnitBlocks.change.Goals as goal
 
 pub returns-in-Pair-clause-step : goal.returns-in-Pair-clause-step
 returns-in-Pair-clause-step c m held d i lt =
+    let size = c.args.self.now.size in
     let pair = c.in-Pair in
     let success = rw pair.is at (c.requires.success m held) in
-    let written = c.write-in-Pair.ensures.step m held d i lt in
-    rw pair.is
-    (written ∙ sym (pair_is_write c.args.self.now.size pair.first pair.blocks pair.compare.now pair.write.now m
-    (c.write-in-Pair.new.self.first + i) success))
+    let same : (lba : ℕ) → medium_after size (pair_operation pair.first pair.blocks pair.compare.now pair.write.now) m lba
+    ≡ medium_after size (write_operation pair.first pair.blocks pair.write.now) m lba =
+    λ lba. pair_is_write size pair.first pair.blocks pair.compare.now pair.write.now m lba success in
+    rw pair.is (rw same (search rules))
