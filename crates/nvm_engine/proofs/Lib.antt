@@ -8,5 +8,4 @@ pub mod ReplyLemmas
 pub mod Progress
 pub mod RunLemmas
 pub mod Reading
-pub mod Fitting
 pub mod Serving

@@ -18,7 +18,7 @@ use crate::settings::Settings;
 use crate::shown::Shown;
 use crate::units::Units;
 use nvm_geometry::Geometry;
-use nvm_plan::job_laws::{jobs_are_of_their_hosts, no_more_jobs_than_commands};
+use nvm_plan::job_laws::{jobs_fit, no_more_jobs_than_commands};
 use nvm_plan::{Job, jobs};
 use nvm_record::{BlockSize, Command, NoMemory, read_host};
 use std::alloc::Global;
@@ -122,7 +122,7 @@ fn jobs_of(alloc: Global, hosts: Vec<Vec<Command>>) -> Result<Vec<Job>, NoMemory
         → All (FitsNamespace ns) jobs.items) }
     ensures few { IfOk result (λ jobs. length jobs.items < 2 ^ 32) }
 {
-    jobs_are_of_their_hosts();
+    jobs_fit();
     no_more_jobs_than_commands();
     let jobs = jobs(alloc, hosts)?;
     Ok(jobs)

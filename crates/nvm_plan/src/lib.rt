@@ -2,8 +2,8 @@
 //! before anything is done.
 //!
 //! [`jobs`] pairs the hosts' commands and puts them in order, [`plan`] is the table of checks, and [`fits`]
-//! what a job must be before it. What a job does to the medium
-//! and what its outcome is stands in specs alone; [`laws`] has what holds of these.
+//! tests what a job must be before it. What a job does to the medium and what its outcome is stands in specs
+//! alone; [`laws`] and [`job_laws`] have what holds of these.
 #![tactic(auto)]
 
 mod condition;

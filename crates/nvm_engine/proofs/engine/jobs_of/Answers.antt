@@ -3,7 +3,6 @@ use Rattle.std.proofs.lemmas.List.{length-map}
 use Rattle.std.proofs.lemmas.List.Elements.{All-map}
 use Rattle.nvm_record.specs.Entry.{IsWhole}
 use Rattle.nvm_record.specs.declared.command.Command.{Command}
-use Rattle.nvm_engine.proofs.Fitting.{all_fit}
 use Rattle.nvm_engine.proofs.engine.jobs_of.Goals as goal
 
 pub returns-clause-fit : goal.returns-clause-fit
@@ -11,8 +10,7 @@ returns-clause-fit c = λ ns whole.
     let hosts : List (List Command) = map (λ host. host.items) c.args.hosts.items in
     let count : length hosts ≡ length c.args.hosts.items = length-map c.args.hosts.items (λ host. host.items) in
     let few : length c.args.hosts.items ≤ 64 = c.requires.hosts in
-    all_fit ns hosts c.in_ok-jobs.jobs.items (omega arith) (c.jobs_are_of_their_hosts.ensures.hosts hosts c.in_ok-jobs.jobs.items c.in_ok-jobs.ensures)
-    (c.jobs_are_of_their_hosts.ensures.whole ns.block_size hosts c.in_ok-jobs.jobs.items (All-map (λ (commands : List Command). All (IsWhole ns.block_size) commands) (λ host. host.items) c.args.hosts.items whole) c.in_ok-jobs.ensures)
+    c.jobs_fit.ensures ns hosts c.in_ok-jobs.jobs.items (omega arith) (All-map (λ (commands : List Command). All (IsWhole ns.block_size) commands) (λ host. host.items) c.args.hosts.items whole) c.in_ok-jobs.ensures
 
 pub returns-clause-few : goal.returns-clause-few
 returns-clause-few c =
