@@ -1,4 +1,5 @@
--- What hosts are told of jobs.
+-- What hosts are told of jobs, by the jobs' bodies. For a body that isn't refused this is proved to be what
+-- the outcome says of its deed.
 use Rattle.std.specs.Prelude.{ℕ, List, Option, Some, None}
 use Rattle.nvm_record.specs.declared.op.Op.{Op}
 use Rattle.nvm_record.specs.declared.op.Op.TheVariants.{Write, Read, WriteUncorrectable, Compare, WriteZeroes, Other}

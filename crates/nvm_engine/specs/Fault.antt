@@ -6,14 +6,11 @@ use Rattle.nvm_record.specs.declared.command.Command.{Command}
 use Rattle.nvm_record.specs.declared.host_fault.HostFault.{HostFault}
 use Rattle.nvm_record.specs.declared.host_fault.HostFault.TheVariants as of_file
 use Rattle.nvm_geometry.specs.Faults as numbers
+use Rattle.nvm_plan.specs.Fits.{most_hosts}
 use Rattle.nvm_engine.specs.Settings.{IsNamespace, advertised}
 use Rattle.nvm_engine.specs.declared.settings.Settings.{Settings}
 use Rattle.nvm_engine.specs.declared.fault.Fault.{Fault}
 use Rattle.nvm_engine.specs.declared.fault.Fault.TheVariants.{Geometry, TooManyHosts, HostBadName, HostTruncated, HostTooMany, NoMemory}
-
--- a namespace has at most so many hosts
-abbrev pub most_hosts : ℕ
-most_hosts = 64
 
 -- the program's fault for one of a host's file
 abbrev pub fault_of_host : ℕ → HostFault → Fault
@@ -42,8 +39,8 @@ IsFilesFault size number (file ∷ files) fault =
     IsFileFault size number file fault
     ⊎ (((commands : List Command) × IsHostFile size file commands) × IsFilesFault size (number + 1) files fault)
 
--- The first fault: too many files, or else one of the options, or else one of the files; or memory was
--- refused.
+-- The first fault: too many files, or else one of the options, or else one of the files. Want of memory
+-- stands beside them, since no definition can say that memory was there.
 abbrev pub IsFirstFault : Settings → List (List ℕ) → Fault → Type 0
 IsFirstFault s files fault =
     ((most_hosts < length files) × (fault ≡ TooManyHosts))

@@ -1,4 +1,5 @@
 -- What is printed of jobs: a line for each command, in the order of the jobs, a pair's first command first.
+-- A job without a status at its place has no line, and a pair has two statuses; an outcome sees to both.
 use Rattle.std.specs.Prelude.{ℕ, List, [], ◌∷◌, ◌++◌, Option, None}
 use Rattle.nvm_record.specs.declared.command.Command.{Command}
 use Rattle.nvm_record.specs.declared.completion.Completion.{Completion}

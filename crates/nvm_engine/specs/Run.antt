@@ -1,4 +1,5 @@
--- A run: jobs that are done one after the other, from a medium and the number of changes of each unit.
+-- A run: jobs that are done one after the other, from a medium and the number of changes of each unit. All
+-- of it is this project's own.
 use Rattle.std.specs.Prelude.{◌≡◌, ◌⊎◌, ◌==◌, ℕ, ◌+◌, ◌<◌, if◌then◌else◌, List, [], ◌∷◌, MatchOption, IsTrue, IsSome, not}
 use Rattle.nvm_record.specs.Medium.{Medium}
 use Rattle.nvm_record.specs.Status.{IsSuccess}
@@ -40,8 +41,9 @@ WantsMemory s part m count =
     IsSome (data_of part m)
     ⊎ (IsTrue (not (is_look part.deed)) × IsSuccess (statuses_of part m) × (count < s.limit))
 
--- How a part may end where its unit had `count` changes: a change is made below the limit alone, and the
--- history is full at it alone, for a change that would be made.
+-- How a part may end where its unit had `count` changes: a change is made only below the limit, and the
+-- history is full only at it, for a change that would be made. Which of these a deed can have at all, and
+-- what is told of a part that found no memory or a full history, the outcome says of each reply.
 abbrev pub EndsSo : Setup → Operation → Medium → ℕ → Reply → PartResult → Type 0
 EndsSo s part m count reply Done = IsAnswered part m reply × (count < s.limit)
 EndsSo s part m count reply Failed = IsAnswered part m reply

@@ -4,7 +4,7 @@ use Rattle.nvm_geometry.specs.Faults.{HasNoFault}
 use Rattle.nvm_geometry.specs.Namespace.{Namespace, namespace_of}
 use Rattle.nvm_engine.specs.declared.settings.Settings.{Settings}
 
--- The numbers that the options take.
+-- What the options --workers and --limit take.
 pub record IsInRange (s : Settings) : Type 0 where
   pub workers : 1 ≤ s.workers
   pub workers_end : s.workers ≤ 64

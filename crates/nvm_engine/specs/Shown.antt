@@ -5,7 +5,7 @@ use Rattle.nvm_record.specs.Medium.{zero_medium}
 use Rattle.nvm_record.specs.declared.command.Command.{Command}
 use Rattle.nvm_plan.specs.Jobs.{IsJobList}
 use Rattle.nvm_plan.specs.declared.job.Job.{Job}
-use Rattle.nvm_engine.specs.Fault.{most_hosts}
+use Rattle.nvm_plan.specs.Fits.{most_hosts}
 use Rattle.nvm_engine.specs.Lines.{job_lines}
 use Rattle.nvm_engine.specs.Run.{Setup, no_changes, IsRun}
 use Rattle.nvm_engine.specs.Settings.{IsNamespace, advertised}

@@ -27,13 +27,13 @@ use std::alloc::Global;
 const MOST_HOSTS: usize = 64;
 
 /// Does the commands of the hosts' files, of which the first is host 1's, on a namespace of zero bytes,
-/// and says what to show: for each command the line of its completion, in the order in which the jobs are
-/// done.
+/// and says what to show: for each command the line of its completion, in the order of the jobs. One thread
+/// does them in that order. At a limit of 0 every change is 0/06.
 ///
 /// The first fault is answered: more than 64 files, then one of the settings, then one of a file, or
 /// `NoMemory` where a growth outside a command was refused. Nothing is shown then.
 pub fn execute(alloc: Global, settings: &Settings, files: &[Vec<u8>]) -> Result<Shown, Fault>
-    // What is shown is the text of a run of the files' commands, and it ends well.
+    // What is shown is the text of a run of the files' commands, with status 0.
     ensures shown { IfOk result (IsShown settings.now (map (λ file. file.items) files.now)) }
     ensures fault { IfErr result (IsFirstFault settings.now (map (λ file. file.items) files.now)) }
 {

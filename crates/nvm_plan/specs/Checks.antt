@@ -1,6 +1,6 @@
--- The checks of a job before anything is done, in their order. The first that applies decides: NVM
--- Command Set Specification, "Compare and Write"; Base Specification, "Status Field". The order, and
--- which status each check gives, are this project's.
+-- The checks of a job before anything is done: NVM Command Set Specification, "Compare and Write"; Base
+-- Specification, "Status Field". Their order, that the first that applies decides, and which status each
+-- gives are this project's own.
 use Rattle.std.specs.Prelude.{ℕ, ◌+◌, ◌-◌, ◌==◌, nat_lt, if◌then◌else◌, List, [], ◌∷◌, Option, Some, None, Bool, true, false, not, ◌&&◌, ◌||◌}
 use Rattle.nvm_record.specs.declared.op.Op.{Op}
 use Rattle.nvm_record.specs.declared.op.Op.TheVariants.{Write, Compare}
@@ -52,7 +52,7 @@ namespace_identifier = 1
 abbrev pub ends_above : Namespace → Command → Bool
 ends_above ns c = nat_lt ns.nsze (c.slba + c.nlb + 1)
 
--- A boundary is crossed: more boundaries are at most the last LBA of the range than at most the first.
+-- A boundary is crossed by a range that has a block: its first and its last LBA are in different units.
 abbrev pub crosses_boundary : Namespace → ℕ → ℕ → Bool
 crosses_boundary ns slba blocks = not (unit_number ns slba == unit_number ns (slba + blocks - 1))
 

@@ -7,7 +7,7 @@ use Rattle.nvm_plan.specs.declared.job.Body.TheVariants.{Single, Pair}
 use Rattle.nvm_plan.specs.declared.job.Job.{Job}
 use Rattle.nvm_plan.specs.Profile.{IsFusedPair}
 
--- a namespace has at most so many hosts, numbered from 1
+-- a namespace has at most 64 hosts, numbered from 1
 abbrev pub most_hosts : ℕ
 most_hosts = 64
 
@@ -16,7 +16,7 @@ abbrev pub IsWholeBody : ℕ → Body → Type 0
 IsWholeBody size (Single c) = IsWhole size c
 IsWholeBody size (Pair c d) = IsWhole size c × IsWhole size d × IsFusedPair c d
 
--- The job is one of such a namespace.
+-- The host is one of the namespace's, and the body is whole, in its blocks.
 pub record FitsNamespace (ns : Namespace) (job : Job) : Type 0 where
   pub host : 1 ≤ job.host
   pub host_end : job.host ≤ most_hosts

@@ -1,5 +1,5 @@
--- Which jobs the hosts' commands are, and in which order they are done: Base Specification, "Fused
--- Operation"; that the hosts take turns is this project's own.
+-- Which jobs the hosts' commands are, and their order, which is that in which one worker does them: Base
+-- Specification, "Fused Operation"; that the hosts take turns is this project's own.
 use Rattle.std.specs.Prelude.{◌≡◌, ◌⊎◌, ◌↔◌, ◌==◌, ℕ, ◌+◌, ◌<◌, ◌≤◌, List, [], ◌∷◌, ◌++◌, length, take, map, Some, slice_get}
 use Rattle.std.specs.List.{All, Contains, filter, flat_map}
 use Rattle.nvm_record.specs.declared.command.Command.{Command}
@@ -41,7 +41,7 @@ pub record IsJobOf (host number : ℕ) (jobs : List Job) (place : ℕ) : Type 0 
 abbrev pub StandsBefore : ℕ → ℕ → ℕ → ℕ → Type 0
 StandsBefore k h l i = (k < l) ⊎ ((k ≡ l) × (h < i))
 
--- These are the jobs of the hosts' commands, in the order in which they are done.
+-- These are the jobs of the hosts' commands, in their order.
 pub record IsJobList (hosts : List (List Command)) (jobs : List Job) : Type 0 where
   -- each host's jobs are those of its commands; the first host's number is 1
   pub each : (place : ℕ) (commands : List Command) → slice_get hosts place ≡ Some commands

@@ -1,5 +1,7 @@
 -- The outcome of a job: the replies to its parts, one for each unit in which a part was done, and what
--- its host is told after them.
+-- its host is told after them. That parts stop at the first without success, and what is told for want of
+-- memory or at a full history, are this project's own. Which status a comparison or a Read has rests on the
+-- medium, and isn't said here.
 use Rattle.std.specs.Prelude.{◌≡◌, ◌≢◌, ◌⊎◌, ℕ, List, [], ◌∷◌, ◌++◌, map, Option, Some, None, MatchOption, IsSomeAnd, unwrap_or}
 use Rattle.std.specs.List.{AllByRecursion, flat_map}
 use Rattle.nvm_record.specs.declared.status.Statuses.{Statuses}
@@ -59,7 +61,8 @@ pub record StopsAtLast (ns : Namespace) (op : Operation) (replies : List Reply) 
   pub statuses : told ≡ last.statuses
   pub payload : read ≡ None
 
--- Memory was refused before the first part.
+-- Nothing was done, for want of memory before the first part. A job that isn't refused may always end so
+-- here: that a growth was really refused, no definition can say.
 pub record IsUnstarted (ns : Namespace) (op : Operation) (replies : List Reply) (told : Statuses) (read : Option (List ℕ)) : Type 0 where
   pub some : units_met ns op.first op.blocks ≢ []
   pub none_done : replies ≡ []

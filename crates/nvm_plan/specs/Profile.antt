@@ -1,5 +1,6 @@
 -- Which commands are served, and which two of them are one fused operation: NVM Command Set
--- Specification, "NVM Command Set opcodes"; Base Specification, "Fused Operation".
+-- Specification, "NVM Command Set opcodes"; Base Specification, "Fused Operation". That both must be
+-- served to be one is this project's own.
 use Rattle.std.specs.Prelude.{◌≡◌, Bool, true, false, IsTrue}
 use Rattle.nvm_record.specs.declared.op.Op.{Op}
 use Rattle.nvm_record.specs.declared.op.Op.TheVariants.{Write, Read, WriteUncorrectable, Compare, WriteZeroes, Other}

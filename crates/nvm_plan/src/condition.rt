@@ -11,7 +11,7 @@ use nvm_record::{BlockSize, Command, Op};
 /// Hosts are numbered from 1 to this.
 const MOST_HOSTS: u16 = 64;
 
-/// Whether the job is one of such a namespace, as `plan` and what does jobs take it: its host is 1 to 64,
+/// Whether the job can be planned, done and recorded on a namespace of this geometry: its host is 1 to 64,
 /// each command has just the data that it calls for in the geometry's blocks and holds no opcode as
 /// `Other` that has a name, and a pair is a first and a second of the profile. It takes no memory.
 pub fn fits(geometry: &Geometry, job: &Job) -> bool

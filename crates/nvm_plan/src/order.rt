@@ -17,8 +17,8 @@ struct Waiting {
     commands: VecDeque<Command>,
 }
 
-/// The jobs of the hosts' commands, in the order in which they are done. Two neighbours of one host that are a
-/// fused pair are one job (Base Specification, "Fused Operation"), and every other command is a job by
+/// The jobs of the hosts' commands, in the order in which one worker does them. Two neighbours of one host that
+/// are a fused pair are one job (Base Specification, "Fused Operation"), and every other command is a job by
 /// itself. One job of each host comes in turn, hosts in their order, the first being host 1; a host without a
 /// job left is skipped.
 ///

@@ -1,4 +1,5 @@
--- The history of a unit: its changes, oldest first.
+-- The history of a unit: its changes, oldest first. An entry is made of an act, so its operation is a write,
+-- zeroes, a mark or a pair.
 use Rattle.std.specs.Prelude.{ℕ, ◌<◌, List, [], ◌∷◌, length, take, slice_index_or}
 use Rattle.nvm_record.specs.Medium.{Medium, zero_medium}
 use Rattle.nvm_record.specs.Status.{IsSuccess}

@@ -1,6 +1,6 @@
 //! What words the command line takes.
-use crate::settings::Settings;
 use crate::words::{Asked, WordFault, read_words};
+use nvm_engine::Settings;
 use std::alloc::Global;
 use std::process::Abort;
 use std::test::Fail;
@@ -124,11 +124,29 @@ fn words_out_of_range_are_refused(rt: HostRuntime) -> Result<(), Fail> {
 }
 
 #[test]
-fn missing_and_second_words_are_refused(rt: HostRuntime) -> Result<(), Fail> {
+fn files_after_one_another_and_after_options_are_taken(rt: HostRuntime) -> Result<(), Fail> {
     let mut words = with_word(rt.alloc(), 0, "run")?;
     words.push("b")?;
-    let refused = is_refused(rt.alloc(), words.as_slice())?;
-    assert!(rt; refused, "two files");
+    words.push("a")?;
+    let Asked::Run { files, .. } = read_words(rt.alloc(), words.as_slice())?;
+    assert_eq!(rt; files.len(), 3);
+    for (file, path) in files.iter().zip(["a", "b", "a"]) {
+        assert_eq!(rt; file.as_str(), path);
+    }
+    // The first file stands before the last option.
+    let mut apart = with_word(rt.alloc(), 0, "run")?;
+    apart.truncate(17);
+    for word in ["a", "--out=r", "b"] {
+        apart.push(word)?;
+    }
+    let Asked::Run { files, .. } = read_words(rt.alloc(), apart.as_slice())?;
+    assert_eq!(rt; files.len(), 2);
+    Ok(())
+}
+
+#[test]
+fn missing_words_are_refused(rt: HostRuntime) -> Result<(), Fail> {
+    let mut words = with_word(rt.alloc(), 0, "run")?;
     words.truncate(19);
     let refused = is_refused(rt.alloc(), words.as_slice())?;
     assert!(rt; refused, "no file");
