@@ -1,4 +1,4 @@
-//! The program `nvmu`: reads the words of its command line and the host file, does the commands, and
+//! The program `nvmu`: reads the words of its command line and the hosts' files, has their commands done, and
 //! writes what they show.
 #![tactic(auto)]
 
@@ -6,8 +6,6 @@ mod files;
 #[cfg(test)]
 mod word_tests;
 mod words;
-
-ghost use Rattle.nvmu.specs.Words.{IsAsked};
 
 use crate::files::read_files;
 use crate::words::{Asked, WordFault, read_words};
@@ -74,10 +72,8 @@ fn texts_of(alloc: Global, words: &[String]) -> Result<Vec<&str>, AllocError> {
     Ok(texts)
 }
 
-/// Reads the files and does their commands.
-fn run<R: AllocGlobal + Files>(rt: &R, asked: Asked) -> Result<Shown, Fault>
-    requires { IsAsked asked }
-{
+/// Reads the files and has their commands done.
+fn run<R: AllocGlobal + Files>(rt: &R, asked: Asked) -> Result<Shown, Fault> {
     let Asked::Run {
         settings,
         out: _out,
