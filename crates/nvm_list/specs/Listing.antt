@@ -7,6 +7,10 @@ use Rattle.nvm_record.specs.declared.command.Command.{Command}
 use Rattle.nvm_text.specs.Runs.{runs}
 use Rattle.nvm_text.specs.Lines.{name_of, runs_text}
 
+-- where the range starts, and how many blocks it has
+abbrev pub range_words : Command → List (List ℕ)
+range_words c = decimal c.slba ∷ decimal (c.nlb + 1) ∷ []
+
 -- the data as the longest runs of equal bytes
 abbrev pub data_words : Command → List (List ℕ)
 data_words c = if carries_data c.op then runs_text (runs c.payload) ∷ [] else []
@@ -37,7 +41,7 @@ behind_spaces (word ∷ words) = codes " " ++ (word ++ behind_spaces words)
 abbrev pub line_of : ℕ → Command → List ℕ
 line_of place c =
     name_of c.op
-    ++ (behind_spaces (decimal c.slba ∷ decimal (c.nlb + 1) ∷ (data_words c ++ option_words place c)) ++ codes "\n")
+    ++ (behind_spaces (range_words c ++ (data_words c ++ option_words place c)) ++ codes "\n")
 
 -- the lines of commands, of which the first is at place `place`
 abbrev pub listing_from : ℕ → List Command → List ℕ

@@ -14,6 +14,7 @@ use nvm_record::{BlockSize, Command, Fuse, Op, Payload};
 use std::alloc::Global;
 
 /// The command that words say at a place of their list, where the first command is at place 1.
+#[tactic(auto, unfolding(crate::specs::Lines::command))]
 pub fn command(
     alloc: Global,
     words: &[u8],

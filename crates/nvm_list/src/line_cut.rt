@@ -1,4 +1,4 @@
-ghost use Rattle.std.specs.Prelude.{◌≡◌, ◌≤◌, ◌+◌, ◌∷◌, length};
+ghost use Rattle.std.specs.Prelude.{◌≡◌, ◌<◌, ◌≤◌, ◌+◌, [], ◌∷◌, length};
 ghost use Rattle.std.specs.List.{slice_split, position_or_len, before_first};
 ghost use Rattle.nvm_list.specs.Words as spec;
 ghost use Rattle.nvm_list.specs.Words.{is, words_in, first, others};
@@ -40,6 +40,9 @@ pub fn without_comment(line: &[u8]) -> &[u8]
 pub fn first_word(bytes: &[u8]) -> (&[u8], &[u8])
     ensures word { result.0.now ≡ first (words_in bytes.now) }
     ensures others { words_in result.1.now ≡ others (words_in bytes.now) }
+    ensures some { 0 < length result.0.now
+        → words_in bytes.now ≡ result.0.now ∷ words_in result.1.now }
+    ensures none { length result.0.now ≡ 0 → words_in bytes.now ≡ [] }
     ensures shorter { length result.0.now + length result.1.now ≤ length bytes.now }
 {
     let text = without_blanks(bytes);

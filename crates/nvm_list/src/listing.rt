@@ -42,7 +42,10 @@ fn push_command(text: &mut String, place: u64, command: &Command) -> Result<(), 
 }
 
 /// Appends the starting LBA and the number of blocks.
-fn push_range(text: &mut String, command: &Command) -> Result<(), NoMemory> {
+fn push_range(text: &mut String, command: &Command) -> Result<(), NoMemory>
+    ensures { OnOk result (string_bytes text.new
+        ≡ string_bytes text.old ++ behind_spaces (spec.range_words command.now)) }
+{
     text.push_str(" ")?;
     push_decimal(text, command.slba)?;
     text.push_str(" ")?;

@@ -1,0 +1,6 @@
+use Rattle.std.proofs.Common.{◌≡◌, ◌+◌, ◌++◌, drop, string_bytes}
+use Rattle.nvm_list.specs.Listing.{listing, listing_from}
+use Rattle.nvm_list.proofs.listing.list.Given as goal
+
+abbrev pub invariant-loop-before : goal.invariant-loop-before
+invariant-loop-before l = string_bytes l.text ++ listing_from (l.before + 1) (drop l.before l.commands) ≡ listing l.commands
