@@ -6,3 +6,7 @@ pub mod ListReading
 pub mod ReadWhole
 pub mod WholeFiles
 pub mod LineListing
+pub mod PlainText
+pub mod NumberListing
+pub mod RunListing
+pub mod OptionListing

@@ -72,7 +72,7 @@ operation_proper word =
 
 -- ---- the data
 
-length_written : (runs : List Run) → length (written_out runs) ≡ total runs
+pub length_written : (runs : List Run) → length (written_out runs) ≡ total runs
 length_written [] = refl
 length_written (run ∷ runs) = let rest = length_written runs in omega (arith, length-append {A = ℕ}, length-replicate {A = ℕ}, rest)
 
