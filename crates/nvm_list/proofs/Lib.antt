@@ -10,3 +10,5 @@ pub mod PlainText
 pub mod NumberListing
 pub mod RunListing
 pub mod OptionListing
+pub mod CommandListing
+pub mod ListListing
