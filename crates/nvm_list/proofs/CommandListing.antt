@@ -19,6 +19,7 @@ use Rattle.nvm_list.specs.Names.{unnamed, of_opcode, operation}
 use Rattle.nvm_list.specs.Data.{payload}
 use Rattle.nvm_list.specs.Options.{options}
 use Rattle.nvm_list.specs.Lines.{lba, nlb_of, nlb, carried, command_of, command}
+use Rattle.nvm_list.specs.Ranges.{IsInRange}
 use Rattle.nvm_list.specs.Listing.{range_words, data_words, option_words}
 use Rattle.nvm_list.specs.declared.option_words.Options.{Options}
 use Rattle.nvm_list.specs.declared.expected.Expected.{Expected}
@@ -27,12 +28,6 @@ use Rattle.nvm_list.proofs.PlainText.{IsPlain, IsPlainWord}
 use Rattle.nvm_list.proofs.NumberListing.{decimal_word, number_again, hex_again, hex_high, high_plain}
 use Rattle.nvm_list.proofs.RunListing.{AreBytes, AreListed, listed}
 use Rattle.nvm_list.proofs.OptionListing.{options_of, options_again, options_plain, fuse_is, number_is}
-
--- Each field of the command fits its place, as its type says.
-pub record IsInRange (c : Command) : Type 0 where
-  pub fields : HasFieldsInRange c
-  pub opcode : opcode_of c.op < 256
-  pub bytes : (i : ℕ) → get_or c.payload i 0 < 256
 
 -- what a command has that can be listed and read in blocks of `size`
 pub record IsListable (size : ℕ) (c : Command) : Type 0 where

@@ -2,7 +2,7 @@
 use Rattle.std.proofs.Common.{◌≡◌, ℕ, ◌+◌, ◌≤◌, nat_le, true, List, [], ◌∷◌, ◌++◌, length, drop, string_bytes, All, Option, Some, None, Result, Ok, Err, refl, sym, ap, ◌∙◌, subst, arith}
 use Rattle.std.specs.List.{AllByRecursion}
 use Rattle.std.proofs.lemmas.Bool.{le-leb, cond-true}
-use Rattle.std.proofs.lemmas.List.{drop_all}
+use Rattle.std.proofs.lemmas.List.{append-nil, drop_all}
 use Rattle.std.proofs.lemmas.List.Elements.{recursion_from_All}
 use Rattle.nvm_record.specs.BlockSize.{IsBlockSize}
 use Rattle.nvm_record.specs.Entry.{IsWhole}
@@ -12,12 +12,13 @@ use Rattle.nvm_text.specs.Lines.{name_of}
 use Rattle.nvm_list.specs.Words.{lines, words}
 use Rattle.nvm_list.specs.Lines.{command}
 use Rattle.nvm_list.specs.Lists.{command_at, at_line, on_line, in_front, followed_by, commands_from, commands}
+use Rattle.nvm_list.specs.Ranges.{IsInRange}
 use Rattle.nvm_list.specs.Listing.{behind_spaces, line_of, listing_from, listing}
 use Rattle.nvm_list.specs.declared.expected.Expected.{Expected}
 use Rattle.nvm_list.specs.declared.expected.Expected.TheVariants.{NoMoreCommands}
 use Rattle.nvm_list.specs.declared.fault.ListFault.{ListFault}
 use Rattle.nvm_list.proofs.PlainText.{line_words_again, lines_again}
-use Rattle.nvm_list.proofs.CommandListing.{IsInRange, IsListable, words_behind, command_again, name_is_word, behind_are_words}
+use Rattle.nvm_list.proofs.CommandListing.{IsListable, words_behind, command_again, name_is_word, behind_are_words}
 
 -- the line without its end
 abbrev text_of : ℕ → Command → List ℕ
@@ -50,3 +51,6 @@ in_range_more c cs i here this so_far rest = so_far (subst (λ (ds : List Comman
 
 pub all_in_range : (cs : List Command) (i : ℕ) → length cs ≤ i → (AllByRecursion IsInRange (drop i cs) → AllByRecursion IsInRange cs) → AllByRecursion IsInRange cs
 all_in_range cs i le h = h (subst (λ (ds : List Command). AllByRecursion IsInRange ds) (sym (drop_all i cs le)) tt)
+
+pub all_listed : (text : List ℕ) (cs : List Command) (i : ℕ) → length cs ≤ i → text ++ listing_from (i + 1) (drop i cs) ≡ listing cs → text ≡ listing cs
+all_listed text cs i le so_far = sym (append-nil text) ∙ ap (λ (ds : List Command). text ++ listing_from (i + 1) ds) (sym (drop_all i cs le)) ∙ so_far

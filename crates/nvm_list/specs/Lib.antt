@@ -9,3 +9,4 @@ pub mod Lists
 pub mod Listing
 pub mod Files
 pub mod Rest
+pub mod Ranges
