@@ -31,8 +31,9 @@ fn block_size(bytes: u32) -> Result<BlockSize, Fail> {
 fn bytes_of(alloc: Global, runs: &[(usize, u8)]) -> Result<Vec<u8>, Fail> {
     let mut bytes = Vec::new(alloc);
     for (count, byte) in runs {
-        let length = bytes.len() + *count;
-        bytes.resize(length, *byte)?;
+        for _ in 0..*count {
+            bytes.push(*byte)?;
+        }
     }
     Ok(bytes)
 }

@@ -1,67 +1,114 @@
 use super::{block_size, read};
 use crate::{Expected, ListFault, assemble};
+use std::alloc::Global;
 use std::test::Fail;
 
+/// The first of the texts whose first line isn't refused with these words, if there is one.
+fn not_refused<'a>(
+    alloc: Global,
+    texts: &[&'a str],
+    expected: Expected,
+) -> Result<Option<&'a str>, Fail> {
+    for text in texts {
+        if read(alloc, text.as_bytes())? != Err(ListFault::Line { line: 1, expected }) {
+            return Ok(Some(*text));
+        }
+    }
+    Ok(None)
+}
+
 #[test]
-fn a_line_says_what_was_expected_in_it(rt: HostRuntime) -> Result<(), Fail> {
+fn a_name_is_expected(rt: HostRuntime) -> Result<(), Fail> {
+    let texts = [
+        "walk 0 1",
+        "Write 0 1 41",
+        "op-01 0 1",
+        "op-7 0 1",
+        "op-7g 0 1",
+        "op-",
+        "\u{e9}",
+    ];
+    let found = not_refused(rt.alloc(), texts.as_slice(), Expected::Name)?;
+    assert_eq!(rt; found, None);
+    Ok(())
+}
+
+#[test]
+fn a_range_is_expected(rt: HostRuntime) -> Result<(), Fail> {
+    let texts = [
+        "read",
+        "read x 1",
+        "read -1 1",
+        "read +1 1",
+        "read 18446744073709551616 1",
+    ];
+    let found = not_refused(rt.alloc(), texts.as_slice(), Expected::Lba)?;
+    assert_eq!(rt; found, None);
+    let texts = ["read 0", "read 0 0", "read 0 65537", "read 0 1x"];
+    let found = not_refused(rt.alloc(), texts.as_slice(), Expected::Blocks)?;
+    assert_eq!(rt; found, None);
+    Ok(())
+}
+
+#[test]
+fn data_is_expected(rt: HostRuntime) -> Result<(), Fail> {
+    let texts = [
+        "write 0 1",
+        "write 0 1 # 41",
+        "write 0 1 4",
+        "write 0 1 411",
+        "write 0 1 first",
+        "write 0 1 512*4",
+        "write 0 1 512*41,",
+        "write 0 1 ,512*41",
+        "write 0 1 0*41,512*41",
+        "write 0 1 512*41*42",
+        "write 0 1 *41",
+        "write 0 1 18446744073709551616*41",
+    ];
+    let found = not_refused(rt.alloc(), texts.as_slice(), Expected::Data)?;
+    assert_eq!(rt; found, None);
+    Ok(())
+}
+
+#[test]
+fn data_that_does_not_add_up_says_both_sums(rt: HostRuntime) -> Result<(), Fail> {
     let short = Expected::DataLength {
         wanted: 512,
         found: 511,
     };
+    let texts = ["write 0 1 511*41", "compare 0 1 500*41,11*42 bogus"];
+    let found = not_refused(rt.alloc(), texts.as_slice(), short)?;
+    assert_eq!(rt; found, None);
     let long = Expected::DataLength {
         wanted: 1024,
         found: 36_893_488_147_419_103_230,
     };
-    for (text, expected) in [
-        ("walk 0 1", Expected::Name),
-        ("Write 0 1 41", Expected::Name),
-        ("op-01 0 1", Expected::Name),
-        ("op-7 0 1", Expected::Name),
-        ("op-7g 0 1", Expected::Name),
-        ("op-", Expected::Name),
-        ("\u{e9}", Expected::Name),
-        ("read", Expected::Lba),
-        ("read x 1", Expected::Lba),
-        ("read -1 1", Expected::Lba),
-        ("read +1 1", Expected::Lba),
-        ("read 18446744073709551616 1", Expected::Lba),
-        ("read 0", Expected::Blocks),
-        ("read 0 0", Expected::Blocks),
-        ("read 0 65537", Expected::Blocks),
-        ("read 0 1x", Expected::Blocks),
-        ("write 0 1", Expected::Data),
-        ("write 0 1 # 41", Expected::Data),
-        ("write 0 1 4", Expected::Data),
-        ("write 0 1 411", Expected::Data),
-        ("write 0 1 first", Expected::Data),
-        ("write 0 1 512*4", Expected::Data),
-        ("write 0 1 512*41,", Expected::Data),
-        ("write 0 1 ,512*41", Expected::Data),
-        ("write 0 1 0*41,512*41", Expected::Data),
-        ("write 0 1 512*41*42", Expected::Data),
-        ("write 0 1 *41", Expected::Data),
-        ("write 0 1 18446744073709551616*41", Expected::Data),
-        ("write 0 1 511*41", short),
-        ("compare 0 1 500*41,11*42 bogus", short),
-        (
-            "write 0 2 18446744073709551615*41,18446744073709551615*42",
-            long,
-        ),
-        ("read 0 1 41", Expected::OptionName),
-        ("read 0 1 normal", Expected::OptionName),
-        ("read 0 1 cid", Expected::OptionName),
-        ("read 0 1 first first", Expected::OptionOnce),
-        ("read 0 1 first second", Expected::OptionOnce),
-        ("read 0 1 cid=1 nsid=1 cid=x", Expected::OptionOnce),
-        ("read 0 1 nsid=1 nsid=1", Expected::OptionOnce),
-        ("read 0 1 cid=", Expected::Cid),
-        ("read 0 1 cid=65536", Expected::Cid),
-        ("read 0 1 nsid=4294967296", Expected::Nsid),
-        ("read 0 1 nsid=1,", Expected::Nsid),
-    ] {
-        let found = read(rt.alloc(), text.as_bytes())?;
-        assert_eq!(rt; found, Err(ListFault::Line { line: 1, expected }), "{text}");
-    }
+    let texts = ["write 0 2 18446744073709551615*41,18446744073709551615*42"];
+    let found = not_refused(rt.alloc(), texts.as_slice(), long)?;
+    assert_eq!(rt; found, None);
+    Ok(())
+}
+
+#[test]
+fn an_option_is_expected(rt: HostRuntime) -> Result<(), Fail> {
+    let texts = ["read 0 1 41", "read 0 1 normal", "read 0 1 cid"];
+    let found = not_refused(rt.alloc(), texts.as_slice(), Expected::OptionName)?;
+    assert_eq!(rt; found, None);
+    let texts = [
+        "read 0 1 first first",
+        "read 0 1 first second",
+        "read 0 1 cid=1 nsid=1 cid=x",
+        "read 0 1 nsid=1 nsid=1",
+    ];
+    let found = not_refused(rt.alloc(), texts.as_slice(), Expected::OptionOnce)?;
+    assert_eq!(rt; found, None);
+    let texts = ["read 0 1 cid=", "read 0 1 cid=65536"];
+    let found = not_refused(rt.alloc(), texts.as_slice(), Expected::Cid)?;
+    assert_eq!(rt; found, None);
+    let texts = ["read 0 1 nsid=4294967296", "read 0 1 nsid=1,"];
+    let found = not_refused(rt.alloc(), texts.as_slice(), Expected::Nsid)?;
+    assert_eq!(rt; found, None);
     Ok(())
 }
 
