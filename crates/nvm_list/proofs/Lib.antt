@@ -12,3 +12,4 @@ pub mod RunListing
 pub mod OptionListing
 pub mod CommandListing
 pub mod ListListing
+pub mod FirstFaults

@@ -10,3 +10,4 @@ pub mod Listing
 pub mod Files
 pub mod Rest
 pub mod Ranges
+pub mod FirstFault

@@ -14,6 +14,7 @@ mod data_word;
 mod expected;
 mod fault;
 mod file_bytes;
+pub mod laws;
 mod line_cut;
 mod listing;
 mod name_word;

@@ -14,7 +14,10 @@ pub enum Asked {
         out: String,
     },
     /// `nvq list`: list a host file.
-    List { size: BlockSize, file: String },
+    List {
+        size: BlockSize,
+        file: String,
+    },
 }
 
 /// Why the words of the command line ask for nothing that can be done.
@@ -127,14 +130,24 @@ fn program<'a>(alloc: Global) -> Result<Command<'a>, Error> {
 fn assemble_command<'a>(alloc: Global) -> Result<Command<'a>, Error> {
     let command = Command::new(alloc, "assemble").about("Makes a list into a host file");
     let list = file(alloc, "list", "LIST", "The list, or - for standard input");
-    let out = file(alloc, "out", "OUT", "The host file, or - for standard output");
+    let out = file(
+        alloc,
+        "out",
+        "OUT",
+        "The host file, or - for standard output",
+    );
     Ok(command.arg(block(alloc))?.arg(list)?.arg(out)?)
 }
 
 /// `nvq list`.
 fn list_command<'a>(alloc: Global) -> Result<Command<'a>, Error> {
     let command = Command::new(alloc, "list").about("Lists the commands of a host file");
-    let file = file(alloc, "file", "FILE", "The host file, or - for standard input");
+    let file = file(
+        alloc,
+        "file",
+        "FILE",
+        "The host file, or - for standard input",
+    );
     Ok(command.arg(block(alloc))?.arg(file)?)
 }
 
