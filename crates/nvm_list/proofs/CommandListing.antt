@@ -1,10 +1,10 @@
 -- A command that is listed is read again.
-use Rattle.std.proofs.Common.{◌≡◌, ℕ, zero, suc, ◌+◌, ◌*◌, ◌%◌, ◌^◌, ◌<◌, ◌≤◌, ◌==◌, Bool, true, false, cond, if◌then◌else◌, List, [], ◌∷◌, ◌++◌, length, take, drop, get_or, codes, decimal, Option, Some, None, unwrap_or, Result, Ok, Err, refl, sym, ap, ◌∙◌, subst, arith, inl, inr}
+use Rattle.std.proofs.Common.{◌≡◌, ℕ, suc, ◌+◌, ◌*◌, ◌%◌, ◌^◌, ◌<◌, Bool, true, false, if◌then◌else◌, List, [], ◌∷◌, ◌++◌, length, get_or, decimal, Option, Some, unwrap_or, Result, Ok, refl, sym, ap, ◌∙◌, arith, inl, inr}
 use Rattle.std.specs.List.{AllByRecursion}
 use Rattle.std.proofs.lemmas.List.{nil_from_length}
 use Rattle.nvm_record.specs.BlockSize.{IsBlockSize}
-use Rattle.nvm_record.specs.Op.{op_of, opcode_of, IsProper, carries_data}
-use Rattle.nvm_record.specs.Entry.{data_length, IsWhole, HasFieldsInRange}
+use Rattle.nvm_record.specs.Op.{opcode_of, IsProper, carries_data}
+use Rattle.nvm_record.specs.Entry.{IsWhole}
 use Rattle.nvm_record.specs.declared.op.Op.{Op}
 use Rattle.nvm_record.specs.declared.op.Op.TheVariants as ops
 use Rattle.nvm_record.specs.declared.op.Fuse.{Fuse}
@@ -13,7 +13,7 @@ use Rattle.nvm_record.specs.declared.command.Command.{Command}
 use Rattle.nvm_text.specs.Runs.{runs, RunsAreLongest}
 use Rattle.nvm_text.specs.Lines.{hex2, name_of, runs_text}
 use Rattle.nvm_list.specs.Words.{first, others}
-use Rattle.nvm_list.specs.Numbers.{number, hex_byte}
+use Rattle.nvm_list.specs.Numbers.{hex_byte}
 use Rattle.nvm_list.specs.Expecting.{◌>>=◌, expect}
 use Rattle.nvm_list.specs.Names.{unnamed, of_opcode, operation}
 use Rattle.nvm_list.specs.Data.{payload}
@@ -24,7 +24,7 @@ use Rattle.nvm_list.specs.Listing.{range_words, data_words, option_words}
 use Rattle.nvm_list.specs.declared.option_words.Options.{Options}
 use Rattle.nvm_list.specs.declared.expected.Expected.{Expected}
 use Rattle.nvm_list.specs.declared.expected.Expected.TheVariants as expecting
-use Rattle.nvm_list.proofs.PlainText.{IsPlain, IsPlainWord}
+use Rattle.nvm_list.proofs.PlainText.{IsPlainWord}
 use Rattle.nvm_list.proofs.NumberListing.{decimal_word, number_again, hex_again, hex_high, high_plain}
 use Rattle.nvm_list.proofs.RunListing.{AreBytes, AreListed, listed}
 use Rattle.nvm_list.proofs.OptionListing.{options_of, options_again, options_plain, fuse_is, number_is}
@@ -146,8 +146,7 @@ behind_are_words size place c longest valid h =
     let fields = h.range.fields in
     let cid : c.cid < 2 ^ 16 = fields.cid in
     let nsid : c.nsid < 2 ^ 32 = fields.nsid in
-    let n : c.nlb < 2 ^ 16 = fields.nlb in
-    (
+    let n : c.nlb < 2 ^ 16 = fields.nlb in (
       decimal_word c.slba fields.slba,
       (
         decimal_word (c.nlb + 1) (omega arith),

@@ -1,9 +1,9 @@
 -- The fault of lines is that of the first that is no command.
-use Rattle.std.proofs.Common.{◌≡◌, ◌↔◌, ℕ, ◌+◌, List, [], ◌∷◌, ◌++◌, length, Option, Some, None, Result, Ok, Err, refl, sym, ap, ◌∙◌, subst, arith}
+use Rattle.std.proofs.Common.{◌≡◌, ℕ, ◌+◌, List, [], ◌∷◌, ◌++◌, length, Option, Some, None, Result, Ok, Err, refl, sym, ap, ◌∙◌, subst, arith}
 use Rattle.nvm_record.specs.declared.command.Command.{Command}
 use Rattle.nvm_list.specs.Words.{lines, words}
 use Rattle.nvm_list.specs.Lists.{command_at, at_line, on_line, in_front, followed_by, commands_from, commands}
-use Rattle.nvm_list.specs.FirstFault.{IsRefusedBehind, IsFirstFault, FaultsAreFirst}
+use Rattle.nvm_list.specs.FirstFault.{IsFirstFault, FaultsAreFirst}
 use Rattle.nvm_list.specs.declared.expected.Expected.{Expected}
 use Rattle.nvm_list.specs.declared.fault.ListFault.{ListFault}
 use Rattle.nvm_list.specs.declared.fault.ListFault.TheVariants.{Line}
@@ -29,9 +29,13 @@ behind_of size line texts next = commands_from size (line + 1) next texts
 
 passed : (size line place : ℕ) (text : List ℕ) (texts : List (List ℕ)) (fault : ListFault) → on_line size line place (words text) ≡ Ok None → Stops size (line + 1) place texts fault → Stops size line place (text ∷ texts) fault
 passed size line place text texts fault e (before, here, behind, cs, n, m, h) =
-    let line_is : n ≡ line + 1 + length before = h.line_is in
-    (
-      text ∷ before, here, behind, cs, n, m,
+    let line_is : n ≡ line + 1 + length before = h.line_is in (
+      text ∷ before,
+      here,
+      behind,
+      cs,
+      n,
+      m,
       record {
         parts = ap (λ (ts : List (List ℕ)). text ∷ ts) h.parts;
         line_is = omega arith;
@@ -44,9 +48,13 @@ passed size line place text texts fault e (before, here, behind, cs, n, m, h) =
 taken : (size line place : ℕ) (text : List ℕ) (texts : List (List ℕ)) (fault : ListFault) (c : Command) → on_line size line place (words text) ≡ Ok (Some c) → Stops size (line + 1) (place + 1) texts fault → Stops size line place (text ∷ texts) fault
 taken size line place text texts fault c e (before, here, behind, cs, n, m, h) =
     let line_is : n ≡ line + 1 + length before = h.line_is in
-    let place_is : m ≡ place + 1 + length cs = h.place_is in
-    (
-      text ∷ before, here, behind, c ∷ cs, n, m,
+    let place_is : m ≡ place + 1 + length cs = h.place_is in (
+      text ∷ before,
+      here,
+      behind,
+      c ∷ cs,
+      n,
+      m,
       record {
         parts = ap (λ (ts : List (List ℕ)). text ∷ ts) h.parts;
         line_is = omega arith;
@@ -124,9 +132,11 @@ line_of_fault size line n place expected (w ∷ ws) h = line_of_read line n expe
 
 first_of : (size : ℕ) (text : List ℕ) (line : ℕ) (expected : Expected) → Stops size 1 1 (lines text) (Line line expected) → IsFirstFault size text line expected
 first_of size text line expected (before, here, behind, cs, n, m, h) =
-    let number : line ≡ n = line_of_fault size line n m expected (words here) h.refused in
-    (
-      before, here, behind, cs,
+    let number : line ≡ n = line_of_fault size line n m expected (words here) h.refused in (
+      before,
+      here,
+      behind,
+      cs,
       record {
         parts = h.parts;
         number = number ∙ h.line_is;

@@ -1,5 +1,5 @@
 -- Commands that are listed are read again, line by line.
-use Rattle.std.proofs.Common.{◌≡◌, ℕ, ◌+◌, ◌≤◌, nat_le, true, List, [], ◌∷◌, ◌++◌, length, drop, string_bytes, All, Option, Some, None, Result, Ok, Err, refl, sym, ap, ◌∙◌, subst, arith}
+use Rattle.std.proofs.Common.{◌≡◌, ℕ, ◌+◌, ◌≤◌, nat_le, List, [], ◌∷◌, ◌++◌, length, drop, All, Option, Some, Result, Ok, Err, refl, sym, ap, ◌∙◌, subst, arith}
 use Rattle.std.specs.List.{AllByRecursion}
 use Rattle.std.proofs.lemmas.Bool.{le-leb, cond-true}
 use Rattle.std.proofs.lemmas.List.{append-nil, drop_all}
@@ -11,10 +11,9 @@ use Rattle.nvm_text.specs.Runs.{RunsAreLongest}
 use Rattle.nvm_text.specs.Lines.{name_of}
 use Rattle.nvm_list.specs.Words.{lines, words}
 use Rattle.nvm_list.specs.Lines.{command}
-use Rattle.nvm_list.specs.Lists.{command_at, at_line, on_line, in_front, followed_by, commands_from, commands}
+use Rattle.nvm_list.specs.Lists.{at_line, on_line, in_front, followed_by, commands_from, commands}
 use Rattle.nvm_list.specs.Ranges.{IsInRange}
-use Rattle.nvm_list.specs.Listing.{behind_spaces, line_of, listing_from, listing}
-use Rattle.nvm_list.specs.declared.expected.Expected.{Expected}
+use Rattle.nvm_list.specs.Listing.{behind_spaces, listing_from, listing}
 use Rattle.nvm_list.specs.declared.expected.Expected.TheVariants.{NoMoreCommands}
 use Rattle.nvm_list.specs.declared.fault.ListFault.{ListFault}
 use Rattle.nvm_list.proofs.PlainText.{line_words_again, lines_again}

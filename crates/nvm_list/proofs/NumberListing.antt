@@ -1,9 +1,9 @@
 -- A number that is printed is read again.
-use Rattle.std.proofs.Common.{◌≡◌, ℕ, ◌+◌, ◌-◌, ◌*◌, ◌/◌, ◌%◌, ◌^◌, ◌<◌, ◌≤◌, ◌&&◌, nat_lt, nat_le, Bool, true, false, cond, List, [], ◌∷◌, ◌++◌, length, decimal, Option, Some, None, refl, sym, ap, ◌∙◌, subst, arith, rules, inl, inr}
+use Rattle.std.proofs.Common.{◌≡◌, ℕ, ◌+◌, ◌-◌, ◌*◌, ◌/◌, ◌%◌, ◌^◌, ◌<◌, ◌≤◌, ◌&&◌, nat_lt, nat_le, true, false, List, [], ◌∷◌, length, decimal, Option, Some, None, refl, ap, ◌∙◌, arith, rules, inl, inr}
 use Rattle.std.specs.Char.{is_ascii_digit}
 use Rattle.std.specs.Str.{all_ascii_digits}
 use Rattle.std.specs.List.{AllByRecursion}
-use Rattle.std.proofs.lemmas.Bool.{and_from, and_parts, and_left, lt-ltb, le-ltb, le-leb, lt-leb, leb-true, cond-true, cases_lt}
+use Rattle.std.proofs.lemmas.Bool.{and_from, and_parts, lt-ltb, le-ltb, le-leb, lt-leb, leb-true, cond-true, cases_lt}
 use Rattle.std.proofs.lemmas.Fmt.{digits_decimal, digits_value-decimal, decimal_nonempty}
 use Rattle.std.proofs.lemmas.Str.Parse.{IsNumeralModel, numerals_by_fold}
 use Rattle.nvm_text.specs.Lines.{hex_digit, hex2}
@@ -44,8 +44,7 @@ number_again most n fits low =
 
 low_digit : (d : ℕ) → d < 10 → (hex_digit d ≡ 48 + d) × (hex_value (48 + d) ≡ Some d)
 low_digit d h =
-    let same : 48 + d - 48 ≡ d = omega arith in
-    (
+    let same : 48 + d - 48 ≡ d = omega arith in (
       rw (lt-ltb d 10 h) refl,
       cond-true (nat_le 48 (48 + d) && nat_le (48 + d) 57) (Some (48 + d - 48)) _ (and_from (nat_le 48 (48 + d)) (nat_le (48 + d) 57) (le-leb 48 (48 + d) (omega arith)) (le-leb (48 + d) 57 (omega arith))) ∙ ap (λ (k : ℕ). Some k) same,
     )
@@ -56,8 +55,7 @@ high_digit d h k =
     let first : nat_le (87 + d) 57 ≡ false = lt-leb (87 + d) 57 (omega arith) in
     let above : nat_le 48 (87 + d) ≡ true = le-leb 48 (87 + d) (omega arith) in
     let second : nat_le 97 (87 + d) ≡ true = le-leb 97 (87 + d) (omega arith) in
-    let third : nat_le (87 + d) 102 ≡ true = le-leb (87 + d) 102 (omega arith) in
-    (
+    let third : nat_le (87 + d) 102 ≡ true = le-leb (87 + d) 102 (omega arith) in (
       rw (le-ltb d 10 h) refl,
       rw (above, first, second, third) (ap (λ (n : ℕ). Some n) same),
     )

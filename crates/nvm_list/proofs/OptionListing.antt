@@ -1,18 +1,15 @@
 -- Options that are listed are read again.
-use Rattle.std.proofs.Common.{◌≡◌, ℕ, ◌+◌, ◌%◌, ◌^◌, ◌<◌, ◌≤◌, ◌==◌, Bool, true, false, cond, if◌then◌else◌, List, [], ◌∷◌, ◌++◌, length, codes, decimal, Option, Some, None, unwrap_or, Result, Ok, Err, refl, sym, ap, ◌∙◌, arith}
+use Rattle.std.proofs.Common.{◌≡◌, ℕ, ◌%◌, ◌<◌, ◌==◌, Bool, true, false, if◌then◌else◌, List, [], ◌∷◌, ◌++◌, codes, decimal, Option, Some, None, unwrap_or, Ok, refl, sym, ap, ◌∙◌, arith}
 use Rattle.std.specs.List.{AllByRecursion}
 use Rattle.std.proofs.lemmas.Bool.{eqb-true}
-use Rattle.std.proofs.lemmas.List.{append-nil}
 use Rattle.nvm_record.specs.declared.op.Fuse.{Fuse}
 use Rattle.nvm_record.specs.declared.op.Fuse.TheVariants.{Normal, First, Second, Reserved}
 use Rattle.nvm_record.specs.declared.command.Command.{Command}
-use Rattle.nvm_list.specs.Numbers.{number}
 use Rattle.nvm_list.specs.Expecting.{◌>>=◌}
-use Rattle.nvm_list.specs.Options.{no_options, with_cid, with_nsid, with_option, options_after, options}
+use Rattle.nvm_list.specs.Options.{no_options, with_cid, with_nsid, options_after, options}
 use Rattle.nvm_list.specs.Listing.{fuse_words, cid_words, nsid_words, option_words}
 use Rattle.nvm_list.specs.declared.option_words.Options.{Options}
-use Rattle.nvm_list.specs.declared.expected.Expected.{Expected}
-use Rattle.nvm_list.proofs.PlainText.{IsPlain, IsPlainWord}
+use Rattle.nvm_list.proofs.PlainText.{IsPlainWord}
 use Rattle.nvm_list.proofs.NumberListing.{decimal_word, number_again}
 
 abbrev given : Option Fuse → Option ℕ → Option ℕ → Options

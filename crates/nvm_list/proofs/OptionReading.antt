@@ -1,5 +1,5 @@
 -- Reading options one after the other.
-use Rattle.std.proofs.Common.{◌≡◌, ℕ, List, [], ◌∷◌, Result, Ok, Err, refl, sym, ap, ◌∙◌}
+use Rattle.std.proofs.Common.{◌≡◌, ℕ, List, [], ◌∷◌, Result, Ok, Err, sym, ap, ◌∙◌}
 use Rattle.nvm_list.specs.Expecting.{◌>>=◌}
 use Rattle.nvm_list.specs.Options.{with_option, options_after}
 use Rattle.nvm_list.specs.declared.option_words.Options.{Options}

@@ -1,5 +1,5 @@
 -- Words of no blank, and the lines that they are listed in.
-use Rattle.std.proofs.Common.{◌≡◌, ℕ, ◌+◌, ◌<◌, ◌≤◌, ◌||◌, Bool, true, false, List, [], ◌∷◌, ◌++◌, length, take, codes, All, refl, sym, ap, ◌∙◌, subst, append_assoc, arith}
+use Rattle.std.proofs.Common.{◌≡◌, ℕ, ◌<◌, ◌≤◌, ◌||◌, Bool, false, List, [], ◌∷◌, ◌++◌, length, take, codes, All, refl, sym, ap, ◌∙◌, append_assoc, arith}
 use Rattle.std.specs.List.{slice_split, position_or_len, before_first, filter, AllByRecursion}
 use Rattle.std.proofs.lemmas.Bool.{ne_eqb, or_from}
 use Rattle.std.proofs.lemmas.List.{append-nil, take_all}
@@ -68,5 +68,5 @@ line_words_again word ws h hs = ap words_in (all_before (is 35) (word ++ behind_
 pub lines_again : (word : List ℕ) (ws : List (List ℕ)) (rest : List ℕ) → IsPlainWord word → AllByRecursion IsPlainWord ws → lines ((word ++ (behind_spaces ws ++ codes "\n")) ++ rest) ≡ (word ++ behind_spaces ws) ∷ lines rest
 lines_again word ws rest h hs =
     let regrouped : (word ++ (behind_spaces ws ++ codes "\n")) ++ rest ≡ (word ++ behind_spaces ws) ++ 10 ∷ rest =
-        ap (λ (x : List ℕ). x ++ rest) (sym (append_assoc word (behind_spaces ws) (codes "\n"))) ∙ append_assoc (word ++ behind_spaces ws) (codes "\n") rest in
+    ap (λ (x : List ℕ). x ++ rest) (sym (append_assoc word (behind_spaces ws) (codes "\n"))) ∙ append_assoc (word ++ behind_spaces ws) (codes "\n") rest in
     ap lines regrouped ∙ slice_split_at (is 10) (word ++ behind_spaces ws) 10 rest (whole_has_none 10 word ws (omega arith) refl h hs) refl

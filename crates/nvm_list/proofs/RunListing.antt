@@ -1,18 +1,17 @@
 -- Data that is printed as runs is read again.
-use Rattle.std.proofs.Common.{◌≡◌, ◌≢◌, ℕ, zero, suc, ◌+◌, ◌-◌, ◌*◌, ◌^◌, ◌<◌, ◌≤◌, ◌==◌, Bool, true, false, cond, if◌then◌else◌, List, [], ◌∷◌, ◌++◌, map, length, take, drop, get_or, codes, decimal, replicate, All, Option, Some, None, Result, Ok, Err, refl, sym, ap, ◌∙◌, subst, append_assoc, arith}
+use Rattle.std.proofs.Common.{◌≡◌, ℕ, zero, suc, ◌+◌, ◌^◌, ◌<◌, ◌≤◌, ◌==◌, false, List, [], ◌∷◌, ◌++◌, map, length, take, drop, codes, decimal, replicate, All, Option, Some, None, Ok, refl, sym, ap, ◌∙◌, subst, append_assoc, arith}
 use Rattle.std.specs.List.{slice_split, position_or_len, before_first, after_first, AllByRecursion}
 use Rattle.std.proofs.lemmas.Bool.{ne_eqb, eq-eqb, cond-true}
 use Rattle.std.proofs.lemmas.Fmt.{decimal_nonempty}
-use Rattle.std.proofs.lemmas.List.{append-nil, length-append, take_at, drop_at, get_or_append_left, get_or_at, length-replicate}
+use Rattle.std.proofs.lemmas.List.{append-nil, length-append, take_at, drop_at, get_or_append_left, get_or_at}
 use Rattle.std.proofs.lemmas.List.Elements.{All-from_recursion, All-get_or}
 use Rattle.std.proofs.lemmas.List.Splits.{slice_split_at, slice_split_none}
 use Rattle.std.proofs.lemmas.List.Sums.{position_or_len_is}
-use Rattle.nvm_text.specs.Runs.{Run, run_of, runs, written_out, AreNonempty, NeighboursDiffer, AreLongestRuns}
+use Rattle.nvm_text.specs.Runs.{Run, run_of, runs, written_out, AreNonempty, AreLongestRuns}
 use Rattle.nvm_text.specs.Lines.{hex2, run_text, more_runs_text, runs_text}
 use Rattle.nvm_list.specs.Words.{is}
 use Rattle.nvm_list.specs.Numbers.{number, hex_byte}
 use Rattle.nvm_list.specs.Data.{run_from, read_run, with_run, read_runs, total, data_of_runs, data_by, payload}
-use Rattle.nvm_list.specs.declared.expected.Expected.{Expected}
 use Rattle.nvm_list.proofs.PlainText.{IsPlain, IsPlainWord, both}
 use Rattle.nvm_list.proofs.NumberListing.{decimal_high, high_plain, number_again, hex_again, hex_high}
 use Rattle.nvm_list.proofs.ReadWhole.{length_written}
@@ -125,11 +124,10 @@ first_byte (suc n) b ys some h = h.0
 
 readable : (rs : List Run) → AreNonempty rs → AreBytes (written_out rs) → total rs < 2 ^ 64 → AllByRecursion IsReadable rs
 readable [] some bytes fits = tt
-readable (r ∷ rs) some bytes fits =
-    (
-      record { some = some.0; fits = omega arith; byte = first_byte r.count r.byte (written_out rs) some.0 bytes },
-      readable rs some.1 (bytes_left (replicate r.count r.byte) (written_out rs) bytes) (omega arith),
-    )
+readable (r ∷ rs) some bytes fits = (
+  record { some = some.0; fits = omega arith; byte = first_byte r.count r.byte (written_out rs) some.0 bytes },
+  readable rs some.1 (bytes_left (replicate r.count r.byte) (written_out rs) bytes) (omega arith),
+)
 
 -- what the longest runs of some bytes are
 pub record AreListed (wanted : ℕ) (bytes : List ℕ) : Type 0 where

@@ -1,5 +1,4 @@
-use Rattle.std.proofs.Common.{◌≡◌, ◌≤◌, ◌+◌, All, length, ap, sym, subst, ◌∙◌, arith}
-use Rattle.std.specs.Prelude.{IfOk, ℕ, Result, Ok, List}
+use Rattle.std.proofs.Common.{◌≤◌, ◌+◌, length, arith}
 use Rattle.std.proofs.lemmas.Result.{IfOk-at_ok}
 use Rattle.std.proofs.lemmas.List.Elements.{All-from_recursion}
 use Rattle.nvm_record.specs.Entry.{IsWhole}

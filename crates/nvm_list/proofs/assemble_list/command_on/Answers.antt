@@ -1,5 +1,5 @@
 use Rattle.std.proofs.Common.{◌≡◌, ◌+◌, ap, ◌∙◌, sym, arith, length}
-use Rattle.nvm_list.specs.Words.{words, words_in}
+use Rattle.nvm_list.specs.Words.{words_in}
 use Rattle.nvm_list.specs.Lists.{on_line}
 use Rattle.nvm_list.proofs.assemble_list.command_on.Goals as goal
 

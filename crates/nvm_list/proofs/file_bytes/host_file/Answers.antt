@@ -1,6 +1,6 @@
 use Rattle.std.proofs.Common.{◌≡◌, ◌+◌, ◌++◌, ◌∷◌, drop, ap, sym, subst, ◌∙◌}
 use Rattle.std.proofs.lemmas.List.{drop_more}
-use Rattle.nvm_record.specs.Entry.{IsWhole, IsSpelling, entry_of}
+use Rattle.nvm_record.specs.Entry.{IsSpelling}
 use Rattle.nvm_list.specs.Files.{file_of}
 use Rattle.nvm_list.proofs.WholeFiles.{SpellsItself, written_more, spelled_more, all_spelled, all_written, read_again}
 use Rattle.nvm_list.proofs.file_bytes.host_file.Goals as goal

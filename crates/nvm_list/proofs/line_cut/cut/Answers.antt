@@ -1,4 +1,3 @@
-use Rattle.std.proofs.Common.{arith}
 use Rattle.std.proofs.lemmas.List.{take_rest}
 use Rattle.nvm_list.specs.Words.{is}
 use Rattle.nvm_list.proofs.Cutting.{cut_inside, cut_at_end}

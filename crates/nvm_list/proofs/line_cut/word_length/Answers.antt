@@ -1,4 +1,4 @@
-use Rattle.std.proofs.Common.{◌≡◌, true, length, ap, sym, ◌∙◌, arith}
+use Rattle.std.proofs.Common.{arith}
 use Rattle.nvm_list.specs.Words.{is_blank}
 use Rattle.nvm_list.proofs.Cutting.{end_is}
 use Rattle.nvm_list.proofs.line_cut.word_length.Goals as goal

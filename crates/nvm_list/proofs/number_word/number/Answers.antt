@@ -1,4 +1,4 @@
-use Rattle.std.proofs.Common.{◌≡◌, ◌+◌, ◌∙◌, ap, sym, drop, get_or}
+use Rattle.std.proofs.Common.{◌+◌, ◌∙◌, ap, sym, drop, get_or}
 use Rattle.std.proofs.lemmas.List.{drop_more}
 use Rattle.std.specs.Str.{all_ascii_digits}
 use Rattle.nvm_list.specs.Numbers.{value_after}
