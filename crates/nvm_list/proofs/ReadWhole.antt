@@ -1,8 +1,10 @@
 -- Commands that are read have just the data that they call for, and proper opcodes; and they aren't many.
-use Rattle.std.proofs.Common.{◌≡◌, ℕ, ◌+◌, ◌*◌, ◌≤◌, ◌==◌, nat_le, Bool, true, false, if◌then◌else◌, List, [], ◌∷◌, length, take, drop, codes, Option, Some, None, Result, Ok, Err, IfOk, refl, sym, ◌∙◌, arith}
+use Rattle.std.proofs.Common.{◌≡◌, ℕ, ◌+◌, ◌*◌, ◌≤◌, ◌==◌, nat_le, Bool, true, false, if◌then◌else◌, List, [], ◌∷◌, length, take, drop, codes, Option, Some, None, Result, Ok, Err, IfOk, Vec, Global, All, refl, sym, ◌∙◌, arith}
 use Rattle.std.specs.Str.{bytes_eq}
 use Rattle.std.specs.List.{slice_split, AllByRecursion}
 use Rattle.std.proofs.lemmas.Bool.{cond_both, eqb-true, leb-true}
+use Rattle.std.proofs.lemmas.Result.{IfOk-at_ok}
+use Rattle.std.proofs.lemmas.List.Elements.{All-from_recursion}
 use Rattle.std.proofs.lemmas.List.{length-append, length-replicate}
 use Rattle.nvm_record.specs.Op.{op_of, IsProper, carries_data}
 use Rattle.nvm_record.specs.Entry.{data_length, IsWhole}
@@ -11,14 +13,14 @@ use Rattle.nvm_record.specs.declared.op.Op.TheVariants.{Write, Read, WriteUncorr
 use Rattle.nvm_record.specs.declared.command.Command.{Command}
 use Rattle.nvm_text.specs.Runs.{Run, written_out}
 use Rattle.nvm_text.specs.Lines.{name_of}
-use Rattle.nvm_list.specs.Words.{is, first, others, words}
+use Rattle.nvm_list.specs.Words.{is, first, others, words, lines}
 use Rattle.nvm_list.specs.Numbers.{hex_byte}
 use Rattle.nvm_list.specs.Expecting.{◌>>=◌}
 use Rattle.nvm_list.specs.Names.{unnamed, of_opcode, other_operation, operation}
 use Rattle.nvm_list.specs.Data.{read_runs, total, data_of_runs, data_by, payload}
 use Rattle.nvm_list.specs.Options.{options}
 use Rattle.nvm_list.specs.Lines.{lba, nlb, carried, command_of, command}
-use Rattle.nvm_list.specs.Lists.{command_at, at_line, on_line, in_front, followed_by, commands_from}
+use Rattle.nvm_list.specs.Lists.{command_at, at_line, on_line, in_front, followed_by, commands_from, commands}
 use Rattle.nvm_list.specs.declared.option_words.Options.{Options}
 use Rattle.nvm_list.specs.declared.expected.Expected.{Expected}
 use Rattle.nvm_list.specs.declared.expected.Expected.TheVariants.{Name, DataLength, NoMoreCommands}
@@ -161,3 +163,14 @@ pub all_whole : (size line place : ℕ) (texts : List (List ℕ)) → place ≤ 
 all_whole size line place [] few = record { whole = tt; few = omega arith }
 all_whole size line place (text ∷ texts) few =
     line_whole size line place (words text) (λ next. commands_from size (line + 1) next texts) few (λ next below. all_whole size (line + 1) next texts below)
+
+read_whole : (size : ℕ) (text : List ℕ) (cs : List Command) → commands size text ≡ Ok cs → AreWhole size 1 cs
+read_whole size text cs e = IfOk-at_ok (AreWhole size 1) e (all_whole size 1 1 (lines text) (omega arith))
+
+pub whole_where_read : (size : ℕ) (text : List ℕ) (r : Result (Vec Command Global) ListFault) → IfOk r (λ v. commands size text ≡ Ok v.items) → IfOk r (λ v. All (IsWhole size) v.items)
+whole_where_read size text (Ok v) h = All-from_recursion (IsWhole size) v.items (read_whole size text v.items h).whole
+whole_where_read size text (Err e) h = tt
+
+pub few_where_read : (size : ℕ) (text : List ℕ) (r : Result (Vec Command Global) ListFault) → IfOk r (λ v. commands size text ≡ Ok v.items) → IfOk r (λ v. length v.items ≤ 65536)
+few_where_read size text (Ok v) h = let few : 1 + length v.items ≤ 65537 = (read_whole size text v.items h).few in omega arith
+few_where_read size text (Err e) h = tt

@@ -1,12 +1,11 @@
-ghost use Rattle.std.specs.Prelude.{◌≡◌, ◌⊎◌, ◌+◌, ◌<◌, ◌≤◌, ◌^◌, List, IfOk, IfErr, Ok, Err, MatchResult, length, All};
+ghost use Rattle.std.specs.Prelude.{◌≡◌, ◌⊎◌, ◌+◌, ◌≤◌, List, IfOk, IfErr, Ok, Err, length, All};
 ghost use Rattle.nvm_record.specs.Entry.{IsWhole};
-ghost use Rattle.nvm_record.specs.HostFile.{IsHostFile};
+ghost use Rattle.nvm_record.specs.HostFile.{IsHostFile, most_commands};
 ghost use Rattle.nvm_record.specs.declared.command.Command.{Command as Listed};
 ghost use Rattle.nvm_list.specs.Words.{words, words_in};
 ghost use Rattle.nvm_list.specs.Expecting.{Gives};
 ghost use Rattle.nvm_list.specs.Lists as spec;
-ghost use Rattle.nvm_list.specs.Files.{file_of};
-ghost use Rattle.nvm_list.specs.declared.fault.ListFault.{ListFault as Fault};
+ghost use Rattle.nvm_list.specs.Files.{assembled};
 ghost use Rattle.nvm_list.specs.declared.fault.ListFault.TheVariants.{NoMemory};
 
 use crate::command_line::command;
@@ -22,9 +21,10 @@ use std::alloc::Global;
 /// The first line that is no command is answered in place of them, or `NoMemory` where a growth was
 /// refused before it.
 pub fn assemble(alloc: Global, text: &[u8], size: BlockSize) -> Result<Vec<u8>, ListFault>
-    ensures file { IfOk result
-        (λ file. (cs : List Listed) × (spec.commands size text.now ≡ Ok cs)
-        × (file.items ≡ file_of cs) × IsHostFile size file.items cs) }
+    ensures file { IfOk result (λ file. assembled size text.now ≡ Ok file.items) }
+    // The file is read as just the commands of the list.
+    ensures commands { IfOk result (λ file. (cs : List Listed)
+        × (spec.commands size text.now ≡ Ok cs) × IsHostFile size file.items cs) }
     ensures fault { IfErr result (λ e. (spec.commands size text.now ≡ Err e) ⊎ (e ≡ NoMemory)) }
 {
     let commands = read_list(alloc, text, size)?;
@@ -36,6 +36,17 @@ pub fn assemble(alloc: Global, text: &[u8], size: BlockSize) -> Result<Vec<u8>, 
 /// The first line that is no command is answered in place of them, or `NoMemory` where a growth was
 /// refused before it.
 pub fn read_list(alloc: Global, text: &[u8], size: BlockSize) -> Result<Vec<Command>, ListFault>
+    ensures commands { IfOk result (λ v. spec.commands size text.now ≡ Ok v.items) }
+    // Each command has just the data that it calls for and a proper opcode, and they aren't too many.
+    ensures whole { IfOk result (λ v. All (IsWhole size) v.items) }
+    ensures few { IfOk result (λ v. length v.items ≤ most_commands) }
+    ensures fault { IfErr result (λ e. (spec.commands size text.now ≡ Err e) ⊎ (e ≡ NoMemory)) }
+{
+    commands_of(alloc, text, size)
+}
+
+/// The commands of a list, line by line.
+fn commands_of(alloc: Global, text: &[u8], size: BlockSize) -> Result<Vec<Command>, ListFault>
     ensures commands { IfOk result (λ v. spec.commands size text.now ≡ Ok v.items) }
     ensures fault { IfErr result (λ e. (spec.commands size text.now ≡ Err e) ⊎ (e ≡ NoMemory)) }
 {

@@ -5,6 +5,7 @@ ghost use Rattle.nvm_record.specs.HostFile.{IsHostFile, IsAnsweredFault, most_co
 ghost use Rattle.nvm_record.specs.declared.command.Command.{Command as Listed};
 ghost use Rattle.nvm_list.specs.Lists as lists;
 ghost use Rattle.nvm_list.specs.Lists.{commands};
+ghost use Rattle.nvm_list.specs.Files.{file_of, assembled};
 ghost use Rattle.nvm_list.specs.Ranges.{IsInRange};
 ghost use Rattle.nvm_list.specs.Listing as spec;
 ghost use Rattle.nvm_list.specs.Listing.{listing, behind_spaces};
@@ -21,6 +22,9 @@ use std::alloc::Global;
 pub fn list_file(alloc: Global, bytes: &[u8], size: BlockSize) -> Result<String, HostFault>
     ensures text { IfOk result (λ text. (cs : List Listed) × IsHostFile size bytes.now cs
         × (string_bytes text ≡ listing cs) × (commands size (string_bytes text) ≡ Ok cs)) }
+    // Where every unnamed bit of the file is 0, the list is assembled into this very file.
+    ensures same_file { IfOk result (λ text. (cs : List Listed) → IsHostFile size bytes.now cs
+        → bytes.now ≡ file_of cs → assembled size (string_bytes text) ≡ Ok bytes.now) }
     ensures fault { IfErr result (IsAnsweredFault size bytes.now) }
 {
     let commands = read_host(alloc, bytes, size)?;
