@@ -1,4 +1,4 @@
-ghost use Rattle.std.specs.Prelude.{◌≡◌, ◌<◌, ◌*◌, ◌^◌, IfOk, length, option_map, replicate};
+ghost use Rattle.std.specs.Prelude.{◌≡◌, IfOk, option_map, replicate};
 ghost use Rattle.std.specs.List.{slice_split};
 ghost use Rattle.nvm_text.specs.Runs.{written_out};
 ghost use Rattle.nvm_list.specs.Words.{is};

@@ -1,8 +1,10 @@
-ghost use Rattle.std.specs.Prelude.{◌≡◌, ◌≤◌, ◌++◌, ℕ, List, Ok, IfOk, IfErr, OnOk, ◌<◌, get_or, length, All, string_bytes};
+ghost use Rattle.std.specs.Prelude.{◌≡◌, ◌⊎◌, ◌≤◌, ◌++◌, ℕ, List, Ok, IfOk, IfErr, OnOk, MatchResult, ◌<◌, get_or, length, All, string_bytes};
 ghost use Rattle.nvm_record.specs.Entry.{IsWhole};
 ghost use Rattle.nvm_record.specs.BlockSize.{IsBlockSize};
-ghost use Rattle.nvm_record.specs.HostFile.{IsHostFile, IsAnsweredFault, most_commands};
+ghost use Rattle.nvm_record.specs.HostFile.{IsHostFile, IsFaultOf, IsAnsweredFault, most_commands};
 ghost use Rattle.nvm_record.specs.declared.command.Command.{Command as Listed};
+ghost use Rattle.nvm_record.specs.declared.host_fault.HostFault.{HostFault as Fault};
+ghost use Rattle.nvm_record.specs.declared.host_fault.HostFault.TheVariants as of_file;
 ghost use Rattle.nvm_list.specs.Lists as lists;
 ghost use Rattle.nvm_list.specs.Lists.{commands};
 ghost use Rattle.nvm_list.specs.Files.{file_of, assembled};
@@ -26,6 +28,8 @@ pub fn list_file(alloc: Global, bytes: &[u8], size: BlockSize) -> Result<String,
     ensures same_file { IfOk result (λ text. (cs : List Listed) → IsHostFile size bytes.now cs
         → bytes.now ≡ file_of cs → assembled size (string_bytes text) ≡ Ok bytes.now) }
     ensures fault { IfErr result (IsAnsweredFault size bytes.now) }
+    ensures each_fault { (f : Fault) → IsFaultOf size bytes.now f
+        → MatchResult result (λ _. ⊥) (λ e. (e ≡ f) ⊎ (e ≡ of_file.NoMemory)) }
 {
     let commands = read_host(alloc, bytes, size)?;
     Ok(list(alloc, &commands)?)

@@ -38,8 +38,11 @@ fn bytes_of(alloc: Global, runs: &[(usize, u8)]) -> Result<Vec<u8>, Fail> {
     Ok(bytes)
 }
 
-/// The fault of a text in blocks of 512 bytes, or how many commands it has.
+/// The fault of a text in blocks of 512 bytes, or how many commands it has. Want of memory is no answer.
 fn read(alloc: Global, text: &[u8]) -> Result<Result<usize, ListFault>, Fail> {
-    let size = block_size(512)?;
-    Ok(crate::read_list(alloc, text, size).map(|commands| commands.len()))
+    match crate::read_list(alloc, text, block_size(512)?) {
+        Ok(commands) => Ok(Ok(commands.len())),
+        Err(ListFault::NoMemory) => Err(Fail::from(ListFault::NoMemory)),
+        Err(fault) => Ok(Err(fault)),
+    }
 }
