@@ -11,6 +11,7 @@ mod number;
 mod run;
 
 pub use line::{push_line, push_lines, push_name, push_status};
+pub use number::push_decimal;
 pub use run::push_runs;
 
 #[cfg(test)]

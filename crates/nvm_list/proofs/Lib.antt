@@ -1,0 +1,15 @@
+pub mod Cutting
+pub mod NumberReading
+pub mod RunReading
+pub mod OptionReading
+pub mod ListReading
+pub mod ReadWhole
+pub mod WholeFiles
+pub mod LineListing
+pub mod PlainText
+pub mod NumberListing
+pub mod RunListing
+pub mod OptionListing
+pub mod CommandListing
+pub mod ListListing
+pub mod FirstFaults

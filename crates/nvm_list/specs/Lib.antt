@@ -1,0 +1,13 @@
+pub mod Words
+pub mod Numbers
+pub mod Expecting
+pub mod Names
+pub mod Data
+pub mod Options
+pub mod Lines
+pub mod Lists
+pub mod Listing
+pub mod Files
+pub mod Rest
+pub mod Ranges
+pub mod FirstFault

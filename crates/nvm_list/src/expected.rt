@@ -1,0 +1,41 @@
+use thiserror::Error;
+
+/// What was expected in a line at the first place where something else stands.
+#[derive(Clone, Copy, Debug, PartialEq, Eq, Error)]
+pub enum Expected {
+    /// The first word names no operation, or an opcode that has a name of its own.
+    #[error("expected write, read, compare, zeroes, uncorrectable, or op- and another opcode in two hexadecimal digits")]
+    Name,
+    /// The word after the name isn't a number that an LBA can be.
+    #[error("expected an LBA from 0 to 18446744073709551615")]
+    Lba,
+    /// The word after the LBA isn't a number of blocks.
+    #[error("expected a number of blocks from 1 to 65536")]
+    Blocks,
+    /// The word after the blocks is no data.
+    #[error("expected data as runs, as in 511*41,1*42, or as two hexadecimal digits")]
+    Data,
+    /// The runs are data of another length.
+    #[error("expected data of {wanted} bytes and not of {found}")]
+    DataLength {
+        /// How many bytes the blocks have.
+        wanted: u64,
+        /// How many bytes the runs have.
+        found: u128,
+    },
+    /// A word behind the command is no option.
+    #[error("expected first, second, reserved, cid= or nsid=")]
+    OptionName,
+    /// An option stands twice, or two of `first`, `second` and `reserved` stand in one line.
+    #[error("expected at most one of first, second and reserved, one cid= and one nsid=")]
+    OptionOnce,
+    /// What is behind `cid=` isn't a number that a command identifier can be.
+    #[error("expected a number from 0 to 65535 behind cid=")]
+    Cid,
+    /// What is behind `nsid=` isn't a number that a namespace identifier can be.
+    #[error("expected a number from 0 to 4294967295 behind nsid=")]
+    Nsid,
+    /// The list has 65,536 commands before this one.
+    #[error("expected no more than 65536 commands")]
+    NoMoreCommands,
+}

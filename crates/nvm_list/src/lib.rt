@@ -1,0 +1,32 @@
+//! Command lists: a host file as text that people write and read.
+//!
+//! A line of a list is a command: `write LBA BLOCKS DATA`, `read LBA BLOCKS`, `compare LBA BLOCKS DATA`,
+//! `zeroes LBA BLOCKS`, `uncorrectable LBA BLOCKS` or `op-7f LBA BLOCKS`, and then options, each at most
+//! once and in any order: `first`, `second` or `reserved`, `cid=N` and `nsid=N`. `#` starts a comment, and
+//! a line without words is passed over.
+//!
+//! [`assemble`] makes a list into the bytes of a host file, and [`list_file`] lists those.
+#![tactic(auto)]
+
+mod assemble_list;
+mod command_line;
+mod data_word;
+mod expected;
+mod fault;
+mod file_bytes;
+pub mod laws;
+mod line_cut;
+mod listing;
+mod name_word;
+mod number_word;
+mod option_words;
+mod run;
+
+pub use assemble_list::{assemble, read_list};
+pub use expected::Expected;
+pub use fault::ListFault;
+pub use file_bytes::host_file;
+pub use listing::{list, list_file};
+
+#[cfg(test)]
+mod tests;

@@ -1,0 +1,149 @@
+ghost use Rattle.std.specs.Prelude.{◌≡◌, ◌⊎◌, ◌≤◌, ◌++◌, ℕ, List, Ok, IfOk, IfErr, OnOk, MatchResult, ◌<◌, get_or, length, All, string_bytes};
+ghost use Rattle.nvm_record.specs.Entry.{IsWhole};
+ghost use Rattle.nvm_record.specs.BlockSize.{IsBlockSize};
+ghost use Rattle.nvm_record.specs.HostFile.{IsHostFile, IsFaultOf, IsAnsweredFault, most_commands};
+ghost use Rattle.nvm_record.specs.declared.command.Command.{Command as Listed};
+ghost use Rattle.nvm_record.specs.declared.host_fault.HostFault.{HostFault as Fault};
+ghost use Rattle.nvm_record.specs.declared.host_fault.HostFault.TheVariants as of_file;
+ghost use Rattle.nvm_list.specs.Lists as lists;
+ghost use Rattle.nvm_list.specs.Lists.{commands};
+ghost use Rattle.nvm_list.specs.Files.{file_of, assembled};
+ghost use Rattle.nvm_list.specs.Ranges.{IsInRange};
+ghost use Rattle.nvm_list.specs.Listing as spec;
+ghost use Rattle.nvm_list.specs.Listing.{listing, behind_spaces};
+
+use nvm_record::{BlockSize, Command, Fuse, HostFault, NoMemory, read_host};
+use nvm_text::laws::runs_are_longest;
+use nvm_text::{push_decimal, push_name, push_runs};
+use std::alloc::Global;
+
+/// Reads a host file and lists its commands.
+///
+/// The list is read as just these commands, so it is assembled into the same file where that has every
+/// unnamed bit 0. A fault is that of the file.
+pub fn list_file(alloc: Global, bytes: &[u8], size: BlockSize) -> Result<String, HostFault>
+    ensures text { IfOk result (λ text. (cs : List Listed) × IsHostFile size bytes.now cs
+        × (string_bytes text ≡ listing cs) × (commands size (string_bytes text) ≡ Ok cs)) }
+    // Where every unnamed bit of the file is 0, the list is assembled into this very file.
+    ensures same_file { IfOk result (λ text. (cs : List Listed) → IsHostFile size bytes.now cs
+        → bytes.now ≡ file_of cs → assembled size (string_bytes text) ≡ Ok bytes.now) }
+    ensures fault { IfErr result (IsAnsweredFault size bytes.now) }
+    ensures each_fault { (f : Fault) → IsFaultOf size bytes.now f
+        → MatchResult result (λ _. ⊥) (λ e. (e ≡ f) ⊎ (e ≡ of_file.NoMemory)) }
+{
+    let commands = read_host(alloc, bytes, size)?;
+    Ok(list(alloc, &commands)?)
+}
+
+/// The commands as a list, a line each, with the options that it can't do without.
+///
+/// It is read as just these commands, where each has just the data that it calls for and a proper opcode,
+/// and there are 65,536 of them at most.
+pub fn list(alloc: Global, commands: &[Command]) -> Result<String, NoMemory>
+    ensures text { IfOk result (λ text. string_bytes text ≡ listing commands.now) }
+    ensures again { IfOk result (λ text. (size : ℕ) → IsBlockSize size
+        → All (IsWhole size) commands.now → length commands.now ≤ most_commands
+        → lists.commands size (string_bytes text) ≡ Ok commands.now) }
+{
+    runs_are_longest();
+    let mut text = String::new(alloc);
+    for (before, command) in commands.iter().enumerate() {
+        has_ranges(command);
+        push_command(&mut text, before as u64 + 1, command)?;
+    }
+    Ok(text)
+}
+
+/// Does nothing, and says what the types of a command's fields do.
+fn has_ranges(command: &Command)
+    ensures { IsInRange command.now }
+{
+    let _cid = command.cid;
+    let _nsid = command.nsid;
+    let _slba = command.slba;
+    let _nlb = command.nlb;
+    let _opcode = command.op.opcode();
+    has_bytes(command.payload.as_slice());
+}
+
+/// Does nothing, and says what the type of bytes does.
+fn has_bytes(bytes: &[u8])
+    ensures { (i : ℕ) → get_or bytes.now i 0 < 256 }
+{}
+
+/// Appends the line of the command at a place of its list.
+fn push_command(text: &mut String, place: u64, command: &Command) -> Result<(), NoMemory>
+    ensures { OnOk result (string_bytes text.new ≡ string_bytes text.old ++ spec.line_of place command.now) }
+{
+    push_name(text, command.op)?;
+    push_range(text, command)?;
+    push_data(text, command)?;
+    push_fuse(text, command.fuse)?;
+    push_cid(text, place, command.cid)?;
+    push_nsid(text, command.nsid)?;
+    text.push_str("\n")?;
+    Ok(())
+}
+
+/// Appends the starting LBA and the number of blocks.
+fn push_range(text: &mut String, command: &Command) -> Result<(), NoMemory>
+    ensures { OnOk result (string_bytes text.new
+        ≡ string_bytes text.old ++ behind_spaces (spec.range_words command.now)) }
+{
+    text.push_str(" ")?;
+    push_decimal(text, command.slba)?;
+    text.push_str(" ")?;
+    push_decimal(text, u64::from(command.nlb) + 1)?;
+    Ok(())
+}
+
+/// Appends the data, where the operation carries some.
+fn push_data(text: &mut String, command: &Command) -> Result<(), NoMemory>
+    ensures { OnOk result (string_bytes text.new
+        ≡ string_bytes text.old ++ behind_spaces (spec.data_words command.now)) }
+{
+    if command.op.carries_data() {
+        text.push_str(" ")?;
+        push_runs(text, command.payload.as_slice())?;
+    }
+    Ok(())
+}
+
+/// Appends the place in a fused operation, if it has one.
+fn push_fuse(text: &mut String, fuse: Fuse) -> Result<(), NoMemory>
+    ensures { OnOk result (string_bytes text.new
+        ≡ string_bytes text.old ++ behind_spaces (spec.fuse_words fuse)) }
+{
+    let word = match fuse {
+        Fuse::Normal => return Ok(()),
+        Fuse::First => " first",
+        Fuse::Second => " second",
+        Fuse::Reserved => " reserved",
+    };
+    text.push_str(word)?;
+    Ok(())
+}
+
+/// Appends the command identifier, if it isn't the command's place.
+fn push_cid(text: &mut String, place: u64, cid: u16) -> Result<(), NoMemory>
+    ensures { OnOk result (string_bytes text.new
+        ≡ string_bytes text.old ++ behind_spaces (spec.cid_words place cid)) }
+{
+    if u64::from(cid) != place % 65_536 {
+        text.push_str(" cid=")?;
+        push_decimal(text, u64::from(cid))?;
+    }
+    Ok(())
+}
+
+/// Appends the namespace identifier, if it isn't 1.
+fn push_nsid(text: &mut String, nsid: u32) -> Result<(), NoMemory>
+    ensures { OnOk result (string_bytes text.new
+        ≡ string_bytes text.old ++ behind_spaces (spec.nsid_words nsid)) }
+{
+    if nsid != 1 {
+        text.push_str(" nsid=")?;
+        push_decimal(text, u64::from(nsid))?;
+    }
+    Ok(())
+}

@@ -1,0 +1,104 @@
+ghost use Rattle.std.specs.Prelude.{◌≡◌};
+ghost use Rattle.nvm_list.specs.Words.{words_in};
+ghost use Rattle.nvm_list.specs.Options as spec;
+ghost use Rattle.nvm_list.specs.Numbers as numbers;
+
+use crate::expected::Expected;
+use crate::line_cut::first_word;
+use crate::number_word::number;
+use nvm_record::Fuse;
+
+/// The options of a command, each where it is given.
+#[derive(Clone, Copy, Debug, PartialEq, Eq)]
+pub struct Options {
+    pub fuse: Option<Fuse>,
+    pub cid: Option<u16>,
+    pub nsid: Option<u32>,
+}
+
+/// The options that the words say.
+pub fn read_options(words: &[u8]) -> Result<Options, Expected>
+    ensures { result ≡ spec.options (words_in words.now) }
+{
+    let mut options = Options {
+        fuse: None,
+        cid: None,
+        nsid: None,
+    };
+    let mut rest = words;
+    loop {
+        let (word, after) = first_word(rest);
+        if word.is_empty() {
+            return Ok(options);
+        }
+        options = with_option(options, word)?;
+        rest = after;
+    }
+}
+
+/// The options with the one that a word says.
+fn with_option(options: Options, word: &[u8]) -> Result<Options, Expected>
+    ensures { result ≡ spec.with_option options word.now }
+{
+    if word == b"first".as_slice() {
+        return with_fuse(options, Fuse::First);
+    }
+    if word == b"second".as_slice() {
+        return with_fuse(options, Fuse::Second);
+    }
+    if word == b"reserved".as_slice() {
+        return with_fuse(options, Fuse::Reserved);
+    }
+    if let Some(cid) = word.strip_prefix(b"cid=") {
+        return with_cid(options, cid);
+    }
+    if let Some(nsid) = word.strip_prefix(b"nsid=") {
+        return with_nsid(options, nsid);
+    }
+    Err(Expected::OptionName)
+}
+
+/// The options with a place in a fused operation.
+fn with_fuse(options: Options, fuse: Fuse) -> Result<Options, Expected>
+    ensures { result ≡ spec.with_fuse options fuse }
+{
+    if options.fuse.is_some() {
+        return Err(Expected::OptionOnce);
+    }
+    Ok(Options {
+        fuse: Some(fuse),
+        ..options
+    })
+}
+
+/// The options with the command identifier that a word says.
+fn with_cid(options: Options, word: &[u8]) -> Result<Options, Expected>
+    ensures { result ≡ spec.with_cid options (numbers.number 65535 word.now) }
+{
+    if options.cid.is_some() {
+        return Err(Expected::OptionOnce);
+    }
+    let Some(cid) = number(word, 65_535) else {
+        return Err(Expected::Cid);
+    };
+    Ok(Options {
+        cid: Some(cid as u16),
+        ..options
+    })
+}
+
+/// The options with the namespace identifier that a word says.
+fn with_nsid(options: Options, word: &[u8]) -> Result<Options, Expected>
+    ensures { result ≡ spec.with_nsid options (numbers.number 4294967295 word.now) }
+{
+    if options.nsid.is_some() {
+        return Err(Expected::OptionOnce);
+    }
+    let Some(nsid) = number(word, 4_294_967_295) else {
+        return Err(Expected::Nsid);
+    };
+    Ok(Options {
+        nsid: Some(nsid as u32),
+        ..options
+    })
+}

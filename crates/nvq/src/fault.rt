@@ -1,0 +1,75 @@
+ghost use Rattle.std.specs.Prelude.{◌≡◌};
+ghost use Rattle.nvq.specs.declared.fault.Fault.TheVariants.{NoMemory};
+ghost use Rattle.nvq.specs.Fault.{fault_of_list, fault_of_file};
+
+use nvm_list::{Expected, ListFault};
+use nvm_record::HostFault;
+use std::alloc::{AllocError, AllocFailed};
+use thiserror::Error;
+
+/// Why the program writes nothing. Each prints its one line, which goes to standard error.
+#[derive(Debug, Drop, Error)]
+pub enum Fault {
+    /// A file couldn't be read.
+    #[error("nvq: cannot read {path}")]
+    CannotRead { path: String },
+    /// A file couldn't be written.
+    #[error("nvq: cannot write {path}")]
+    CannotWrite { path: String },
+    /// A line of the list is no command. Lines count from 1.
+    #[error("nvq: line {line}: {expected}")]
+    Line { line: u64, expected: Expected },
+    /// The file doesn't begin as a host file.
+    #[error("nvq: {path}: bad name")]
+    BadName { path: String },
+    /// Something in the host file isn't whole; it begins at offset `at`, in bytes.
+    #[error("nvq: {path}: truncated at {at}")]
+    Truncated { path: String, at: u64 },
+    /// The host file has bytes after 65,536 commands.
+    #[error("nvq: {path}: too many commands")]
+    TooMany { path: String },
+    /// Memory was asked for and refused.
+    #[error("nvq: no memory")]
+    NoMemory,
+}
+
+impl Fault {
+    /// The fault of a host file.
+    pub fn of_file(path: String, fault: HostFault) -> Fault
+        ensures { result ≡ fault_of_file path fault }
+    {
+        match fault {
+            HostFault::BadName => Fault::BadName { path },
+            HostFault::Truncated { at } => Fault::Truncated { path, at },
+            HostFault::TooMany => Fault::TooMany { path },
+            HostFault::NoMemory => Fault::NoMemory,
+        }
+    }
+}
+
+impl From<ListFault> for Fault {
+    ghost from_gives = { λ fault e. e ≡ fault_of_list fault };
+
+    fn from(fault: ListFault) -> Fault {
+        match fault {
+            ListFault::Line { line, expected } => Fault::Line { line, expected },
+            ListFault::NoMemory => Fault::NoMemory,
+        }
+    }
+}
+
+impl From<AllocError> for Fault {
+    ghost from_gives = { λ _ e. e ≡ NoMemory };
+
+    fn from(_e: AllocError) -> Fault {
+        Fault::NoMemory
+    }
+}
+
+impl<T: Drop> From<AllocFailed<T>> for Fault {
+    ghost from_gives = { λ _ e. e ≡ NoMemory };
+
+    fn from(_e: AllocFailed<T>) -> Fault {
+        Fault::NoMemory
+    }
+}

@@ -1,0 +1,170 @@
+use clap::builder::ValueParser;
+use clap::error::ErrorKind;
+use clap::{Arg, ArgMatches, Command, Error};
+use nvm_record::BlockSize;
+use std::alloc::{AllocError, AllocFailed, Global};
+
+/// What the words of the command line ask for.
+#[derive(Debug, Drop)]
+pub enum Asked {
+    /// `nvq assemble`: make a list into a host file.
+    Assemble {
+        size: BlockSize,
+        list: String,
+        out: String,
+    },
+    /// `nvq list`: list a host file.
+    List {
+        size: BlockSize,
+        file: String,
+    },
+}
+
+/// Why the words of the command line ask for nothing that can be done.
+#[derive(Debug, Drop)]
+pub enum WordFault {
+    /// What `clap` says of them. A call for help is one, too.
+    Words(Error),
+    /// Memory was asked for and refused.
+    NoMemory,
+}
+
+impl From<Error> for WordFault {
+    fn from(error: Error) -> WordFault {
+        match error.kind() {
+            ErrorKind::OutOfMemory => WordFault::NoMemory,
+            _ => WordFault::Words(error),
+        }
+    }
+}
+
+impl From<AllocError> for WordFault {
+    fn from(_e: AllocError) -> WordFault {
+        WordFault::NoMemory
+    }
+}
+
+impl<T: Drop> From<AllocFailed<T>> for WordFault {
+    fn from(_e: AllocFailed<T>) -> WordFault {
+        WordFault::NoMemory
+    }
+}
+
+/// The sizes that a block can have, as words.
+const SIZES: &[&str] = &["512", "4096"];
+
+/// Reads the words after the program's name. A block has 512 bytes where no size is given.
+pub fn read_words<'a>(alloc: Global, words: &'a [&'a str]) -> Result<Asked, WordFault> {
+    let mut command = program(alloc)?;
+    let matches = command.try_get_matches_from_mut(words)?;
+    match asked_of(alloc, &matches)? {
+        Some(asked) => Ok(asked),
+        None => Err(missing(&mut command)),
+    }
+}
+
+/// What the matches ask for, or `None` where something is missing.
+fn asked_of(alloc: Global, matches: &ArgMatches<'_>) -> Result<Option<Asked>, WordFault> {
+    match matches.subcommand() {
+        Some(("assemble", words)) => assemble_asked(alloc, words),
+        Some(("list", words)) => list_asked(alloc, words),
+        _ => Ok(None),
+    }
+}
+
+/// The fault of words that `clap` took although something is missing in them.
+fn missing(command: &mut Command<'_>) -> WordFault {
+    match command.error(ErrorKind::MissingRequiredArgument, "a value is missing") {
+        Ok(error) => WordFault::from(error),
+        Err(_) => WordFault::NoMemory,
+    }
+}
+
+/// What `nvq assemble` is asked, or `None` where a value is missing.
+fn assemble_asked(alloc: Global, words: &ArgMatches<'_>) -> Result<Option<Asked>, WordFault> {
+    let (Some(size), Some(list), Some(out)) = (
+        size_of(words),
+        words.get_str("list"),
+        words.get_str("out"),
+    ) else {
+        return Ok(None);
+    };
+    let list = String::from_str(alloc, list)?;
+    let out = String::from_str(alloc, out)?;
+    Ok(Some(Asked::Assemble { size, list, out }))
+}
+
+/// What `nvq list` is asked, or `None` where a value is missing.
+fn list_asked(alloc: Global, words: &ArgMatches<'_>) -> Result<Option<Asked>, WordFault> {
+    let (Some(size), Some(file)) = (size_of(words), words.get_str("file")) else {
+        return Ok(None);
+    };
+    let file = String::from_str(alloc, file)?;
+    Ok(Some(Asked::List { size, file }))
+}
+
+/// The size of a block.
+fn size_of(words: &ArgMatches<'_>) -> Option<BlockSize> {
+    match words.get_str("block")? {
+        "512" => BlockSize::new(512),
+        "4096" => BlockSize::new(4096),
+        _ => None,
+    }
+}
+
+/// The command line of the program.
+fn program<'a>(alloc: Global) -> Result<Command<'a>, Error> {
+    let assemble = assemble_command(alloc)?;
+    let list = list_command(alloc)?;
+    Ok(
+        Command::new(alloc, "nvq")
+            .about("Makes lists of NVM commands into host files, and lists those")
+            .no_binary_name(true)
+            .subcommand_required(true)
+            .subcommand(assemble)?
+            .subcommand(list)?,
+    )
+}
+
+/// `nvq assemble`.
+fn assemble_command<'a>(alloc: Global) -> Result<Command<'a>, Error> {
+    let command = Command::new(alloc, "assemble").about("Makes a list into a host file");
+    let list = file(alloc, "list", "LIST", "The list, or - for standard input");
+    let out = file(
+        alloc,
+        "out",
+        "OUT",
+        "The host file, or - for standard output",
+    );
+    Ok(command.arg(block(alloc))?.arg(list)?.arg(out)?)
+}
+
+/// `nvq list`.
+fn list_command<'a>(alloc: Global) -> Result<Command<'a>, Error> {
+    let command = Command::new(alloc, "list").about("Lists the commands of a host file");
+    let file = file(
+        alloc,
+        "file",
+        "FILE",
+        "The host file, or - for standard input",
+    );
+    Ok(command.arg(block(alloc))?.arg(file)?)
+}
+
+/// The option that says how large a block is.
+fn block<'a>(alloc: Global) -> Arg<'a> {
+    Arg::new(alloc, "block")
+        .long("block")
+        .value_name("N")
+        .value_parser(ValueParser::from(SIZES))
+        .default_value("512")
+        .help("Size of a logical block in bytes")
+}
+
+/// A file that has to be named.
+fn file<'a>(alloc: Global, id: &'a str, name: &'a str, help: &'a str) -> Arg<'a> {
+    Arg::new(alloc, id)
+        .required(true)
+        .value_name(name)
+        .help(help)
+}
