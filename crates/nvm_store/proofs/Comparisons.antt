@@ -1,5 +1,5 @@
 -- Comparisons of blocks with data, and pairs, which rest on one.
-use Rattle.std.proofs.Common.{◌≡◌, add-one, drop-cons, ◌≢◌, ℕ, suc, ◌+◌, ◌*◌, ◌<◌, List, [], ◌∷◌, ◌++◌, length, get_or, take, drop, Bool, true, false, ◌&&◌, ◌||◌, cond, eqb, refl, sym, ap, ◌∙◌, arith}
+use Rattle.std.proofs.Common.{◌≡◌, ◌≢◌, ℕ, suc, ◌+◌, ◌*◌, ◌<◌, List, [], ◌∷◌, ◌++◌, length, get_or, take, drop, Bool, true, false, ◌&&◌, ◌||◌, cond, eqb, add-one, drop-cons, refl, sym, ap, ◌∙◌, arith}
 use Rattle.std.proofs.lemmas.Bool.{true≢false}
 use Rattle.std.proofs.lemmas.List.{take-append-drop, length-take-le, length-drop}
 use Rattle.std.proofs.Math.Bool.{and_assoc}
@@ -64,20 +64,12 @@ next_compares_at blocks i size b rest lt is sized none len =
     rw next (next_compares b (drop (i + 1) blocks) size rest (rw next at none) sized' (rw next at len))
 
 -- A comparison that ends with success holds.
-pub holds_where_successful : (mark same : Bool)
+holds_where_successful : (mark same : Bool)
     → cond mark unrecovered_read_error (cond (cond mark false same) successful_completion compare_failure) ≡ successful_completion
     → cond mark false same ≡ true
 holds_where_successful true same e = absurd (omega (arith, ap (λ (s : Status). s.sct) e))
 holds_where_successful false true e = refl
 holds_where_successful false false e = absurd (omega (arith, ap (λ (s : Status). s.sct) e))
-
--- One that ends otherwise doesn't hold.
-pub fails_where_not_successful : (mark same : Bool)
-    → cond mark unrecovered_read_error (cond (cond mark false same) successful_completion compare_failure) ≢ successful_completion
-    → cond mark false same ≡ false
-fails_where_not_successful true same e = refl
-fails_where_not_successful false true e = absurd (e refl)
-fails_where_not_successful false false e = refl
 
 -- A Write that isn't aborted belongs to a comparison that holds.
 holds_where_written : (same : Bool) → cond same successful_completion aborted_due_to_failed_fused_command ≡ successful_completion → same ≡ true
