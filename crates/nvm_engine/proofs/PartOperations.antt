@@ -10,7 +10,6 @@ use Rattle.nvm_store.specs.Operation.{write_operation, zeroes_operation, uncorre
 use Rattle.nvm_engine.proofs.PieceLemmas.{part_is}
 
 module _ (ns : Namespace) (c : Command) (p : Piece) (is : p ≡ piece_in ns c.slba (c.nlb + 1) p.unit) where
-
   -- the bytes of the piece, in blocks of `size` bytes
   abbrev IsCut : ℕ → List ℕ → List ℕ → Type 0
   IsCut size whole part = part ≡ data_part size (p.first - c.slba) p.blocks whole

@@ -27,8 +27,10 @@ does_more : (s : Setup) (op : Operation) (m : Medium) (counts : Counts) (replies
     → Does s op m counts (replies ++ reply ∷ []) (medium_left s.namespace.block_size (part_told s op reply) reply.part.result after) (counts_left reply.part.unit reply.part.result counted)
 does_more s op m counts [] after counted reply does rests = (
   subst (λ (n : Counts). Rests s (part_told s op reply) m n reply) does.1 (subst (λ (x : Medium). Rests s (part_told s op reply) x counted reply) does.0 rests),
-  (ap (λ (x : Medium). medium_left s.namespace.block_size (part_told s op reply) reply.part.result x) does.0,
-    ap (λ (n : Counts). counts_left reply.part.unit reply.part.result n) does.1),
+  (
+    ap (λ (x : Medium). medium_left s.namespace.block_size (part_told s op reply) reply.part.result x) does.0,
+    ap (λ (n : Counts). counts_left reply.part.unit reply.part.result n) does.1,
+  ),
 )
 does_more s op m counts (first ∷ replies) after counted reply does rests =
     (does.0, does_more s op (medium_left s.namespace.block_size (part_told s op first) first.part.result m) (counts_left first.part.unit first.part.result counts) replies after counted reply does.1 rests)
@@ -48,7 +50,6 @@ failed_fails (One s) failed ok = absurd failed
 failed_fails (Two s t) failed ok = absurd (failed.0 ok.0)
 
 module _ (s : Setup) (op : Operation) where
-
   -- Before the first part.
   pub not_begun : (units : List AtomicUnit) (ps : List Piece) → AreDone s.namespace op [] (map (λ p. p.unit) ps) → IsUnderWay s op units units ps []
   not_begun units ps begun m counts at = record { replies = []; after = m; counted = counts; at = at; does = (refl, refl); done = begun; bytes_are = refl }
@@ -93,9 +94,12 @@ module _ (s : Setup) (op : Operation) where
 
   -- what was read, and then found no memory
   no_room : (old new : List AtomicUnit) (unit : ℕ) (bytes : List ℕ) → DoesPart s op old new unit (Looked (Payload bytes)) → DoesPart s op old new unit NoMemory
-  no_room old new unit bytes part = (tt, λ m counts at.
-    let did = part.1 m counts at in
-    ((refl, inl (subst (λ (o : Option (List ℕ)). IsSome o) did.0.1.payload refl)), did.1))
+  no_room old new unit bytes part = (
+    tt,
+    λ m counts at.
+        let did = part.1 m counts at in
+        ((refl, inl (subst (λ (o : Option (List ℕ)). IsSome o) did.0.1.payload refl)), did.1),
+  )
 
   -- So does each answer that ends it.
   pub ends : ((replies : List Reply) (r : Reply) (left : List ℕ) → AreDone s.namespace op replies (r.part.unit ∷ left) → IsReplyTo op.deed r → (IsSuccess r.statuses → ⊥) → IsOutcomeOf s.namespace op (replies ++ r ∷ []) r.statuses None)
@@ -120,7 +124,11 @@ module _ (s : Setup) (op : Operation) where
   all_done whole start now bytes done under is payload m counts at =
       let end = under m counts at in
       let read : answered op.deed (data_told end.replies) ≡ done.payload = ap (λ (xs : List ℕ). answered op.deed xs) end.bytes_are ∙ sym payload in (
-        end.replies, end.after, end.counted, end.at, end.does,
+        end.replies,
+        end.after,
+        end.counted,
+        end.at,
+        end.does,
         subst (λ (x : Option (List ℕ)). IsOutcomeOf s.namespace op end.replies done.statuses x) read
             (subst (λ (x : Statuses). IsOutcomeOf s.namespace op end.replies x (answered op.deed (data_told end.replies))) (sym is) (whole end.replies end.done)),
       )
@@ -128,6 +136,10 @@ module _ (s : Setup) (op : Operation) where
   -- Where memory was refused before the first part.
   pub none_done : (units : List AtomicUnit) (done : DoneJob) → IsOutcomeOf s.namespace op [] (unstarted_of op.deed) None → done.statuses ≡ unstarted_of op.deed → done.payload ≡ None → DoesParts s op units units done
   none_done units done outcome is none m counts at = (
-    [], m, counts, at, (refl, refl),
+    [],
+    m,
+    counts,
+    at,
+    (refl, refl),
     subst (λ (x : Option (List ℕ)). IsOutcomeOf s.namespace op [] done.statuses x) (sym none) (subst (λ (x : Statuses). IsOutcomeOf s.namespace op [] x None) (sym is) outcome),
   )

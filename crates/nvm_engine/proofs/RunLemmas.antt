@@ -20,7 +20,8 @@ nothing_done s m counts (Some op) = (refl, refl)
 -- A refused job changes nothing.
 pub refused_job : (s : Setup) (job : Job) (units : List AtomicUnit) (statuses : Statuses) (done : DoneJob) → IsOutcome s.namespace job [] statuses None → done ≡ told statuses → AnswersTo s units units job done
 refused_job s job units statuses done outcome is m counts at = (
-  m, counts,
+  m,
+  counts,
   record { replies = []; outcome = subst (λ (d : DoneJob). IsOutcome s.namespace job [] d.statuses d.payload) (sym is) outcome; parts = nothing_done s m counts (job_operation_of job) },
   at,
 )
@@ -31,7 +32,8 @@ pub ready_job : (s : Setup) (job : Job) (op : Operation) (old new : List AtomicU
     → DoesParts s op old new done → AnswersTo s old new job done
 ready_job s job op old new done stands made does m counts at =
     let end = does m counts at in (
-      end.1, end.2,
+      end.1,
+      end.2,
       record {
         replies = end.0;
         outcome = made end.0 end.5;

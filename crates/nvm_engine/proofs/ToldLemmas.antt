@@ -82,7 +82,6 @@ module _ (s : Setup) (op act : Operation) (k : ℕ) (units : List AtomicUnit) (o
     (laid : IsLaidOut s units) (known : k < units_of s.namespace) (at : old ≡ get_or units k old) (is : act ≡ part_in s.namespace op k)
     (acts : IsTrue (not (is_look act.deed)))
     (lbas : (lba : ℕ) → is_in_range (part_in s.namespace op k) lba ≡ (is_in_range op lba && (unit_number s.namespace lba == k))) where
-
   inside : k < length units
   inside = let count : length units ≡ units_of s.namespace = laid.count in omega arith
 
@@ -113,12 +112,18 @@ module _ (s : Setup) (op act : Operation) (k : ℕ) (units : List AtomicUnit) (o
         let counted : counts k ≡ vec_len old.history = here.1 in
         let ok : IsSuccess (statuses_of (part_in s.namespace op k) m) = subst (λ (o : Operation). IsSuccess (statuses_of o m)) is (h.0 m here.0) in
         let stepped : Holds new.blocks (medium_after s.namespace.block_size (part_in s.namespace op k) m) =
-            subst (λ (o : Operation). Holds new.blocks (medium_after s.namespace.block_size o m)) is (subst (λ (n : ℕ). Holds new.blocks (medium_after n act m)) size (h.2.blocks m here.0)) in (
-          (refl, (record {
-            statuses = sym (part_success s.namespace.block_size (blocks_below s.namespace op.first op.blocks k) (blocks_in s.namespace op.first op.blocks k) op.deed)
-                ∙ told_success (part_in s.namespace op k).deed (range_of (part_in s.namespace op k) m) part_acts ok;
-            payload = sym (no_data (part_in s.namespace op k).deed (range_of (part_in s.namespace op k) m) part_acts);
-          }, omega arith)),
+        subst (λ (o : Operation). Holds new.blocks (medium_after s.namespace.block_size o m)) is (subst (λ (n : ℕ). Holds new.blocks (medium_after n act m)) size (h.2.blocks m here.0)) in (
+          (
+            refl,
+            (
+              record {
+                statuses = sym (part_success s.namespace.block_size (blocks_below s.namespace op.first op.blocks k) (blocks_in s.namespace op.first op.blocks k) op.deed)
+                    ∙ told_success (part_in s.namespace op k).deed (range_of (part_in s.namespace op k) m) part_acts ok;
+                payload = sym (no_data (part_in s.namespace op k).deed (range_of (part_in s.namespace op k) m) part_acts);
+              },
+              omega arith,
+            ),
+          ),
           set_at units k new (medium_after s.namespace.block_size (part_in s.namespace op k) m) (recounted counts k (counts k + 1)) inside
               (stepped, recounted_same counts k (counts k + 1) k refl ∙ omega arith)
               (λ d j there other. (
@@ -130,10 +135,13 @@ module _ (s : Setup) (op act : Operation) (k : ℕ) (units : List AtomicUnit) (o
   changes_part (Failed statuses) h = (
     (subst (λ (b : Bool). IsTrue b) (pair_of_part s.namespace op act k is) h.1, h.2),
     λ m counts all. (
-      (refl, record {
-        statuses = h.0 m (mine m counts all).0 ∙ ap (λ (o : Operation). statuses_of o m) is;
-        payload = sym (no_data (part_in s.namespace op k).deed (range_of (part_in s.namespace op k) m) part_acts);
-      }),
+      (
+        refl,
+        record {
+          statuses = h.0 m (mine m counts all).0 ∙ ap (λ (o : Operation). statuses_of o m) is;
+          payload = sym (no_data (part_in s.namespace op k).deed (range_of (part_in s.namespace op k) m) part_acts);
+        },
+      ),
       kept m counts all h.3.0 h.3.1,
     ),
   )
@@ -199,7 +207,6 @@ look_looks (Compare first blocks payload) = refl
 module _ (s : Setup) (op act : Operation) (k : ℕ) (units : List AtomicUnit) (unit : AtomicUnit)
     (laid : IsLaidOut s units) (known : k < units_of s.namespace) (at : unit ≡ get_or units k unit) (is : act ≡ part_in s.namespace op k)
     (looks : IsTrue (is_look act.deed)) where
-
   held : (m : Medium) (counts : Counts) → AreAt units m counts → Holds unit.blocks m
   held m counts all = let inside : k < length units = (let count : length units ≡ units_of s.namespace = laid.count in omega arith) in
       subst (λ (u : AtomicUnit). Holds u.blocks m) (sym at) (all unit k inside).0
@@ -218,10 +225,13 @@ module _ (s : Setup) (op act : Operation) (k : ℕ) (units : List AtomicUnit) (u
         ((refl, record { statuses = sym told.0; payload = sym told.1 }), all),
   )
   looks_at_part some (Looked (answers.Status status)) h = (
-    (whole_looks, λ reading.
-      let there : act.deed ≡ reads = ap (λ (o : Operation). o.deed) is ∙ ap (λ (d : Deed). deed_part s.namespace.block_size (blocks_below s.namespace op.first op.blocks k) (blocks_in s.namespace op.first op.blocks k) d) reading in
-      let told = h some.0 some.1 in
-      read_status (range_of act some.0) status (subst (λ (d : Deed). statuses_on (range_of act some.0) d ≡ One status) there told.0) (subst (λ (d : Deed). data_on (range_of act some.0) d ≡ None) there told.1)),
+    (
+      whole_looks,
+      λ reading.
+          let there : act.deed ≡ reads = ap (λ (o : Operation). o.deed) is ∙ ap (λ (d : Deed). deed_part s.namespace.block_size (blocks_below s.namespace op.first op.blocks k) (blocks_in s.namespace op.first op.blocks k) d) reading in
+          let told = h some.0 some.1 in
+          read_status (range_of act some.0) status (subst (λ (d : Deed). statuses_on (range_of act some.0) d ≡ One status) there told.0) (subst (λ (d : Deed). data_on (range_of act some.0) d ≡ None) there told.1),
+    ),
     λ m counts all.
         let told = subst (λ (o : Operation). IsAnswer o m (answers.Status status)) is (h m (held m counts all)) in
         ((refl, record { statuses = sym told.0; payload = sym told.1 }), all),

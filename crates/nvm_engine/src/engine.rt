@@ -75,11 +75,7 @@ fn geometry_of(settings: &Settings) -> Result<Geometry, Fault>
 }
 
 /// The commands of each host's file, in the order of the files.
-fn hosts_of(
-    alloc: Global,
-    size: BlockSize,
-    files: &[Vec<u8>],
-) -> Result<Vec<Vec<Command>>, Fault>
+fn hosts_of(alloc: Global, size: BlockSize, files: &[Vec<u8>]) -> Result<Vec<Vec<Command>>, Fault>
     requires few { length files.now ≤ 64 }
     ensures commands { IfOk result (λ hosts. AreHostFiles size (map (λ file. file.items) files.now)
         (map (λ host. host.items) hosts.items)) }

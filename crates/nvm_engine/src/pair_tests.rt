@@ -18,21 +18,33 @@ fn shows(
 
 #[test]
 fn pair_in_one_unit_is_done(rt: HostRuntime) -> Result<(), Fail> {
-    let commands = [first(compare(4, 4, 0)), second(write(4, 4, 0x55)), read(7, 2)];
+    let commands = [
+        first(compare(4, 4, 0)),
+        second(write(4, 4, 0x55)),
+        read(7, 2),
+    ];
     let wanted = "1 1 compare 0/00\n1 2 write 0/00\n1 3 read 0/00 512*55,512*00\n";
     shows(&rt, &FOUR_UNITS, commands.as_slice(), wanted)
 }
 
 #[test]
 fn pair_across_a_boundary_is_refused(rt: HostRuntime) -> Result<(), Fail> {
-    let commands = [first(compare(5, 4, 0)), second(write(5, 4, 0x55)), read(5, 4)];
+    let commands = [
+        first(compare(5, 4, 0)),
+        second(write(5, 4, 0x55)),
+        read(5, 4),
+    ];
     let wanted = "1 1 compare 0/14\n1 2 write 0/09\n1 3 read 0/00 2048*00\n";
     shows(&rt, &FOUR_UNITS, commands.as_slice(), wanted)
 }
 
 #[test]
 fn pair_above_its_limit_is_refused(rt: HostRuntime) -> Result<(), Fail> {
-    let commands = [first(compare(0, 5, 0)), second(write(0, 5, 0x55)), read(0, 5)];
+    let commands = [
+        first(compare(0, 5, 0)),
+        second(write(0, 5, 0x55)),
+        read(0, 5),
+    ];
     let wanted = "1 1 compare 0/14\n1 2 write 0/09\n1 3 read 0/00 2560*00\n";
     shows(&rt, &FOUR_UNITS, commands.as_slice(), wanted)
 }
@@ -87,7 +99,8 @@ fn pairs_that_do_not_match(rt: HostRuntime) -> Result<(), Fail> {
         first(compare(0, 1, 0)),
         second(write(0, 2, 0x62)),
     ];
-    let wanted = "1 1 compare 0/02\n1 2 write 0/02\n1 3 write 0/02\n1 4 write 0/02\n1 5 compare 0/02\n1 6 write 0/02\n";
+    let wanted =
+        "1 1 compare 0/02\n1 2 write 0/02\n1 3 write 0/02\n1 4 write 0/02\n1 5 compare 0/02\n1 6 write 0/02\n";
     shows(&rt, &FOUR_UNITS, commands.as_slice(), wanted)
 }
 
@@ -101,7 +114,8 @@ fn mark_fails_a_pair(rt: HostRuntime) -> Result<(), Fail> {
         zeroes(7, 1),
         read(7, 1),
     ];
-    let wanted = "1 1 uncorrectable 0/00\n1 2 read 2/81\n1 3 compare 2/81\n1 4 write 0/09\n1 5 zeroes 0/00\n1 6 read 0/00 512*00\n";
+    let wanted =
+        "1 1 uncorrectable 0/00\n1 2 read 2/81\n1 3 compare 2/81\n1 4 write 0/09\n1 5 zeroes 0/00\n1 6 read 0/00 512*00\n";
     shows(&rt, &FOUR_UNITS, commands.as_slice(), wanted)
 }
 
@@ -119,7 +133,8 @@ fn comparison_comes_before_the_limit(rt: HostRuntime) -> Result<(), Fail> {
         second(write(0, 1, 0x43)),
         read(0, 1),
     ];
-    let wanted = "1 1 write 0/00\n1 2 compare 0/00\n1 3 write 0/06\n1 4 compare 2/85\n1 5 write 0/09\n1 6 read 0/00 512*41\n";
+    let wanted =
+        "1 1 write 0/00\n1 2 compare 0/00\n1 3 write 0/06\n1 4 compare 2/85\n1 5 write 0/09\n1 6 read 0/00 512*41\n";
     shows(&rt, &small, commands.as_slice(), wanted)
 }
 
@@ -147,6 +162,7 @@ fn pair_of_another_namespace_or_past_the_end(rt: HostRuntime) -> Result<(), Fail
         second(write(31, 2, 0x61)),
         read(31, 1),
     ];
-    let wanted = "1 1 compare 0/0b\n1 2 write 0/09\n1 3 compare 0/80\n1 4 write 0/09\n1 5 read 0/00 512*00\n";
+    let wanted =
+        "1 1 compare 0/0b\n1 2 write 0/09\n1 3 compare 0/80\n1 4 write 0/09\n1 5 read 0/00 512*00\n";
     shows(&rt, &FOUR_UNITS, commands.as_slice(), wanted)
 }

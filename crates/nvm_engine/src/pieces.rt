@@ -41,7 +41,10 @@ pub fn room(alloc: Global, geometry: Geometry, body: &Body) -> Result<Vec<u8>, N
     let command = leader(body);
     let blocks = u32::from(command.nlb) + 1;
     if command.op == Op::Read && geometry.crosses(command.slba, blocks) {
-        Vec::with_capacity(alloc, blocks as usize * geometry.block_size().bytes() as usize)
+        Vec::with_capacity(
+            alloc,
+            blocks as usize * geometry.block_size().bytes() as usize,
+        )
     } else {
         Ok(Vec::new(alloc))
     }

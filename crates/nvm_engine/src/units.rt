@@ -17,7 +17,7 @@ use crate::done_job::DoneJob;
 use crate::ending::ended;
 use crate::pieces::{part_of, pieces, room};
 use nvm_geometry::{Geometry, Piece, laws};
-use nvm_plan::laws::{outcomes_by_plan, outcomes_are_made_part_by_part, ready_jobs};
+use nvm_plan::laws::{outcomes_are_made_part_by_part, outcomes_by_plan, ready_jobs};
 use nvm_plan::{Body, Job, Plan, plan};
 use nvm_record::{Command, NoMemory, Op};
 use nvm_store::laws::some_medium_is_held;

@@ -17,8 +17,18 @@ fn completion(host: u16, cid: u16, status: Status) -> Completion {
 fn a_completion_has_its_fields_in_place(rt: HostRuntime) -> Result<(), Fail> {
     for (host, cid, status, bytes) in [
         (1, 2, Status::COMPARE_FAILURE, [1, 0, 2, 0, 0x0a, 0x05]),
-        (64, 0xa1b2, Status::SUCCESSFUL_COMPLETION, [64, 0, 0xb2, 0xa1, 0, 0]),
-        (0x0102, 0xffff, Status { sct: 7, sc: 0xff }, [2, 1, 0xff, 0xff, 0xfe, 0x0f]),
+        (
+            64,
+            0xa1b2,
+            Status::SUCCESSFUL_COMPLETION,
+            [64, 0, 0xb2, 0xa1, 0, 0],
+        ),
+        (
+            0x0102,
+            0xffff,
+            Status { sct: 7, sc: 0xff },
+            [2, 1, 0xff, 0xff, 0xfe, 0x0f],
+        ),
         (1, 0, Status { sct: 0, sc: 0x80 }, [1, 0, 0, 0, 0, 0x01]),
     ] {
         let entry = completion_bytes(&completion(host, cid, status));
@@ -47,16 +57,16 @@ fn statuses_are_those_of_libnvme(rt: HostRuntime) -> Result<(), Fail> {
     let (generic, media) = (0x0u16, 0x2u16);
     for (status, sct, sc) in [
         (Status::SUCCESSFUL_COMPLETION, generic, 0x00u16), // NVME_SC_SUCCESS
-        (Status::INVALID_COMMAND_OPCODE, generic, 0x01),   // NVME_SC_INVALID_OPCODE
+        (Status::INVALID_COMMAND_OPCODE, generic, 0x01), // NVME_SC_INVALID_OPCODE
         (Status::INVALID_FIELD_IN_COMMAND, generic, 0x02), // NVME_SC_INVALID_FIELD
-        (Status::INTERNAL_ERROR, generic, 0x06),           // NVME_SC_INTERNAL
+        (Status::INTERNAL_ERROR, generic, 0x06), // NVME_SC_INTERNAL
         (Status::ABORTED_DUE_TO_FAILED_FUSED_COMMAND, generic, 0x09), // NVME_SC_FUSED_FAIL
         (Status::ABORTED_DUE_TO_MISSING_FUSED_COMMAND, generic, 0x0a), // NVME_SC_FUSED_MISSING
         (Status::INVALID_NAMESPACE_OR_FORMAT, generic, 0x0b), // NVME_SC_INVALID_NS
         (Status::ATOMIC_WRITE_UNIT_EXCEEDED, generic, 0x14),
         (Status::LBA_OUT_OF_RANGE, generic, 0x80), // NVME_SC_LBA_RANGE
         (Status::UNRECOVERED_READ_ERROR, media, 0x81), // NVME_SC_READ_ERROR
-        (Status::COMPARE_FAILURE, media, 0x85),    // NVME_SC_COMPARE_FAILED
+        (Status::COMPARE_FAILURE, media, 0x85), // NVME_SC_COMPARE_FAILED
     ] {
         let entry = completion_bytes(&completion(1, 2, status));
         let field = u16::from(entry[14]) + u16::from(entry[15]) * 256;
@@ -70,12 +80,12 @@ fn statuses_are_those_of_libnvme(rt: HostRuntime) -> Result<(), Fail> {
 #[test]
 fn opcodes_are_those_of_libnvme(rt: HostRuntime) -> Result<(), Fail> {
     for (op, opcode) in [
-        (Op::Write, 0x01),              // nvme_cmd_write
-        (Op::Read, 0x02),               // nvme_cmd_read
+        (Op::Write, 0x01), // nvme_cmd_write
+        (Op::Read, 0x02), // nvme_cmd_read
         (Op::WriteUncorrectable, 0x04), // nvme_cmd_write_uncor
-        (Op::Compare, 0x05),            // nvme_cmd_compare
-        (Op::WriteZeroes, 0x08),        // nvme_cmd_write_zeroes
-        (Op::Other(0x09), 0x09),        // nvme_cmd_dsm
+        (Op::Compare, 0x05), // nvme_cmd_compare
+        (Op::WriteZeroes, 0x08), // nvme_cmd_write_zeroes
+        (Op::Other(0x09), 0x09), // nvme_cmd_dsm
     ] {
         let command = bare_command(rt.alloc(), op);
         assert_eq!(rt; fields_of(&command), (0x0102, 1, Fuse::Second, op, 8, 7));

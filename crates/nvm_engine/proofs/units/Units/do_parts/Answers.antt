@@ -24,7 +24,7 @@ pub returns-in_default-clause-parts : goal.returns-in_default-clause-parts
 returns-in_default-clause-parts c = λ op stands.
     let range = range_is c.args.self.now.geometry c.args.body.now op c.requires.ready stands in
     let some : units_met c.args.self.now.geometry op.first op.blocks ≢ [] =
-        rw (range.0, range.1) (some_unit _ (units_met c.args.self.now.geometry (leader c.args.body.now).slba ((leader c.args.body.now).nlb + 1)) _ c.pieces-pieces.ensures.list c.pieces-pieces.ensures.some) in
+    rw (range.0, range.1) (some_unit _ (units_met c.args.self.now.geometry (leader c.args.body.now).slba ((leader c.args.body.now).nlb + 1)) _ c.pieces-pieces.ensures.list c.pieces-pieces.ensures.some) in
     none_done (setup_of c.args.self.now) op c.args.self.now.units.items c.of_no_part.result (c.outcomes_are_made_part_by_part.ensures.unstarted c.args.self.now.geometry op some)
     (ap (λ (d : DoneJob). d.statuses) c.of_no_part.ensures ∙ unstarted_is c.args.self.now.geometry c.args.body.now op c.requires.ready stands)
     (ap (λ (d : DoneJob). d.payload) c.of_no_part.ensures)
@@ -37,14 +37,14 @@ loop-piece-init c =
       refl,
       subst (λ (ps : List Piece). AllByRecursion (IsPieceOf c.args.self.now.geometry c.args.body.now) ps) (sym same) c.pieces-pieces.ensures.each,
       λ op stands.
-        let range = range_is c.args.self.now.geometry c.args.body.now op c.requires.ready stands in
-        let met : units_met c.args.self.now.geometry op.first op.blocks ≡ map (λ p. p.unit) c.into_iter-piece-iterator.result =
-            rw (range.0, range.1) (sym (c.pieces_stand_in_line.ensures.units c.args.self.now.geometry (leader c.args.body.now).slba ((leader c.args.body.now).nlb + 1))
-            ∙ ap (λ (ps : List Piece). map (λ p. p.unit) ps) (sym (same ∙ c.pieces-pieces.ensures.list))) in
-        let begun : AreDone c.args.self.now.geometry op [] (map (λ p. p.unit) c.into_iter-piece-iterator.result) =
-            subst (λ (left : List ℕ). AreDone c.args.self.now.geometry op [] left) met (c.outcomes_are_made_part_by_part.ensures.begun c.args.self.now.geometry op) in
-        subst (λ (bytes : List ℕ). IsUnderWay (setup_of c.args.self.now) op c.args.self.now.units.items c.args.self.now.units.items c.into_iter-piece-iterator.result bytes) (sym none)
-        (not_begun (setup_of c.args.self.now) op c.args.self.now.units.items c.into_iter-piece-iterator.result begun),
+          let range = range_is c.args.self.now.geometry c.args.body.now op c.requires.ready stands in
+          let met : units_met c.args.self.now.geometry op.first op.blocks ≡ map (λ p. p.unit) c.into_iter-piece-iterator.result =
+          rw (range.0, range.1) (sym (c.pieces_stand_in_line.ensures.units c.args.self.now.geometry (leader c.args.body.now).slba ((leader c.args.body.now).nlb + 1))
+          ∙ ap (λ (ps : List Piece). map (λ p. p.unit) ps) (sym (same ∙ c.pieces-pieces.ensures.list))) in
+          let begun : AreDone c.args.self.now.geometry op [] (map (λ p. p.unit) c.into_iter-piece-iterator.result) =
+          subst (λ (left : List ℕ). AreDone c.args.self.now.geometry op [] left) met (c.outcomes_are_made_part_by_part.ensures.begun c.args.self.now.geometry op) in
+          subst (λ (bytes : List ℕ). IsUnderWay (setup_of c.args.self.now) op c.args.self.now.units.items c.args.self.now.units.items c.into_iter-piece-iterator.result bytes) (sym none)
+          (not_begun (setup_of c.args.self.now) op c.args.self.now.units.items c.into_iter-piece-iterator.result begun),
     )
 
 pub returns-in-Some-ended-clause-parts : goal.returns-in-Some-ended-clause-parts
@@ -64,10 +64,10 @@ loop-piece-preserved c =
       setup,
       pieces.1,
       λ op stands.
-        let under = subst (λ (ps : List Piece). IsUnderWay (setup_of c.args.self.now) op c.args.self.now.units.items c.loop-piece.self.units.items ps c.loop-piece.bytes.items) at (c.loop-piece.invariant.3 op stands) in
-        let part = subst (λ (s : Setup). DoesPart s op c.loop-piece.self.units.items c.do_part-told.new.self.units.items c.in-Some.piece.unit c.do_part-told.result) c.loop-piece.invariant.1 (c.do_part-told.ensures.part op stands) in
-        one_more (setup_of c.args.self.now) op (c.outcomes_are_made_part_by_part.ensures.more c.args.self.now.geometry op) c.outcomes_are_made_part_by_part.ensures.payload
-        c.args.self.now.units.items c.loop-piece.self.units.items c.do_part-told.new.self.units.items c.in-Some.piece c.next.new.self c.do_part-told.result c.loop-piece.bytes.items c.ended.new.bytes.items under part c.in_default-ended.ensures.goes_on,
+          let under = subst (λ (ps : List Piece). IsUnderWay (setup_of c.args.self.now) op c.args.self.now.units.items c.loop-piece.self.units.items ps c.loop-piece.bytes.items) at (c.loop-piece.invariant.3 op stands) in
+          let part = subst (λ (s : Setup). DoesPart s op c.loop-piece.self.units.items c.do_part-told.new.self.units.items c.in-Some.piece.unit c.do_part-told.result) c.loop-piece.invariant.1 (c.do_part-told.ensures.part op stands) in
+          one_more (setup_of c.args.self.now) op (c.outcomes_are_made_part_by_part.ensures.more c.args.self.now.geometry op) c.outcomes_are_made_part_by_part.ensures.payload
+          c.args.self.now.units.items c.loop-piece.self.units.items c.do_part-told.new.self.units.items c.in-Some.piece c.next.new.self c.do_part-told.result c.loop-piece.bytes.items c.ended.new.bytes.items under part c.in_default-ended.ensures.goes_on,
     )
 
 pub returns-clause-parts : goal.returns-clause-parts
