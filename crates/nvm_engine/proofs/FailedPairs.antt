@@ -1,13 +1,12 @@
 -- An act that doesn't succeed is a pair whose comparison fails.
 use Rattle.std.proofs.Common.{◌≡◌, refl, sym, ap, subst, arith, Bool, true, false, if◌then◌else◌, IsTrue}
 use Rattle.std.specs.Str.{bytes_eq}
-use Rattle.nvm_record.specs.declared.block.Block.{Block}
 use Rattle.nvm_record.specs.declared.status.Status.{Status}
 use Rattle.nvm_record.specs.declared.status.Statuses.{Statuses}
-use Rattle.nvm_record.specs.declared.status.Statuses.TheVariants.{One, Two}
+use Rattle.nvm_record.specs.declared.status.Statuses.TheVariants.{Two}
 use Rattle.nvm_record.specs.Medium.{Medium, has_mark, joined}
 use Rattle.nvm_record.specs.Status.{IsSuccess, successful_completion, unrecovered_read_error, compare_failure, aborted_due_to_failed_fused_command}
-use Rattle.nvm_record.specs.Step.{statuses_of, range_of, Operation}
+use Rattle.nvm_record.specs.Step.{statuses_of, range_of}
 use Rattle.nvm_plan.specs.Reply.{is_pair, IsFailedPair}
 use Rattle.nvm_store.specs.ActRef.{lent_operation_of}
 use Rattle.nvm_store.specs.declared.act_ref.ActRef.{ActRef}

@@ -1,5 +1,5 @@
 -- The operation that a job stands for, by its commands' opcodes.
-use Rattle.std.proofs.Common.{◌≡◌, ℕ, List, Option, Some, None, refl, sym, ap, ◌∙◌, subst, IsTrue, ◌+◌}
+use Rattle.std.proofs.Common.{◌≡◌, ℕ, List, Some, None, refl, subst, IsTrue, ◌+◌}
 use Rattle.nvm_record.specs.declared.command.Command.{Command}
 use Rattle.nvm_record.specs.declared.op.Op.{Op}
 use Rattle.nvm_record.specs.declared.op.Op.TheVariants.{Write, Read, WriteUncorrectable, Compare, WriteZeroes, Other}
@@ -13,7 +13,7 @@ use Rattle.nvm_plan.specs.Ready.{IsReadyBody}
 use Rattle.nvm_plan.specs.Reply.{for_deed, success_of, stop_of}
 use Rattle.nvm_plan.specs.declared.job.Body.{Body}
 use Rattle.nvm_plan.specs.declared.job.Body.TheVariants.{Single, Pair}
-use Rattle.nvm_engine.specs.DoneJob.{success, stopped, unstarted, data_read, succeeded}
+use Rattle.nvm_engine.specs.DoneJob.{stopped, unstarted, data_read, succeeded}
 use Rattle.nvm_engine.specs.Units.{leader}
 
 of_some : (a b : Operation) → Some a ≡ Some b → a ≡ b

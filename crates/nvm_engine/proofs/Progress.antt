@@ -1,20 +1,19 @@
 -- The parts of an operation, one after the other, are its outcome.
-use Rattle.std.proofs.Common.{◌≡◌, ◌≢◌, inl, inr, ℕ, List, [], ◌∷◌, ◌++◌, map, Option, None, Some, unwrap_or, IsSome, refl, sym, ap, ◌∙◌, subst, append-nil}
+use Rattle.std.proofs.Common.{◌≡◌, inl, ℕ, List, [], ◌∷◌, ◌++◌, map, Option, None, unwrap_or, IsSome, refl, sym, ap, ◌∙◌, subst, append-nil}
 use Rattle.nvm_record.specs.declared.status.Statuses.{Statuses}
 use Rattle.nvm_record.specs.declared.status.Statuses.TheVariants.{One, Two}
 use Rattle.nvm_record.specs.Medium.{Medium}
-use Rattle.nvm_record.specs.Status.{IsSuccess, successful_completion}
-use Rattle.nvm_record.specs.Step.{Operation, data_of}
-use Rattle.nvm_geometry.specs.Parts.{part_in, units_met}
+use Rattle.nvm_record.specs.Status.{IsSuccess}
+use Rattle.nvm_record.specs.Step.{Operation}
+use Rattle.nvm_geometry.specs.Parts.{part_in}
 use Rattle.nvm_geometry.specs.declared.piece.Piece.{Piece}
 use Rattle.nvm_plan.specs.Outcome.{data_told, answered, unstarted_of, AreDone, IsOutcomeOf}
 use Rattle.nvm_plan.specs.Reply.{Reply, success_of, stop_of, IsFailedPair, IsReplyTo, Succeeds}
 use Rattle.nvm_plan.specs.declared.job.Body.{Body}
 use Rattle.nvm_store.specs.declared.answers.Answer.TheVariants.{Payload, Status}
-use Rattle.nvm_engine.specs.DoneJob as done_job
 use Rattle.nvm_engine.specs.DoneJob.{stopped}
 use Rattle.nvm_engine.specs.Run.{Setup, Counts, Rests, medium_left, counts_left, part_told, Does}
-use Rattle.nvm_engine.specs.Units.{AreAt, CanBeTold, DoesPart, DoesParts, GoesOn, EndsWith, HaveDone, IsUnderWay, reply_of, statuses_told, payload_told}
+use Rattle.nvm_engine.specs.Units.{DoesPart, DoesParts, GoesOn, EndsWith, IsUnderWay, reply_of, statuses_told, payload_told}
 use Rattle.nvm_engine.specs.declared.atomic_unit.AtomicUnit.{AtomicUnit}
 use Rattle.nvm_engine.specs.declared.atomic_unit.Told.{Told}
 use Rattle.nvm_engine.specs.declared.atomic_unit.Told.TheVariants.{Done, Failed, Looked, NoMemory, Full}

@@ -1,14 +1,13 @@
 -- What may be told of a part is a reply to it.
-use Rattle.std.proofs.Common.{◌≡◌, ◌≢◌, ◌↔◌, ℕ, List, [], ◌++◌, Option, None, Some, refl, sym, ap, ◌∙◌, subst, Bool, true, false, not, IsTrue, IsSome, arith}
+use Rattle.std.proofs.Common.{◌≡◌, ◌↔◌, ℕ, List, None, refl, sym, ap, subst, true, false, not, IsTrue, IsSome, arith}
 use Rattle.nvm_record.specs.declared.status.Status.{Status}
 use Rattle.nvm_record.specs.declared.status.Statuses.{Statuses}
-use Rattle.nvm_record.specs.declared.status.Statuses.TheVariants.{One, Two}
+use Rattle.nvm_record.specs.declared.status.Statuses.TheVariants.{One}
 use Rattle.nvm_record.specs.Status.{IsSuccess, successful_completion, internal_error}
 use Rattle.nvm_record.specs.Step.{Deed, writes, zeroes, uncorrectable, reads, compares, pairs}
-use Rattle.nvm_plan.specs.Reply.{Reply, is_look, is_pair, success_of, stop_of, IsFailedPair, IsReplyTo, GivesData, Succeeds}
-use Rattle.nvm_plan.specs.declared.job.Body.{Body}
+use Rattle.nvm_plan.specs.Reply.{is_look, is_pair, success_of, stop_of, IsReplyTo, GivesData, Succeeds}
 use Rattle.nvm_store.specs.declared.answers.Answer.TheVariants.{Payload, Status as Plain}
-use Rattle.nvm_engine.specs.Units.{CanBeTold, GoesOn, reply_of, statuses_told}
+use Rattle.nvm_engine.specs.Units.{CanBeTold, GoesOn, reply_of}
 use Rattle.nvm_engine.specs.declared.atomic_unit.Told.{Told}
 use Rattle.nvm_engine.specs.declared.atomic_unit.Told.TheVariants.{Done, Failed, Looked, NoMemory, Full}
 

@@ -1,17 +1,15 @@
 -- What a unit told of its part is what the part did to the units.
-use Rattle.std.proofs.Common.{◌≡◌, ◌≢◌, ◌==◌, ◌⊎◌, inl, inr, ℕ, ◌+◌, ◌<◌, List, length, vec_len, get_or, set, refl, sym, ap, ◌∙◌, subst, Bool, true, false, ◌&&◌, if◌then◌else◌, not, IsTrue, IsSome, Option, None, Some, arith}
-use Rattle.std.specs.Str.{bytes_eq}
+use Rattle.std.proofs.Common.{◌≡◌, ◌≢◌, ◌==◌, inl, inr, ℕ, ◌+◌, ◌<◌, List, length, vec_len, get_or, set, refl, sym, ap, ◌∙◌, subst, Bool, true, false, ◌&&◌, if◌then◌else◌, not, IsTrue, IsSome, None, Some, arith}
 use Rattle.nvm_record.specs.declared.block.Block.{Block}
 use Rattle.nvm_record.specs.declared.status.Status.{Status}
-use Rattle.nvm_record.specs.declared.status.Statuses.{Statuses}
-use Rattle.nvm_record.specs.declared.status.Statuses.TheVariants.{One, Two}
+use Rattle.nvm_record.specs.declared.status.Statuses.TheVariants.{One}
 use Rattle.nvm_record.specs.Medium.{Medium, has_mark, joined}
-use Rattle.nvm_record.specs.Status.{IsSuccess, successful_completion, unrecovered_read_error, compare_failure, aborted_due_to_failed_fused_command}
+use Rattle.nvm_record.specs.Status.{IsSuccess, successful_completion, unrecovered_read_error}
 use Rattle.nvm_record.specs.Step.{Deed, writes, zeroes, uncorrectable, reads, compares, pairs, Operation, is_in_range, statuses_of, statuses_on, data_of, data_on, range_of, medium_after}
 use Rattle.nvm_geometry.specs.Namespace.{Namespace}
 use Rattle.nvm_geometry.specs.Boundaries.{unit_number, units_of}
 use Rattle.nvm_geometry.specs.Parts.{deed_part, part_in, blocks_below, blocks_in}
-use Rattle.nvm_plan.specs.Reply.{Reply, is_look, is_pair, success_of, IsFailedPair}
+use Rattle.nvm_plan.specs.Reply.{is_look, is_pair, success_of}
 use Rattle.nvm_store.specs.ActRef.{lent_operation_of}
 use Rattle.nvm_store.specs.Answer.{IsAnswer}
 use Rattle.nvm_store.specs.Look.{look_operation_of}
@@ -19,11 +17,11 @@ use Rattle.nvm_store.specs.declared.act_ref.ActRef.{ActRef}
 use Rattle.nvm_store.specs.declared.act_ref.ActRef.TheVariants.{Write, Zeroes, Uncorrectable, Pair}
 use Rattle.nvm_store.specs.declared.look.Look.{Look}
 use Rattle.nvm_store.specs.declared.look.Look.TheVariants.{Read, Compare}
-use Rattle.nvm_store.specs.Contents.{Contents, Holds, Succeeds}
+use Rattle.nvm_store.specs.Contents.{Contents, Holds}
 use Rattle.nvm_store.specs.declared.answers.Answer.TheVariants as answers
 use Rattle.nvm_engine.specs.AtomicUnit.{IsChanged, IsLookedAt}
-use Rattle.nvm_engine.specs.Run.{Setup, Counts, recounted, Rests}
-use Rattle.nvm_engine.specs.Units.{AreUnits, IsLaidOut, AreAt, CanBeTold, DoesPart, reply_of}
+use Rattle.nvm_engine.specs.Run.{Setup, Counts, recounted}
+use Rattle.nvm_engine.specs.Units.{IsLaidOut, AreAt, DoesPart}
 use Rattle.nvm_engine.specs.declared.atomic_unit.AtomicUnit.{AtomicUnit}
 use Rattle.nvm_engine.specs.declared.atomic_unit.Told.{Told}
 use Rattle.nvm_engine.specs.declared.atomic_unit.Told.TheVariants.{Done, Failed, Looked, NoMemory, Full}

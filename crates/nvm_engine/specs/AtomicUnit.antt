@@ -1,5 +1,5 @@
 -- One unit of the namespace, and what a part does there.
-use Rattle.std.specs.Prelude.{◌≡◌, ◌⊎◌, ◌+◌, ◌<◌, ℕ, vec_len, IsSome, IsTrue}
+use Rattle.std.specs.Prelude.{◌≡◌, ◌+◌, ◌<◌, ℕ, vec_len, IsSome, IsTrue}
 use Rattle.nvm_record.specs.Medium.{Medium}
 use Rattle.nvm_record.specs.Step.{Operation, statuses_of, data_of, medium_after}
 use Rattle.nvm_plan.specs.Reply.{is_pair, IsFailedPair}

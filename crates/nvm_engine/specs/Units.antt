@@ -1,11 +1,11 @@
 -- The whole namespace as its units, and jobs that are done there part by part.
-use Rattle.std.specs.Prelude.{◌≡◌, ◌≢◌, ℕ, ◌+◌, ◌<◌, ◌≤◌, List, [], ◌∷◌, ◌++◌, map, Option, Some, None, length, vec_len, slice_index_or, Bool, true, false, IsTrue, not}
+use Rattle.std.specs.Prelude.{◌≡◌, ◌≢◌, ℕ, ◌+◌, ◌<◌, ◌≤◌, List, ◌++◌, map, Option, Some, None, length, vec_len, slice_index_or, IsTrue, not}
 use Rattle.nvm_record.specs.Medium.{Medium}
 use Rattle.nvm_record.specs.Status.{successful_completion}
 use Rattle.nvm_record.specs.Step.{Deed, Operation, reads}
 use Rattle.nvm_record.specs.declared.command.Command.{Command}
 use Rattle.nvm_record.specs.declared.status.Statuses.{Statuses}
-use Rattle.nvm_record.specs.declared.status.Statuses.TheVariants.{One, Two}
+use Rattle.nvm_record.specs.declared.status.Statuses.TheVariants.{One}
 use Rattle.nvm_geometry.specs.Namespace.{Namespace}
 use Rattle.nvm_geometry.specs.Boundaries.{unit_number, units_of}
 use Rattle.nvm_geometry.specs.Parts.{piece_in, pieces_of, part_in}

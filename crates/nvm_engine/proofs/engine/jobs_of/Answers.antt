@@ -1,4 +1,4 @@
-use Rattle.std.proofs.Common.{◌≡◌, ℕ, ◌*◌, ◌≤◌, List, length, map, All, arith}
+use Rattle.std.proofs.Common.{◌≡◌, ◌*◌, ◌≤◌, List, length, map, All, arith}
 use Rattle.std.proofs.lemmas.List.{length-map}
 use Rattle.std.proofs.lemmas.List.Elements.{All-map}
 use Rattle.nvm_record.specs.Entry.{IsWhole}

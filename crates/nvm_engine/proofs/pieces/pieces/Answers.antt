@@ -1,7 +1,5 @@
-use Rattle.std.proofs.Common.{◌≡◌, ℕ, ◌+◌, ◌≤◌, ◌<◌, List, length, sym, subst, arith}
-use Rattle.std.specs.List.{AllByRecursion}
-use Rattle.nvm_geometry.specs.declared.piece.Piece.{Piece}
-use Rattle.nvm_engine.specs.Units.{leader, IsPieceOf}
+use Rattle.std.proofs.Common.{◌+◌, ◌<◌, arith}
+use Rattle.nvm_engine.specs.Units.{leader}
 use Rattle.nvm_engine.proofs.PieceLemmas.{pieces_of_range, some_piece, ready_range}
 use Rattle.nvm_engine.proofs.pieces.pieces.Goals as goal
 

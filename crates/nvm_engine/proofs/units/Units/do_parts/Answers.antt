@@ -1,14 +1,11 @@
-use Rattle.std.proofs.Common.{◌≡◌, ◌≢◌, ℕ, ◌+◌, ◌<◌, List, [], ◌∷◌, map, length, Some, None, refl, sym, ap, ◌∙◌, subst, arith}
+use Rattle.std.proofs.Common.{◌≡◌, ◌≢◌, ℕ, ◌+◌, ◌<◌, List, [], ◌∷◌, map, length, refl, sym, ap, ◌∙◌, subst, arith}
 use Rattle.std.specs.List.{AllByRecursion}
-use Rattle.nvm_record.specs.Step.{Operation}
-use Rattle.nvm_geometry.specs.Parts.{pieces_of, units_met}
+use Rattle.nvm_geometry.specs.Parts.{units_met}
 use Rattle.nvm_geometry.specs.declared.piece.Piece.{Piece}
-use Rattle.nvm_plan.specs.Operation.{operation_of_body}
 use Rattle.nvm_plan.specs.Outcome.{AreDone}
-use Rattle.nvm_engine.specs.DoneJob.{told, unstarted}
 use Rattle.nvm_engine.specs.Run.{Setup}
 use Rattle.nvm_engine.specs.Setup.{setup_of}
-use Rattle.nvm_engine.specs.Units.{leader, body_pieces, IsLaidOut, IsPieceOf, DoesPart, DoesParts, IsUnderWay}
+use Rattle.nvm_engine.specs.Units.{leader, IsLaidOut, IsPieceOf, DoesPart, IsUnderWay}
 use Rattle.nvm_engine.specs.declared.done_job.DoneJob.{DoneJob}
 use Rattle.nvm_engine.proofs.JobOperations.{stopped_is, unstarted_is, success_is, data_is, range_is}
 use Rattle.nvm_engine.proofs.Progress.{not_begun, one_more, ends, all_done, none_done}
