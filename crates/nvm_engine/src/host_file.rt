@@ -137,13 +137,15 @@ pub fn second(command: Brief) -> Brief {
 /// The file of a list of commands, whose identifiers count from 1.
 pub fn file_of(alloc: Global, commands: &[Brief]) -> Result<Vec<u8>, AllocError> {
     let mut file = named(alloc)?;
-    for (place, command) in commands.iter().enumerate() {
+    let mut cid: u16 = 0;
+    for command in commands {
+        cid = cid.wrapping_add(1);
         push_entry(
             &mut file,
             Entry {
                 opcode: command.opcode,
                 fuse: command.fuse,
-                cid: place as u16 + 1,
+                cid,
                 nsid: command.nsid,
                 slba: command.slba,
                 nlb: command.blocks.saturating_sub(1),
