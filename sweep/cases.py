@@ -49,20 +49,22 @@ class Run:
             raise ValueError(f"it left {list(end.files)}, or another content than that of {list(self.files)}")
         if self.model and 0 not in self.model.wants(end.out):
             raise ValueError("a command wants memory")
-        if (self.out, self.err, self.model) == (None, None, None):
+        if self.is_said_by_clap():
             if bool(end.out) == bool(self.status) or bool(end.err) != bool(self.status):
                 raise ValueError("what it says isn't on the one stream where it belongs")
         elif end.err != (self.err or "") or not self.model and end.out != (self.out or ""):
             raise ValueError(f"it isn't {self.out or self.err!r}, on the stream where it belongs")
 
+    def is_said_by_clap(self):
+        return (self.out, self.err, self.model) == (None, None, None)
+
     def refused(self, end, whole, refusals):
         if end.said() == (1, "", f"{self.program}: no memory\n", {}):
             return "no memory"
-        if not self.model:
-            if end.said() != whole.said():
-                raise ValueError("it is another end")
+        # `clap` goes on where it is refused the memory to measure how similar two words are.
+        if self.is_said_by_clap() and end.said() == whole.said():
             return "as before"
-        if end.status or end.err or end.files != self.files:
+        if not self.model or end.status or end.err or end.files != self.files:
             raise ValueError("it is another end")
         # A command that is refused a growth asks for no more, and what is outside ends the program.
         wants = self.model.wants(end.out)

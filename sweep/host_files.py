@@ -62,8 +62,9 @@ def file_of(asked, block=512):
 
 
 def mixed(seed, count, nsze, block=512):
-    """The host file of about so many commands of all kinds on this namespace, the same each time. Most are
-    as they should be; the others are strays of pairs, pairs that don't match, past the end, and so on."""
+    """The host file of about so many commands of all kinds on this namespace, the same each time, and then
+    a Read of each block. Most are as they should be; the others are strays of pairs, pairs that don't
+    match, past the end, and so on."""
     dice = random.Random(seed)
 
     def one(opcode, first, blocks):
@@ -83,10 +84,10 @@ def mixed(seed, count, nsze, block=512):
             two = pair(one(COMPARE, first, blocks), one(WRITE, first, blocks))
             if dice.randrange(6) == 0:
                 at = dice.randrange(2)
-                wrong = [replace(two[at], nsid=2), replace(two[at], first=first ^ 1), replace(two[1 - at], fuse=two[at].fuse)]
-                two[at] = dice.choice(wrong)
+                moved, other = replace(two[at], first=first ^ 1), replace(two[1 - at], fuse=two[at].fuse)
+                two[at] = dice.choice([replace(two[at], nsid=2), moved, other])
             asked += two
         else:
             command = one(opcode, first, blocks)
             asked.append(flawed(command) if dice.randrange(10) == 0 else command)
-    return file_of(asked, block)
+    return file_of(asked + [read(lba, 1) for lba in range(nsze)], block)

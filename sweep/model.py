@@ -72,9 +72,13 @@ def bodies(listed):
     rest = deque(listed)
     while rest:
         body = [rest.popleft()]
-        if rest and (body[0].fuse, rest[0].fuse) == (FIRST, SECOND) and {body[0].opcode, rest[0].opcode} <= NAMES.keys():
+        if rest and is_pair(body[0], rest[0]):
             body.append(rest.popleft())
         yield body
+
+
+def is_pair(first, second):
+    return (first.fuse, second.fuse) == (FIRST, SECOND) and {first.opcode, second.opcode} <= NAMES.keys()
 
 
 def jobs(files, block):

@@ -1,6 +1,7 @@
 """The runs of the program nvmu that are swept."""
 
 import os
+import random
 
 from cases import Run
 from host_files import compare, file_of, mixed, pair, read, uncorrectable, unknown, write, zeroes
@@ -123,11 +124,34 @@ def wide_commands():
     ])
 
 
-def two_of_each():
+def two_hosts():
     """Two hosts' files, of different lengths, with a pair for a turn."""
-    one = [write(0, 0x41), read(0, 2), *pair(compare(0, 0x42), write(0, 0x43)), read(0, 2), uncorrectable(8, 2), zeroes(9, 4)]
+    one = [write(0, 0x41), read(0, 2), *pair(compare(0, 0x42), write(0, 0x43)), read(0, 2), uncorrectable(8, 2)]
     other = [write(0, 0x42, 0x61), *pair(compare(1, 0x61), write(1, 0x62)), read(0, 12)]
-    return [file_of(one + [read(0, 8), read(9, 23)]), file_of(other)]
+    return [file_of([*one, zeroes(9, 4), read(0, 8), read(9, 23)]), file_of(other)]
+
+
+def hosts_of_one_or_two(count):
+    """So many hosts' files, by turns of a Write and a Read and of a Read alone."""
+    return [file_of([write(host, host), read(0, count)][host % 2 :]) for host in range(count)]
+
+
+def by_chance(seed):
+    """The seed, the files of one host to three, and the options of the namespace for them, all by chance but
+    the same each time."""
+    dice = random.Random(seed)
+    nabsn, nsze = dice.choice([0, 1, 3, 7]), dice.randint(9, 40)
+    most = nabsn or 7
+    options = {
+        "nsze": nsze,
+        "nabsn": nabsn,
+        "nabo": dice.randint(0, nabsn),
+        "nawun": dice.randint(0, most),
+        "nacwu": dice.randint(0, most),
+        "limit": dice.randint(2, 12),
+    }
+    hosts = dice.randint(1, 3)
+    return seed, [mixed(10 * seed + host, dice.randint(1, 60 // hosts), nsze) for host in range(hosts)], options
 
 
 def runs(folder):
@@ -167,12 +191,12 @@ def runs(folder):
         lines("changes over full units", [wide_commands()], **EIGHTS, limit=1),
         lines("changes over units of two", [wide_commands()], nabsn=1, nabo=1, nawun=1, nacwu=1, limit=3),
         lines("a large Read", [file_of([write(60, *range(200)), read(0, 256), read(10, 100)])], nsze=256, nabsn=63),
-        lines("two hosts", two_of_each(), nabsn=7),
-        lines("two hosts at the limit", two_of_each(), nabsn=7, limit=1),
-        lines("sixty-four hosts", [file_of([write(host, host), read(0, 64)][host % 2 :]) for host in range(64)], nsze=64),
+        lines("two hosts", two_hosts(), nabsn=7),
+        lines("two hosts at the limit", two_hosts(), nabsn=7, limit=1),
+        lines("sixty-four hosts", hosts_of_one_or_two(64), nsze=64),
         lines("sixty commands", [mixed(1, 60, 32, 4096)], block=4096, limit=15),
         lines("sixty commands over units", [mixed(2, 60, 32)], **EIGHTS, limit=8),
-        lines("three hosts' commands", [mixed(seed, 12 * seed, 24) for seed in (3, 1, 2)], nsze=24, nabsn=3, nawun=3, limit=7),
+        *(lines(f"by chance, {seed}", files, **options) for seed, files, options in map(by_chance, range(1, 6))),
         lines("no commands", [none]),
         lines("no commands of two hosts", [none, none]),
         fault("an empty file", "host 1: bad name", [empty]),
@@ -188,6 +212,7 @@ def runs(folder):
         fault("too many units", "geometry: TooManyUnits", [whole], nsze=65_536, nabsn=1, nawun=1, nacwu=1),
         refused("no words", []),
         refused("an unknown option", ["run", "--bogus", "1"]),
+        refused("an option that is almost one", ["run", "--nsz", "1"]),
         refused("an unknown word", ["walk"]),
         refused("a missing option", words([whole])[3:]),
         refused("no file", words([])),

@@ -51,7 +51,10 @@ def runs(folder):
     def refused(name, given, status=1):
         return Run(name, "nvq", given, status)
 
-    # The host files are printed as text in some runs, so all bytes of these are of it.
+    def in_large(word):
+        return [word, "--block", "4096"]
+
+    # It goes to standard output, where the sweep reads text, so all its bytes are of it.
     plain = file_of([write(0, 0x41), read(0, 1), *pair(compare(0, 0x41), write(0, 0x42)), zeroes(1, 2)])
     host, large = file_of(asked()), file_of(asked(), 4096)
     file, list_ = kept("host.nvq", host), kept("host.list", listing(host, 512).encode())
@@ -63,12 +66,12 @@ def runs(folder):
     missing = os.path.join(folder, "missing")
     return [
         done("a list is assembled", ["assemble", list_, "out.nvq"], files={"out.nvq": host}),
-        done("a list of large blocks is assembled", ["assemble", "--block", "4096", large_list, "out"], files={"out": large}),
+        done("a list of large blocks is assembled", [*in_large("assemble"), large_list, "out"], files={"out": large}),
         done("a list is assembled to standard output", ["assemble", plain_list, "-"], plain.decode()),
         done("standard input is assembled", ["assemble", "-", "out.nvq"], input=list_, files={"out.nvq": host}),
         done("an empty list is assembled", ["assemble", empty, "out.nvq"], files={"out.nvq": b"NVQ1"}),
         done("a host file is listed", ["list", file], listing(host, 512)),
-        done("a host file of large blocks is listed", ["list", "--block", "4096", large_file], listing(large, 4096)),
+        done("a host file of large blocks is listed", [*in_large("list"), large_file], listing(large, 4096)),
         done("standard input is listed", ["list", "-"], listing(host, 512), input=file),
         fault("a wrong line", "line 3: expected data of 512 bytes and not of 511", "assemble", wrong, "out"),
         fault("a missing list", f"cannot read {missing}", "assemble", missing, "out"),
