@@ -152,7 +152,6 @@ def ends(namespace, body, world):
         return
     lead, last = body[0], body[-1]
     wants_memory = ["0/00", "0/06"][-len(body) :]
-    read = ()
     pieces = list(parts(namespace, lead))
     # A Read over several units asks for the room of its data before its first part.
     if lead.opcode == READ and len(pieces) > 1:
@@ -169,12 +168,12 @@ def ends(namespace, body, world):
         # A Compare takes no memory.
         if last.opcode != COMPARE:
             yield wants_memory, world.refused()
-        read += old
         if last.opcode in CHANGES:
             zeroes, marks = (bytes(namespace.block),) * count, (MARK,) * count
             new = {WRITE: last.data[at : at + count], ZEROES: zeroes, UNCORRECTABLE: marks}[last.opcode]
             world = world.changed(unit, begin, new)
-    yield ["0/00 " + runs(read)] if lead.opcode == READ else ["0/00"] * len(body), world
+    read = " " + runs(world.blocks[lead.first : lead.first + lead.blocks]) if lead.opcode == READ else ""
+    yield ["0/00" + read, "0/00"][: len(body)], world
 
 
 @lru_cache(4096)
