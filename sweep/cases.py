@@ -1,0 +1,132 @@
+"""What is run, and what must stand at its end.
+
+A case has `whole`, which looks at a run with nothing refused, and `refused`, which looks at one with
+growths refused: it says in a word how that ended. Both raise ValueError where it is no right end.
+"""
+
+import ast
+import re
+import signal
+from dataclasses import dataclass, field
+
+from model import Model
+
+# How an assertion prints the want of memory that a call gave.
+GIVEN_FOR_MEMORY = re.compile(r'"nv(mu|q): no memory"|Err\((NoMemory|AllocError|AllocFailed \{ \.\. \})\)')
+
+
+@dataclass
+class End:
+    status: int
+    out: str
+    err: str
+    files: dict  # the bytes of each file that it left, by the file's name
+    growths: int
+
+    def said(self):
+        return self.status, self.out, self.err, self.files
+
+
+@dataclass
+class Run:
+    """A program on a command line."""
+
+    name: str
+    program: str
+    words: list
+    status: int = 0
+    out: str = None  # the whole of standard output, or None for the help of `clap`, or a text of the model
+    err: str = None  # the whole of standard error, or None for what `clap` says
+    files: dict = field(default_factory=dict)  # what it writes, by the file's name
+    model: Model = None  # of a run of host files
+    input: str = None  # the path of its standard input
+    row = 5  # this many growths, one after the other, are refused in a further run
+
+    def whole(self, end):
+        if end.status != self.status:
+            raise ValueError(f"the status isn't {self.status}")
+        if end.files != self.files:
+            raise ValueError(f"it left {list(end.files)}, or another content than that of {list(self.files)}")
+        if self.model and 0 not in self.model.wants(end.out):
+            raise ValueError("a command wants memory")
+        if self.is_said_by_clap():
+            if bool(end.out) == bool(self.status) or bool(end.err) != bool(self.status):
+                raise ValueError("what it says isn't on the one stream where it belongs")
+        elif end.err != (self.err or "") or not self.model and end.out != (self.out or ""):
+            raise ValueError(f"it isn't {self.out or self.err!r}, on the stream where it belongs")
+
+    def is_said_by_clap(self):
+        return (self.out, self.err, self.model) == (None, None, None)
+
+    def refused(self, end, whole, refusals):
+        if end.said() == (1, "", f"{self.program}: no memory\n", {}):
+            return "no memory"
+        # `clap` goes on where it is refused the memory to measure how similar two words are.
+        if self.is_said_by_clap() and end.said() == whole.said():
+            return "as before"
+        if not self.model or end.status or end.err or end.files != self.files:
+            raise ValueError("it is another end")
+        # A command that is refused a growth asks for no more, and what is outside ends the program.
+        wants = self.model.wants(end.out)
+        if refusals not in wants:
+            raise ValueError(f"{sorted(wants)} commands want memory, where {refusals} growths were refused")
+        return "with 0/06"
+
+
+@dataclass
+class Test:
+    """A test, run by its name. Want of memory may end it, a wrong value not.
+
+    The two are told apart by what it prints. An error that leaves the test by `?` prints its Debug text
+    behind 'error: ' and gives status 101; that of want of memory has the name of the error in it. An
+    assertion that compares what a call gave with what it gives in ample memory prints both and aborts:
+    what it gave must then be the error, the line of want of memory, or a text whose first difference is
+    a 0/06 of the same command. The lines after that depend on the blocks that the command left, of which
+    the runs of the program itself are held to the model. Any other assertion is a wrong value: no test
+    takes a call's want of memory for its answer."""
+
+    name: str
+    words: list
+    input = row = None
+
+    def whole(self, end):
+        if not self.is_passed(end):
+            raise ValueError("the test doesn't pass")
+
+    def is_passed(self, end):
+        return end.status == 0 and end.out.endswith("test result: ok\n") and not end.err
+
+    def refused(self, end, whole, refusals):
+        if self.is_passed(end):
+            return "passed"
+        error = re.match(r"error: .*\b(AllocError|AllocFailed|NoMemory)\b.*\n.*\n\Z", end.err)
+        if error and end.status == 101:
+            return "no memory"
+        sides = re.search(r"^ *left: (.*)\n *right: (.*)$", end.err, re.M)
+        if sides and end.status == -signal.SIGABRT:
+            if GIVEN_FOR_MEMORY.fullmatch(sides[1]):
+                return "no memory"
+            if is_first_difference_for_memory(*map(bytes_of, sides.groups())):
+                return "with 0/06"
+        raise ValueError("the test fails by something else than want of memory")
+
+
+def bytes_of(debug):
+    """The bytes that were printed as a list of numbers."""
+    try:
+        return bytes(ast.literal_eval(debug))
+    except (SyntaxError, TypeError, ValueError):
+        raise ValueError("an assertion fails that compares no bytes") from None
+
+
+def is_first_difference_for_memory(left, right):
+    left, right = left.decode().split("\n"), right.decode().split("\n")
+    place, got, wanted = next(((i, a, b) for i, (a, b) in enumerate(zip(left, right)) if a != b), (0, "", ""))
+    # A Read may want memory before it comes to a mark. A Compare never does, nor does that of a pair.
+    may_be = {"write": ["0/00"], "zeroes": ["0/00"], "uncorrectable": ["0/00"], "read": ["0/00", "2/81"]}
+    told = wanted.split()
+    is_answer = got == " ".join([*told[:3], "0/06"]) and told[3] in may_be.get(told[2], [])
+    # A command that is 0/06 in both, for a full unit, may have been stopped in an earlier one by want of
+    # memory, and then it left other blocks.
+    was_stopped = any(line.endswith(" 0/06") for line in left[:place])
+    return (is_answer or was_stopped) and [it.split()[:3] for it in left] == [it.split()[:3] for it in right]

@@ -1,0 +1,91 @@
+"""The runs of the program nvq that are swept: a host file as a list of commands, and back."""
+
+import os
+import re
+
+from cases import Run
+from host_files import compare, file_of, pair, read, uncorrectable, unknown, write, zeroes
+from model import COMPARE, WRITE, commands
+
+FUSES = ["", " first", " second", " reserved"]
+
+
+def listing(file, block):
+    """The list of a host file's commands, as it is printed."""
+
+    def line(place, it):
+        runs = re.finditer(rb"(?s)(.)\1*", b"".join(it.data))
+        data = " " + ",".join(f"{len(run[0])}*{run[1].hex()}" for run in runs) if it.opcode in (WRITE, COMPARE) else ""
+        cid = "" if it.cid == place % 65_536 else f" cid={it.cid}"
+        nsid = "" if it.nsid == 1 else f" nsid={it.nsid}"
+        return f"{it.name()} {it.first} {it.blocks}{data}{FUSES[it.fuse]}{cid}{nsid}\n"
+
+    return "".join(line(place, it) for place, it in enumerate(commands(file, block), 1))
+
+
+def asked():
+    return [
+        write(0, 0x41, 0x42),
+        read(2**64 - 1, 65_536),
+        *pair(compare(4, 0), write(4, 0xFF, end=b"\x00\x01")),
+        unknown(0, 1, fuse=3, cid=258, nsid=0),
+        zeroes(7, 18, nsid=2**32 - 1),
+        uncorrectable(9, 4, cid=0),
+        write(0, *range(40)),
+    ]
+
+
+def runs(folder):
+    def kept(name, content):
+        path = os.path.join(folder, name)
+        with open(path, "wb") as it:
+            it.write(content)
+        return path
+
+    def done(name, given, out="", **more):
+        return Run(name, "nvq", given, out=out, **more)
+
+    def fault(name, line, *given):
+        return Run(name, "nvq", list(given), 1, err=f"nvq: {line}\n")
+
+    def refused(name, given, status=1):
+        return Run(name, "nvq", given, status)
+
+    def in_large(word):
+        return [word, "--block", "4096"]
+
+    # It goes to standard output, where the sweep reads text, so all its bytes are of it.
+    plain = file_of([write(0, 0x41), read(0, 1), *pair(compare(0, 0x41), write(0, 0x42)), zeroes(1, 2)])
+    host, large = file_of(asked()), file_of(asked(), 4096)
+    file, list_ = kept("host.nvq", host), kept("host.list", listing(host, 512).encode())
+    large_file, large_list = kept("large.nvq", large), kept("large.list", listing(large, 4096).encode())
+    plain_list = kept("plain.list", b"# a comment\r\n\n" + listing(plain, 512).encode())
+    wrong = kept("wrong.list", b"read 0 1\n\nwrite 0 1 511*41\n")
+    cut, empty = kept("cut.nvq", host[:700]), kept("empty.nvq", b"")
+    many = kept("many.nvq", b"NVQ1" + file_of([unknown(0, 1)])[4:] * 65_536 + b"0")
+    missing = os.path.join(folder, "missing")
+    return [
+        done("a list is assembled", ["assemble", list_, "out.nvq"], files={"out.nvq": host}),
+        done("a list of large blocks is assembled", [*in_large("assemble"), large_list, "out"], files={"out": large}),
+        done("a list is assembled to standard output", ["assemble", plain_list, "-"], plain.decode()),
+        done("standard input is assembled", ["assemble", "-", "out.nvq"], input=list_, files={"out.nvq": host}),
+        done("an empty list is assembled", ["assemble", empty, "out.nvq"], files={"out.nvq": b"NVQ1"}),
+        done("a host file is listed", ["list", file], listing(host, 512)),
+        done("a host file of large blocks is listed", [*in_large("list"), large_file], listing(large, 4096)),
+        done("standard input is listed", ["list", "-"], listing(host, 512), input=file),
+        fault("a wrong line", "line 3: expected data of 512 bytes and not of 511", "assemble", wrong, "out"),
+        fault("a missing list", f"cannot read {missing}", "assemble", missing, "out"),
+        fault("a folder for the host file", f"cannot write {folder}", "assemble", list_, folder),
+        fault("an empty file", f"{empty}: bad name", "list", empty),
+        fault("a truncated file", f"{cut}: truncated at 68", "list", cut),
+        fault("too many commands", f"{many}: too many commands", "list", many),
+        fault("a missing file", f"cannot read {missing}", "list", missing),
+        refused("no words", []),
+        refused("an unknown option", ["list", "--bogus", "1"]),
+        refused("an unknown word", ["walk"]),
+        refused("a missing file name", ["assemble", list_]),
+        refused("no size", ["list", "--block", "1024", file]),
+        refused("a word that isn't UTF-8", [b"\xff"]),
+        refused("help", ["--help"], 0),
+        refused("help on assemble", ["assemble", "--help"], 0),
+    ]
