@@ -1,0 +1,113 @@
+-- Where passes stand in the groups, when a group steps, takes in another or is cut in two.
+use Rattle.std.proofs.Common.{◌≡◌, ◌≢◌, ◌⊎◌, ℕ, zero, suc, ◌+◌, ◌-◌, ◌<◌, ◌≤◌, List, [], ◌∷◌, ◌++◌, length, map, take, drop, set, subst, refl, sym, ap, ◌∙◌, arith, inl, inr, Some, None}
+use mathlib.Core.Option.{some, some-injective, some-ne-none}
+use mathlib.Core.Logic.{dite}
+use native.Mathlib.Decide.{ℕ_discrete}
+use lib.ListN.{get_elem?}
+use Rattle.atomic_table.proofs.Lists.{at_set, set_here, set_else, at_map, at_longer, at_last, at_snoc}
+use Rattle.nvm_unit.specs.declared.views.PassView.{PassView}
+use Rattle.nvm_unit.specs.declared.views.Group.{Group}
+use Rattle.nvm_unit.specs.Machine.{IsAt, StandsAt, EachPass, IsNumbered}
+use Rattle.nvm_unit.specs.Events.{idle}
+use Rattle.nvm_unit.specs.Knowledge.{ArePlaced}
+use Rattle.nvm_unit.proofs.Lists.{at_one, at_below, at_map_back}
+
+-- The pass at a place is one.
+pub stands_one : (groups : List Group) (j i : ℕ) (g : Group) (p : PassView) → IsAt groups j g → StandsAt groups j i p → IsAt g.passes i p
+stands_one groups j i g p at s = subst (λ (x : Group). IsAt x.passes i p) (at_one groups j s.group g s.at at) s.inside
+
+-- Where a pass stands after the group j became g', whose passes are f of what they were.
+pub moved_back : (groups : List Group) (j : ℕ) (g g' : Group) (f : PassView → PassView) → IsAt groups j g → g'.passes ≡ map f g.passes
+    → (k i : ℕ) (q : PassView) → StandsAt (set groups j g') k i q
+    → ((k ≡ j) × (p : PassView) × StandsAt groups j i p × (q ≡ f p)) ⊎ ((k ≢ j) × StandsAt groups k i q)
+moved_back groups j g g' f at is k i q s =
+    elim (at_set groups j k g' s.group s.at) [
+      | inl here ↦
+          let within : IsAt (map f g.passes) i q =
+          subst (λ (ps : List PassView). IsAt ps i q) (ap (λ (x : Group). x.passes) (sym here.1) ∙ is) s.inside in
+          let old = at_map_back f g.passes i q within in
+          inl (here.0, old.0, record { group = g; at = at; inside = old.1 }, old.2)
+      | inr else_ ↦ inr (else_.0, record { group = s.group; at = else_.1; inside = s.inside })
+    ]
+
+-- The same of a pass that stood there before.
+pub moved_forth : (groups : List Group) (j : ℕ) (g g' : Group) (f : PassView → PassView) → IsAt groups j g → g'.passes ≡ map f g.passes
+    → ((p : PassView) → (f p).number ≡ p.number)
+    → (k i : ℕ) (p : PassView) → StandsAt groups k i p → (q : PassView) × StandsAt (set groups j g') k i q × (q.number ≡ p.number)
+moved_forth groups j g g' f at is same k i p s =
+    dite (ℕ_discrete k j)
+    (λ here.
+    let inside : IsAt g.passes i p = stands_one groups j i g p at (subst (λ (n : ℕ). StandsAt groups n i p) here s) in
+    let new : IsAt (set groups j g') k g' = subst (λ (n : ℕ). IsAt (set groups j g') n g') (sym here) (set_here groups j g' (at_below groups j g at)) in
+    (f p, record { group = g'; at = new; inside = subst (λ (ps : List PassView). IsAt ps i (f p)) (sym is) (at_map f g.passes i p inside) }, same p))
+    (λ away. (p, record { group = s.group; at = set_else groups j k g' away ∙ s.at; inside = s.inside }, refl))
+
+-- What is kept of each pass.
+pub each_moved : (P Q : PassView → Type 0) (groups : List Group) (j : ℕ) (g g' : Group) (f : PassView → PassView) → IsAt groups j g → g'.passes ≡ map f g.passes
+    → EachPass P groups
+    → ((i : ℕ) (p : PassView) → StandsAt groups j i p → P p → Q (f p))
+    → ((k i : ℕ) (p : PassView) → k ≢ j → StandsAt groups k i p → P p → Q p)
+    → EachPass Q (set groups j g')
+each_moved P Q groups j g g' f at is each mover other k i q s =
+    elim (moved_back groups j g g' f at is k i q s) [
+      | inl here ↦ subst Q (sym here.3) (mover i here.1 here.2 (each j i here.1 here.2))
+      | inr else_ ↦ other k i q else_.0 else_.1 (each k i q else_.1)
+    ]
+
+pub placed_moved : (n : ℕ) (place : ℕ → ℕ × ℕ) (groups : List Group) (j : ℕ) (g g' : Group) (f : PassView → PassView) → IsAt groups j g → g'.passes ≡ map f g.passes
+    → ((p : PassView) → (f p).number ≡ p.number) → ArePlaced n place groups → ArePlaced n place (set groups j g')
+placed_moved n place groups j g g' f at is same placed =
+    record {
+      below = each_moved (λ p. p.number < n) (λ p. p.number < n) groups j g g' f at is placed.below
+          (λ i p s lt. let e = same p in omega arith) (λ k i p away s lt. lt);
+      here = λ k i q s.
+          elim (moved_back groups j g g' f at is k i q s) [
+            | inl here ↦
+                let number : q.number ≡ here.1.number = ap (λ (x : PassView). x.number) here.3 ∙ same here.1 in
+                let at_place : place here.1.number ≡ (j, i) = placed.here j i here.1 here.2 in
+                let target : (λ (x : ℕ). let y : ℕ × ℕ = (x, i) in y) j ≡ (λ (x : ℕ). let y : ℕ × ℕ = (x, i) in y) k = ap (λ (x : ℕ). let y : ℕ × ℕ = (x, i) in y) (sym here.0) in
+                ap place number ∙ (at_place ∙ target)
+            | inr else_ ↦ placed.here k i q else_.1
+          ];
+      all = λ number lt.
+          let old = placed.all number lt in
+          let new = moved_forth groups j g g' f at is same (place number).0 (place number).1 old.0 old.1 in
+          (new.0, new.1, new.2 ∙ old.2);
+    }
+
+-- A number is that of some pass exactly where it is below their count.
+pub numbered : (n : ℕ) (place : ℕ → ℕ × ℕ) (groups : List Group) → ArePlaced n place groups → (number : ℕ) → number < n → IsNumbered groups number
+numbered n place groups placed number lt =
+    let s = placed.all number lt in ((place number).0, (place number).1, s.0, s.1, s.2)
+
+pub numbered_below : (n : ℕ) (place : ℕ → ℕ × ℕ) (groups : List Group) → ArePlaced n place groups → (number : ℕ) → IsNumbered groups number → number < n
+numbered_below n place groups placed number s =
+    let lt = placed.below s.0 s.1 s.2 s.3 in let e = s.4 in omega arith
+
+-- Passes of two groups have two numbers.
+pub number_apart : (n : ℕ) (place : ℕ → ℕ × ℕ) (groups : List Group) → ArePlaced n place groups
+    → (j i k m : ℕ) (p q : PassView) → StandsAt groups j i p → StandsAt groups k m q → k ≢ j → q.number ≢ p.number
+number_apart n place groups placed j i k m p q at_p at_q away same =
+    away (ap (λ (x : ℕ × ℕ). x.0) (sym (placed.here k m q at_q) ∙ (ap place same ∙ placed.here j i p at_p)))
+
+-- Each pass stands somewhere before and after, and `moves` says where.
+pub record AreRearranged (moves : ℕ × ℕ → ℕ × ℕ) (groups groups' : List Group) : Type 0 where
+  pub back : (m i : ℕ) (q : PassView) → StandsAt groups' m i q → (k : ℕ) × (l : ℕ) × StandsAt groups k l q × (moves (k, l) ≡ (m, i))
+  pub forth : (k l : ℕ) (p : PassView) → StandsAt groups k l p → StandsAt groups' (moves (k, l)).0 (moves (k, l)).1 p
+
+pub each_rearranged : (P : PassView → Type 0) (moves : ℕ × ℕ → ℕ × ℕ) (groups groups' : List Group)
+    → AreRearranged moves groups groups' → EachPass P groups → EachPass P groups'
+each_rearranged P moves groups groups' re each m i q s = let old = re.back m i q s in each old.0 old.1 q old.2
+
+pub placed_rearranged : (n : ℕ) (place : ℕ → ℕ × ℕ) (moves : ℕ × ℕ → ℕ × ℕ) (groups groups' : List Group)
+    → AreRearranged moves groups groups' → ArePlaced n place groups → ArePlaced n (λ number. moves (place number)) groups'
+placed_rearranged n place moves groups groups' re placed =
+    record {
+      below = each_rearranged (λ p. p.number < n) moves groups groups' re placed.below;
+      here = λ m i q s.
+          let old = re.back m i q s in
+          ap moves (placed.here old.0 old.1 q old.2) ∙ old.3;
+      all = λ number lt.
+          let old = placed.all number lt in
+          (old.0, re.forth (place number).0 (place number).1 old.0 old.1, old.2);
+    }

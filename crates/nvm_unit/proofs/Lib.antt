@@ -1,0 +1,4 @@
+pub mod Lists
+pub mod Groups
+pub mod Histories
+

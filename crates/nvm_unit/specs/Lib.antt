@@ -1,0 +1,4 @@
+pub mod Views
+pub mod Machine
+pub mod Events
+pub mod Knowledge
