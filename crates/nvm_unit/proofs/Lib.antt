@@ -1,4 +1,5 @@
 pub mod Lists
 pub mod Groups
 pub mod Histories
-
+pub mod Keeping
+pub mod EventsKept
