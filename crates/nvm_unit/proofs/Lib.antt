@@ -3,3 +3,4 @@ pub mod Groups
 pub mod Histories
 pub mod Keeping
 pub mod EventsKept
+pub mod Allowed

@@ -1,8 +1,11 @@
 //! One shared unit: blocks that many threads read and change, each change one atomic step.
 #![tactic(auto)]
 
+mod book;
 mod bounds;
 pub mod laws;
+mod rule;
+mod steps;
 mod views;
 
 pub use bounds::Bounds;
