@@ -2,7 +2,7 @@
 use Rattle.std.specs.Prelude.{◌≡◌, ◌≢◌, ℕ, ◌+◌, ◌*◌, ◌/◌, ◌<◌, ◌≤◌, List, [], ◌∷◌, ◌++◌, map, take, drop, length, Bool, true, false, Option, Some, None}
 use Rattle.atomic_table.specs.Table.{Me, Step}
 use Rattle.nvm_store.specs.Line.{Line}
-use Rattle.nvm_store.specs.History.{IsLawfulHistory}
+use Rattle.nvm_store.specs.History.{CanFollow, IsLawfulHistory}
 use Rattle.nvm_unit.specs.declared.bounds.Bounds.{Bounds}
 use Rattle.nvm_unit.specs.declared.views.PassView.{PassView}
 use Rattle.nvm_unit.specs.declared.views.Group.{Group}
@@ -98,7 +98,7 @@ pub record CanAppend (entries : ℕ) (m : Sits) (p : PassView) (history : List L
   pub at : m ≡ holding (p ∷ []) history (Some (recorded p.bounds (history ++ line ∷ [])))
   pub count : entries ≡ length history + 1
   pub number : line.pass ≡ p.number
-  pub lawful : IsLawfulHistory p.bounds.place.first p.bounds.place.blocks p.bounds.place.size (history ++ line ∷ [])
+  pub follows : CanFollow p.bounds.place.first p.bounds.place.blocks p.bounds.place.size history line
   pub room : length history < p.bounds.limit
 
 -- how passes that meet are told apart again: the first stays

@@ -13,6 +13,7 @@ use crate::bounds::Bounds;
 use crate::rule::{Decides, FirstStays, Looks, Never, Puts, Together, Tries, UnitRule};
 use crate::views::Group;
 use atomic_table::{Seat, Table};
+use nvm_store::laws::lawful_with_one_more;
 use std::alloc::Global;
 
 /// The table of one unit: its word, and the slot that has its book while nobody holds the unit.
@@ -64,6 +65,7 @@ pub fn put<D: Decides>(desk: &Desk, token: &mut Token, entries: u64)
     ensures returned { ReturnsAs D.decides entries token.old.seat.me token.new.seat.me }
     ensures added { AddsAs entries token.old.seat.me token.new.seat.me }
 {
+    lawful_with_one_more();
     desk.table.shared.store::<Puts<D>>(&mut token.seat, 0, 2 * entries);
 }
 
