@@ -1,3 +1,6 @@
+ghost use Rattle.std.specs.Prelude.{◌↔◌, IsTrue};
+ghost use Rattle.nvm_record.specs.Status.{IsSuccess};
+
 /// A completion's status (Base Specification, "Status Field"): `sct` is the status code type and
 /// `sc` the status code. It is written `type/code`, the code as two hexadecimal digits.
 #[derive(Clone, Copy, Debug, PartialEq, Eq, Hash)]
@@ -39,4 +42,18 @@ pub enum Statuses {
     One(Status),
     /// The first command's, then the second's.
     Two(Status, Status),
+}
+
+impl Statuses {
+    /// Whether each command ended with 0/00.
+    pub fn is_success(self) -> bool
+        ensures { IsTrue result ↔ IsSuccess self }
+    {
+        match self {
+            Statuses::One(status) => status == Status::SUCCESSFUL_COMPLETION,
+            Statuses::Two(first, second) => {
+                first == Status::SUCCESSFUL_COMPLETION && second == Status::SUCCESSFUL_COMPLETION
+            }
+        }
+    }
 }

@@ -1,6 +1,7 @@
 //! Bytes that were written by hand, field by field, and what is read of them.
 mod entries;
 mod host_files;
+mod statuses;
 
 use crate::{BlockSize, Command, Fuse, Op};
 use std::alloc::{AllocError, Global};

@@ -6,10 +6,10 @@ use Rattle.nvm_record.specs.declared.block.Block.{Block}
 use Rattle.nvm_record.specs.declared.block.Block.TheVariants.{Bytes, Uncorrectable}
 use Rattle.nvm_record.specs.Medium.{Medium, range}
 use Rattle.nvm_record.specs.Status.{IsSuccess}
-use Rattle.nvm_record.specs.Step.{Operation, statuses_of, medium_after}
+use Rattle.nvm_record.specs.Step.{Operation, range_of, block_after, statuses_of, medium_after}
 use Rattle.nvm_store.specs.Contents.{Contents, Holds, IsWithin, Covers, Succeeds}
-use Rattle.nvm_store.specs.Operation.{write_operation}
-use Rattle.nvm_store.specs.Stored.{Stored, block_of, blocks_of, zero_block, KeepsAllBut, written}
+use Rattle.nvm_store.specs.Operation.{write_operation, zeroes_operation, uncorrectable_operation}
+use Rattle.nvm_store.specs.Stored.{Stored, AreSized, block_of, blocks_of, zero_block, KeepsAllBut, written, marked}
 
 -- These blocks are the medium's, from this LBA.
 abbrev pub AreAt : List Block → ℕ → Medium → Type 0
@@ -64,16 +64,51 @@ zero_blocks n size e i lt =
     get_or-blocks_of zeroes (zero_block size) e i (omega arith) in
     a ∙ ap block_of (get_or-replicate n i (zero_block size) (zero_block size) lt')
 
--- An LBA of the range takes the block at its place of the data.
-medium_after-inside : (m : Medium) (size first count lba : ℕ) (payload : List ℕ) → first ≤ lba → lba < first + count
-    → medium_after size (write_operation first count payload) m lba
-    ≡ block_of (written size payload (lba - first))
-medium_after-inside m size first count lba payload above below = grind (arith, nat_tests)
+-- An LBA of the operation's range takes the block that the deed leaves there.
+medium_after-inside : (m : Medium) (size : ℕ) (op : Operation) (lba : ℕ) → op.first ≤ lba → lba < op.first + op.blocks
+    → medium_after size op m lba ≡ block_after size (range_of op m) op.deed (lba - op.first) (m lba)
+medium_after-inside m size op lba above below = grind (arith, nat_tests)
 
 -- An LBA outside the range keeps its block.
-medium_after-outside : (m : Medium) (size first count lba : ℕ) (payload : List ℕ) → (lba < first) ⊎ (first + count ≤ lba)
-    → medium_after size (write_operation first count payload) m lba ≡ m lba
-medium_after-outside m size first count lba payload out = grind (arith, nat_tests)
+pub medium_after-outside : (m : Medium) (size : ℕ) (op : Operation) (lba : ℕ) → (lba < op.first) ⊎ (op.first + op.blocks ≤ lba)
+    → medium_after size op m lba ≡ m lba
+medium_after-outside m size op lba out = grind (arith, nat_tests)
+
+-- Stored blocks of which the operation's range was changed are those of the medium after it.
+held-changed : (m : Medium) (old new : List Stored) (d : Stored) (start size at : ℕ) (op : Operation)
+    → AreAt (blocks_of old) start m → start + at ≡ op.first → length new ≡ length old
+    → ((i : ℕ) → i < op.blocks → block_of (get_or new (at + i) d) ≡ block_after size (range_of op m) op.deed i (m (op.first + i)))
+    → KeepsAllBut at op.blocks old new
+    → AreAt (blocks_of new) start (medium_after size op m)
+held-changed m old new d start size at op held place len put others e i lt =
+    let lt' : i < length new = omega (arith, length-map new block_of) in
+    let a : get_or (blocks_of new) i e ≡ block_of (get_or new i d) = get_or-blocks_of new d e i lt' in
+    let outside : (i < at) ⊎ (at + op.blocks ≤ i) → get_or (blocks_of new) i e ≡ medium_after size op m (start + i) =
+    λ out.
+    let b : get_or new i d ≡ get_or old i d = others d i out in
+    let f : get_or (blocks_of old) i e ≡ block_of (get_or old i d) = get_or-blocks_of old d e i (omega arith) in
+    let h : get_or (blocks_of old) i e ≡ m (start + i) = held e i (omega (arith, length-map old block_of)) in
+    let out' : (start + i < op.first) ⊎ (op.first + op.blocks ≤ start + i) = grind arith in
+    let g = medium_after-outside m size op (start + i) out' in
+    cc
+    in
+    elim (leb_tells at i) [
+      | inl above ↦
+          elim (leb_tells (at + op.blocks) i) [
+            | inl past ↦ outside (inr past.1)
+            | inr before ↦
+                let k : at + (i - at) ≡ i = omega arith in
+                let l : op.first + (i - at) ≡ start + i = omega arith in
+                let b : block_of (get_or new (at + (i - at)) d) ≡ block_after size (range_of op m) op.deed (i - at) (m (op.first + (i - at))) =
+                put (i - at) (omega arith) in
+                let b' : block_of (get_or new i d) ≡ block_after size (range_of op m) op.deed (i - at) (m (start + i)) = rw (k, l) at b in
+                let g = medium_after-inside m size op (start + i) (omega arith) (omega arith) in
+                let same : start + i - op.first ≡ i - at = omega arith in
+                let same' = ap (λ (n : ℕ). block_after size (range_of op m) op.deed n (m (start + i))) same in
+                a ∙ b' ∙ sym (g ∙ same')
+          ]
+      | inr below ↦ outside (inl below.1)
+    ]
 
 -- Stored blocks of which a range was written are those of the medium after the Write.
 pub held-written : (m : Medium) (old new : List Stored) (d : Stored) (start size first count at : ℕ) (payload : List ℕ)
@@ -81,31 +116,29 @@ pub held-written : (m : Medium) (old new : List Stored) (d : Stored) (start size
     → ((i : ℕ) → i < count → get_or new (at + i) d ≡ written size payload i)
     → KeepsAllBut at count old new
     → AreAt (blocks_of new) start (medium_after size (write_operation first count payload) m)
-held-written m old new d start size first count at payload held place len put others e i lt =
-    let lt' : i < length new = omega (arith, length-map new block_of) in
-    let a : get_or (blocks_of new) i e ≡ block_of (get_or new i d) = get_or-blocks_of new d e i lt' in
-    let outside : (i < at) ⊎ (at + count ≤ i) → get_or (blocks_of new) i e ≡ medium_after size (write_operation first count payload) m (start + i) =
-    λ out.
-    let b : get_or new i d ≡ get_or old i d = others d i out in
-    let f : get_or (blocks_of old) i e ≡ block_of (get_or old i d) = get_or-blocks_of old d e i (omega arith) in
-    let h : get_or (blocks_of old) i e ≡ m (start + i) = held e i (omega (arith, length-map old block_of)) in
-    let out' : (start + i < first) ⊎ (first + count ≤ start + i) = grind arith in
-    let g = medium_after-outside m size first count (start + i) payload out' in
-    cc
-    in
-    elim (leb_tells at i) [
-      | inl above ↦
-          elim (leb_tells (at + count) i) [
-            | inl past ↦ outside (inr past.1)
-            | inr before ↦
-                let k : at + (i - at) ≡ i = omega arith in
-                let b : get_or new (at + (i - at)) d ≡ written size payload (i - at) = put (i - at) (omega arith) in
-                let g = medium_after-inside m size first count (start + i) payload (omega arith) (omega arith) in
-                let same : start + i - first ≡ i - at = omega arith in
-                cc
-          ]
-      | inr below ↦ outside (inl below.1)
-    ]
+held-written m old new d start size first count at payload held place len put others =
+    held-changed m old new d start size at (write_operation first count payload) held place len
+    (λ i lt. ap block_of (put i lt)) others
+
+-- Stored blocks of which a range was zeroed are those of the medium after the Write Zeroes.
+pub held-zeroed : (m : Medium) (old new : List Stored) (d : Stored) (start size first count at : ℕ)
+    → AreAt (blocks_of old) start m → start + at ≡ first → at + count ≤ length old → AreSized size old → length new ≡ length old
+    → ((i : ℕ) → i < count → get_or new (at + i) d ≡ zero_block (length (get_or old (at + i) d).bytes))
+    → KeepsAllBut at count old new
+    → AreAt (blocks_of new) start (medium_after size (zeroes_operation first count) m)
+held-zeroed m old new d start size first count at held place fits sized len put others =
+    held-changed m old new d start size at (zeroes_operation first count) held place len
+    (λ i lt. ap block_of (put i lt) ∙ ap (λ (n : ℕ). Bytes (replicate n 0)) (sized d (at + i) (omega arith))) others
+
+-- Stored blocks of which a range was marked are those of the medium after the Write Uncorrectable.
+pub held-marked : (m : Medium) (old new : List Stored) (d : Stored) (start size first count at : ℕ)
+    → AreAt (blocks_of old) start m → start + at ≡ first → length new ≡ length old
+    → ((i : ℕ) → i < count → get_or new (at + i) d ≡ marked (get_or old (at + i) d))
+    → KeepsAllBut at count old new
+    → AreAt (blocks_of new) start (medium_after size (uncorrectable_operation first count) m)
+held-marked m old new d start size first count at held place len put others =
+    held-changed m old new d start size at (uncorrectable_operation first count) held place len
+    (λ i lt. ap block_of (put i lt)) others
 
 -- Media that agree on the LBAs of a range have the same range.
 pub range-same : (m n : Medium) (first count : ℕ) → ((i : ℕ) → i < count → m (first + i) ≡ n (first + i))

@@ -1,8 +1,11 @@
 -- Which operation an act stands for.
 use Rattle.nvm_record.specs.Step.{Operation}
-use Rattle.nvm_store.specs.Operation.{write_operation}
+use Rattle.nvm_store.specs.Operation.{write_operation, zeroes_operation, uncorrectable_operation, pair_operation}
 use Rattle.nvm_store.specs.declared.act.Act.{Act}
-use Rattle.nvm_store.specs.declared.act.Act.TheVariants.{Write}
+use Rattle.nvm_store.specs.declared.act.Act.TheVariants.{Write, Zeroes, Uncorrectable, Pair}
 
 abbrev pub operation_of : Act → Operation
 operation_of (Write first blocks payload) = write_operation first blocks payload
+operation_of (Zeroes first blocks) = zeroes_operation first blocks
+operation_of (Uncorrectable first blocks) = uncorrectable_operation first blocks
+operation_of (Pair first blocks compare write) = pair_operation first blocks compare write

@@ -1,8 +1,11 @@
 -- Which operation an act with borrowed data stands for.
 use Rattle.nvm_record.specs.Step.{Operation}
-use Rattle.nvm_store.specs.Operation.{write_operation}
+use Rattle.nvm_store.specs.Operation.{write_operation, zeroes_operation, uncorrectable_operation, pair_operation}
 use Rattle.nvm_store.specs.declared.act_ref.ActRef.{ActRef}
-use Rattle.nvm_store.specs.declared.act_ref.ActRef.TheVariants.{Write}
+use Rattle.nvm_store.specs.declared.act_ref.ActRef.TheVariants.{Write, Zeroes, Uncorrectable, Pair}
 
 abbrev pub lent_operation_of : ActRef → Operation
 lent_operation_of (Write first blocks payload) = write_operation first blocks payload.now
+lent_operation_of (Zeroes first blocks) = zeroes_operation first blocks
+lent_operation_of (Uncorrectable first blocks) = uncorrectable_operation first blocks
+lent_operation_of (Pair first blocks compare write) = pair_operation first blocks compare.now write.now

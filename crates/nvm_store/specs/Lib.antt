@@ -1,6 +1,7 @@
 pub mod Contents
 pub mod Stored
 pub mod Operation
+pub mod Pair
 pub mod Act
 pub mod ActRef
 pub mod Look

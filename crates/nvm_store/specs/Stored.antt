@@ -1,5 +1,5 @@
 -- One stored block: its bytes, and whether it is marked. A marked block keeps room for its bytes.
-use Rattle.std.specs.Prelude.{◌≡◌, ◌⊎◌, ℕ, ◌+◌, ◌*◌, ◌<◌, ◌≤◌, List, length, map, replicate, take, drop, Bool, false, if◌then◌else◌, slice_index_or}
+use Rattle.std.specs.Prelude.{◌≡◌, ◌⊎◌, ℕ, ◌+◌, ◌*◌, ◌<◌, ◌≤◌, List, length, map, replicate, take, drop, Bool, true, false, if◌then◌else◌, slice_index_or}
 use Rattle.nvm_record.specs.declared.block.Block.{Block}
 use Rattle.nvm_record.specs.declared.block.Block.TheVariants.{Bytes, Uncorrectable}
 
@@ -30,6 +30,10 @@ pub record AreSound (first size : ℕ) (blocks : List Stored) : Type 0 where
 abbrev pub zero_block : ℕ → Stored
 zero_block size = record { bytes = replicate size 0; is_marked = false }
 
+-- the block, marked: it keeps its bytes
+abbrev pub marked : Stored → Stored
+marked b = record { bytes = b.bytes; is_marked = true }
+
 -- the block that takes the bytes at place i of data
 abbrev pub written : ℕ → List ℕ → ℕ → Stored
 written size payload i = record { bytes = take size (drop (i * size) payload); is_marked = false }
@@ -39,3 +43,8 @@ abbrev pub KeepsAllBut : ℕ → ℕ → List Stored → List Stored → Type 0
 KeepsAllBut at count old new =
     (d : Stored) (i : ℕ) → (i < at) ⊎ (at + count ≤ i)
     → slice_index_or new i d ≡ slice_index_or old i d
+
+-- Each block has room for as many bytes as before.
+abbrev pub KeepsRoom : List Stored → List Stored → Type 0
+KeepsRoom old new =
+    (d : Stored) (k : ℕ) → length (slice_index_or new k d).bytes ≡ length (slice_index_or old k d).bytes

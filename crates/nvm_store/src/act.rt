@@ -17,6 +17,26 @@ pub enum Act {
         blocks: u32,
         payload: Payload,
     },
+    /// The blocks become zero bytes, and lose their marks (NVM Command Set Specification, "Write Zeroes
+    /// command").
+    Zeroes {
+        first: u64,
+        blocks: u32,
+    },
+    /// The blocks are marked: until they are written or zeroed, no Read or comparison of them succeeds
+    /// (NVM Command Set Specification, "Write Uncorrectable command").
+    Uncorrectable {
+        first: u64,
+        blocks: u32,
+    },
+    /// A fused Compare and Write: the blocks are compared with `compare`, and take the data of `write` and
+    /// lose their marks where the comparison holds (Base Specification, "Fused Operation").
+    Pair {
+        first: u64,
+        blocks: u32,
+        compare: Payload,
+        write: Payload,
+    },
 }
 
 impl Act {
@@ -33,6 +53,25 @@ impl Act {
                 first: *first,
                 blocks: *blocks,
                 payload: payload.as_slice(),
+            },
+            Act::Zeroes { first, blocks } => ActRef::Zeroes {
+                first: *first,
+                blocks: *blocks,
+            },
+            Act::Uncorrectable { first, blocks } => ActRef::Uncorrectable {
+                first: *first,
+                blocks: *blocks,
+            },
+            Act::Pair {
+                first,
+                blocks,
+                compare,
+                write,
+            } => ActRef::Pair {
+                first: *first,
+                blocks: *blocks,
+                compare: compare.as_slice(),
+                write: write.as_slice(),
             },
         }
     }

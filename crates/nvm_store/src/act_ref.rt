@@ -15,6 +15,23 @@ pub enum ActRef<'a> {
         blocks: u32,
         payload: &'a [u8],
     },
+    /// See [`Act::Zeroes`].
+    Zeroes {
+        first: u64,
+        blocks: u32,
+    },
+    /// See [`Act::Uncorrectable`].
+    Uncorrectable {
+        first: u64,
+        blocks: u32,
+    },
+    /// See [`Act::Pair`].
+    Pair {
+        first: u64,
+        blocks: u32,
+        compare: &'a [u8],
+        write: &'a [u8],
+    },
 }
 
 impl<'a> ActRef<'a> {
@@ -33,6 +50,23 @@ impl<'a> ActRef<'a> {
                     first,
                     blocks,
                     payload,
+                })
+            }
+            ActRef::Zeroes { first, blocks } => Ok(Act::Zeroes { first, blocks }),
+            ActRef::Uncorrectable { first, blocks } => Ok(Act::Uncorrectable { first, blocks }),
+            ActRef::Pair {
+                first,
+                blocks,
+                compare,
+                write,
+            } => {
+                let compare = Payload::copy_of(alloc, compare)?;
+                let write = Payload::copy_of(alloc, write)?;
+                Ok(Act::Pair {
+                    first,
+                    blocks,
+                    compare,
+                    write,
                 })
             }
         }

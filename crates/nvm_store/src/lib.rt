@@ -10,6 +10,7 @@
 mod act;
 mod act_ref;
 mod answers;
+mod comparison;
 mod entry;
 mod history;
 pub mod laws;

@@ -19,8 +19,8 @@ pub struct Place {
 }
 
 impl Place {
-    /// Whether the act's range has a block and lies here, and its data has just the blocks of the
-    /// range. No LBA makes it wrap.
+    /// Whether the act's range has a block and lies here, and its data, if it has any, has just the
+    /// blocks of the range. No LBA makes it wrap.
     pub fn covers(&self, act: ActRef<'_>) -> bool
         ensures { IsTrue result
             ↔ IsCovered self.now.first self.now.blocks self.now.size (lent_operation_of act.entry) }
@@ -31,16 +31,35 @@ impl Place {
                 blocks,
                 payload,
             } => self.has_range(first, blocks) && self.is_data_of(blocks, payload),
+            ActRef::Zeroes { first, blocks } | ActRef::Uncorrectable { first, blocks } => {
+                self.has_range(first, blocks)
+            }
+            ActRef::Pair {
+                first,
+                blocks,
+                compare,
+                write,
+            } => {
+                self.has_range(first, blocks)
+                    && self.is_data_of(blocks, compare)
+                    && self.is_data_of(blocks, write)
+            }
         }
     }
 
-    /// Whether the look's range has a block and lies here. No LBA makes it wrap.
-    pub fn covers_look(&self, look: Look) -> bool
+    /// Whether the look's range has a block and lies here, and its data, if it has any, has just the
+    /// blocks of the range. No LBA makes it wrap.
+    pub fn covers_look(&self, look: Look<'_>) -> bool
         ensures { IsTrue result
-            ↔ IsCovered self.now.first self.now.blocks self.now.size (look_operation_of look) }
+            ↔ IsCovered self.now.first self.now.blocks self.now.size (look_operation_of look.entry) }
     {
         match look {
             Look::Read { first, blocks } => self.has_range(first, blocks),
+            Look::Compare {
+                first,
+                blocks,
+                payload,
+            } => self.has_range(first, blocks) && self.is_data_of(blocks, payload),
         }
     }
 

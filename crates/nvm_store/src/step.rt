@@ -2,28 +2,38 @@ ghost use Rattle.std.specs.Prelude.{◌≡◌, IfOk, IsSome, OnErr, length};
 ghost use Rattle.nvm_record.specs.Medium.{Medium};
 ghost use Rattle.nvm_record.specs.Step.{statuses_of, data_of, medium_after};
 ghost use Rattle.nvm_store.specs.ActRef.{lent_operation_of};
-ghost use Rattle.nvm_store.specs.Look.{look_operation_of};
+ghost use Rattle.nvm_store.specs.Look.{look_operation_of, AsksForData};
 ghost use Rattle.nvm_store.specs.Answer.{IsAnswer};
 ghost use Rattle.nvm_store.specs.Contents.{Holds, IsWithin, Covers, Succeeds, StaysInPlace};
 ghost use Rattle.nvm_store.specs.Operation.{read_operation};
 
 use crate::act_ref::ActRef;
 use crate::answers::Answer;
+use crate::comparison::{compare_range, pair_statuses};
 use crate::look::Look;
 use crate::stored_blocks::{has_mark, joined};
 use crate::unit_blocks::UnitBlocks;
 use nvm_record::{NoMemory, Payload, Status, Statuses};
 use std::alloc::Global;
 
-/// The statuses that the act's command, or its two commands, complete with on these blocks: 0/00 for
-/// a Write. It takes no memory, and changes nothing.
+/// The statuses that the act's command, or its two commands, complete with on these blocks: 0/00 for a
+/// single command. A pair has its comparison's status first, and then 0/00 where that is 0/00, else 0/09.
+/// It takes no memory, and changes nothing.
 pub fn judge(unit: &UnitBlocks, act: ActRef<'_>) -> Statuses
     requires { Covers unit.now (lent_operation_of act) }
     ensures { (m : Medium) → Holds unit.now m
         → result ≡ statuses_of (lent_operation_of act.entry) m }
 {
     match act {
-        ActRef::Write { .. } => Statuses::One(Status::SUCCESSFUL_COMPLETION),
+        ActRef::Write { .. } | ActRef::Zeroes { .. } | ActRef::Uncorrectable { .. } => {
+            Statuses::One(Status::SUCCESSFUL_COMPLETION)
+        }
+        ActRef::Pair {
+            first,
+            blocks,
+            compare,
+            write: _,
+        } => pair_statuses(unit, first, blocks, compare),
     }
 }
 
@@ -41,18 +51,24 @@ pub fn apply(alloc: Global, unit: &UnitBlocks, act: ActRef<'_>) -> Result<UnitBl
 }
 
 /// What the look is answered on these blocks. A Read's data has its room reserved once, at its full
-/// length; a Read that fails takes no memory.
-pub fn answer(alloc: Global, unit: &UnitBlocks, look: Look) -> Result<Answer, NoMemory>
+/// length. A Read that fails takes no memory, and a Compare takes none: it is always answered.
+pub fn answer(alloc: Global, unit: &UnitBlocks, look: Look<'_>) -> Result<Answer, NoMemory>
     requires { Covers unit.now (look_operation_of look) }
     ensures step { IfOk result (λ answer. (m : Medium) → Holds unit.now m
-        → IsAnswer (look_operation_of look) m answer) }
+        → IsAnswer (look_operation_of look.entry) m answer) }
 
     // Only the data of a Read wants memory.
     ensures memory { OnErr result ((m : Medium) → Holds unit.now m
-        → IsSome (data_of (look_operation_of look) m)) }
+        → IsSome (data_of (look_operation_of look.entry) m)) }
+    ensures always { OnErr result (AsksForData look.entry) }
 {
     match look {
         Look::Read { first, blocks } => read(alloc, unit, first, blocks),
+        Look::Compare {
+            first,
+            blocks,
+            payload,
+        } => Ok(Answer::Status(compare_range(unit, first, blocks, payload))),
     }
 }
 

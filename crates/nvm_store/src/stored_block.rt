@@ -1,5 +1,5 @@
 ghost use Rattle.std.specs.Prelude.{◌≡◌, IfOk, false, length, replicate};
-ghost use Rattle.nvm_store.specs.Stored.{Stored};
+ghost use Rattle.nvm_store.specs.Stored.{Stored, zero_block, marked};
 
 use nvm_record::NoMemory;
 use std::alloc::Global;
@@ -65,5 +65,19 @@ impl StoredBlock {
     {
         self.bytes.as_mut_slice().copy_from_slice(bytes);
         self.is_marked = false;
+    }
+    /// Becomes zero bytes and loses its mark. It takes no memory.
+    pub fn zero(&mut self)
+        ensures { self.new ≡ zero_block (length self.old.bytes) }
+    {
+        self.bytes.as_mut_slice().fill(0);
+        self.is_marked = false;
+    }
+
+    /// Is marked. It takes no memory, and keeps its room.
+    pub fn mark(&mut self)
+        ensures { self.new ≡ marked self.old }
+    {
+        self.is_marked = true;
     }
 }

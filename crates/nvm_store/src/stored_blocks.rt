@@ -1,6 +1,7 @@
 ghost use Rattle.std.specs.Prelude.{◌≡◌, ◌+◌, ◌*◌, ◌<◌, ◌≤◌, ◌^◌, ℕ, false, IfOk, length, replicate, slice_index_or};
+ghost use Rattle.std.specs.Str.{bytes_eq};
 ghost use Rattle.nvm_record.specs.Medium as medium;
-ghost use Rattle.nvm_store.specs.Stored.{Stored, AreSized, blocks_of, zero_block, KeepsAllBut, written};
+ghost use Rattle.nvm_store.specs.Stored.{Stored, AreSized, blocks_of, zero_block, KeepsAllBut, KeepsRoom, written, marked};
 
 use crate::stored_block::StoredBlock;
 use nvm_record::NoMemory;
@@ -57,6 +58,25 @@ pub fn joined(alloc: Global, blocks: &[StoredBlock], size: usize) -> Result<Vec<
     Ok(bytes)
 }
 
+/// Whether the bytes of the blocks, one block after the other, are just the data. Nothing behind the first
+/// block that differs is looked at.
+pub fn are_equal(blocks: &[StoredBlock], size: usize, payload: &[u8]) -> bool
+    requires unmarked { medium.has_mark (blocks_of blocks.now) ≡ false }
+    requires payload { length payload.now ≡ length blocks.now * size }
+    requires sized { AreSized size blocks.now }
+    ensures { result ≡ bytes_eq (medium.joined (blocks_of blocks.now)) payload.now }
+{
+    let mut rest = payload;
+    for block in blocks {
+        let (bytes, after) = rest.split_at(size);
+        if block.bytes() != bytes {
+            return false;
+        }
+        rest = after;
+    }
+    true
+}
+
 /// The `count` blocks from place `at` take the data, and the others stay. It takes no memory.
 pub fn write_range(blocks: &mut [StoredBlock], at: usize, count: usize, size: usize, payload: &[u8])
     requires range { at + count ≤ length blocks.old }
@@ -71,5 +91,34 @@ pub fn write_range(blocks: &mut [StoredBlock], at: usize, count: usize, size: us
     for i in 0..count {
         let block = &mut blocks[at + i];
         block.write(&payload[i * size..(i + 1) * size]);
+    }
+}
+
+/// The `count` blocks from place `at` become zero bytes, and the others stay. It takes no memory.
+pub fn zero_range(blocks: &mut [StoredBlock], at: usize, count: usize)
+    requires { at + count ≤ length blocks.old }
+    ensures len { length blocks.new ≡ length blocks.old }
+    ensures room { KeepsRoom blocks.old blocks.new }
+    ensures zeroed { (d : Stored) (i : ℕ) → i < count
+        → slice_index_or blocks.new (at + i) d
+        ≡ zero_block (length (slice_index_or blocks.old (at + i) d).bytes) }
+    ensures others { KeepsAllBut at count blocks.old blocks.new }
+{
+    for i in 0..count {
+        blocks[at + i].zero();
+    }
+}
+
+/// The `count` blocks from place `at` are marked, and the others stay. It takes no memory.
+pub fn mark_range(blocks: &mut [StoredBlock], at: usize, count: usize)
+    requires { at + count ≤ length blocks.old }
+    ensures len { length blocks.new ≡ length blocks.old }
+    ensures room { KeepsRoom blocks.old blocks.new }
+    ensures marked { (d : Stored) (i : ℕ) → i < count
+        → slice_index_or blocks.new (at + i) d ≡ marked (slice_index_or blocks.old (at + i) d) }
+    ensures others { KeepsAllBut at count blocks.old blocks.new }
+{
+    for i in 0..count {
+        blocks[at + i].mark();
     }
 }

@@ -1,7 +1,7 @@
 ghost use Rattle.std.specs.Prelude.{◌≡◌, ◌↔◌, ◌+◌, ◌*◌, ◌<◌, ◌≤◌, IfOk, IsTrue, length};
 ghost use Rattle.nvm_record.specs.Medium.{Medium, zero_medium, range};
 ghost use Rattle.nvm_record.specs.Step.{medium_after};
-ghost use Rattle.nvm_store.specs.Operation.{write_operation};
+ghost use Rattle.nvm_store.specs.Operation.{write_operation, zeroes_operation, uncorrectable_operation};
 ghost use Rattle.nvm_store.specs.ActRef.{lent_operation_of};
 ghost use Rattle.nvm_store.specs.Look.{look_operation_of};
 ghost use Rattle.nvm_store.specs.Contents.{Holds, IsUnit, IsWithin, Covers, Succeeds, StaysInPlace};
@@ -11,7 +11,7 @@ use crate::act_ref::ActRef;
 use crate::look::Look;
 use crate::place::Place;
 use crate::stored_block::StoredBlock;
-use crate::stored_blocks::{copies_of, write_range, zeroed_blocks};
+use crate::stored_blocks::{copies_of, mark_range, write_range, zero_range, zeroed_blocks};
 use nvm_record::{BlockSize, NoMemory};
 use std::alloc::Global;
 use std::marker::Model;
@@ -87,18 +87,18 @@ impl UnitBlocks {
         }
     }
 
-    /// Whether the act's range has a block and lies in the unit, and its data has just the blocks of
-    /// the range. It takes no memory, and no LBA makes it wrap.
+    /// Whether the act's range has a block and lies in the unit, and its data, if it has any, has just the
+    /// blocks of the range. It takes no memory, and no LBA makes it wrap.
     pub fn covers(&self, act: ActRef<'_>) -> bool
         ensures { IsTrue result ↔ Covers self.now (lent_operation_of act.entry) }
     {
         self.place().covers(act)
     }
 
-    /// Whether the look's range has a block and lies in the unit. It takes no memory, and no LBA makes
-    /// it wrap.
-    pub fn covers_look(&self, look: Look) -> bool
-        ensures { IsTrue result ↔ Covers self.now (look_operation_of look) }
+    /// Whether the look's range has a block and lies in the unit, and its data, if it has any, has just the
+    /// blocks of the range. It takes no memory, and no LBA makes it wrap.
+    pub fn covers_look(&self, look: Look<'_>) -> bool
+        ensures { IsTrue result ↔ Covers self.now (look_operation_of look.entry) }
     {
         self.place().covers_look(look)
     }
@@ -118,6 +118,15 @@ impl UnitBlocks {
                 blocks,
                 payload,
             } => self.write(first, blocks, payload),
+            ActRef::Zeroes { first, blocks } => self.zero(first, blocks),
+            ActRef::Uncorrectable { first, blocks } => self.mark(first, blocks),
+            // Its comparison holds, so it is its Write.
+            ActRef::Pair {
+                first,
+                blocks,
+                compare: _,
+                write,
+            } => self.write(first, blocks, write),
         }
     }
 
@@ -133,6 +142,28 @@ impl UnitBlocks {
         let at = (first - self.first) as usize;
         let size = self.size.bytes() as usize;
         write_range(&mut self.blocks, at, blocks as usize, size, payload);
+    }
+
+    /// The `blocks` LBAs from `first` become zero bytes.
+    fn zero(&mut self, first: u64, blocks: u32)
+        requires { IsWithin self.old.first (length self.old.blocks) first blocks }
+        ensures step { (m : Medium) → Holds self.old m
+            → Holds self.new (medium_after self.old.size (zeroes_operation first blocks) m) }
+        ensures place { StaysInPlace self.old self.new }
+    {
+        let at = (first - self.first) as usize;
+        zero_range(&mut self.blocks, at, blocks as usize);
+    }
+
+    /// The `blocks` LBAs from `first` are marked.
+    fn mark(&mut self, first: u64, blocks: u32)
+        requires { IsWithin self.old.first (length self.old.blocks) first blocks }
+        ensures step { (m : Medium) → Holds self.old m
+            → Holds self.new (medium_after self.old.size (uncorrectable_operation first blocks) m) }
+        ensures place { StaysInPlace self.old self.new }
+    {
+        let at = (first - self.first) as usize;
+        mark_range(&mut self.blocks, at, blocks as usize);
     }
 
     /// The stored blocks of the `blocks` LBAs from `first`.

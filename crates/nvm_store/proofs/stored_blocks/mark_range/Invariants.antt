@@ -1,0 +1,13 @@
+use Rattle.std.proofs.Common.{◌≡◌, ℕ, ◌+◌, ◌<◌, length, get_or}
+use Rattle.nvm_store.specs.Stored.{Stored, KeepsAllBut, KeepsRoom, marked}
+use Rattle.nvm_store.proofs.stored_blocks.mark_range.Given as goal
+
+-- The first `i` blocks of the range are marked, and the others are as they were.
+abbrev pub invariant-loop-i : goal.invariant-loop-i
+invariant-loop-i l = record {
+  len : length l.blocks ≡ length l.initial.blocks;
+  room : KeepsRoom l.initial.blocks l.blocks;
+  marked : (d : Stored) (k : ℕ) → k < l.i
+      → get_or l.blocks (l.at + k) d ≡ marked (get_or l.initial.blocks (l.at + k) d);
+  others : KeepsAllBut l.at l.i l.initial.blocks l.blocks;
+}
