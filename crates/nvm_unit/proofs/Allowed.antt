@@ -64,7 +64,6 @@ fitting b s kept id g at i p inside =
     record {
       bounds = (kept.knows id i p stands).bounds;
       seen = kept.sound.hold.seen id i p stands;
-      marks = kept.sound.marks.marks id i p stands;
       floor = kept.sound.marks.floors id i p stands;
       mine = kept.sound.marks.mine id i p stands;
       own = (kept.knows id i p stands).own;

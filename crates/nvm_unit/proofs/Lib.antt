@@ -4,3 +4,4 @@ pub mod Histories
 pub mod Keeping
 pub mod EventsKept
 pub mod Allowed
+pub mod Waiting

@@ -5,3 +5,4 @@ pub mod Knowledge
 pub mod Book
 pub mod Rule
 pub mod Plays
+pub mod Holding

@@ -6,7 +6,7 @@ use Rattle.nvm_store.specs.History.{CanFollow, IsLawfulHistory}
 use Rattle.nvm_unit.specs.declared.bounds.Bounds.{Bounds}
 use Rattle.nvm_unit.specs.declared.views.PassView.{PassView}
 use Rattle.nvm_unit.specs.declared.views.Group.{Group}
-use Rattle.nvm_unit.specs.Views.{Begins, entries_by, RiseWithin, looked, shown, added}
+use Rattle.nvm_unit.specs.Views.{Begins, entries_by, looked, shown, added}
 use Rattle.nvm_unit.specs.Machine.{IsAt}
 use Rattle.nvm_unit.specs.Book.{Recorded, recorded}
 use Rattle.nvm_unit.specs.Events.{idle}
@@ -36,7 +36,6 @@ pub record IsNotAbove (n : ℕ) (p : PassView) : Type 0 where
 pub record Fits (b : Bounds) (history : List Line) (p : PassView) : Type 0 where
   pub bounds : p.bounds ≡ b
   pub seen : Begins p.seen history
-  pub marks : RiseWithin 0 p.marks p.floor
   pub floor : p.floor ≤ length history
   pub mine : entries_by p.number history ≡ p.mine
   pub own : entries_by p.number p.seen ≡ p.mine

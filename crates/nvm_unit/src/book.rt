@@ -73,10 +73,10 @@ impl Book {
     }
 
     /// What the look is answered.
-    pub fn answer(&self, alloc: Global, look: Look) -> Result<Answer, NoMemory>
+    pub fn answer(&self, alloc: Global, look: Look<'_>) -> Result<Answer, NoMemory>
         requires { IsCovered self.now.place.first self.now.place.blocks self.now.place.size (look_operation_of look) }
-        ensures step { IfOk result (IsAnswer (look_operation_of look) (replay_of self.now.place.size self.now.history)) }
-        ensures memory { OnErr result (IsSome (data_of (look_operation_of look) (replay_of self.now.place.size self.now.history))) }
+        ensures step { IfOk result (IsAnswer (look_operation_of look.entry) (replay_of self.now.place.size self.now.history)) }
+        ensures memory { OnErr result (IsSome (data_of (look_operation_of look.entry) (replay_of self.now.place.size self.now.history))) }
     {
         answer(alloc, &self.blocks, look)
     }

@@ -3,6 +3,7 @@
 
 mod book;
 mod bounds;
+mod latch;
 pub mod laws;
 mod rule;
 mod steps;

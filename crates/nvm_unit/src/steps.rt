@@ -15,6 +15,7 @@ use crate::views::Group;
 use atomic_table::{Seat, Table};
 use nvm_store::laws::lawful_with_one_more;
 use std::alloc::Global;
+use std::sync::Wait;
 
 /// The table of one unit: its word, and the slot that has its book while nobody holds the unit.
 pub struct Desk {
@@ -121,4 +122,16 @@ pub fn lay_book(desk: &Desk, token: &mut Token, book: Book)
         → token.new.seat.me ≡ holding ps history (Some book) }
 {
     drop(desk.table.shared.exchange(&mut token.seat, 0, Some(book)));
+}
+
+/// Sleeps until a put, if the word is still this one, or returns for no reason.
+pub fn sleep<R: Wait>(desk: &Desk, rt: &R, word: u64) {
+    desk.table
+        .shared
+        .park(rt, 0, (word & 0xffff_ffff) as u32);
+}
+
+/// Wakes one of those who sleep.
+pub fn wake(desk: &Desk) {
+    desk.table.shared.wake_one(0);
 }
