@@ -6,3 +6,6 @@ pub mod Book
 pub mod Rule
 pub mod Plays
 pub mod Holding
+pub mod Passes
+pub mod Replies
+pub mod Alone

@@ -17,6 +17,7 @@ use std::thread;
 const YIELDS: u32 = 16;
 
 /// A unit's table, and how many threads sleep until it is put back.
+#[derive(Drop)]
 pub struct Latch {
     pub(crate) desk: Desk,
     sleepers: AtomicU64,

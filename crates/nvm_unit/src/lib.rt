@@ -1,12 +1,21 @@
 //! One shared unit: blocks that many threads read and change, each change one atomic step.
 #![tactic(auto)]
 
+mod attempt;
 mod book;
 mod bounds;
+mod gate;
 mod latch;
 pub mod laws;
+mod pass;
+mod replies;
 mod rule;
 mod steps;
+mod unit;
 mod views;
 
 pub use bounds::Bounds;
+pub use gate::{Gate, Open};
+pub use pass::Pass;
+pub use replies::{Changed, ObserveFault, Observed};
+pub use unit::Unit;

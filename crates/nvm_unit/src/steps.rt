@@ -18,12 +18,14 @@ use std::alloc::Global;
 use std::sync::Wait;
 
 /// The table of one unit: its word, and the slot that has its book while nobody holds the unit.
+#[derive(Drop)]
 pub struct Desk {
     table: Table<Option<Book>, Group, Bounds, UnitRule, Global>,
     ghost sized: { (table.shared.table_id.words ≡ 1) × (table.shared.table_id.slots ≡ 1) },
 }
 
 /// A seat at a unit's table. It has no bytes.
+#[derive(Drop)]
 pub struct Token {
     seat: Seat<Option<Book>, Group>,
 }

@@ -1,0 +1,143 @@
+ghost use Rattle.std.specs.Prelude.{◌≡◌, ◌↔◌, ◌≤◌, ◌^◌, ◌<◌, IfOk, IsTrue, length};
+ghost use Rattle.nvm_store.specs.ActRef.{lent_operation_of};
+ghost use Rattle.nvm_store.specs.Contents.{IsCovered};
+ghost use Rattle.nvm_store.specs.Look.{look_operation_of};
+ghost use Rattle.nvm_unit.specs.Passes.{IsPassOf, IsProper};
+ghost use Rattle.nvm_unit.specs.Replies.{Makes, Observes, IsBroughtUp};
+
+use crate::attempt::{attempt, observed};
+use crate::bounds::Bounds;
+use crate::gate::Gate;
+use crate::latch::Latch;
+use crate::pass::Pass;
+use crate::replies::{Changed, ObserveFault, Observed};
+use crate::rule::{Always, Never};
+use nvm_record::NoMemory;
+use nvm_store::{ActRef, History, Look};
+use std::alloc::Global;
+use std::marker::Model;
+use std::sync::Wait;
+
+/// Blocks that many threads read and change, each change one atomic step.
+///
+/// Contracts see which unit it is, its LBAs, the number of its passes and its limit.
+#[derive(Drop)]
+pub struct Unit {
+    pub(crate) latch: Latch,
+    /// What the gate is told.
+    pub(crate) number: u16,
+    pub(crate) bounds: Bounds,
+}
+
+impl Model for Unit {
+    ghost use Rattle.std.specs.Prelude.{◌≡◌};
+    ghost use Rattle.nvm_store.specs.Limit.{IsLimit};
+    ghost use Rattle.nvm_unit.specs.Passes.{UnitName};
+
+    ghost Value = { UnitName };
+
+    ghost view = { λ u. record { table = u.latch.desk.table.shared.table_id; bounds = u.bounds } };
+
+    ghost invariant = { λ u. u.latch.desk.table.shared.key ≡ u.bounds };
+}
+
+impl Unit {
+    /// Whether the act's range has a block and lies in the unit, and its data has just the blocks of the
+    /// range. It takes no memory.
+    pub fn covers(&self, act: ActRef<'_>) -> bool
+        ensures { IsTrue result ↔ IsCovered self.now.bounds.place.first self.now.bounds.place.blocks
+            self.now.bounds.place.size (lent_operation_of act.entry) }
+    {
+        self.bounds.place.covers(act)
+    }
+
+    /// Whether the look's range has a block and lies in the unit, and its data, if it has any, has just
+    /// the blocks of the range. It takes no memory.
+    pub fn covers_look(&self, look: Look<'_>) -> bool
+        ensures { IsTrue result ↔ IsCovered self.now.bounds.place.first self.now.bounds.place.blocks
+            self.now.bounds.place.size (look_operation_of look.entry) }
+    {
+        self.bounds.place.covers_look(look)
+    }
+
+    /// Does the act, as one step of the unit, unless it is a pair whose comparison fails, the history is
+    /// at its limit, or memory is refused. It waits for the unit.
+    pub fn change<R: Wait, G: Gate>(
+        &self,
+        alloc: Global,
+        rt: &R,
+        pass: &mut Pass,
+        job: u32,
+        act: ActRef<'_>,
+        gate: &G,
+    ) -> Changed
+        requires of { IsPassOf self.now pass.old }
+        requires covered { IsCovered self.now.bounds.place.first self.now.bounds.place.blocks
+            self.now.bounds.place.size (lent_operation_of act) }
+        ensures of { IsPassOf self.now pass.new }
+        ensures made { Makes result pass.old.view job (lent_operation_of act.entry) pass.new.view }
+        ensures proper { IsProper pass.new.view }
+    {
+        let mut book = self.latch.hold(rt, &mut pass.token, pass.entries);
+        let changed = attempt(alloc, &mut book, self.bounds.limit, pass.number, job, act);
+        gate.before_put(self.number, job);
+        pass.entries = book.entries() as u32;
+        self.latch.release::<Always>(&mut pass.token, book);
+        changed
+    }
+
+    /// What the look is answered, as one step of the unit. It waits for the unit.
+    pub fn observe<R: Wait>(
+        &self,
+        alloc: Global,
+        rt: &R,
+        pass: &mut Pass,
+        look: Look<'_>,
+    ) -> Result<Observed, ObserveFault>
+        requires of { IsPassOf self.now pass.old }
+        requires covered { IsCovered self.now.bounds.place.first self.now.bounds.place.blocks
+            self.now.bounds.place.size (look_operation_of look) }
+        ensures of { IsPassOf self.now pass.new }
+        ensures observed { Observes result pass.old.view (look_operation_of look.entry) pass.new.view }
+        ensures proper { IsProper pass.new.view }
+    {
+        let book = self.latch.hold(rt, &mut pass.token, pass.entries);
+        let observed = observed(alloc, &book, look);
+        pass.entries = book.entries() as u32;
+        self.latch.release::<Always>(&mut pass.token, book);
+        observed
+    }
+
+    /// Brings the pass to the history that it finds. It waits for the unit, and takes no memory.
+    pub fn refresh<R: Wait>(&self, rt: &R, pass: &mut Pass)
+        requires { IsPassOf self.now pass.old }
+        ensures of { IsPassOf self.now pass.new }
+        ensures up { IsBroughtUp pass.old.view pass.new.view }
+        ensures proper { IsProper pass.new.view }
+    {
+        let book = self.latch.hold(rt, &mut pass.token, pass.entries);
+        pass.entries = book.entries() as u32;
+        self.latch.release::<Never>(&mut pass.token, book);
+    }
+
+    /// Brings the pass to the history that it finds, and gives a copy of it. It waits for the unit. Where
+    /// memory is refused, the pass is brought up nevertheless.
+    pub fn history<R: Wait>(
+        &self,
+        alloc: Global,
+        rt: &R,
+        pass: &mut Pass,
+    ) -> Result<History, NoMemory>
+        requires { IsPassOf self.now pass.old }
+        ensures of { IsPassOf self.now pass.new }
+        ensures up { IsBroughtUp pass.old.view pass.new.view }
+        ensures proper { IsProper pass.new.view }
+        ensures seen { IfOk result (λ v. v.items ≡ pass.new.view.seen) }
+    {
+        let book = self.latch.hold(rt, &mut pass.token, pass.entries);
+        let history = book.copy_of_history(alloc);
+        pass.entries = book.entries() as u32;
+        self.latch.release::<Never>(&mut pass.token, book);
+        history
+    }
+}
