@@ -5,3 +5,4 @@ pub mod Keeping
 pub mod EventsKept
 pub mod Allowed
 pub mod Waiting
+pub mod Alone

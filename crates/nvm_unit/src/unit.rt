@@ -13,6 +13,7 @@ use crate::pass::Pass;
 use crate::replies::{Changed, ObserveFault, Observed};
 use crate::rule::{Always, Never};
 use nvm_record::NoMemory;
+use nvm_store::laws::lawful_with_one_more;
 use nvm_store::{ActRef, History, Look};
 use std::alloc::Global;
 use std::marker::Model;
@@ -38,7 +39,7 @@ impl Model for Unit {
 
     ghost view = { λ u. record { table = u.latch.desk.table.shared.table_id; bounds = u.bounds } };
 
-    ghost invariant = { λ u. u.latch.desk.table.shared.key ≡ u.bounds };
+    ghost invariant = { λ u. (u.latch.desk.table.shared.key ≡ u.bounds) × IsLimit u.bounds.limit };
 }
 
 impl Unit {
@@ -78,6 +79,7 @@ impl Unit {
         ensures made { Makes result pass.old.view job (lent_operation_of act.entry) pass.new.view }
         ensures proper { IsProper pass.new.view }
     {
+        lawful_with_one_more();
         let mut book = self.latch.hold(rt, &mut pass.token, pass.entries);
         let changed = attempt(alloc, &mut book, self.bounds.limit, pass.number, job, act);
         gate.before_put(self.number, job);
