@@ -249,3 +249,39 @@ attempt_ends law (Full point) b h book book' p job op m m' a covered done proper
       number = refl;
       bounds = refl;
     }
+
+-- The attempt, told of the pass as contracts see it.
+pub attempt_as : (changed : Changed) (limit number job : ℕ) (op : Operation) (book book' : Recorded) (p : PassView) → limit ≡ p.bounds.limit → number ≡ p.number
+    → Attempts changed limit (record { pass = number; job = job; operation = op }) book book' → Attempts changed p.bounds.limit (line_of p job op) book book'
+attempt_as changed limit number job op book book' p same_limit same_number attempts =
+    subst (λ (l : ℕ). Attempts changed l (line_of p job op) book book') same_limit
+    (subst (λ (k : ℕ). Attempts changed limit (record { pass = k; job = job; operation = op }) book book') same_number attempts)
+
+pub within_limit : (b b' : Bounds) (h : List Line) (book : Recorded) (p : PassView) (m : Sits) → HoldsAlone b h book p m → p.bounds ≡ b' → length book.history ≤ b'.limit
+within_limit b b' h book p m a same =
+    let pages : length book.history ≡ length h = ap (λ (x : Recorded). length x.history) a.pages in
+    let within : length h ≤ p.bounds.limit = a.finds.lawful.within in
+    let most : p.bounds.limit ≡ b'.limit = ap (λ (x : Bounds). x.limit) same in
+    omega arith
+
+-- The history stays within the limit.
+pub attempt_within : (changed : Changed) (b : Bounds) (h : List Line) (book book' : Recorded) (p : PassView) (line : Line) (m : Sits) → HoldsAlone b h book p m
+    → Attempts changed p.bounds.limit line book book' → length book'.history ≤ p.bounds.limit
+attempt_within (Done place) b h book book' p line m a done =
+    let pages : length book'.history ≡ length (book.history ++ line ∷ []) = ap (λ (x : Recorded). length x.history) done.3 in
+    let longer : length (book.history ++ line ∷ []) ≡ length book.history + 1 = length-append book.history (line ∷ []) in
+    let place_is : place ≡ length book.history = done.0 in
+    let room : place < p.bounds.limit = done.1 in
+    omega arith
+attempt_within (Failed point statuses) b h book book' p line m a done =
+    let same : length book'.history ≡ length book.history = ap (λ (x : Recorded). length x.history) done.3 in
+    let within = within_limit b p.bounds h book p m a refl in
+    omega arith
+attempt_within (NoMemory point) b h book book' p line m a done =
+    let same : length book'.history ≡ length book.history = ap (λ (x : Recorded). length x.history) done.3 in
+    let within = within_limit b p.bounds h book p m a refl in
+    omega arith
+attempt_within (Full point) b h book book' p line m a done =
+    let same : length book'.history ≡ length book.history = ap (λ (x : Recorded). length x.history) done.3 in
+    let within = within_limit b p.bounds h book p m a refl in
+    omega arith
