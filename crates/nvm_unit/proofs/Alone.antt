@@ -36,7 +36,7 @@ pub record HoldsAlone (b : Bounds) (h : List Line) (book : Recorded) (p : PassVi
   pub bounds : p.bounds ≡ b
   pub finds : Finds (length h) p h
 
-finds_of : (b : Bounds) (h : List Line) (p : PassView) → Fits b h p → IsLawfulHistory b.place.first b.place.blocks b.place.size h → length h ≤ b.limit → Finds (length h) p h
+pub finds_of : (b : Bounds) (h : List Line) (p : PassView) → Fits b h p → IsLawfulHistory b.place.first b.place.blocks b.place.size h → length h ≤ b.limit → Finds (length h) p h
 finds_of b h p fits lawful within =
     record {
       count = refl;

@@ -6,3 +6,4 @@ pub mod EventsKept
 pub mod Allowed
 pub mod Waiting
 pub mod Alone
+pub mod Together

@@ -6,6 +6,7 @@ use Rattle.nvm_unit.specs.declared.bounds.Bounds.{Bounds}
 use Rattle.nvm_unit.specs.declared.views.PassView.{PassView}
 use Rattle.nvm_unit.specs.Views.{looked, shown, added}
 use Rattle.nvm_unit.specs.Book.{Recorded, recorded}
+use Rattle.nvm_unit.specs.Passes.{Finds}
 use Rattle.nvm_unit.specs.Plays.{Sits, resting, holding, EachIn, IsNotAbove, Fits}
 
 -- Its steps so far, if any, decided nothing.
@@ -50,3 +51,9 @@ GivesMore book m m' =
     (p : PassView) (history : List Line) (line : Line) → m ≡ holding (p ∷ []) history None
     → book ≡ recorded p.bounds (history ++ line ∷ [])
     → m' ≡ resting (added (length history) history line p ∷ [])
+
+-- Two passes were brought to one history, which has so many entries.
+abbrev pub HasMet : ℕ → PassView → PassView → Sits → Sits → Type 0
+HasMet n p o m m' =
+    (history : List Line) × (n ≡ length history) × Finds (length history) p history × Finds (length history) o history
+    × (m ≡ resting (shown false (length history) history p ∷ [])) × (m' ≡ resting (shown false (length history) history o ∷ []))

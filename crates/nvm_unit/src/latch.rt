@@ -1,14 +1,17 @@
-ghost use Rattle.std.specs.Prelude.{◌≡◌, ◌≢◌, ◌⊎◌, ℕ, ◌+◌, ◌*◌, ◌%◌, ◌^◌, ◌<◌, List, length, false};
+ghost use Rattle.std.specs.Prelude.{◌≡◌, ◌≢◌, ◌⊎◌, ℕ, ◌+◌, ◌*◌, ◌%◌, ◌^◌, ◌<◌, List, [], ◌∷◌, length, false};
+ghost use Rattle.nvm_store.specs.Limit.{IsLimit};
+ghost use Rattle.nvm_unit.specs.Alone.{only};
 ghost use Rattle.nvm_store.specs.Line.{Line};
 ghost use Rattle.nvm_unit.specs.declared.bounds.Bounds.{Bounds as UnitBounds};
 ghost use Rattle.nvm_unit.specs.declared.views.PassView.{PassView as View};
 ghost use Rattle.nvm_unit.specs.Plays.{resting, holding, Takes};
-ghost use Rattle.nvm_unit.specs.Holding.{HasWaited, HasHeld, CanGiveBack, CanGiveMore, GivesBack, GivesMore};
+ghost use Rattle.nvm_unit.specs.Holding.{HasWaited, HasHeld, HasMet, CanGiveBack, CanGiveMore, GivesBack, GivesMore};
 
 use crate::book::Book;
 use crate::rule::{Decides, Never};
 use crate::steps;
 use crate::steps::{Desk, Token};
+use std::mem;
 use std::sync::Wait;
 use std::sync::atomic::{AtomicU64, Ordering};
 use std::thread;
@@ -106,6 +109,35 @@ impl Latch {
         steps::lay_book(&self.desk, token, book);
         steps::put::<D>(&self.desk, token, entries);
         self.wake();
+    }
+
+    /// Brings two passes to one history, in one step. `one` finds the unit free at once where it has
+    /// `entries` entries. Gives the number of entries that was found.
+    pub(crate) fn meet<R: Wait>(
+        &self,
+        rt: &R,
+        one: &mut Token,
+        other: &mut Token,
+        entries: u32,
+    ) -> u32
+        requires one { one.old.seat.table_id ≡ self.now.desk.table.shared.table_id }
+        requires other { other.old.seat.table_id ≡ self.now.desk.table.shared.table_id }
+        requires one_rests { one.old.seat.me ≡ resting (only one.old.seat.me.0.passes ∷ []) }
+        requires other_rests { other.old.seat.me ≡ resting (only other.old.seat.me.0.passes ∷ []) }
+        requires limit { IsLimit (only one.old.seat.me.0.passes).bounds.limit }
+        ensures one { one.new.seat.table_id ≡ one.old.seat.table_id }
+        ensures other { other.new.seat.table_id ≡ other.old.seat.table_id }
+        ensures met { HasMet result (only one.old.seat.me.0.passes) (only other.old.seat.me.0.passes)
+            one.new.seat.me other.new.seat.me }
+    {
+        let spare = steps::split(&self.desk, one);
+        let joining = mem::replace(other, spare);
+        steps::join(&self.desk, one, joining);
+        let book = self.hold(rt, one, entries);
+        let found = book.entries() as u32;
+        self.release::<Never>(one, book);
+        *other = steps::split(&self.desk, one);
+        found
     }
 
     /// Wakes one of those who sleep, if somebody does.

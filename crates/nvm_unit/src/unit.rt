@@ -3,7 +3,7 @@ ghost use Rattle.nvm_store.specs.ActRef.{lent_operation_of};
 ghost use Rattle.nvm_store.specs.Contents.{IsCovered};
 ghost use Rattle.nvm_store.specs.Look.{look_operation_of};
 ghost use Rattle.nvm_unit.specs.Passes.{IsPassOf, IsProper};
-ghost use Rattle.nvm_unit.specs.Replies.{Makes, Observes, IsBroughtUp};
+ghost use Rattle.nvm_unit.specs.Replies.{Makes, Observes, IsBroughtUp, Meet};
 
 use crate::attempt::{attempt, observed};
 use crate::bounds::Bounds;
@@ -141,5 +141,23 @@ impl Unit {
         pass.entries = book.entries() as u32;
         self.latch.release::<Never>(&mut pass.token, book);
         history
+    }
+
+    /// Brings both passes to one history, so that what either had seen stands in it. It waits for the
+    /// unit, and takes no memory.
+    pub fn meet<R: Wait>(&self, rt: &R, one: &mut Pass, other: &mut Pass)
+        requires one { IsPassOf self.now one.old }
+        requires other { IsPassOf self.now other.old }
+        ensures one { IsPassOf self.now one.new }
+        ensures other { IsPassOf self.now other.new }
+        ensures met { Meet one.old.view other.old.view one.new.view other.new.view }
+        ensures one_proper { IsProper one.new.view }
+        ensures other_proper { IsProper other.new.view }
+    {
+        let entries = self
+            .latch
+            .meet(rt, &mut one.token, &mut other.token, one.entries);
+        one.entries = entries;
+        other.entries = entries;
     }
 }
