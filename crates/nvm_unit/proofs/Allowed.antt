@@ -58,7 +58,7 @@ not_above b s kept id g at i p inside =
     record { floor = omega arith; seen = omega arith }
 
 -- What holds of the passes of a group.
-fitting : (b : Bounds) (s : UnitState) → IsKept b s → (id : ℕ) (g : Group) → IsAt s.groups id g → EachIn (Fits b s.history) g.passes
+pub fitting : (b : Bounds) (s : UnitState) → IsKept b s → (id : ℕ) (g : Group) → IsAt s.groups id g → EachIn (Fits b s.history) g.passes
 fitting b s kept id g at i p inside =
     let stands : StandsAt s.groups id i p = record { group = g; at = at; inside = inside } in
     record {

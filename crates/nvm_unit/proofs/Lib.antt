@@ -7,3 +7,4 @@ pub mod Allowed
 pub mod Waiting
 pub mod Alone
 pub mod Together
+pub mod Closing

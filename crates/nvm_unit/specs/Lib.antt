@@ -9,3 +9,4 @@ pub mod Holding
 pub mod Passes
 pub mod Replies
 pub mod Alone
+pub mod Ends

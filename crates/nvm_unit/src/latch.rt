@@ -27,6 +27,24 @@ pub struct Latch {
 }
 
 impl Latch {
+    /// The latch of a table on which nobody sleeps yet.
+    pub(crate) fn new(desk: Desk) -> Latch
+        ensures { result.desk ≡ desk }
+    {
+        Latch {
+            desk,
+            sleepers: AtomicU64::new(0),
+        }
+    }
+
+    /// The table alone.
+    pub(crate) fn into_desk(self) -> Desk
+        ensures { result ≡ self.desk }
+    {
+        let Latch { desk, sleepers: _ } = self;
+        desk
+    }
+
     /// Lets others go on for a while, since the word was this one: first by yielding, and then by
     /// sleeping.
     fn pause<R: Wait>(&self, rt: &R, turns: u32, word: u64) {

@@ -10,8 +10,10 @@ pub mod laws;
 mod pass;
 mod replies;
 mod rule;
+mod seats;
 mod steps;
 mod unit;
+mod unit_fault;
 mod views;
 
 pub use bounds::Bounds;
@@ -19,3 +21,4 @@ pub use gate::{Gate, Open};
 pub use pass::Pass;
 pub use replies::{Changed, ObserveFault, Observed};
 pub use unit::Unit;
+pub use unit_fault::UnitFault;

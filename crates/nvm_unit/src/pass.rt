@@ -1,4 +1,5 @@
-ghost use Rattle.std.specs.Prelude.{◌≡◌};
+ghost use Rattle.std.specs.Prelude.{◌≡◌, [], ◌∷◌};
+ghost use Rattle.nvm_unit.specs.Plays.{resting};
 
 use crate::steps::Token;
 use std::marker::Model;
@@ -37,5 +38,18 @@ impl Pass {
         ensures { result ≡ self.now.view.number }
     {
         self.number
+    }
+
+    /// Its seat.
+    pub(crate) fn into_token(self) -> Token
+        ensures table { result.seat.table_id ≡ self.table }
+        ensures me { result.seat.me ≡ resting (self.view ∷ []) }
+    {
+        let Pass {
+            token,
+            number: _,
+            entries: _,
+        } = self;
+        token
     }
 }

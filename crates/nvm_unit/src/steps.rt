@@ -1,20 +1,24 @@
 //! The atomic steps on a unit's word. They alone have the table and its seats, so nothing else writes what
 //! a pass knows.
-ghost use Rattle.std.specs.Prelude.{◌≡◌, ◌≢◌, ◌⊎◌, ℕ, ◌+◌, ◌*◌, ◌%◌, ◌^◌, ◌<◌, List, [], ◌∷◌, ◌++◌, length, take, drop, true, false, Some, None};
+ghost use Rattle.std.specs.Prelude.{◌≡◌, ◌≢◌, ◌⊎◌, ℕ, ◌+◌, ◌*◌, ◌%◌, ◌^◌, ◌<◌, List, [], ◌∷◌, ◌++◌, length, take, drop, true, false, Some, None, IfOk};
 ghost use Rattle.nvm_store.specs.Line.{Line};
 ghost use Rattle.nvm_unit.specs.declared.bounds.Bounds.{Bounds as UnitBounds};
 ghost use Rattle.nvm_unit.specs.declared.views.PassView.{PassView as View};
 ghost use Rattle.nvm_unit.specs.declared.views.Group.{Group as Carried};
-ghost use Rattle.nvm_unit.specs.Book.{Recorded};
+ghost use Rattle.nvm_unit.specs.Book.{Recorded, recorded};
+ghost use Rattle.nvm_unit.specs.Ends.{AreAllViews, IsWholeHistory};
+ghost use Rattle.nvm_unit.specs.Machine.{newcomers};
 ghost use Rattle.nvm_unit.specs.Plays.{resting, holding, HasLooked, Takes, ReturnsAs, AddsAs, CanReturn, CanAppend};
 
 use crate::book::Book;
 use crate::bounds::Bounds;
 use crate::rule::{Decides, FirstStays, Looks, Never, Puts, Together, Tries, UnitRule};
 use crate::views::Group;
-use atomic_table::{Seat, Table};
+use atomic_table::{Refused, Seat, Table};
+use nvm_record::NoMemory;
+use nvm_store::History;
 use nvm_store::laws::lawful_with_one_more;
-use std::alloc::Global;
+use std::alloc::{AllocError, Global};
 use std::sync::Wait;
 
 /// The table of one unit: its word, and the slot that has its book while nobody holds the unit.
@@ -136,4 +140,34 @@ pub fn sleep<R: Wait>(desk: &Desk, rt: &R, word: u64) {
 /// Wakes one of those who sleep.
 pub fn wake(desk: &Desk) {
     desk.table.shared.wake_one(0);
+}
+
+/// The table of a new unit, and a seat with all its passes.
+pub fn open(alloc: Global, bounds: Bounds, book: Book) -> Result<(Desk, Token), NoMemory>
+    requires { book ≡ recorded bounds [] }
+    ensures { IfOk result (λ t. (t.0.table.shared.key ≡ bounds)
+        × (t.1.seat.table_id ≡ t.0.table.shared.table_id)
+        × (t.1.seat.me ≡ resting (newcomers bounds))) }
+{
+    let mut slots = Vec::with_capacity(alloc, 1)?;
+    slots.push_reserved(Some(book));
+    match Table::new(alloc, &[0], slots, &bounds) {
+        Ok((table, seat)) => Ok((Desk { table }, Token { seat })),
+        Err(Refused { slots: _ }) => Err(AllocError),
+    }
+}
+
+/// The history of a unit whose passes are all at this seat. It takes no memory.
+pub fn close(desk: Desk, token: Token) -> History
+    requires at { token.seat.table_id ≡ desk.table.shared.table_id }
+    requires rests { token.seat.me ≡ resting token.seat.me.0.passes }
+    requires all { AreAllViews desk.table.shared.key.passes token.seat.me.0.passes }
+    ensures { IsWholeHistory desk.table.shared.key token.seat.me.0.passes result.items }
+{
+    let Desk { table } = desk;
+    let Token { seat } = token;
+    let mut closed = table.close_with(seat);
+    let book = closed.take(0).unwrap();
+    closed.free();
+    book.into_history()
 }

@@ -1,4 +1,5 @@
-ghost use Rattle.std.specs.Prelude.{◌≡◌, ◌↔◌, ◌≤◌, ◌^◌, ◌<◌, IfOk, IsTrue, length};
+ghost use Rattle.std.specs.Prelude.{◌≡◌, ◌↔◌, ◌+◌, ◌≤◌, ◌<◌, IfOk, IfErr, IsTrue, length};
+ghost use Rattle.nvm_unit.specs.Ends.{IsPassCount, IsFaultOf, new_passes, AreAllPassesOf, IsWholeHistory, views_of};
 ghost use Rattle.nvm_store.specs.ActRef.{lent_operation_of};
 ghost use Rattle.nvm_store.specs.Contents.{IsCovered};
 ghost use Rattle.nvm_store.specs.Look.{look_operation_of};
@@ -6,18 +7,25 @@ ghost use Rattle.nvm_unit.specs.Passes.{IsPassOf, IsProper};
 ghost use Rattle.nvm_unit.specs.Replies.{Makes, Observes, IsBroughtUp, Meet};
 
 use crate::attempt::{attempt, observed};
+use crate::book::Book;
 use crate::bounds::Bounds;
 use crate::gate::Gate;
 use crate::latch::Latch;
 use crate::pass::Pass;
 use crate::replies::{Changed, ObserveFault, Observed};
 use crate::rule::{Always, Never};
-use nvm_record::NoMemory;
+use crate::seats::{deal, gather};
+use crate::steps;
+use crate::unit_fault::UnitFault;
+use nvm_record::{BlockSize, NoMemory};
 use nvm_store::laws::lawful_with_one_more;
-use nvm_store::{ActRef, History, Look};
+use nvm_store::{ActRef, History, Limit, Look, Place, UnitBlocks};
 use std::alloc::Global;
 use std::marker::Model;
 use std::sync::Wait;
+
+/// A unit has at most so many passes.
+pub const MOST_PASSES: u16 = 64;
 
 /// Blocks that many threads read and change, each change one atomic step.
 ///
@@ -43,6 +51,69 @@ impl Model for Unit {
 }
 
 impl Unit {
+    /// The unit of `blocks` blocks of this size from LBA `first`, all of them zero bytes, and its passes,
+    /// which are numbered from 0. The number of the unit is what a gate is told.
+    pub fn new(
+        alloc: Global,
+        number: u16,
+        first: u64,
+        blocks: u32,
+        size: BlockSize,
+        passes: u16,
+        limit: Limit,
+    ) -> Result<(Unit, Vec<Pass>), UnitFault>
+        requires some { 0 < blocks }
+        requires low { first + blocks ≤ 65536 }
+        ensures taken { IfOk result (λ u. IsPassCount passes) }
+        ensures refused { IfErr result (IsFaultOf passes) }
+        ensures bounds { IfOk result (λ u. u.0.bounds ≡ record {
+          place = record { first = first; blocks = blocks; size = size };
+          passes = passes;
+          limit = limit;
+        }) }
+        ensures passes { IfOk result (λ u. u.1.items ≡ new_passes u.0) }
+    {
+        let _entries = limit.entries();
+        if passes == 0 || passes > MOST_PASSES {
+            return Err(UnitFault::Passes);
+        }
+        let bounds = Bounds {
+            place: Place {
+                first,
+                blocks,
+                size,
+            },
+            passes,
+            limit,
+        };
+        let blocks = UnitBlocks::zeroed(alloc, first, blocks, size)?;
+        let (desk, token) = steps::open(alloc, bounds, Book::new(alloc, blocks))?;
+        let passes = deal(alloc, &desk, token, passes)?;
+        let unit = Unit {
+            latch: Latch::new(desk),
+            number,
+            bounds,
+        };
+        Ok((unit, passes))
+    }
+
+    /// The whole history of the unit, once nobody uses it any more. The passes are those that
+    /// [`Unit::new`] gave with it, in their order. It takes no memory, and waits for nothing.
+    pub fn close(self, passes: Vec<Pass>) -> History
+        requires passes { AreAllPassesOf self passes.items }
+        requires some { 0 < length passes.items }
+        ensures { IsWholeHistory self.bounds (views_of passes.items) result.items }
+    {
+        let Unit {
+            latch,
+            number: _,
+            bounds: _,
+        } = self;
+        let desk = latch.into_desk();
+        let token = gather(&desk, passes);
+        steps::close(desk, token)
+    }
+
     /// Whether the act's range has a block and lies in the unit, and its data has just the blocks of the
     /// range. It takes no memory.
     pub fn covers(&self, act: ActRef<'_>) -> bool
