@@ -8,3 +8,4 @@ pub mod Waiting
 pub mod Alone
 pub mod Together
 pub mod Closing
+pub mod Dealing
