@@ -39,7 +39,7 @@ pub struct Unit {
 }
 
 impl Model for Unit {
-    ghost use Rattle.std.specs.Prelude.{◌≡◌};
+    ghost use Rattle.std.specs.Prelude.{◌≡◌, ◌<◌};
     ghost use Rattle.nvm_store.specs.Limit.{IsLimit};
     ghost use Rattle.nvm_unit.specs.Passes.{UnitName};
 
@@ -47,7 +47,7 @@ impl Model for Unit {
 
     ghost view = { λ u. record { table = u.latch.desk.table.shared.table_id; bounds = u.bounds } };
 
-    ghost invariant = { λ u. (u.latch.desk.table.shared.key ≡ u.bounds) × IsLimit u.bounds.limit };
+    ghost invariant = { λ u. (u.latch.desk.table.shared.key ≡ u.bounds) × IsLimit u.bounds.limit × (0 < u.bounds.passes) };
 }
 
 impl Unit {
@@ -77,31 +77,34 @@ impl Unit {
         if passes == 0 || passes > MOST_PASSES {
             return Err(UnitFault::Passes);
         }
+        let place = Place {
+            first,
+            blocks,
+            size,
+        };
         let bounds = Bounds {
-            place: Place {
-                first,
-                blocks,
-                size,
-            },
+            place,
             passes,
             limit,
         };
-        let blocks = UnitBlocks::zeroed(alloc, first, blocks, size)?;
-        let (desk, token) = steps::open(alloc, bounds, Book::new(alloc, blocks))?;
-        let passes = deal(alloc, &desk, token, passes)?;
-        let unit = Unit {
-            latch: Latch::new(desk),
-            number,
-            bounds,
-        };
-        Ok((unit, passes))
+        let book = Book::new(alloc, UnitBlocks::zeroed(alloc, first, blocks, size)?);
+        let (desk, token) = steps::open(alloc, bounds, book)?;
+        let dealt = deal(alloc, &desk, token, passes)?;
+        let latch = Latch::new(desk);
+        Ok((
+            Unit {
+                latch,
+                number,
+                bounds,
+            },
+            dealt,
+        ))
     }
 
     /// The whole history of the unit, once nobody uses it any more. The passes are those that
     /// [`Unit::new`] gave with it, in their order. It takes no memory, and waits for nothing.
     pub fn close(self, passes: Vec<Pass>) -> History
-        requires passes { AreAllPassesOf self passes.items }
-        requires some { 0 < length passes.items }
+        requires { AreAllPassesOf self passes.items }
         ensures { IsWholeHistory self.bounds (views_of passes.items) result.items }
     {
         let Unit {
