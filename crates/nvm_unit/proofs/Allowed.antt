@@ -1,24 +1,24 @@
 -- Each step of a seat keeps the rule of the table, whatever the others do.
-use Rattle.std.proofs.Common.{◌≡◌, ◌≢◌, ◌⊎◌, ℕ, zero, suc, ◌+◌, ◌*◌, ◌/◌, ◌%◌, ◌<◌, ◌≤◌, List, [], ◌∷◌, ◌++◌, length, map, take, drop, set, slice_index, get_or, eqb, subst, refl, sym, ap, ◌∙◌, arith, inl, inr, Bool, true, false, Option, Some, None}
+use Rattle.std.proofs.Common.{◌≡◌, ℕ, ◌+◌, ◌*◌, ◌/◌, ◌%◌, ◌<◌, ◌≤◌, List, [], ◌∷◌, ◌++◌, length, map, take, drop, set, slice_index, get_or, eqb, subst, refl, sym, ap, ◌∙◌, arith, Bool, true, false, Option, Some, None}
 use mathlib.Core.Option.{some, none}
 use mathlib.Core.Option as there
 use lib.ListN.{get_elem?}
 use prog.Atomic.{either}
-use Rattle.atomic_table.specs.Table.{State, Step, Act, keeps, takes, gives, step, stepped, Valid, homes_after, carried_after, Allows, Joins, Splits, opening}
+use Rattle.atomic_table.specs.Table.{State, Step, Act, keeps, takes, gives, stepped, Valid, carried_after, Allows, Joins, Splits}
 use Rattle.atomic_table.proofs.Lists.{exchanged, set_else}
-use Rattle.std.proofs.lemmas.List.{length-map, get_or_push, length-append}
+use Rattle.std.proofs.lemmas.List.{get_or_push}
 use Rattle.nvm_store.specs.Line.{Line}
-use Rattle.nvm_store.specs.History.{CanFollow, IsLawfulHistory}
+use Rattle.nvm_store.specs.History.{CanFollow}
 use Rattle.nvm_unit.specs.declared.bounds.Bounds.{Bounds}
 use Rattle.nvm_unit.specs.declared.views.PassView.{PassView}
 use Rattle.nvm_unit.specs.declared.views.Group.{Group}
-use Rattle.nvm_unit.specs.Views.{Begins, looked, shown, added}
+use Rattle.nvm_unit.specs.Views.{looked, shown, added}
 use Rattle.nvm_unit.specs.Machine.{UnitState, IsAt, StandsAt, RestsAs, IsHand}
 use Rattle.nvm_unit.specs.Events.{number_found, idle, CanStep, CanAdd, after_look, after_take, after_put, after_return, after_join, after_split}
 use Rattle.nvm_unit.specs.Knowledge.{IsKept}
 use Rattle.nvm_unit.specs.Book.{Recorded, recorded}
 use Rattle.nvm_unit.specs.Rule.{slots_of, table_of, IsRuled}
-use Rattle.nvm_unit.specs.Plays.{Sits, resting, holding, EachIn, IsNotAbove, Fits, HasLooked, HasTaken, Takes, looks, tries, puts, ReturnsAs, AddsAs, CanReturn, CanAppend, first_of, others_of, together}
+use Rattle.nvm_unit.specs.Plays.{Sits, resting, holding, EachIn, IsNotAbove, Fits, HasLooked, looks, tries, puts, CanReturn, CanAppend}
 use Rattle.nvm_unit.proofs.EventsKept.{FollowsLawfully}
 use Rattle.nvm_unit.proofs.Histories.{begins_length}
 use Rattle.nvm_unit.proofs.Keeping.{found_is, free_is, keeps_look, keeps_take, keeps_return, keeps_put, keeps_join, keeps_split}

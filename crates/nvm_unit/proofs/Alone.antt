@@ -1,12 +1,12 @@
 -- A seat with one pass that takes the unit and puts it back.
-use Rattle.std.proofs.Common.{◌≡◌, ◌⊎◌, ℕ, ◌+◌, ◌*◌, ◌^◌, ◌<◌, ◌≤◌, List, [], ◌∷◌, ◌++◌, length, map, subst, refl, sym, ap, ◌∙◌, arith, inl, inr, Bool, true, false, Option, Some, None, Result, Ok, Err, IsSome}
+use Rattle.std.proofs.Common.{◌≡◌, ◌⊎◌, ℕ, ◌+◌, ◌*◌, ◌<◌, ◌≤◌, List, [], ◌∷◌, ◌++◌, length, subst, refl, sym, ap, ◌∙◌, arith, inl, inr, Bool, true, false, None, Result, Ok, Err, IsSome}
 use Rattle.std.proofs.lemmas.List.{length-append}
 use Rattle.nvm_record.specs.Medium.{Medium}
 use Rattle.nvm_record.specs.Status.{IsSuccess}
 use Rattle.nvm_record.specs.Step.{Operation, statuses_of, data_of}
 use Rattle.nvm_store.specs.Answer.{IsAnswer}
 use Rattle.nvm_store.specs.Contents.{IsCovered}
-use Rattle.nvm_store.specs.History.{CanFollow, IsLawfulHistory, replay_of}
+use Rattle.nvm_store.specs.History.{IsLawfulHistory, replay_of}
 use Rattle.nvm_store.specs.Pair.{IsFailedPair}
 use Rattle.nvm_store.specs.Limit.{IsLimit}
 use Rattle.nvm_store.specs.Line.{Line}
@@ -17,14 +17,13 @@ use Rattle.nvm_unit.specs.declared.replies.Changed.TheVariants.{Done, Failed, No
 use Rattle.nvm_unit.specs.Alone.{only}
 use Rattle.nvm_unit.specs.Book.{Recorded, recorded}
 use Rattle.nvm_unit.specs.Holding.{HasHeld, CanGiveBack, CanGiveMore, GivesBack, GivesMore}
-use Rattle.nvm_unit.specs.Machine.{IsAt}
 use Rattle.nvm_unit.specs.Passes.{Finds, IsHistoryOf, IsProper}
-use Rattle.nvm_unit.specs.Plays.{Sits, resting, holding, EachIn, Fits}
+use Rattle.nvm_unit.specs.Plays.{Sits, resting, holding, Fits}
 use Rattle.nvm_unit.specs.Replies.{Attempts, AnswersFrom, Makes, Observes, line_of, medium_at}
 use Rattle.nvm_unit.specs.declared.replies.Observed.{Observed}
 use Rattle.nvm_unit.specs.declared.replies.ObserveFault.{ObserveFault}
 use Rattle.nvm_unit.specs.declared.replies.ObserveFault.TheVariants as observe_fault
-use Rattle.nvm_unit.specs.Views.{looked, shown, added, entries_by}
+use Rattle.nvm_unit.specs.Views.{looked, shown, added}
 use Rattle.nvm_unit.proofs.EventsKept.{FollowsLawfully}
 use Rattle.nvm_unit.proofs.Groups.{at_single}
 use Rattle.nvm_unit.proofs.Histories.{entries_more, rise_after, rise_more}

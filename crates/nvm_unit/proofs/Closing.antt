@@ -1,9 +1,8 @@
 -- A table whose passes are all at one seat.
-use Rattle.std.proofs.Common.{◌≡◌, ◌≢◌, ℕ, zero, suc, ◌+◌, ◌<◌, ◌≤◌, List, [], ◌∷◌, length, get_or, subst, refl, sym, ap, ◌∙◌, arith, Option, Some, None}
+use Rattle.std.proofs.Common.{◌≡◌, ℕ, zero, suc, ◌<◌, List, [], ◌∷◌, length, subst, refl, sym, ap, ◌∙◌, arith, Option, Some, None}
 use mathlib.Core.Option.{some, none}
 use mathlib.Core.Option as there
 use lib.ListN.{get_elem?}
-use Rattle.atomic_table.proofs.Lists.{at_index}
 use Rattle.atomic_table.specs.Table.{State, Final, Seen}
 use Rattle.nvm_store.specs.Line.{Line}
 use Rattle.nvm_unit.specs.declared.bounds.Bounds.{Bounds}
@@ -14,9 +13,7 @@ use Rattle.nvm_unit.specs.Ends.{AreAllViews, IsWholeHistory}
 use Rattle.nvm_unit.specs.Events.{idle}
 use Rattle.nvm_unit.specs.Knowledge.{IsKept}
 use Rattle.nvm_unit.specs.Machine.{UnitState, IsAt, StandsAt, RestsAs}
-use Rattle.nvm_unit.specs.Passes.{Finds}
-use Rattle.nvm_unit.specs.Plays.{Fits}
-use Rattle.nvm_unit.specs.Rule.{slots_of, table_of, IsRuled}
+use Rattle.nvm_unit.specs.Rule.{slots_of, IsRuled}
 use Rattle.nvm_unit.proofs.Allowed.{fitting}
 use Rattle.nvm_unit.proofs.Alone.{finds_of}
 use Rattle.nvm_unit.proofs.Groups.{numbered_below}

@@ -1,13 +1,12 @@
 -- Seats that are dealt out, and gathered.
-use Rattle.std.proofs.Common.{◌≡◌, ℕ, zero, suc, ◌+◌, ◌-◌, ◌<◌, ◌≤◌, List, [], ◌∷◌, ◌++◌, length, map, subst, refl, sym, ap, ◌∙◌, arith, append_assoc, append-nil}
-use mathlib.Core.Option.{some, some-injective, some-ne-none}
+use Rattle.std.proofs.Common.{◌≡◌, ℕ, suc, ◌+◌, ◌-◌, ◌<◌, List, [], ◌∷◌, ◌++◌, length, subst, refl, sym, ap, ◌∙◌, arith, append_assoc}
 use Rattle.atomic_table.specs.Seated.{TableId}
 use Rattle.atomic_table.proofs.Lists.{at_longer, at_last}
 use Rattle.nvm_unit.specs.declared.bounds.Bounds.{Bounds}
 use Rattle.nvm_unit.specs.declared.views.PassView.{PassView}
 use Rattle.nvm_unit.specs.Ends.{pass_at, views_of, AreAllPassesOf, AreAllViews}
 use Rattle.nvm_unit.specs.Machine.{IsAt, newcomers_from}
-use Rattle.nvm_unit.specs.Passes.{PassState, UnitName, IsPassOf, IsProper}
+use Rattle.nvm_unit.specs.Passes.{PassState, UnitName, IsProper}
 use Rattle.nvm_unit.specs.Views.{newcomer}
 use Rattle.nvm_unit.proofs.Lists.{at_map_back}
 

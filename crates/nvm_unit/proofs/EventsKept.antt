@@ -1,5 +1,5 @@
 -- Every list of events from the opening state keeps what is known.
-use Rattle.std.proofs.Common.{◌≡◌, ℕ, zero, suc, ◌+◌, ◌<◌, ◌≤◌, List, [], ◌∷◌, ◌++◌, length, get_or, subst, refl, sym, ap, ◌∙◌, arith, Option, Some, None}
+use Rattle.std.proofs.Common.{◌≡◌, ℕ, zero, suc, ◌+◌, ◌<◌, ◌≤◌, List, [], ◌∷◌, ◌++◌, subst, refl, sym, ap, ◌∙◌, arith, None}
 use mathlib.Core.Option.{some, some-injective, some-ne-none}
 use Rattle.nvm_store.specs.Line.{Line}
 use Rattle.nvm_store.specs.History.{CanFollow, IsLawfulHistory}
@@ -9,7 +9,7 @@ use Rattle.nvm_unit.specs.declared.views.Group.{Group}
 use Rattle.nvm_unit.specs.Views.{Begins, entries_by, RiseWithin, newcomer}
 use Rattle.nvm_unit.specs.Machine.{UnitState, IsAt, StandsAt, EachPass, IsHand, newcomers_from, newcomers, opening_state}
 use Rattle.nvm_unit.specs.Events.{Event, loads, takes, misses, adds, returns, joins, splits, idle, Happens, Lead}
-use Rattle.nvm_unit.specs.Knowledge.{ArePlaced, Knows, IsKept}
+use Rattle.nvm_unit.specs.Knowledge.{Knows, IsKept}
 use Rattle.nvm_unit.proofs.Groups.{stands_one}
 use Rattle.nvm_unit.proofs.Keeping.{keeps_look, keeps_take, keeps_return, keeps_put, keeps_join, keeps_split}
 

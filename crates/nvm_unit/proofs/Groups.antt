@@ -1,14 +1,13 @@
 -- Where passes stand in the groups, when a group steps, takes in another or is cut in two.
-use Rattle.std.proofs.Common.{◌≡◌, ◌≢◌, ◌⊎◌, ℕ, zero, suc, ◌+◌, ◌-◌, ◌<◌, ◌≤◌, List, [], ◌∷◌, ◌++◌, length, map, take, drop, set, subst, refl, sym, ap, ◌∙◌, arith, inl, inr, Some, None, eqb, eq-eqb, ne_eqb, if◌then◌else◌}
+use Rattle.std.proofs.Common.{◌≡◌, ◌≢◌, ◌⊎◌, ℕ, zero, suc, ◌+◌, ◌-◌, ◌<◌, ◌≤◌, List, [], ◌∷◌, ◌++◌, length, map, take, drop, set, subst, refl, sym, ap, ◌∙◌, arith, inl, inr, eqb, eq-eqb, ne_eqb, if◌then◌else◌}
 use Rattle.std.proofs.Math.Dec.{ltb}
 use Rattle.std.proofs.lemmas.Bool.{lt-ltb, le-ltb}
 use Rattle.std.proofs.Math.ListN.{length-set}
 use native.Mathlib.Decide.{dec_lt}
-use mathlib.Core.Option.{some, some-injective, some-ne-none}
+use mathlib.Core.Option.{some-injective, some-ne-none}
 use mathlib.Core.Logic.{dite}
 use native.Mathlib.Decide.{ℕ_discrete}
-use lib.ListN.{get_elem?}
-use Rattle.atomic_table.proofs.Lists.{at_set, set_here, set_else, at_map, at_longer, at_last, at_snoc}
+use Rattle.atomic_table.proofs.Lists.{at_set, set_here, set_else, at_map, at_longer, at_last}
 use Rattle.nvm_unit.specs.declared.views.PassView.{PassView}
 use Rattle.nvm_unit.specs.declared.views.Group.{Group}
 use Rattle.nvm_unit.specs.Machine.{IsAt, StandsAt, EachPass, IsNumbered}

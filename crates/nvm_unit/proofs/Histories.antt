@@ -1,5 +1,5 @@
 -- Histories that grow: what begins them, whose entries they have, and marks that rise.
-use Rattle.std.proofs.Common.{◌≡◌, ◌≢◌, ℕ, zero, suc, ◌+◌, ◌*◌, ◌/◌, ◌<◌, ◌≤◌, ◌==◌, if◌then◌else◌, Bool, true, false, List, [], ◌∷◌, ◌++◌, length, eqb, eq-eqb, ne_eqb, append_assoc, append-nil, length-append, refl, sym, ap, ◌∙◌, arith, Option, Some, None}
+use Rattle.std.proofs.Common.{◌≡◌, ◌≢◌, ℕ, suc, ◌+◌, ◌/◌, ◌≤◌, ◌==◌, if◌then◌else◌, Bool, true, false, List, [], ◌∷◌, ◌++◌, length, eq-eqb, ne_eqb, append_assoc, append-nil, length-append, refl, sym, ap, ◌∙◌, arith, Option, Some, None}
 use Rattle.nvm_store.specs.Line.{Line}
 use Rattle.nvm_unit.specs.Views.{Begins, entries_by_from, entries_by, RiseWithin, marks_after}
 use Rattle.nvm_unit.specs.Machine.{RestsAs}

@@ -1,5 +1,5 @@
 -- Two passes at one seat, which takes the unit and puts it back.
-use Rattle.std.proofs.Common.{◌≡◌, ℕ, zero, suc, ◌+◌, ◌*◌, ◌<◌, ◌≤◌, List, [], ◌∷◌, ◌++◌, length, map, take, drop, subst, refl, sym, ap, ◌∙◌, arith, Bool, true, false, Option, Some, None}
+use Rattle.std.proofs.Common.{◌≡◌, ℕ, zero, suc, ◌≤◌, List, [], ◌∷◌, ◌++◌, length, take, drop, subst, refl, sym, ap, ◌∙◌, arith, false, None}
 use Rattle.nvm_store.specs.Limit.{IsLimit}
 use Rattle.nvm_store.specs.Line.{Line}
 use Rattle.nvm_unit.specs.declared.bounds.Bounds.{Bounds}
@@ -8,10 +8,10 @@ use Rattle.nvm_unit.specs.Book.{Recorded, recorded}
 use Rattle.nvm_unit.specs.Holding.{HasHeld, CanGiveBack, GivesBack}
 use Rattle.nvm_unit.specs.Machine.{IsAt}
 use Rattle.nvm_unit.specs.Passes.{Finds}
-use Rattle.nvm_unit.specs.Plays.{Sits, resting, holding, EachIn, Fits}
+use Rattle.nvm_unit.specs.Plays.{Sits, resting, holding, Fits}
 use Rattle.nvm_unit.specs.Views.{looked, shown}
 use Rattle.nvm_unit.proofs.Alone.{finds_of}
-use mathlib.Core.Option.{some, some-injective, some-ne-none}
+use mathlib.Core.Option.{some-injective, some-ne-none}
 
 -- A seat that rests, whatever passes it has.
 pub rests_as : (m : Sits) (ps : List PassView) → m ≡ resting ps → m ≡ resting m.0.passes

@@ -1,14 +1,13 @@
 -- Steps that decide nothing, one after the other, until one takes the unit.
-use Rattle.std.proofs.Common.{◌≡◌, ◌⊎◌, ℕ, ◌+◌, ◌*◌, ◌/◌, ◌<◌, ◌≤◌, List, [], ◌∷◌, length, map, subst, refl, sym, ap, ◌∙◌, arith, inl, inr, Bool, true, false, Option, Some, None}
+use Rattle.std.proofs.Common.{◌≡◌, ℕ, ◌/◌, ◌<◌, ◌≤◌, List, [], ◌∷◌, length, map, subst, refl, sym, ap, ◌∙◌, arith, inl, inr, false, Some}
 use Rattle.atomic_table.proofs.Lists.{at_map}
 use Rattle.std.proofs.lemmas.List.{length-map}
 use Rattle.nvm_store.specs.Line.{Line}
 use Rattle.nvm_unit.specs.declared.bounds.Bounds.{Bounds}
 use Rattle.nvm_unit.specs.declared.views.PassView.{PassView}
 use Rattle.nvm_unit.specs.Views.{looked}
-use Rattle.nvm_unit.specs.Machine.{IsAt}
 use Rattle.nvm_unit.specs.Book.{recorded}
-use Rattle.nvm_unit.specs.Plays.{Sits, resting, holding, EachIn, IsNotAbove, Fits, HasLooked, HasTaken, Takes}
+use Rattle.nvm_unit.specs.Plays.{Sits, holding, EachIn, IsNotAbove, HasLooked, HasTaken, Takes}
 use Rattle.nvm_unit.specs.Holding.{HasWaited}
 
 -- The last step says what was found.

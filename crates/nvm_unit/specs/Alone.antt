@@ -1,6 +1,5 @@
 -- The pass of a seat that has one.
 use Rattle.std.specs.Prelude.{List, [], ◌∷◌}
-use Rattle.nvm_unit.specs.declared.bounds.Bounds.{Bounds}
 use Rattle.nvm_unit.specs.declared.views.PassView.{PassView}
 use Rattle.nvm_unit.specs.Views.{newcomer}
 

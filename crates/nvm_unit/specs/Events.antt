@@ -1,6 +1,6 @@
 -- What can happen to a shared unit. An event is one atomic step on its word, by one group of passes, or
 -- by two. It changes their views alone.
-use Rattle.std.specs.Prelude.{◌≡◌, ◌≢◌, ℕ, ◌+◌, ◌*◌, ◌/◌, ◌<◌, List, [], ◌∷◌, ◌++◌, map, take, drop, length, slice_set, Bool, true, false, Option, Some, None}
+use Rattle.std.specs.Prelude.{◌≡◌, ◌≢◌, ℕ, ◌+◌, ◌*◌, ◌/◌, ◌<◌, List, [], ◌∷◌, ◌++◌, map, take, drop, length, slice_set, Bool, true, false, Some, None}
 use Rattle.nvm_store.specs.Line.{Line}
 use Rattle.nvm_store.specs.History.{CanFollow}
 use Rattle.nvm_unit.specs.declared.bounds.Bounds.{Bounds}

@@ -1,11 +1,11 @@
 -- What contracts see of a unit and of its passes.
-use Rattle.std.specs.Prelude.{◌≡◌, ℕ, ◌≤◌, List, [], ◌∷◌, length}
+use Rattle.std.specs.Prelude.{◌≡◌, ℕ, ◌≤◌, List, length}
 use Rattle.atomic_table.specs.Seated.{TableId}
 use Rattle.nvm_store.specs.Line.{Line}
 use Rattle.nvm_store.specs.History.{IsLawfulHistory}
 use Rattle.nvm_unit.specs.declared.bounds.Bounds.{Bounds}
 use Rattle.nvm_unit.specs.declared.views.PassView.{PassView}
-use Rattle.nvm_unit.specs.Views.{Begins, entries_by, RiseWithin, newcomer, shown}
+use Rattle.nvm_unit.specs.Views.{Begins, entries_by, RiseWithin}
 
 -- which unit it is, and what is settled of it
 pub record UnitName : Type 0 where

@@ -150,6 +150,7 @@ impl Unit {
         requires covered { IsCovered self.now.bounds.place.first self.now.bounds.place.blocks
             self.now.bounds.place.size (lent_operation_of act) }
         ensures of { IsPassOf self.now pass.new }
+        ensures number { pass.new.view.number ≡ pass.old.view.number }
         ensures made { Makes result pass.old.view job (lent_operation_of act.entry) pass.new.view }
         ensures proper { IsProper pass.new.view }
     {
@@ -174,6 +175,7 @@ impl Unit {
         requires covered { IsCovered self.now.bounds.place.first self.now.bounds.place.blocks
             self.now.bounds.place.size (look_operation_of look) }
         ensures of { IsPassOf self.now pass.new }
+        ensures number { pass.new.view.number ≡ pass.old.view.number }
         ensures observed { Observes result pass.old.view (look_operation_of look.entry) pass.new.view }
         ensures proper { IsProper pass.new.view }
     {
@@ -188,6 +190,7 @@ impl Unit {
     pub fn refresh<R: Wait>(&self, rt: &R, pass: &mut Pass)
         requires { IsPassOf self.now pass.old }
         ensures of { IsPassOf self.now pass.new }
+        ensures number { pass.new.view.number ≡ pass.old.view.number }
         ensures up { IsBroughtUp pass.old.view pass.new.view }
         ensures proper { IsProper pass.new.view }
     {
@@ -206,6 +209,7 @@ impl Unit {
     ) -> Result<History, NoMemory>
         requires { IsPassOf self.now pass.old }
         ensures of { IsPassOf self.now pass.new }
+        ensures number { pass.new.view.number ≡ pass.old.view.number }
         ensures up { IsBroughtUp pass.old.view pass.new.view }
         ensures proper { IsProper pass.new.view }
         ensures seen { IfOk result (λ v. v.items ≡ pass.new.view.seen) }
@@ -224,6 +228,8 @@ impl Unit {
         requires other { IsPassOf self.now other.old }
         ensures one { IsPassOf self.now one.new }
         ensures other { IsPassOf self.now other.new }
+        ensures number { one.new.view.number ≡ one.old.view.number }
+        ensures other_number { other.new.view.number ≡ other.old.view.number }
         ensures met { Meet one.old.view other.old.view one.new.view other.new.view }
         ensures one_proper { IsProper one.new.view }
         ensures other_proper { IsProper other.new.view }

@@ -1,11 +1,8 @@
-use Rattle.std.proofs.Common.{◌≡◌, ℕ, ◌+◌, ◌-◌, ap, sym, refl, ◌∙◌, List, [], ◌∷◌, ◌++◌, map}
-use Rattle.atomic_table.specs.Seated.{TableId}
-use Rattle.nvm_unit.specs.declared.views.PassView.{PassView}
+use Rattle.std.proofs.Common.{◌≡◌, ap, refl, ◌∙◌, [], ◌∷◌, ◌++◌, map}
 use Rattle.nvm_unit.specs.Alone.{only}
 use Rattle.nvm_unit.specs.Ends.{pass_at}
-use Rattle.nvm_unit.specs.Machine.{newcomers_from}
 use Rattle.nvm_unit.specs.Passes.{PassState}
-use Rattle.nvm_unit.specs.Plays.{Sits, resting}
+use Rattle.nvm_unit.specs.Plays.{resting}
 use Rattle.nvm_unit.specs.Views.{newcomer}
 use Rattle.nvm_unit.proofs.Alone.{closed, only_is}
 use Rattle.nvm_unit.proofs.Dealing.{next_left, newcomer_proper, dealt_more, same_pass}

@@ -1,4 +1,4 @@
-use Rattle.std.proofs.Common.{◌≡◌, ap, sym, refl, subst, ◌∙◌, List, ℕ, Option, Some, IsSome}
+use Rattle.std.proofs.Common.{◌≡◌, ap, sym, refl, subst, ◌∙◌, List, Option, Some, IsSome}
 use Rattle.std.specs.Slots.{slots_items}
 use Rattle.atomic_table.specs.Table.{Final, Seen}
 use Rattle.nvm_store.specs.Line.{Line}

@@ -1,4 +1,4 @@
-use Rattle.std.proofs.Common.{◌≡◌, ap, sym, ◌∙◌, List, [], ◌∷◌, ◌++◌, Option, Some}
+use Rattle.std.proofs.Common.{◌≡◌, ap, ◌∙◌, List, [], ◌∷◌, ◌++◌, Option, Some}
 use Rattle.atomic_table.specs.Table.{opening}
 use Rattle.nvm_unit.specs.Book.{Recorded, recorded}
 use Rattle.nvm_unit.specs.Machine.{opening_state}

@@ -1,4 +1,4 @@
-use Rattle.std.proofs.Common.{◌≡◌, ◌≤◌, ◌<◌, ap, sym, ◌∙◌, length, arith, inl, [], ◌∷◌, ◌++◌, false}
+use Rattle.std.proofs.Common.{◌≡◌, ◌≤◌, ap, ◌∙◌, length, arith, inl, [], ◌∷◌, false}
 use Rattle.nvm_unit.specs.declared.steps.Token.{Token}
 use Rattle.nvm_unit.specs.Alone.{only}
 use Rattle.nvm_unit.specs.Book.{Recorded}

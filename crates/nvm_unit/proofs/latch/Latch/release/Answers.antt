@@ -1,8 +1,7 @@
-use Rattle.std.proofs.Common.{◌≡◌, ap, ◌∙◌, ◌+◌, List, length, [], ◌∷◌, ◌++◌, arith, inl, inr, Some}
+use Rattle.std.proofs.Common.{◌≡◌, ap, ◌∙◌, length, [], ◌∷◌, ◌++◌, arith, inl, inr, Some}
 use Rattle.std.proofs.lemmas.List.{length-append}
-use Rattle.nvm_store.specs.Line.{Line}
-use Rattle.nvm_unit.specs.Book.{Recorded, recorded}
-use Rattle.nvm_unit.specs.Plays.{Sits, holding}
+use Rattle.nvm_unit.specs.Book.{Recorded}
+use Rattle.nvm_unit.specs.Plays.{holding}
 use Rattle.nvm_unit.proofs.latch.Latch.release.Goals as goal
 
 pub put-requires-clause-ready : goal.put-requires-clause-ready

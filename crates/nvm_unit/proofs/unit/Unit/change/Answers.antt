@@ -1,4 +1,4 @@
-use Rattle.std.proofs.Common.{◌≡◌, ◌≤◌, ap, sym, subst, refl, ◌∙◌, length, arith, [], ◌∷◌, true}
+use Rattle.std.proofs.Common.{◌≡◌, ◌≤◌, ap, sym, subst, ◌∙◌, length, arith}
 use Rattle.atomic_table.specs.Seated.{TableId}
 use Rattle.nvm_store.specs.ActRef.{lent_operation_of}
 use Rattle.nvm_store.specs.Contents.{IsCovered}
@@ -131,6 +131,26 @@ returns-clause-of g c =
       table = c.release.ensures.at ∙ (c.hold-book.ensures.at ∙ (ap table_of c.pass.view_is ∙ c.requires.of.table));
       bounds = ap (λ (m : Sits). (only m.0.passes).bounds) ends.at ∙ (ends.bounds ∙ c.requires.of.bounds);
     }
+
+pub returns-clause-number : goal.returns-clause-number
+returns-clause-number g c =
+    let p = c.args.pass.now.view in
+    let held = c.hold-book.ensures.held in
+    let book = c.hold-book.result in
+    let a = alone held.0 held.1 book p _ _ _ (ap view_of c.pass.view_is) c.pass.invariant.0 held.2 in
+    let book' = c.attempt-changed.new.book in
+    let op = lent_operation_of c.args.act in
+    let same_bounds : p.bounds ≡ c.self.inside.bounds = c.requires.of.bounds ∙ ap bounds_of (sym c.self.view_is) in
+    let attempt =
+    attempt_as c.attempt-changed.result c.self.inside.bounds.limit c.pass.inside.number c.args.job op book book' p (ap (λ (b : Bounds). b.limit) (sym same_bounds))
+    (c.pass.invariant.1 ∙ ap (λ (x : PassState). x.view.number) c.pass.view_is) c.attempt-changed.ensures in
+    let covered =
+    subst (λ (b : Bounds). IsCovered b.place.first b.place.blocks b.place.size op) (sym c.requires.of.bounds) c.requires.covered in
+    let law : FollowsLawfully = λ start count size history line lawful follows. (c.lawful_with_one_more.ensures start count size history line).1 (lawful, follows) in
+    let ends =
+    attempt_ends law c.attempt-changed.result held.0 held.1 book book' p c.args.job op _ _ a covered attempt
+    (subst IsProper (ap view_of c.pass.view_is) c.pass.invariant.3) c.release.ensures.back c.release.ensures.more in
+    ap (λ (m : Sits). (only m.0.passes).number) ends.at ∙ ends.number
 
 pub returns-clause-made : goal.returns-clause-made
 returns-clause-made g c =

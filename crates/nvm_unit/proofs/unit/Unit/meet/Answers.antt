@@ -50,3 +50,11 @@ returns-clause-other_proper g c =
     let p = only c.other.inside.token.seat.me.0.passes in
     let met = c.meet-entries.ensures.met in
     subst IsProper (sym (only_is _ _ met.5)) (proper_shown false (length met.0) p met.0 c.other.invariant.3 met.3)
+
+pub returns-clause-number : goal.returns-clause-number
+returns-clause-number g c =
+    ap (λ (p : PassView). p.number) (only_is _ _ c.meet-entries.ensures.met.4) ∙ ap (λ (x : PassState). x.view.number) c.one.view_is
+
+pub returns-clause-other_number : goal.returns-clause-other_number
+returns-clause-other_number g c =
+    ap (λ (p : PassView). p.number) (only_is _ _ c.meet-entries.ensures.met.5) ∙ ap (λ (x : PassState). x.view.number) c.other.view_is

@@ -1,4 +1,4 @@
-use Rattle.std.proofs.Common.{◌≡◌, ◌≤◌, ap, sym, subst, refl, ◌∙◌, length, arith, inl, [], ◌∷◌, true, false}
+use Rattle.std.proofs.Common.{◌≤◌, ap, sym, subst, refl, ◌∙◌, length, inl, [], ◌∷◌, true, false}
 use Rattle.atomic_table.specs.Seated.{TableId}
 use Rattle.nvm_unit.specs.declared.bounds.Bounds.{Bounds}
 use Rattle.nvm_unit.specs.declared.views.PassView.{PassView}
@@ -64,6 +64,15 @@ returns-clause-of g c =
       table = c.release.ensures.at ∙ (c.hold-book.ensures.at ∙ (ap table_of c.pass.view_is ∙ c.requires.of.table));
       bounds = ap (λ (m : Sits). (only m.0.passes).bounds) after ∙ c.requires.of.bounds;
     }
+
+pub returns-clause-number : goal.returns-clause-number
+returns-clause-number g c =
+    let p = c.args.pass.now.view in
+    let held = c.hold-book.ensures.held in
+    let a = alone held.0 held.1 c.hold-book.result p _ _ _ (ap view_of c.pass.view_is) c.pass.invariant.0 held.2 in
+    let after = after_back (λ _. true) held.0 held.1 c.hold-book.result c.hold-book.result p _ _ a refl c.release.ensures.back in
+    let q : PassView = shown true (length held.1) held.1 p in
+    ap (λ (m : Sits). (only m.0.passes).number) after
 
 pub returns-clause-proper : goal.returns-clause-proper
 returns-clause-proper g c =
