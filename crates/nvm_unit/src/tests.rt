@@ -1,0 +1,271 @@
+//! A unit of LBAs 0 to 7 with blocks of 512 bytes, and two passes.
+mod gates;
+mod threads;
+
+ghost use Rattle.std.specs.Prelude.{◌≡◌, [], ◌∷◌, IfOk};
+ghost use Rattle.nvm_unit.specs.Ends.{AreAllPassesOf};
+ghost use Rattle.nvm_unit.specs.Passes.{IsPassOf};
+
+use crate::{Changed, Gate, Observed, Open, Pass, Unit, UnitFault};
+use nvm_record::{BlockSize, Status, Statuses};
+use nvm_store::{ActRef, Answer, Entry, Limit, Look};
+use std::alloc::Global;
+use std::sync::Wait;
+use std::test::Fail;
+
+const BLOCK: usize = 512;
+
+/// The unit and its two passes.
+fn two_passes(alloc: Global, limit: u32) -> Result<(Unit, Pass, Pass), Fail>
+    ensures of { IfOk result (λ u. IsPassOf u.0 u.1 × IsPassOf u.0 u.2) }
+    ensures count { IfOk result (λ u. u.0.bounds.passes ≡ 2) }
+    ensures numbers { IfOk result (λ u. (u.1.view.number ≡ 0) × (u.2.view.number ≡ 1)) }
+{
+    let size = BlockSize::new(512).ok_or("no block has 512 bytes")?;
+    let limit = Limit::new(limit).ok_or("there is no such limit")?;
+    let Ok((unit, mut passes)) = Unit::new(alloc, 0, 0, 8, size, 2, limit) else {
+        return Err(Fail::new("there is no unit"));
+    };
+    let second = passes.pop().ok_or("there is no second pass")?;
+    let first = passes.pop().ok_or("there is no first pass")?;
+    Ok((unit, first, second))
+}
+
+/// Does the act as job `job`.
+fn change<R: Wait, G: Gate>(
+    alloc: Global,
+    rt: &R,
+    unit: &Unit,
+    pass: &mut Pass,
+    job: u32,
+    act: ActRef<'_>,
+    gate: &G,
+) -> Result<Changed, Fail>
+    requires { IsPassOf unit.now pass.old }
+    ensures of { IsPassOf unit.now pass.new }
+    ensures number { pass.new.view.number ≡ pass.old.view.number }
+{
+    if !unit.covers(act) {
+        return Err(Fail::new("the unit doesn't cover the act"));
+    }
+    Ok(unit.change(alloc, rt, pass, job, act, gate))
+}
+
+/// Writes a block of this byte at the LBA.
+fn write<R: Wait>(
+    alloc: Global,
+    rt: &R,
+    unit: &Unit,
+    pass: &mut Pass,
+    job: u32,
+    lba: u64,
+    byte: u8,
+) -> Result<Changed, Fail>
+    requires { IsPassOf unit.now pass.old }
+    ensures of { IsPassOf unit.now pass.new }
+    ensures number { pass.new.view.number ≡ pass.old.view.number }
+{
+    let payload = [byte; BLOCK];
+    let act = ActRef::Write {
+        first: lba,
+        blocks: 1,
+        payload: &payload,
+    };
+    change(alloc, rt, unit, pass, job, act, &Open)
+}
+
+/// Compares the block at the LBA with a block of one byte, and writes a block of another.
+fn pair<R: Wait>(
+    alloc: Global,
+    rt: &R,
+    unit: &Unit,
+    pass: &mut Pass,
+    lba: u64,
+    old: u8,
+    new: u8,
+) -> Result<Changed, Fail>
+    requires { IsPassOf unit.now pass.old }
+    ensures of { IsPassOf unit.now pass.new }
+    ensures number { pass.new.view.number ≡ pass.old.view.number }
+{
+    let compare = [old; BLOCK];
+    let write = [new; BLOCK];
+    let act = ActRef::Pair {
+        first: lba,
+        blocks: 1,
+        compare: &compare,
+        write: &write,
+    };
+    change(alloc, rt, unit, pass, 0, act, &Open)
+}
+
+/// The point of a Read of `blocks` blocks from the LBA, and its data.
+fn read<R: Wait>(
+    alloc: Global,
+    rt: &R,
+    unit: &Unit,
+    pass: &mut Pass,
+    lba: u64,
+    blocks: u32,
+) -> Result<(u32, Vec<u8>), Fail>
+    requires { IsPassOf unit.now pass.old }
+    ensures of { IsPassOf unit.now pass.new }
+    ensures number { pass.new.view.number ≡ pass.old.view.number }
+{
+    let look = Look::Read { first: lba, blocks };
+    if !unit.covers_look(look) {
+        return Err(Fail::new("the unit doesn't cover the Read"));
+    }
+    match unit.observe(alloc, rt, pass, look) {
+        Ok(Observed {
+            point,
+            answer: Answer::Payload(payload),
+        }) => Ok((point, payload.into_vec())),
+        Ok(_) => Err(Fail::new("the Read failed")),
+        Err(_) => Err(Fail::new("there was no memory")),
+    }
+}
+
+/// The whole history of a unit that nobody uses any more.
+fn close(alloc: Global, unit: Unit, first: Pass, second: Pass) -> Result<Vec<Entry>, Fail>
+    requires first { IsPassOf unit first }
+    requires second { IsPassOf unit second }
+    requires count { unit.bounds.passes ≡ 2 }
+    requires numbers { (first.view.number ≡ 0) × (second.view.number ≡ 1) }
+{
+    let mut passes = Vec::with_capacity(alloc, 2)?;
+    passes.push(first)?;
+    passes.push(second)?;
+    Ok(unit.close(passes))
+}
+
+#[test]
+fn a_change_is_seen_by_the_other_pass(rt: HostRuntime) -> Result<(), Fail> {
+    let (unit, mut first, mut second) = two_passes(rt.alloc(), 100)?;
+    for k in 0..100u32 {
+        let byte = (k % 256) as u8;
+        let lba = u64::from(k % 8);
+        let changed = write(rt.alloc(), &rt, &unit, &mut first, k, lba, byte)?;
+        assert_eq!(rt; changed, Changed::Done { at: k });
+        let (point, bytes) = read(rt.alloc(), &rt, &unit, &mut second, lba, 1)?;
+        assert_eq!(rt; point, k + 1);
+        assert_eq!(rt; bytes.as_slice(), [byte; BLOCK].as_slice());
+    }
+    Ok(())
+}
+
+#[test]
+fn passes_that_met_have_one_history(rt: HostRuntime) -> Result<(), Fail> {
+    let (unit, mut first, mut second) = two_passes(rt.alloc(), 100)?;
+    let one = write(rt.alloc(), &rt, &unit, &mut first, 7, 2, 0x41)?;
+    let two = write(rt.alloc(), &rt, &unit, &mut second, 9, 3, 0x42)?;
+    assert_eq!(rt; one, Changed::Done { at: 0 });
+    assert_eq!(rt; two, Changed::Done { at: 1 });
+    let (point, bytes) = read(rt.alloc(), &rt, &unit, &mut first, 2, 2)?;
+    assert_eq!(rt; point, 2);
+    assert_eq!(rt; &bytes[..BLOCK], [0x41; BLOCK].as_slice());
+    assert_eq!(rt; &bytes[BLOCK..], [0x42; BLOCK].as_slice());
+    unit.meet(&rt, &mut first, &mut second);
+    for pass in [&mut first, &mut second] {
+        let history = unit.history(rt.alloc(), &rt, pass)?;
+        assert_eq!(rt; history.len(), 2);
+        assert_eq!(rt; (history[0].pass, history[0].job), (0, 7));
+        assert_eq!(rt; (history[1].pass, history[1].job), (1, 9));
+    }
+    let history = close(rt.alloc(), unit, first, second)?;
+    assert_eq!(rt; history.len(), 2);
+    Ok(())
+}
+
+#[test]
+fn a_failed_pair_changes_nothing(rt: HostRuntime) -> Result<(), Fail> {
+    let (unit, mut first, mut second) = two_passes(rt.alloc(), 100)?;
+    let changed = pair(rt.alloc(), &rt, &unit, &mut first, 0, 1, 2)?;
+    let statuses = Statuses::Two(
+        Status::COMPARE_FAILURE,
+        Status::ABORTED_DUE_TO_FAILED_FUSED_COMMAND,
+    );
+    assert_eq!(rt; changed, Changed::Failed { point: 0, statuses });
+    let (point, bytes) = read(rt.alloc(), &rt, &unit, &mut second, 0, 1)?;
+    assert_eq!(rt; point, 0);
+    assert_eq!(rt; bytes.as_slice(), [0; BLOCK].as_slice());
+    Ok(())
+}
+
+#[test]
+fn a_full_unit_still_compares_pairs(rt: HostRuntime) -> Result<(), Fail> {
+    let (unit, mut first, mut second) = two_passes(rt.alloc(), 1)?;
+    let done = write(rt.alloc(), &rt, &unit, &mut first, 0, 0, 0x41)?;
+    let full = write(rt.alloc(), &rt, &unit, &mut second, 1, 1, 0x42)?;
+    let held = pair(rt.alloc(), &rt, &unit, &mut second, 0, 0x41, 0x43)?;
+    let failed = pair(rt.alloc(), &rt, &unit, &mut second, 0, 0x40, 0x43)?;
+    assert_eq!(rt; done, Changed::Done { at: 0 });
+    assert_eq!(rt; full, Changed::Full { point: 1 });
+    assert_eq!(rt; held, Changed::Full { point: 1 });
+    let statuses = Statuses::Two(
+        Status::COMPARE_FAILURE,
+        Status::ABORTED_DUE_TO_FAILED_FUSED_COMMAND,
+    );
+    assert_eq!(rt; failed, Changed::Failed { point: 1, statuses });
+    let (point, bytes) = read(rt.alloc(), &rt, &unit, &mut first, 0, 2)?;
+    assert_eq!(rt; point, 1);
+    assert_eq!(rt; &bytes[..BLOCK], [0x41; BLOCK].as_slice());
+    assert_eq!(rt; &bytes[BLOCK..], [0; BLOCK].as_slice());
+    Ok(())
+}
+
+#[test]
+fn a_refreshed_pass_has_seen_all(rt: HostRuntime) -> Result<(), Fail> {
+    let (unit, mut first, mut second) = two_passes(rt.alloc(), 100)?;
+    let done = write(rt.alloc(), &rt, &unit, &mut first, 0, 5, 0x41)?;
+    assert_eq!(rt; done, Changed::Done { at: 0 });
+    unit.refresh(&rt, &mut second);
+    assert_eq!(rt; second.entries, 1);
+    let changed = write(rt.alloc(), &rt, &unit, &mut second, 1, 5, 0x42)?;
+    assert_eq!(rt; changed, Changed::Done { at: 1 });
+    Ok(())
+}
+
+#[test]
+fn a_unit_has_1_to_64_passes(rt: HostRuntime) -> Result<(), Fail> {
+    let size = BlockSize::new(512).ok_or("no block has 512 bytes")?;
+    let limit = Limit::new(1).ok_or("there is no such limit")?;
+    for (count, taken) in [(0, false), (1, true), (64, true), (65, false)] {
+        match Unit::new(rt.alloc(), 0, 0, 1, size, count, limit) {
+            Ok((_, passes)) => {
+                assert!(rt; taken, "{count} passes");
+                assert_eq!(rt; passes.len(), usize::from(count));
+                for number in 0..count {
+                    assert_eq!(rt; passes[usize::from(number)].number(), number);
+                }
+            }
+            Err(fault) => {
+                assert!(rt; !taken, "{count} passes");
+                assert_eq!(rt; fault, UnitFault::Passes);
+            }
+        }
+    }
+    Ok(())
+}
+
+#[test]
+fn a_refused_growth_leaves_the_unit(rt: HostRuntime) -> Result<(), Fail> {
+    let (unit, mut first, mut second) = two_passes(rt.alloc(), 100)?;
+    let Changed::Done { .. } = write(rt.alloc(), &rt, &unit, &mut first, 0, 0, 0x41)? else {
+        return Ok(());
+    };
+    let changed = write(rt.alloc(), &rt, &unit, &mut first, 1, 0, 0x42)?;
+    let (point, bytes) = read(rt.alloc(), &rt, &unit, &mut second, 0, 1)?;
+    match changed {
+        Changed::Done { at } => {
+            assert_eq!(rt; (at, point), (1, 2));
+            assert_eq!(rt; bytes.as_slice(), [0x42; BLOCK].as_slice());
+        }
+        Changed::NoMemory { point: found } => {
+            assert_eq!(rt; (found, point), (1, 1));
+            assert_eq!(rt; bytes.as_slice(), [0x41; BLOCK].as_slice());
+        }
+        _ => return Err(Fail::new("neither done nor refused")),
+    }
+    Ok(())
+}
