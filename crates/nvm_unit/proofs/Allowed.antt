@@ -44,8 +44,8 @@ allowed : (b : Bounds) (slots id : ℕ) (m : Sits) (f : ℕ → ℕ) (then : ℕ
 allowed b slots id m f then goes t ruled long at small =
     let P : State Slot Group → Type 0 =
     λ x. get_elem? x.views id ≡ some m.0
-        → (w : Group) × (a : Act Slot) × Valid x.homes m.1 a × IsRuled b (stepped x 0 (f (slice_index x.words 0)) id m.1 w a)
-        × then (slice_index x.words 0) (w, carried_after m.1 a) in
+    → (w : Group) × (a : Act Slot) × Valid x.homes m.1 a × IsRuled b (stepped x 0 (f (slice_index x.words 0)) id m.1 w a)
+    × then (slice_index x.words 0) (w, carried_after m.1 a) in
     subst P (sym ruled.1) (goes ruled.0 ruled.2) at
 
 -- A step finds no fewer entries than a pass has found and seen.
@@ -126,17 +126,17 @@ take_goes decides st b id old m first even rests filled s kept at is =
       (t, same_table ((old + 1) ∷ []) ((2 * n + 1) ∷ []) (set (slots_of b s.slot) 0 none) (none ∷ []) (set s.groups id w) t.groups (ap (λ (x : ℕ). x ∷ []) words) out views, keeps_take b s kept id m.0 can free),
       (
         λ e. (
-            b,
-            s.history,
-            record {
-              found = omega arith;
-              after = ap (λ (k : ℕ). let y : Sits = (record { passes = map (looked false k) m.0.passes; held = Some s.history }, (0, book) ∷ m.1) in y) same
-                  ∙ ap (λ (xs : List (ℕ × Slot)). let y : Sits = (record { passes = map (looked false (length s.history)) m.0.passes; held = Some s.history }, xs) in y) carried;
-              fits = fitting b s kept id m.0 at;
-              lawful = kept.sound.hold.lawful;
-              within = kept.sound.hold.within;
-            },
-          ),
+          b,
+          s.history,
+          record {
+            found = omega arith;
+            after = ap (λ (k : ℕ). let y : Sits = (record { passes = map (looked false k) m.0.passes; held = Some s.history }, (0, book) ∷ m.1) in y) same
+                ∙ ap (λ (xs : List (ℕ × Slot)). let y : Sits = (record { passes = map (looked false (length s.history)) m.0.passes; held = Some s.history }, xs) in y) carried;
+            fits = fitting b s kept id m.0 at;
+            lawful = kept.sound.hold.lawful;
+            within = kept.sound.hold.within;
+          },
+        ),
         λ ne. absurd (ne (is ∙ sym first)),
       ),
     )
@@ -206,15 +206,15 @@ return_goes decides st b b' id entries ps h first count filled bounds alone s ke
       tt,
       (t, same_table (2 * entries ∷ []) (2 * n ∷ []) (set (slots_of b s.slot) 0 (some x)) (slots_of b (Some h)) (set s.groups id w) t.groups (ap (λ (y : ℕ). y ∷ []) twice) homes views, keeps_return b s kept id g d can is.0),
       λ entries' first'. (
-          λ ps' history book same count'.
-              let same_ps : ps ≡ ps' = ap held_passes same in
-              let same_history : h ≡ history = ap held_history same in
-              ap (λ (y : List Line). resting (map (shown (decides (2 * length y + 1)) (length y) y) ps)) same_history
-              ∙ ap (λ (y : List PassView). resting (map (shown (decides (2 * length history + 1)) (length history) history) y)) same_ps,
-          λ p history line same count'.
-              let same_length : length h ≡ length history = ap (λ (y : Sits). length (held_history y)) same in
-              absurd (omega arith),
-        ),
+        λ ps' history book same count'.
+            let same_ps : ps ≡ ps' = ap held_passes same in
+            let same_history : h ≡ history = ap held_history same in
+            ap (λ (y : List Line). resting (map (shown (decides (2 * length y + 1)) (length y) y) ps)) same_history
+            ∙ ap (λ (y : List PassView). resting (map (shown (decides (2 * length history + 1)) (length history) history) y)) same_ps,
+        λ p history line same count'.
+            let same_length : length h ≡ length history = ap (λ (y : Sits). length (held_history y)) same in
+            absurd (omega arith),
+      ),
     )
 
 pub return_allowed : (decides : Deciding) (st : Step Slot) (b b' : Bounds) (slots id entries : ℕ) (m : Sits) (ps : List PassView) (h : List Line) → st.first ≡ 2 * entries
@@ -263,21 +263,21 @@ append_goes law decides st b id entries p h line first count number follows room
         keeps_put b s kept id p h line can (law b.place.first b.place.blocks b.place.size s.history line kept.sound.hold.lawful follows_here),
       ),
       λ entries' first'. (
-          λ ps' history book same count'.
-              let same_length : length h ≡ length history = ap (λ (y : Sits). length (held_history y)) same in
-              absurd (omega arith),
-          λ p' history line' same count'.
-              let same_p : p ∷ [] ≡ p' ∷ [] = ap held_passes same in
-              let same_pass : p ≡ p' = cc in
-              let same_history : h ≡ history = ap held_history same in
-              let pages : h ++ line ∷ [] ≡ history ++ line' ∷ [] = ap (λ (y : Sits). pages_or (book_or y.1)) same in
-              let pages_here : h ++ line ∷ [] ≡ h ++ line' ∷ [] = pages ∙ ap (λ (y : List Line). y ++ line' ∷ []) (sym same_history) in
-              let same_line : line ≡ line' =
-              sym (get_or_push h line line (length h) refl) ∙ (ap (λ (y : List Line). get_or y (length h) line) pages_here ∙ get_or_push h line' line (length h) refl) in
-              ap (λ (y : List Line). resting (added (length y) y line p ∷ [])) same_history
-              ∙ (ap (λ (y : Line). resting (added (length history) history y p ∷ [])) same_line
-              ∙ ap (λ (y : PassView). resting (added (length history) history line' y ∷ [])) same_pass),
-        ),
+        λ ps' history book same count'.
+            let same_length : length h ≡ length history = ap (λ (y : Sits). length (held_history y)) same in
+            absurd (omega arith),
+        λ p' history line' same count'.
+            let same_p : p ∷ [] ≡ p' ∷ [] = ap held_passes same in
+            let same_pass : p ≡ p' = cc in
+            let same_history : h ≡ history = ap held_history same in
+            let pages : h ++ line ∷ [] ≡ history ++ line' ∷ [] = ap (λ (y : Sits). pages_or (book_or y.1)) same in
+            let pages_here : h ++ line ∷ [] ≡ h ++ line' ∷ [] = pages ∙ ap (λ (y : List Line). y ++ line' ∷ []) (sym same_history) in
+            let same_line : line ≡ line' =
+            sym (get_or_push h line line (length h) refl) ∙ (ap (λ (y : List Line). get_or y (length h) line) pages_here ∙ get_or_push h line' line (length h) refl) in
+            ap (λ (y : List Line). resting (added (length y) y line p ∷ [])) same_history
+            ∙ (ap (λ (y : Line). resting (added (length history) history y p ∷ [])) same_line
+            ∙ ap (λ (y : PassView). resting (added (length history) history line' y ∷ [])) same_pass),
+      ),
     )
 
 pub append_allowed : FollowsLawfully → (decides : Deciding) (st : Step Slot) (b : Bounds) (slots id entries : ℕ) (m : Sits) (p : PassView) (h : List Line) (line : Line) → st.first ≡ 2 * entries
@@ -294,7 +294,7 @@ pub join_allowed : (b : Bounds) (id other : ℕ) (ps qs : List PassView)
 join_allowed b id other ps qs t ruled at apart other_at =
     let P : State Slot Group → Type 0 =
     λ x. get_elem? x.views id ≡ some (idle ps) → get_elem? (set x.views id (idle (ps ++ qs))) other ≡ some (idle qs)
-        → IsRuled b (record { words = x.words; homes = x.homes; views = set (set x.views id (idle (ps ++ qs))) other (idle []) }) in
+    → IsRuled b (record { words = x.words; homes = x.homes; views = set (set x.views id (idle (ps ++ qs))) other (idle []) }) in
     let go : P (table_of b ruled.0) =
     λ at' other_at'.
     (after_join ruled.0 id other ps qs, refl, keeps_join b ruled.0 ruled.2 id other ps qs at' (sym (set_else ruled.0.groups id other (idle (ps ++ qs)) apart) ∙ other_at') (λ e. apart (sym e)))
@@ -306,6 +306,6 @@ pub split_allowed : (b : Bounds) (id : ℕ) (ps : List PassView) → Splits (IsR
 split_allowed b id ps t ruled at =
     let P : State Slot Group → Type 0 =
     λ x. get_elem? x.views id ≡ some (idle ps)
-        → IsRuled b (record { words = x.words; homes = x.homes; views = set x.views id (idle (take 1 ps)) ++ idle (drop 1 ps) ∷ [] }) in
+    → IsRuled b (record { words = x.words; homes = x.homes; views = set x.views id (idle (take 1 ps)) ++ idle (drop 1 ps) ∷ [] }) in
     let go : P (table_of b ruled.0) = λ at'. (after_split ruled.0 id 1 ps, refl, keeps_split b ruled.0 ruled.2 id 1 ps at') in
     subst P (sym ruled.1) go at

@@ -71,8 +71,7 @@ closing b id ps words slots all final =
     let at : IsAt s.groups id (idle ps) = subst (λ (x : State (Option Recorded) Group). get_elem? x.views id ≡ some (idle ps)) ruled.1 final.1.1 in
     let home : s.slot ≡ Some s.history = at_home b s kept id ps at all in
     let homes : t.homes ≡ some (Some (recorded b s.history)) ∷ [] =
-    ap (λ (x : State (Option Recorded) Group). x.homes) ruled.1 ∙ ap (slots_of b) home in
-    (
+    ap (λ (x : State (Option Recorded) Group). x.homes) ruled.1 ∙ ap (slots_of b) home in (
       s.history,
       final.4 0 (Some (recorded b s.history)) (ap (λ (hs : List (there.Option (Option Recorded))). get_elem? hs 0) homes),
       whole b s kept id ps at,

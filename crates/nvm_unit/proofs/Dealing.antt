@@ -1,13 +1,14 @@
 -- Seats that are dealt out, and gathered.
 use Rattle.std.proofs.Common.{◌≡◌, ℕ, suc, ◌+◌, ◌-◌, ◌<◌, List, [], ◌∷◌, ◌++◌, length, subst, refl, sym, ap, ◌∙◌, arith, append_assoc}
 use Rattle.atomic_table.specs.Seated.{TableId}
-use Rattle.atomic_table.proofs.Lists.{at_longer, at_last}
+use Rattle.atomic_table.proofs.Lists.{at_index, at_longer, at_last}
 use Rattle.nvm_unit.specs.declared.bounds.Bounds.{Bounds}
 use Rattle.nvm_unit.specs.declared.views.PassView.{PassView}
-use Rattle.nvm_unit.specs.Ends.{pass_at, views_of, AreAllPassesOf, AreAllViews}
-use Rattle.nvm_unit.specs.Machine.{IsAt, newcomers_from}
+use Rattle.nvm_unit.specs.Ends.{pass_at, new_passes, views_of, AreAllPassesOf, AreAllViews}
+use Rattle.nvm_unit.specs.Machine.{IsAt, newcomers, newcomers_from}
 use Rattle.nvm_unit.specs.Passes.{PassState, UnitName, IsProper}
 use Rattle.nvm_unit.specs.Views.{newcomer}
+use Rattle.nvm_unit.proofs.EventsKept.{newcomer_back}
 use Rattle.nvm_unit.proofs.Lists.{at_map_back}
 
 -- The first of the passes that are left.
@@ -66,3 +67,19 @@ all_views unit passes all =
 
 pub same_pass : (t t' : TableId) (v v' : PassView) → t ≡ t' → v ≡ v' → pass_at t v ≡ pass_at t' v'
 same_pass t t' v v' p q = λ i. record { table = p i; view = q i }
+
+-- A new pass is one of its unit.
+pub new_is_of : (unit : UnitName) (i : ℕ) (pass : PassState) → IsAt (new_passes unit) i pass → IsPassOf unit pass
+new_is_of unit i pass at =
+    let p = at_map_back (pass_at unit.table) (newcomers unit.bounds) i pass at in
+    let new = newcomer_back unit.bounds 0 unit.bounds.passes i p.0 p.1 in
+    record {
+      table = ap (λ (x : PassState). x.table) p.2;
+      bounds = ap (λ (x : PassState). x.view.bounds) p.2 ∙ ap (λ (x : PassView). x.bounds) new.0;
+    }
+
+-- So are those that are left of them when one was taken.
+pub left_is_of : (unit : UnitName) (all left : List PassState) (last : PassState) → all ≡ new_passes unit → all ≡ left ++ last ∷ []
+    → (i : ℕ) (pass : PassState) → i < length left → pass ≡ get_or left i pass → IsPassOf unit pass
+left_is_of unit all left last new is i pass lt at =
+    new_is_of unit i pass (subst (λ (xs : List PassState). IsAt xs i pass) new (left_before all left last pass i is (at_index left i pass lt at)))

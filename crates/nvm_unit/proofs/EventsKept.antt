@@ -19,7 +19,7 @@ FollowsLawfully =
     (start count size : ℕ) (history : List Line) (line : Line) → IsLawfulHistory start count size history
     → CanFollow start count size history line → IsLawfulHistory start count size (history ++ line ∷ [])
 
-newcomer_back : (b : Bounds) (from n i : ℕ) (p : PassView) → IsAt (newcomers_from b from n) i p → (p ≡ newcomer b (from + i)) × (i < n)
+pub newcomer_back : (b : Bounds) (from n i : ℕ) (p : PassView) → IsAt (newcomers_from b from n) i p → (p ≡ newcomer b (from + i)) × (i < n)
 newcomer_back b from zero i p e = absurd (some-ne-none p (sym e))
 newcomer_back b from (suc n) zero p e = let m : from ≡ from + 0 = omega arith in (sym (some-injective (newcomer b from) p e) ∙ ap (newcomer b) m, omega arith)
 newcomer_back b from (suc n) (suc i) p e =
@@ -77,10 +77,10 @@ opening_kept b =
             let new = new_pass b j i p s in
             ap (λ (x : PassView). let y : ℕ × ℕ = (0, x.number) in y) new.1 ∙ ap (λ (x : ℕ). let y : ℕ × ℕ = (x, i) in y) (sym new.0);
         all = λ number lt. (
-            newcomer b number,
-            record { group = idle (newcomers b); at = refl; inside = (let m : 0 + number ≡ number = omega arith in subst (λ (k : ℕ). IsAt (newcomers b) number (newcomer b k)) m (newcomer_at b 0 b.passes number lt)) },
-            refl,
-          );
+          newcomer b number,
+          record { group = idle (newcomers b); at = refl; inside = (let m : 0 + number ≡ number = omega arith in subst (λ (k : ℕ). IsAt (newcomers b) number (newcomer b k)) m (newcomer_at b 0 b.passes number lt)) },
+          refl,
+        );
       };
       knows = each_new (Knows b) b (λ number lt. record { bounds = refl; own = refl });
       hands = λ j g held at is. let x : None ≡ g.held = ap (λ (y : Group). y.held) (idle_holds_none b j g at) in absurd (cc);

@@ -151,10 +151,13 @@ joined groups j k ps qs at_j at_k apart =
                   | inl here ↦
                       elim (at_append ps qs i q (subst (λ (x : Group). IsAt x.passes i q) (sym here.1) s.inside)) [
                         | inl first ↦ (j, i, record { group = idle ps; at = at_j; inside = first }, stays_in j k (length ps) j i apart ∙ ap (λ (x : ℕ). let y : ℕ × ℕ = (x, i) in y) (sym here.0))
-                        | inr second ↦
-                            (k, second.0, record { group = idle qs; at = at_k; inside = second.2 },
-                              moved_in j k (length ps) k second.0 refl
-                              ∙ (ap (λ (x : ℕ). let y : ℕ × ℕ = (j, x) in y) (sym second.1) ∙ ap (λ (x : ℕ). let y : ℕ × ℕ = (x, i) in y) (sym here.0)))
+                        | inr second ↦ (
+                          k,
+                          second.0,
+                          record { group = idle qs; at = at_k; inside = second.2 },
+                          moved_in j k (length ps) k second.0 refl
+                              ∙ (ap (λ (x : ℕ). let y : ℕ × ℕ = (j, x) in y) (sym second.1) ∙ ap (λ (x : ℕ). let y : ℕ × ℕ = (x, i) in y) (sym here.0)),
+                        )
                       ]
                   | inr else_ ↦ (m, i, record { group = s.group; at = else_.1; inside = s.inside }, stays_in j k (length ps) m i rest.0)
                 ]
@@ -211,9 +214,12 @@ cut groups j first ps at_j =
             | inl within ↦
                 elim (at_set groups j m left s.group within) [
                   | inl here ↦
-                      let both = at_take_back first ps i q (subst (λ (x : Group). IsAt x.passes i q) (sym here.1) s.inside) in
-                      (j, i, record { group = idle ps; at = at_j; inside = both.0 },
-                        stays_first j first end j i both.1 ∙ ap (λ (x : ℕ). let y : ℕ × ℕ = (x, i) in y) (sym here.0))
+                      let both = at_take_back first ps i q (subst (λ (x : Group). IsAt x.passes i q) (sym here.1) s.inside) in (
+                        j,
+                        i,
+                        record { group = idle ps; at = at_j; inside = both.0 },
+                        stays_first j first end j i both.1 ∙ ap (λ (x : ℕ). let y : ℕ × ℕ = (x, i) in y) (sym here.0),
+                      )
                   | inr else_ ↦ (m, i, record { group = s.group; at = else_.1; inside = s.inside }, stays_out j first end m i else_.0)
                 ]
             | inr last ↦
@@ -221,10 +227,13 @@ cut groups j first ps at_j =
                 let n : last.0 ≡ 0 = at_last_zero right s.group last.0 last.2 in
                 let place : m ≡ end = omega (arith, last.1) in
                 let inside : IsAt ps (first + i) q = at_drop_back first ps i q (subst (λ (x : Group). IsAt x.passes i q) (sym is) s.inside) in
-                let back_again : first + i - first ≡ i = omega arith in
-                (j, first + i, record { group = idle ps; at = at_j; inside = inside },
+                let back_again : first + i - first ≡ i = omega arith in (
+                  j,
+                  first + i,
+                  record { group = idle ps; at = at_j; inside = inside },
                   moved_out j first end j (first + i) refl (omega arith)
-                  ∙ (ap (λ (x : ℕ). let y : ℕ × ℕ = (end, x) in y) back_again ∙ ap (λ (x : ℕ). let y : ℕ × ℕ = (x, i) in y) (sym place)))
+                      ∙ (ap (λ (x : ℕ). let y : ℕ × ℕ = (end, x) in y) back_again ∙ ap (λ (x : ℕ). let y : ℕ × ℕ = (x, i) in y) (sym place)),
+                )
           ];
       forth = λ a i p s.
           let to : ℕ × ℕ → Type 0 = λ x. StandsAt (set groups j left ++ right ∷ []) x.0 x.1 p in

@@ -82,7 +82,13 @@ impl Book {
     }
 
     /// Makes the act's step, and keeps its entry. An error leaves all as it was.
-    pub fn add(&mut self, alloc: Global, pass: u16, job: u32, act: ActRef<'_>) -> Result<(), NoMemory>
+    pub fn add(
+        &mut self,
+        alloc: Global,
+        pass: u16,
+        job: u32,
+        act: ActRef<'_>,
+    ) -> Result<(), NoMemory>
         requires covered { IsCovered self.old.place.first self.old.place.blocks self.old.place.size (lent_operation_of act) }
         requires success { IsSuccess (statuses_of (lent_operation_of act) (replay_of self.old.place.size self.old.history)) }
         ensures added { OnOk result (self.new ≡ record {

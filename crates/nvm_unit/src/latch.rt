@@ -11,10 +11,9 @@ use crate::book::Book;
 use crate::rule::{Decides, Never};
 use crate::steps;
 use crate::steps::{Desk, Token};
-use std::mem;
 use std::sync::Wait;
 use std::sync::atomic::{AtomicU64, Ordering};
-use std::thread;
+use std::{mem, thread};
 
 /// So many times a thread yields before it sleeps.
 const YIELDS: u32 = 16;
@@ -114,11 +113,10 @@ impl Latch {
     pub(crate) fn release<D: Decides>(&self, token: &mut Token, book: Book)
         requires at { token.old.seat.table_id ≡ self.now.desk.table.shared.table_id }
         requires few { length book.history < 2 ^ 32 }
-        requires ready {
-            ((ps : List View) × (history : List Line) × (b : UnitBounds)
-                × CanGiveBack D.decides book token.old.seat.me ps history b)
+        requires ready { ((ps : List View) × (history : List Line) × (b : UnitBounds)
+            × CanGiveBack D.decides book token.old.seat.me ps history b)
             ⊎ ((p : View) × (history : List Line) × (line : Line)
-                × CanGiveMore book token.old.seat.me p history line) }
+            × CanGiveMore book token.old.seat.me p history line) }
         ensures at { token.new.seat.table_id ≡ token.old.seat.table_id }
         ensures back { GivesBack D.decides book token.old.seat.me token.new.seat.me }
         ensures more { GivesMore book token.old.seat.me token.new.seat.me }

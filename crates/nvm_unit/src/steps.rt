@@ -56,24 +56,27 @@ pub fn take<D: Decides>(desk: &Desk, token: &mut Token, word: u64) -> u64
     ensures taken { result ≡ word → Takes result token.old.seat.me token.new.seat.me }
     ensures lost { result ≢ word → HasLooked D.decides result token.old.seat.me token.new.seat.me }
 {
-    desk.table.shared.compare_exchange::<Tries<D>>(&mut token.seat, 0, word, word + 1)
+    desk.table
+        .shared
+        .compare_exchange::<Tries<D>>(&mut token.seat, 0, word, word + 1)
 }
 
 /// Puts the unit back, which then has so many entries: as many as before, or one more.
 pub fn put<D: Decides>(desk: &Desk, token: &mut Token, entries: u64)
     requires at { token.old.seat.table_id ≡ desk.now.table.shared.table_id }
     requires few { entries < 2 ^ 32 }
-    requires ready {
-        ((ps : List View) × (history : List Line) × (b : UnitBounds)
-            × CanReturn D.decides entries token.old.seat.me ps history b)
+    requires ready { ((ps : List View) × (history : List Line) × (b : UnitBounds)
+        × CanReturn D.decides entries token.old.seat.me ps history b)
         ⊎ ((p : View) × (history : List Line) × (line : Line)
-            × CanAppend entries token.old.seat.me p history line) }
+        × CanAppend entries token.old.seat.me p history line) }
     ensures at { token.new.seat.table_id ≡ token.old.seat.table_id }
     ensures returned { ReturnsAs D.decides entries token.old.seat.me token.new.seat.me }
     ensures added { AddsAs entries token.old.seat.me token.new.seat.me }
 {
     lawful_with_one_more();
-    desk.table.shared.store::<Puts<D>>(&mut token.seat, 0, 2 * entries);
+    desk.table
+        .shared
+        .store::<Puts<D>>(&mut token.seat, 0, 2 * entries);
 }
 
 /// The passes of the other seat join those of this one.
@@ -86,7 +89,9 @@ pub fn join(desk: &Desk, token: &mut Token, other: Token)
     ensures joined { token.new.seat.me ≡ resting (token.old.seat.me.0.passes ++ other.seat.me.0.passes) }
 {
     let Token { seat } = other;
-    desk.table.shared.join_seat::<Together>(&mut token.seat, seat);
+    desk.table
+        .shared
+        .join_seat::<Together>(&mut token.seat, seat);
 }
 
 /// All passes of the seat but the first go to a seat of their own.
@@ -132,9 +137,7 @@ pub fn lay_book(desk: &Desk, token: &mut Token, book: Book)
 
 /// Sleeps until a put, if the word is still this one, or returns for no reason.
 pub fn sleep<R: Wait>(desk: &Desk, rt: &R, word: u64) {
-    desk.table
-        .shared
-        .park(rt, 0, (word & 0xffff_ffff) as u32);
+    desk.table.shared.park(rt, 0, (word & 0xffff_ffff) as u32);
 }
 
 /// Wakes one of those who sleep.

@@ -5,6 +5,11 @@ use nvm_store::ActRef;
 use std::sync::atomic::{AtomicU64, Ordering};
 use std::test::Fail;
 
+/// Whether somebody holds the unit.
+fn is_held(unit: &Unit) -> bool {
+    unit.latch.desk.is_held()
+}
+
 /// Counts its calls, and those at which the unit was held.
 #[derive(Drop)]
 struct Noting<'a> {
@@ -18,7 +23,8 @@ impl Gate for Noting<'_> {
         if unit == 0 && job == 5 {
             self.calls.fetch_add(1, Ordering::SeqCst);
         }
-        if self.unit.latch.desk.is_held() {
+        let held = is_held(self.unit);
+        if held {
             self.held.fetch_add(1, Ordering::SeqCst);
         }
     }
@@ -34,7 +40,10 @@ fn the_gate_is_called_once_and_under_the_hold(rt: HostRuntime) -> Result<(), Fai
         calls: AtomicU64::new(0),
         held: AtomicU64::new(0),
     };
-    let zeroes = ActRef::Zeroes { first: 0, blocks: 8 };
+    let zeroes = ActRef::Zeroes {
+        first: 0,
+        blocks: 8,
+    };
     let failing = ActRef::Pair {
         first: 0,
         blocks: 1,
@@ -49,6 +58,6 @@ fn the_gate_is_called_once_and_under_the_hold(rt: HostRuntime) -> Result<(), Fai
     assert!(rt; matches!(failed, Changed::Failed { point: 1, .. }));
     assert_eq!(rt; gate.calls.load(Ordering::SeqCst), 3);
     assert_eq!(rt; gate.held.load(Ordering::SeqCst), 3);
-    assert!(rt; !unit.latch.desk.is_held());
+    assert!(rt; !is_held(&unit));
     Ok(())
 }

@@ -41,13 +41,13 @@ fn two_threads_make_one_history(rt: HostRuntime) -> Result<(), Fail> {
     let (first, second) = join(
         &rt,
         || -> Option<Pass>
-            requires { IsPassOf unit.now first }
-            ensures of { IfSome result (λ p. IsPassOf unit.entry.now p) }
+            requires { IsPassOf unit first }
+            ensures of { IfSome result (λ p. IsPassOf unit p) }
             ensures number { IfSome result (λ p. p.view.number ≡ first.view.number) }
         { write_all(alloc, &rt, &unit, first, 1000) },
         || -> Option<Pass>
-            requires { IsPassOf unit.now second }
-            ensures of { IfSome result (λ p. IsPassOf unit.entry.now p) }
+            requires { IsPassOf unit second }
+            ensures of { IfSome result (λ p. IsPassOf unit p) }
             ensures number { IfSome result (λ p. p.view.number ≡ second.view.number) }
         { write_all(alloc, &rt, &unit, second, 1000) },
     );
@@ -83,10 +83,13 @@ fn count_up<R: Wait>(alloc: Global, rt: &R, unit: &Unit, pass: Pass, tries: u32)
         if !unit.covers_look(look) {
             return 0;
         }
-        let Ok(Observed {
-            answer: Answer::Payload(payload),
-            ..
-        }) = unit.observe(alloc, rt, &mut pass, look) else {
+        let Ok(
+            Observed {
+                answer: Answer::Payload(payload),
+                ..
+            },
+        ) = unit.observe(alloc, rt, &mut pass, look)
+        else {
             return 0;
         };
         let bytes = payload.into_vec();
@@ -117,10 +120,16 @@ fn pairs_that_succeed_count_up(rt: HostRuntime) -> Result<(), Fail> {
     let Ok((unit, mut passes)) = Unit::new(alloc, 0, 0, 8, size, 9, limit) else {
         return Err(Fail::new("there is no unit"));
     };
-    let mut last = passes.pop().ok_or("there is no ninth pass")?;
-    let done = map_vec(&rt, passes, &|pass: Pass| -> u32
-        requires { IsPassOf unit.now pass }
-    { count_up(alloc, &rt, &unit, pass, 20) })?;
+    let Some(mut last) = passes.pop() else {
+        return Err(Fail::new("there is no ninth pass"));
+    };
+    let done = map_vec(
+        &rt,
+        passes,
+        &|pass: Pass| -> u32
+            requires { IsPassOf unit pass }
+        { count_up(alloc, &rt, &unit, pass, 20) },
+    )?;
     let mut all = 0u32;
     for times in &done {
         all = all.wrapping_add(*times);

@@ -15,13 +15,12 @@ join_seat-requires c =
     let other = c.args.other.seat in
     let mine_is : mine.me.0 ≡ idle mine.me.0.passes = ap (λ (m : Sits). m.0) c.requires.rests in
     let other_is : other.me.0 ≡ idle other.me.0.passes = ap (λ (m : Sits). m.0) c.requires.other_rests in
-    let both = together mine.me.0 other.me.0 in
-    (
+    let both = together mine.me.0 other.me.0 in (
       c.requires.at,
       c.requires.other,
       ap (λ (m : Sits). m.1) c.requires.other_rests,
       omega (arith, desk.sized),
       subst (λ (v : Group). Joins (IsRuled b) mine.id v other.id other.me.0 both (idle [])) (sym mine_is)
-      (subst (λ (w : Group). Joins (IsRuled b) mine.id (idle mine.me.0.passes) other.id w both (idle [])) (sym other_is)
-      (join_allowed b mine.id other.id mine.me.0.passes other.me.0.passes)),
+          (subst (λ (w : Group). Joins (IsRuled b) mine.id (idle mine.me.0.passes) other.id w both (idle [])) (sym other_is)
+          (join_allowed b mine.id other.id mine.me.0.passes other.me.0.passes)),
     )

@@ -12,10 +12,9 @@ split_seat-requires c =
     let desk = c.args.desk.now in
     let b = desk.table.shared.key in
     let mine = c.args.token.now.seat in
-    let mine_is : mine.me.0 ≡ idle mine.me.0.passes = ap (λ (m : Sits). m.0) c.requires.rests in
-    (
+    let mine_is : mine.me.0 ≡ idle mine.me.0.passes = ap (λ (m : Sits). m.0) c.requires.rests in (
       c.requires.at,
       omega (arith, desk.sized),
       subst (λ (v : Group). Splits (IsRuled b) mine.id v (first_of mine.me.0) (others_of mine.me.0)) (sym mine_is)
-      (split_allowed b mine.id mine.me.0.passes),
+          (split_allowed b mine.id mine.me.0.passes),
     )

@@ -79,8 +79,7 @@ returns-clause-met g c =
     let book = c.hold-book.result in
     let a = together held.0 h book p o _ _ both held.2 in
     let back : c.release.new.token.seat.me ≡ resting (shown false (length h) h p ∷ shown false (length h) h o ∷ []) =
-    both_shown held.0 h book p o _ _ a c.release.ensures.back in
-    (
+    both_shown held.0 h book p o _ _ a c.release.ensures.back in (
       h,
       c.entries-found.ensures ∙ ap (λ (x : Recorded). length x.history) a.pages,
       a.finds,

@@ -30,8 +30,7 @@ returns-clause-met g c =
     let met = c.meet-entries.ensures.met in
     let h = met.0 in
     let one = ap view_of c.one.view_is in
-    let other = ap view_of c.other.view_is in
-    (
+    let other = ap view_of c.other.view_is in (
       h,
       subst (λ (p : PassView). Finds (length h) p h) one met.2,
       subst (λ (p : PassView). Finds (length h) p h) other met.3,
