@@ -21,7 +21,7 @@ use Rattle.nvm_unit.specs.Rule.{slots_of, table_of, IsRuled}
 use Rattle.nvm_unit.specs.Plays.{Sits, resting, holding, EachIn, IsNotAbove, Fits, HasLooked, looks, tries, puts, CanReturn, CanAppend}
 use Rattle.nvm_unit.proofs.EventsKept.{FollowsLawfully}
 use Rattle.nvm_unit.proofs.Histories.{begins_length}
-use Rattle.nvm_unit.proofs.Keeping.{found_is, free_is, keeps_look, keeps_take, keeps_return, keeps_put, keeps_join, keeps_split}
+use Rattle.nvm_unit.proofs.Keeping.{found_is, free_is, keeps_look, keeps_take, keeps_return, keeps_put}
 
 abbrev Slot : Type 0
 Slot = Option Recorded
@@ -287,25 +287,3 @@ append_allowed law decides st b slots id entries m p h line first can =
     subst (λ (y : Sits). Allows (IsRuled b) slots id y 0 (λ _. 2 * entries) (λ _. puts decides st y (2 * entries))) (sym can.at)
     (allowed b slots id at (λ _. 2 * entries) (λ _. puts decides st at (2 * entries))
     (append_goes law decides st b id entries p h line first can.count can.number can.follows can.room))
-
--- Two seats that rest can be joined.
-pub join_allowed : (b : Bounds) (id other : ℕ) (ps qs : List PassView)
-    → Joins (IsRuled b) id (idle ps) other (idle qs) (idle (ps ++ qs)) (idle [])
-join_allowed b id other ps qs t ruled at apart other_at =
-    let P : State Slot Group → Type 0 =
-    λ x. get_elem? x.views id ≡ some (idle ps) → get_elem? (set x.views id (idle (ps ++ qs))) other ≡ some (idle qs)
-    → IsRuled b (record { words = x.words; homes = x.homes; views = set (set x.views id (idle (ps ++ qs))) other (idle []) }) in
-    let go : P (table_of b ruled.0) =
-    λ at' other_at'.
-    (after_join ruled.0 id other ps qs, refl, keeps_join b ruled.0 ruled.2 id other ps qs at' (sym (set_else ruled.0.groups id other (idle (ps ++ qs)) apart) ∙ other_at') (λ e. apart (sym e)))
-    in
-    subst P (sym ruled.1) go at other_at
-
--- A seat that rests can be split.
-pub split_allowed : (b : Bounds) (id : ℕ) (ps : List PassView) → Splits (IsRuled b) id (idle ps) (idle (take 1 ps)) (idle (drop 1 ps))
-split_allowed b id ps t ruled at =
-    let P : State Slot Group → Type 0 =
-    λ x. get_elem? x.views id ≡ some (idle ps)
-    → IsRuled b (record { words = x.words; homes = x.homes; views = set x.views id (idle (take 1 ps)) ++ idle (drop 1 ps) ∷ [] }) in
-    let go : P (table_of b ruled.0) = λ at'. (after_split ruled.0 id 1 ps, refl, keeps_split b ruled.0 ruled.2 id 1 ps at') in
-    subst P (sym ruled.1) go at

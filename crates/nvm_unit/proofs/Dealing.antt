@@ -1,12 +1,12 @@
 -- Seats that are dealt out, and gathered.
-use Rattle.std.proofs.Common.{◌≡◌, ℕ, suc, ◌+◌, ◌-◌, ◌<◌, List, [], ◌∷◌, ◌++◌, length, subst, refl, sym, ap, ◌∙◌, arith, append_assoc}
+use Rattle.std.proofs.Common.{get_or, ◌≡◌, ℕ, suc, ◌+◌, ◌-◌, ◌<◌, List, [], ◌∷◌, ◌++◌, length, subst, refl, sym, ap, ◌∙◌, arith, append_assoc}
 use Rattle.atomic_table.specs.Seated.{TableId}
 use Rattle.atomic_table.proofs.Lists.{at_index, at_longer, at_last}
 use Rattle.nvm_unit.specs.declared.bounds.Bounds.{Bounds}
 use Rattle.nvm_unit.specs.declared.views.PassView.{PassView}
 use Rattle.nvm_unit.specs.Ends.{pass_at, new_passes, views_of, AreAllPassesOf, AreAllViews}
 use Rattle.nvm_unit.specs.Machine.{IsAt, newcomers, newcomers_from}
-use Rattle.nvm_unit.specs.Passes.{PassState, UnitName, IsProper}
+use Rattle.nvm_unit.specs.Passes.{IsPassOf, PassState, UnitName, IsProper}
 use Rattle.nvm_unit.specs.Views.{newcomer}
 use Rattle.nvm_unit.proofs.EventsKept.{newcomer_back}
 use Rattle.nvm_unit.proofs.Lists.{at_map_back}

@@ -11,7 +11,8 @@ use Rattle.nvm_unit.specs.Machine.{UnitState, IsAt, StandsAt, EachPass, IsHand, 
 use Rattle.nvm_unit.specs.Events.{Event, loads, takes, misses, adds, returns, joins, splits, idle, Happens, Lead}
 use Rattle.nvm_unit.specs.Knowledge.{Knows, IsKept}
 use Rattle.nvm_unit.proofs.Groups.{stands_one}
-use Rattle.nvm_unit.proofs.Keeping.{keeps_look, keeps_take, keeps_return, keeps_put, keeps_join, keeps_split}
+use Rattle.nvm_unit.proofs.Keeping.{keeps_look, keeps_take, keeps_return, keeps_put}
+use Rattle.nvm_unit.proofs.Regrouping.{keeps_join, keeps_split}
 
 -- An entry that can follow a lawful history makes a lawful one.
 abbrev pub FollowsLawfully : Type 0

@@ -4,7 +4,7 @@ use Rattle.nvm_unit.specs.declared.views.Group.{Group}
 use Rattle.nvm_unit.specs.Events.{idle}
 use Rattle.nvm_unit.specs.Rule.{IsRuled}
 use Rattle.nvm_unit.specs.Plays.{Sits, together}
-use Rattle.nvm_unit.proofs.Allowed.{join_allowed}
+use Rattle.nvm_unit.proofs.Joining.{join_allowed}
 use Rattle.nvm_unit.proofs.steps.join.Goals as goal
 
 pub join_seat-requires : goal.join_seat-requires

@@ -4,7 +4,7 @@ use Rattle.nvm_unit.specs.declared.views.Group.{Group}
 use Rattle.nvm_unit.specs.Events.{idle}
 use Rattle.nvm_unit.specs.Rule.{IsRuled}
 use Rattle.nvm_unit.specs.Plays.{Sits, first_of, others_of}
-use Rattle.nvm_unit.proofs.Allowed.{split_allowed}
+use Rattle.nvm_unit.proofs.Joining.{split_allowed}
 use Rattle.nvm_unit.proofs.steps.split.Goals as goal
 
 pub split_seat-requires : goal.split_seat-requires
