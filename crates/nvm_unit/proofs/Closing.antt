@@ -58,6 +58,7 @@ whole b s kept id ps at =
       lawful = record { lawful = kept.sound.hold.lawful; within = kept.sound.hold.within };
       bears = λ k line line_at. numbered_below b.passes kept.place s.groups kept.placed line.pass (kept.sound.marks.bears k line line_at);
       each = λ i p inside. finds_of b s.history p (fitting b s kept id (idle ps) at i p inside) kept.sound.hold.lawful kept.sound.hold.within;
+      marks = λ i p inside. kept.sound.marks.marks id i p (record { group = idle ps; at = at; inside = inside });
     }
 
 -- What lies in the slot at the end.

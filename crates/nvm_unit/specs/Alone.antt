@@ -1,4 +1,4 @@
--- The pass of a seat that has one.
+-- The pass of a seat that has one. A pass's seat always has, so `nobody` stands for nothing.
 use Rattle.std.specs.Prelude.{List, [], ◌∷◌}
 use Rattle.nvm_unit.specs.declared.views.PassView.{PassView}
 use Rattle.nvm_unit.specs.Views.{newcomer}

@@ -7,6 +7,7 @@ use Rattle.nvm_unit.specs.declared.unit_fault.UnitFault.{UnitFault}
 use Rattle.nvm_unit.specs.declared.unit_fault.UnitFault.TheVariants.{Passes, NoMemory}
 use Rattle.nvm_unit.specs.declared.views.PassView.{PassView}
 use Rattle.nvm_unit.specs.Machine.{IsAt, newcomers}
+use Rattle.nvm_unit.specs.Views.{RiseWithin}
 use Rattle.nvm_unit.specs.Passes.{UnitName, PassState, IsPassOf, IsHistoryOf, Finds}
 
 -- A unit has 1 to 64 passes.
@@ -41,11 +42,13 @@ abbrev pub BearsNumbers : ℕ → List Line → Type 0
 BearsNumbers count history = (k : ℕ) (line : Line) → IsAt history k line → line.pass < count
 
 -- The unit's history at the end: lawful and within the limit, with just the passes' own entries under their
--- numbers. It begins with what each pass had seen, and is no shorter than anything that one had found.
+-- numbers. It begins with what each pass had seen, and is no shorter than anything that one had found: a
+-- pass's marks never fall, none is above its floor, and the floor isn't above the number of entries.
 pub record IsWholeHistory (b : Bounds) (views : List PassView) (history : List Line) : Type 0 where
   pub lawful : IsHistoryOf b history
   pub bears : BearsNumbers b.passes history
   pub each : (i : ℕ) (view : PassView) → IsAt views i view → Finds (length history) view history
+  pub marks : (i : ℕ) (view : PassView) → IsAt views i view → RiseWithin 0 view.marks view.floor
 
 abbrev pub views_of : List PassState → List PassView
 views_of passes = map (λ p. p.view) passes

@@ -1,5 +1,5 @@
 -- What can happen to a shared unit. An event is one atomic step on its word, by one group of passes, or
--- by two. It changes their views alone.
+-- by two. Of all views it changes theirs alone. Joins and splits see no word, so they leave each floor.
 use Rattle.std.specs.Prelude.{◌≡◌, ◌≢◌, ℕ, ◌+◌, ◌*◌, ◌/◌, ◌<◌, List, [], ◌∷◌, ◌++◌, map, take, drop, length, slice_set, Bool, true, false, Some, None}
 use Rattle.nvm_store.specs.Line.{Line}
 use Rattle.nvm_store.specs.History.{CanFollow}

@@ -1,6 +1,6 @@
 /// What is told of the course of jobs. Both methods return, and wait for nothing.
 pub trait Gate {
-    /// A part of the job is about to be put back into the unit of this number, which is held.
+    /// The unit of this number, which a change of the job holds, is about to be put back.
     fn before_put(&self, unit: u16, job: u32);
 
     /// The job is done.

@@ -48,7 +48,7 @@ fn change<R: Wait, G: Gate>(
     if !unit.covers(act) {
         return Err(Fail::new("the unit doesn't cover the act"));
     }
-    Ok(unit.change(alloc, rt, pass, job, act, gate))
+    Ok(unit.change(rt, alloc, pass, job, act, gate))
 }
 
 /// Writes a block of this byte at the LBA.
@@ -116,7 +116,7 @@ fn read<R: Wait>(
     if !unit.covers_look(look) {
         return Err(Fail::new("the unit doesn't cover the Read"));
     }
-    match unit.observe(alloc, rt, pass, look) {
+    match unit.observe(rt, alloc, pass, look) {
         Ok(
             Observed {
                 point,
@@ -177,9 +177,9 @@ fn passes_that_met_have_one_history(rt: HostRuntime) -> Result<(), Fail> {
     both[BLOCK..].fill(0x42);
     assert_eq!(rt; bytes.as_slice(), both.as_slice());
     unit.meet(&rt, &mut first, &mut second);
-    let seen = unit.history(rt.alloc(), &rt, &mut first)?;
+    let seen = unit.history(&rt, rt.alloc(), &mut first)?;
     assert!(rt; has_both(seen.as_slice()));
-    let seen = unit.history(rt.alloc(), &rt, &mut second)?;
+    let seen = unit.history(&rt, rt.alloc(), &mut second)?;
     assert!(rt; has_both(seen.as_slice()));
     let history = close(rt.alloc(), unit, first, second)?;
     assert!(rt; has_both(history.as_slice()));

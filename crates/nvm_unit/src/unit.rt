@@ -29,7 +29,7 @@ pub const MOST_PASSES: u16 = 64;
 
 /// Blocks that many threads read and change, each change one atomic step.
 ///
-/// Contracts see which unit it is, its LBAs, the number of its passes and its limit.
+/// Contracts see which unit it is, its LBAs and block size, the number of its passes and its limit.
 #[derive(Drop)]
 pub struct Unit {
     pub(crate) latch: Latch,
@@ -136,11 +136,12 @@ impl Unit {
     }
 
     /// Does the act, as one step of the unit, unless it is a pair whose comparison fails, the history is
-    /// at its limit, or memory is refused. It waits for the unit.
+    /// at its limit, or memory is refused. The gate is called once, while the unit is held. It waits for the
+    /// unit.
     pub fn change<R: Wait, G: Gate>(
         &self,
-        alloc: Global,
         rt: &R,
+        alloc: Global,
         pass: &mut Pass,
         job: u32,
         act: ActRef<'_>,
@@ -166,8 +167,8 @@ impl Unit {
     /// What the look is answered, as one step of the unit. It waits for the unit.
     pub fn observe<R: Wait>(
         &self,
-        alloc: Global,
         rt: &R,
+        alloc: Global,
         pass: &mut Pass,
         look: Look<'_>,
     ) -> Result<Observed, ObserveFault>
@@ -203,8 +204,8 @@ impl Unit {
     /// memory is refused, the pass is brought up nevertheless.
     pub fn history<R: Wait>(
         &self,
-        alloc: Global,
         rt: &R,
+        alloc: Global,
         pass: &mut Pass,
     ) -> Result<History, NoMemory>
         requires { IsPassOf self.now pass.old }

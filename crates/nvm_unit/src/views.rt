@@ -10,11 +10,13 @@ pub struct PassView {
     pub number: u64,
     /// What is settled of its unit.
     pub bounds: Bounds,
-    /// The entries that it has seen: all those with which the unit's history began when it last looked.
+    /// The entries that it has seen: all those with which the unit's history began when a step last
+    /// showed it.
     pub seen: LinkedList<Entry>,
     /// The entries that it made, each with its place in the history.
     pub mine: LinkedList<(u64, Entry)>,
-    /// The number of entries that the deciding step of each of its calls found, in their order.
+    /// The number of entries that the deciding step of each of its changes and observations found, in
+    /// their order.
     pub marks: LinkedList<u64>,
     /// The number of entries that its last step found.
     pub floor: u64,

@@ -27,7 +27,7 @@ fn write_all<R: Wait>(alloc: Global, rt: &R, unit: &Unit, pass: Pass, count: u32
         if !unit.covers(act) {
             return None;
         }
-        let Changed::Done { .. } = unit.change(alloc, rt, &mut pass, k, act, &Open) else {
+        let Changed::Done { .. } = unit.change(rt, alloc, &mut pass, k, act, &Open) else {
             return None;
         };
     }
@@ -53,7 +53,7 @@ fn two_threads_make_one_history(rt: HostRuntime) -> Result<(), Fail> {
     );
     let mut first = first.ok_or("a change of the first pass wasn't done")?;
     let second = second.ok_or("a change of the second pass wasn't done")?;
-    let seen = unit.history(rt.alloc(), &rt, &mut first)?;
+    let seen = unit.history(&rt, rt.alloc(), &mut first)?;
     assert_eq!(rt; seen.len(), 2000);
     let history = close(rt.alloc(), unit, first, second)?;
     assert_eq!(rt; history.len(), 2000);
@@ -88,7 +88,7 @@ fn count_up<R: Wait>(alloc: Global, rt: &R, unit: &Unit, pass: Pass, tries: u32)
                 answer: Answer::Payload(payload),
                 ..
             },
-        ) = unit.observe(alloc, rt, &mut pass, look)
+        ) = unit.observe(rt, alloc, &mut pass, look)
         else {
             return 0;
         };
@@ -105,7 +105,7 @@ fn count_up<R: Wait>(alloc: Global, rt: &R, unit: &Unit, pass: Pass, tries: u32)
         if !unit.covers(act) {
             return 0;
         }
-        if let Changed::Done { .. } = unit.change(alloc, rt, &mut pass, 0, act, &Open) {
+        if let Changed::Done { .. } = unit.change(rt, alloc, &mut pass, 0, act, &Open) {
             done = done.wrapping_add(1);
         }
     }
