@@ -1,0 +1,13 @@
+pub mod Lists
+pub mod Groups
+pub mod Histories
+pub mod Keeping
+pub mod Regrouping
+pub mod EventsKept
+pub mod Allowed
+pub mod Joining
+pub mod Waiting
+pub mod Alone
+pub mod Together
+pub mod Closing
+pub mod Dealing

@@ -1,0 +1,89 @@
+use Rattle.std.proofs.Common.{◌≡◌, ◌≤◌, ap, ◌∙◌, length, arith, inl, [], ◌∷◌, false}
+use Rattle.nvm_unit.specs.declared.steps.Token.{Token}
+use Rattle.nvm_unit.specs.Alone.{only}
+use Rattle.nvm_unit.specs.Book.{Recorded}
+use Rattle.nvm_unit.specs.Plays.{Sits, resting}
+use Rattle.nvm_unit.specs.Views.{looked, shown}
+use Rattle.nvm_unit.proofs.Together.{rests_as, first_stays, others_go, both_join, together, both_back, both_shown, both_few}
+use Rattle.nvm_unit.proofs.latch.Latch.meet.Goals as goal
+
+abbrev me_of : Token → Sits
+me_of t = t.seat.me
+
+pub overflow_cast-found : goal.overflow_cast-found
+overflow_cast-found g c =
+    let p = only c.args.one.now.seat.me.0.passes in
+    let o = only c.args.other.now.seat.me.0.passes in
+    let first : c.split-spare.new.token.seat.me ≡ resting (p ∷ []) = first_stays _ _ p [] c.requires.one_rests c.split-spare.ensures.first in
+    let joining : c.replace-joining.result.seat.me ≡ resting (o ∷ []) = ap me_of c.replace-joining.ensures.value ∙ c.requires.other_rests in
+    let both : c.join.new.token.seat.me ≡ resting (p ∷ o ∷ []) = both_join _ _ _ (p ∷ []) (o ∷ []) first joining c.join.ensures.joined in
+    let held = c.hold-book.ensures.held in
+    let h = held.1 in
+    let book = c.hold-book.result in
+    let a = together held.0 h book p o _ _ both held.2 in
+    let short : length book.history ≤ 4194304 = both_few held.0 h book p o _ a c.requires.limit in
+    let count = c.entries-found.ensures in
+    omega arith
+
+pub release-requires-clause-few : goal.release-requires-clause-few
+release-requires-clause-few g c =
+    let p = only c.args.one.now.seat.me.0.passes in
+    let o = only c.args.other.now.seat.me.0.passes in
+    let first : c.split-spare.new.token.seat.me ≡ resting (p ∷ []) = first_stays _ _ p [] c.requires.one_rests c.split-spare.ensures.first in
+    let joining : c.replace-joining.result.seat.me ≡ resting (o ∷ []) = ap me_of c.replace-joining.ensures.value ∙ c.requires.other_rests in
+    let both : c.join.new.token.seat.me ≡ resting (p ∷ o ∷ []) = both_join _ _ _ (p ∷ []) (o ∷ []) first joining c.join.ensures.joined in
+    let held = c.hold-book.ensures.held in
+    let h = held.1 in
+    let book = c.hold-book.result in
+    let a = together held.0 h book p o _ _ both held.2 in
+    let short : length book.history ≤ 4194304 = both_few held.0 h book p o _ a c.requires.limit in
+    omega arith
+
+pub release-requires-clause-ready : goal.release-requires-clause-ready
+release-requires-clause-ready g c =
+    let p = only c.args.one.now.seat.me.0.passes in
+    let o = only c.args.other.now.seat.me.0.passes in
+    let first : c.split-spare.new.token.seat.me ≡ resting (p ∷ []) = first_stays _ _ p [] c.requires.one_rests c.split-spare.ensures.first in
+    let joining : c.replace-joining.result.seat.me ≡ resting (o ∷ []) = ap me_of c.replace-joining.ensures.value ∙ c.requires.other_rests in
+    let both : c.join.new.token.seat.me ≡ resting (p ∷ o ∷ []) = both_join _ _ _ (p ∷ []) (o ∷ []) first joining c.join.ensures.joined in
+    let held = c.hold-book.ensures.held in
+    let h = held.1 in
+    let book = c.hold-book.result in
+    let a = together held.0 h book p o _ _ both held.2 in
+    inl (looked false (length h) p ∷ looked false (length h) o ∷ [], h, held.0, both_back held.0 h book p o _ a)
+
+pub split-requires-clause-rests : goal.split-requires-clause-rests
+split-requires-clause-rests g c =
+    let p = only c.args.one.now.seat.me.0.passes in
+    let o = only c.args.other.now.seat.me.0.passes in
+    let first : c.split-spare.new.token.seat.me ≡ resting (p ∷ []) = first_stays _ _ p [] c.requires.one_rests c.split-spare.ensures.first in
+    let joining : c.replace-joining.result.seat.me ≡ resting (o ∷ []) = ap me_of c.replace-joining.ensures.value ∙ c.requires.other_rests in
+    let both : c.join.new.token.seat.me ≡ resting (p ∷ o ∷ []) = both_join _ _ _ (p ∷ []) (o ∷ []) first joining c.join.ensures.joined in
+    let held = c.hold-book.ensures.held in
+    let h = held.1 in
+    let book = c.hold-book.result in
+    let a = together held.0 h book p o _ _ both held.2 in
+    let back : c.release.new.token.seat.me ≡ resting (shown false (length h) h p ∷ shown false (length h) h o ∷ []) =
+    both_shown held.0 h book p o _ _ a c.release.ensures.back in
+    rests_as _ _ back
+
+pub returns-clause-met : goal.returns-clause-met
+returns-clause-met g c =
+    let p = only c.args.one.now.seat.me.0.passes in
+    let o = only c.args.other.now.seat.me.0.passes in
+    let first : c.split-spare.new.token.seat.me ≡ resting (p ∷ []) = first_stays _ _ p [] c.requires.one_rests c.split-spare.ensures.first in
+    let joining : c.replace-joining.result.seat.me ≡ resting (o ∷ []) = ap me_of c.replace-joining.ensures.value ∙ c.requires.other_rests in
+    let both : c.join.new.token.seat.me ≡ resting (p ∷ o ∷ []) = both_join _ _ _ (p ∷ []) (o ∷ []) first joining c.join.ensures.joined in
+    let held = c.hold-book.ensures.held in
+    let h = held.1 in
+    let book = c.hold-book.result in
+    let a = together held.0 h book p o _ _ both held.2 in
+    let back : c.release.new.token.seat.me ≡ resting (shown false (length h) h p ∷ shown false (length h) h o ∷ []) =
+    both_shown held.0 h book p o _ _ a c.release.ensures.back in (
+      h,
+      c.entries-found.ensures ∙ ap (λ (x : Recorded). length x.history) a.pages,
+      a.finds,
+      a.other_finds,
+      first_stays _ _ _ _ back c.split.ensures.first,
+      others_go _ _ _ _ back c.split.ensures.others,
+    )

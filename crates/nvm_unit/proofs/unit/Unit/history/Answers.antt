@@ -1,0 +1,109 @@
+use Rattle.std.proofs.Common.{◌≡◌, ◌≤◌, ap, sym, subst, refl, ◌∙◌, length, arith, List, IfOk, inl, [], ◌∷◌, false}
+use Rattle.atomic_table.specs.Seated.{TableId}
+use Rattle.nvm_store.specs.Line.{Line}
+use Rattle.nvm_unit.specs.declared.bounds.Bounds.{Bounds}
+use Rattle.nvm_unit.specs.declared.views.PassView.{PassView}
+use Rattle.nvm_unit.specs.Alone.{only}
+use Rattle.nvm_unit.specs.Book.{Recorded}
+use Rattle.nvm_unit.specs.Passes.{PassState, UnitName, IsProper}
+use Rattle.nvm_unit.specs.Plays.{Sits}
+use Rattle.nvm_unit.specs.Views.{looked, shown}
+use Rattle.nvm_unit.proofs.Alone.{alone, few, can_back, after_back, proper_shown, closed, only_is}
+use Rattle.nvm_unit.proofs.unit.Unit.history.Goals as goal
+
+abbrev view_of : PassState → PassView
+view_of x = x.view
+
+abbrev table_of : PassState → TableId
+table_of x = x.table
+
+abbrev bounds_of : UnitName → Bounds
+bounds_of x = x.bounds
+
+pub overflow_cast-pass : goal.overflow_cast-pass
+overflow_cast-pass g c =
+    let p = c.args.pass.now.view in
+    let held = c.hold-book.ensures.held in
+    let a = alone held.0 held.1 c.hold-book.result p _ _ _ (ap view_of c.pass.view_is) c.pass.invariant.0 held.2 in
+    let short : length c.hold-book.result.history ≤ 4194304 =
+    few held.0 c.self.inside.bounds held.1 c.hold-book.result p _ a (c.requires.bounds ∙ ap bounds_of (sym c.self.view_is)) c.self.invariant.1 in
+    let count = c.entries.ensures in
+    omega arith
+
+pub release-requires-clause-few : goal.release-requires-clause-few
+release-requires-clause-few g c =
+    let p = c.args.pass.now.view in
+    let held = c.hold-book.ensures.held in
+    let a = alone held.0 held.1 c.hold-book.result p _ _ _ (ap view_of c.pass.view_is) c.pass.invariant.0 held.2 in
+    let short : length c.hold-book.result.history ≤ 4194304 =
+    few held.0 c.self.inside.bounds held.1 c.hold-book.result p _ a (c.requires.bounds ∙ ap bounds_of (sym c.self.view_is)) c.self.invariant.1 in
+    omega arith
+
+pub release-requires-clause-ready : goal.release-requires-clause-ready
+release-requires-clause-ready g c =
+    let p = c.args.pass.now.view in
+    let held = c.hold-book.ensures.held in
+    let a = alone held.0 held.1 c.hold-book.result p _ _ _ (ap view_of c.pass.view_is) c.pass.invariant.0 held.2 in
+    inl (looked false (length held.1) p ∷ [], held.1, held.0, can_back (λ _. false) held.0 held.1 c.hold-book.result c.hold-book.result p _ a refl)
+
+pub invariant_of-pass : goal.invariant_of-pass
+invariant_of-pass g c =
+    let p = c.args.pass.now.view in
+    let held = c.hold-book.ensures.held in
+    let a = alone held.0 held.1 c.hold-book.result p _ _ _ (ap view_of c.pass.view_is) c.pass.invariant.0 held.2 in
+    let after = after_back (λ _. false) held.0 held.1 c.hold-book.result c.hold-book.result p _ _ a refl c.release.ensures.back in
+    let q : PassView = shown false (length held.1) held.1 p in
+    let proper : IsProper q = proper_shown false (length held.1) p held.1 (subst IsProper (ap view_of c.pass.view_is) c.pass.invariant.3) a.finds in
+    let count = c.entries.ensures ∙ ap (λ (x : Recorded). length x.history) a.pages in
+    closed _ q c.pass.inside.number c.entries.result after (c.pass.invariant.1 ∙ ap (λ (x : PassState). x.view.number) c.pass.view_is) count proper
+
+pub returns-clause-of : goal.returns-clause-of
+returns-clause-of g c =
+    let p = c.args.pass.now.view in
+    let held = c.hold-book.ensures.held in
+    let a = alone held.0 held.1 c.hold-book.result p _ _ _ (ap view_of c.pass.view_is) c.pass.invariant.0 held.2 in
+    let after = after_back (λ _. false) held.0 held.1 c.hold-book.result c.hold-book.result p _ _ a refl c.release.ensures.back in
+    let q : PassView = shown false (length held.1) held.1 p in
+    record {
+      table = c.release.ensures.at ∙ (c.hold-book.ensures.at ∙ (ap table_of c.pass.view_is ∙ c.requires.table));
+      bounds = ap (λ (m : Sits). (only m.0.passes).bounds) after ∙ c.requires.bounds;
+    }
+
+pub returns-clause-number : goal.returns-clause-number
+returns-clause-number g c =
+    let p = c.args.pass.now.view in
+    let held = c.hold-book.ensures.held in
+    let a = alone held.0 held.1 c.hold-book.result p _ _ _ (ap view_of c.pass.view_is) c.pass.invariant.0 held.2 in
+    let after = after_back (λ _. false) held.0 held.1 c.hold-book.result c.hold-book.result p _ _ a refl c.release.ensures.back in
+    let q : PassView = shown false (length held.1) held.1 p in
+    ap (λ (m : Sits). (only m.0.passes).number) after
+
+pub returns-clause-proper : goal.returns-clause-proper
+returns-clause-proper g c =
+    let p = c.args.pass.now.view in
+    let held = c.hold-book.ensures.held in
+    let a = alone held.0 held.1 c.hold-book.result p _ _ _ (ap view_of c.pass.view_is) c.pass.invariant.0 held.2 in
+    let after = after_back (λ _. false) held.0 held.1 c.hold-book.result c.hold-book.result p _ _ a refl c.release.ensures.back in
+    let q : PassView = shown false (length held.1) held.1 p in
+    let proper : IsProper q = proper_shown false (length held.1) p held.1 (subst IsProper (ap view_of c.pass.view_is) c.pass.invariant.3) a.finds in
+    subst IsProper (sym (only_is _ q after)) proper
+
+pub returns-clause-up : goal.returns-clause-up
+returns-clause-up g c =
+    let p = c.args.pass.now.view in
+    let held = c.hold-book.ensures.held in
+    let a = alone held.0 held.1 c.hold-book.result p _ _ _ (ap view_of c.pass.view_is) c.pass.invariant.0 held.2 in
+    let after = after_back (λ _. false) held.0 held.1 c.hold-book.result c.hold-book.result p _ _ a refl c.release.ensures.back in
+    let q : PassView = shown false (length held.1) held.1 p in
+    (held.1, a.finds, only_is _ q after)
+
+pub returns-clause-seen : goal.returns-clause-seen
+returns-clause-seen g c =
+    let p = c.args.pass.now.view in
+    let held = c.hold-book.ensures.held in
+    let a = alone held.0 held.1 c.hold-book.result p _ _ _ (ap view_of c.pass.view_is) c.pass.invariant.0 held.2 in
+    let after = after_back (λ _. false) held.0 held.1 c.hold-book.result c.hold-book.result p _ _ a refl c.release.ensures.back in
+    let q : PassView = shown false (length held.1) held.1 p in
+    let seen : c.hold-book.result.history ≡ (only c.release.new.token.seat.me.0.passes).seen =
+    ap (λ (x : Recorded). x.history) a.pages ∙ sym (ap (λ (x : PassView). x.seen) (only_is _ q after)) in
+    subst (λ (x : List Line). IfOk c.copy_of_history-history.result (λ v. v.items ≡ x)) seen c.copy_of_history-history.ensures

@@ -1,0 +1,54 @@
+-- How a unit begins and ends.
+use Rattle.std.specs.Prelude.{◌≡◌, ℕ, ◌<◌, ◌≤◌, List, map, length}
+use Rattle.atomic_table.specs.Seated.{TableId}
+use Rattle.nvm_store.specs.Line.{Line}
+use Rattle.nvm_unit.specs.declared.bounds.Bounds.{Bounds}
+use Rattle.nvm_unit.specs.declared.unit_fault.UnitFault.{UnitFault}
+use Rattle.nvm_unit.specs.declared.unit_fault.UnitFault.TheVariants.{Passes, NoMemory}
+use Rattle.nvm_unit.specs.declared.views.PassView.{PassView}
+use Rattle.nvm_unit.specs.Machine.{IsAt, newcomers}
+use Rattle.nvm_unit.specs.Views.{RiseWithin}
+use Rattle.nvm_unit.specs.Passes.{UnitName, PassState, IsPassOf, IsHistoryOf, Finds}
+
+-- A unit has 1 to 64 passes.
+abbrev pub IsPassCount : ℕ → Type 0
+IsPassCount count = (0 < count) × (count ≤ 64)
+
+-- why there is no unit with so many passes
+abbrev pub IsFaultOf : ℕ → UnitFault → Type 0
+IsFaultOf count Passes = ¬ IsPassCount count
+IsFaultOf count NoMemory = IsPassCount count
+
+-- a pass of this table
+abbrev pub pass_at : TableId → PassView → PassState
+pass_at table view = record { table = table; view = view }
+
+-- the passes of a new unit
+abbrev pub new_passes : UnitName → List PassState
+new_passes unit = map (pass_at unit.table) (newcomers unit.bounds)
+
+-- These are the unit's passes, all of them, each at the place of its number.
+pub record AreAllPassesOf (unit : UnitName) (passes : List PassState) : Type 0 where
+  pub count : length passes ≡ unit.bounds.passes
+  pub each : (i : ℕ) (pass : PassState) → IsAt passes i pass → IsPassOf unit pass × (pass.view.number ≡ i)
+
+-- The views are those of all passes, each at the place of its number.
+pub record AreAllViews (n : ℕ) (views : List PassView) : Type 0 where
+  pub count : length views ≡ n
+  pub each : (i : ℕ) (view : PassView) → IsAt views i view → view.number ≡ i
+
+-- Each entry bears the number of a pass.
+abbrev pub BearsNumbers : ℕ → List Line → Type 0
+BearsNumbers count history = (k : ℕ) (line : Line) → IsAt history k line → line.pass < count
+
+-- The unit's history at the end: lawful and within the limit, with just the passes' own entries under their
+-- numbers. It begins with what each pass had seen, and is no shorter than anything that one had found: a
+-- pass's marks never fall, none is above its floor, and the floor isn't above the number of entries.
+pub record IsWholeHistory (b : Bounds) (views : List PassView) (history : List Line) : Type 0 where
+  pub lawful : IsHistoryOf b history
+  pub bears : BearsNumbers b.passes history
+  pub each : (i : ℕ) (view : PassView) → IsAt views i view → Finds (length history) view history
+  pub marks : (i : ℕ) (view : PassView) → IsAt views i view → RiseWithin 0 view.marks view.floor
+
+abbrev pub views_of : List PassState → List PassView
+views_of passes = map (λ p. p.view) passes

@@ -1,0 +1,30 @@
+-- What is known of a unit beyond that its state is sound. It is kept with it at each step.
+use Rattle.std.specs.Prelude.{◌≡◌, ℕ, ◌<◌, List, length, Some}
+use Rattle.nvm_store.specs.Line.{Line}
+use Rattle.nvm_unit.specs.declared.bounds.Bounds.{Bounds}
+use Rattle.nvm_unit.specs.declared.views.PassView.{PassView}
+use Rattle.nvm_unit.specs.declared.views.Group.{Group}
+use Rattle.nvm_unit.specs.Views.{entries_by}
+use Rattle.nvm_unit.specs.Machine.{UnitState, IsAt, StandsAt, EachPass, IsSound}
+
+-- The passes have the numbers below `count`, each of them one pass. `place` says where it stands: the
+-- group, and the place in it.
+pub record ArePlaced (count : ℕ) (place : ℕ → ℕ × ℕ) (groups : List Group) : Type 0 where
+  pub below : EachPass (λ p. p.number < count) groups
+  pub here : (j i : ℕ) (p : PassView) → StandsAt groups j i p → place p.number ≡ (j, i)
+  pub all : (number : ℕ) → number < count
+      → (p : PassView) × StandsAt groups (place number).0 (place number).1 p × (p.number ≡ number)
+
+-- A pass is one of this unit, and has seen all that it has done.
+pub record Knows (b : Bounds) (p : PassView) : Type 0 where
+  pub bounds : p.bounds ≡ b
+  pub own : entries_by p.number p.seen ≡ p.mine
+
+-- The state is sound, and what goes beyond it.
+pub record IsKept (b : Bounds) (s : UnitState) : Type 0 where
+  pub sound : IsSound b s
+  pub place : ℕ → ℕ × ℕ
+  pub placed : ArePlaced b.passes place s.groups
+  pub knows : EachPass (Knows b) s.groups
+  -- A spent group doesn't hold the unit.
+  pub hands : (j : ℕ) (g : Group) (held : List Line) → IsAt s.groups j g → g.held ≡ Some held → 0 < length g.passes

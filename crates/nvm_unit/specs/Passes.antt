@@ -1,0 +1,44 @@
+-- What contracts see of a unit and of its passes.
+use Rattle.std.specs.Prelude.{◌≡◌, ℕ, ◌≤◌, List, length}
+use Rattle.atomic_table.specs.Seated.{TableId}
+use Rattle.nvm_store.specs.Line.{Line}
+use Rattle.nvm_store.specs.History.{IsLawfulHistory}
+use Rattle.nvm_unit.specs.declared.bounds.Bounds.{Bounds}
+use Rattle.nvm_unit.specs.declared.views.PassView.{PassView}
+use Rattle.nvm_unit.specs.Views.{Begins, entries_by, RiseWithin}
+
+-- which unit it is, and what is settled of it
+pub record UnitName : Type 0 where
+  pub table : TableId
+  pub bounds : Bounds
+
+-- the unit that a pass is of, and what it has seen and done
+pub record PassState : Type 0 where
+  pub table : TableId
+  pub view : PassView
+
+-- The pass is one of this unit.
+pub record IsPassOf (unit : UnitName) (pass : PassState) : Type 0 where
+  pub table : pass.table ≡ unit.table
+  pub bounds : pass.view.bounds ≡ unit.bounds
+
+-- The history is lawful in the unit, and not above its limit.
+pub record IsHistoryOf (b : Bounds) (history : List Line) : Type 0 where
+  pub lawful : IsLawfulHistory b.place.first b.place.blocks b.place.size history
+  pub within : length history ≤ b.limit
+
+-- What holds of each pass: what it has seen is lawful, and has just its own entries under its number; its
+-- marks never fall, and none is above what its last step found.
+pub record IsProper (p : PassView) : Type 0 where
+  pub seen : IsHistoryOf p.bounds p.seen
+  pub own : entries_by p.number p.seen ≡ p.mine
+  pub marks : RiseWithin 0 p.marks p.floor
+
+-- A step of the pass finds this history, of n entries: it begins with what the pass had seen, and is no
+-- shorter than anything that it had found.
+pub record Finds (n : ℕ) (p : PassView) (history : List Line) : Type 0 where
+  pub count : n ≡ length history
+  pub seen : Begins p.seen history
+  pub floor : p.floor ≤ n
+  pub mine : entries_by p.number history ≡ p.mine
+  pub lawful : IsHistoryOf p.bounds history

@@ -1,0 +1,112 @@
+-- What each atomic step tells the seat that makes it.
+use Rattle.std.specs.Prelude.{◌≡◌, ◌≢◌, ℕ, ◌+◌, ◌*◌, ◌/◌, ◌<◌, ◌≤◌, List, [], ◌∷◌, ◌++◌, map, take, drop, length, Bool, true, false, Option, Some}
+use Rattle.atomic_table.specs.Table.{Me, Step}
+use Rattle.nvm_store.specs.Line.{Line}
+use Rattle.nvm_store.specs.History.{CanFollow, IsLawfulHistory}
+use Rattle.nvm_unit.specs.declared.bounds.Bounds.{Bounds}
+use Rattle.nvm_unit.specs.declared.views.PassView.{PassView}
+use Rattle.nvm_unit.specs.declared.views.Group.{Group}
+use Rattle.nvm_unit.specs.Views.{Begins, entries_by, looked, shown, added}
+use Rattle.nvm_unit.specs.Machine.{IsAt}
+use Rattle.nvm_unit.specs.Book.{Recorded, recorded}
+use Rattle.nvm_unit.specs.Events.{idle}
+
+-- what a seat carries, and the slot if it took it
+abbrev pub Sits : Type 0
+Sits = Me (Option Recorded) Group
+
+-- a seat with these passes, which doesn't hold the unit
+abbrev pub resting : List PassView → Sits
+resting passes = (idle passes, [])
+
+-- A seat with these passes, which holds the unit and its history. `book` is in the slot now.
+abbrev pub holding : List PassView → List Line → Option Recorded → Sits
+holding passes history book = (record { passes = passes; held = Some history }, (0, book) ∷ [])
+
+-- It is so of each of them.
+abbrev pub EachIn : (PassView → Type 0) → List PassView → Type 0
+EachIn P passes = (i : ℕ) (p : PassView) → IsAt passes i p → P p
+
+-- A step that finds n entries finds no fewer than the pass has found and seen.
+pub record IsNotAbove (n : ℕ) (p : PassView) : Type 0 where
+  pub floor : p.floor ≤ n
+  pub seen : length p.seen ≤ n
+
+-- What holds of a pass at this history.
+pub record Fits (b : Bounds) (history : List Line) (p : PassView) : Type 0 where
+  pub bounds : p.bounds ≡ b
+  pub seen : Begins p.seen history
+  pub floor : p.floor ≤ length history
+  pub mine : entries_by p.number history ≡ p.mine
+  pub own : entries_by p.number p.seen ≡ p.mine
+
+-- A load that finds this word, or a compare_exchange that is lost to it.
+pub record HasLooked (decides : ℕ → Bool) (word : ℕ) (m m' : Sits) : Type 0 where
+  pub after : m' ≡ (record m.0 { passes = map (looked (decides word) (word / 2)) m.0.passes }, m.1)
+  pub later : EachIn (IsNotAbove (word / 2)) m.0.passes
+
+-- A compare_exchange that takes the unit, with this history.
+pub record HasTaken (word : ℕ) (b : Bounds) (history : List Line) (m m' : Sits) : Type 0 where
+  pub found : word ≡ 2 * length history
+  pub after : m' ≡ holding (map (looked false (length history)) m.0.passes) history (Some (recorded b history))
+  pub fits : EachIn (Fits b history) m.0.passes
+  pub lawful : IsLawfulHistory b.place.first b.place.blocks b.place.size history
+  pub within : length history ≤ b.limit
+
+abbrev pub Takes : ℕ → Sits → Sits → Type 0
+Takes word m m' = (b : Bounds) × (history : List Line) × HasTaken word b history m m'
+
+-- a load
+abbrev pub looks : (ℕ → Bool) → Step (Option Recorded) → Sits → ℕ → Sits → Type 0
+looks decides step m word m' = HasLooked decides word m m'
+
+-- a compare_exchange of a free word for the one that says that the unit is held
+abbrev pub tries : (ℕ → Bool) → Step (Option Recorded) → Sits → ℕ → Sits → Type 0
+tries decides step m word m' =
+    (word ≡ step.first → Takes word m m') × (word ≢ step.first → HasLooked decides word m m')
+
+-- The unit is put back as it was, with so many entries.
+abbrev pub ReturnsAs : (ℕ → Bool) → ℕ → Sits → Sits → Type 0
+ReturnsAs decides entries m m' =
+    (ps : List PassView) (history : List Line) (book : Option Recorded)
+    → m ≡ holding ps history book → entries ≡ length history
+    → m' ≡ resting (map (shown (decides (2 * length history + 1)) (length history) history) ps)
+
+-- The unit is put back with one entry more, and then has so many.
+abbrev pub AddsAs : ℕ → Sits → Sits → Type 0
+AddsAs entries m m' =
+    (p : PassView) (history : List Line) (line : Line)
+    → m ≡ holding (p ∷ []) history (Some (recorded p.bounds (history ++ line ∷ []))) → entries ≡ length history + 1
+    → m' ≡ resting (added (length history) history line p ∷ [])
+
+-- a store that puts the unit back
+abbrev pub puts : (ℕ → Bool) → Step (Option Recorded) → Sits → ℕ → Sits → Type 0
+puts decides step m word m' =
+    (entries : ℕ) → step.first ≡ 2 * entries → ReturnsAs decides entries m m' × AddsAs entries m m'
+
+-- The seat can put the unit back as it was: the slot has the book of the history that is held.
+pub record CanReturn (decides : ℕ → Bool) (entries : ℕ) (m : Sits) (ps : List PassView) (history : List Line) (b : Bounds) : Type 0 where
+  pub at : m ≡ holding ps history (Some (recorded b history))
+  pub count : entries ≡ length history
+  pub filled : 0 < length ps
+  pub bounds : EachIn (λ p. p.bounds ≡ b) ps
+  pub alone : decides (2 * length history + 1) ≡ true → length ps ≡ 1
+
+-- The seat can put the unit back with one entry more: the slot has its book.
+pub record CanAppend (entries : ℕ) (m : Sits) (p : PassView) (history : List Line) (line : Line) : Type 0 where
+  pub at : m ≡ holding (p ∷ []) history (Some (recorded p.bounds (history ++ line ∷ [])))
+  pub count : entries ≡ length history + 1
+  pub number : line.pass ≡ p.number
+  pub follows : CanFollow p.bounds.place.first p.bounds.place.blocks p.bounds.place.size history line
+  pub room : length history < p.bounds.limit
+
+-- how passes that meet are told apart again: the first stays
+abbrev pub first_of : Group → Group
+first_of g = idle (take 1 g.passes)
+
+abbrev pub others_of : Group → Group
+others_of g = idle (drop 1 g.passes)
+
+-- two groups as one
+abbrev pub together : Group → Group → Group
+together g h = idle (g.passes ++ h.passes)

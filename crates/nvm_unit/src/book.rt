@@ -1,0 +1,143 @@
+ghost use Rattle.std.specs.Prelude.{◌≡◌, [], ◌∷◌, ◌++◌, length, IfOk, IsSome, OnOk, OnErr};
+ghost use Rattle.nvm_record.specs.Medium.{zero_medium};
+ghost use Rattle.nvm_record.specs.Status.{IsSuccess};
+ghost use Rattle.nvm_record.specs.Step.{statuses_of, data_of};
+ghost use Rattle.nvm_store.specs.ActRef.{lent_operation_of};
+ghost use Rattle.nvm_store.specs.Answer.{IsAnswer};
+ghost use Rattle.nvm_store.specs.Contents.{Holds, IsUnit, IsCovered};
+ghost use Rattle.nvm_store.specs.History.{replay_of};
+ghost use Rattle.nvm_store.specs.Look.{look_operation_of};
+
+use nvm_record::{NoMemory, Statuses};
+use nvm_store::laws::{replay_of_one_more, success_on_held};
+use nvm_store::{ActRef, Answer, Entry, History, Look, UnitBlocks, answer, judge};
+use std::alloc::Global;
+use std::marker::Model;
+
+/// A unit's history, and the blocks to which it leads.
+///
+/// Contracts see where the unit lies, and the history.
+#[derive(Drop)]
+pub struct Book {
+    history: History,
+    blocks: UnitBlocks,
+}
+
+impl Model for Book {
+    ghost use Rattle.std.specs.Prelude.{length};
+    ghost use Rattle.nvm_store.specs.Contents.{Holds};
+    ghost use Rattle.nvm_store.specs.History.{replay_of};
+    ghost use Rattle.nvm_unit.specs.Book.{Recorded};
+
+    ghost Value = { Recorded };
+
+    ghost view = { λ b. record {
+      place = record {
+        first = b.blocks.first;
+        blocks = length b.blocks.blocks;
+        size = b.blocks.size;
+      };
+      history = b.history.items;
+    } };
+
+    ghost invariant = { λ b. Holds b.blocks (replay_of b.blocks.size b.history.items) };
+}
+
+impl Book {
+    /// The book of a unit whose blocks are all zero bytes. It has no entry, and takes no memory.
+    pub fn new(alloc: Global, blocks: UnitBlocks) -> Book
+        requires { Holds blocks (zero_medium blocks.size) }
+        ensures place { IsUnit result.place.first result.place.blocks result.place.size blocks }
+        ensures history { result.history ≡ [] }
+    {
+        Book {
+            history: Vec::new(alloc),
+            blocks,
+        }
+    }
+
+    /// The number of entries.
+    pub fn entries(&self) -> usize
+        ensures { result ≡ length self.now.history }
+    {
+        self.history.len()
+    }
+
+    /// The statuses that the act completes with. It takes no memory.
+    pub fn judge(&self, act: ActRef<'_>) -> Statuses
+        requires { IsCovered self.now.place.first self.now.place.blocks self.now.place.size (lent_operation_of act) }
+        ensures { result
+            ≡ statuses_of (lent_operation_of act.entry) (replay_of self.now.place.size self.now.history) }
+    {
+        judge(&self.blocks, act)
+    }
+
+    /// What the look is answered.
+    pub fn answer(&self, alloc: Global, look: Look<'_>) -> Result<Answer, NoMemory>
+        requires { IsCovered self.now.place.first self.now.place.blocks self.now.place.size (look_operation_of look) }
+        ensures step { IfOk result (IsAnswer (look_operation_of look.entry) (replay_of self.now.place.size self.now.history)) }
+        ensures memory { OnErr result (IsSome (data_of (look_operation_of look.entry) (replay_of self.now.place.size self.now.history))) }
+    {
+        answer(alloc, &self.blocks, look)
+    }
+
+    /// Makes the act's step, and keeps its entry. An error leaves all as it was.
+    pub fn add(
+        &mut self,
+        alloc: Global,
+        pass: u16,
+        job: u32,
+        act: ActRef<'_>,
+    ) -> Result<(), NoMemory>
+        requires covered { IsCovered self.old.place.first self.old.place.blocks self.old.place.size (lent_operation_of act) }
+        requires success { IsSuccess (statuses_of (lent_operation_of act) (replay_of self.old.place.size self.old.history)) }
+        ensures added { OnOk result (self.new ≡ record {
+          place = self.old.place;
+          history = self.old.history ++ record { pass = pass; job = job; operation = lent_operation_of act.entry } ∷ [];
+        }) }
+        ensures same { OnErr result (self.new ≡ self.old) }
+    {
+        success_on_held();
+        replay_of_one_more();
+        let entry = Entry {
+            pass,
+            job,
+            act: act.to_act(alloc)?,
+        };
+        self.history.reserve(1)?;
+        self.blocks.change(act);
+        self.history.push_reserved(entry);
+        Ok(())
+    }
+
+    /// A copy of the history, whose room is reserved once.
+    pub fn copy_of_history(&self, alloc: Global) -> Result<History, NoMemory>
+        ensures { IfOk result (λ v. v.items ≡ self.now.history) }
+    {
+        let mut copies = Vec::with_capacity(alloc, self.history.len())?;
+        for entry in &self.history {
+            copies.push(copy_of(alloc, entry)?)?;
+        }
+        Ok(copies)
+    }
+
+    /// The history alone. It takes no memory.
+    pub fn into_history(self) -> History
+        ensures { result.items ≡ self.history }
+    {
+        let Book { history, blocks: _ } = self;
+        history
+    }
+}
+
+/// A copy of the entry.
+fn copy_of(alloc: Global, entry: &Entry) -> Result<Entry, NoMemory>
+    ensures { IfOk result (λ copy. copy ≡ entry.now) }
+{
+    let act = entry.act.as_ref().to_act(alloc)?;
+    Ok(Entry {
+        pass: entry.pass,
+        job: entry.job,
+        act,
+    })
+}

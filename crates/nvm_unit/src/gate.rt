@@ -1,0 +1,18 @@
+/// What is told of the course of jobs. Both methods return, and wait for nothing.
+pub trait Gate {
+    /// The unit of this number, which a change of the job holds, is about to be put back.
+    fn before_put(&self, unit: u16, job: u32);
+
+    /// The job is done.
+    fn after_job(&self, job: u32);
+}
+
+/// A gate that does nothing.
+#[derive(Clone, Copy, Debug)]
+pub struct Open;
+
+impl Gate for Open {
+    fn before_put(&self, _unit: u16, _job: u32) {}
+
+    fn after_job(&self, _job: u32) {}
+}

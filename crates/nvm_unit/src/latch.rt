@@ -1,0 +1,165 @@
+ghost use Rattle.std.specs.Prelude.{◌≡◌, ◌≢◌, ◌⊎◌, ℕ, ◌+◌, ◌*◌, ◌%◌, ◌^◌, ◌<◌, List, [], ◌∷◌, length, false};
+ghost use Rattle.nvm_store.specs.Limit.{IsLimit};
+ghost use Rattle.nvm_unit.specs.Alone.{only};
+ghost use Rattle.nvm_store.specs.Line.{Line};
+ghost use Rattle.nvm_unit.specs.declared.bounds.Bounds.{Bounds as UnitBounds};
+ghost use Rattle.nvm_unit.specs.declared.views.PassView.{PassView as View};
+ghost use Rattle.nvm_unit.specs.Plays.{resting, holding, Takes};
+ghost use Rattle.nvm_unit.specs.Holding.{HasWaited, HasHeld, HasMet, CanGiveBack, CanGiveMore, GivesBack, GivesMore};
+
+use crate::book::Book;
+use crate::rule::{Decides, Never};
+use crate::steps;
+use crate::steps::{Desk, Token};
+use std::sync::Wait;
+use std::sync::atomic::{AtomicU64, Ordering};
+use std::{mem, thread};
+
+/// So many times a thread yields before it sleeps.
+const YIELDS: u32 = 16;
+
+/// A unit's table, and how many threads sleep until it is put back.
+#[derive(Drop)]
+pub struct Latch {
+    pub(crate) desk: Desk,
+    sleepers: AtomicU64,
+}
+
+impl Latch {
+    /// The latch of a table on which nobody sleeps yet.
+    pub(crate) fn new(desk: Desk) -> Latch
+        ensures { result.desk ≡ desk }
+    {
+        Latch {
+            desk,
+            sleepers: AtomicU64::new(0),
+        }
+    }
+
+    /// The table alone.
+    pub(crate) fn into_desk(self) -> Desk
+        ensures { result ≡ self.desk }
+    {
+        let Latch { desk, sleepers: _ } = self;
+        desk
+    }
+
+    /// Lets others go on for a while, since the word was this one: first by yielding, and then by
+    /// sleeping.
+    fn pause<R: Wait>(&self, rt: &R, turns: u32, word: u64) {
+        if turns < YIELDS {
+            thread::yield_now();
+        } else {
+            self.sleepers.fetch_add(1, Ordering::SeqCst);
+            steps::sleep(&self.desk, rt, word);
+            self.sleepers.fetch_sub(1, Ordering::SeqCst);
+        }
+    }
+
+    /// Waits until the unit is free, since the word was `word`. Gives the word of the free unit.
+    fn free_word<R: Wait>(&self, rt: &R, token: &mut Token, word: u64) -> u64
+        requires at { token.old.seat.table_id ≡ self.now.desk.table.shared.table_id }
+        requires filled { 0 < length token.old.seat.me.0.passes }
+        ensures at { token.new.seat.table_id ≡ token.old.seat.table_id }
+        ensures waited { HasWaited token.old.seat.me token.new.seat.me }
+        ensures free { result % 2 ≡ 0 }
+    {
+        let mut word = word;
+        let mut turns = 0;
+        for _ in rt.forever() {
+            if word % 2 == 0 {
+                return word;
+            }
+            self.pause(rt, turns, word);
+            turns = turns.saturating_add(1);
+            word = steps::load::<Never>(&self.desk, token);
+        }
+        unreachable!()
+    }
+
+    /// Takes the unit, which it finds free at once where it has `entries` entries.
+    fn take<R: Wait>(&self, rt: &R, token: &mut Token, entries: u32)
+        requires at { token.old.seat.table_id ≡ self.now.desk.table.shared.table_id }
+        requires rests { token.old.seat.me ≡ resting token.old.seat.me.0.passes }
+        requires filled { 0 < length token.old.seat.me.0.passes }
+        ensures at { token.new.seat.table_id ≡ token.old.seat.table_id }
+        ensures taken { (word : ℕ) × Takes word token.old.seat.me token.new.seat.me }
+    {
+        let mut word = 2 * u64::from(entries);
+        for _ in rt.forever() {
+            let found = steps::take::<Never>(&self.desk, token, word);
+            if found == word {
+                return;
+            }
+            word = self.free_word(rt, token, found);
+        }
+        unreachable!()
+    }
+
+    /// Takes the unit and its book, which it finds free at once where it has `entries` entries.
+    pub(crate) fn hold<R: Wait>(&self, rt: &R, token: &mut Token, entries: u32) -> Book
+        requires at { token.old.seat.table_id ≡ self.now.desk.table.shared.table_id }
+        requires rests { token.old.seat.me ≡ resting token.old.seat.me.0.passes }
+        requires filled { 0 < length token.old.seat.me.0.passes }
+        ensures at { token.new.seat.table_id ≡ token.old.seat.table_id }
+        ensures held { (b : UnitBounds) × (history : List Line)
+            × HasHeld b history result token.old.seat.me token.new.seat.me }
+    {
+        self.take(rt, token, entries);
+        steps::take_book(&self.desk, token)
+    }
+
+    /// Puts the book and the unit back, and wakes one of those who sleep, if somebody does.
+    pub(crate) fn release<D: Decides>(&self, token: &mut Token, book: Book)
+        requires at { token.old.seat.table_id ≡ self.now.desk.table.shared.table_id }
+        requires few { length book.history < 2 ^ 32 }
+        requires ready { ((ps : List View) × (history : List Line) × (b : UnitBounds)
+            × CanGiveBack D.decides book token.old.seat.me ps history b)
+            ⊎ ((p : View) × (history : List Line) × (line : Line)
+            × CanGiveMore book token.old.seat.me p history line) }
+        ensures at { token.new.seat.table_id ≡ token.old.seat.table_id }
+        ensures back { GivesBack D.decides book token.old.seat.me token.new.seat.me }
+        ensures more { GivesMore book token.old.seat.me token.new.seat.me }
+    {
+        let entries = book.entries() as u64;
+        steps::lay_book(&self.desk, token, book);
+        steps::put::<D>(&self.desk, token, entries);
+        self.wake();
+    }
+
+    /// Brings two passes to one history, in one step. `one` finds the unit free at once where it has
+    /// `entries` entries. Gives the number of entries that was found.
+    pub(crate) fn meet<R: Wait>(
+        &self,
+        rt: &R,
+        one: &mut Token,
+        other: &mut Token,
+        entries: u32,
+    ) -> u32
+        requires one { one.old.seat.table_id ≡ self.now.desk.table.shared.table_id }
+        requires other { other.old.seat.table_id ≡ self.now.desk.table.shared.table_id }
+        requires one_rests { one.old.seat.me ≡ resting (only one.old.seat.me.0.passes ∷ []) }
+        requires other_rests { other.old.seat.me ≡ resting (only other.old.seat.me.0.passes ∷ []) }
+        requires limit { IsLimit (only one.old.seat.me.0.passes).bounds.limit }
+        ensures one { one.new.seat.table_id ≡ one.old.seat.table_id }
+        ensures other { other.new.seat.table_id ≡ other.old.seat.table_id }
+        ensures met { HasMet result (only one.old.seat.me.0.passes) (only other.old.seat.me.0.passes)
+            one.new.seat.me other.new.seat.me }
+    {
+        let spare = steps::split(&self.desk, one);
+        let joining = mem::replace(other, spare);
+        steps::join(&self.desk, one, joining);
+        let book = self.hold(rt, one, entries);
+        let found = book.entries() as u32;
+        self.release::<Never>(one, book);
+        *other = steps::split(&self.desk, one);
+        found
+    }
+
+    /// Wakes one of those who sleep, if somebody does.
+    fn wake(&self) {
+        if self.sleepers.load(Ordering::SeqCst) > 0 {
+            steps::wake(&self.desk);
+        }
+    }
+}

@@ -1,0 +1,35 @@
+//! One atomic unit that many threads share: its blocks, and the history of their changes.
+//!
+//! [`Unit::new`] gives a unit with its passes, which threads take with them. [`Unit::change`] and
+//! [`Unit::observe`] are one atomic step each, and what they answer is the step of the command after a
+//! number of entries of the unit's history that isn't below what the pass had seen. What a pass has seen
+//! grows at each call; [`Unit::meet`] brings two passes to one history, and [`Unit::close`] gives the whole.
+//!
+//! A unit has one word: twice the number of entries, and one more while a pass holds the unit. All steps on
+//! it stand in the module `steps`, and each keeps the rule that the unit's state is sound. That every list
+//! of such steps leads to a sound state is the law of [`laws`].
+#![tactic(auto)]
+
+mod attempt;
+mod book;
+mod bounds;
+mod gate;
+mod latch;
+pub mod laws;
+mod pass;
+mod replies;
+mod rule;
+mod seats;
+mod steps;
+#[cfg(test)]
+mod tests;
+mod unit;
+mod unit_fault;
+mod views;
+
+pub use bounds::Bounds;
+pub use gate::{Gate, Open};
+pub use pass::Pass;
+pub use replies::{Changed, ObserveFault, Observed};
+pub use unit::Unit;
+pub use unit_fault::UnitFault;

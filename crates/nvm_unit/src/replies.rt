@@ -1,0 +1,32 @@
+use nvm_record::Statuses;
+use nvm_store::Answer;
+
+/// What [`Unit::change`](crate::Unit::change) answers. In all cases but `Done` the unit's history and
+/// blocks are unchanged.
+#[derive(Clone, Copy, Debug, PartialEq, Eq)]
+pub enum Changed {
+    /// The act was done; its entry stands at place `at` of the history.
+    Done { at: u32 },
+    /// The act is a pair, and its comparison failed at this point.
+    Failed { point: u32, statuses: Statuses },
+    /// Memory was asked for and refused. The act would have been done at this point.
+    NoMemory { point: u32 },
+    /// The history is at its limit, which is the point. The act isn't a pair whose comparison fails there.
+    Full { point: u32 },
+}
+
+/// What [`Unit::observe`](crate::Unit::observe) answers.
+#[derive(Debug, Drop)]
+pub struct Observed {
+    /// The number of entries on whose replay the answer rests.
+    pub point: u32,
+    /// The answer.
+    pub answer: Answer,
+}
+
+/// Why [`Unit::observe`](crate::Unit::observe) has no answer.
+#[derive(Clone, Copy, Debug, PartialEq, Eq)]
+pub enum ObserveFault {
+    /// Memory for the data was asked for at this point, and refused.
+    NoMemory { point: u32 },
+}

@@ -1,0 +1,85 @@
+//! The rule of a unit's table, and what its steps tell.
+ghost use Rattle.std.specs.Prelude.{ℕ, Bool, true, false};
+ghost use Rattle.nvm_unit.specs.Rule.{IsRuled, all_newcomers};
+ghost use Rattle.nvm_unit.specs.Plays.{looks, tries, puts, first_of, others_of, together};
+ghost use Rattle.nvm_unit.specs.Events.{idle};
+ghost use Rattle.std.specs.Prelude.{[]};
+
+use crate::book::Book;
+use crate::bounds::Bounds;
+use crate::views::Group;
+use atomic_table::{Join, Play, Split, TableRule};
+use std::marker::PhantomData;
+
+/// Between any two steps, the table shows a state that is sound.
+pub struct UnitRule;
+
+impl TableRule<Option<Book>, Group, Bounds> for UnitRule {
+    ghost holds = { IsRuled };
+
+    ghost first = { all_newcomers };
+}
+
+/// Whether a step is the one on which a call's answer rests, by the word that it finds.
+pub trait Decides {
+    ghost decides: { ℕ → Bool };
+}
+
+/// It is.
+pub struct Always;
+
+impl Decides for Always {
+    ghost decides = { λ word. true };
+}
+
+/// It isn't.
+pub struct Never;
+
+impl Decides for Never {
+    ghost decides = { λ word. false };
+}
+
+/// A load.
+pub struct Looks<D> {
+    decides: PhantomData<D>,
+}
+
+impl<D: Decides> Play<Option<Book>, Group> for Looks<D> {
+    ghost then = { looks D.decides };
+}
+
+/// A compare_exchange that may take the unit.
+pub struct Tries<D> {
+    decides: PhantomData<D>,
+}
+
+impl<D: Decides> Play<Option<Book>, Group> for Tries<D> {
+    ghost then = { tries D.decides };
+}
+
+/// A store that puts the unit back.
+pub struct Puts<D> {
+    decides: PhantomData<D>,
+}
+
+impl<D: Decides> Play<Option<Book>, Group> for Puts<D> {
+    ghost then = { puts D.decides };
+}
+
+/// The first pass stays, and the others become a group of their own.
+pub struct FirstStays;
+
+impl Split<Group> for FirstStays {
+    ghost left = { first_of };
+
+    ghost right = { others_of };
+}
+
+/// The passes of two groups become one group.
+pub struct Together;
+
+impl Join<Group> for Together {
+    ghost both = { together };
+
+    ghost spent = { idle [] };
+}

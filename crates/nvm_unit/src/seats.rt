@@ -1,0 +1,59 @@
+//! The seats of all passes, when a unit begins and when it ends.
+ghost use Rattle.std.specs.Prelude.{◌≡◌, ℕ, ◌<◌, ◌≤◌, [], map, length, IfOk};
+ghost use Rattle.nvm_unit.specs.Ends.{pass_at, views_of};
+ghost use Rattle.nvm_unit.specs.Machine.{IsAt, newcomers_from};
+ghost use Rattle.nvm_unit.specs.Passes.{PassState};
+ghost use Rattle.nvm_unit.specs.Plays.{resting};
+
+use crate::pass::Pass;
+use crate::steps;
+use crate::steps::{Desk, Token};
+use nvm_record::NoMemory;
+use std::alloc::Global;
+
+/// The passes of a new unit, which are all at this seat, each at a seat of its own.
+pub(crate) fn deal(
+    alloc: Global,
+    desk: &Desk,
+    token: Token,
+    count: u16,
+) -> Result<Vec<Pass>, NoMemory>
+    requires at { token.seat.table_id ≡ desk.now.table.shared.table_id }
+    requires all { token.seat.me ≡ resting (newcomers_from desk.now.table.shared.key 0 count) }
+    ensures { IfOk result (λ v. v.items ≡ map (pass_at desk.now.table.shared.table_id)
+        (newcomers_from desk.now.table.shared.key 0 count)) }
+{
+    let mut token = token;
+    let mut passes = Vec::with_capacity(alloc, usize::from(count))?;
+    for number in 0..count {
+        let others = steps::split(desk, &mut token);
+        passes.push(Pass {
+            token,
+            number,
+            entries: 0,
+        })?;
+        token = others;
+    }
+    Ok(passes)
+}
+
+/// All passes at one seat, in their order.
+pub(crate) fn gather(desk: &Desk, all: Vec<Pass>) -> Token
+    requires some { 0 < length all.items }
+    requires of { (i : ℕ) (pass : PassState) → IsAt all.items i pass
+        → pass.table ≡ desk.now.table.shared.table_id }
+    ensures at { result.seat.table_id ≡ desk.now.table.shared.table_id }
+    ensures all { result.seat.me ≡ resting (views_of all.items) }
+{
+    let mut left = all;
+    let Some(last) = left.pop() else {
+        unreachable!()
+    };
+    let mut token = last.into_token();
+    while let Some(pass) = left.pop() {
+        let mut seat = pass.into_token();
+        steps::join(desk, &mut seat, token);
+        token = seat;
+    }
+    token
+}

@@ -1,0 +1,63 @@
+//! What a gate is told, and when.
+use super::{change, two_passes};
+use crate::{Changed, Gate, Unit};
+use nvm_store::ActRef;
+use std::sync::atomic::{AtomicU64, Ordering};
+use std::test::Fail;
+
+/// Whether somebody holds the unit.
+fn is_held(unit: &Unit) -> bool {
+    unit.latch.desk.is_held()
+}
+
+/// Counts its calls, and those at which the unit was held.
+#[derive(Drop)]
+struct Noting<'a> {
+    unit: &'a Unit,
+    calls: AtomicU64,
+    held: AtomicU64,
+}
+
+impl Gate for Noting<'_> {
+    fn before_put(&self, unit: u16, job: u32) {
+        if unit == 0 && job == 5 {
+            self.calls.fetch_add(1, Ordering::SeqCst);
+        }
+        let held = is_held(self.unit);
+        if held {
+            self.held.fetch_add(1, Ordering::SeqCst);
+        }
+    }
+
+    fn after_job(&self, _job: u32) {}
+}
+
+#[test]
+fn the_gate_is_called_once_and_under_the_hold(rt: HostRuntime) -> Result<(), Fail> {
+    let (unit, mut first, _second) = two_passes(rt.alloc(), 1)?;
+    let gate = Noting {
+        unit: &unit,
+        calls: AtomicU64::new(0),
+        held: AtomicU64::new(0),
+    };
+    let zeroes = ActRef::Zeroes {
+        first: 0,
+        blocks: 8,
+    };
+    let failing = ActRef::Pair {
+        first: 0,
+        blocks: 1,
+        compare: &[1; 512],
+        write: &[2; 512],
+    };
+    let done = change(rt.alloc(), &rt, &unit, &mut first, 5, zeroes, &gate)?;
+    assert_eq!(rt; done, Changed::Done { at: 0 });
+    let full = change(rt.alloc(), &rt, &unit, &mut first, 5, zeroes, &gate)?;
+    assert_eq!(rt; full, Changed::Full { point: 1 });
+    let failed = change(rt.alloc(), &rt, &unit, &mut first, 5, failing, &gate)?;
+    assert!(rt; matches!(failed, Changed::Failed { point: 1, .. }));
+    assert_eq!(rt; gate.calls.load(Ordering::SeqCst), 3);
+    assert_eq!(rt; gate.held.load(Ordering::SeqCst), 3);
+    assert!(rt; !is_held(&unit));
+    Ok(())
+}
