@@ -24,15 +24,15 @@ fn two_passes(alloc: Global, limit: u32) -> Result<(Unit, Pass, Pass), Fail>
     let size = BlockSize::new(512).ok_or("no block has 512 bytes")?;
     let limit = Limit::new(limit).ok_or("there is no such limit")?;
     let Ok((unit, mut passes)) = Unit::new(alloc, 0, 0, 8, size, 2, limit) else {
-        return Err(Fail::new("there is no unit"));
+        return Err(Fail::new("there was no memory"));
     };
     let second = passes.pop().ok_or("there is no second pass")?;
     let first = passes.pop().ok_or("there is no first pass")?;
     Ok((unit, first, second))
 }
 
-/// Does the act as job `job`.
-fn change<R: Wait, G: Gate>(
+/// Does the act as job `job`, or finds no memory for it.
+fn tried<R: Wait, G: Gate>(
     alloc: Global,
     rt: &R,
     unit: &Unit,
@@ -49,6 +49,26 @@ fn change<R: Wait, G: Gate>(
         return Err(Fail::new("the unit doesn't cover the act"));
     }
     Ok(unit.change(rt, alloc, pass, job, act, gate))
+}
+
+/// Does the act as job `job`, for which there must be memory.
+fn change<R: Wait, G: Gate>(
+    alloc: Global,
+    rt: &R,
+    unit: &Unit,
+    pass: &mut Pass,
+    job: u32,
+    act: ActRef<'_>,
+    gate: &G,
+) -> Result<Changed, Fail>
+    requires { IsPassOf unit.now pass.old }
+    ensures of { IsPassOf unit.now pass.new }
+    ensures number { pass.new.view.number ≡ pass.old.view.number }
+{
+    match tried(alloc, rt, unit, pass, job, act, gate)? {
+        Changed::NoMemory { .. } => Err(Fail::new("there was no memory")),
+        changed => Ok(changed),
+    }
 }
 
 /// Writes a block of this byte at the LBA.
@@ -266,10 +286,14 @@ fn a_unit_has_1_to_64_passes(rt: HostRuntime) -> Result<(), Fail> {
 #[test]
 fn a_refused_growth_leaves_the_unit(rt: HostRuntime) -> Result<(), Fail> {
     let (unit, mut first, mut second) = two_passes(rt.alloc(), 100)?;
-    let Changed::Done { .. } = write(rt.alloc(), &rt, &unit, &mut first, 0, 0, 0x41)? else {
-        return Ok(());
+    let done = write(rt.alloc(), &rt, &unit, &mut first, 0, 0, 0x41)?;
+    assert_eq!(rt; done, Changed::Done { at: 0 });
+    let act = ActRef::Write {
+        first: 0,
+        blocks: 1,
+        payload: &[0x42; BLOCK],
     };
-    let changed = write(rt.alloc(), &rt, &unit, &mut first, 1, 0, 0x42)?;
+    let changed = tried(rt.alloc(), &rt, &unit, &mut first, 1, act, &Open)?;
     let (point, bytes) = read(rt.alloc(), &rt, &unit, &mut second, 0, 1)?;
     match changed {
         Changed::Done { at } => {

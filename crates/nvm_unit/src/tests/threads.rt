@@ -51,8 +51,8 @@ fn two_threads_make_one_history(rt: HostRuntime) -> Result<(), Fail> {
             ensures number { IfSome result (λ p. p.view.number ≡ second.view.number) }
         { write_all(alloc, &rt, &unit, second, 1000) },
     );
-    let mut first = first.ok_or("a change of the first pass wasn't done")?;
-    let second = second.ok_or("a change of the second pass wasn't done")?;
+    let mut first = first.ok_or("there was no memory")?;
+    let second = second.ok_or("there was no memory")?;
     let seen = unit.history(&rt, rt.alloc(), &mut first)?;
     assert_eq!(rt; seen.len(), 2000);
     let history = close(rt.alloc(), unit, first, second)?;
@@ -68,8 +68,8 @@ fn two_threads_make_one_history(rt: HostRuntime) -> Result<(), Fail> {
     Ok(())
 }
 
-/// So many times: reads the byte of block 0, and writes the next one if the block still has it. Gives how
-/// often it was written.
+/// So many times, or until memory is refused to a Read: reads the byte of block 0, and writes the next one if
+/// the block still has it. Gives how often it was written.
 fn count_up<R: Wait>(alloc: Global, rt: &R, unit: &Unit, pass: Pass, tries: u32) -> u32
     requires { IsPassOf unit.now pass }
 {
@@ -90,7 +90,7 @@ fn count_up<R: Wait>(alloc: Global, rt: &R, unit: &Unit, pass: Pass, tries: u32)
             },
         ) = unit.observe(rt, alloc, &mut pass, look)
         else {
-            return 0;
+            return done;
         };
         let bytes = payload.into_vec();
         let Some(&old) = bytes.first() else {
@@ -118,7 +118,7 @@ fn pairs_that_succeed_count_up(rt: HostRuntime) -> Result<(), Fail> {
     let limit = Limit::new(1000).ok_or("there is no such limit")?;
     let alloc = rt.alloc();
     let Ok((unit, mut passes)) = Unit::new(alloc, 0, 0, 8, size, 9, limit) else {
-        return Err(Fail::new("there is no unit"));
+        return Err(Fail::new("there was no memory"));
     };
     let Some(mut last) = passes.pop() else {
         return Err(Fail::new("there is no ninth pass"));
@@ -134,9 +134,12 @@ fn pairs_that_succeed_count_up(rt: HostRuntime) -> Result<(), Fail> {
     for times in &done {
         all = all.wrapping_add(*times);
     }
+    if all == 0 {
+        return Err(Fail::new("there was no memory"));
+    }
     let (point, bytes) = read(alloc, &rt, &unit, &mut last, 0, 1)?;
     assert_eq!(rt; point, all);
-    assert!(rt; 0 < all && all <= 160);
+    assert!(rt; all <= 160);
     assert_eq!(rt; bytes.as_slice(), [(all % 256) as u8; BLOCK].as_slice());
     Ok(())
 }
