@@ -102,7 +102,7 @@ class Test:
         error = re.match(r"error: .*\b(AllocError|AllocFailed|NoMemory)\b.*\n.*\n\Z", end.err)
         if error and end.status == 101:
             return "no memory"
-        if end.status == 101 and end.err.startswith("there was no memory\n"):
+        if end.status == 101 and re.match(r'(error: ")?there was no memory"?\n', end.err):
             return "no memory"
         sides = re.search(r"^ *left: (.*)\n *right: (.*)$", end.err, re.M)
         if sides and end.status == -signal.SIGABRT:
