@@ -1,12 +1,13 @@
 //! A unit of LBAs 0 to 7 with blocks of 512 bytes, and two passes.
 mod gates;
+mod pass_counts;
 mod threads;
 
 ghost use Rattle.std.specs.Prelude.{◌≡◌, [], ◌∷◌, IfOk};
 ghost use Rattle.nvm_unit.specs.Ends.{AreAllPassesOf};
 ghost use Rattle.nvm_unit.specs.Passes.{IsPassOf};
 
-use crate::{Changed, Gate, Observed, Open, Pass, Unit, UnitFault};
+use crate::{Changed, Gate, Observed, Open, Pass, Unit};
 use nvm_record::{BlockSize, Status, Statuses};
 use nvm_store::{ActRef, Answer, Entry, Limit, Look};
 use std::alloc::Global;
@@ -253,33 +254,6 @@ fn a_refreshed_pass_has_seen_all(rt: HostRuntime) -> Result<(), Fail> {
     assert_eq!(rt; second.entries, 1);
     let changed = write(rt.alloc(), &rt, &unit, &mut second, 1, 5, 0x42)?;
     assert_eq!(rt; changed, Changed::Done { at: 1 });
-    Ok(())
-}
-
-/// How many passes a unit has that was asked for so many, and the last one's number: none where there may
-/// not be so many.
-fn passes_of(alloc: Global, count: u16) -> Result<Option<(usize, u16)>, Fail> {
-    let size = BlockSize::new(512).ok_or("no block has 512 bytes")?;
-    let limit = Limit::new(1).ok_or("there is no such limit")?;
-    match Unit::new(alloc, 0, 0, 1, size, count, limit) {
-        Ok((_unit, mut passes)) => {
-            let many = passes.len();
-            match passes.pop() {
-                Some(last) => Ok(Some((many, last.number()))),
-                None => Err(Fail::new("there is no pass")),
-            }
-        }
-        Err(UnitFault::Passes) => Ok(None),
-        Err(UnitFault::NoMemory) => Err(Fail::new("there was no memory")),
-    }
-}
-
-#[test]
-fn a_unit_has_1_to_64_passes(rt: HostRuntime) -> Result<(), Fail> {
-    assert_eq!(rt; passes_of(rt.alloc(), 0)?, None);
-    assert_eq!(rt; passes_of(rt.alloc(), 1)?, Some((1, 0)));
-    assert_eq!(rt; passes_of(rt.alloc(), 64)?, Some((64, 63)));
-    assert_eq!(rt; passes_of(rt.alloc(), 65)?, None);
     Ok(())
 }
 
