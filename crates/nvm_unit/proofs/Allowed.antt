@@ -1,11 +1,11 @@
 -- Each step of a seat keeps the rule of the table, whatever the others do.
-use Rattle.std.proofs.Common.{◌≡◌, ℕ, ◌+◌, ◌*◌, ◌/◌, ◌%◌, ◌<◌, ◌≤◌, List, [], ◌∷◌, ◌++◌, length, map, take, drop, set, slice_index, get_or, eqb, subst, refl, sym, ap, ◌∙◌, arith, Bool, true, false, Option, Some, None}
+use Rattle.std.proofs.Common.{◌≡◌, ℕ, ◌+◌, ◌*◌, ◌/◌, ◌%◌, ◌<◌, ◌≤◌, List, [], ◌∷◌, ◌++◌, length, map, set, slice_index, get_or, eqb, subst, refl, sym, ap, ◌∙◌, arith, Bool, true, false, Option, Some, None}
 use mathlib.Core.Option.{some, none}
 use mathlib.Core.Option as there
 use lib.ListN.{get_elem?}
 use prog.Atomic.{either}
-use Rattle.atomic_table.specs.Table.{State, Step, Act, keeps, takes, gives, stepped, Valid, carried_after, Allows, Joins, Splits}
-use Rattle.atomic_table.proofs.Lists.{exchanged, set_else}
+use Rattle.atomic_table.specs.Table.{State, Step, Act, keeps, takes, gives, stepped, Valid, carried_after, Allows}
+use Rattle.atomic_table.proofs.Lists.{exchanged}
 use Rattle.std.proofs.lemmas.List.{get_or_push}
 use Rattle.nvm_store.specs.Line.{Line}
 use Rattle.nvm_store.specs.History.{CanFollow}
@@ -14,12 +14,14 @@ use Rattle.nvm_unit.specs.declared.views.PassView.{PassView}
 use Rattle.nvm_unit.specs.declared.views.Group.{Group}
 use Rattle.nvm_unit.specs.Views.{looked, shown, added}
 use Rattle.nvm_unit.specs.Machine.{UnitState, IsAt, StandsAt, RestsAs, IsHand}
-use Rattle.nvm_unit.specs.Events.{number_found, idle, CanStep, CanAdd, after_look, after_take, after_put, after_return, after_join, after_split}
+use Rattle.nvm_unit.specs.Events.{number_found, idle, CanStep, CanAdd, after_look, after_take, after_put, after_return}
 use Rattle.nvm_unit.specs.Knowledge.{IsKept}
 use Rattle.nvm_unit.specs.Book.{Recorded, recorded}
+use Rattle.nvm_unit.specs.Passes.{IsHistoryOf}
 use Rattle.nvm_unit.specs.Rule.{slots_of, table_of, IsRuled}
 use Rattle.nvm_unit.specs.Plays.{Sits, resting, holding, EachIn, IsNotAbove, Fits, HasLooked, looks, tries, puts, CanReturn, CanAppend}
 use Rattle.nvm_unit.proofs.EventsKept.{FollowsLawfully}
+use Rattle.nvm_unit.proofs.Groups.{numbered_below}
 use Rattle.nvm_unit.proofs.Histories.{begins_length}
 use Rattle.nvm_unit.proofs.Keeping.{found_is, free_is, keeps_look, keeps_take, keeps_return, keeps_put}
 
@@ -57,12 +59,22 @@ not_above b s kept id g at i p inside =
     let short : length p.seen ≤ length s.history = begins_length p.seen s.history (kept.sound.hold.seen id i p stands) in
     record { floor = omega arith; seen = omega arith }
 
+-- What holds of the unit's history.
+pub history_of : (b : Bounds) (s : UnitState) → IsKept b s → IsHistoryOf b s.history
+history_of b s kept =
+    record {
+      lawful = kept.sound.hold.lawful;
+      within = kept.sound.hold.within;
+      bears = λ k line at. numbered_below b.passes kept.place s.groups kept.placed line.pass (kept.sound.marks.bears k line at);
+    }
+
 -- What holds of the passes of a group.
 pub fitting : (b : Bounds) (s : UnitState) → IsKept b s → (id : ℕ) (g : Group) → IsAt s.groups id g → EachIn (Fits b s.history) g.passes
 fitting b s kept id g at i p inside =
     let stands : StandsAt s.groups id i p = record { group = g; at = at; inside = inside } in
     record {
       bounds = (kept.knows id i p stands).bounds;
+      number = kept.placed.below id i p stands;
       seen = kept.sound.hold.seen id i p stands;
       floor = kept.sound.marks.floors id i p stands;
       mine = kept.sound.marks.mine id i p stands;
@@ -133,8 +145,7 @@ take_goes decides st b id old m first even rests filled s kept at is =
             after = ap (λ (k : ℕ). let y : Sits = (record { passes = map (looked false k) m.0.passes; held = Some s.history }, (0, book) ∷ m.1) in y) same
                 ∙ ap (λ (xs : List (ℕ × Slot)). let y : Sits = (record { passes = map (looked false (length s.history)) m.0.passes; held = Some s.history }, xs) in y) carried;
             fits = fitting b s kept id m.0 at;
-            lawful = kept.sound.hold.lawful;
-            within = kept.sound.hold.within;
+            lawful = history_of b s kept;
           },
         ),
         λ ne. absurd (ne (is ∙ sym first)),

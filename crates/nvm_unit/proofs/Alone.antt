@@ -1,5 +1,6 @@
 -- A seat with one pass that takes the unit and puts it back.
 use Rattle.std.proofs.Common.{◌≡◌, ◌⊎◌, ℕ, ◌+◌, ◌*◌, ◌<◌, ◌≤◌, List, [], ◌∷◌, ◌++◌, length, subst, refl, sym, ap, ◌∙◌, arith, inl, inr, Bool, true, false, None, Result, Ok, Err, IsSome}
+use Rattle.atomic_table.proofs.Lists.{at_snoc}
 use Rattle.std.proofs.lemmas.List.{length-append}
 use Rattle.nvm_record.specs.Medium.{Medium}
 use Rattle.nvm_record.specs.Status.{IsSuccess}
@@ -17,7 +18,7 @@ use Rattle.nvm_unit.specs.declared.replies.Changed.TheVariants.{Done, Failed, No
 use Rattle.nvm_unit.specs.Alone.{only}
 use Rattle.nvm_unit.specs.Book.{Recorded, recorded}
 use Rattle.nvm_unit.specs.Holding.{HasHeld, CanGiveBack, CanGiveMore, GivesBack, GivesMore}
-use Rattle.nvm_unit.specs.Passes.{Finds, IsHistoryOf, IsProper}
+use Rattle.nvm_unit.specs.Passes.{BearsNumbers, Finds, IsHistoryOf, IsProper}
 use Rattle.nvm_unit.specs.Plays.{Sits, resting, holding, Fits}
 use Rattle.nvm_unit.specs.Replies.{Attempts, AnswersFrom, Makes, Observes, line_of, medium_at}
 use Rattle.nvm_unit.specs.declared.replies.Observed.{Observed}
@@ -33,16 +34,17 @@ pub record HoldsAlone (b : Bounds) (h : List Line) (book : Recorded) (p : PassVi
   pub at : m ≡ holding (looked false (length h) p ∷ []) h None
   pub pages : book ≡ recorded b h
   pub bounds : p.bounds ≡ b
+  pub number : p.number < p.bounds.passes
   pub finds : Finds (length h) p h
 
-pub finds_of : (b : Bounds) (h : List Line) (p : PassView) → Fits b h p → IsLawfulHistory b.place.first b.place.blocks b.place.size h → length h ≤ b.limit → Finds (length h) p h
-finds_of b h p fits lawful within =
+pub finds_of : (b : Bounds) (h : List Line) (p : PassView) → Fits b h p → IsHistoryOf b h → Finds (length h) p h
+finds_of b h p fits lawful =
     record {
       count = refl;
       seen = fits.seen;
       floor = fits.floor;
       mine = fits.mine;
-      lawful = subst (λ (x : Bounds). IsHistoryOf x h) (sym fits.bounds) (record { lawful = lawful; within = within });
+      lawful = subst (λ (x : Bounds). IsHistoryOf x h) (sym fits.bounds) lawful;
     }
 
 holds_alone : (b : Bounds) (h : List Line) (book : Recorded) (p : PassView) (m' : Sits) → HasHeld b h book (resting (p ∷ [])) m' → HoldsAlone b h book p m'
@@ -52,7 +54,8 @@ holds_alone b h book p m' held =
       at = held.after;
       pages = held.pages;
       bounds = fits.bounds;
-      finds = finds_of b h p fits held.lawful held.within;
+      number = subst (λ (x : Bounds). p.number < x.passes) (sym fits.bounds) fits.number;
+      finds = finds_of b h p fits held.lawful;
     }
 
 -- What is known once the unit is taken, of the pass as contracts see it.
@@ -112,6 +115,14 @@ pub covers_same : (b b' : Bounds) (h : List Line) (book : Recorded) (p : PassVie
 covers_same b b' h book p m op a same covered =
     subst (λ (x : Recorded). IsCovered x.place.first x.place.blocks x.place.size op) (sym a.pages)
     (subst (λ (x : Bounds). IsCovered x.place.first x.place.blocks x.place.size op) (sym same ∙ a.bounds) covered)
+
+-- One entry more, which bears the number of a pass.
+bears_more : (count : ℕ) (h : List Line) (line : Line) → BearsNumbers count h → line.pass < count → BearsNumbers count (h ++ line ∷ [])
+bears_more count h line bears lt k x at =
+    elim (at_snoc h line x k at) [
+      | inl before ↦ bears k x before
+      | inr last ↦ subst (λ (y : Line). y.pass < count) last lt
+    ]
 
 finds_at : (n : ℕ) (p : PassView) (h : List Line) → n ≡ length h → Finds (length h) p h → Finds n p h
 finds_at n p h is finds = subst (λ (k : ℕ). Finds k p h) (sym is) finds
@@ -198,7 +209,7 @@ attempt_ends law (Done place) b h book book' p job op m m' a covered done proper
       at = more (looked false (length h) p) h line a.at pages ∙ ap (λ (k : ℕ). resting (added k h line p ∷ [])) (sym count);
       makes = (h, finds, room, succeeds, refl);
       proper = record {
-        seen = record { lawful = lawful; within = (omega arith) };
+        seen = record { lawful = lawful; within = (omega arith); bears = bears_more p.bounds.passes h line a.finds.lawful.bears a.number };
         own = entries_more p.number h line refl ∙ (ap (λ (x : List (ℕ × Line)). x ++ (length h, line) ∷ []) a.finds.mine ∙ ap (λ (k : ℕ). p.mine ++ (k, line) ∷ []) (sym count));
         marks = rise_more 0 p.marks p.floor place proper.marks finds.floor;
       };

@@ -1,27 +1,15 @@
 -- Seats that rest can be joined and split.
-use Rattle.std.proofs.Common.{◌≡◌, ℕ, ◌+◌, ◌*◌, ◌/◌, ◌%◌, ◌<◌, ◌≤◌, List, [], ◌∷◌, ◌++◌, length, map, take, drop, set, slice_index, get_or, eqb, subst, refl, sym, ap, ◌∙◌, arith, Bool, true, false, Option, Some, None}
-use mathlib.Core.Option.{some, none}
-use mathlib.Core.Option as there
+use Rattle.std.proofs.Common.{◌≡◌, ℕ, List, [], ◌∷◌, ◌++◌, take, drop, set, subst, refl, sym, ◌∙◌, Option}
+use mathlib.Core.Option.{some}
 use lib.ListN.{get_elem?}
-use prog.Atomic.{either}
-use Rattle.atomic_table.specs.Table.{State, Step, Act, keeps, takes, gives, stepped, Valid, carried_after, Allows, Joins, Splits}
-use Rattle.atomic_table.proofs.Lists.{exchanged, set_else}
-use Rattle.std.proofs.lemmas.List.{get_or_push}
-use Rattle.nvm_store.specs.Line.{Line}
-use Rattle.nvm_store.specs.History.{CanFollow}
+use Rattle.atomic_table.specs.Table.{State, Joins, Splits}
+use Rattle.atomic_table.proofs.Lists.{set_else}
 use Rattle.nvm_unit.specs.declared.bounds.Bounds.{Bounds}
 use Rattle.nvm_unit.specs.declared.views.PassView.{PassView}
 use Rattle.nvm_unit.specs.declared.views.Group.{Group}
-use Rattle.nvm_unit.specs.Views.{looked, shown, added}
-use Rattle.nvm_unit.specs.Machine.{UnitState, IsAt, StandsAt, RestsAs, IsHand}
-use Rattle.nvm_unit.specs.Events.{number_found, idle, CanStep, CanAdd, after_look, after_take, after_put, after_return, after_join, after_split}
-use Rattle.nvm_unit.specs.Knowledge.{IsKept}
-use Rattle.nvm_unit.specs.Book.{Recorded, recorded}
-use Rattle.nvm_unit.specs.Rule.{slots_of, table_of, IsRuled}
-use Rattle.nvm_unit.specs.Plays.{Sits, resting, holding, EachIn, IsNotAbove, Fits, HasLooked, looks, tries, puts, CanReturn, CanAppend}
-use Rattle.nvm_unit.proofs.EventsKept.{FollowsLawfully}
-use Rattle.nvm_unit.proofs.Histories.{begins_length}
-use Rattle.nvm_unit.proofs.Keeping.{found_is, free_is, keeps_look, keeps_take, keeps_return, keeps_put}
+use Rattle.nvm_unit.specs.Events.{idle, after_join, after_split}
+use Rattle.nvm_unit.specs.Book.{Recorded}
+use Rattle.nvm_unit.specs.Rule.{table_of, IsRuled}
 use Rattle.nvm_unit.proofs.Regrouping.{keeps_join, keeps_split}
 
 abbrev Slot : Type 0

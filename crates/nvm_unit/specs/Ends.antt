@@ -37,16 +37,11 @@ pub record AreAllViews (n : ℕ) (views : List PassView) : Type 0 where
   pub count : length views ≡ n
   pub each : (i : ℕ) (view : PassView) → IsAt views i view → view.number ≡ i
 
--- Each entry bears the number of a pass.
-abbrev pub BearsNumbers : ℕ → List Line → Type 0
-BearsNumbers count history = (k : ℕ) (line : Line) → IsAt history k line → line.pass < count
-
--- The unit's history at the end: lawful and within the limit, with just the passes' own entries under their
--- numbers. It begins with what each pass had seen, and is no shorter than anything that one had found: a
+-- The unit's history at the end: lawful and within the limit, each entry by a pass, with just the passes' own
+-- entries under their numbers. It begins with what each pass had seen, and is no shorter than anything that one had found: a
 -- pass's marks never fall, none is above its floor, and the floor isn't above the number of entries.
 pub record IsWholeHistory (b : Bounds) (views : List PassView) (history : List Line) : Type 0 where
   pub lawful : IsHistoryOf b history
-  pub bears : BearsNumbers b.passes history
   pub each : (i : ℕ) (view : PassView) → IsAt views i view → Finds (length history) view history
   pub marks : (i : ℕ) (view : PassView) → IsAt views i view → RiseWithin 0 view.marks view.floor
 

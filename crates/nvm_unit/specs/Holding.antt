@@ -1,12 +1,12 @@
 -- What a seat knows once it has waited for the unit, and once it holds it.
-use Rattle.std.specs.Prelude.{◌≡◌, ◌⊎◌, ℕ, ◌+◌, ◌*◌, ◌<◌, ◌≤◌, List, [], ◌∷◌, ◌++◌, map, length, Bool, true, false, None}
+use Rattle.std.specs.Prelude.{◌≡◌, ◌⊎◌, ℕ, ◌+◌, ◌*◌, ◌<◌, List, [], ◌∷◌, ◌++◌, map, length, Bool, true, false, None}
 use Rattle.nvm_store.specs.Line.{Line}
-use Rattle.nvm_store.specs.History.{CanFollow, IsLawfulHistory}
+use Rattle.nvm_store.specs.History.{CanFollow}
 use Rattle.nvm_unit.specs.declared.bounds.Bounds.{Bounds}
 use Rattle.nvm_unit.specs.declared.views.PassView.{PassView}
 use Rattle.nvm_unit.specs.Views.{looked, shown, added}
 use Rattle.nvm_unit.specs.Book.{Recorded, recorded}
-use Rattle.nvm_unit.specs.Passes.{Finds}
+use Rattle.nvm_unit.specs.Passes.{IsHistoryOf, Finds}
 use Rattle.nvm_unit.specs.Plays.{Sits, resting, holding, EachIn, IsNotAbove, Fits}
 
 -- Its steps so far, if any, decided nothing.
@@ -20,8 +20,7 @@ pub record HasHeld (b : Bounds) (history : List Line) (book : Recorded) (m m' : 
   pub pages : book ≡ recorded b history
   pub after : m' ≡ holding (map (looked false (length history)) m.0.passes) history None
   pub fits : EachIn (Fits b history) m.0.passes
-  pub lawful : IsLawfulHistory b.place.first b.place.blocks b.place.size history
-  pub within : length history ≤ b.limit
+  pub lawful : IsHistoryOf b history
 
 -- The seat can let go of the unit with the book of the history that it holds.
 pub record CanGiveBack (decides : ℕ → Bool) (book : Recorded) (m : Sits) (ps : List PassView) (history : List Line) (b : Bounds) : Type 0 where
