@@ -1,5 +1,5 @@
 -- Seats that rest can be joined and split.
-use Rattle.std.proofs.Common.{◌≡◌, ℕ, List, [], ◌∷◌, ◌++◌, take, drop, set, subst, refl, sym, ◌∙◌, Option}
+use Rattle.std.proofs.Common.{◌≡◌, ◌≢◌, ℕ, List, [], ◌∷◌, ◌++◌, take, drop, set, subst, refl, sym, ◌∙◌, Option}
 use mathlib.Core.Option.{some}
 use lib.ListN.{get_elem?}
 use Rattle.atomic_table.specs.Table.{State, Joins, Splits}
@@ -7,9 +7,10 @@ use Rattle.atomic_table.proofs.Lists.{set_else}
 use Rattle.nvm_unit.specs.declared.bounds.Bounds.{Bounds}
 use Rattle.nvm_unit.specs.declared.views.PassView.{PassView}
 use Rattle.nvm_unit.specs.declared.views.Group.{Group}
-use Rattle.nvm_unit.specs.Events.{idle, after_join, after_split}
+use Rattle.nvm_unit.specs.Events.{joins, splits, idle, after_join, after_split}
 use Rattle.nvm_unit.specs.Book.{Recorded}
 use Rattle.nvm_unit.specs.Rule.{table_of, IsRuled}
+use Rattle.nvm_unit.proofs.Reaching.{ruled_after}
 use Rattle.nvm_unit.proofs.Regrouping.{keeps_join, keeps_split}
 
 abbrev Slot : Type 0
@@ -24,7 +25,10 @@ join_allowed b id other ps qs t ruled at apart other_at =
     → IsRuled b (record { words = x.words; homes = x.homes; views = set (set x.views id (idle (ps ++ qs))) other (idle []) }) in
     let go : P (table_of b ruled.0) =
     λ at' other_at'.
-    (after_join ruled.0 id other ps qs, refl, keeps_join b ruled.0 ruled.2 id other ps qs at' (sym (set_else ruled.0.groups id other (idle (ps ++ qs)) apart) ∙ other_at') (λ e. apart (sym e)))
+    let other_here = sym (set_else ruled.0.groups id other (idle (ps ++ qs)) apart) ∙ other_at' in
+    let not_same : id ≢ other = λ e. apart (sym e) in
+    ruled_after b ruled.0 (after_join ruled.0 id other ps qs) (joins id other) _ ruled.3 (ps, qs, at', other_here, not_same, refl) refl
+    (keeps_join b ruled.0 ruled.2 id other ps qs at' other_here not_same)
     in
     subst P (sym ruled.1) go at other_at
 
@@ -34,5 +38,6 @@ split_allowed b id ps t ruled at =
     let P : State Slot Group → Type 0 =
     λ x. get_elem? x.views id ≡ some (idle ps)
     → IsRuled b (record { words = x.words; homes = x.homes; views = set x.views id (idle (take 1 ps)) ++ idle (drop 1 ps) ∷ [] }) in
-    let go : P (table_of b ruled.0) = λ at'. (after_split ruled.0 id 1 ps, refl, keeps_split b ruled.0 ruled.2 id 1 ps at') in
+    let go : P (table_of b ruled.0) = λ at'.
+    ruled_after b ruled.0 (after_split ruled.0 id 1 ps) (splits id 1) _ ruled.3 (ps, at', refl) refl (keeps_split b ruled.0 ruled.2 id 1 ps at') in
     subst P (sym ruled.1) go at

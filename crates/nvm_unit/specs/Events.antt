@@ -7,7 +7,7 @@ use Rattle.nvm_unit.specs.declared.bounds.Bounds.{Bounds}
 use Rattle.nvm_unit.specs.declared.views.PassView.{PassView}
 use Rattle.nvm_unit.specs.declared.views.Group.{Group}
 use Rattle.nvm_unit.specs.Views.{looked, shown, added}
-use Rattle.nvm_unit.specs.Machine.{UnitState, IsAt}
+use Rattle.nvm_unit.specs.Machine.{UnitState, IsAt, opening_state}
 
 pub data Event : Type 0 where
   -- The group j loads the word; the step may decide.
@@ -116,3 +116,7 @@ Happens b s (splits j i) t = (ps : List PassView) × IsAt s.groups j (idle ps) �
 abbrev pub Lead : Bounds → UnitState → List Event → UnitState → Type 0
 Lead b s [] t = t ≡ s
 Lead b s (event ∷ events) t = (u : UnitState) × Happens b s event u × Lead b u events t
+
+-- Some list of events leads from a new unit to this state.
+abbrev pub IsReached : Bounds → UnitState → Type 0
+IsReached b s = (events : List Event) × Lead b (opening_state b) events s
