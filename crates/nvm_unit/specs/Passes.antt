@@ -8,9 +8,10 @@ use Rattle.nvm_unit.specs.declared.views.PassView.{PassView}
 use Rattle.nvm_unit.specs.Machine.{IsAt}
 use Rattle.nvm_unit.specs.Views.{Begins, entries_by, RiseWithin}
 
--- which unit it is, and what is settled of it
+-- which unit it is, the number by which a gate knows it, and what is settled of it
 pub record UnitName : Type 0 where
   pub table : TableId
+  pub number : ℕ
   pub bounds : Bounds
 
 -- the unit that a pass is of, and what it has seen and done

@@ -29,7 +29,8 @@ pub const MOST_PASSES: u16 = 64;
 
 /// Blocks that many threads read and change, each change one atomic step.
 ///
-/// Contracts see which unit it is, its LBAs and block size, the number of its passes and its limit.
+/// Contracts see which unit it is, its number, its LBAs and block size, the number of its passes and its
+/// limit.
 #[derive(Drop)]
 pub struct Unit {
     pub(crate) latch: Latch,
@@ -45,7 +46,11 @@ impl Model for Unit {
 
     ghost Value = { UnitName };
 
-    ghost view = { λ u. record { table = u.latch.desk.table.shared.table_id; bounds = u.bounds } };
+    ghost view = { λ u. record {
+      table = u.latch.desk.table.shared.table_id;
+      number = u.number;
+      bounds = u.bounds;
+    } };
 
     ghost invariant = { λ u. (u.latch.desk.table.shared.key ≡ u.bounds) × IsLimit u.bounds.limit × (0 < u.bounds.passes) };
 }
@@ -71,6 +76,7 @@ impl Unit {
           passes = passes;
           limit = limit;
         }) }
+        ensures number { IfOk result (λ u. u.0.number ≡ number) }
         ensures passes { IfOk result (λ u. u.1.items ≡ new_passes u.0) }
     {
         let _entries = limit.entries();
@@ -180,10 +186,10 @@ impl Unit {
         ensures observed { Observes result pass.old.view (look_operation_of look.entry) pass.new.view }
         ensures proper { IsProper pass.new.view }
     {
-        let book = self.latch.hold(rt, &mut pass.token, pass.entries);
-        let observed = observed(alloc, &book, look);
-        pass.entries = book.entries() as u32;
-        self.latch.release::<Always>(&mut pass.token, book);
+        let current = self.latch.hold(rt, &mut pass.token, pass.entries);
+        let observed = observed(alloc, &current, look);
+        pass.entries = current.entries() as u32;
+        self.latch.release::<Always>(&mut pass.token, current);
         observed
     }
 
@@ -195,9 +201,9 @@ impl Unit {
         ensures up { IsBroughtUp pass.old.view pass.new.view }
         ensures proper { IsProper pass.new.view }
     {
-        let book = self.latch.hold(rt, &mut pass.token, pass.entries);
-        pass.entries = book.entries() as u32;
-        self.latch.release::<Never>(&mut pass.token, book);
+        let found = self.latch.hold(rt, &mut pass.token, pass.entries);
+        pass.entries = found.entries() as u32;
+        self.latch.release::<Never>(&mut pass.token, found);
     }
 
     /// Brings the pass to the history that it finds, and gives a copy of it. It waits for the unit. Where
