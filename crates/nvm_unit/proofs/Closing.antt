@@ -9,7 +9,7 @@ use Rattle.nvm_unit.specs.declared.bounds.Bounds.{Bounds}
 use Rattle.nvm_unit.specs.declared.views.PassView.{PassView}
 use Rattle.nvm_unit.specs.declared.views.Group.{Group}
 use Rattle.nvm_unit.specs.Book.{Recorded, recorded}
-use Rattle.nvm_unit.specs.Ends.{AreAllViews, IsWholeHistory}
+use Rattle.nvm_unit.specs.Ends.{AreAllViews, HasCome, IsWholeHistory}
 use Rattle.nvm_unit.specs.Events.{idle}
 use Rattle.nvm_unit.specs.Knowledge.{IsKept}
 use Rattle.nvm_unit.specs.Machine.{UnitState, IsAt, StandsAt, RestsAs}
@@ -61,7 +61,7 @@ whole b s kept id ps at =
 
 -- What lies in the slot at the end.
 pub closing : (b : Bounds) (id : ℕ) (ps : List PassView) (words : List ℕ) (slots : List (Option Recorded)) → AreAllViews b.passes ps
-    → Final (Seen (IsRuled b) id (idle ps)) words slots → (h : List Line) × IsAt slots 0 (Some (recorded b h)) × IsWholeHistory b ps h
+    → Final (Seen (IsRuled b) id (idle ps)) words slots → (h : List Line) × IsAt slots 0 (Some (recorded b h)) × IsWholeHistory b ps h × HasCome b ps h
 closing b id ps words slots all final =
     let t = final.0 in
     let ruled = final.1.0 in
@@ -74,4 +74,5 @@ closing b id ps words slots all final =
       s.history,
       final.4 0 (Some (recorded b s.history)) (ap (λ (hs : List (there.Option (Option Recorded))). get_elem? hs 0) homes),
       whole b s kept id ps at,
+      (s, id, ruled.3, refl, at),
     )

@@ -10,6 +10,7 @@ pub mod Putting
 pub mod Joining
 pub mod Waiting
 pub mod Alone
+pub mod Resting
 pub mod Together
 pub mod Closing
 pub mod Dealing

@@ -6,7 +6,8 @@ use Rattle.nvm_unit.specs.declared.bounds.Bounds.{Bounds}
 use Rattle.nvm_unit.specs.declared.unit_fault.UnitFault.{UnitFault}
 use Rattle.nvm_unit.specs.declared.unit_fault.UnitFault.TheVariants.{Passes, NoMemory}
 use Rattle.nvm_unit.specs.declared.views.PassView.{PassView}
-use Rattle.nvm_unit.specs.Machine.{IsAt, newcomers}
+use Rattle.nvm_unit.specs.Machine.{UnitState, IsAt, newcomers}
+use Rattle.nvm_unit.specs.Events.{idle, IsReached}
 use Rattle.nvm_unit.specs.Views.{RiseWithin}
 use Rattle.nvm_unit.specs.Passes.{UnitName, PassState, IsPassOf, IsHistoryOf, Finds}
 
@@ -47,3 +48,8 @@ pub record IsWholeHistory (b : Bounds) (views : List PassView) (history : List L
 
 abbrev pub views_of : List PassState → List PassView
 views_of passes = map (λ p. p.view) passes
+
+-- Events led from a new unit to this history, and to these views of passes that are all at one seat.
+abbrev pub HasCome : Bounds → List PassView → List Line → Type 0
+HasCome b views history =
+    (s : UnitState) × (j : ℕ) × IsReached b s × (s.history ≡ history) × IsAt s.groups j (idle views)

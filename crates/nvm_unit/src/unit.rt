@@ -1,5 +1,5 @@
 ghost use Rattle.std.specs.Prelude.{◌≡◌, ◌↔◌, ◌+◌, ◌≤◌, ◌<◌, IfOk, IfErr, IsTrue, length};
-ghost use Rattle.nvm_unit.specs.Ends.{IsPassCount, IsFaultOf, new_passes, AreAllPassesOf, IsWholeHistory, views_of};
+ghost use Rattle.nvm_unit.specs.Ends.{IsPassCount, IsFaultOf, new_passes, AreAllPassesOf, IsWholeHistory, HasCome, views_of};
 ghost use Rattle.nvm_store.specs.ActRef.{lent_operation_of};
 ghost use Rattle.nvm_store.specs.Contents.{IsCovered};
 ghost use Rattle.nvm_store.specs.Look.{look_operation_of};
@@ -111,7 +111,8 @@ impl Unit {
     /// [`Unit::new`] gave with it, in their order. It takes no memory, and waits for nothing.
     pub fn close(self, passes: Vec<Pass>) -> History
         requires { AreAllPassesOf self passes.items }
-        ensures { IsWholeHistory self.bounds (views_of passes.items) result.items }
+        ensures whole { IsWholeHistory self.bounds (views_of passes.items) result.items }
+        ensures events { HasCome self.bounds (views_of passes.items) result.items }
     {
         let Unit {
             latch,
