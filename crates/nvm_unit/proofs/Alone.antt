@@ -3,7 +3,11 @@ use Rattle.std.proofs.Common.{◌≡◌, ◌⊎◌, ℕ, ◌+◌, ◌*◌, ◌<�
 use Rattle.atomic_table.proofs.Lists.{at_snoc}
 use Rattle.std.proofs.lemmas.List.{length-append}
 use Rattle.nvm_record.specs.Step.{Operation}
+use Rattle.nvm_store.specs.ActRef.{lent_operation_of}
+use Rattle.nvm_store.specs.declared.act_ref.ActRef.{ActRef}
+use Rattle.nvm_store.specs.declared.act_ref.ActRef.TheVariants.{Write, Zeroes, Uncorrectable, Pair}
 use Rattle.nvm_store.specs.Contents.{IsCovered}
+use Rattle.nvm_unit.specs.Events.{IsAct}
 use Rattle.nvm_store.specs.History.{IsLawfulHistory, replay_of}
 use Rattle.nvm_store.specs.Limit.{IsLimit}
 use Rattle.nvm_store.specs.Line.{Line}
@@ -138,12 +142,19 @@ pages_after changed b h book book' p line m a done =
     ∙ (ap (λ (x : Recorded). let y : Recorded = record { place = x.place; history = history_after changed x.history line } in y) a.pages
     ∙ ap (λ (x : Bounds). recorded x (history_after changed h line)) (sym a.bounds))
 
+-- What is lent to a change is an act.
+pub act_is : (act : ActRef) → IsAct (lent_operation_of act).deed
+act_is (Write first blocks payload) = tt
+act_is (Zeroes first blocks) = tt
+act_is (Uncorrectable first blocks) = tt
+act_is (Pair first blocks compare write) = tt
+
 -- The unit can be put back whatever the attempt came to.
 pub attempt_ready : (changed : Changed) (b : Bounds) (h : List Line) (book book' : Recorded) (p : PassView) (job : ℕ) (op : Operation) (m : Sits) → HoldsAlone b h book p m
-    → IsCovered p.bounds.place.first p.bounds.place.blocks p.bounds.place.size op → Attempts changed p.bounds.limit (line_of p job op) book book'
+    → IsAct op.deed → IsCovered p.bounds.place.first p.bounds.place.blocks p.bounds.place.size op → Attempts changed p.bounds.limit (line_of p job op) book book'
     → ((ps : List PassView) × (history : List Line) × (b : Bounds) × CanGiveBack (λ _. true) book' m ps history b)
     ⊎ ((p : PassView) × (history : List Line) × (line : Line) × CanGiveMore book' m p history line)
-attempt_ready (Done place) b h book book' p job op m a covered done =
+attempt_ready (Done place) b h book book' p job op m a act covered done =
     let line = line_of p job op in
     let answers = answers_here (Done place) b h book book' p line m a done in
     inr (
@@ -153,14 +164,15 @@ attempt_ready (Done place) b h book book' p job op m a covered done =
       record {
         at = a.at;
         pages = pages_after (Done place) b h book book' p line m a done;
+        act = act;
         number = refl;
         follows = record { covered = covered; succeeds = answers.2 };
         room = answers.1;
       },
     )
-attempt_ready (Failed point statuses) b h book book' p job op m a covered done = inl (looked false (length h) p ∷ [], h, b, can_back (λ _. true) b h book book' p m a done.1)
-attempt_ready (NoMemory point) b h book book' p job op m a covered done = inl (looked false (length h) p ∷ [], h, b, can_back (λ _. true) b h book book' p m a done.1)
-attempt_ready (Full point) b h book book' p job op m a covered done = inl (looked false (length h) p ∷ [], h, b, can_back (λ _. true) b h book book' p m a done.1)
+attempt_ready (Failed point statuses) b h book book' p job op m a act covered done = inl (looked false (length h) p ∷ [], h, b, can_back (λ _. true) b h book book' p m a done.1)
+attempt_ready (NoMemory point) b h book book' p job op m a act covered done = inl (looked false (length h) p ∷ [], h, b, can_back (λ _. true) b h book book' p m a done.1)
+attempt_ready (Full point) b h book book' p job op m a act covered done = inl (looked false (length h) p ∷ [], h, b, can_back (λ _. true) b h book book' p m a done.1)
 
 -- The pass after the call, and what holds of it.
 pub record Ends (changed : Changed) (p : PassView) (job : ℕ) (op : Operation) (book' : Recorded) (m' : Sits) : Type 0 where

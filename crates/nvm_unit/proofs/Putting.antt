@@ -10,7 +10,7 @@ use Rattle.nvm_unit.specs.declared.views.PassView.{PassView}
 use Rattle.nvm_unit.specs.declared.views.Group.{Group}
 use Rattle.nvm_unit.specs.Views.{shown, added}
 use Rattle.nvm_unit.specs.Machine.{UnitState, IsAt, RestsAs, IsHand}
-use Rattle.nvm_unit.specs.Events.{adds, returns, IsReached, number_found, idle, CanStep, CanAdd, after_put, after_return}
+use Rattle.nvm_unit.specs.Events.{IsAct, adds, returns, IsReached, number_found, idle, CanStep, CanAdd, after_put, after_return}
 use Rattle.nvm_unit.specs.Knowledge.{IsKept}
 use Rattle.nvm_unit.specs.Book.{recorded}
 use Rattle.nvm_unit.specs.Rule.{slots_of, IsRuled}
@@ -108,10 +108,10 @@ return_allowed decides st b b' slots id entries m ps h first can =
 
 -- A store that puts the unit back with one entry more.
 append_goes : FollowsLawfully → (decides : Deciding) (st : Step Slot) (b : Bounds) (id entries : ℕ) (p : PassView) (h : List Line) (line : Line) → st.first ≡ 2 * entries → entries ≡ length h + 1
-    → line.pass ≡ p.number → CanFollow p.bounds.place.first p.bounds.place.blocks p.bounds.place.size h line → length h < p.bounds.limit
+    → IsAct line.operation.deed → line.pass ≡ p.number → CanFollow p.bounds.place.first p.bounds.place.blocks p.bounds.place.size h line → length h < p.bounds.limit
     → (s : UnitState) → IsKept b s → IsReached b s → IsAt s.groups id (record { passes = p ∷ []; held = Some h })
     → Goes b s id (holding (p ∷ []) h (Some (recorded p.bounds (h ++ line ∷ [])))) (λ word. puts decides st (holding (p ∷ []) h (Some (recorded p.bounds (h ++ line ∷ [])))) word) (2 * entries)
-append_goes law decides st b id entries p h line first count number follows room s kept reached at =
+append_goes law decides st b id entries p h line first count act number follows room s kept reached at =
     let x : Slot = Some (recorded p.bounds (h ++ line ∷ [])) in
     let g : Group = record { passes = p ∷ []; held = Some h } in
     let n = number_found s in
@@ -124,7 +124,7 @@ append_goes law decides st b id entries p h line first count number follows room
     subst (λ (y : List Line). CanFollow b.place.first b.place.blocks b.place.size y line) here
     (subst (λ (y : Bounds). CanFollow y.place.first y.place.blocks y.place.size h line) of_unit follows) in
     let room_here : length h < b.limit = subst (λ (y : Bounds). length h < y.limit) of_unit room in
-    let can : CanAdd b s id p h line = record { at = at; holds = is.0; number = number; follows = follows_here; room = (omega arith) } in
+    let can : CanAdd b s id p h line = record { at = at; holds = is.0; act = act; number = number; follows = follows_here; room = (omega arith) } in
     let w : Group = idle (added (length h) h line p ∷ []) in
     let t = after_put s id p h line in
     let home : s.slot ≡ None = is.3 in
@@ -165,4 +165,4 @@ append_allowed law decides st b slots id entries m p h line first can =
     let at : Sits = holding (p ∷ []) h (Some (recorded p.bounds (h ++ line ∷ []))) in
     subst (λ (y : Sits). Allows (IsRuled b) slots id y 0 (λ _. 2 * entries) (λ _. puts decides st y (2 * entries))) (sym can.at)
     (allowed b slots id at (λ _. 2 * entries) (λ _. puts decides st at (2 * entries))
-    (append_goes law decides st b id entries p h line first can.count can.number can.follows can.room))
+    (append_goes law decides st b id entries p h line first can.count can.act can.number can.follows can.room))

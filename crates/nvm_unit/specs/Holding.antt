@@ -6,6 +6,7 @@ use Rattle.nvm_unit.specs.declared.bounds.Bounds.{Bounds}
 use Rattle.nvm_unit.specs.declared.views.PassView.{PassView}
 use Rattle.nvm_unit.specs.Views.{looked, shown, added}
 use Rattle.nvm_unit.specs.Book.{Recorded, recorded}
+use Rattle.nvm_unit.specs.Events.{IsAct}
 use Rattle.nvm_unit.specs.Passes.{IsHistoryOf, Finds}
 use Rattle.nvm_unit.specs.Plays.{Sits, resting, holding, EachIn, IsNotAbove, Fits}
 
@@ -34,6 +35,7 @@ pub record CanGiveBack (decides : ℕ → Bool) (book : Recorded) (m : Sits) (ps
 pub record CanGiveMore (book : Recorded) (m : Sits) (p : PassView) (history : List Line) (line : Line) : Type 0 where
   pub at : m ≡ holding (p ∷ []) history None
   pub pages : book ≡ recorded p.bounds (history ++ line ∷ [])
+  pub act : IsAct line.operation.deed
   pub number : line.pass ≡ p.number
   pub follows : CanFollow p.bounds.place.first p.bounds.place.blocks p.bounds.place.size history line
   pub room : length history < p.bounds.limit

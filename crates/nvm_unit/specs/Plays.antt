@@ -9,7 +9,7 @@ use Rattle.nvm_unit.specs.declared.views.Group.{Group}
 use Rattle.nvm_unit.specs.Views.{Begins, entries_by, looked, shown, added}
 use Rattle.nvm_unit.specs.Machine.{IsAt}
 use Rattle.nvm_unit.specs.Book.{Recorded, recorded}
-use Rattle.nvm_unit.specs.Events.{idle}
+use Rattle.nvm_unit.specs.Events.{IsAct, idle}
 use Rattle.nvm_unit.specs.Passes.{IsHistoryOf}
 
 -- what a seat carries, and the slot if it took it
@@ -97,6 +97,7 @@ pub record CanReturn (decides : ℕ → Bool) (entries : ℕ) (m : Sits) (ps : L
 pub record CanAppend (entries : ℕ) (m : Sits) (p : PassView) (history : List Line) (line : Line) : Type 0 where
   pub at : m ≡ holding (p ∷ []) history (Some (recorded p.bounds (history ++ line ∷ [])))
   pub count : entries ≡ length history + 1
+  pub act : IsAct line.operation.deed
   pub number : line.pass ≡ p.number
   pub follows : CanFollow p.bounds.place.first p.bounds.place.blocks p.bounds.place.size history line
   pub room : length history < p.bounds.limit
