@@ -39,8 +39,9 @@ pub record AreAllViews (n : ℕ) (views : List PassView) : Type 0 where
   pub each : (i : ℕ) (view : PassView) → IsAt views i view → view.number ≡ i
 
 -- The unit's history at the end: lawful and within the limit, each entry by a pass, with just the passes' own
--- entries under their numbers. It begins with what each pass had seen, and is no shorter than anything that one had found: a
--- pass's marks never fall, none is above its floor, and the floor isn't above the number of entries.
+-- entries under their numbers. It begins with what each pass had seen, and is no shorter than anything that
+-- one had found: a pass's marks never fall, none is above its floor, and the floor isn't above the number of
+-- entries.
 pub record IsWholeHistory (b : Bounds) (views : List PassView) (history : List Line) : Type 0 where
   pub lawful : IsHistoryOf b history
   pub each : (i : ℕ) (view : PassView) → IsAt views i view → Finds (length history) view history
