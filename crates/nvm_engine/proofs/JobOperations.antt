@@ -1,5 +1,5 @@
 -- The operation that a job stands for, by its commands' opcodes.
-use Rattle.std.proofs.Common.{◌≡◌, ℕ, List, Some, None, refl, subst, IsTrue, ◌+◌}
+use Rattle.std.proofs.Common.{◌≡◌, ℕ, List, Some, None, refl, sym, ◌∙◌, subst, IsTrue, ◌+◌}
 use Rattle.nvm_record.specs.declared.command.Command.{Command}
 use Rattle.nvm_record.specs.declared.op.Op.{Op}
 use Rattle.nvm_record.specs.declared.op.Op.TheVariants.{Write, Read, WriteUncorrectable, Compare, WriteZeroes, Other}
@@ -14,7 +14,8 @@ use Rattle.nvm_plan.specs.Reply.{for_deed, success_of, stop_of}
 use Rattle.nvm_plan.specs.declared.job.Body.{Body}
 use Rattle.nvm_plan.specs.declared.job.Body.TheVariants.{Single, Pair}
 use Rattle.nvm_engine.specs.DoneJob.{stopped, unstarted, data_read, succeeded}
-use Rattle.nvm_engine.specs.Units.{leader}
+use Rattle.nvm_engine.specs.Run.{IsReadOverUnits}
+use Rattle.nvm_engine.specs.Units.{leader, IsReadBodyOverUnits}
 
 of_some : (a b : Operation) → Some a ≡ Some b → a ≡ b
 of_some a b e = cc e
@@ -93,3 +94,9 @@ single_first (Other opcode) c op h = absurd (cc h)
 pub range_is : (ns : Namespace) (body : Body) (op : Operation) → IsReadyBody ns body → operation_of_body body ≡ Some op → (op.first ≡ (leader body).slba) × (op.blocks ≡ (leader body).nlb + 1)
 range_is ns (Single c) op ready h = single_first c.op c op h
 range_is ns (Pair c d) op ready h = subst (λ (x : Operation). (x.first ≡ c.slba) × (x.blocks ≡ c.nlb + 1)) (pair_op c d op ready.compare ready.write h) (refl, refl)
+
+-- a Read over several units is one of its operation, and a pair is none
+pub over_units : (ns : Namespace) (body : Body) (op : Operation) → IsReadyBody ns body → operation_of_body body ≡ Some op → IsReadBodyOverUnits ns body → IsReadOverUnits ns op
+over_units ns (Single c) op ready h over =
+    subst (IsReadOverUnits ns) (read_op c op over.read h) (record { read = refl; over = over.over })
+over_units ns (Pair c d) op ready h over = let bad : Compare ≡ Read = sym ready.compare ∙ over.read in absurd (cc bad)
