@@ -10,10 +10,8 @@ use Rattle.nvm_geometry.specs.Namespace.{Namespace}
 use Rattle.nvm_geometry.specs.Parts.{part_in, units_met}
 use Rattle.nvm_geometry.specs.declared.piece.Piece.{Piece}
 use Rattle.nvm_plan.specs.Outcome.{data_told, answered, unstarted_of, AreDone, IsOutcomeOf}
-use Rattle.nvm_plan.specs.Reply.{Reply, success_of, stop_of, IsFailedComparison, IsFailedPair, IsReplyTo, Succeeds}
-use Rattle.nvm_plan.specs.declared.job.Body.{Body}
+use Rattle.nvm_plan.specs.Reply.{Reply, success_of, IsFailedComparison, IsFailedPair, IsReplyTo, Succeeds}
 use Rattle.nvm_store.specs.declared.answers.Answer.TheVariants.{Payload, Status}
-use Rattle.nvm_engine.specs.DoneJob.{stopped}
 use Rattle.nvm_engine.specs.Run.{Setup, Counts, Rests, medium_left, counts_left, part_told, Does, IsReadOverUnits, IsBegun}
 use Rattle.nvm_engine.specs.Units.{DoesPart, DoesParts, GoesOn, EndsWith, IsUnderWay, reply_of, statuses_told, payload_told}
 use Rattle.nvm_engine.specs.declared.atomic_unit.AtomicUnit.{AtomicUnit}
@@ -118,20 +116,19 @@ module _ (s : Setup) (op : Operation) where
 
   -- So does each answer that ends it.
   pub ends : ((replies : List Reply) (r : Reply) (left : List ℕ) → AreDone s.namespace op replies (r.part.unit ∷ left) → IsReplyTo op.deed r → (IsSuccess r.statuses → ⊥) → IsOutcomeOf s.namespace op (replies ++ r ∷ []) r.statuses None)
-      → (body : Body) → stopped body ≡ stop_of op.deed
       → (start old new : List AtomicUnit) (p : Piece) (rest : List Piece) (told : Told) (bytes : List ℕ) (done : DoneJob)
-      → IsUnderWay s op start old (p ∷ rest) bytes → DoesPart s op old new p.unit told → EndsWith body told done → DoesParts s op start new done
-  ends so body stop start old new p rest Done bytes done under part end = absurd end
-  ends so body stop start old new p rest (Failed statuses) bytes done under part end =
+      → IsUnderWay s op start old (p ∷ rest) bytes → DoesPart s op old new p.unit told → EndsWith op.deed told done → DoesParts s op start new done
+  ends so start old new p rest Done bytes done under part end = absurd end
+  ends so start old new p rest (Failed statuses) bytes done under part end =
       stops so start old new p rest (Failed statuses) bytes done under part (failed_fails statuses part.0.1) (ap (λ (d : DoneJob). d.statuses) end) (ap (λ (d : DoneJob). d.payload) end)
-  ends so body stop start old new p rest (Looked (Payload read)) bytes done under part end =
-      stops so start old new p rest NoMemory bytes done under (no_room old new p.unit read part) (stop_fails op.deed) (ap (λ (d : DoneJob). d.statuses) end ∙ stop) (ap (λ (d : DoneJob). d.payload) end)
-  ends so body stop start old new p rest (Looked (Status status)) bytes done under part end =
+  ends so start old new p rest (Looked (Payload read)) bytes done under part end =
+      stops so start old new p rest NoMemory bytes done under (no_room old new p.unit read part) (stop_fails op.deed) (ap (λ (d : DoneJob). d.statuses) end) (ap (λ (d : DoneJob). d.payload) end)
+  ends so start old new p rest (Looked (Status status)) bytes done under part end =
       stops so start old new p rest (Looked (Status status)) bytes done under part end.0 (ap (λ (d : DoneJob). d.statuses) end.1) (ap (λ (d : DoneJob). d.payload) end.1)
-  ends so body stop start old new p rest NoMemory bytes done under part end =
-      stops so start old new p rest NoMemory bytes done under part (stop_fails op.deed) (ap (λ (d : DoneJob). d.statuses) end ∙ stop) (ap (λ (d : DoneJob). d.payload) end)
-  ends so body stop start old new p rest Full bytes done under part end =
-      stops so start old new p rest Full bytes done under part (stop_fails op.deed) (ap (λ (d : DoneJob). d.statuses) end ∙ stop) (ap (λ (d : DoneJob). d.payload) end)
+  ends so start old new p rest NoMemory bytes done under part end =
+      stops so start old new p rest NoMemory bytes done under part (stop_fails op.deed) (ap (λ (d : DoneJob). d.statuses) end) (ap (λ (d : DoneJob). d.payload) end)
+  ends so start old new p rest Full bytes done under part end =
+      stops so start old new p rest Full bytes done under part (stop_fails op.deed) (ap (λ (d : DoneJob). d.statuses) end) (ap (λ (d : DoneJob). d.payload) end)
 
   -- After the last part.
   pub all_done : units_met s.namespace op.first op.blocks ≢ [] → ((replies : List Reply) → AreDone s.namespace op replies [] → IsOutcomeOf s.namespace op replies (success_of op.deed) (answered op.deed (data_told replies)))

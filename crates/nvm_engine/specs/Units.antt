@@ -20,7 +20,7 @@ use Rattle.nvm_plan.specs.declared.part.PartResult.{PartResult}
 use Rattle.nvm_plan.specs.declared.part.PartResult.TheVariants as result
 use Rattle.nvm_store.specs.Contents.{Contents, Holds}
 use Rattle.nvm_store.specs.declared.answers.Answer.TheVariants.{Payload, Status}
-use Rattle.nvm_engine.specs.DoneJob.{told, stopped}
+use Rattle.nvm_engine.specs.DoneJob.{told}
 use Rattle.nvm_engine.specs.Run.{Setup, Counts, Rests, medium_left, counts_left, Does, IsBegun, RunsJob}
 use Rattle.nvm_engine.specs.declared.atomic_unit.AtomicUnit.{AtomicUnit}
 use Rattle.nvm_engine.specs.declared.atomic_unit.Told.{Told}
@@ -149,14 +149,14 @@ GoesOn (Looked (Status status)) old new = (status ≡ successful_completion) × 
 GoesOn NoMemory old new = ⊥
 GoesOn Full old new = ⊥
 
--- The job ends with this.
-abbrev pub EndsWith : Body → Told → DoneJob → Type 0
-EndsWith body Done done = ⊥
-EndsWith body (Failed statuses) done = done ≡ told statuses
-EndsWith body (Looked (Payload bytes)) done = done ≡ told (stopped body)
-EndsWith body (Looked (Status status)) done = (status ≢ successful_completion) × (done ≡ told (One status))
-EndsWith body NoMemory done = done ≡ told (stopped body)
-EndsWith body Full done = done ≡ told (stopped body)
+-- A job of the deed ends with this.
+abbrev pub EndsWith : Deed → Told → DoneJob → Type 0
+EndsWith deed Done done = ⊥
+EndsWith deed (Failed statuses) done = done ≡ told statuses
+EndsWith deed (Looked (Payload bytes)) done = done ≡ told (stop_of deed)
+EndsWith deed (Looked (Status status)) done = (status ≢ successful_completion) × (done ≡ told (One status))
+EndsWith deed NoMemory done = done ≡ told (stop_of deed)
+EndsWith deed Full done = done ≡ told (stop_of deed)
 
 -- The parts that were done from a medium and the units' changes, all with success, up to the pieces that
 -- are left, and the bytes that they read.
