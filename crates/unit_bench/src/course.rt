@@ -1,11 +1,11 @@
-ghost use Rattle.std.specs.Prelude.{◌≡◌, ◌<◌, IfOk, IsSome, length};
+ghost use Rattle.std.specs.Prelude.{◌≡◌, IfOk, length};
 ghost use Rattle.unit_bench.specs.Words.{IsAllowed};
 
 use crate::fault::Fault;
-use crate::share::Share;
+use crate::share::{Share, shares_of};
 use crate::words::Asked;
 use crate::writer::{BLOCK, Writer};
-use std::alloc::Global;
+use std::alloc::{AllocError, Global};
 use std::rt::Clock;
 use std::sync::Wait;
 use std::thread::{Threads, map_vec};
@@ -14,9 +14,6 @@ use std::time::{CpuClock, Duration, Instant};
 /// Two neighbouring changes of a thread on one unit lie so many blocks apart, modulo the unit's blocks. It is
 /// odd, and so they meet each block of a unit that has a power of two of them.
 const STRIDE: u64 = 40_503;
-
-/// Two neighbouring threads begin so many units apart, modulo the units.
-const APART: u32 = 16;
 
 /// What the changes were, and what they took.
 #[derive(Clone, Copy, Debug)]
@@ -29,15 +26,18 @@ pub struct Measured {
     pub processor: Duration,
 }
 
-/// Has the changes made by threads, and measures them.
+/// Has the changes made by threads, and measures them. Where the units haven't just the changes that were asked
+/// for in the end, nothing was measured.
 pub fn measure<W: Writer + Send, R: Threads + Wait + Sync + Clock + CpuClock>(
     rt: &R,
     alloc: Global,
     asked: &Asked,
 ) -> Result<Measured, Fault>
     requires { IsAllowed asked.now }
+    ensures { IfOk result (λ m. m.changes ≡ asked.now.changes) }
 {
-    let (mut watch, shares) = dealt::<W>(alloc, asked)?;
+    let (mut watch, writers) = writers_of::<W>(alloc, asked)?;
+    let shares = shares_of(alloc, asked, writers)?;
     let begin = Instant::now(rt).map_err(|_| Fault::NoClock)?;
     let before = rt.process_cpu_time().map_err(|_| Fault::NoClock)?;
     let done = map_vec(
@@ -54,6 +54,9 @@ pub fn measure<W: Writer + Send, R: Threads + Wait + Sync + Clock + CpuClock>(
     for writer in watch.iter_mut() {
         changes = changes.saturating_add(writer.changes(rt, alloc));
     }
+    if changes != u64::from(asked.changes) {
+        return Err(Fault::OtherChanges);
+    }
     Ok(Measured {
         changes,
         wall,
@@ -61,35 +64,31 @@ pub fn measure<W: Writer + Send, R: Threads + Wait + Sync + Clock + CpuClock>(
     })
 }
 
-/// A writer of each unit, and the shares of all threads.
-fn dealt<W: Writer>(alloc: Global, asked: &Asked) -> Result<(Vec<W>, Vec<Share<W>>), Fault>
+/// A writer of each unit, and for each thread another of each unit.
+fn writers_of<W: Writer>(alloc: Global, asked: &Asked) -> Result<(Vec<W>, Vec<Vec<W>>), Fault>
     requires { IsAllowed asked.now }
+    ensures watch { IfOk result (λ all. length all.0.items ≡ asked.now.units) }
+    ensures each { IfOk result (λ all. length all.1.items ≡ asked.now.threads) }
 {
     let mut watch = Vec::with_capacity(alloc, asked.units as usize)?;
-    let mut shares = Vec::with_capacity(alloc, asked.threads as usize)?;
-    for thread in 0..asked.threads {
-        shares.push(Share {
-            writers: Vec::with_capacity(alloc, asked.units as usize)?,
-            blocks: asked.blocks,
-            changes: changes_of(asked.changes, asked.threads, thread),
-            from: thread * APART,
-        })?;
+    let mut all = Vec::with_capacity(alloc, asked.threads as usize)?;
+    for _ in 0..asked.threads {
+        all.push(Vec::with_capacity(alloc, asked.units as usize)?)?;
     }
     for _ in 0..asked.units {
         let (writer, writers) = W::share(alloc, asked.threads as u16, asked.blocks, asked.changes)?;
-        for (share, writer) in shares.iter_mut().zip(writers) {
-            share.writers.push(writer)?;
-        }
+        hand_out(all.as_mut_slice(), writers)?;
         watch.push(writer)?;
     }
-    Ok((watch, shares))
+    Ok((watch, all))
 }
 
-/// The number of changes of this thread. All threads together make all changes, and no two differ by more than one.
-fn changes_of(changes: u32, threads: u32, thread: u32) -> u32
-    requires { 0 < threads }
-{
-    changes / threads + u32::from(thread < changes % threads)
+/// Gives each list one of the writers, as far as they go.
+fn hand_out<W: Drop>(all: &mut [Vec<W>], writers: Vec<W>) -> Result<(), AllocError> {
+    for (own, writer) in all.iter_mut().zip(writers) {
+        own.push(writer)?;
+    }
+    Ok(())
 }
 
 /// Makes the changes of one thread, each on the next of its units. Gives their number.

@@ -13,6 +13,9 @@ pub enum Fault {
     /// A change was refused for another reason than memory.
     #[error("unit_bench: a change was refused")]
     Refused,
+    /// The units have other changes than those that were asked for.
+    #[error("unit_bench: the units have other changes")]
+    OtherChanges,
     /// The clock couldn't be read.
     #[error("unit_bench: no clock")]
     NoClock,

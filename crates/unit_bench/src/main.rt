@@ -6,6 +6,8 @@ mod course;
 mod fault;
 mod mutex_writer;
 mod share;
+#[cfg(test)]
+mod tests;
 mod unit_writer;
 mod words;
 mod writer;

@@ -1,3 +1,7 @@
+ghost use Rattle.std.specs.Prelude.{◌≡◌, [], ◌∷◌, ◌++◌, IfOk, OnOk, OnErr, length};
+ghost use Rattle.std.specs.List.{HoldsAt};
+ghost use Rattle.nvm_store.specs.Operation.{write_operation};
+
 use crate::fault::Fault;
 use crate::writer::{BLOCK, Writer};
 use nvm_store::{ActRef, Entry, History};
@@ -13,7 +17,10 @@ struct Plain {
 
 impl Plain {
     /// So many blocks of zero bytes.
-    fn zeroed(alloc: Global, blocks: u32) -> Result<Plain, Fault> {
+    fn zeroed(alloc: Global, blocks: u32) -> Result<Plain, Fault>
+        ensures blocks { IfOk result (λ p. length p.blocks.items ≡ blocks) }
+        ensures history { IfOk result (λ p. p.history.items ≡ []) }
+    {
         let mut zeroed = Vec::with_capacity(alloc, blocks as usize)?;
         for _ in 0..blocks {
             zeroed.push(vec![in alloc; 0; BLOCK]?)?;
@@ -32,7 +39,13 @@ impl Plain {
         job: u32,
         lba: u64,
         data: &[u8],
-    ) -> Result<(), Fault> {
+    ) -> Result<(), Fault>
+        ensures history { OnOk result (self.new.history.items
+            ≡ self.old.history.items ++ record { pass = pass; job = job; operation = write_operation lba 1 data.now } ∷ []) }
+        ensures block { OnOk result (HoldsAt (λ b. b.items ≡ data.now) self.new.blocks.items lba) }
+        ensures same_history { OnErr result (self.new.history.items ≡ self.old.history.items) }
+        ensures same_blocks { OnErr result (self.new.blocks.items ≡ self.old.blocks.items) }
+    {
         let Some(block) = self.blocks.get_mut(lba as usize) else {
             return Err(Fault::Refused);
         };

@@ -1,4 +1,4 @@
-ghost use Rattle.std.specs.Prelude.{◌≡◌, All, IfOk, length};
+ghost use Rattle.std.specs.Prelude.{◌≡◌, ◌+◌, All, IfOk, OnOk, OnErr, length};
 ghost use Rattle.std.specs.Arc.{arc_value};
 ghost use Rattle.nvm_unit.specs.Passes.{IsPassOf};
 
@@ -73,7 +73,10 @@ impl Writer for UnitWriter {
         job: u32,
         lba: u64,
         data: &[u8],
-    ) -> Result<(), Fault> {
+    ) -> Result<(), Fault>
+        ensures made { OnOk result (length self.new.pass.view.mine ≡ length self.old.pass.view.mine + 1) }
+        ensures same { OnErr result (self.new.pass.view.mine ≡ self.old.pass.view.mine) }
+    {
         let act = ActRef::Write {
             first: lba,
             blocks: 1,
