@@ -1,6 +1,7 @@
-"""The Markdown tables of what was measured."""
+"""The Markdown tables of what was measured, and on what."""
 
 import math
+import platform
 
 # The largest slope that is still linear.
 SLOPE_ALLOWED = 1.1
@@ -25,14 +26,19 @@ class Series:
         return [getattr(run, field) for run in self.runs]
 
     def slope(self, values):
-        """The slope of the straight line through the logarithms of sizes and values, by least squares."""
-        if min(values) <= 0:
-            return math.nan
-        xs = [math.log(run.size) for run in self.runs]
-        ys = [math.log(value) for value in values]
-        x = sum(xs) / len(xs)
-        y = sum(ys) / len(ys)
-        return sum((a - x) * (b - y) for a, b in zip(xs, ys)) / sum((a - x) ** 2 for a in xs)
+        """The slope of these values over the runs' sizes."""
+        return line_slope([run.size for run in self.runs], values)
+
+
+def line_slope(sizes, values):
+    """The slope of the straight line through the logarithms of sizes and values, by least squares."""
+    if min(values) <= 0:
+        return math.nan
+    xs = [math.log(size) for size in sizes]
+    ys = [math.log(value) for value in values]
+    x = sum(xs) / len(xs)
+    y = sum(ys) / len(ys)
+    return sum((a - x) * (b - y) for a, b in zip(xs, ys)) / sum((a - x) ** 2 for a in xs)
 
 
 def milliseconds(seconds):
@@ -127,3 +133,15 @@ def print_units(large, hot, little, with_instructions):
     if with_instructions:
         heads += ["instructions a Write", "to those of 32 blocks"]
     table(heads, rows)
+
+
+def model():
+    """The processor's name, where the system gives it."""
+    try:
+        with open("/proc/cpuinfo") as file:
+            for line in file:
+                if line.startswith("model name"):
+                    return line.split(":", 1)[1].strip()
+    except OSError:
+        pass
+    return platform.processor()

@@ -1,0 +1,44 @@
+ghost use Rattle.std.specs.Prelude.{◌≡◌};
+ghost use Rattle.unit_bench.specs.declared.fault.Fault.TheVariants.{NoMemory};
+
+use std::alloc::{AllocError, AllocFailed};
+use thiserror::Error;
+
+/// Why the program measures nothing. Each prints its one line, which goes to standard error.
+#[derive(Clone, Copy, Debug, PartialEq, Eq, Error)]
+pub enum Fault {
+    /// The words aren't what is expected.
+    #[error("unit_bench: expected unit or mutex, 1 to 1024 units, 1 to 63 threads, 1 to 4194304 changes, 1 to 65536 blocks")]
+    Words,
+    /// A change was refused for another reason than memory.
+    #[error("unit_bench: a change was refused")]
+    Refused,
+    /// The units have other changes than those that were asked for.
+    #[error("unit_bench: the units have other changes")]
+    OtherChanges,
+    /// The clock couldn't be read.
+    #[error("unit_bench: no clock")]
+    NoClock,
+    /// The figures couldn't be written.
+    #[error("unit_bench: cannot write")]
+    Unwritten,
+    /// Memory was asked for and refused.
+    #[error("unit_bench: no memory")]
+    NoMemory,
+}
+
+impl From<AllocError> for Fault {
+    ghost from_gives = { λ _ e. e ≡ NoMemory };
+
+    fn from(_e: AllocError) -> Fault {
+        Fault::NoMemory
+    }
+}
+
+impl<T: Drop> From<AllocFailed<T>> for Fault {
+    ghost from_gives = { λ _ e. e ≡ NoMemory };
+
+    fn from(_e: AllocFailed<T>) -> Fault {
+        Fault::NoMemory
+    }
+}

@@ -1,0 +1,60 @@
+//! The program `unit_bench`: has blocks changed by threads, in shared units or behind mutexes, and says how long
+//! it took.
+#![tactic(auto)]
+
+mod course;
+mod fault;
+mod mutex_writer;
+mod share;
+#[cfg(test)]
+mod tests;
+mod unit_writer;
+mod words;
+mod writer;
+
+use crate::course::{Measured, measure};
+use crate::fault::Fault;
+use crate::mutex_writer::MutexWriter;
+use crate::unit_writer::UnitWriter;
+use crate::words::{Target, read_words};
+use std::env;
+use std::process::ExitCode;
+use std::rt::{Clock, Env};
+use std::sync::Wait;
+use std::thread::Threads;
+use std::time::CpuClock;
+
+fn main(rt: HostRuntime) -> ExitCode {
+    match run(&rt) {
+        Ok(()) => ExitCode::from(0),
+        Err(fault) => {
+            let _ = rt.eprintln(fault);
+            ExitCode::from(1)
+        }
+    }
+}
+
+/// Measures what the words of the command line ask for, and prints the number of changes on standard output, and
+/// the nanoseconds that they took on standard error: by the wall's clock, and of processor time.
+fn run<R: AllocGlobal + Env + Print + Eprint + Threads + Wait + Sync + Clock + CpuClock>(
+    rt: &R,
+) -> Result<(), Fault> {
+    let mut words = Vec::new(rt.alloc());
+    for word in env::args(rt).map_err(|_| Fault::Words)?.skip(1) {
+        words.push(word)?;
+    }
+    let asked = read_words(words.as_slice())?;
+    let measured = match asked.target {
+        Target::Unit => measure::<UnitWriter, R>(rt, rt.alloc(), &asked)?,
+        Target::Mutex => measure::<MutexWriter, R>(rt, rt.alloc(), &asked)?,
+    };
+    let Measured {
+        changes,
+        wall,
+        processor,
+    } = measured;
+    let (wall, processor) = (wall.as_nanos(), processor.as_nanos());
+    println!(rt; "changes {changes}").map_err(|_| Fault::Unwritten)?;
+    eprintln!(rt; "{wall} {processor}").map_err(|_| Fault::Unwritten)?;
+    Ok(())
+}

@@ -1,0 +1,117 @@
+ghost use Rattle.std.specs.Prelude.{◌≡◌, [], ◌∷◌, ◌++◌, IfOk, OnOk, OnErr, length};
+ghost use Rattle.std.specs.List.{HoldsAt};
+ghost use Rattle.nvm_store.specs.Operation.{write_operation};
+
+use crate::fault::Fault;
+use crate::writer::{BLOCK, Writer};
+use nvm_store::{ActRef, Entry, History};
+use std::alloc::Global;
+use std::sync::{Arc, Mutex, Wait};
+
+/// The blocks of a unit, and an entry for each change of them.
+#[derive(Drop)]
+struct Plain {
+    blocks: Vec<Vec<u8>>,
+    history: History,
+}
+
+impl Plain {
+    /// So many blocks of zero bytes.
+    fn zeroed(alloc: Global, blocks: u32) -> Result<Plain, Fault>
+        ensures blocks { IfOk result (λ p. length p.blocks.items ≡ blocks) }
+        ensures history { IfOk result (λ p. p.history.items ≡ []) }
+    {
+        let mut zeroed = Vec::with_capacity(alloc, blocks as usize)?;
+        for _ in 0..blocks {
+            zeroed.push(vec![in alloc; 0; BLOCK]?)?;
+        }
+        Ok(Plain {
+            blocks: zeroed,
+            history: Vec::new(alloc),
+        })
+    }
+
+    /// Writes the data into the block, and keeps an entry with a copy of it.
+    fn write(
+        &mut self,
+        alloc: Global,
+        pass: u16,
+        job: u32,
+        lba: u64,
+        data: &[u8],
+    ) -> Result<(), Fault>
+        ensures history { OnOk result (self.new.history.items
+            ≡ self.old.history.items ++ record { pass = pass; job = job; operation = write_operation lba 1 data.now } ∷ []) }
+        ensures block { OnOk result (HoldsAt (λ b. b.items ≡ data.now) self.new.blocks.items lba) }
+        ensures same_history { OnErr result (self.new.history.items ≡ self.old.history.items) }
+        ensures same_blocks { OnErr result (self.new.blocks.items ≡ self.old.blocks.items) }
+    {
+        let Some(block) = self.blocks.get_mut(lba as usize) else {
+            return Err(Fault::Refused);
+        };
+        if block.len() != data.len() {
+            return Err(Fault::Refused);
+        }
+        let act = ActRef::Write {
+            first: lba,
+            blocks: 1,
+            payload: data,
+        };
+        let entry = Entry {
+            pass,
+            job,
+            act: act.to_act(alloc)?,
+        };
+        self.history.push(entry)?;
+        block.copy_from_slice(data);
+        Ok(())
+    }
+}
+
+/// Blocks and their history behind a mutex, and the number of one of those who share them.
+#[derive(Drop)]
+pub struct MutexWriter {
+    shared: Arc<Mutex<Plain>, Global>,
+    number: u16,
+}
+
+impl Writer for MutexWriter {
+    fn share(
+        alloc: Global,
+        writers: u16,
+        blocks: u32,
+        _changes: u32,
+    ) -> Result<(MutexWriter, Vec<MutexWriter>), Fault> {
+        let shared = Arc::new(alloc, Mutex::new(Plain::zeroed(alloc, blocks)?))?;
+        let mut all = Vec::with_capacity(alloc, usize::from(writers))?;
+        for number in 0..writers {
+            all.push(MutexWriter {
+                shared: shared.clone()?,
+                number,
+            })?;
+        }
+        let one = MutexWriter {
+            shared,
+            number: writers,
+        };
+        Ok((one, all))
+    }
+
+    fn write<R: Wait>(
+        &mut self,
+        rt: &R,
+        alloc: Global,
+        job: u32,
+        lba: u64,
+        data: &[u8],
+    ) -> Result<(), Fault> {
+        self.shared
+            .lock(rt)
+            .write(alloc, self.number, job, lba, data)?;
+        Ok(())
+    }
+
+    fn changes<R: Wait>(&mut self, rt: &R, _alloc: Global) -> u64 {
+        self.shared.lock(rt).history.len() as u64
+    }
+}

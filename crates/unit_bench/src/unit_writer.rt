@@ -1,0 +1,109 @@
+ghost use Rattle.std.specs.Prelude.{◌≡◌, ◌+◌, All, IfOk, OnOk, OnErr, length};
+ghost use Rattle.std.specs.Arc.{arc_value};
+ghost use Rattle.nvm_unit.specs.Passes.{IsPassOf};
+
+use crate::fault::Fault;
+use crate::writer::Writer;
+use nvm_record::BlockSize;
+use nvm_store::{ActRef, Limit, Look};
+use nvm_unit::{Changed, ObserveFault, Open, Pass, Unit, UnitFault};
+use std::alloc::Global;
+use std::sync::{Arc, Wait};
+
+/// A shared unit, and a pass of it.
+#[derive(Drop)]
+pub struct UnitWriter {
+    unit: Arc<Unit, Global>,
+    pass: Pass,
+    ghost of: { IsPassOf (arc_value unit) pass },
+}
+
+impl UnitWriter {
+    /// The unit with this pass of it.
+    fn new(unit: Arc<Unit, Global>, pass: Pass) -> UnitWriter
+        requires { IsPassOf (arc_value unit) pass }
+    {
+        UnitWriter { unit, pass }
+    }
+
+    /// The unit with each of these passes of it.
+    fn of_each(
+        alloc: Global,
+        unit: &Arc<Unit, Global>,
+        passes: Vec<Pass>,
+    ) -> Result<Vec<UnitWriter>, Fault>
+        requires { All (IsPassOf (arc_value unit.now)) passes.items }
+        ensures { IfOk result (λ all. length all.items ≡ length passes.items) }
+    {
+        let mut left = passes;
+        let mut all = Vec::with_capacity(alloc, left.len())?;
+        while let Some(pass) = left.pop() {
+            all.push(UnitWriter::new(unit.clone()?, pass))?;
+        }
+        Ok(all)
+    }
+}
+
+impl Writer for UnitWriter {
+    fn share(
+        alloc: Global,
+        writers: u16,
+        blocks: u32,
+        changes: u32,
+    ) -> Result<(UnitWriter, Vec<UnitWriter>), Fault> {
+        let size = BlockSize::new(512).ok_or(Fault::Refused)?;
+        let limit = Limit::new(changes).ok_or(Fault::Refused)?;
+        let (unit, passes) = match Unit::new(alloc, 0, 0, blocks, size, writers + 1, limit) {
+            Ok(made) => made,
+            Err(UnitFault::NoMemory) => return Err(Fault::NoMemory),
+            Err(UnitFault::Passes) => return Err(Fault::Refused),
+        };
+        let unit = Arc::new(alloc, unit)?;
+        let mut all = UnitWriter::of_each(alloc, &unit, passes)?;
+        match all.pop() {
+            Some(one) => Ok((one, all)),
+            None => unreachable!(),
+        }
+    }
+
+    fn write<R: Wait>(
+        &mut self,
+        rt: &R,
+        alloc: Global,
+        job: u32,
+        lba: u64,
+        data: &[u8],
+    ) -> Result<(), Fault>
+        ensures made { OnOk result (length self.new.pass.view.mine ≡ length self.old.pass.view.mine + 1) }
+        ensures same { OnErr result (self.new.pass.view.mine ≡ self.old.pass.view.mine) }
+    {
+        let act = ActRef::Write {
+            first: lba,
+            blocks: 1,
+            payload: data,
+        };
+        if !self.unit.covers(act) {
+            return Err(Fault::Refused);
+        }
+        match self.unit.change(rt, alloc, &mut self.pass, job, act, &Open) {
+            Changed::Done { .. } => Ok(()),
+            Changed::NoMemory { .. } => Err(Fault::NoMemory),
+            Changed::Failed { .. } | Changed::Full { .. } => Err(Fault::Refused),
+        }
+    }
+
+    fn changes<R: Wait>(&mut self, rt: &R, alloc: Global) -> u64 {
+        let look = Look::Read {
+            first: 0,
+            blocks: 1,
+        };
+        if !self.unit.covers_look(look) {
+            return 0;
+        }
+        let point = match self.unit.observe(rt, alloc, &mut self.pass, look) {
+            Ok(observed) => observed.point,
+            Err(ObserveFault::NoMemory { point }) => point,
+        };
+        u64::from(point)
+    }
+}

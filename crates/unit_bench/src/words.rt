@@ -1,0 +1,62 @@
+ghost use Rattle.std.specs.Prelude.{◌≤◌, IfOk};
+ghost use Rattle.unit_bench.specs.Words.{IsAllowed};
+
+use crate::fault::Fault;
+
+/// What shares the blocks and their history among threads.
+#[derive(Clone, Copy, Debug, PartialEq, Eq)]
+pub enum Target {
+    /// A shared unit.
+    Unit,
+    /// A mutex around a vector of blocks and a vector of entries.
+    Mutex,
+}
+
+/// What is measured.
+#[derive(Clone, Copy, Debug, PartialEq, Eq)]
+pub struct Asked {
+    pub target: Target,
+    /// The number of units.
+    pub units: u32,
+    /// The number of threads that share them.
+    pub threads: u32,
+    /// The number of changes of all threads together.
+    pub changes: u32,
+    /// The number of blocks of each unit.
+    pub blocks: u32,
+}
+
+/// What the words ask for: `unit` or `mutex`, and then the numbers of units, threads, changes and blocks.
+pub fn read_words(words: &[String]) -> Result<Asked, Fault>
+    ensures { IfOk result IsAllowed }
+{
+    let [target, units, threads, changes, blocks] = words else {
+        return Err(Fault::Words);
+    };
+    Ok(Asked {
+        target: target_of(target.as_str())?,
+        units: number_of(units.as_str(), 1024)?,
+        threads: number_of(threads.as_str(), 63)?,
+        changes: number_of(changes.as_str(), 4_194_304)?,
+        blocks: number_of(blocks.as_str(), 65_536)?,
+    })
+}
+
+/// The target of this name.
+fn target_of(word: &str) -> Result<Target, Fault> {
+    match word {
+        "unit" => Ok(Target::Unit),
+        "mutex" => Ok(Target::Mutex),
+        _ => Err(Fault::Words),
+    }
+}
+
+/// The number from 1 to `most` that the word spells.
+fn number_of(word: &str, most: u32) -> Result<u32, Fault>
+    ensures { IfOk result (λ n. (1 ≤ n) × (n ≤ most)) }
+{
+    match word.parse::<u32>() {
+        Ok(number) if 1 <= number && number <= most => Ok(number),
+        _ => Err(Fault::Words),
+    }
+}
