@@ -17,11 +17,10 @@ use Rattle.nvm_list.specs.Numbers.{hex_byte}
 use Rattle.nvm_list.specs.Expecting.{◌>>=◌, expect}
 use Rattle.nvm_list.specs.Names.{unnamed, of_opcode, operation}
 use Rattle.nvm_list.specs.Data.{payload}
-use Rattle.nvm_list.specs.Options.{options}
+use Rattle.nvm_list.specs.Options.{Options, options}
 use Rattle.nvm_list.specs.Lines.{lba, nlb_of, nlb, carried, command_of, command}
 use Rattle.nvm_list.specs.Ranges.{IsInRange}
 use Rattle.nvm_list.specs.Listing.{range_words, data_words, option_words}
-use Rattle.nvm_list.specs.declared.option_words.Options.{Options}
 use Rattle.nvm_list.specs.declared.expected.Expected.{Expected}
 use Rattle.nvm_list.specs.declared.expected.Expected.TheVariants as expecting
 use Rattle.nvm_list.proofs.PlainText.{IsPlainWord}

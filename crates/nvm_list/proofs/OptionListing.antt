@@ -6,9 +6,8 @@ use Rattle.nvm_record.specs.declared.op.Fuse.{Fuse}
 use Rattle.nvm_record.specs.declared.op.Fuse.TheVariants.{Normal, First, Second, Reserved}
 use Rattle.nvm_record.specs.declared.command.Command.{Command}
 use Rattle.nvm_list.specs.Expecting.{◌>>=◌}
-use Rattle.nvm_list.specs.Options.{no_options, with_cid, with_nsid, options_after, options}
+use Rattle.nvm_list.specs.Options.{Options, no_options, with_cid, with_nsid, options_after, options}
 use Rattle.nvm_list.specs.Listing.{fuse_words, cid_words, nsid_words, option_words}
-use Rattle.nvm_list.specs.declared.option_words.Options.{Options}
 use Rattle.nvm_list.proofs.PlainText.{IsPlainWord}
 use Rattle.nvm_list.proofs.NumberListing.{decimal_word, number_again}
 

@@ -1,8 +1,7 @@
 -- Reading options one after the other.
 use Rattle.std.proofs.Common.{◌≡◌, ℕ, List, [], ◌∷◌, Result, Ok, Err, sym, ap, ◌∙◌}
 use Rattle.nvm_list.specs.Expecting.{◌>>=◌}
-use Rattle.nvm_list.specs.Options.{with_option, options_after}
-use Rattle.nvm_list.specs.declared.option_words.Options.{Options}
+use Rattle.nvm_list.specs.Options.{Options, with_option, options_after}
 use Rattle.nvm_list.specs.declared.expected.Expected.{Expected}
 
 abbrev then_rest : Result Options Expected → List (List ℕ) → Result Options Expected

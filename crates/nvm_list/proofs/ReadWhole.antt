@@ -18,10 +18,9 @@ use Rattle.nvm_list.specs.Numbers.{hex_byte}
 use Rattle.nvm_list.specs.Expecting.{◌>>=◌}
 use Rattle.nvm_list.specs.Names.{unnamed, of_opcode, other_operation, operation}
 use Rattle.nvm_list.specs.Data.{read_runs, total, data_of_runs, data_by, payload}
-use Rattle.nvm_list.specs.Options.{options}
+use Rattle.nvm_list.specs.Options.{Options, options}
 use Rattle.nvm_list.specs.Lines.{lba, nlb, carried, command_of, command}
 use Rattle.nvm_list.specs.Lists.{command_at, at_line, on_line, in_front, followed_by, commands_from, commands}
-use Rattle.nvm_list.specs.declared.option_words.Options.{Options}
 use Rattle.nvm_list.specs.declared.expected.Expected.{Expected}
 use Rattle.nvm_list.specs.declared.expected.Expected.TheVariants.{Name, DataLength, NoMoreCommands}
 use Rattle.nvm_list.specs.declared.fault.ListFault.{ListFault}

@@ -9,8 +9,7 @@ use Rattle.nvm_list.specs.Numbers.{number}
 use Rattle.nvm_list.specs.Expecting.{◌>>=◌, expect}
 use Rattle.nvm_list.specs.Names.{operation}
 use Rattle.nvm_list.specs.Data.{payload}
-use Rattle.nvm_list.specs.Options.{options}
-use Rattle.nvm_list.specs.declared.option_words.Options.{Options}
+use Rattle.nvm_list.specs.Options.{Options, options}
 use Rattle.nvm_list.specs.declared.expected.Expected.{Expected}
 use Rattle.nvm_list.specs.declared.expected.Expected.TheVariants as expecting
 

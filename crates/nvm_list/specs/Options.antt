@@ -5,9 +5,14 @@ use Rattle.nvm_record.specs.declared.op.Fuse.{Fuse}
 use Rattle.nvm_record.specs.declared.op.Fuse.TheVariants.{First, Second, Reserved}
 use Rattle.nvm_list.specs.Numbers.{number}
 use Rattle.nvm_list.specs.Expecting.{◌>>=◌, expect}
-use Rattle.nvm_list.specs.declared.option_words.Options.{Options}
 use Rattle.nvm_list.specs.declared.expected.Expected.{Expected}
 use Rattle.nvm_list.specs.declared.expected.Expected.TheVariants as expecting
+
+-- what is given of the options
+pub record Options : Type 0 where
+  pub fuse : Option Fuse
+  pub cid : Option ℕ
+  pub nsid : Option ℕ
 
 abbrev pub no_options : Options
 no_options = record { fuse = None; cid = None; nsid = None }

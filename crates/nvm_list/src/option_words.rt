@@ -7,6 +7,7 @@ use crate::expected::Expected;
 use crate::line_cut::first_word;
 use crate::number_word::number;
 use nvm_record::Fuse;
+use std::marker::Model;
 
 /// The options of a command, each where it is given.
 #[derive(Clone, Copy, Debug, PartialEq, Eq)]
@@ -14,6 +15,16 @@ pub struct Options {
     pub fuse: Option<Fuse>,
     pub cid: Option<u16>,
     pub nsid: Option<u32>,
+}
+
+impl Model for Options {
+    ghost use Rattle.nvm_list.specs.Options as spec;
+
+    ghost Value = { spec.Options };
+
+    ghost view = { λ o. record { fuse = o.fuse; cid = o.cid; nsid = o.nsid } };
+
+    ghost inverse = { λ o. record { fuse = o.fuse; cid = o.cid; nsid = o.nsid } };
 }
 
 /// The options that the words say.

@@ -2,7 +2,7 @@
 //! Read answers as runs of equal bytes.
 //!
 //! Each function appends to a text. Where memory is refused, what the text held still stands at its
-//! front, and a part of what was to be appended may follow.
+//! front, and nothing is promised of what may follow it.
 #![tactic(auto)]
 
 pub mod laws;
