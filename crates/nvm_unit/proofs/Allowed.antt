@@ -5,7 +5,7 @@ use mathlib.Core.Option as there
 use lib.ListN.{get_elem?}
 use prog.Atomic.{either}
 use Rattle.atomic_table.specs.Table.{State, Step, Act, keeps, takes, stepped, Valid, carried_after, Allows}
-use Rattle.atomic_table.proofs.Lists.{exchanged}
+use Rattle.atomic_table.proofs.Lists.{exchanged, set_here}
 use Rattle.nvm_store.specs.Line.{Line}
 use Rattle.nvm_unit.specs.declared.bounds.Bounds.{Bounds}
 use Rattle.nvm_unit.specs.declared.views.Group.{Group}
@@ -17,10 +17,11 @@ use Rattle.nvm_unit.specs.Knowledge.{IsKept}
 use Rattle.nvm_unit.specs.Book.{Recorded, recorded}
 use Rattle.nvm_unit.specs.Passes.{IsHistoryOf}
 use Rattle.nvm_unit.specs.Rule.{slots_of, table_of, IsRuled}
-use Rattle.nvm_unit.specs.Plays.{Sits, EachIn, IsNotAbove, Fits, HasLooked, looks, tries}
+use Rattle.nvm_unit.specs.Plays.{Sits, EachIn, IsNotAbove, Fits, HasLooked, WasEvent, looks, tries}
 use Rattle.nvm_unit.proofs.Groups.{numbered_below}
 use Rattle.nvm_unit.proofs.Histories.{begins_length}
 use Rattle.nvm_unit.proofs.Keeping.{found_is, free_is, keeps_look, keeps_take}
+use Rattle.nvm_unit.proofs.Lists.{at_below}
 use Rattle.nvm_unit.proofs.Reaching.{ruled_after}
 
 abbrev pub Slot : Type 0
@@ -88,15 +89,29 @@ IsLook kind = (b : Bounds) (s : UnitState) (j : ℕ) (g : Group) (decides : Bool
 
 -- A step that leaves the unit as it is.
 look_goes : (kind : ℕ → Bool → Event) → IsLook kind → (decides : Deciding) (b : Bounds) (id : ℕ) (m : Sits) → 0 < length m.0.passes → ((word : ℕ) → decides word ≡ true → length m.0.passes ≡ 1)
-    → (s : UnitState) → IsKept b s → IsReached b s → IsAt s.groups id m.0 → Goes b s id m (λ word m'. HasLooked decides word m m') s.word
+    → (s : UnitState) → IsKept b s → IsReached b s → IsAt s.groups id m.0 → Goes b s id m (λ word m'. HasLooked decides word m m' × WasEvent (λ j. kind j (decides word)) word m m') s.word
 look_goes kind happens decides b id m filled alone s kept reached at =
     let d : Bool = decides s.word in
-    let can : CanStep s id m.0 d = record { at = at; some = filled; alone = alone s.word } in (
-      record m.0 { passes = map (looked (decides s.word) (s.word / 2)) m.0.passes },
+    let can : CanStep s id m.0 d = record { at = at; some = filled; alone = alone s.word } in
+    let w : Group = record m.0 { passes = map (looked d (s.word / 2)) m.0.passes } in (
+      w,
       keeps,
       tt,
       ruled_after b s (after_look s id m.0 d) (kind id d) _ reached (happens b s id m.0 d can) refl (keeps_look b s kept id m.0 d can),
-      record { after = refl; later = not_above b s kept id m.0 at },
+      (
+        record { after = refl; later = not_above b s kept id m.0 at },
+        record {
+          bounds = b;
+          before = s;
+          after = after_look s id m.0 d;
+          group = id;
+          reached = reached;
+          happened = happens b s id m.0 d can;
+          found = refl;
+          at = at;
+          at_after = set_here s.groups id w (at_below s.groups id m.0 at);
+        },
+      ),
     )
 
 pub look_allowed : (decides : Deciding) (st : Step Slot) (b : Bounds) (slots id : ℕ) (m : Sits) → 0 < length m.0.passes → ((word : ℕ) → decides word ≡ true → length m.0.passes ≡ 1)
@@ -131,14 +146,27 @@ take_goes decides st b id old m first even rests filled s kept reached at is =
           (keeps_take b s kept id m.0 can free),
       (
         λ e. (
-          b,
-          s.history,
+          (
+            b,
+            s.history,
+            record {
+              found = omega arith;
+              after = ap (λ (k : ℕ). let y : Sits = (record { passes = map (looked false k) m.0.passes; held = Some s.history }, (0, book) ∷ m.1) in y) same
+                  ∙ ap (λ (xs : List (ℕ × Slot)). let y : Sits = (record { passes = map (looked false (length s.history)) m.0.passes; held = Some s.history }, xs) in y) carried;
+              fits = fitting b s kept id m.0 at;
+              lawful = history_of b s kept;
+            },
+          ),
           record {
-            found = omega arith;
-            after = ap (λ (k : ℕ). let y : Sits = (record { passes = map (looked false k) m.0.passes; held = Some s.history }, (0, book) ∷ m.1) in y) same
-                ∙ ap (λ (xs : List (ℕ × Slot)). let y : Sits = (record { passes = map (looked false (length s.history)) m.0.passes; held = Some s.history }, xs) in y) carried;
-            fits = fitting b s kept id m.0 at;
-            lawful = history_of b s kept;
+            bounds = b;
+            before = s;
+            after = t;
+            group = id;
+            reached = reached;
+            happened = (m.0, can, free, refl);
+            found = refl;
+            at = at;
+            at_after = subst (λ (gs : List Group). IsAt gs id w) views (set_here s.groups id w (at_below s.groups id m.0 at));
           },
         ),
         λ ne. absurd (ne (is ∙ sym first)),

@@ -1,5 +1,5 @@
 -- A seat that puts the unit back keeps the rule of the table.
-use Rattle.std.proofs.Common.{◌≡◌, ℕ, ◌+◌, ◌*◌, ◌<◌, List, [], ◌∷◌, ◌++◌, length, map, set, get_or, subst, refl, sym, ap, ◌∙◌, arith, Bool, true, Option, Some, None}
+use Rattle.std.proofs.Common.{◌≡◌, ℕ, ◌+◌, ◌*◌, ◌<◌, List, [], ◌∷◌, ◌++◌, length, map, set, get_or, subst, refl, sym, ap, ◌∙◌, arith, inl, inr, Bool, true, Option, Some, None}
 use mathlib.Core.Option.{some}
 use Rattle.atomic_table.specs.Table.{Step, gives, Allows}
 use Rattle.std.proofs.lemmas.List.{get_or_push}
@@ -10,13 +10,15 @@ use Rattle.nvm_unit.specs.declared.views.PassView.{PassView}
 use Rattle.nvm_unit.specs.declared.views.Group.{Group}
 use Rattle.nvm_unit.specs.Views.{shown, added}
 use Rattle.nvm_unit.specs.Machine.{UnitState, IsAt, RestsAs, IsHand}
-use Rattle.nvm_unit.specs.Events.{IsAct, adds, returns, IsReached, number_found, idle, CanStep, CanAdd, after_put, after_return}
+use Rattle.nvm_unit.specs.Events.{IsAct, adds, returns, Happens, IsReached, number_found, idle, CanStep, CanAdd, after_put, after_return}
 use Rattle.nvm_unit.specs.Knowledge.{IsKept}
 use Rattle.nvm_unit.specs.Book.{recorded}
 use Rattle.nvm_unit.specs.Rule.{slots_of, IsRuled}
 use Rattle.nvm_unit.specs.Plays.{Sits, resting, holding, EachIn, puts, CanReturn, CanAppend}
 use Rattle.nvm_unit.proofs.EventsKept.{FollowsLawfully}
 use Rattle.nvm_unit.proofs.Keeping.{found_is, keeps_return, keeps_put}
+use Rattle.atomic_table.proofs.Lists.{set_here}
+use Rattle.nvm_unit.proofs.Lists.{at_below}
 use Rattle.nvm_unit.proofs.Reaching.{ruled_after}
 use Rattle.nvm_unit.proofs.Allowed.{Slot, Deciding, Goes, same_table, allowed}
 
@@ -95,6 +97,20 @@ return_goes decides st b b' id entries ps h first count filled bounds alone s ke
         λ p history line same count'.
             let same_length : length h ≡ length history = ap (λ (y : Sits). length (held_history y)) same in
             absurd (omega arith),
+        (
+          s.word,
+          inl (record {
+            bounds = b;
+            before = s;
+            after = t;
+            group = id;
+            reached = reached;
+            happened = (let word : 2 * length h + 1 ≡ s.word = omega (arith, is.2) in subst (λ (k : ℕ). Happens b s (returns id (decides k)) t) word (g, can, is.0, refl));
+            found = refl;
+            at = at;
+            at_after = subst (λ (gs : List Group). IsAt gs id w) views (set_here s.groups id w (at_below s.groups id g at));
+          }),
+        ),
       ),
     )
 
@@ -156,6 +172,23 @@ append_goes law decides st b id entries p h line first count act number follows 
             ap (λ (y : List Line). resting (added (length y) y line p ∷ [])) same_history
             ∙ (ap (λ (y : Line). resting (added (length history) history y p ∷ [])) same_line
             ∙ ap (λ (y : PassView). resting (added (length history) history line' y ∷ [])) same_pass),
+        (
+          s.word,
+          inr (
+            line,
+            record {
+              bounds = b;
+              before = s;
+              after = t;
+              group = id;
+              reached = reached;
+              happened = (p, h, can, refl);
+              found = refl;
+              at = at;
+              at_after = subst (λ (gs : List Group). IsAt gs id w) views (set_here s.groups id w (at_below s.groups id g at));
+            },
+          ),
+        ),
       ),
     )
 

@@ -89,7 +89,7 @@ abbrev pub after_split : UnitState → ℕ → ℕ → List PassView → UnitSta
 after_split s j i ps =
     record s { groups = slice_set s.groups j (idle (take i ps)) ++ idle (drop i ps) ∷ [] }
 
--- The deed is that of an act: a Read or a Compare alone makes no entry.
+-- The deed is an act's: neither a Read nor a Compare by itself.
 abbrev pub IsAct : Deed → Type 0
 IsAct (writes payload) = Unit {0}
 IsAct zeroes = Unit {0}

@@ -1,5 +1,5 @@
 -- What each atomic step tells the seat that makes it.
-use Rattle.std.specs.Prelude.{◌≡◌, ◌≢◌, ℕ, ◌+◌, ◌*◌, ◌/◌, ◌<◌, ◌≤◌, List, [], ◌∷◌, ◌++◌, map, take, drop, length, Bool, true, false, Option, Some}
+use Rattle.std.specs.Prelude.{◌≡◌, ◌≢◌, ◌⊎◌, ℕ, ◌+◌, ◌*◌, ◌/◌, ◌<◌, ◌≤◌, List, [], ◌∷◌, ◌++◌, map, take, drop, length, Bool, true, false, Option, Some}
 use Rattle.atomic_table.specs.Table.{Me, Step}
 use Rattle.nvm_store.specs.Line.{Line}
 use Rattle.nvm_store.specs.History.{CanFollow}
@@ -7,9 +7,9 @@ use Rattle.nvm_unit.specs.declared.bounds.Bounds.{Bounds}
 use Rattle.nvm_unit.specs.declared.views.PassView.{PassView}
 use Rattle.nvm_unit.specs.declared.views.Group.{Group}
 use Rattle.nvm_unit.specs.Views.{Begins, entries_by, looked, shown, added}
-use Rattle.nvm_unit.specs.Machine.{IsAt}
+use Rattle.nvm_unit.specs.Machine.{UnitState, IsAt}
 use Rattle.nvm_unit.specs.Book.{Recorded, recorded}
-use Rattle.nvm_unit.specs.Events.{IsAct, idle}
+use Rattle.nvm_unit.specs.Events.{Event, loads, takes, misses, adds, returns, IsAct, idle, Happens, IsReached}
 use Rattle.nvm_unit.specs.Passes.{IsHistoryOf}
 
 -- what a seat carries, and the slot if it took it
@@ -57,14 +57,33 @@ pub record HasTaken (word : ℕ) (b : Bounds) (history : List Line) (m m' : Sits
 abbrev pub Takes : ℕ → Sits → Sits → Type 0
 Takes word m m' = (b : Bounds) × (history : List Line) × HasTaken word b history m m'
 
+-- The step was one event of this kind, by the seat's group, which found this word: it led from a state to
+-- which events lead to the next.
+pub record WasEvent (kind : ℕ → Event) (word : ℕ) (m m' : Sits) : Type 0 where
+  pub bounds : Bounds
+  pub before : UnitState
+  pub after : UnitState
+  pub group : ℕ
+  pub reached : IsReached bounds before
+  pub happened : Happens bounds before (kind group) after
+  pub found : before.word ≡ word
+  pub at : IsAt before.groups group m.0
+  pub at_after : IsAt after.groups group m'.0
+
+-- The step was a put: with one entry more, or as it was.
+abbrev pub WasPut : (ℕ → Bool) → Sits → Sits → Type 0
+WasPut decides m m' =
+    (word : ℕ) × (WasEvent (λ j. returns j (decides word)) word m m' ⊎ ((line : Line) × WasEvent (λ j. adds j line) word m m'))
+
 -- a load
 abbrev pub looks : (ℕ → Bool) → Step (Option Recorded) → Sits → ℕ → Sits → Type 0
-looks decides step m word m' = HasLooked decides word m m'
+looks decides step m word m' = HasLooked decides word m m' × WasEvent (λ j. loads j (decides word)) word m m'
 
 -- a compare_exchange of a free word for the one that says that the unit is held
 abbrev pub tries : (ℕ → Bool) → Step (Option Recorded) → Sits → ℕ → Sits → Type 0
 tries decides step m word m' =
-    (word ≡ step.first → Takes word m m') × (word ≢ step.first → HasLooked decides word m m')
+    (word ≡ step.first → Takes word m m' × WasEvent takes word m m')
+    × (word ≢ step.first → HasLooked decides word m m' × WasEvent (λ j. misses j (decides word)) word m m')
 
 -- The unit is put back as it was, with so many entries.
 abbrev pub ReturnsAs : (ℕ → Bool) → ℕ → Sits → Sits → Type 0
@@ -83,7 +102,7 @@ AddsAs entries m m' =
 -- a store that puts the unit back
 abbrev pub puts : (ℕ → Bool) → Step (Option Recorded) → Sits → ℕ → Sits → Type 0
 puts decides step m word m' =
-    (entries : ℕ) → step.first ≡ 2 * entries → ReturnsAs decides entries m m' × AddsAs entries m m'
+    (entries : ℕ) → step.first ≡ 2 * entries → ReturnsAs decides entries m m' × AddsAs entries m m' × WasPut decides m m'
 
 -- The seat can put the unit back as it was: the slot has the book of the history that is held.
 pub record CanReturn (decides : ℕ → Bool) (entries : ℕ) (m : Sits) (ps : List PassView) (history : List Line) (b : Bounds) : Type 0 where

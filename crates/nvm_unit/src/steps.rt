@@ -6,9 +6,10 @@ ghost use Rattle.nvm_unit.specs.declared.bounds.Bounds.{Bounds as UnitBounds};
 ghost use Rattle.nvm_unit.specs.declared.views.PassView.{PassView as View};
 ghost use Rattle.nvm_unit.specs.declared.views.Group.{Group as Carried};
 ghost use Rattle.nvm_unit.specs.Book.{Recorded, recorded};
+ghost use Rattle.nvm_unit.specs.Events.{loads, takes, misses};
 ghost use Rattle.nvm_unit.specs.Ends.{AreAllViews, IsWholeHistory, HasCome};
 ghost use Rattle.nvm_unit.specs.Machine.{newcomers};
-ghost use Rattle.nvm_unit.specs.Plays.{resting, holding, HasLooked, Takes, ReturnsAs, AddsAs, CanReturn, CanAppend};
+ghost use Rattle.nvm_unit.specs.Plays.{resting, holding, HasLooked, WasEvent, WasPut, Takes, ReturnsAs, AddsAs, CanReturn, CanAppend};
 
 use crate::book::Book;
 use crate::bounds::Bounds;
@@ -41,6 +42,7 @@ pub fn load<D: Decides>(desk: &Desk, token: &mut Token) -> u64
     requires alone { (word : ℕ) → D.decides word ≡ true → length token.old.seat.me.0.passes ≡ 1 }
     ensures at { token.new.seat.table_id ≡ token.old.seat.table_id }
     ensures looked { HasLooked D.decides result token.old.seat.me token.new.seat.me }
+    ensures event { WasEvent (λ j. loads j (D.decides result)) result token.old.seat.me token.new.seat.me }
 {
     desk.table.shared.load::<Looks<D>>(&mut token.seat, 0)
 }
@@ -55,6 +57,9 @@ pub fn take<D: Decides>(desk: &Desk, token: &mut Token, word: u64) -> u64
     ensures at { token.new.seat.table_id ≡ token.old.seat.table_id }
     ensures taken { result ≡ word → Takes result token.old.seat.me token.new.seat.me }
     ensures lost { result ≢ word → HasLooked D.decides result token.old.seat.me token.new.seat.me }
+    ensures taken_event { result ≡ word → WasEvent takes result token.old.seat.me token.new.seat.me }
+    ensures lost_event { result ≢ word
+        → WasEvent (λ j. misses j (D.decides result)) result token.old.seat.me token.new.seat.me }
 {
     desk.table
         .shared
@@ -72,6 +77,7 @@ pub fn put<D: Decides>(desk: &Desk, token: &mut Token, entries: u64)
     ensures at { token.new.seat.table_id ≡ token.old.seat.table_id }
     ensures returned { ReturnsAs D.decides entries token.old.seat.me token.new.seat.me }
     ensures added { AddsAs entries token.old.seat.me token.new.seat.me }
+    ensures event { WasPut D.decides token.old.seat.me token.new.seat.me }
 {
     lawful_with_one_more();
     desk.table

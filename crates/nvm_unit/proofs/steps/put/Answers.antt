@@ -24,3 +24,6 @@ returns-clause-returned g c = (c.store.ensures.2 c.args.entries refl).0
 
 pub returns-clause-added : goal.returns-clause-added
 returns-clause-added g c = (c.store.ensures.2 c.args.entries refl).1
+
+pub returns-clause-event : goal.returns-clause-event
+returns-clause-event g c = (c.store.ensures.2 c.args.entries refl).2
