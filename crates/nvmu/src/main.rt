@@ -2,6 +2,9 @@
 //! writes what they show.
 #![tactic(auto)]
 
+ghost use Rattle.std.specs.Prelude.{◌≡◌, ◌⊎◌, IfOk, IfErr, map, string_bytes};
+ghost use Rattle.nvmu.specs.Runs.{IsShownOn, IsFaultOn};
+
 mod files;
 #[cfg(test)]
 mod word_tests;
@@ -9,7 +12,7 @@ mod words;
 
 use crate::files::read_files;
 use crate::words::{Asked, WordFault, read_words};
-use nvm_engine::{Fault, Shown, execute};
+use nvm_engine::{Fault, Settings, Shown, execute};
 use std::alloc::{AllocError, Global};
 use std::io::{ErrorKind, Write};
 use std::process::ExitCode;
@@ -47,7 +50,13 @@ fn status_of_words<R: AllocGlobal + Files + Print + Eprint>(rt: &R, words: &[Str
         return failed(rt, Fault::NoMemory);
     };
     match read_words(rt.alloc(), texts.as_slice()) {
-        Ok(asked) => match run(rt, asked) {
+        Ok(
+            Asked::Run {
+                settings,
+                out: _out,
+                files,
+            },
+        ) => match run(rt, &settings, files.as_slice()) {
             Ok(shown) => written(rt, shown),
             Err(fault) => failed(rt, fault),
         },
@@ -72,19 +81,23 @@ fn texts_of(alloc: Global, words: &[String]) -> Result<Vec<&str>, AllocError> {
     Ok(texts)
 }
 
-/// Reads the files and has their commands done.
-fn run<R: AllocGlobal + Files>(rt: &R, asked: Asked) -> Result<Shown, Fault> {
-    let Asked::Run {
-        settings,
-        out: _out,
-        files,
-    } = asked;
-    let files = read_files(rt, files.as_slice())?;
-    execute(rt.alloc(), &settings, files.as_slice())
+/// Reads the files at these paths and has their commands done.
+fn run<R: AllocGlobal + Files>(
+    rt: &R,
+    settings: &Settings,
+    paths: &[String],
+) -> Result<Shown, Fault>
+    ensures shown { IfOk result (IsShownOn settings.now (map (λ path. string_bytes path) paths.now)) }
+    ensures fault { IfErr result (IsFaultOn settings.now (map (λ path. string_bytes path) paths.now)) }
+{
+    let files = read_files(rt, paths)?;
+    execute(rt.alloc(), settings, files.as_slice())
 }
 
 /// Writes the text to standard output. Where that fails, the status is 1.
-fn written<R: Print>(rt: &R, shown: Shown) -> u8 {
+fn written<R: Print>(rt: &R, shown: Shown) -> u8
+    ensures { (result ≡ shown.status) ⊎ (result ≡ 1) }
+{
     match io::writer(rt).write_all(shown.text.as_slice()) {
         Ok(()) => shown.status,
         Err(_) => 1,
@@ -92,7 +105,9 @@ fn written<R: Print>(rt: &R, shown: Shown) -> u8 {
 }
 
 /// Prints the fault's line on standard error.
-fn failed<R: Eprint>(rt: &R, fault: Fault) -> u8 {
+fn failed<R: Eprint>(rt: &R, fault: Fault) -> u8
+    ensures { result ≡ 1 }
+{
     let _ = rt.eprintln(fault);
     1
 }
