@@ -1,7 +1,6 @@
 -- An act that doesn't succeed is a pair whose comparison fails.
-use Rattle.std.proofs.Common.{◌≡◌, refl, sym, ap, subst, arith, Bool, true, false, if◌then◌else◌, IsTrue}
+use Rattle.std.proofs.Common.{◌≡◌, inl, inr, refl, sym, subst, Bool, true, false, if◌then◌else◌, IsTrue}
 use Rattle.std.specs.Str.{bytes_eq}
-use Rattle.nvm_record.specs.declared.status.Status.{Status}
 use Rattle.nvm_record.specs.declared.status.Statuses.{Statuses}
 use Rattle.nvm_record.specs.declared.status.Statuses.TheVariants.{Two}
 use Rattle.nvm_record.specs.Medium.{Medium, has_mark, joined}
@@ -16,9 +15,9 @@ use Rattle.nvm_store.specs.declared.act_ref.ActRef.TheVariants.{Write, Zeroes, U
 comparison_fails : (marked equal : Bool)
     → ((IsSuccess (Two (if marked then unrecovered_read_error else (if (if marked then false else equal) then successful_completion else compare_failure)) (if (if marked then false else equal) then successful_completion else aborted_due_to_failed_fused_command))) → ⊥)
     → IsFailedPair (Two (if marked then unrecovered_read_error else (if (if marked then false else equal) then successful_completion else compare_failure)) (if (if marked then false else equal) then successful_completion else aborted_due_to_failed_fused_command))
-comparison_fails true equal h = ((λ e. let bad : 2 ≡ 0 = ap (λ (s : Status). s.sct) e in absurd (omega (arith, bad))), refl)
+comparison_fails true equal h = (inl refl, refl)
 comparison_fails false true h = absurd (h (refl, refl))
-comparison_fails false false h = ((λ e. let bad : 2 ≡ 0 = ap (λ (s : Status). s.sct) e in absurd (omega (arith, bad))), refl)
+comparison_fails false false h = (inr refl, refl)
 
 act_fails : (act : ActRef) (m : Medium) → ((IsSuccess (statuses_of (lent_operation_of act) m)) → ⊥) → IsTrue (is_pair (lent_operation_of act).deed) × IsFailedPair (statuses_of (lent_operation_of act) m)
 act_fails (Write first blocks payload) m h = absurd (h refl)

@@ -1,18 +1,18 @@
 -- The parts of an operation, one after the other, are its outcome.
-use Rattle.std.proofs.Common.{◌≡◌, inl, ℕ, List, [], ◌∷◌, ◌++◌, map, Option, None, unwrap_or, IsSome, refl, sym, ap, ◌∙◌, subst, append-nil}
+use Rattle.std.proofs.Common.{◌≡◌, ◌≢◌, inl, inr, ℕ, List, [], ◌∷◌, ◌++◌, map, Option, None, unwrap_or, IsSome, refl, sym, ap, ◌∙◌, subst, append-nil, arith}
+use Rattle.nvm_record.specs.declared.status.Status.{Status as Code}
 use Rattle.nvm_record.specs.declared.status.Statuses.{Statuses}
 use Rattle.nvm_record.specs.declared.status.Statuses.TheVariants.{One, Two}
 use Rattle.nvm_record.specs.Medium.{Medium}
-use Rattle.nvm_record.specs.Status.{IsSuccess}
+use Rattle.nvm_record.specs.Status.{IsSuccess, successful_completion}
 use Rattle.nvm_record.specs.Step.{Operation}
-use Rattle.nvm_geometry.specs.Parts.{part_in}
+use Rattle.nvm_geometry.specs.Namespace.{Namespace}
+use Rattle.nvm_geometry.specs.Parts.{part_in, units_met}
 use Rattle.nvm_geometry.specs.declared.piece.Piece.{Piece}
 use Rattle.nvm_plan.specs.Outcome.{data_told, answered, unstarted_of, AreDone, IsOutcomeOf}
-use Rattle.nvm_plan.specs.Reply.{Reply, success_of, stop_of, IsFailedPair, IsReplyTo, Succeeds}
-use Rattle.nvm_plan.specs.declared.job.Body.{Body}
+use Rattle.nvm_plan.specs.Reply.{Reply, success_of, IsFailedComparison, IsFailedPair, IsReplyTo, Succeeds}
 use Rattle.nvm_store.specs.declared.answers.Answer.TheVariants.{Payload, Status}
-use Rattle.nvm_engine.specs.DoneJob.{stopped}
-use Rattle.nvm_engine.specs.Run.{Setup, Counts, Rests, medium_left, counts_left, part_told, Does}
+use Rattle.nvm_engine.specs.Run.{Setup, Counts, Rests, medium_left, counts_left, part_told, Does, IsReadOverUnits, IsBegun}
 use Rattle.nvm_engine.specs.Units.{DoesPart, DoesParts, GoesOn, EndsWith, IsUnderWay, reply_of, statuses_told, payload_told}
 use Rattle.nvm_engine.specs.declared.atomic_unit.AtomicUnit.{AtomicUnit}
 use Rattle.nvm_engine.specs.declared.atomic_unit.Told.{Told}
@@ -44,9 +44,22 @@ bytes_more NoMemory old new go = absurd go
 bytes_more Full old new go = absurd go
 
 -- a failed comparison is no success
+comparison_fails : (s : Code) → IsFailedComparison s → s ≡ successful_completion → ⊥
+comparison_fails s (inl e) ok = let bad : 2 ≡ 0 = ap (λ (x : Code). x.sct) (sym e ∙ ok) in absurd (omega (arith, bad))
+comparison_fails s (inr e) ok = let bad : 2 ≡ 0 = ap (λ (x : Code). x.sct) (sym e ∙ ok) in absurd (omega (arith, bad))
+
 failed_fails : (statuses : Statuses) → IsFailedPair statuses → IsSuccess statuses → ⊥
 failed_fails (One s) failed ok = absurd failed
-failed_fails (Two s t) failed ok = absurd (failed.0 ok.0)
+failed_fails (Two s t) failed ok = comparison_fails s failed.0 ok.0
+
+-- some part was done
+last_begun : (ns : Namespace) (op : Operation) (replies : List Reply) (r : Reply) → IsBegun ns op (replies ++ r ∷ [])
+last_begun ns op [] r = tt
+last_begun ns op (first ∷ replies) r = tt
+
+all_begun : (ns : Namespace) (op : Operation) (replies : List Reply) → units_met ns op.first op.blocks ≢ [] → AreDone ns op replies [] → IsBegun ns op replies
+all_begun ns op [] some done = absurd (some (sym done.units))
+all_begun ns op (first ∷ replies) some done = tt
 
 module _ (s : Setup) (op : Operation) where
   -- Before the first part.
@@ -89,6 +102,7 @@ module _ (s : Setup) (op : Operation) where
         does_more s op m counts now.replies now.after now.counted reply now.does did.0,
         subst (λ (x : Option (List ℕ)). IsOutcomeOf s.namespace op (now.replies ++ reply ∷ []) done.statuses x) (sym none)
             (subst (λ (x : Statuses). IsOutcomeOf s.namespace op (now.replies ++ reply ∷ []) x None) (sym is) outcome),
+        last_begun s.namespace op now.replies reply,
       )
 
   -- what was read, and then found no memory
@@ -102,25 +116,24 @@ module _ (s : Setup) (op : Operation) where
 
   -- So does each answer that ends it.
   pub ends : ((replies : List Reply) (r : Reply) (left : List ℕ) → AreDone s.namespace op replies (r.part.unit ∷ left) → IsReplyTo op.deed r → (IsSuccess r.statuses → ⊥) → IsOutcomeOf s.namespace op (replies ++ r ∷ []) r.statuses None)
-      → (body : Body) → stopped body ≡ stop_of op.deed
       → (start old new : List AtomicUnit) (p : Piece) (rest : List Piece) (told : Told) (bytes : List ℕ) (done : DoneJob)
-      → IsUnderWay s op start old (p ∷ rest) bytes → DoesPart s op old new p.unit told → EndsWith body told done → DoesParts s op start new done
-  ends so body stop start old new p rest Done bytes done under part end = absurd end
-  ends so body stop start old new p rest (Failed statuses) bytes done under part end =
+      → IsUnderWay s op start old (p ∷ rest) bytes → DoesPart s op old new p.unit told → EndsWith op.deed told done → DoesParts s op start new done
+  ends so start old new p rest Done bytes done under part end = absurd end
+  ends so start old new p rest (Failed statuses) bytes done under part end =
       stops so start old new p rest (Failed statuses) bytes done under part (failed_fails statuses part.0.1) (ap (λ (d : DoneJob). d.statuses) end) (ap (λ (d : DoneJob). d.payload) end)
-  ends so body stop start old new p rest (Looked (Payload read)) bytes done under part end =
-      stops so start old new p rest NoMemory bytes done under (no_room old new p.unit read part) (stop_fails op.deed) (ap (λ (d : DoneJob). d.statuses) end ∙ stop) (ap (λ (d : DoneJob). d.payload) end)
-  ends so body stop start old new p rest (Looked (Status status)) bytes done under part end =
+  ends so start old new p rest (Looked (Payload read)) bytes done under part end =
+      stops so start old new p rest NoMemory bytes done under (no_room old new p.unit read part) (stop_fails op.deed) (ap (λ (d : DoneJob). d.statuses) end) (ap (λ (d : DoneJob). d.payload) end)
+  ends so start old new p rest (Looked (Status status)) bytes done under part end =
       stops so start old new p rest (Looked (Status status)) bytes done under part end.0 (ap (λ (d : DoneJob). d.statuses) end.1) (ap (λ (d : DoneJob). d.payload) end.1)
-  ends so body stop start old new p rest NoMemory bytes done under part end =
-      stops so start old new p rest NoMemory bytes done under part (stop_fails op.deed) (ap (λ (d : DoneJob). d.statuses) end ∙ stop) (ap (λ (d : DoneJob). d.payload) end)
-  ends so body stop start old new p rest Full bytes done under part end =
-      stops so start old new p rest Full bytes done under part (stop_fails op.deed) (ap (λ (d : DoneJob). d.statuses) end ∙ stop) (ap (λ (d : DoneJob). d.payload) end)
+  ends so start old new p rest NoMemory bytes done under part end =
+      stops so start old new p rest NoMemory bytes done under part (stop_fails op.deed) (ap (λ (d : DoneJob). d.statuses) end) (ap (λ (d : DoneJob). d.payload) end)
+  ends so start old new p rest Full bytes done under part end =
+      stops so start old new p rest Full bytes done under part (stop_fails op.deed) (ap (λ (d : DoneJob). d.statuses) end) (ap (λ (d : DoneJob). d.payload) end)
 
   -- After the last part.
-  pub all_done : ((replies : List Reply) → AreDone s.namespace op replies [] → IsOutcomeOf s.namespace op replies (success_of op.deed) (answered op.deed (data_told replies)))
+  pub all_done : units_met s.namespace op.first op.blocks ≢ [] → ((replies : List Reply) → AreDone s.namespace op replies [] → IsOutcomeOf s.namespace op replies (success_of op.deed) (answered op.deed (data_told replies)))
       → (start now : List AtomicUnit) (bytes : List ℕ) (done : DoneJob) → IsUnderWay s op start now [] bytes → done.statuses ≡ success_of op.deed → done.payload ≡ answered op.deed bytes → DoesParts s op start now done
-  all_done whole start now bytes done under is payload m counts at =
+  all_done some whole start now bytes done under is payload m counts at =
       let end = under m counts at in
       let read : answered op.deed (data_told end.replies) ≡ done.payload = ap (λ (xs : List ℕ). answered op.deed xs) end.bytes_are ∙ sym payload in (
         end.replies,
@@ -130,15 +143,17 @@ module _ (s : Setup) (op : Operation) where
         end.does,
         subst (λ (x : Option (List ℕ)). IsOutcomeOf s.namespace op end.replies done.statuses x) read
             (subst (λ (x : Statuses). IsOutcomeOf s.namespace op end.replies x (answered op.deed (data_told end.replies))) (sym is) (whole end.replies end.done)),
+        all_begun s.namespace op end.replies some end.done,
       )
 
   -- Where memory was refused before the first part.
-  pub none_done : (units : List AtomicUnit) (done : DoneJob) → IsOutcomeOf s.namespace op [] (unstarted_of op.deed) None → done.statuses ≡ unstarted_of op.deed → done.payload ≡ None → DoesParts s op units units done
-  none_done units done outcome is none m counts at = (
+  pub none_done : IsReadOverUnits s.namespace op → (units : List AtomicUnit) (done : DoneJob) → IsOutcomeOf s.namespace op [] (unstarted_of op.deed) None → done.statuses ≡ unstarted_of op.deed → done.payload ≡ None → DoesParts s op units units done
+  none_done over units done outcome is none m counts at = (
     [],
     m,
     counts,
     at,
     (refl, refl),
     subst (λ (x : Option (List ℕ)). IsOutcomeOf s.namespace op [] done.statuses x) (sym none) (subst (λ (x : Statuses). IsOutcomeOf s.namespace op [] x None) (sym is) outcome),
+    over,
   )

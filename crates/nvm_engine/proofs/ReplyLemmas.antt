@@ -1,11 +1,11 @@
 -- What may be told of a part is a reply to it.
-use Rattle.std.proofs.Common.{◌≡◌, ◌↔◌, ℕ, List, None, refl, sym, ap, subst, true, false, not, IsTrue, IsSome, arith}
+use Rattle.std.proofs.Common.{◌≡◌, ◌↔◌, inl, ℕ, List, None, refl, sym, ap, subst, true, false, not, IsTrue, IsSome, arith}
 use Rattle.nvm_record.specs.declared.status.Status.{Status}
 use Rattle.nvm_record.specs.declared.status.Statuses.{Statuses}
 use Rattle.nvm_record.specs.declared.status.Statuses.TheVariants.{One}
 use Rattle.nvm_record.specs.Status.{IsSuccess, successful_completion, internal_error}
 use Rattle.nvm_record.specs.Step.{Deed, writes, zeroes, uncorrectable, reads, compares, pairs}
-use Rattle.nvm_plan.specs.Reply.{is_look, is_pair, success_of, stop_of, IsReplyTo, GivesData, Succeeds}
+use Rattle.nvm_plan.specs.Reply.{is_look, is_pair, success_of, stop_of, CanEndLook, IsReplyTo, GivesData, Succeeds}
 use Rattle.nvm_store.specs.declared.answers.Answer.TheVariants.{Payload, Status as Plain}
 use Rattle.nvm_engine.specs.Units.{CanBeTold, GoesOn, reply_of}
 use Rattle.nvm_engine.specs.declared.atomic_unit.Told.{Told}
@@ -40,16 +40,25 @@ no_look_reads d h e = let bad : false ≡ true = subst (λ (x : Deed). IsTrue (n
 no_pair_reads : (d : Deed) → IsTrue (is_pair d) → d ≡ reads → ⊥
 no_pair_reads d h e = let bad : false ≡ true = subst (λ (x : Deed). IsTrue (is_pair x)) e h in absurd (cc bad)
 
+-- only a look ends so
+ends_look : (d : Deed) (s : Status) → CanEndLook d s → IsTrue (is_look d)
+ends_look (writes payload) s h = absurd h
+ends_look zeroes s h = absurd h
+ends_look uncorrectable s h = absurd h
+ends_look reads s h = refl
+ends_look (compares payload) s h = refl
+ends_look (pairs payload new) s h = absurd h
+
 -- Each answer that may be told is a reply.
 pub is_reply : (unit point : ℕ) (d : Deed) (told : Told) → CanBeTold d told → IsReplyTo d (reply_of unit point d told)
 is_reply unit point d Done h = record { result = h; told = refl; payload = no_read d _ (λ r. no_look_reads d h r.0) }
 is_reply unit point d (Failed statuses) h = record { result = h.0; told = h.1; payload = no_read d _ (λ r. no_pair_reads d h.0 r.0) }
 is_reply unit point d (Looked (Payload bytes)) h = record {
   result = subst (λ (x : Deed). IsTrue (is_look x)) (sym h) refl;
-  told = tt;
+  told = subst (λ (x : Deed). CanEndLook x successful_completion) (sym h) (inl refl);
   payload = ((λ some. (h, refl)), (λ r. refl));
 }
-is_reply unit point d (Looked (Plain status)) h = record { result = h.0; told = tt; payload = no_read d (One status) (λ r. h.1 r.0 r.1) }
+is_reply unit point d (Looked (Plain status)) h = record { result = ends_look d status h.0; told = h.0; payload = no_read d (One status) (λ r. h.1 r.0 r.1) }
 is_reply unit point d NoMemory h = record { result = refl; told = refl; payload = no_read d _ (λ r. stop_fails d r.1) }
 is_reply unit point d Full h = record { result = h; told = refl; payload = no_read d _ (λ r. stop_fails d r.1) }
 

@@ -1,15 +1,16 @@
 -- What a unit told of its part is what the part did to the units.
-use Rattle.std.proofs.Common.{◌≡◌, ◌≢◌, ◌==◌, inl, inr, ℕ, ◌+◌, ◌<◌, List, length, vec_len, get_or, set, refl, sym, ap, ◌∙◌, subst, Bool, true, false, ◌&&◌, if◌then◌else◌, not, IsTrue, IsSome, None, Some, arith}
+use Rattle.std.proofs.Common.{◌≡◌, ◌≢◌, ◌==◌, ◌⊎◌, inl, inr, ℕ, ◌+◌, ◌<◌, List, length, vec_len, get_or, set, refl, sym, ap, ◌∙◌, subst, Bool, true, false, ◌&&◌, if◌then◌else◌, not, IsTrue, IsSome, None, Some, arith}
+use Rattle.std.specs.Str.{bytes_eq}
 use Rattle.nvm_record.specs.declared.block.Block.{Block}
 use Rattle.nvm_record.specs.declared.status.Status.{Status}
 use Rattle.nvm_record.specs.declared.status.Statuses.TheVariants.{One}
 use Rattle.nvm_record.specs.Medium.{Medium, has_mark, joined}
-use Rattle.nvm_record.specs.Status.{IsSuccess, successful_completion, unrecovered_read_error}
+use Rattle.nvm_record.specs.Status.{IsSuccess, successful_completion, unrecovered_read_error, compare_failure}
 use Rattle.nvm_record.specs.Step.{Deed, writes, zeroes, uncorrectable, reads, compares, pairs, Operation, is_in_range, statuses_of, statuses_on, data_of, data_on, range_of, medium_after}
 use Rattle.nvm_geometry.specs.Namespace.{Namespace}
 use Rattle.nvm_geometry.specs.Boundaries.{unit_number, units_of}
 use Rattle.nvm_geometry.specs.Parts.{deed_part, part_in, blocks_below, blocks_in}
-use Rattle.nvm_plan.specs.Reply.{is_look, is_pair, success_of}
+use Rattle.nvm_plan.specs.Reply.{is_look, is_pair, success_of, IsFailedComparison, CanEndLook}
 use Rattle.nvm_store.specs.ActRef.{lent_operation_of}
 use Rattle.nvm_store.specs.Answer.{IsAnswer}
 use Rattle.nvm_store.specs.Look.{look_operation_of}
@@ -173,6 +174,36 @@ read_status blocks status told none =
       | false ↦ (λ t e same. absurd (cc e))
     ] told none
 
+-- a look ends with one of its statuses
+comparison_ends : (marked equal : Bool) (status : Status)
+    → One (if marked then unrecovered_read_error else (if (if marked then false else equal) then successful_completion else compare_failure)) ≡ One status
+    → (status ≡ successful_completion) ⊎ IsFailedComparison status
+comparison_ends true equal status e = inr (inl (cc e))
+comparison_ends false true status e = inl (cc e)
+comparison_ends false false status e = inr (inr (cc e))
+
+read_ends : (marked : Bool) (status : Status) → One (if marked then unrecovered_read_error else successful_completion) ≡ One status
+    → (status ≡ successful_completion) ⊎ (status ≡ unrecovered_read_error)
+read_ends true status e = inr (cc e)
+read_ends false status e = inl (cc e)
+
+look_ends : (d : Deed) (blocks : List Block) (status : Status) → IsTrue (is_look d) → statuses_on blocks d ≡ One status → CanEndLook d status
+look_ends (writes payload) blocks status look e = absurd (cc look)
+look_ends zeroes blocks status look e = absurd (cc look)
+look_ends uncorrectable blocks status look e = absurd (cc look)
+look_ends reads blocks status look e = read_ends (has_mark blocks) status e
+look_ends (compares payload) blocks status look e = comparison_ends (has_mark blocks) (bytes_eq (joined blocks) payload) status e
+look_ends (pairs payload new) blocks status look e = absurd (cc look)
+
+-- a part of a look ends as the look can
+part_ends : (size skipped blocks : ℕ) (d : Deed) (status : Status) → CanEndLook (deed_part size skipped blocks d) status → CanEndLook d status
+part_ends size skipped blocks (writes payload) status h = h
+part_ends size skipped blocks zeroes status h = h
+part_ends size skipped blocks uncorrectable status h = h
+part_ends size skipped blocks reads status h = h
+part_ends size skipped blocks (compares payload) status h = h
+part_ends size skipped blocks (pairs payload new) status h = h
+
 part_reads : (size skipped blocks : ℕ) (d : Deed) → deed_part size skipped blocks d ≡ reads → d ≡ reads
 part_reads size skipped blocks (writes payload) e = absurd (cc e)
 part_reads size skipped blocks zeroes e = absurd (cc e)
@@ -209,9 +240,6 @@ module _ (s : Setup) (op act : Operation) (k : ℕ) (units : List AtomicUnit) (u
   held m counts all = let inside : k < length units = (let count : length units ≡ units_of s.namespace = laid.count in omega arith) in
       subst (λ (u : AtomicUnit). Holds u.blocks m) (sym at) (all unit k inside).0
 
-  whole_looks : IsTrue (is_look op.deed)
-  whole_looks = subst (λ (b : Bool). IsTrue b) (look_of_part s.namespace op act k is) looks
-
   pub looks_at_part : (m : Medium) × Holds unit.blocks m → (told : Told) → IsLookedAt unit act told → DoesPart s op units units k told
   looks_at_part some Done h = absurd h
   looks_at_part some (Failed statuses) h = absurd h
@@ -224,7 +252,8 @@ module _ (s : Setup) (op act : Operation) (k : ℕ) (units : List AtomicUnit) (u
   )
   looks_at_part some (Looked (answers.Status status)) h = (
     (
-      whole_looks,
+      part_ends s.namespace.block_size (blocks_below s.namespace op.first op.blocks k) (blocks_in s.namespace op.first op.blocks k) op.deed status
+          (subst (λ (o : Operation). CanEndLook o.deed status) is (look_ends act.deed (range_of act some.0) status looks (h some.0 some.1).0)),
       λ reading.
           let there : act.deed ≡ reads = ap (λ (o : Operation). o.deed) is ∙ ap (λ (d : Deed). deed_part s.namespace.block_size (blocks_below s.namespace op.first op.blocks k) (blocks_in s.namespace op.first op.blocks k) d) reading in
           let told = h some.0 some.1 in

@@ -1,11 +1,13 @@
 -- A run: jobs that are done one after the other, from a medium and the number of changes of each unit. All
 -- of it is this project's own.
-use Rattle.std.specs.Prelude.{◌≡◌, ◌⊎◌, ◌==◌, ℕ, ◌+◌, ◌<◌, if◌then◌else◌, List, [], ◌∷◌, MatchOption, IsTrue, IsSome, not}
+use Rattle.std.specs.Prelude.{◌≡◌, ◌⊎◌, ◌==◌, ℕ, ◌+◌, ◌<◌, if◌then◌else◌, List, [], ◌∷◌, MatchOption, Some, None, IsTrue, IsSome, not}
 use Rattle.nvm_record.specs.Medium.{Medium}
 use Rattle.nvm_record.specs.Status.{IsSuccess}
-use Rattle.nvm_record.specs.Step.{Operation, statuses_of, data_of, medium_after}
+use Rattle.nvm_record.specs.Step.{Operation, reads, statuses_of, data_of, medium_after}
 use Rattle.nvm_geometry.specs.Namespace.{Namespace}
+use Rattle.nvm_geometry.specs.Boundaries.{Crosses}
 use Rattle.nvm_geometry.specs.Parts.{part_in}
+use Rattle.nvm_plan.specs.Checks.{refusal_of}
 use Rattle.nvm_plan.specs.Operation.{job_operation_of}
 use Rattle.nvm_plan.specs.Outcome.{IsOutcome}
 use Rattle.nvm_plan.specs.Reply.{Reply, is_look}
@@ -86,11 +88,22 @@ Does s op m counts (reply ∷ replies) after counted =
     × Does s op (medium_left s.namespace.block_size (part_told s op reply) reply.part.result m)
     (counts_left reply.part.unit reply.part.result counts) replies after counted
 
+-- A Read whose range crosses a boundary: room for its data is asked for before its first part.
+pub record IsReadOverUnits (ns : Namespace) (op : Operation) : Type 0 where
+  pub read : op.deed ≡ reads
+  pub over : Crosses ns op.first op.blocks
+
+-- Some part was done, unless memory was refused before the first, which only such a Read asks for.
+abbrev pub IsBegun : Namespace → Operation → List Reply → Type 0
+IsBegun ns op [] = IsReadOverUnits ns op
+IsBegun ns op (reply ∷ replies) = Unit {0}
+
 -- A job: its outcome is that of the replies to its parts, and these are what the parts did.
 pub record RunsJob (s : Setup) (m : Medium) (counts : Counts) (job : Job) (done : DoneJob) (after : Medium) (counted : Counts) : Type 0 where
   pub replies : List Reply
   pub outcome : IsOutcome s.namespace job replies done.statuses done.payload
   pub parts : MatchOption (job_operation_of job) ((after ≡ m) × (counted ≡ counts)) (λ op. Does s op m counts replies after counted)
+  pub begun : (op : Operation) → refusal_of s.namespace job ≡ None → job_operation_of job ≡ Some op → IsBegun s.namespace op replies
 
 -- These are what the jobs' hosts are told, where the jobs are done one after the other.
 abbrev pub IsRun : Setup → Medium → Counts → List Job → List DoneJob → Type 0

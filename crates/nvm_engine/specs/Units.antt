@@ -4,14 +4,15 @@ use Rattle.nvm_record.specs.Medium.{Medium}
 use Rattle.nvm_record.specs.Status.{successful_completion}
 use Rattle.nvm_record.specs.Step.{Deed, Operation, reads}
 use Rattle.nvm_record.specs.declared.command.Command.{Command}
+use Rattle.nvm_record.specs.declared.op.Op.TheVariants.{Read}
 use Rattle.nvm_record.specs.declared.status.Statuses.{Statuses}
 use Rattle.nvm_record.specs.declared.status.Statuses.TheVariants.{One}
 use Rattle.nvm_geometry.specs.Namespace.{Namespace}
-use Rattle.nvm_geometry.specs.Boundaries.{unit_number, units_of}
+use Rattle.nvm_geometry.specs.Boundaries.{unit_number, units_of, Crosses}
 use Rattle.nvm_geometry.specs.Parts.{piece_in, pieces_of, part_in}
 use Rattle.nvm_geometry.specs.declared.piece.Piece.{Piece}
 use Rattle.nvm_plan.specs.Outcome.{data_told, AreDone, IsOutcomeOf}
-use Rattle.nvm_plan.specs.Reply.{Reply, is_look, is_pair, success_of, stop_of, IsFailedPair}
+use Rattle.nvm_plan.specs.Reply.{Reply, is_look, is_pair, success_of, stop_of, IsFailedPair, CanEndLook}
 use Rattle.nvm_plan.specs.declared.job.Body.{Body}
 use Rattle.nvm_plan.specs.declared.job.Body.TheVariants.{Single, Pair}
 use Rattle.nvm_plan.specs.declared.job.Job.{Job}
@@ -19,8 +20,8 @@ use Rattle.nvm_plan.specs.declared.part.PartResult.{PartResult}
 use Rattle.nvm_plan.specs.declared.part.PartResult.TheVariants as result
 use Rattle.nvm_store.specs.Contents.{Contents, Holds}
 use Rattle.nvm_store.specs.declared.answers.Answer.TheVariants.{Payload, Status}
-use Rattle.nvm_engine.specs.DoneJob.{told, stopped}
-use Rattle.nvm_engine.specs.Run.{Setup, Counts, Rests, medium_left, counts_left, Does, RunsJob}
+use Rattle.nvm_engine.specs.DoneJob.{told}
+use Rattle.nvm_engine.specs.Run.{Setup, Counts, Rests, medium_left, counts_left, Does, IsBegun, RunsJob}
 use Rattle.nvm_engine.specs.declared.atomic_unit.AtomicUnit.{AtomicUnit}
 use Rattle.nvm_engine.specs.declared.atomic_unit.Told.{Told}
 use Rattle.nvm_engine.specs.declared.atomic_unit.Told.TheVariants.{Done, Failed, Looked, NoMemory, Full}
@@ -81,6 +82,11 @@ body_pieces ns body = pieces_of ns (leader body).slba ((leader body).nlb + 1)
 abbrev pub IsPieceOf : Namespace → Body → Piece → Type 0
 IsPieceOf ns body p = IsPiece ns (leader body).slba ((leader body).nlb + 1) p
 
+-- The job is a Read whose range crosses a boundary.
+pub record IsReadBodyOverUnits (ns : Namespace) (body : Body) : Type 0 where
+  pub read : (leader body).op ≡ Read
+  pub over : Crosses ns (leader body).slba ((leader body).nlb + 1)
+
 -- how the part ended, the statuses that were told of it, and the data
 abbrev pub result_told : Told → PartResult
 result_told Done = result.Done
@@ -119,7 +125,7 @@ abbrev pub CanBeTold : Deed → Told → Type 0
 CanBeTold deed Done = IsTrue (not (is_look deed))
 CanBeTold deed (Failed statuses) = IsTrue (is_pair deed) × IsFailedPair statuses
 CanBeTold deed (Looked (Payload bytes)) = deed ≡ reads
-CanBeTold deed (Looked (Status status)) = IsTrue (is_look deed) × (deed ≡ reads → status ≢ successful_completion)
+CanBeTold deed (Looked (Status status)) = CanEndLook deed status × (deed ≡ reads → status ≢ successful_completion)
 CanBeTold deed NoMemory = Unit {0}
 CanBeTold deed Full = IsTrue (not (is_look deed))
 
@@ -143,14 +149,14 @@ GoesOn (Looked (Status status)) old new = (status ≡ successful_completion) × 
 GoesOn NoMemory old new = ⊥
 GoesOn Full old new = ⊥
 
--- The job ends with this.
-abbrev pub EndsWith : Body → Told → DoneJob → Type 0
-EndsWith body Done done = ⊥
-EndsWith body (Failed statuses) done = done ≡ told statuses
-EndsWith body (Looked (Payload bytes)) done = done ≡ told (stopped body)
-EndsWith body (Looked (Status status)) done = (status ≢ successful_completion) × (done ≡ told (One status))
-EndsWith body NoMemory done = done ≡ told (stopped body)
-EndsWith body Full done = done ≡ told (stopped body)
+-- A job of the deed ends with this.
+abbrev pub EndsWith : Deed → Told → DoneJob → Type 0
+EndsWith deed Done done = ⊥
+EndsWith deed (Failed statuses) done = done ≡ told statuses
+EndsWith deed (Looked (Payload bytes)) done = done ≡ told (stop_of deed)
+EndsWith deed (Looked (Status status)) done = (status ≢ successful_completion) × (done ≡ told (One status))
+EndsWith deed NoMemory done = done ≡ told (stop_of deed)
+EndsWith deed Full done = done ≡ told (stop_of deed)
 
 -- The parts that were done from a medium and the units' changes, all with success, up to the pieces that
 -- are left, and the bytes that they read.
@@ -173,6 +179,7 @@ DoesParts s op old new done =
     (m : Medium) (counts : Counts) → AreAt old m counts
     → (replies : List Reply) × (after : Medium) × (counted : Counts) × AreAt new after counted
     × Does s op m counts replies after counted × IsOutcomeOf s.namespace op replies done.statuses done.payload
+    × IsBegun s.namespace op replies
 
 -- From the units as they were to the units as they are, this was told of the job.
 abbrev pub AnswersTo : Setup → List AtomicUnit → List AtomicUnit → Job → DoneJob → Type 0

@@ -1,6 +1,9 @@
-ghost use Rattle.std.specs.Prelude.{◌≡◌};
-ghost use Rattle.nvm_engine.specs.DoneJob as spec;
-ghost use Rattle.nvm_engine.specs.DoneJob.{told};
+ghost use Rattle.std.specs.Prelude.{◌≡◌, Some};
+ghost use Rattle.nvm_record.specs.Step.{Operation};
+ghost use Rattle.nvm_plan.specs.Operation.{operation_of_body};
+ghost use Rattle.nvm_plan.specs.Outcome.{unstarted_of};
+ghost use Rattle.nvm_plan.specs.Reply.{stop_of};
+ghost use Rattle.nvm_engine.specs.DoneJob.{told, succeeded};
 
 use nvm_plan::Body;
 use nvm_record::{Op, Payload, Status, Statuses};
@@ -27,7 +30,7 @@ impl DoneJob {
 
     /// A job whose parts were all done with success, where `bytes` are what they read.
     pub fn of_success(body: &Body, bytes: Vec<u8>) -> DoneJob
-        ensures { result ≡ spec.succeeded body.now bytes.items }
+        ensures { (op : Operation) → operation_of_body body.now ≡ Some op → result ≡ succeeded op.deed bytes.items }
     {
         match body {
             Body::Single(command) => DoneJob {
@@ -47,7 +50,7 @@ impl DoneJob {
 
     /// A job whose last part found no memory, or a history at its limit.
     pub fn of_refused_part(body: &Body) -> DoneJob
-        ensures { result ≡ told (spec.stopped body.now) }
+        ensures { (op : Operation) → operation_of_body body.now ≡ Some op → result ≡ told (stop_of op.deed) }
     {
         match body {
             Body::Single(_) => DoneJob::of(Statuses::One(Status::INTERNAL_ERROR)),
@@ -60,7 +63,7 @@ impl DoneJob {
 
     /// A job that found no memory before its first part.
     pub fn of_no_part(body: &Body) -> DoneJob
-        ensures { result ≡ told (spec.unstarted body.now) }
+        ensures { (op : Operation) → operation_of_body body.now ≡ Some op → result ≡ told (unstarted_of op.deed) }
     {
         match body {
             Body::Single(_) => DoneJob::of(Statuses::One(Status::INTERNAL_ERROR)),

@@ -1,4 +1,6 @@
-ghost use Rattle.std.specs.Prelude.{◌≡◌, ◌++◌, IfSome, IfNone, OnOk};
+ghost use Rattle.std.specs.Prelude.{◌≡◌, ◌++◌, Some, IfSome, IfNone, OnOk};
+ghost use Rattle.nvm_record.specs.Step.{Operation};
+ghost use Rattle.nvm_plan.specs.Operation.{operation_of_body};
 ghost use Rattle.nvm_engine.specs.Units.{GoesOn, EndsWith};
 
 use crate::atomic_unit::Told;
@@ -11,7 +13,8 @@ use nvm_store::Answer;
 /// added to `bytes`.
 pub fn ended(body: &Body, told: Told, bytes: &mut Vec<u8>) -> Option<DoneJob>
     ensures goes_on { IfNone result (GoesOn told bytes.old.items bytes.new.items) }
-    ensures ends { IfSome result (EndsWith body.now told) }
+    ensures ends { IfSome result (λ done. (op : Operation) → operation_of_body body.now ≡ Some op
+        → EndsWith op.deed told done) }
 {
     match told {
         Told::Done => None,

@@ -1,9 +1,9 @@
-ghost use Rattle.std.specs.Prelude.{◌≡◌, [], ◌+◌, ◌-◌, ◌*◌, ◌≤◌, ◌<◌, IfOk, length};
+ghost use Rattle.std.specs.Prelude.{◌≡◌, [], ◌+◌, ◌-◌, ◌*◌, ◌≤◌, ◌<◌, IfOk, OnErr, length};
 ghost use Rattle.std.specs.List.{AllByRecursion};
 ghost use Rattle.nvm_geometry.specs.Parts.{data_part};
 ghost use Rattle.nvm_plan.specs.Ready.{IsReadyBody};
 ghost use Rattle.nvm_engine.specs.Units as spec;
-ghost use Rattle.nvm_engine.specs.Units.{IsPieceOf};
+ghost use Rattle.nvm_engine.specs.Units.{IsPieceOf, IsReadBodyOverUnits};
 
 use nvm_geometry::{Geometry, Parts, Piece, laws};
 use nvm_plan::Body;
@@ -36,7 +36,8 @@ pub fn pieces(geometry: Geometry, body: &Body) -> Parts
 /// is.
 pub fn room(alloc: Global, geometry: Geometry, body: &Body) -> Result<Vec<u8>, NoMemory>
     requires { IsReadyBody geometry body.now }
-    ensures { IfOk result (λ bytes. bytes.items ≡ []) }
+    ensures empty { IfOk result (λ bytes. bytes.items ≡ []) }
+    ensures asked { OnErr result (IsReadBodyOverUnits geometry body.now) }
 {
     let command = leader(body);
     let blocks = u32::from(command.nlb) + 1;

@@ -1,4 +1,6 @@
--- What the numbers of a geometry must keep, and which fault is answered where they don't.
+-- What the numbers of a geometry must keep, and which fault is answered where they don't. That NABO is 0 without a
+-- boundary and at most NABSN, and a boundary not below the write unit: NVM Command Set Specification, Identify Namespace
+-- and atomic boundaries. The order and the other faults are this project's own.
 use Rattle.std.specs.Prelude.{◌≡◌, ◌≢◌, ◌⊎◌, ℕ, ◌<◌, ◌≤◌, List, [], ◌∷◌}
 use Rattle.nvm_record.specs.BlockSize.{IsBlockSize}
 use Rattle.nvm_geometry.specs.Namespace.{Namespace}

@@ -1,5 +1,5 @@
 -- Commands that are read have just the data that they call for, and proper opcodes; and they aren't many.
-use Rattle.std.proofs.Common.{◌≡◌, ℕ, ◌+◌, ◌*◌, ◌≤◌, ◌==◌, nat_le, Bool, true, false, if◌then◌else◌, List, [], ◌∷◌, length, take, drop, codes, Option, Some, None, Result, Ok, Err, IfOk, Vec, Global, All, refl, sym, ◌∙◌, arith}
+use Rattle.std.proofs.Common.{◌≡◌, ℕ, ◌+◌, ◌*◌, ◌≤◌, ◌==◌, nat_le, Bool, true, false, if◌then◌else◌, List, [], ◌∷◌, length, take, drop, codes, Option, Some, None, Result, Ok, Err, IfOk, Vec, Global, All, refl, ◌∙◌, arith}
 use Rattle.std.specs.Str.{bytes_eq}
 use Rattle.std.specs.List.{slice_split, AllByRecursion}
 use Rattle.std.proofs.lemmas.Bool.{cond_both, eqb-true, leb-true}
@@ -28,15 +28,6 @@ use Rattle.nvm_list.specs.declared.fault.ListFault.{ListFault}
 
 -- ---- the operation
 
-by_tests : (a b c d e : Bool) (n : ℕ) → (if a then Write else if b then Read else if c then WriteUncorrectable else if d then Compare else if e then WriteZeroes else Other n) ≡ op_of n
-    → IsProper (if a then Write else if b then Read else if c then WriteUncorrectable else if d then Compare else if e then WriteZeroes else Other n)
-by_tests true b c d e n h = tt
-by_tests false true c d e n h = tt
-by_tests false false true d e n h = tt
-by_tests false false false true e n h = tt
-by_tests false false false false true n h = tt
-by_tests false false false false false n h = sym h
-
 abbrev IsProperRead : Result Op Expected → Type 0
 IsProperRead read = IfOk read IsProper
 
@@ -48,16 +39,9 @@ unnamed_proper Compare h = tt
 unnamed_proper WriteZeroes h = tt
 unnamed_proper (Other n) h = h
 
-opcode_proper : (opcode : Option ℕ) → IsProperRead (of_opcode opcode)
-opcode_proper None = tt
-opcode_proper (Some n) = unnamed_proper (op_of n) (by_tests (n == 1) (n == 2) (n == 4) (n == 5) (n == 8) n refl)
-
 other_by : (b : Bool) (read : Result Op Expected) → IsProperRead read → IsProperRead (if b then read else Err Name)
 other_by true read h = h
 other_by false read h = tt
-
-other_proper : (word : List ℕ) → IsProperRead (other_operation word)
-other_proper word = other_by (bytes_eq (take 3 word) (codes "op-")) (of_opcode (hex_byte (drop 3 word))) (opcode_proper (hex_byte (drop 3 word)))
 
 named_by : (a b c d e : Bool) (read : Result Op Expected) → IsProperRead read
     → IsProperRead (if a then Ok Write else if b then Ok Read else if c then Ok WriteUncorrectable else if d then Ok Compare else if e then Ok WriteZeroes else read)
@@ -67,10 +51,6 @@ named_by false false true d e read h = tt
 named_by false false false true e read h = tt
 named_by false false false false true read h = tt
 named_by false false false false false read h = h
-
-operation_proper : (word : List ℕ) → IsProperRead (operation word)
-operation_proper word =
-    named_by (bytes_eq word (name_of Write)) (bytes_eq word (name_of Read)) (bytes_eq word (name_of WriteUncorrectable)) (bytes_eq word (name_of Compare)) (bytes_eq word (name_of WriteZeroes)) (other_operation word) (other_proper word)
 
 -- ---- the data
 
@@ -122,10 +102,6 @@ with_range size place (Ok op) (Err e) n ws proper = tt
 with_range size place (Ok op) (Ok slba) (Err e) ws proper = tt
 with_range size place (Ok op) (Ok slba) (Ok n) ws proper = with_data size place op slba n (carried size op n ws) proper (carried_by (carries_data op) ((n + 1) * size) ws)
 
-pub command_whole : (size place : ℕ) (ws : List (List ℕ)) → IsWholeRead size (command size place ws)
-unfolding command
-command_whole size place ws = with_range size place (operation (first ws)) (lba (first (others ws))) (nlb (first (others (others ws)))) (others (others (others ws))) (operation_proper (first ws))
-
 -- ---- the list
 
 -- whole commands, of which the first is at this place
@@ -149,28 +125,46 @@ at_place : (size place : ℕ) (read : Result Command Expected) → place ≤ 655
 at_place size place (Ok c) few whole = (whole, few)
 at_place size place (Err e) few whole = tt
 
-command_at_whole : (size place : ℕ) (ws : List (List ℕ)) → IfOk (command_at size place ws) (λ c. IsWhole size c × (place ≤ 65536))
-command_at_whole size place ws =
-    cond_both (nat_le place 65536) (command size place ws) (Err NoMoreCommands) (λ (r : Result Command Expected). IfOk r (λ c. IsWhole size c × (place ≤ 65536)))
-    (λ e. at_place size place (command size place ws) (leb-true place 65536 e) (command_whole size place ws)) (λ _. tt)
+-- ---- where each opcode asks for something proper
 
-line_whole : (size line place : ℕ) (ws : List (List ℕ)) (behind : ℕ → Result (List Command) ListFault) → place ≤ 65537
-    → ((next : ℕ) → next ≤ 65537 → AreWholeRead size next (behind next)) → AreWholeRead size place (followed_by (on_line size line place ws) place behind)
-line_whole size line place [] behind few rest = rest place few
-line_whole size line place (w ∷ ws) behind few rest = followed_whole size line place (command_at size place (w ∷ ws)) behind (command_at_whole size place (w ∷ ws)) rest
+module _ (proper : (n : ℕ) → IsProper (op_of n)) where
+  opcode_proper : (opcode : Option ℕ) → IsProperRead (of_opcode opcode)
+  opcode_proper None = tt
+  opcode_proper (Some n) = unnamed_proper (op_of n) (proper n)
 
-pub all_whole : (size line place : ℕ) (texts : List (List ℕ)) → place ≤ 65537 → AreWholeRead size place (commands_from size line place texts)
-all_whole size line place [] few = record { whole = tt; few = omega arith }
-all_whole size line place (text ∷ texts) few =
-    line_whole size line place (words text) (λ next. commands_from size (line + 1) next texts) few (λ next below. all_whole size (line + 1) next texts below)
+  other_proper : (word : List ℕ) → IsProperRead (other_operation word)
+  other_proper word = other_by (bytes_eq (take 3 word) (codes "op-")) (of_opcode (hex_byte (drop 3 word))) (opcode_proper (hex_byte (drop 3 word)))
 
-read_whole : (size : ℕ) (text : List ℕ) (cs : List Command) → commands size text ≡ Ok cs → AreWhole size 1 cs
-read_whole size text cs e = IfOk-at_ok (AreWhole size 1) e (all_whole size 1 1 (lines text) (omega arith))
+  operation_proper : (word : List ℕ) → IsProperRead (operation word)
+  operation_proper word =
+      named_by (bytes_eq word (name_of Write)) (bytes_eq word (name_of Read)) (bytes_eq word (name_of WriteUncorrectable)) (bytes_eq word (name_of Compare)) (bytes_eq word (name_of WriteZeroes)) (other_operation word) (other_proper word)
 
-pub whole_where_read : (size : ℕ) (text : List ℕ) (r : Result (Vec Command Global) ListFault) → IfOk r (λ v. commands size text ≡ Ok v.items) → IfOk r (λ v. All (IsWhole size) v.items)
-whole_where_read size text (Ok v) h = All-from_recursion (IsWhole size) v.items (read_whole size text v.items h).whole
-whole_where_read size text (Err e) h = tt
+  pub command_whole : (size place : ℕ) (ws : List (List ℕ)) → IsWholeRead size (command size place ws)
+  unfolding command
+  command_whole size place ws = with_range size place (operation (first ws)) (lba (first (others ws))) (nlb (first (others (others ws)))) (others (others (others ws))) (operation_proper (first ws))
 
-pub few_where_read : (size : ℕ) (text : List ℕ) (r : Result (Vec Command Global) ListFault) → IfOk r (λ v. commands size text ≡ Ok v.items) → IfOk r (λ v. length v.items ≤ 65536)
-few_where_read size text (Ok v) h = let few : 1 + length v.items ≤ 65537 = (read_whole size text v.items h).few in omega arith
-few_where_read size text (Err e) h = tt
+  command_at_whole : (size place : ℕ) (ws : List (List ℕ)) → IfOk (command_at size place ws) (λ c. IsWhole size c × (place ≤ 65536))
+  command_at_whole size place ws =
+      cond_both (nat_le place 65536) (command size place ws) (Err NoMoreCommands) (λ (r : Result Command Expected). IfOk r (λ c. IsWhole size c × (place ≤ 65536)))
+      (λ e. at_place size place (command size place ws) (leb-true place 65536 e) (command_whole size place ws)) (λ _. tt)
+
+  line_whole : (size line place : ℕ) (ws : List (List ℕ)) (behind : ℕ → Result (List Command) ListFault) → place ≤ 65537
+      → ((next : ℕ) → next ≤ 65537 → AreWholeRead size next (behind next)) → AreWholeRead size place (followed_by (on_line size line place ws) place behind)
+  line_whole size line place [] behind few rest = rest place few
+  line_whole size line place (w ∷ ws) behind few rest = followed_whole size line place (command_at size place (w ∷ ws)) behind (command_at_whole size place (w ∷ ws)) rest
+
+  pub all_whole : (size line place : ℕ) (texts : List (List ℕ)) → place ≤ 65537 → AreWholeRead size place (commands_from size line place texts)
+  all_whole size line place [] few = record { whole = tt; few = omega arith }
+  all_whole size line place (text ∷ texts) few =
+      line_whole size line place (words text) (λ next. commands_from size (line + 1) next texts) few (λ next below. all_whole size (line + 1) next texts below)
+
+  read_whole : (size : ℕ) (text : List ℕ) (cs : List Command) → commands size text ≡ Ok cs → AreWhole size 1 cs
+  read_whole size text cs e = IfOk-at_ok (AreWhole size 1) e (all_whole size 1 1 (lines text) (omega arith))
+
+  pub whole_where_read : (size : ℕ) (text : List ℕ) (r : Result (Vec Command Global) ListFault) → IfOk r (λ v. commands size text ≡ Ok v.items) → IfOk r (λ v. All (IsWhole size) v.items)
+  whole_where_read size text (Ok v) h = All-from_recursion (IsWhole size) v.items (read_whole size text v.items h).whole
+  whole_where_read size text (Err e) h = tt
+
+  pub few_where_read : (size : ℕ) (text : List ℕ) (r : Result (Vec Command Global) ListFault) → IfOk r (λ v. commands size text ≡ Ok v.items) → IfOk r (λ v. length v.items ≤ 65536)
+  few_where_read size text (Ok v) h = let few : 1 + length v.items ≤ 65537 = (read_whole size text v.items h).few in omega arith
+  few_where_read size text (Err e) h = tt

@@ -13,6 +13,7 @@ use crate::expected::Expected;
 use crate::fault::{LineFault, ListFault};
 use crate::file_bytes::host_file;
 use crate::line_cut::{cut, first_word, without_comment};
+use nvm_record::laws::opcodes_are_proper;
 use nvm_record::{BlockSize, Command, MOST_COMMANDS};
 use std::alloc::Global;
 
@@ -42,6 +43,7 @@ pub fn read_list(alloc: Global, text: &[u8], size: BlockSize) -> Result<Vec<Comm
     ensures few { IfOk result (λ v. length v.items ≤ most_commands) }
     ensures fault { IfErr result (λ e. (spec.commands size text.now ≡ Err e) ⊎ (e ≡ NoMemory)) }
 {
+    opcodes_are_proper();
     commands_of(alloc, text, size)
 }
 

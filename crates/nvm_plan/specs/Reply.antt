@@ -1,8 +1,9 @@
 -- What a unit tells of the part of an operation that it did.
-use Rattle.std.specs.Prelude.{◌≡◌, ◌≢◌, ◌↔◌, ℕ, List, Bool, true, false, not, Option, None, IsTrue, IsSome}
+use Rattle.std.specs.Prelude.{◌≡◌, ◌⊎◌, ◌↔◌, ℕ, List, Bool, true, false, not, Option, None, IsTrue, IsSome}
+use Rattle.nvm_record.specs.declared.status.Status.{Status}
 use Rattle.nvm_record.specs.declared.status.Statuses.{Statuses}
 use Rattle.nvm_record.specs.declared.status.Statuses.TheVariants.{One, Two}
-use Rattle.nvm_record.specs.Status.{IsSuccess, successful_completion, internal_error, aborted_due_to_failed_fused_command}
+use Rattle.nvm_record.specs.Status.{IsSuccess, successful_completion, internal_error, aborted_due_to_failed_fused_command, unrecovered_read_error, compare_failure}
 use Rattle.nvm_record.specs.Medium.{Medium}
 use Rattle.nvm_record.specs.Step.{Deed, Operation, writes, zeroes, uncorrectable, reads, compares, pairs, statuses_of, data_of}
 use Rattle.nvm_geometry.specs.Namespace.{Namespace}
@@ -61,20 +62,38 @@ success_of deed = for_deed deed (One successful_completion) (Two successful_comp
 abbrev pub stop_of : Deed → Statuses
 stop_of deed = for_deed deed (One internal_error) (Two successful_completion internal_error)
 
+-- how a comparison ends that doesn't hold: a block is marked, or a byte differs
+abbrev pub IsFailedComparison : Status → Type 0
+IsFailedComparison s = (s ≡ unrecovered_read_error) ⊎ (s ≡ compare_failure)
+
 -- A comparison failed, and the Write with it.
 abbrev pub IsFailedPair : Statuses → Type 0
 IsFailedPair (One s) = ⊥
-IsFailedPair (Two s t) = (s ≢ successful_completion) × (t ≡ aborted_due_to_failed_fused_command)
+IsFailedPair (Two s t) = IsFailedComparison s × (t ≡ aborted_due_to_failed_fused_command)
 
 abbrev pub IsOneStatus : Statuses → Type 0
 IsOneStatus (One s) = Unit {0}
 IsOneStatus (Two s t) = ⊥
 
--- What may be told of a part that ended so. A failed comparison and a look have statuses of their own.
+-- the statuses with which a look can end: those that some medium gives
+abbrev pub CanEndLook : Deed → Status → Type 0
+CanEndLook (writes payload) s = ⊥
+CanEndLook zeroes s = ⊥
+CanEndLook uncorrectable s = ⊥
+CanEndLook reads s = (s ≡ successful_completion) ⊎ (s ≡ unrecovered_read_error)
+CanEndLook (compares payload) s = (s ≡ successful_completion) ⊎ IsFailedComparison s
+CanEndLook (pairs payload new) s = ⊥
+
+abbrev pub IsOfLook : Deed → Statuses → Type 0
+IsOfLook deed (One s) = CanEndLook deed s
+IsOfLook deed (Two s t) = ⊥
+
+-- What may be told of a part that ended so. Which of the statuses of a failed comparison and of a look it is,
+-- rests on the medium.
 abbrev pub MayTell : Deed → PartResult → Statuses → Type 0
 MayTell deed Done told = told ≡ success_of deed
 MayTell deed Failed told = IsFailedPair told
-MayTell deed Looked told = IsOneStatus told
+MayTell deed Looked told = IsOfLook deed told
 MayTell deed NoMemory told = told ≡ stop_of deed
 MayTell deed Full told = told ≡ stop_of deed
 

@@ -33,12 +33,13 @@ pub fn pair_limit_is_the_last_check()
     laws::sharing_is_one_number();
 }
 
-/// A job to which no check applies is ready, and there is an operation for which it stands. The
+/// The jobs to which no check applies are those that are ready, and each stands for an operation. The
 /// operation's range has a block and lies in the namespace, so it has a part; that of a pair has just
 /// one.
 #[tactic(auto, unfolding(crate::specs::Checks::refusal_of))]
 pub fn ready_jobs()
     ensures ready { (ns : Namespace) (job : Job) → refusal_of ns job ≡ None → IsReady ns job }
+    ensures unrefused { (ns : Namespace) (job : Job) → IsReady ns job → refusal_of ns job ≡ None }
     ensures operation { (ns : Namespace) (job : Job) → refusal_of ns job ≡ None → IsSome (job_operation_of job) }
     ensures range { (ns : Namespace) (job : Job) (op : Operation) → refusal_of ns job ≡ None
         → job_operation_of job ≡ Some op → (0 < op.blocks) × (op.first + op.blocks ≤ ns.nsze) }

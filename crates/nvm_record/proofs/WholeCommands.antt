@@ -20,7 +20,7 @@ proper_by_tests false false false true e n h = tt
 proper_by_tests false false false false true n h = tt
 proper_by_tests false false false false false n h = sym h
 
-proper : (n : ℕ) → IsProper (op_of n)
+pub proper : (n : ℕ) → IsProper (op_of n)
 proper n = proper_by_tests (n == 1) (n == 2) (n == 4) (n == 5) (n == 8) n refl
 
 whole : (size : ℕ) (front : List ℕ) (c : Command) → IsSpelling size front c → IsWhole size c

@@ -12,6 +12,7 @@ mod completion;
 mod entry;
 mod host_fault;
 mod host_file;
+pub mod laws;
 mod op;
 mod payload;
 mod status;

@@ -1,6 +1,6 @@
 ghost use Rattle.std.specs.Prelude.{◌≡◌, ◌<◌};
 ghost use Rattle.nvm_record.specs.Op as op;
-ghost use Rattle.nvm_record.specs.Op.{op_of, opcode_of, fuse_of, bits_of};
+ghost use Rattle.nvm_record.specs.Op.{op_of, opcode_of, IsProper, fuse_of, bits_of};
 
 /// What a submission entry asks for, by its opcode (NVM Command Set Specification, "NVM Command Set
 /// opcodes").
@@ -45,9 +45,10 @@ const COMPARE: u8 = 0x05;
 const WRITE_ZEROES: u8 = 0x08;
 
 impl Op {
-    /// What an opcode asks for.
+    /// What an opcode asks for. An `Other` never holds an opcode that has a name of its own.
     pub fn of_opcode(opcode: u8) -> Op
-        ensures { result ≡ op_of opcode }
+        ensures value { result ≡ op_of opcode }
+        ensures proper { IsProper result }
     {
         match opcode {
             WRITE => Op::Write,

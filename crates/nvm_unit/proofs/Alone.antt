@@ -1,13 +1,14 @@
 -- A seat with one pass that takes the unit and puts it back.
-use Rattle.std.proofs.Common.{◌≡◌, ◌⊎◌, ℕ, ◌+◌, ◌*◌, ◌<◌, ◌≤◌, List, [], ◌∷◌, ◌++◌, length, subst, refl, sym, ap, ◌∙◌, arith, inl, inr, Bool, true, false, None, Result, Ok, Err, IsSome}
+use Rattle.std.proofs.Common.{◌≡◌, ◌⊎◌, ℕ, ◌+◌, ◌*◌, ◌<◌, ◌≤◌, List, [], ◌∷◌, ◌++◌, length, subst, refl, sym, ap, ◌∙◌, arith, inl, inr, Bool, true, false, None, Result}
+use Rattle.atomic_table.proofs.Lists.{at_snoc}
 use Rattle.std.proofs.lemmas.List.{length-append}
-use Rattle.nvm_record.specs.Medium.{Medium}
-use Rattle.nvm_record.specs.Status.{IsSuccess}
-use Rattle.nvm_record.specs.Step.{Operation, statuses_of, data_of}
-use Rattle.nvm_store.specs.Answer.{IsAnswer}
+use Rattle.nvm_record.specs.Step.{Operation}
+use Rattle.nvm_store.specs.ActRef.{lent_operation_of}
+use Rattle.nvm_store.specs.declared.act_ref.ActRef.{ActRef}
+use Rattle.nvm_store.specs.declared.act_ref.ActRef.TheVariants.{Write, Zeroes, Uncorrectable, Pair}
 use Rattle.nvm_store.specs.Contents.{IsCovered}
+use Rattle.nvm_unit.specs.Events.{IsAct}
 use Rattle.nvm_store.specs.History.{IsLawfulHistory, replay_of}
-use Rattle.nvm_store.specs.Pair.{IsFailedPair}
 use Rattle.nvm_store.specs.Limit.{IsLimit}
 use Rattle.nvm_store.specs.Line.{Line}
 use Rattle.nvm_unit.specs.declared.bounds.Bounds.{Bounds}
@@ -17,12 +18,11 @@ use Rattle.nvm_unit.specs.declared.replies.Changed.TheVariants.{Done, Failed, No
 use Rattle.nvm_unit.specs.Alone.{only}
 use Rattle.nvm_unit.specs.Book.{Recorded, recorded}
 use Rattle.nvm_unit.specs.Holding.{HasHeld, CanGiveBack, CanGiveMore, GivesBack, GivesMore}
-use Rattle.nvm_unit.specs.Passes.{Finds, IsHistoryOf, IsProper}
+use Rattle.nvm_unit.specs.Passes.{BearsNumbers, Finds, IsHistoryOf, IsProper}
 use Rattle.nvm_unit.specs.Plays.{Sits, resting, holding, Fits}
-use Rattle.nvm_unit.specs.Replies.{Attempts, AnswersFrom, Makes, Observes, line_of, medium_at}
+use Rattle.nvm_unit.specs.Replies.{AnswersChange, AnswersLook, Attempts, Makes, Observes, history_after, pass_after, line_of, medium_at}
 use Rattle.nvm_unit.specs.declared.replies.Observed.{Observed}
 use Rattle.nvm_unit.specs.declared.replies.ObserveFault.{ObserveFault}
-use Rattle.nvm_unit.specs.declared.replies.ObserveFault.TheVariants as observe_fault
 use Rattle.nvm_unit.specs.Views.{looked, shown, added}
 use Rattle.nvm_unit.proofs.EventsKept.{FollowsLawfully}
 use Rattle.nvm_unit.proofs.Groups.{at_single}
@@ -33,16 +33,17 @@ pub record HoldsAlone (b : Bounds) (h : List Line) (book : Recorded) (p : PassVi
   pub at : m ≡ holding (looked false (length h) p ∷ []) h None
   pub pages : book ≡ recorded b h
   pub bounds : p.bounds ≡ b
+  pub number : p.number < p.bounds.passes
   pub finds : Finds (length h) p h
 
-pub finds_of : (b : Bounds) (h : List Line) (p : PassView) → Fits b h p → IsLawfulHistory b.place.first b.place.blocks b.place.size h → length h ≤ b.limit → Finds (length h) p h
-finds_of b h p fits lawful within =
+pub finds_of : (b : Bounds) (h : List Line) (p : PassView) → Fits b h p → IsHistoryOf b h → Finds (length h) p h
+finds_of b h p fits lawful =
     record {
       count = refl;
       seen = fits.seen;
       floor = fits.floor;
       mine = fits.mine;
-      lawful = subst (λ (x : Bounds). IsHistoryOf x h) (sym fits.bounds) (record { lawful = lawful; within = within });
+      lawful = subst (λ (x : Bounds). IsHistoryOf x h) (sym fits.bounds) lawful;
     }
 
 holds_alone : (b : Bounds) (h : List Line) (book : Recorded) (p : PassView) (m' : Sits) → HasHeld b h book (resting (p ∷ [])) m' → HoldsAlone b h book p m'
@@ -52,7 +53,8 @@ holds_alone b h book p m' held =
       at = held.after;
       pages = held.pages;
       bounds = fits.bounds;
-      finds = finds_of b h p fits held.lawful held.within;
+      number = subst (λ (x : Bounds). p.number < x.passes) (sym fits.bounds) fits.number;
+      finds = finds_of b h p fits held.lawful;
     }
 
 -- What is known once the unit is taken, of the pass as contracts see it.
@@ -100,12 +102,6 @@ closed m q number entries is same count proper =
 pub only_is : (m : Sits) (q : PassView) → m ≡ resting (q ∷ []) → only m.0.passes ≡ q
 only_is m q is = ap (λ (x : Sits). only x.0.passes) is
 
--- The medium of the book in hand.
-pub medium_same : (b : Bounds) (h : List Line) (book : Recorded) (p : PassView) (m : Sits) → HoldsAlone b h book p m
-    → replay_of book.place.size book.history ≡ medium_at p.bounds h
-medium_same b h book p m a =
-    ap (λ (x : Recorded). replay_of x.place.size x.history) a.pages ∙ ap (λ (x : Bounds). replay_of x.place.size h) (sym a.bounds)
-
 -- The book covers what the unit covers.
 pub covers_same : (b b' : Bounds) (h : List Line) (book : Recorded) (p : PassView) (m : Sits) (op : Operation) → HoldsAlone b h book p m → p.bounds ≡ b'
     → IsCovered b'.place.first b'.place.blocks b'.place.size op → IsCovered book.place.first book.place.blocks book.place.size op
@@ -113,60 +109,70 @@ covers_same b b' h book p m op a same covered =
     subst (λ (x : Recorded). IsCovered x.place.first x.place.blocks x.place.size op) (sym a.pages)
     (subst (λ (x : Bounds). IsCovered x.place.first x.place.blocks x.place.size op) (sym same ∙ a.bounds) covered)
 
-finds_at : (n : ℕ) (p : PassView) (h : List Line) → n ≡ length h → Finds (length h) p h → Finds n p h
-finds_at n p h is finds = subst (λ (k : ℕ). Finds k p h) (sym is) finds
-
--- The number of entries of the book in hand.
-count_is : (b : Bounds) (h : List Line) (book : Recorded) (p : PassView) (m : Sits) (n : ℕ) → HoldsAlone b h book p m → n ≡ length book.history → n ≡ length h
-count_is b h book p m n a is = is ∙ ap (λ (x : Recorded). length x.history) a.pages
-
-shown_at : (n : ℕ) (h : List Line) (p : PassView) → n ≡ length h → shown true (length h) h p ≡ shown true n h p
-shown_at n h p is = ap (λ (k : ℕ). shown true k h p) (sym is)
+-- One entry more, which bears the number of a pass.
+bears_more : (count : ℕ) (h : List Line) (line : Line) → BearsNumbers count h → line.pass < count → BearsNumbers count (h ++ line ∷ [])
+bears_more count h line bears lt k x at =
+    elim (at_snoc h line x k at) [
+      | inl before ↦ bears k x before
+      | inr last ↦ subst (λ (y : Line). y.pass < count) last lt
+    ]
 
 pub observes : (r : Result Observed ObserveFault) (op : Operation) (b : Bounds) (h : List Line) (book : Recorded) (p q : PassView) (m : Sits) → HoldsAlone b h book p m
-    → q ≡ shown true (length h) h p → AnswersFrom r op book → Observes r p op q
-observes (Ok o) op b h book p q m a is answers =
-    let count = count_is b h book p m o.point a answers.0 in (
-      h,
-      finds_at o.point p h count a.finds,
-      subst (λ (x : Medium). IsAnswer op x o.answer) (medium_same b h book p m a) answers.1,
-      is ∙ shown_at o.point h p count,
-    )
-observes (Err (observe_fault.NoMemory point)) op b h book p q m a is answers =
-    let count = count_is b h book p m point a answers.0 in (
-      h,
-      finds_at point p h count a.finds,
-      subst (λ (x : Medium). IsSome (data_of op x)) (medium_same b h book p m a) answers.1,
-      is ∙ shown_at point h p count,
-    )
+    → q ≡ shown true (length h) h p → AnswersLook r (length book.history) op (replay_of book.place.size book.history) → Observes r p op q
+observes r op b h book p q m a is answers = (
+  h,
+  a.finds,
+  subst (λ (x : Bounds). AnswersLook r (length h) op (medium_at x h)) (sym a.bounds)
+      (subst (λ (x : Recorded). AnswersLook r (length x.history) op (replay_of x.place.size x.history)) a.pages answers),
+  is,
+)
+
+-- What the attempt answered, told of the history in hand.
+answers_here : (changed : Changed) (b : Bounds) (h : List Line) (book book' : Recorded) (p : PassView) (line : Line) (m : Sits) → HoldsAlone b h book p m
+    → Attempts changed p.bounds.limit line book book' → AnswersChange changed (length h) p.bounds.limit line.operation (medium_at p.bounds h)
+answers_here changed b h book book' p line m a done =
+    subst (λ (x : Bounds). AnswersChange changed (length h) p.bounds.limit line.operation (medium_at x h)) (sym a.bounds)
+    (subst (λ (x : Recorded). AnswersChange changed (length x.history) p.bounds.limit line.operation (replay_of x.place.size x.history)) a.pages done.0)
+
+-- The book after it.
+pages_after : (changed : Changed) (b : Bounds) (h : List Line) (book book' : Recorded) (p : PassView) (line : Line) (m : Sits) → HoldsAlone b h book p m
+    → Attempts changed p.bounds.limit line book book' → book' ≡ recorded p.bounds (history_after changed h line)
+pages_after changed b h book book' p line m a done =
+    done.1
+    ∙ (ap (λ (x : Recorded). let y : Recorded = record { place = x.place; history = history_after changed x.history line } in y) a.pages
+    ∙ ap (λ (x : Bounds). recorded x (history_after changed h line)) (sym a.bounds))
+
+-- What is lent to a change is an act.
+pub act_is : (act : ActRef) → IsAct (lent_operation_of act).deed
+act_is (Write first blocks payload) = tt
+act_is (Zeroes first blocks) = tt
+act_is (Uncorrectable first blocks) = tt
+act_is (Pair first blocks compare write) = tt
 
 -- The unit can be put back whatever the attempt came to.
 pub attempt_ready : (changed : Changed) (b : Bounds) (h : List Line) (book book' : Recorded) (p : PassView) (job : ℕ) (op : Operation) (m : Sits) → HoldsAlone b h book p m
-    → IsCovered p.bounds.place.first p.bounds.place.blocks p.bounds.place.size op → Attempts changed p.bounds.limit (line_of p job op) book book'
+    → IsAct op.deed → IsCovered p.bounds.place.first p.bounds.place.blocks p.bounds.place.size op → Attempts changed p.bounds.limit (line_of p job op) book book'
     → ((ps : List PassView) × (history : List Line) × (b : Bounds) × CanGiveBack (λ _. true) book' m ps history b)
     ⊎ ((p : PassView) × (history : List Line) × (line : Line) × CanGiveMore book' m p history line)
-attempt_ready (Done place) b h book book' p job op m a covered done =
+attempt_ready (Done place) b h book book' p job op m a act covered done =
     let line = line_of p job op in
-    let pages : book' ≡ recorded p.bounds (h ++ line ∷ []) =
-    done.3 ∙ (ap (λ (x : Recorded). let y : Recorded = record { place = x.place; history = x.history ++ line ∷ [] } in y) a.pages
-    ∙ ap (λ (x : Bounds). recorded x (h ++ line ∷ [])) (sym a.bounds)) in
-    let count : place ≡ length h = count_is b h book p m place a done.0 in
-    let room : place < p.bounds.limit = done.1 in
+    let answers = answers_here (Done place) b h book book' p line m a done in
     inr (
       looked false (length h) p,
       h,
       line,
       record {
         at = a.at;
-        pages = pages;
+        pages = pages_after (Done place) b h book book' p line m a done;
+        act = act;
         number = refl;
-        follows = record { covered = covered; succeeds = subst (λ (x : Medium). IsSuccess (statuses_of op x)) (medium_same b h book p m a) done.2 };
-        room = (omega arith);
+        follows = record { covered = covered; succeeds = answers.2 };
+        room = answers.1;
       },
     )
-attempt_ready (Failed point statuses) b h book book' p job op m a covered done = inl (looked false (length h) p ∷ [], h, b, can_back (λ _. true) b h book book' p m a done.3)
-attempt_ready (NoMemory point) b h book book' p job op m a covered done = inl (looked false (length h) p ∷ [], h, b, can_back (λ _. true) b h book book' p m a done.3)
-attempt_ready (Full point) b h book book' p job op m a covered done = inl (looked false (length h) p ∷ [], h, b, can_back (λ _. true) b h book book' p m a done.3)
+attempt_ready (Failed point statuses) b h book book' p job op m a act covered done = inl (looked false (length h) p ∷ [], h, b, can_back (λ _. true) b h book book' p m a done.1)
+attempt_ready (NoMemory point) b h book book' p job op m a act covered done = inl (looked false (length h) p ∷ [], h, b, can_back (λ _. true) b h book book' p m a done.1)
+attempt_ready (Full point) b h book book' p job op m a act covered done = inl (looked false (length h) p ∷ [], h, b, can_back (λ _. true) b h book book' p m a done.1)
 
 -- The pass after the call, and what holds of it.
 pub record Ends (changed : Changed) (p : PassView) (job : ℕ) (op : Operation) (book' : Recorded) (m' : Sits) : Type 0 where
@@ -178,76 +184,51 @@ pub record Ends (changed : Changed) (p : PassView) (job : ℕ) (op : Operation) 
   pub number : view.number ≡ p.number
   pub bounds : view.bounds ≡ p.bounds
 
+-- An answer that leaves the history.
+ends_as_before : (changed : Changed) (b : Bounds) (h : List Line) (book book' : Recorded) (p : PassView) (job : ℕ) (op : Operation) (m m' : Sits) → HoldsAlone b h book p m → book' ≡ book
+    → AnswersChange changed (length h) p.bounds.limit op (medium_at p.bounds h) → shown true (length h) h p ≡ pass_after changed h (line_of p job op) p → IsProper p → GivesBack (λ _. true) book' m m'
+    → Ends changed p job op book' m'
+ends_as_before changed b h book book' p job op m m' a same answers is proper back =
+    record {
+      view = shown true (length h) h p;
+      at = after_back (λ _. true) b h book book' p m m' a same back;
+      makes = (h, a.finds, answers, is);
+      proper = proper_shown true (length h) p h proper a.finds;
+      count = ap (λ (x : Recorded). length x.history) (same ∙ a.pages);
+      number = refl;
+      bounds = refl;
+    }
+
 pub attempt_ends : FollowsLawfully → (changed : Changed) (b : Bounds) (h : List Line) (book book' : Recorded) (p : PassView) (job : ℕ) (op : Operation) (m m' : Sits) → HoldsAlone b h book p m
     → IsCovered p.bounds.place.first p.bounds.place.blocks p.bounds.place.size op → Attempts changed p.bounds.limit (line_of p job op) book book' → IsProper p
     → GivesBack (λ _. true) book' m m' → GivesMore book' m m' → Ends changed p job op book' m'
 attempt_ends law (Done place) b h book book' p job op m m' a covered done proper back more =
     let line = line_of p job op in
-    let pages : book' ≡ recorded p.bounds (h ++ line ∷ []) =
-    done.3 ∙ (ap (λ (x : Recorded). let y : Recorded = record { place = x.place; history = x.history ++ line ∷ [] } in y) a.pages
-    ∙ ap (λ (x : Bounds). recorded x (h ++ line ∷ [])) (sym a.bounds)) in
-    let count : place ≡ length h = count_is b h book p m place a done.0 in
-    let room : place < p.bounds.limit = done.1 in
-    let finds : Finds place p h = finds_at place p h count a.finds in
-    let succeeds : IsSuccess (statuses_of op (medium_at p.bounds h)) = subst (λ (x : Medium). IsSuccess (statuses_of op x)) (medium_same b h book p m a) done.2 in
+    let pages = pages_after (Done place) b h book book' p line m a done in
+    let answers = answers_here (Done place) b h book book' p line m a done in
+    let room : length h < p.bounds.limit = answers.1 in
     let u = p.bounds.place in
-    let lawful : IsLawfulHistory u.first u.blocks u.size (h ++ line ∷ []) = law u.first u.blocks u.size h line a.finds.lawful.lawful (record { covered = covered; succeeds = succeeds }) in
+    let lawful : IsLawfulHistory u.first u.blocks u.size (h ++ line ∷ []) = law u.first u.blocks u.size h line a.finds.lawful.lawful (record { covered = covered; succeeds = answers.2 }) in
     let longer : length (h ++ line ∷ []) ≡ length h + 1 = length-append h (line ∷ []) in
     record {
-      view = added place h line p;
-      at = more (looked false (length h) p) h line a.at pages ∙ ap (λ (k : ℕ). resting (added k h line p ∷ [])) (sym count);
-      makes = (h, finds, room, succeeds, refl);
+      view = added (length h) h line p;
+      at = more (looked false (length h) p) h line a.at pages;
+      makes = (h, a.finds, answers, refl);
       proper = record {
-        seen = record { lawful = lawful; within = (omega arith) };
-        own = entries_more p.number h line refl ∙ (ap (λ (x : List (ℕ × Line)). x ++ (length h, line) ∷ []) a.finds.mine ∙ ap (λ (k : ℕ). p.mine ++ (k, line) ∷ []) (sym count));
-        marks = rise_more 0 p.marks p.floor place proper.marks finds.floor;
+        seen = record { lawful = lawful; within = (omega arith); bears = bears_more p.bounds.passes h line a.finds.lawful.bears a.number };
+        own = entries_more p.number h line refl ∙ ap (λ (x : List (ℕ × Line)). x ++ (length h, line) ∷ []) a.finds.mine;
+        marks = rise_more 0 p.marks p.floor (length h) proper.marks a.finds.floor;
       };
       count = ap (λ (x : Recorded). length x.history) pages;
       number = refl;
       bounds = refl;
     }
 attempt_ends law (Failed point statuses) b h book book' p job op m m' a covered done proper back more =
-    let count : point ≡ length h = count_is b h book p m point a done.0 in
-    let finds : Finds point p h = finds_at point p h count a.finds in
-    record {
-      view = shown true point h p;
-      at = after_back (λ _. true) b h book book' p m m' a done.3 back ∙ ap (λ (x : PassView). resting (x ∷ [])) (shown_at point h p count);
-      makes = (
-        h,
-        finds,
-        subst (λ (x : Medium). IsFailedPair op x) (medium_same b h book p m a) done.1,
-        done.2 ∙ ap (λ (x : Medium). statuses_of op x) (medium_same b h book p m a),
-        refl,
-      );
-      proper = proper_shown true point p h proper finds;
-      count = ap (λ (x : Recorded). length x.history) (done.3 ∙ a.pages);
-      number = refl;
-      bounds = refl;
-    }
+    ends_as_before (Failed point statuses) b h book book' p job op m m' a done.1 (answers_here (Failed point statuses) b h book book' p (line_of p job op) m a done) refl proper back
 attempt_ends law (NoMemory point) b h book book' p job op m m' a covered done proper back more =
-    let count : point ≡ length h = count_is b h book p m point a done.0 in
-    let finds : Finds point p h = finds_at point p h count a.finds in
-    record {
-      view = shown true point h p;
-      at = after_back (λ _. true) b h book book' p m m' a done.3 back ∙ ap (λ (x : PassView). resting (x ∷ [])) (shown_at point h p count);
-      makes = (h, finds, done.1, subst (λ (x : Medium). ¬ IsFailedPair op x) (medium_same b h book p m a) done.2, refl);
-      proper = proper_shown true point p h proper finds;
-      count = ap (λ (x : Recorded). length x.history) (done.3 ∙ a.pages);
-      number = refl;
-      bounds = refl;
-    }
+    ends_as_before (NoMemory point) b h book book' p job op m m' a done.1 (answers_here (NoMemory point) b h book book' p (line_of p job op) m a done) refl proper back
 attempt_ends law (Full point) b h book book' p job op m m' a covered done proper back more =
-    let count : point ≡ length h = count_is b h book p m point a done.0 in
-    let finds : Finds point p h = finds_at point p h count a.finds in
-    record {
-      view = shown true point h p;
-      at = after_back (λ _. true) b h book book' p m m' a done.3 back ∙ ap (λ (x : PassView). resting (x ∷ [])) (shown_at point h p count);
-      makes = (h, finds, done.1, subst (λ (x : Medium). ¬ IsFailedPair op x) (medium_same b h book p m a) done.2, refl);
-      proper = proper_shown true point p h proper finds;
-      count = ap (λ (x : Recorded). length x.history) (done.3 ∙ a.pages);
-      number = refl;
-      bounds = refl;
-    }
+    ends_as_before (Full point) b h book book' p job op m m' a done.1 (answers_here (Full point) b h book book' p (line_of p job op) m a done) refl proper back
 
 -- The attempt, told of the pass as contracts see it.
 pub attempt_as : (changed : Changed) (limit number job : ℕ) (op : Operation) (book book' : Recorded) (p : PassView) → limit ≡ p.bounds.limit → number ≡ p.number
@@ -267,20 +248,19 @@ within_limit b b' h book p m a same =
 pub attempt_within : (changed : Changed) (b : Bounds) (h : List Line) (book book' : Recorded) (p : PassView) (line : Line) (m : Sits) → HoldsAlone b h book p m
     → Attempts changed p.bounds.limit line book book' → length book'.history ≤ p.bounds.limit
 attempt_within (Done place) b h book book' p line m a done =
-    let pages : length book'.history ≡ length (book.history ++ line ∷ []) = ap (λ (x : Recorded). length x.history) done.3 in
+    let pages : length book'.history ≡ length (book.history ++ line ∷ []) = ap (λ (x : Recorded). length x.history) done.1 in
     let longer : length (book.history ++ line ∷ []) ≡ length book.history + 1 = length-append book.history (line ∷ []) in
-    let place_is : place ≡ length book.history = done.0 in
-    let room : place < p.bounds.limit = done.1 in
+    let room : length book.history < p.bounds.limit = done.0.1 in
     omega arith
 attempt_within (Failed point statuses) b h book book' p line m a done =
-    let same : length book'.history ≡ length book.history = ap (λ (x : Recorded). length x.history) done.3 in
+    let same : length book'.history ≡ length book.history = ap (λ (x : Recorded). length x.history) done.1 in
     let within = within_limit b p.bounds h book p m a refl in
     omega arith
 attempt_within (NoMemory point) b h book book' p line m a done =
-    let same : length book'.history ≡ length book.history = ap (λ (x : Recorded). length x.history) done.3 in
+    let same : length book'.history ≡ length book.history = ap (λ (x : Recorded). length x.history) done.1 in
     let within = within_limit b p.bounds h book p m a refl in
     omega arith
 attempt_within (Full point) b h book book' p line m a done =
-    let same : length book'.history ≡ length book.history = ap (λ (x : Recorded). length x.history) done.3 in
+    let same : length book'.history ≡ length book.history = ap (λ (x : Recorded). length x.history) done.1 in
     let within = within_limit b p.bounds h book p m a refl in
     omega arith

@@ -9,14 +9,13 @@ use Rattle.nvm_unit.specs.declared.bounds.Bounds.{Bounds}
 use Rattle.nvm_unit.specs.declared.views.PassView.{PassView}
 use Rattle.nvm_unit.specs.declared.views.Group.{Group}
 use Rattle.nvm_unit.specs.Book.{Recorded, recorded}
-use Rattle.nvm_unit.specs.Ends.{AreAllViews, IsWholeHistory}
+use Rattle.nvm_unit.specs.Ends.{AreAllViews, HasCome, IsWholeHistory}
 use Rattle.nvm_unit.specs.Events.{idle}
 use Rattle.nvm_unit.specs.Knowledge.{IsKept}
 use Rattle.nvm_unit.specs.Machine.{UnitState, IsAt, StandsAt, RestsAs}
 use Rattle.nvm_unit.specs.Rule.{slots_of, IsRuled}
-use Rattle.nvm_unit.proofs.Allowed.{fitting}
+use Rattle.nvm_unit.proofs.Allowed.{history_of, fitting}
 use Rattle.nvm_unit.proofs.Alone.{finds_of}
-use Rattle.nvm_unit.proofs.Groups.{numbered_below}
 use Rattle.nvm_unit.proofs.Lists.{at_one}
 
 -- Something stands at each place below the length.
@@ -55,15 +54,14 @@ at_home b s kept id ps at all =
 whole : (b : Bounds) (s : UnitState) → IsKept b s → (id : ℕ) (ps : List PassView) → IsAt s.groups id (idle ps) → IsWholeHistory b ps s.history
 whole b s kept id ps at =
     record {
-      lawful = record { lawful = kept.sound.hold.lawful; within = kept.sound.hold.within };
-      bears = λ k line line_at. numbered_below b.passes kept.place s.groups kept.placed line.pass (kept.sound.marks.bears k line line_at);
-      each = λ i p inside. finds_of b s.history p (fitting b s kept id (idle ps) at i p inside) kept.sound.hold.lawful kept.sound.hold.within;
+      lawful = history_of b s kept;
+      each = λ i p inside. finds_of b s.history p (fitting b s kept id (idle ps) at i p inside) (history_of b s kept);
       marks = λ i p inside. kept.sound.marks.marks id i p (record { group = idle ps; at = at; inside = inside });
     }
 
 -- What lies in the slot at the end.
 pub closing : (b : Bounds) (id : ℕ) (ps : List PassView) (words : List ℕ) (slots : List (Option Recorded)) → AreAllViews b.passes ps
-    → Final (Seen (IsRuled b) id (idle ps)) words slots → (h : List Line) × IsAt slots 0 (Some (recorded b h)) × IsWholeHistory b ps h
+    → Final (Seen (IsRuled b) id (idle ps)) words slots → (h : List Line) × IsAt slots 0 (Some (recorded b h)) × IsWholeHistory b ps h × HasCome b ps h
 closing b id ps words slots all final =
     let t = final.0 in
     let ruled = final.1.0 in
@@ -76,4 +74,5 @@ closing b id ps words slots all final =
       s.history,
       final.4 0 (Some (recorded b s.history)) (ap (λ (hs : List (there.Option (Option Recorded))). get_elem? hs 0) homes),
       whole b s kept id ps at,
+      (s, id, ruled.3, refl, at),
     )

@@ -1,5 +1,6 @@
 -- Seats that are dealt out, and gathered.
 use Rattle.std.proofs.Common.{get_or, ◌≡◌, ℕ, suc, ◌+◌, ◌-◌, ◌<◌, List, [], ◌∷◌, ◌++◌, length, subst, refl, sym, ap, ◌∙◌, arith, append_assoc}
+use mathlib.Core.Option.{some-ne-none}
 use Rattle.atomic_table.specs.Seated.{TableId}
 use Rattle.atomic_table.proofs.Lists.{at_index, at_longer, at_last}
 use Rattle.nvm_unit.specs.declared.bounds.Bounds.{Bounds}
@@ -21,7 +22,7 @@ next_left b number count lt =
 -- A new pass has seen and done nothing.
 pub newcomer_proper : (b : Bounds) (number : ℕ) → IsProper (newcomer b number)
 newcomer_proper b number = record {
-  seen = record { lawful = λ d i lt. absurd (omega arith); within = (omega arith) };
+  seen = record { lawful = λ d i lt. absurd (omega arith); within = (omega arith); bears = λ k line at. absurd (some-ne-none line (sym at)) };
   own = refl;
   marks = (omega arith);
 }

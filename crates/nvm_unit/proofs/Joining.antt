@@ -1,27 +1,16 @@
 -- Seats that rest can be joined and split.
-use Rattle.std.proofs.Common.{◌≡◌, ℕ, ◌+◌, ◌*◌, ◌/◌, ◌%◌, ◌<◌, ◌≤◌, List, [], ◌∷◌, ◌++◌, length, map, take, drop, set, slice_index, get_or, eqb, subst, refl, sym, ap, ◌∙◌, arith, Bool, true, false, Option, Some, None}
-use mathlib.Core.Option.{some, none}
-use mathlib.Core.Option as there
+use Rattle.std.proofs.Common.{◌≡◌, ◌≢◌, ℕ, List, [], ◌∷◌, ◌++◌, take, drop, set, subst, refl, sym, ◌∙◌, Option}
+use mathlib.Core.Option.{some}
 use lib.ListN.{get_elem?}
-use prog.Atomic.{either}
-use Rattle.atomic_table.specs.Table.{State, Step, Act, keeps, takes, gives, stepped, Valid, carried_after, Allows, Joins, Splits}
-use Rattle.atomic_table.proofs.Lists.{exchanged, set_else}
-use Rattle.std.proofs.lemmas.List.{get_or_push}
-use Rattle.nvm_store.specs.Line.{Line}
-use Rattle.nvm_store.specs.History.{CanFollow}
+use Rattle.atomic_table.specs.Table.{State, Joins, Splits}
+use Rattle.atomic_table.proofs.Lists.{set_else}
 use Rattle.nvm_unit.specs.declared.bounds.Bounds.{Bounds}
 use Rattle.nvm_unit.specs.declared.views.PassView.{PassView}
 use Rattle.nvm_unit.specs.declared.views.Group.{Group}
-use Rattle.nvm_unit.specs.Views.{looked, shown, added}
-use Rattle.nvm_unit.specs.Machine.{UnitState, IsAt, StandsAt, RestsAs, IsHand}
-use Rattle.nvm_unit.specs.Events.{number_found, idle, CanStep, CanAdd, after_look, after_take, after_put, after_return, after_join, after_split}
-use Rattle.nvm_unit.specs.Knowledge.{IsKept}
-use Rattle.nvm_unit.specs.Book.{Recorded, recorded}
-use Rattle.nvm_unit.specs.Rule.{slots_of, table_of, IsRuled}
-use Rattle.nvm_unit.specs.Plays.{Sits, resting, holding, EachIn, IsNotAbove, Fits, HasLooked, looks, tries, puts, CanReturn, CanAppend}
-use Rattle.nvm_unit.proofs.EventsKept.{FollowsLawfully}
-use Rattle.nvm_unit.proofs.Histories.{begins_length}
-use Rattle.nvm_unit.proofs.Keeping.{found_is, free_is, keeps_look, keeps_take, keeps_return, keeps_put}
+use Rattle.nvm_unit.specs.Events.{joins, splits, idle, after_join, after_split}
+use Rattle.nvm_unit.specs.Book.{Recorded}
+use Rattle.nvm_unit.specs.Rule.{table_of, IsRuled}
+use Rattle.nvm_unit.proofs.Reaching.{ruled_after}
 use Rattle.nvm_unit.proofs.Regrouping.{keeps_join, keeps_split}
 
 abbrev Slot : Type 0
@@ -36,7 +25,10 @@ join_allowed b id other ps qs t ruled at apart other_at =
     → IsRuled b (record { words = x.words; homes = x.homes; views = set (set x.views id (idle (ps ++ qs))) other (idle []) }) in
     let go : P (table_of b ruled.0) =
     λ at' other_at'.
-    (after_join ruled.0 id other ps qs, refl, keeps_join b ruled.0 ruled.2 id other ps qs at' (sym (set_else ruled.0.groups id other (idle (ps ++ qs)) apart) ∙ other_at') (λ e. apart (sym e)))
+    let other_here = sym (set_else ruled.0.groups id other (idle (ps ++ qs)) apart) ∙ other_at' in
+    let not_same : id ≢ other = λ e. apart (sym e) in
+    ruled_after b ruled.0 (after_join ruled.0 id other ps qs) (joins id other) _ ruled.3 (ps, qs, at', other_here, not_same, refl) refl
+    (keeps_join b ruled.0 ruled.2 id other ps qs at' other_here not_same)
     in
     subst P (sym ruled.1) go at other_at
 
@@ -46,5 +38,6 @@ split_allowed b id ps t ruled at =
     let P : State Slot Group → Type 0 =
     λ x. get_elem? x.views id ≡ some (idle ps)
     → IsRuled b (record { words = x.words; homes = x.homes; views = set x.views id (idle (take 1 ps)) ++ idle (drop 1 ps) ∷ [] }) in
-    let go : P (table_of b ruled.0) = λ at'. (after_split ruled.0 id 1 ps, refl, keeps_split b ruled.0 ruled.2 id 1 ps at') in
+    let go : P (table_of b ruled.0) = λ at'.
+    ruled_after b ruled.0 (after_split ruled.0 id 1 ps) (splits id 1) _ ruled.3 (ps, at', refl) refl (keeps_split b ruled.0 ruled.2 id 1 ps at') in
     subst P (sym ruled.1) go at

@@ -1,8 +1,8 @@
 -- Each event keeps what is known of the unit.
-use Rattle.std.proofs.Common.{◌≡◌, ◌≢◌, ℕ, ◌+◌, ◌*◌, ◌/◌, ◌<◌, ◌≤◌, List, [], ◌∷◌, ◌++◌, length, map, take, drop, set, subst, refl, sym, ap, ◌∙◌, arith, inl, inr, Bool, false, Option, Some, None}
+use Rattle.std.proofs.Common.{◌≡◌, ◌≢◌, ℕ, ◌+◌, ◌*◌, ◌/◌, ◌<◌, ◌≤◌, List, [], ◌∷◌, ◌++◌, length, map, set, subst, refl, sym, ap, ◌∙◌, arith, inl, inr, Bool, false, Option, Some, None}
 use mathlib.Core.Logic.{dite}
 use native.Mathlib.Decide.{ℕ_discrete}
-use Rattle.atomic_table.proofs.Lists.{at_set, set_here, set_else, at_snoc, at_longer}
+use Rattle.atomic_table.proofs.Lists.{at_set, set_here, set_else, at_snoc}
 use Rattle.std.proofs.lemmas.List.{length-append, length-map}
 use Rattle.nvm_store.specs.Line.{Line}
 use Rattle.nvm_store.specs.History.{IsLawfulHistory}
@@ -11,10 +11,10 @@ use Rattle.nvm_unit.specs.declared.views.PassView.{PassView}
 use Rattle.nvm_unit.specs.declared.views.Group.{Group}
 use Rattle.nvm_unit.specs.Views.{Begins, entries_by, RiseWithin, marks_after, looked, shown, added}
 use Rattle.nvm_unit.specs.Machine.{UnitState, IsAt, StandsAt, EachPass, RestsAs, IsHand, IsHeld, AreMarked}
-use Rattle.nvm_unit.specs.Events.{number_found, idle, CanStep, CanAdd, after_look, after_take, after_put, after_return, after_join, after_split}
+use Rattle.nvm_unit.specs.Events.{number_found, idle, CanStep, CanAdd, after_look, after_take, after_put, after_return}
 use Rattle.nvm_unit.specs.Knowledge.{ArePlaced, Knows, IsKept}
 use Rattle.nvm_unit.proofs.Lists.{at_one, at_below}
-use Rattle.nvm_unit.proofs.Groups.{each_moved, placed_moved, numbered, numbered_below, number_apart, at_single, stands_one, AreRearranged, each_rearranged, placed_rearranged, moves_joined, moves_split, joined, cut}
+use Rattle.nvm_unit.proofs.Groups.{each_moved, placed_moved, numbered, numbered_below, number_apart, at_single, stands_one}
 use Rattle.nvm_unit.proofs.Histories.{begins_itself, begins_more, entries_more, entries_same, rise_after, rise_more, number_is}
 
 abbrev state : ℕ → Option (List Line) → List Line → Option ℕ → List Group → UnitState

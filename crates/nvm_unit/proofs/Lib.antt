@@ -4,10 +4,13 @@ pub mod Histories
 pub mod Keeping
 pub mod Regrouping
 pub mod EventsKept
+pub mod Reaching
 pub mod Allowed
+pub mod Putting
 pub mod Joining
 pub mod Waiting
 pub mod Alone
+pub mod Resting
 pub mod Together
 pub mod Closing
 pub mod Dealing

@@ -49,8 +49,8 @@ hold_together b h book p o m' held =
       pages = held.pages;
       bounds = fits.bounds;
       other_bounds = other.bounds;
-      finds = finds_of b h p fits held.lawful held.within;
-      other_finds = finds_of b h o other held.lawful held.within;
+      finds = finds_of b h p fits held.lawful;
+      other_finds = finds_of b h o other held.lawful;
     }
 
 pub together : (b : Bounds) (h : List Line) (book : Recorded) (p o : PassView) (m m' : Sits) → m ≡ resting (p ∷ o ∷ []) → HasHeld b h book m m' → HoldTogether b h book p o m'

@@ -62,9 +62,8 @@ taken_after k word b history m m'' before took =
           let new = took.fits i (looked false k p) (at_map (looked false k) m.0.passes i p at) in
           let up : k ≤ length history = new.floor in
           let low : p.floor ≤ k = (before i p at).floor in
-          record { bounds = new.bounds; seen = new.seen; floor = omega arith; mine = new.mine; own = new.own };
+          record { bounds = new.bounds; number = new.number; seen = new.seen; floor = omega arith; mine = new.mine; own = new.own };
       lawful = took.lawful;
-      within = took.within;
     }
 
 pub waited_taken : (word : ℕ) (m m' m'' : Sits) → HasWaited m m' → Takes word m' m'' → Takes word m m''

@@ -6,7 +6,8 @@ use Rattle.nvm_unit.specs.declared.bounds.Bounds.{Bounds}
 use Rattle.nvm_unit.specs.declared.unit_fault.UnitFault.{UnitFault}
 use Rattle.nvm_unit.specs.declared.unit_fault.UnitFault.TheVariants.{Passes, NoMemory}
 use Rattle.nvm_unit.specs.declared.views.PassView.{PassView}
-use Rattle.nvm_unit.specs.Machine.{IsAt, newcomers}
+use Rattle.nvm_unit.specs.Machine.{UnitState, IsAt, newcomers}
+use Rattle.nvm_unit.specs.Events.{idle, IsReached}
 use Rattle.nvm_unit.specs.Views.{RiseWithin}
 use Rattle.nvm_unit.specs.Passes.{UnitName, PassState, IsPassOf, IsHistoryOf, Finds}
 
@@ -37,18 +38,19 @@ pub record AreAllViews (n : ℕ) (views : List PassView) : Type 0 where
   pub count : length views ≡ n
   pub each : (i : ℕ) (view : PassView) → IsAt views i view → view.number ≡ i
 
--- Each entry bears the number of a pass.
-abbrev pub BearsNumbers : ℕ → List Line → Type 0
-BearsNumbers count history = (k : ℕ) (line : Line) → IsAt history k line → line.pass < count
-
--- The unit's history at the end: lawful and within the limit, with just the passes' own entries under their
--- numbers. It begins with what each pass had seen, and is no shorter than anything that one had found: a
--- pass's marks never fall, none is above its floor, and the floor isn't above the number of entries.
+-- The unit's history at the end: lawful and within the limit, each entry by a pass, with just the passes' own
+-- entries under their numbers. It begins with what each pass had seen, and is no shorter than anything that
+-- one had found: a pass's marks never fall, none is above its floor, and the floor isn't above the number of
+-- entries.
 pub record IsWholeHistory (b : Bounds) (views : List PassView) (history : List Line) : Type 0 where
   pub lawful : IsHistoryOf b history
-  pub bears : BearsNumbers b.passes history
   pub each : (i : ℕ) (view : PassView) → IsAt views i view → Finds (length history) view history
   pub marks : (i : ℕ) (view : PassView) → IsAt views i view → RiseWithin 0 view.marks view.floor
 
 abbrev pub views_of : List PassState → List PassView
 views_of passes = map (λ p. p.view) passes
+
+-- Events led from a new unit to this history, and to these views of passes that are all at one seat.
+abbrev pub HasCome : Bounds → List PassView → List Line → Type 0
+HasCome b views history =
+    (s : UnitState) × (j : ℕ) × IsReached b s × (s.history ≡ history) × IsAt s.groups j (idle views)

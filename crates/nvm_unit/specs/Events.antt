@@ -1,13 +1,14 @@
 -- What can happen to a shared unit. An event is one atomic step on its word, by one group of passes, or
 -- by two. Of all views it changes theirs alone. Joins and splits see no word, so they leave each floor.
 use Rattle.std.specs.Prelude.{◌≡◌, ◌≢◌, ℕ, ◌+◌, ◌*◌, ◌/◌, ◌<◌, List, [], ◌∷◌, ◌++◌, map, take, drop, length, slice_set, Bool, true, false, Some, None}
+use Rattle.nvm_record.specs.Step.{Deed, writes, zeroes, uncorrectable, reads, compares, pairs}
 use Rattle.nvm_store.specs.Line.{Line}
 use Rattle.nvm_store.specs.History.{CanFollow}
 use Rattle.nvm_unit.specs.declared.bounds.Bounds.{Bounds}
 use Rattle.nvm_unit.specs.declared.views.PassView.{PassView}
 use Rattle.nvm_unit.specs.declared.views.Group.{Group}
 use Rattle.nvm_unit.specs.Views.{looked, shown, added}
-use Rattle.nvm_unit.specs.Machine.{UnitState, IsAt}
+use Rattle.nvm_unit.specs.Machine.{UnitState, IsAt, opening_state}
 
 pub data Event : Type 0 where
   -- The group j loads the word; the step may decide.
@@ -88,11 +89,21 @@ abbrev pub after_split : UnitState → ℕ → ℕ → List PassView → UnitSta
 after_split s j i ps =
     record s { groups = slice_set s.groups j (idle (take i ps)) ++ idle (drop i ps) ∷ [] }
 
--- The pass can add the entry: it holds the unit and is alone, the entry bears its number, lies in the
--- unit and succeeds behind the history, and there is room.
+-- The deed is that of an act: a Read or a Compare alone makes no entry.
+abbrev pub IsAct : Deed → Type 0
+IsAct (writes payload) = Unit {0}
+IsAct zeroes = Unit {0}
+IsAct uncorrectable = Unit {0}
+IsAct reads = ⊥
+IsAct (compares payload) = ⊥
+IsAct (pairs compare write) = Unit {0}
+
+-- The pass can add the entry: it holds the unit and is alone, the entry is an act's and bears its number,
+-- lies in the unit and succeeds behind the history, and there is room.
 pub record CanAdd (b : Bounds) (s : UnitState) (j : ℕ) (p : PassView) (held : List Line) (line : Line) : Type 0 where
   pub at : IsAt s.groups j (record { passes = p ∷ []; held = Some held })
   pub holds : s.holder ≡ Some j
+  pub act : IsAct line.operation.deed
   pub number : line.pass ≡ p.number
   pub follows : CanFollow b.place.first b.place.blocks b.place.size s.history line
   pub room : number_found s < b.limit
@@ -116,3 +127,7 @@ Happens b s (splits j i) t = (ps : List PassView) × IsAt s.groups j (idle ps) �
 abbrev pub Lead : Bounds → UnitState → List Event → UnitState → Type 0
 Lead b s [] t = t ≡ s
 Lead b s (event ∷ events) t = (u : UnitState) × Happens b s event u × Lead b u events t
+
+-- Some list of events leads from a new unit to this state.
+abbrev pub IsReached : Bounds → UnitState → Type 0
+IsReached b s = (events : List Event) × Lead b (opening_state b) events s

@@ -1,12 +1,13 @@
 -- What a seat knows once it has waited for the unit, and once it holds it.
-use Rattle.std.specs.Prelude.{◌≡◌, ◌⊎◌, ℕ, ◌+◌, ◌*◌, ◌<◌, ◌≤◌, List, [], ◌∷◌, ◌++◌, map, length, Bool, true, false, None}
+use Rattle.std.specs.Prelude.{◌≡◌, ◌⊎◌, ℕ, ◌+◌, ◌*◌, ◌<◌, List, [], ◌∷◌, ◌++◌, map, length, Bool, true, false, None}
 use Rattle.nvm_store.specs.Line.{Line}
-use Rattle.nvm_store.specs.History.{CanFollow, IsLawfulHistory}
+use Rattle.nvm_store.specs.History.{CanFollow}
 use Rattle.nvm_unit.specs.declared.bounds.Bounds.{Bounds}
 use Rattle.nvm_unit.specs.declared.views.PassView.{PassView}
 use Rattle.nvm_unit.specs.Views.{looked, shown, added}
 use Rattle.nvm_unit.specs.Book.{Recorded, recorded}
-use Rattle.nvm_unit.specs.Passes.{Finds}
+use Rattle.nvm_unit.specs.Events.{IsAct}
+use Rattle.nvm_unit.specs.Passes.{IsHistoryOf, Finds}
 use Rattle.nvm_unit.specs.Plays.{Sits, resting, holding, EachIn, IsNotAbove, Fits}
 
 -- Its steps so far, if any, decided nothing.
@@ -20,8 +21,7 @@ pub record HasHeld (b : Bounds) (history : List Line) (book : Recorded) (m m' : 
   pub pages : book ≡ recorded b history
   pub after : m' ≡ holding (map (looked false (length history)) m.0.passes) history None
   pub fits : EachIn (Fits b history) m.0.passes
-  pub lawful : IsLawfulHistory b.place.first b.place.blocks b.place.size history
-  pub within : length history ≤ b.limit
+  pub lawful : IsHistoryOf b history
 
 -- The seat can let go of the unit with the book of the history that it holds.
 pub record CanGiveBack (decides : ℕ → Bool) (book : Recorded) (m : Sits) (ps : List PassView) (history : List Line) (b : Bounds) : Type 0 where
@@ -35,6 +35,7 @@ pub record CanGiveBack (decides : ℕ → Bool) (book : Recorded) (m : Sits) (ps
 pub record CanGiveMore (book : Recorded) (m : Sits) (p : PassView) (history : List Line) (line : Line) : Type 0 where
   pub at : m ≡ holding (p ∷ []) history None
   pub pages : book ≡ recorded p.bounds (history ++ line ∷ [])
+  pub act : IsAct line.operation.deed
   pub number : line.pass ≡ p.number
   pub follows : CanFollow p.bounds.place.first p.bounds.place.blocks p.bounds.place.size history line
   pub room : length history < p.bounds.limit

@@ -1,15 +1,17 @@
 -- What contracts see of a unit and of its passes.
-use Rattle.std.specs.Prelude.{◌≡◌, ℕ, ◌≤◌, List, length}
+use Rattle.std.specs.Prelude.{◌≡◌, ℕ, ◌<◌, ◌≤◌, List, length}
 use Rattle.atomic_table.specs.Seated.{TableId}
 use Rattle.nvm_store.specs.Line.{Line}
 use Rattle.nvm_store.specs.History.{IsLawfulHistory}
 use Rattle.nvm_unit.specs.declared.bounds.Bounds.{Bounds}
 use Rattle.nvm_unit.specs.declared.views.PassView.{PassView}
+use Rattle.nvm_unit.specs.Machine.{IsAt}
 use Rattle.nvm_unit.specs.Views.{Begins, entries_by, RiseWithin}
 
--- which unit it is, and what is settled of it
+-- which unit it is, the number by which a gate knows it, and what is settled of it
 pub record UnitName : Type 0 where
   pub table : TableId
+  pub number : ℕ
   pub bounds : Bounds
 
 -- the unit that a pass is of, and what it has seen and done
@@ -22,10 +24,15 @@ pub record IsPassOf (unit : UnitName) (pass : PassState) : Type 0 where
   pub table : pass.table ≡ unit.table
   pub bounds : pass.view.bounds ≡ unit.bounds
 
--- The history is lawful in the unit, and not above its limit.
+-- Each entry bears the number of one of so many passes.
+abbrev pub BearsNumbers : ℕ → List Line → Type 0
+BearsNumbers count history = (k : ℕ) (line : Line) → IsAt history k line → line.pass < count
+
+-- The history is lawful in the unit and not above its limit, and each entry is by one of its passes.
 pub record IsHistoryOf (b : Bounds) (history : List Line) : Type 0 where
   pub lawful : IsLawfulHistory b.place.first b.place.blocks b.place.size history
   pub within : length history ≤ b.limit
+  pub bears : BearsNumbers b.passes history
 
 -- What holds of each pass: what it has seen is lawful, and has just its own entries under its number; its
 -- marks never fall, and none is above what its last step found.

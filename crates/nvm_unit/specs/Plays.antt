@@ -2,14 +2,15 @@
 use Rattle.std.specs.Prelude.{◌≡◌, ◌≢◌, ℕ, ◌+◌, ◌*◌, ◌/◌, ◌<◌, ◌≤◌, List, [], ◌∷◌, ◌++◌, map, take, drop, length, Bool, true, false, Option, Some}
 use Rattle.atomic_table.specs.Table.{Me, Step}
 use Rattle.nvm_store.specs.Line.{Line}
-use Rattle.nvm_store.specs.History.{CanFollow, IsLawfulHistory}
+use Rattle.nvm_store.specs.History.{CanFollow}
 use Rattle.nvm_unit.specs.declared.bounds.Bounds.{Bounds}
 use Rattle.nvm_unit.specs.declared.views.PassView.{PassView}
 use Rattle.nvm_unit.specs.declared.views.Group.{Group}
 use Rattle.nvm_unit.specs.Views.{Begins, entries_by, looked, shown, added}
 use Rattle.nvm_unit.specs.Machine.{IsAt}
 use Rattle.nvm_unit.specs.Book.{Recorded, recorded}
-use Rattle.nvm_unit.specs.Events.{idle}
+use Rattle.nvm_unit.specs.Events.{IsAct, idle}
+use Rattle.nvm_unit.specs.Passes.{IsHistoryOf}
 
 -- what a seat carries, and the slot if it took it
 abbrev pub Sits : Type 0
@@ -35,6 +36,7 @@ pub record IsNotAbove (n : ℕ) (p : PassView) : Type 0 where
 -- What holds of a pass at this history.
 pub record Fits (b : Bounds) (history : List Line) (p : PassView) : Type 0 where
   pub bounds : p.bounds ≡ b
+  pub number : p.number < b.passes
   pub seen : Begins p.seen history
   pub floor : p.floor ≤ length history
   pub mine : entries_by p.number history ≡ p.mine
@@ -50,8 +52,7 @@ pub record HasTaken (word : ℕ) (b : Bounds) (history : List Line) (m m' : Sits
   pub found : word ≡ 2 * length history
   pub after : m' ≡ holding (map (looked false (length history)) m.0.passes) history (Some (recorded b history))
   pub fits : EachIn (Fits b history) m.0.passes
-  pub lawful : IsLawfulHistory b.place.first b.place.blocks b.place.size history
-  pub within : length history ≤ b.limit
+  pub lawful : IsHistoryOf b history
 
 abbrev pub Takes : ℕ → Sits → Sits → Type 0
 Takes word m m' = (b : Bounds) × (history : List Line) × HasTaken word b history m m'
@@ -96,6 +97,7 @@ pub record CanReturn (decides : ℕ → Bool) (entries : ℕ) (m : Sits) (ps : L
 pub record CanAppend (entries : ℕ) (m : Sits) (p : PassView) (history : List Line) (line : Line) : Type 0 where
   pub at : m ≡ holding (p ∷ []) history (Some (recorded p.bounds (history ++ line ∷ [])))
   pub count : entries ≡ length history + 1
+  pub act : IsAct line.operation.deed
   pub number : line.pass ≡ p.number
   pub follows : CanFollow p.bounds.place.first p.bounds.place.blocks p.bounds.place.size history line
   pub room : length history < p.bounds.limit

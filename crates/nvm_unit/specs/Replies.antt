@@ -1,9 +1,13 @@
--- What a call answers, and what its pass has seen and done then. The call's deciding step finds a history,
--- of as many entries as the answer's point: the answer is that of the step there.
-use Rattle.std.specs.Prelude.{◌≡◌, ℕ, ◌<◌, List, [], ◌∷◌, ◌++◌, length, true, false, Ok, Err, Result, IsSome}
+-- What a call answers, and what its pass has seen and done then. The call's deciding step finds a history, of
+-- as many entries as the answer's point: the answer is that of the step there.
+use Rattle.std.specs.Prelude.{◌≡◌, ℕ, ◌<◌, List, [], ◌∷◌, ◌++◌, length, true, false, Option, Some, None, Ok, Err, Result, IsSome}
 use Rattle.nvm_record.specs.Medium.{Medium}
-use Rattle.nvm_record.specs.Status.{IsSuccess}
+use Rattle.nvm_record.specs.declared.status.Statuses.{Statuses}
+use Rattle.nvm_record.specs.declared.status.Statuses.TheVariants.{One}
+use Rattle.nvm_record.specs.Status.{IsSuccess, successful_completion}
 use Rattle.nvm_record.specs.Step.{Operation, statuses_of, data_of}
+use Rattle.nvm_store.specs.declared.answers.Answer.{Answer}
+use Rattle.nvm_store.specs.declared.answers.Answer.TheVariants.{Payload, Status}
 use Rattle.nvm_store.specs.Answer.{IsAnswer}
 use Rattle.nvm_store.specs.History.{replay_of}
 use Rattle.nvm_store.specs.Line.{Line}
@@ -27,29 +31,56 @@ medium_at b history = replay_of b.place.size history
 abbrev pub line_of : PassView → ℕ → Operation → Line
 line_of p job op = record { pass = p.number; job = job; operation = op }
 
+-- What may be answered to a change, where a history of so many entries leads to this medium.
+abbrev pub AnswersChange : Changed → ℕ → ℕ → Operation → Medium → Type 0
+AnswersChange (Done place) entries limit op m =
+    (place ≡ entries) × (entries < limit) × IsSuccess (statuses_of op m)
+AnswersChange (Failed point statuses) entries limit op m =
+    (point ≡ entries) × IsFailedPair op m × (statuses ≡ statuses_of op m)
+AnswersChange (NoMemory point) entries limit op m = (point ≡ entries) × (entries < limit) × (¬ IsFailedPair op m)
+AnswersChange (Full point) entries limit op m = (point ≡ entries) × (entries ≡ limit) × (¬ IsFailedPair op m)
+
+-- The history after a change that was answered so: `Done` alone adds the entry.
+abbrev pub history_after : Changed → List Line → Line → List Line
+history_after (Done place) history line = history ++ line ∷ []
+history_after (Failed point statuses) history line = history
+history_after (NoMemory point) history line = history
+history_after (Full point) history line = history
+
+-- the pass after it
+abbrev pub pass_after : Changed → List Line → Line → PassView → PassView
+pass_after (Done place) history line p = added (length history) history line p
+pass_after (Failed point statuses) history line p = shown true (length history) history p
+pass_after (NoMemory point) history line p = shown true (length history) history p
+pass_after (Full point) history line p = shown true (length history) history p
+
 -- What `change` answers, and the pass after it.
 abbrev pub Makes : Changed → PassView → ℕ → Operation → PassView → Type 0
-Makes (Done place) p job op q =
-    (history : List Line) × Finds place p history × (place < p.bounds.limit)
-    × IsSuccess (statuses_of op (medium_at p.bounds history)) × (q ≡ added place history (line_of p job op) p)
-Makes (Failed point statuses) p job op q =
-    (history : List Line) × Finds point p history × IsFailedPair op (medium_at p.bounds history)
-    × (statuses ≡ statuses_of op (medium_at p.bounds history)) × (q ≡ shown true point history p)
-Makes (NoMemory point) p job op q =
-    (history : List Line) × Finds point p history × (point < p.bounds.limit)
-    × (¬ IsFailedPair op (medium_at p.bounds history)) × (q ≡ shown true point history p)
-Makes (Full point) p job op q =
-    (history : List Line) × Finds point p history × (point ≡ p.bounds.limit)
-    × (¬ IsFailedPair op (medium_at p.bounds history)) × (q ≡ shown true point history p)
+Makes changed p job op q =
+    (history : List Line) × Finds (length history) p history
+    × AnswersChange changed (length history) p.bounds.limit op (medium_at p.bounds history)
+    × (q ≡ pass_after changed history (line_of p job op) p)
 
--- What `observe` answers, and the pass after it. Only the data of a Read wants memory.
+-- What may be answered to a look. Only the data of a Read wants memory.
+abbrev pub AnswersLook : Result Observed ObserveFault → ℕ → Operation → Medium → Type 0
+AnswersLook (Ok observed) entries op m = (observed.point ≡ entries) × IsAnswer op m observed.answer
+AnswersLook (Err (observe_fault.NoMemory point)) entries op m = (point ≡ entries) × IsSome (data_of op m)
+
+-- What `observe` answers, and the pass after it.
 abbrev pub Observes : Result Observed ObserveFault → PassView → Operation → PassView → Type 0
-Observes (Ok observed) p op q =
-    (history : List Line) × Finds observed.point p history × IsAnswer op (medium_at p.bounds history) observed.answer
-    × (q ≡ shown true observed.point history p)
-Observes (Err (observe_fault.NoMemory point)) p op q =
-    (history : List Line) × Finds point p history × IsSome (data_of op (medium_at p.bounds history))
-    × (q ≡ shown true point history p)
+Observes answer p op q =
+    (history : List Line) × Finds (length history) p history
+    × AnswersLook answer (length history) op (medium_at p.bounds history)
+    × (q ≡ shown true (length history) history p)
+
+-- the statuses that an answer to a look tells, and the data that it gives
+abbrev pub told_by : Answer → Statuses
+told_by (Payload bytes) = One successful_completion
+told_by (Status status) = One status
+
+abbrev pub read_by : Answer → Option (List ℕ)
+read_by (Payload bytes) = Some bytes
+read_by (Status status) = None
 
 -- The pass was brought to the history that a step found, with no mark.
 abbrev pub IsBroughtUp : PassView → PassView → Type 0
@@ -63,23 +94,6 @@ Meet p o q r =
 
 -- What is answered of a book in hand, and what becomes of the book.
 abbrev pub Attempts : Changed → ℕ → Line → Recorded → Recorded → Type 0
-Attempts (Done place) limit line old new =
-    (place ≡ length old.history) × (place < limit)
-    × IsSuccess (statuses_of line.operation (replay_of old.place.size old.history))
-    × (new ≡ record { place = old.place; history = old.history ++ line ∷ [] })
-Attempts (Failed point statuses) limit line old new =
-    (point ≡ length old.history) × IsFailedPair line.operation (replay_of old.place.size old.history)
-    × (statuses ≡ statuses_of line.operation (replay_of old.place.size old.history)) × (new ≡ old)
-Attempts (NoMemory point) limit line old new =
-    (point ≡ length old.history) × (point < limit)
-    × (¬ IsFailedPair line.operation (replay_of old.place.size old.history)) × (new ≡ old)
-Attempts (Full point) limit line old new =
-    (point ≡ length old.history) × (point ≡ limit)
-    × (¬ IsFailedPair line.operation (replay_of old.place.size old.history)) × (new ≡ old)
-
--- What a look is answered by a book in hand.
-abbrev pub AnswersFrom : Result Observed ObserveFault → Operation → Recorded → Type 0
-AnswersFrom (Ok observed) op book =
-    (observed.point ≡ length book.history) × IsAnswer op (replay_of book.place.size book.history) observed.answer
-AnswersFrom (Err (observe_fault.NoMemory point)) op book =
-    (point ≡ length book.history) × IsSome (data_of op (replay_of book.place.size book.history))
+Attempts changed limit line old new =
+    AnswersChange changed (length old.history) limit line.operation (replay_of old.place.size old.history)
+    × (new ≡ record { place = old.place; history = history_after changed old.history line })

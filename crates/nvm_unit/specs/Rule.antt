@@ -1,4 +1,5 @@
--- The rule of the unit's table: it shows a state that is sound, and all else that is known of it.
+-- The rule of the unit's table: it shows a state to which events lead from a new unit. What the events keep
+-- stands beside that, so that each step has it at hand.
 use Rattle.std.specs.Prelude.{◌≡◌, List, [], ◌∷◌, Option, Some, None}
 use mathlib.Core.Option as there
 use Rattle.atomic_table.specs.Table.{State}
@@ -7,7 +8,7 @@ use Rattle.nvm_unit.specs.declared.bounds.Bounds.{Bounds}
 use Rattle.nvm_unit.specs.declared.views.Group.{Group}
 use Rattle.nvm_unit.specs.Book.{Recorded, recorded}
 use Rattle.nvm_unit.specs.Machine.{UnitState, newcomers}
-use Rattle.nvm_unit.specs.Events.{idle}
+use Rattle.nvm_unit.specs.Events.{idle, IsReached}
 use Rattle.nvm_unit.specs.Knowledge.{IsKept}
 
 -- the table's one slot: out, or home with a book of the history
@@ -20,7 +21,7 @@ abbrev pub table_of : Bounds → UnitState → State (Option Recorded) Group
 table_of b s = record { words = s.word ∷ []; homes = slots_of b s.slot; views = s.groups }
 
 abbrev pub IsRuled : Bounds → State (Option Recorded) Group → Type 0
-IsRuled b table = (s : UnitState) × (table ≡ table_of b s) × IsKept b s
+IsRuled b table = (s : UnitState) × (table ≡ table_of b s) × IsKept b s × IsReached b s
 
 -- what the first seat carries
 abbrev pub all_newcomers : Bounds → Group

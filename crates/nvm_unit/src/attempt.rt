@@ -1,8 +1,9 @@
 ghost use Rattle.std.specs.Prelude.{◌≤◌, length};
 ghost use Rattle.nvm_store.specs.ActRef.{lent_operation_of};
 ghost use Rattle.nvm_store.specs.Contents.{IsCovered};
+ghost use Rattle.nvm_store.specs.History.{replay_of};
 ghost use Rattle.nvm_store.specs.Look.{look_operation_of};
-ghost use Rattle.nvm_unit.specs.Replies.{Attempts, AnswersFrom};
+ghost use Rattle.nvm_unit.specs.Replies.{AnswersLook, Attempts};
 
 use crate::book::Book;
 use crate::replies::{Changed, ObserveFault, Observed};
@@ -44,7 +45,8 @@ pub(crate) fn attempt(
 pub(crate) fn observed(alloc: Global, book: &Book, look: Look<'_>) -> Result<Observed, ObserveFault>
     requires covered { IsCovered book.now.place.first book.now.place.blocks book.now.place.size (look_operation_of look) }
     requires within { length book.now.history ≤ 4194304 }
-    ensures { AnswersFrom result (look_operation_of look.entry) book.now }
+    ensures { AnswersLook result (length book.now.history) (look_operation_of look.entry)
+        (replay_of book.now.place.size book.now.history) }
 {
     let point = book.entries() as u32;
     match book.answer(alloc, look) {

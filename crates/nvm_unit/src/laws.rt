@@ -1,16 +1,56 @@
 //! Laws of this crate's definitions. Each function does nothing: its contract is the law, which a caller
 //! then knows.
-ghost use Rattle.std.specs.Prelude.{List};
+ghost use Rattle.std.specs.Prelude.{◌≤◌, ℕ, List, length, Result, Ok, None};
+ghost use Rattle.nvm_record.specs.declared.status.Statuses.{Statuses};
+ghost use Rattle.nvm_record.specs.Step.{Operation};
+ghost use Rattle.nvm_store.specs.Line.{Line};
+ghost use Rattle.nvm_store.specs.Point.{point, RestsOn};
 ghost use Rattle.nvm_unit.specs.declared.bounds.Bounds.{Bounds as UnitBounds};
-ghost use Rattle.nvm_unit.specs.Machine.{UnitState, IsSound, opening_state};
+ghost use Rattle.nvm_unit.specs.declared.replies.Changed.{Changed as ChangeReply};
+ghost use Rattle.nvm_unit.specs.declared.replies.Changed.TheVariants.{Done, Failed};
+ghost use Rattle.nvm_unit.specs.declared.replies.Observed.{Observed as LookReply};
+ghost use Rattle.nvm_unit.specs.declared.replies.ObserveFault.{ObserveFault as LookFault};
+ghost use Rattle.nvm_unit.specs.declared.views.PassView.{PassView as View};
+ghost use Rattle.nvm_unit.specs.Machine.{UnitState, IsAt, IsSound, opening_state};
 ghost use Rattle.nvm_unit.specs.Events.{Event, Lead};
+ghost use Rattle.nvm_unit.specs.Knowledge.{IsKept};
+ghost use Rattle.nvm_unit.specs.Replies.{AnswersChange, AnswersLook, Makes, Observes, line_of, told_by, read_by};
+ghost use Rattle.nvm_unit.specs.Views.{Begins};
 
 use nvm_store::laws::lawful_with_one_more;
 
-/// Whatever happens to a new unit, its state is sound.
+/// Whatever happens to a new unit, its state is sound, and all else is kept that is known of it.
 pub fn events_lead_to_sound_states()
-    ensures { (b : UnitBounds) (events : List Event) (s : UnitState)
+    ensures sound { (b : UnitBounds) (events : List Event) (s : UnitState)
         → Lead b (opening_state b) events s → IsSound b s }
+    ensures known { (b : UnitBounds) (events : List Event) (s : UnitState)
+        → Lead b (opening_state b) events s → IsKept b s }
 {
     lawful_with_one_more();
 }
+
+/// What a change was answered rests on its point in each history that begins with what its pass had seen
+/// then. Where it was done, its entry stands there.
+pub fn changes_rest_on_their_points()
+    ensures at { (changed : ChangeReply) (p q : View) (job : ℕ) (op : Operation) (history : List Line)
+        → Makes changed p job op q → Begins q.seen history
+        → (n : ℕ) × (n ≤ length history)
+        × AnswersChange changed n p.bounds.limit op (point p.bounds.place.size history n) }
+    ensures done { (place : ℕ) (p q : View) (job : ℕ) (op : Operation) (history : List Line)
+        → Makes (Done place) p job op q → Begins q.seen history → IsAt history place (line_of p job op) }
+    ensures failed { (n : ℕ) (statuses : Statuses) (p q : View) (job : ℕ) (op : Operation) (history : List Line)
+        → Makes (Failed n statuses) p job op q → Begins q.seen history
+        → RestsOn p.bounds.place.size history n op statuses None }
+{}
+
+/// What a look was answered rests on its point in each history that begins with what its pass had seen
+/// then.
+pub fn looks_rest_on_their_points()
+    ensures at { (answer : Result LookReply LookFault) (p q : View) (op : Operation) (history : List Line)
+        → Observes answer p op q → Begins q.seen history
+        → (n : ℕ) × (n ≤ length history) × AnswersLook answer n op (point p.bounds.place.size history n) }
+    ensures observed { (observed : LookReply) (p q : View) (op : Operation) (history : List Line)
+        → Observes (Ok observed) p op q → Begins q.seen history
+        → RestsOn p.bounds.place.size history observed.point op (told_by observed.answer)
+        (read_by observed.answer) }
+{}

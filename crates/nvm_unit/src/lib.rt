@@ -6,8 +6,8 @@
 //! grows at each call; [`Unit::meet`] brings two passes to one history, and [`Unit::close`] gives the whole.
 //!
 //! A unit has one word: twice the number of entries, and one more while a pass holds the unit. All steps on
-//! it stand in the module `steps`, and each keeps the rule that the unit's state is sound. That every list
-//! of such steps leads to a sound state is the law of [`laws`].
+//! it stand in the module `steps`, and each keeps the rule that the unit's state is one to which the seven
+//! kinds of events lead. That every list of such events leads to a sound state is the law of [`laws`].
 #![tactic(auto)]
 
 mod attempt;

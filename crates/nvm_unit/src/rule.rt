@@ -11,7 +11,8 @@ use crate::views::Group;
 use atomic_table::{Join, Play, Split, TableRule};
 use std::marker::PhantomData;
 
-/// Between any two steps, the table shows a state that is sound.
+/// Between any two steps, the table shows a state to which events of the seven kinds lead from a new unit, and
+/// so one that is sound.
 pub struct UnitRule;
 
 impl TableRule<Option<Book>, Group, Bounds> for UnitRule {

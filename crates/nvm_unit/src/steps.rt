@@ -6,7 +6,7 @@ ghost use Rattle.nvm_unit.specs.declared.bounds.Bounds.{Bounds as UnitBounds};
 ghost use Rattle.nvm_unit.specs.declared.views.PassView.{PassView as View};
 ghost use Rattle.nvm_unit.specs.declared.views.Group.{Group as Carried};
 ghost use Rattle.nvm_unit.specs.Book.{Recorded, recorded};
-ghost use Rattle.nvm_unit.specs.Ends.{AreAllViews, IsWholeHistory};
+ghost use Rattle.nvm_unit.specs.Ends.{AreAllViews, IsWholeHistory, HasCome};
 ghost use Rattle.nvm_unit.specs.Machine.{newcomers};
 ghost use Rattle.nvm_unit.specs.Plays.{resting, holding, HasLooked, Takes, ReturnsAs, AddsAs, CanReturn, CanAppend};
 
@@ -165,7 +165,8 @@ pub fn close(desk: Desk, token: Token) -> History
     requires at { token.seat.table_id ≡ desk.table.shared.table_id }
     requires rests { token.seat.me ≡ resting token.seat.me.0.passes }
     requires all { AreAllViews desk.table.shared.key.passes token.seat.me.0.passes }
-    ensures { IsWholeHistory desk.table.shared.key token.seat.me.0.passes result.items }
+    ensures whole { IsWholeHistory desk.table.shared.key token.seat.me.0.passes result.items }
+    ensures events { HasCome desk.table.shared.key token.seat.me.0.passes result.items }
 {
     let Desk { table } = desk;
     let Token { seat } = token;

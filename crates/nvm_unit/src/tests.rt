@@ -24,7 +24,7 @@ fn two_passes(alloc: Global, limit: u32) -> Result<(Unit, Pass, Pass), Fail>
 {
     let size = BlockSize::new(512).ok_or("no block has 512 bytes")?;
     let limit = Limit::new(limit).ok_or("there is no such limit")?;
-    let Ok((unit, mut passes)) = Unit::new(alloc, 0, 0, 8, size, 2, limit) else {
+    let Ok((unit, mut passes)) = Unit::new(alloc, 3, 0, 8, size, 2, limit) else {
         return Err(Fail::new("there was no memory"));
     };
     let second = passes.pop().ok_or("there is no second pass")?;

@@ -1,5 +1,5 @@
 ghost use Rattle.std.specs.Prelude.{◌≡◌, ◌↔◌, ◌+◌, ◌≤◌, ◌<◌, IfOk, IfErr, IsTrue, length};
-ghost use Rattle.nvm_unit.specs.Ends.{IsPassCount, IsFaultOf, new_passes, AreAllPassesOf, IsWholeHistory, views_of};
+ghost use Rattle.nvm_unit.specs.Ends.{IsPassCount, IsFaultOf, new_passes, AreAllPassesOf, IsWholeHistory, HasCome, views_of};
 ghost use Rattle.nvm_store.specs.ActRef.{lent_operation_of};
 ghost use Rattle.nvm_store.specs.Contents.{IsCovered};
 ghost use Rattle.nvm_store.specs.Look.{look_operation_of};
@@ -29,7 +29,8 @@ pub const MOST_PASSES: u16 = 64;
 
 /// Blocks that many threads read and change, each change one atomic step.
 ///
-/// Contracts see which unit it is, its LBAs and block size, the number of its passes and its limit.
+/// Contracts see which unit it is, its number, its LBAs and block size, the number of its passes and its
+/// limit.
 #[derive(Drop)]
 pub struct Unit {
     pub(crate) latch: Latch,
@@ -45,7 +46,11 @@ impl Model for Unit {
 
     ghost Value = { UnitName };
 
-    ghost view = { λ u. record { table = u.latch.desk.table.shared.table_id; bounds = u.bounds } };
+    ghost view = { λ u. record {
+      table = u.latch.desk.table.shared.table_id;
+      number = u.number;
+      bounds = u.bounds;
+    } };
 
     ghost invariant = { λ u. (u.latch.desk.table.shared.key ≡ u.bounds) × IsLimit u.bounds.limit × (0 < u.bounds.passes) };
 }
@@ -71,6 +76,7 @@ impl Unit {
           passes = passes;
           limit = limit;
         }) }
+        ensures number { IfOk result (λ u. u.0.number ≡ number) }
         ensures passes { IfOk result (λ u. u.1.items ≡ new_passes u.0) }
     {
         let _entries = limit.entries();
@@ -105,7 +111,8 @@ impl Unit {
     /// [`Unit::new`] gave with it, in their order. It takes no memory, and waits for nothing.
     pub fn close(self, passes: Vec<Pass>) -> History
         requires { AreAllPassesOf self passes.items }
-        ensures { IsWholeHistory self.bounds (views_of passes.items) result.items }
+        ensures whole { IsWholeHistory self.bounds (views_of passes.items) result.items }
+        ensures events { HasCome self.bounds (views_of passes.items) result.items }
     {
         let Unit {
             latch,
@@ -180,10 +187,10 @@ impl Unit {
         ensures observed { Observes result pass.old.view (look_operation_of look.entry) pass.new.view }
         ensures proper { IsProper pass.new.view }
     {
-        let book = self.latch.hold(rt, &mut pass.token, pass.entries);
-        let observed = observed(alloc, &book, look);
-        pass.entries = book.entries() as u32;
-        self.latch.release::<Always>(&mut pass.token, book);
+        let current = self.latch.hold(rt, &mut pass.token, pass.entries);
+        let observed = observed(alloc, &current, look);
+        pass.entries = current.entries() as u32;
+        self.latch.release::<Always>(&mut pass.token, current);
         observed
     }
 
@@ -195,9 +202,9 @@ impl Unit {
         ensures up { IsBroughtUp pass.old.view pass.new.view }
         ensures proper { IsProper pass.new.view }
     {
-        let book = self.latch.hold(rt, &mut pass.token, pass.entries);
-        pass.entries = book.entries() as u32;
-        self.latch.release::<Never>(&mut pass.token, book);
+        let found = self.latch.hold(rt, &mut pass.token, pass.entries);
+        pass.entries = found.entries() as u32;
+        self.latch.release::<Never>(&mut pass.token, found);
     }
 
     /// Brings the pass to the history that it finds, and gives a copy of it. It waits for the unit. Where

@@ -1,4 +1,5 @@
-ghost use Rattle.std.specs.Prelude.{◌≡◌, IfOk, length};
+ghost use Rattle.std.specs.Prelude.{◌≡◌, IfOk, IfErr, length, map, string_bytes};
+ghost use Rattle.nvmu.specs.Files.{IsFileFault, IsFilesFault};
 
 use nvm_engine::Fault;
 use std::fs::OpenFile;
@@ -8,7 +9,8 @@ use std::{fs, io};
 
 /// The bytes of each file, in the files' order. The first that can't be read is the fault.
 pub fn read_files<R: Files + AllocGlobal>(rt: &R, paths: &[String]) -> Result<Vec<Vec<u8>>, Fault>
-    ensures { IfOk result (λ files. length files.items ≡ length paths.now) }
+    ensures count { IfOk result (λ files. length files.items ≡ length paths.now) }
+    ensures fault { IfErr result (IsFilesFault (map (λ path. string_bytes path) paths.now)) }
 {
     let mut files = Vec::with_capacity(rt.alloc(), paths.len())?;
     for path in paths {
@@ -18,7 +20,9 @@ pub fn read_files<R: Files + AllocGlobal>(rt: &R, paths: &[String]) -> Result<Ve
 }
 
 /// The bytes of a file. Want of memory isn't the file's fault.
-fn read_file<R: Files + AllocGlobal>(rt: &R, path: &str) -> Result<Vec<u8>, Fault> {
+fn read_file<R: Files + AllocGlobal>(rt: &R, path: &str) -> Result<Vec<u8>, Fault>
+    ensures { IfErr result (IsFileFault path.now) }
+{
     match bytes_of(rt, path) {
         Ok(bytes) => Ok(bytes),
         Err(error) if error.kind() == ErrorKind::OutOfMemory => Err(Fault::NoMemory),

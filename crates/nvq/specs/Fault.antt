@@ -1,8 +1,10 @@
 -- The faults of lists and of host files, as the program prints them.
-use Rattle.std.specs.Prelude.{String}
+use Rattle.std.specs.Prelude.{◌≡◌, ◌⊎◌, ℕ, String, List, Err}
 use Rattle.std.specs.Global.{Global}
 use Rattle.nvm_record.specs.declared.host_fault.HostFault.{HostFault}
 use Rattle.nvm_record.specs.declared.host_fault.HostFault.TheVariants as of_file
+use Rattle.nvm_record.specs.HostFile.{IsAnsweredFault}
+use Rattle.nvm_list.specs.Lists.{commands}
 use Rattle.nvm_list.specs.declared.fault.ListFault.{ListFault}
 use Rattle.nvm_list.specs.declared.fault.ListFault.TheVariants as of_list
 use Rattle.nvq.specs.declared.fault.Fault.{Fault}
@@ -19,3 +21,11 @@ fault_of_file path of_file.BadName = BadName path
 fault_of_file path (of_file.Truncated at) = Truncated path at
 fault_of_file path of_file.TooMany = TooMany path
 fault_of_file path of_file.NoMemory = NoMemory
+
+-- The fault of a list, or want of memory.
+abbrev pub IsFaultOfList : ℕ → List ℕ → Fault → Type 0
+IsFaultOfList size list e = ((f : ListFault) × (commands size list ≡ Err f) × (e ≡ fault_of_list f)) ⊎ (e ≡ NoMemory)
+
+-- The fault of the host file at a path, or want of memory.
+abbrev pub IsFaultOfFile : String Global → ℕ → List ℕ → Fault → Type 0
+IsFaultOfFile path size file e = (f : HostFault) × IsAnsweredFault size file f × (e ≡ fault_of_file path f)

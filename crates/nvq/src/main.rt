@@ -5,14 +5,15 @@ mod fault;
 #[cfg(test)]
 mod fault_tests;
 mod files;
+mod turning;
 #[cfg(test)]
 mod word_tests;
 mod words;
 
 use crate::fault::Fault;
 use crate::files::{bytes_of, write_bytes};
+use crate::turning::{file_of, list_of};
 use crate::words::{Asked, WordFault, read_words};
-use nvm_list::{assemble, list_file};
 use nvm_record::BlockSize;
 use std::alloc::{AllocError, Global};
 use std::io::ErrorKind;
@@ -95,7 +96,7 @@ fn run_assemble<R: AllocGlobal + Files + Input + Print>(
     out: &str,
 ) -> Result<(), Fault> {
     let text = bytes_of(rt, list)?;
-    let file = assemble(rt.alloc(), &text, size)?;
+    let file = file_of(rt.alloc(), &text, size)?;
     write_bytes(rt, out, &file)
 }
 
@@ -106,10 +107,8 @@ fn run_list<R: AllocGlobal + Files + Input + Print>(
     file: String,
 ) -> Result<(), Fault> {
     let bytes = bytes_of(rt, file.as_str())?;
-    match list_file(rt.alloc(), &bytes, size) {
-        Ok(text) => write_bytes(rt, "-", text.as_bytes()),
-        Err(fault) => Err(Fault::of_file(file, fault)),
-    }
+    let text = list_of(rt.alloc(), file, &bytes, size)?;
+    write_bytes(rt, "-", text.as_bytes())
 }
 
 /// Prints the fault's line on standard error.

@@ -20,7 +20,7 @@ struct Noting<'a> {
 
 impl Gate for Noting<'_> {
     fn before_put(&self, unit: u16, job: u32) {
-        if unit == 0 && job == 5 {
+        if unit == 3 && job == 5 {
             self.calls.fetch_add(1, Ordering::SeqCst);
         }
         let held = is_held(self.unit);

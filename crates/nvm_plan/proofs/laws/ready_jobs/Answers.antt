@@ -1,8 +1,11 @@
-use Rattle.nvm_plan.proofs.Unrefused.{ready_job, pair_in_unit}
+use Rattle.nvm_plan.proofs.Unrefused.{ready_job, unrefused_job, pair_in_unit}
 use Rattle.nvm_plan.proofs.laws.ready_jobs.Goals as goal
 
 pub returns-clause-ready : goal.returns-clause-ready
 returns-clause-ready c = ready_job c.sharing_is_one_number.ensures.shares
+
+pub returns-clause-unrefused : goal.returns-clause-unrefused
+returns-clause-unrefused c = unrefused_job c.sharing_is_one_number.ensures.number
 
 pub returns-clause-pair : goal.returns-clause-pair
 returns-clause-pair c ns job op h stands pair =

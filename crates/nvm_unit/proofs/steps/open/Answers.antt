@@ -4,6 +4,7 @@ use Rattle.nvm_unit.specs.Book.{Recorded, recorded}
 use Rattle.nvm_unit.specs.Machine.{opening_state}
 use Rattle.nvm_unit.specs.Rule.{all_newcomers}
 use Rattle.nvm_unit.proofs.EventsKept.{opening_kept}
+use Rattle.nvm_unit.proofs.Reaching.{opening_reached}
 use Rattle.nvm_unit.proofs.steps.open.Goals as goal
 
 pub new-requires : goal.new-requires
@@ -13,4 +14,4 @@ new-requires c =
     c.push_reserved.ensures.items
     ∙ (ap (λ (xs : List (Option Recorded)). xs ++ Some c.args.book ∷ []) c.in_ok-slots.ensures.items
     ∙ ap (λ (x : Recorded). Some x ∷ []) c.requires) in
-    (opening_state b, ap (λ (xs : List (Option Recorded)). opening (0 ∷ []) xs (all_newcomers b)) items, opening_kept b)
+    (opening_state b, ap (λ (xs : List (Option Recorded)). opening (0 ∷ []) xs (all_newcomers b)) items, opening_kept b, opening_reached b)

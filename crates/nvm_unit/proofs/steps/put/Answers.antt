@@ -2,7 +2,7 @@ use Rattle.std.proofs.Common.{◌*◌, refl, arith, inl, inr}
 use mathlib.Core.Option.{none}
 use Rattle.atomic_table.specs.Table.{step}
 use Rattle.nvm_unit.proofs.EventsKept.{FollowsLawfully}
-use Rattle.nvm_unit.proofs.Allowed.{return_allowed, append_allowed}
+use Rattle.nvm_unit.proofs.Putting.{return_allowed, append_allowed}
 use Rattle.nvm_unit.proofs.steps.put.Goals as goal
 
 pub store-requires : goal.store-requires

@@ -7,7 +7,7 @@ use Rattle.nvm_engine.specs.Run.{Setup}
 use Rattle.nvm_engine.specs.Setup.{setup_of}
 use Rattle.nvm_engine.specs.Units.{leader, IsLaidOut, IsPieceOf, DoesPart, IsUnderWay}
 use Rattle.nvm_engine.specs.declared.done_job.DoneJob.{DoneJob}
-use Rattle.nvm_engine.proofs.JobOperations.{stopped_is, unstarted_is, success_is, data_is, range_is}
+use Rattle.nvm_engine.proofs.JobOperations.{range_is, over_units}
 use Rattle.nvm_engine.proofs.Progress.{not_begun, one_more, ends, all_done, none_done}
 use Rattle.nvm_engine.proofs.units.Units.do_parts.Goals as goal
 
@@ -22,14 +22,13 @@ returns-in_default-clause-parts c = λ op stands.
     let range = range_is c.args.self.now.geometry c.args.body.now op c.requires.ready stands in
     let some : units_met c.args.self.now.geometry op.first op.blocks ≢ [] =
     rw (range.0, range.1) (some_unit _ (units_met c.args.self.now.geometry (leader c.args.body.now).slba ((leader c.args.body.now).nlb + 1)) _ c.pieces-pieces.ensures.list c.pieces-pieces.ensures.some) in
-    none_done (setup_of c.args.self.now) op c.args.self.now.units.items c.of_no_part.result (c.outcomes_are_made_part_by_part.ensures.unstarted c.args.self.now.geometry op some)
-    (ap (λ (d : DoneJob). d.statuses) c.of_no_part.ensures ∙ unstarted_is c.args.self.now.geometry c.args.body.now op c.requires.ready stands)
-    (ap (λ (d : DoneJob). d.payload) c.of_no_part.ensures)
+    none_done (setup_of c.args.self.now) op (over_units c.args.self.now.geometry c.args.body.now op c.requires.ready stands c.in_default.ensures.asked) c.args.self.now.units.items c.of_no_part.result (c.outcomes_are_made_part_by_part.ensures.unstarted c.args.self.now.geometry op some)
+    (ap (λ (d : DoneJob). d.statuses) (c.of_no_part.ensures op stands)) (ap (λ (d : DoneJob). d.payload) (c.of_no_part.ensures op stands))
 
 pub loop-piece-init : goal.loop-piece-init
 loop-piece-init c =
     let same : c.into_iter-piece-iterator.result ≡ c.pieces-pieces.result = c.into_iter-piece-iterator.ensures.into_iter_gives in
-    let none : c.in-Ok.bytes.items ≡ [] = c.in-Ok.ensures in (
+    let none : c.in-Ok.bytes.items ≡ [] = c.in-Ok.ensures.empty in (
       c.requires.laid,
       refl,
       subst (λ (ps : List Piece). AllByRecursion (IsPieceOf c.args.self.now.geometry c.args.body.now) ps) (sym same) c.pieces-pieces.ensures.each,
@@ -49,8 +48,8 @@ returns-in-Some-ended-clause-parts c = λ op stands.
     let at : c.loop-piece.piece-iterator ≡ c.in-Some.piece ∷ c.next.new.self = c.in-Some.ensures.steps in
     let under = subst (λ (ps : List Piece). IsUnderWay (setup_of c.args.self.now) op c.args.self.now.units.items c.loop-piece.self.units.items ps c.loop-piece.bytes.items) at (c.loop-piece.invariant.3 op stands) in
     let part = subst (λ (s : Setup). DoesPart s op c.loop-piece.self.units.items c.do_part-told.new.self.units.items c.in-Some.piece.unit c.do_part-told.result) c.loop-piece.invariant.1 (c.do_part-told.ensures.part op stands) in
-    ends (setup_of c.args.self.now) op (c.outcomes_are_made_part_by_part.ensures.stopped c.args.self.now.geometry op) c.args.body.now (stopped_is c.args.self.now.geometry c.args.body.now op c.requires.ready stands)
-    c.args.self.now.units.items c.loop-piece.self.units.items c.do_part-told.new.self.units.items c.in-Some.piece c.next.new.self c.do_part-told.result c.loop-piece.bytes.items c.in-Some-ended.done under part c.in-Some-ended.ensures.ends
+    ends (setup_of c.args.self.now) op (c.outcomes_are_made_part_by_part.ensures.stopped c.args.self.now.geometry op)
+    c.args.self.now.units.items c.loop-piece.self.units.items c.do_part-told.new.self.units.items c.in-Some.piece c.next.new.self c.do_part-told.result c.loop-piece.bytes.items c.in-Some-ended.done under part (c.in-Some-ended.ensures.ends op stands)
 
 pub loop-piece-preserved : goal.loop-piece-preserved
 loop-piece-preserved c =
@@ -71,6 +70,8 @@ pub returns-clause-parts : goal.returns-clause-parts
 returns-clause-parts c = λ op stands.
     let none : c.loop-piece.piece-iterator ≡ [] = c.in-None.ensures.steps.0 in
     let under = subst (λ (ps : List Piece). IsUnderWay (setup_of c.args.self.now) op c.args.self.now.units.items c.loop-piece.self.units.items ps c.loop-piece.bytes.items) none (c.loop-piece.invariant.3 op stands) in
-    all_done (setup_of c.args.self.now) op (c.outcomes_are_made_part_by_part.ensures.whole c.args.self.now.geometry op) c.args.self.now.units.items c.loop-piece.self.units.items c.loop-piece.bytes.items c.of_success.result under
-    (ap (λ (d : DoneJob). d.statuses) c.of_success.ensures ∙ success_is c.args.self.now.geometry c.args.body.now op _ c.requires.ready stands)
-    (ap (λ (d : DoneJob). d.payload) c.of_success.ensures ∙ data_is c.args.self.now.geometry c.args.body.now op _ c.requires.ready stands)
+    let range = range_is c.args.self.now.geometry c.args.body.now op c.requires.ready stands in
+    let some : units_met c.args.self.now.geometry op.first op.blocks ≢ [] =
+    rw (range.0, range.1) (some_unit _ (units_met c.args.self.now.geometry (leader c.args.body.now).slba ((leader c.args.body.now).nlb + 1)) _ c.pieces-pieces.ensures.list c.pieces-pieces.ensures.some) in
+    all_done (setup_of c.args.self.now) op some (c.outcomes_are_made_part_by_part.ensures.whole c.args.self.now.geometry op) c.args.self.now.units.items c.loop-piece.self.units.items c.loop-piece.bytes.items c.of_success.result under
+    (ap (λ (d : DoneJob). d.statuses) (c.of_success.ensures op stands)) (ap (λ (d : DoneJob). d.payload) (c.of_success.ensures op stands))

@@ -8,7 +8,7 @@ pub returns-in-Refused-clause-answer : goal.returns-in-Refused-clause-answer
 returns-in-Refused-clause-answer c =
     let outcome = (c.outcomes_by_plan.ensures.refused c.args.self.now.geometry c.args.job.now c.in-Refused.statuses [] c.in-Refused.statuses None c.in-Refused.ensures.table).1
     (record { none_done = refl; statuses = refl; payload = refl }) in
-    refused_job (setup_of c.args.self.now) c.args.job.now c.args.self.now.units.items c.in-Refused.statuses c.of.result outcome c.of.ensures
+    refused_job (setup_of c.args.self.now) c.args.job.now c.args.self.now.units.items c.in-Refused.statuses c.of.result c.in-Refused.ensures.table outcome c.of.ensures
 
 pub returns-in-Ready-clause-answer : goal.returns-in-Ready-clause-answer
 returns-in-Ready-clause-answer c =

@@ -10,5 +10,5 @@ returns-clause-held g c =
     let out = c.take_book.ensures.taken (map (looked false (length takes.1)) c.args.token.now.seat.me.0.passes) takes.1 (recorded takes.0 takes.1) took.after in (
       takes.0,
       takes.1,
-      record { pages = out.0; after = out.1; fits = took.fits; lawful = took.lawful; within = took.within },
+      record { pages = out.0; after = out.1; fits = took.fits; lawful = took.lawful },
     )

@@ -33,6 +33,7 @@ put-requires-clause-ready g c =
             record {
               at = c.lay_book.ensures.laid (a.0 ∷ []) a.1 can.at ∙ ap (λ (x : Recorded). holding (a.0 ∷ []) a.1 (Some x)) can.pages;
               count = omega (arith, length-append a.1 (a.2 ∷ []));
+              act = can.act;
               number = can.number;
               follows = can.follows;
               room = can.room;

@@ -8,7 +8,7 @@ use Rattle.nvm_unit.specs.Alone.{only}
 use Rattle.nvm_unit.specs.Passes.{PassState, UnitName, IsProper}
 use Rattle.nvm_unit.specs.Plays.{Sits}
 use Rattle.nvm_unit.specs.Replies.{Makes}
-use Rattle.nvm_unit.proofs.Alone.{alone, covers_same, within_limit, attempt_as, attempt_within, attempt_ready, attempt_ends, closed, only_is}
+use Rattle.nvm_unit.proofs.Alone.{act_is, alone, covers_same, within_limit, attempt_as, attempt_within, attempt_ready, attempt_ends, closed, only_is}
 use Rattle.nvm_unit.proofs.EventsKept.{FollowsLawfully}
 use Rattle.nvm_unit.proofs.unit.Unit.change.Goals as goal
 
@@ -86,7 +86,7 @@ release-requires-clause-ready g c =
     (c.pass.invariant.1 ∙ ap (λ (x : PassState). x.view.number) c.pass.view_is) c.attempt-changed.ensures in
     let covered =
     subst (λ (b : Bounds). IsCovered b.place.first b.place.blocks b.place.size op) (sym c.requires.of.bounds) c.requires.covered in
-    attempt_ready c.attempt-changed.result held.0 held.1 book book' p c.args.job op _ a covered attempt
+    attempt_ready c.attempt-changed.result held.0 held.1 book book' p c.args.job op _ a (act_is c.args.act) covered attempt
 
 pub invariant_of-pass : goal.invariant_of-pass
 invariant_of-pass g c =

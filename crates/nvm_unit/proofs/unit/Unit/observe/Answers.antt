@@ -22,32 +22,32 @@ bounds_of x = x.bounds
 pub observed-observed-requires-clause-covered : goal.observed-observed-requires-clause-covered
 observed-observed-requires-clause-covered g c =
     let p = c.args.pass.now.view in
-    let held = c.hold-book.ensures.held in
-    let a = alone held.0 held.1 c.hold-book.result p _ _ _ (ap view_of c.pass.view_is) c.pass.invariant.0 held.2 in
-    covers_same held.0 c.args.self.now.bounds held.1 c.hold-book.result p _ _ a c.requires.of.bounds c.requires.covered
+    let held = c.hold-current.ensures.held in
+    let a = alone held.0 held.1 c.hold-current.result p _ _ _ (ap view_of c.pass.view_is) c.pass.invariant.0 held.2 in
+    covers_same held.0 c.args.self.now.bounds held.1 c.hold-current.result p _ _ a c.requires.of.bounds c.requires.covered
 
 pub observed-observed-requires-clause-within : goal.observed-observed-requires-clause-within
 observed-observed-requires-clause-within g c =
     let p = c.args.pass.now.view in
-    let held = c.hold-book.ensures.held in
-    let a = alone held.0 held.1 c.hold-book.result p _ _ _ (ap view_of c.pass.view_is) c.pass.invariant.0 held.2 in
-    let short : length c.hold-book.result.history ≤ 4194304 =
-    few held.0 c.self.inside.bounds held.1 c.hold-book.result p _ a (c.requires.of.bounds ∙ ap bounds_of (sym c.self.view_is)) c.self.invariant.1 in
+    let held = c.hold-current.ensures.held in
+    let a = alone held.0 held.1 c.hold-current.result p _ _ _ (ap view_of c.pass.view_is) c.pass.invariant.0 held.2 in
+    let short : length c.hold-current.result.history ≤ 4194304 =
+    few held.0 c.self.inside.bounds held.1 c.hold-current.result p _ a (c.requires.of.bounds ∙ ap bounds_of (sym c.self.view_is)) c.self.invariant.1 in
     short
 
 pub release-requires-clause-ready : goal.release-requires-clause-ready
 release-requires-clause-ready g c =
     let p = c.args.pass.now.view in
-    let held = c.hold-book.ensures.held in
-    let a = alone held.0 held.1 c.hold-book.result p _ _ _ (ap view_of c.pass.view_is) c.pass.invariant.0 held.2 in
-    inl (looked false (length held.1) p ∷ [], held.1, held.0, can_back (λ _. true) held.0 held.1 c.hold-book.result c.hold-book.result p _ a refl)
+    let held = c.hold-current.ensures.held in
+    let a = alone held.0 held.1 c.hold-current.result p _ _ _ (ap view_of c.pass.view_is) c.pass.invariant.0 held.2 in
+    inl (looked false (length held.1) p ∷ [], held.1, held.0, can_back (λ _. true) held.0 held.1 c.hold-current.result c.hold-current.result p _ a refl)
 
 pub invariant_of-pass : goal.invariant_of-pass
 invariant_of-pass g c =
     let p = c.args.pass.now.view in
-    let held = c.hold-book.ensures.held in
-    let a = alone held.0 held.1 c.hold-book.result p _ _ _ (ap view_of c.pass.view_is) c.pass.invariant.0 held.2 in
-    let after = after_back (λ _. true) held.0 held.1 c.hold-book.result c.hold-book.result p _ _ a refl c.release.ensures.back in
+    let held = c.hold-current.ensures.held in
+    let a = alone held.0 held.1 c.hold-current.result p _ _ _ (ap view_of c.pass.view_is) c.pass.invariant.0 held.2 in
+    let after = after_back (λ _. true) held.0 held.1 c.hold-current.result c.hold-current.result p _ _ a refl c.release.ensures.back in
     let q : PassView = shown true (length held.1) held.1 p in
     let proper : IsProper q = proper_shown true (length held.1) p held.1 (subst IsProper (ap view_of c.pass.view_is) c.pass.invariant.3) a.finds in
     let count = c.entries.ensures ∙ ap (λ (x : Recorded). length x.history) a.pages in
@@ -56,30 +56,30 @@ invariant_of-pass g c =
 pub returns-clause-of : goal.returns-clause-of
 returns-clause-of g c =
     let p = c.args.pass.now.view in
-    let held = c.hold-book.ensures.held in
-    let a = alone held.0 held.1 c.hold-book.result p _ _ _ (ap view_of c.pass.view_is) c.pass.invariant.0 held.2 in
-    let after = after_back (λ _. true) held.0 held.1 c.hold-book.result c.hold-book.result p _ _ a refl c.release.ensures.back in
+    let held = c.hold-current.ensures.held in
+    let a = alone held.0 held.1 c.hold-current.result p _ _ _ (ap view_of c.pass.view_is) c.pass.invariant.0 held.2 in
+    let after = after_back (λ _. true) held.0 held.1 c.hold-current.result c.hold-current.result p _ _ a refl c.release.ensures.back in
     let q : PassView = shown true (length held.1) held.1 p in
     record {
-      table = c.release.ensures.at ∙ (c.hold-book.ensures.at ∙ (ap table_of c.pass.view_is ∙ c.requires.of.table));
+      table = c.release.ensures.at ∙ (c.hold-current.ensures.at ∙ (ap table_of c.pass.view_is ∙ c.requires.of.table));
       bounds = ap (λ (m : Sits). (only m.0.passes).bounds) after ∙ c.requires.of.bounds;
     }
 
 pub returns-clause-number : goal.returns-clause-number
 returns-clause-number g c =
     let p = c.args.pass.now.view in
-    let held = c.hold-book.ensures.held in
-    let a = alone held.0 held.1 c.hold-book.result p _ _ _ (ap view_of c.pass.view_is) c.pass.invariant.0 held.2 in
-    let after = after_back (λ _. true) held.0 held.1 c.hold-book.result c.hold-book.result p _ _ a refl c.release.ensures.back in
+    let held = c.hold-current.ensures.held in
+    let a = alone held.0 held.1 c.hold-current.result p _ _ _ (ap view_of c.pass.view_is) c.pass.invariant.0 held.2 in
+    let after = after_back (λ _. true) held.0 held.1 c.hold-current.result c.hold-current.result p _ _ a refl c.release.ensures.back in
     let q : PassView = shown true (length held.1) held.1 p in
     ap (λ (m : Sits). (only m.0.passes).number) after
 
 pub returns-clause-proper : goal.returns-clause-proper
 returns-clause-proper g c =
     let p = c.args.pass.now.view in
-    let held = c.hold-book.ensures.held in
-    let a = alone held.0 held.1 c.hold-book.result p _ _ _ (ap view_of c.pass.view_is) c.pass.invariant.0 held.2 in
-    let after = after_back (λ _. true) held.0 held.1 c.hold-book.result c.hold-book.result p _ _ a refl c.release.ensures.back in
+    let held = c.hold-current.ensures.held in
+    let a = alone held.0 held.1 c.hold-current.result p _ _ _ (ap view_of c.pass.view_is) c.pass.invariant.0 held.2 in
+    let after = after_back (λ _. true) held.0 held.1 c.hold-current.result c.hold-current.result p _ _ a refl c.release.ensures.back in
     let q : PassView = shown true (length held.1) held.1 p in
     let proper : IsProper q = proper_shown true (length held.1) p held.1 (subst IsProper (ap view_of c.pass.view_is) c.pass.invariant.3) a.finds in
     subst IsProper (sym (only_is _ q after)) proper
@@ -87,8 +87,8 @@ returns-clause-proper g c =
 pub returns-clause-observed : goal.returns-clause-observed
 returns-clause-observed g c =
     let p = c.args.pass.now.view in
-    let held = c.hold-book.ensures.held in
-    let a = alone held.0 held.1 c.hold-book.result p _ _ _ (ap view_of c.pass.view_is) c.pass.invariant.0 held.2 in
-    let after = after_back (λ _. true) held.0 held.1 c.hold-book.result c.hold-book.result p _ _ a refl c.release.ensures.back in
+    let held = c.hold-current.ensures.held in
+    let a = alone held.0 held.1 c.hold-current.result p _ _ _ (ap view_of c.pass.view_is) c.pass.invariant.0 held.2 in
+    let after = after_back (λ _. true) held.0 held.1 c.hold-current.result c.hold-current.result p _ _ a refl c.release.ensures.back in
     let q : PassView = shown true (length held.1) held.1 p in
-    observes c.observed-observed.result _ held.0 held.1 c.hold-book.result p _ _ a (only_is _ q after) c.observed-observed.ensures
+    observes c.observed-observed.result _ held.0 held.1 c.hold-current.result p _ _ a (only_is _ q after) c.observed-observed.ensures

@@ -22,35 +22,35 @@ bounds_of x = x.bounds
 pub overflow_cast-pass : goal.overflow_cast-pass
 overflow_cast-pass g c =
     let p = c.args.pass.now.view in
-    let held = c.hold-book.ensures.held in
-    let a = alone held.0 held.1 c.hold-book.result p _ _ _ (ap view_of c.pass.view_is) c.pass.invariant.0 held.2 in
-    let short : length c.hold-book.result.history ≤ 4194304 =
-    few held.0 c.self.inside.bounds held.1 c.hold-book.result p _ a (c.requires.bounds ∙ ap bounds_of (sym c.self.view_is)) c.self.invariant.1 in
+    let held = c.hold-found.ensures.held in
+    let a = alone held.0 held.1 c.hold-found.result p _ _ _ (ap view_of c.pass.view_is) c.pass.invariant.0 held.2 in
+    let short : length c.hold-found.result.history ≤ 4194304 =
+    few held.0 c.self.inside.bounds held.1 c.hold-found.result p _ a (c.requires.bounds ∙ ap bounds_of (sym c.self.view_is)) c.self.invariant.1 in
     let count = c.entries.ensures in
     omega arith
 
 pub release-requires-clause-few : goal.release-requires-clause-few
 release-requires-clause-few g c =
     let p = c.args.pass.now.view in
-    let held = c.hold-book.ensures.held in
-    let a = alone held.0 held.1 c.hold-book.result p _ _ _ (ap view_of c.pass.view_is) c.pass.invariant.0 held.2 in
-    let short : length c.hold-book.result.history ≤ 4194304 =
-    few held.0 c.self.inside.bounds held.1 c.hold-book.result p _ a (c.requires.bounds ∙ ap bounds_of (sym c.self.view_is)) c.self.invariant.1 in
+    let held = c.hold-found.ensures.held in
+    let a = alone held.0 held.1 c.hold-found.result p _ _ _ (ap view_of c.pass.view_is) c.pass.invariant.0 held.2 in
+    let short : length c.hold-found.result.history ≤ 4194304 =
+    few held.0 c.self.inside.bounds held.1 c.hold-found.result p _ a (c.requires.bounds ∙ ap bounds_of (sym c.self.view_is)) c.self.invariant.1 in
     omega arith
 
 pub release-requires-clause-ready : goal.release-requires-clause-ready
 release-requires-clause-ready g c =
     let p = c.args.pass.now.view in
-    let held = c.hold-book.ensures.held in
-    let a = alone held.0 held.1 c.hold-book.result p _ _ _ (ap view_of c.pass.view_is) c.pass.invariant.0 held.2 in
-    inl (looked false (length held.1) p ∷ [], held.1, held.0, can_back (λ _. false) held.0 held.1 c.hold-book.result c.hold-book.result p _ a refl)
+    let held = c.hold-found.ensures.held in
+    let a = alone held.0 held.1 c.hold-found.result p _ _ _ (ap view_of c.pass.view_is) c.pass.invariant.0 held.2 in
+    inl (looked false (length held.1) p ∷ [], held.1, held.0, can_back (λ _. false) held.0 held.1 c.hold-found.result c.hold-found.result p _ a refl)
 
 pub invariant_of-pass : goal.invariant_of-pass
 invariant_of-pass g c =
     let p = c.args.pass.now.view in
-    let held = c.hold-book.ensures.held in
-    let a = alone held.0 held.1 c.hold-book.result p _ _ _ (ap view_of c.pass.view_is) c.pass.invariant.0 held.2 in
-    let after = after_back (λ _. false) held.0 held.1 c.hold-book.result c.hold-book.result p _ _ a refl c.release.ensures.back in
+    let held = c.hold-found.ensures.held in
+    let a = alone held.0 held.1 c.hold-found.result p _ _ _ (ap view_of c.pass.view_is) c.pass.invariant.0 held.2 in
+    let after = after_back (λ _. false) held.0 held.1 c.hold-found.result c.hold-found.result p _ _ a refl c.release.ensures.back in
     let q : PassView = shown false (length held.1) held.1 p in
     let proper : IsProper q = proper_shown false (length held.1) p held.1 (subst IsProper (ap view_of c.pass.view_is) c.pass.invariant.3) a.finds in
     let count = c.entries.ensures ∙ ap (λ (x : Recorded). length x.history) a.pages in
@@ -59,30 +59,30 @@ invariant_of-pass g c =
 pub returns-clause-of : goal.returns-clause-of
 returns-clause-of g c =
     let p = c.args.pass.now.view in
-    let held = c.hold-book.ensures.held in
-    let a = alone held.0 held.1 c.hold-book.result p _ _ _ (ap view_of c.pass.view_is) c.pass.invariant.0 held.2 in
-    let after = after_back (λ _. false) held.0 held.1 c.hold-book.result c.hold-book.result p _ _ a refl c.release.ensures.back in
+    let held = c.hold-found.ensures.held in
+    let a = alone held.0 held.1 c.hold-found.result p _ _ _ (ap view_of c.pass.view_is) c.pass.invariant.0 held.2 in
+    let after = after_back (λ _. false) held.0 held.1 c.hold-found.result c.hold-found.result p _ _ a refl c.release.ensures.back in
     let q : PassView = shown false (length held.1) held.1 p in
     record {
-      table = c.release.ensures.at ∙ (c.hold-book.ensures.at ∙ (ap table_of c.pass.view_is ∙ c.requires.table));
+      table = c.release.ensures.at ∙ (c.hold-found.ensures.at ∙ (ap table_of c.pass.view_is ∙ c.requires.table));
       bounds = ap (λ (m : Sits). (only m.0.passes).bounds) after ∙ c.requires.bounds;
     }
 
 pub returns-clause-number : goal.returns-clause-number
 returns-clause-number g c =
     let p = c.args.pass.now.view in
-    let held = c.hold-book.ensures.held in
-    let a = alone held.0 held.1 c.hold-book.result p _ _ _ (ap view_of c.pass.view_is) c.pass.invariant.0 held.2 in
-    let after = after_back (λ _. false) held.0 held.1 c.hold-book.result c.hold-book.result p _ _ a refl c.release.ensures.back in
+    let held = c.hold-found.ensures.held in
+    let a = alone held.0 held.1 c.hold-found.result p _ _ _ (ap view_of c.pass.view_is) c.pass.invariant.0 held.2 in
+    let after = after_back (λ _. false) held.0 held.1 c.hold-found.result c.hold-found.result p _ _ a refl c.release.ensures.back in
     let q : PassView = shown false (length held.1) held.1 p in
     ap (λ (m : Sits). (only m.0.passes).number) after
 
 pub returns-clause-proper : goal.returns-clause-proper
 returns-clause-proper g c =
     let p = c.args.pass.now.view in
-    let held = c.hold-book.ensures.held in
-    let a = alone held.0 held.1 c.hold-book.result p _ _ _ (ap view_of c.pass.view_is) c.pass.invariant.0 held.2 in
-    let after = after_back (λ _. false) held.0 held.1 c.hold-book.result c.hold-book.result p _ _ a refl c.release.ensures.back in
+    let held = c.hold-found.ensures.held in
+    let a = alone held.0 held.1 c.hold-found.result p _ _ _ (ap view_of c.pass.view_is) c.pass.invariant.0 held.2 in
+    let after = after_back (λ _. false) held.0 held.1 c.hold-found.result c.hold-found.result p _ _ a refl c.release.ensures.back in
     let q : PassView = shown false (length held.1) held.1 p in
     let proper : IsProper q = proper_shown false (length held.1) p held.1 (subst IsProper (ap view_of c.pass.view_is) c.pass.invariant.3) a.finds in
     subst IsProper (sym (only_is _ q after)) proper
@@ -90,8 +90,8 @@ returns-clause-proper g c =
 pub returns-clause-up : goal.returns-clause-up
 returns-clause-up g c =
     let p = c.args.pass.now.view in
-    let held = c.hold-book.ensures.held in
-    let a = alone held.0 held.1 c.hold-book.result p _ _ _ (ap view_of c.pass.view_is) c.pass.invariant.0 held.2 in
-    let after = after_back (λ _. false) held.0 held.1 c.hold-book.result c.hold-book.result p _ _ a refl c.release.ensures.back in
+    let held = c.hold-found.ensures.held in
+    let a = alone held.0 held.1 c.hold-found.result p _ _ _ (ap view_of c.pass.view_is) c.pass.invariant.0 held.2 in
+    let after = after_back (λ _. false) held.0 held.1 c.hold-found.result c.hold-found.result p _ _ a refl c.release.ensures.back in
     let q : PassView = shown false (length held.1) held.1 p in
     (held.1, a.finds, only_is _ q after)

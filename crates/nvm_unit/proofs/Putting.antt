@@ -1,0 +1,168 @@
+-- A seat that puts the unit back keeps the rule of the table.
+use Rattle.std.proofs.Common.{◌≡◌, ℕ, ◌+◌, ◌*◌, ◌<◌, List, [], ◌∷◌, ◌++◌, length, map, set, get_or, subst, refl, sym, ap, ◌∙◌, arith, Bool, true, Option, Some, None}
+use mathlib.Core.Option.{some}
+use Rattle.atomic_table.specs.Table.{Step, gives, Allows}
+use Rattle.std.proofs.lemmas.List.{get_or_push}
+use Rattle.nvm_store.specs.Line.{Line}
+use Rattle.nvm_store.specs.History.{CanFollow}
+use Rattle.nvm_unit.specs.declared.bounds.Bounds.{Bounds}
+use Rattle.nvm_unit.specs.declared.views.PassView.{PassView}
+use Rattle.nvm_unit.specs.declared.views.Group.{Group}
+use Rattle.nvm_unit.specs.Views.{shown, added}
+use Rattle.nvm_unit.specs.Machine.{UnitState, IsAt, RestsAs, IsHand}
+use Rattle.nvm_unit.specs.Events.{IsAct, adds, returns, IsReached, number_found, idle, CanStep, CanAdd, after_put, after_return}
+use Rattle.nvm_unit.specs.Knowledge.{IsKept}
+use Rattle.nvm_unit.specs.Book.{recorded}
+use Rattle.nvm_unit.specs.Rule.{slots_of, IsRuled}
+use Rattle.nvm_unit.specs.Plays.{Sits, resting, holding, EachIn, puts, CanReturn, CanAppend}
+use Rattle.nvm_unit.proofs.EventsKept.{FollowsLawfully}
+use Rattle.nvm_unit.proofs.Keeping.{found_is, keeps_return, keeps_put}
+use Rattle.nvm_unit.proofs.Reaching.{ruled_after}
+use Rattle.nvm_unit.proofs.Allowed.{Slot, Deciding, Goes, same_table, allowed}
+
+abbrev held_or : Option (List Line) → List Line
+held_or None = []
+held_or (Some h) = h
+
+abbrev book_or : List (ℕ × Slot) → Slot
+book_or [] = None
+book_or (x ∷ xs) = x.1
+
+abbrev pages_or : Slot → List Line
+pages_or None = []
+pages_or (Some book) = book.history
+
+-- What the holder holds is the history, and the slot is out.
+holder_is : (b : Bounds) (s : UnitState) → IsKept b s → (id : ℕ) (ps : List PassView) (h : List Line) → IsAt s.groups id (record { passes = ps; held = Some h })
+    → (s.holder ≡ Some id) × (h ≡ s.history) × (s.word ≡ 2 * length s.history + 1) × (s.slot ≡ None)
+holder_is b s kept id ps h at =
+    let hand : IsHand s.holder s.history id (Some h) = kept.sound.hold.others id (record { passes = ps; held = Some h }) at in
+    let rests : RestsAs (Some id) s.word s.slot s.history = subst (λ (x : Option ℕ). RestsAs x s.word s.slot s.history) hand.0 kept.sound.hold.rests in
+    (hand.0, hand.1, rests.0, rests.1)
+
+-- what a seat that holds the unit has in the slot, and holds
+abbrev held_passes : Sits → List PassView
+held_passes m = m.0.passes
+
+abbrev held_history : Sits → List Line
+held_history m = held_or m.0.held
+
+-- The passes of a group say what is settled of the unit.
+bounds_same : (b b' : Bounds) (s : UnitState) → IsKept b s → (id : ℕ) (ps : List PassView) (h : List Line) → IsAt s.groups id (record { passes = ps; held = Some h })
+    → 0 < length ps → EachIn (λ p. p.bounds ≡ b') ps → b' ≡ b
+bounds_same b b' s kept id [] h at filled each = absurd (omega arith)
+bounds_same b b' s kept id (p ∷ ps) h at filled each =
+    sym (each 0 p refl) ∙ (kept.knows id 0 p (record { group = record { passes = p ∷ ps; held = Some h }; at = at; inside = refl })).bounds
+
+-- A store that puts the unit back as it was.
+return_goes : (decides : Deciding) (st : Step Slot) (b b' : Bounds) (id entries : ℕ) (ps : List PassView) (h : List Line) → st.first ≡ 2 * entries → entries ≡ length h
+    → 0 < length ps → EachIn (λ p. p.bounds ≡ b') ps → (decides (2 * length h + 1) ≡ true → length ps ≡ 1)
+    → (s : UnitState) → IsKept b s → IsReached b s → IsAt s.groups id (record { passes = ps; held = Some h })
+    → Goes b s id (holding ps h (Some (recorded b' h))) (λ word. puts decides st (holding ps h (Some (recorded b' h))) word) (2 * entries)
+return_goes decides st b b' id entries ps h first count filled bounds alone s kept reached at =
+    let x : Slot = Some (recorded b' h) in
+    let g : Group = record { passes = ps; held = Some h } in
+    let n = number_found s in
+    let d : Bool = decides (2 * length h + 1) in
+    let is = holder_is b s kept id ps h at in
+    let now : n ≡ length s.history = found_is b s kept.sound.hold in
+    let here : h ≡ s.history = is.1 in
+    let long : length h ≡ length s.history = ap length here in
+    let can : CanStep s id g d = record { at = at; some = filled; alone = alone } in
+    let w : Group = idle (map (shown d (length h) h) ps) in
+    let t = after_return s id g d in
+    let home : s.slot ≡ None = is.3 in
+    let of_unit : b' ≡ b = bounds_same b b' s kept id ps h at filled bounds in
+    let homes : set (slots_of b s.slot) 0 (some x) ≡ slots_of b (Some h) =
+    ap (λ (o : Option (List Line)). set (slots_of b o) 0 (some x)) home
+    ∙ ap (λ (y : Bounds). some (let z : Slot = Some (recorded y h) in z) ∷ []) of_unit in
+    let views : set s.groups id w ≡ t.groups =
+    ap (λ (k : ℕ). set s.groups id (idle (map (shown d k h) ps))) (long ∙ sym now)
+    ∙ ap (λ (y : List Line). set s.groups id (idle (map (shown d n y) ps))) here in
+    let twice : 2 * entries ≡ 2 * n = omega arith in (
+      w,
+      gives,
+      tt,
+      ruled_after b s t (returns id d) _ reached (g, can, is.0, refl)
+          (same_table (2 * entries ∷ []) (2 * n ∷ []) (set (slots_of b s.slot) 0 (some x)) (slots_of b (Some h)) (set s.groups id w) t.groups (ap (λ (y : ℕ). y ∷ []) twice) homes views)
+          (keeps_return b s kept id g d can is.0),
+      λ entries' first'. (
+        λ ps' history book same count'.
+            let same_ps : ps ≡ ps' = ap held_passes same in
+            let same_history : h ≡ history = ap held_history same in
+            ap (λ (y : List Line). resting (map (shown (decides (2 * length y + 1)) (length y) y) ps)) same_history
+            ∙ ap (λ (y : List PassView). resting (map (shown (decides (2 * length history + 1)) (length history) history) y)) same_ps,
+        λ p history line same count'.
+            let same_length : length h ≡ length history = ap (λ (y : Sits). length (held_history y)) same in
+            absurd (omega arith),
+      ),
+    )
+
+pub return_allowed : (decides : Deciding) (st : Step Slot) (b b' : Bounds) (slots id entries : ℕ) (m : Sits) (ps : List PassView) (h : List Line) → st.first ≡ 2 * entries
+    → CanReturn decides entries m ps h b' → Allows (IsRuled b) slots id m 0 (λ _. 2 * entries) (λ _. puts decides st m (2 * entries))
+return_allowed decides st b b' slots id entries m ps h first can =
+    let at : Sits = holding ps h (Some (recorded b' h)) in
+    subst (λ (y : Sits). Allows (IsRuled b) slots id y 0 (λ _. 2 * entries) (λ _. puts decides st y (2 * entries))) (sym can.at)
+    (allowed b slots id at (λ _. 2 * entries) (λ _. puts decides st at (2 * entries))
+    (return_goes decides st b b' id entries ps h first can.count can.filled can.bounds can.alone))
+
+-- A store that puts the unit back with one entry more.
+append_goes : FollowsLawfully → (decides : Deciding) (st : Step Slot) (b : Bounds) (id entries : ℕ) (p : PassView) (h : List Line) (line : Line) → st.first ≡ 2 * entries → entries ≡ length h + 1
+    → IsAct line.operation.deed → line.pass ≡ p.number → CanFollow p.bounds.place.first p.bounds.place.blocks p.bounds.place.size h line → length h < p.bounds.limit
+    → (s : UnitState) → IsKept b s → IsReached b s → IsAt s.groups id (record { passes = p ∷ []; held = Some h })
+    → Goes b s id (holding (p ∷ []) h (Some (recorded p.bounds (h ++ line ∷ [])))) (λ word. puts decides st (holding (p ∷ []) h (Some (recorded p.bounds (h ++ line ∷ [])))) word) (2 * entries)
+append_goes law decides st b id entries p h line first count act number follows room s kept reached at =
+    let x : Slot = Some (recorded p.bounds (h ++ line ∷ [])) in
+    let g : Group = record { passes = p ∷ []; held = Some h } in
+    let n = number_found s in
+    let is = holder_is b s kept id (p ∷ []) h at in
+    let now : n ≡ length s.history = found_is b s kept.sound.hold in
+    let here : h ≡ s.history = is.1 in
+    let long : length h ≡ length s.history = ap length here in
+    let of_unit : p.bounds ≡ b = (kept.knows id 0 p (record { group = g; at = at; inside = refl })).bounds in
+    let follows_here : CanFollow b.place.first b.place.blocks b.place.size s.history line =
+    subst (λ (y : List Line). CanFollow b.place.first b.place.blocks b.place.size y line) here
+    (subst (λ (y : Bounds). CanFollow y.place.first y.place.blocks y.place.size h line) of_unit follows) in
+    let room_here : length h < b.limit = subst (λ (y : Bounds). length h < y.limit) of_unit room in
+    let can : CanAdd b s id p h line = record { at = at; holds = is.0; act = act; number = number; follows = follows_here; room = (omega arith) } in
+    let w : Group = idle (added (length h) h line p ∷ []) in
+    let t = after_put s id p h line in
+    let home : s.slot ≡ None = is.3 in
+    let homes : set (slots_of b s.slot) 0 (some x) ≡ slots_of b (Some (h ++ line ∷ [])) =
+    ap (λ (o : Option (List Line)). set (slots_of b o) 0 (some x)) home
+    ∙ ap (λ (y : Bounds). some (let z : Slot = Some (recorded y (h ++ line ∷ [])) in z) ∷ []) of_unit in
+    let views : set s.groups id w ≡ t.groups =
+    ap (λ (k : ℕ). set s.groups id (idle (added k h line p ∷ []))) (long ∙ sym now)
+    ∙ ap (λ (y : List Line). set s.groups id (idle (added n y line p ∷ []))) here in
+    let twice : 2 * entries ≡ 2 * n + 2 = omega arith in (
+      w,
+      gives,
+      tt,
+      ruled_after b s t (adds id line) _ reached (p, h, can, refl)
+          (same_table (2 * entries ∷ []) ((2 * n + 2) ∷ []) (set (slots_of b s.slot) 0 (some x)) (slots_of b (Some (h ++ line ∷ []))) (set s.groups id w) t.groups (ap (λ (y : ℕ). y ∷ []) twice) homes views)
+          (keeps_put b s kept id p h line can (law b.place.first b.place.blocks b.place.size s.history line kept.sound.hold.lawful follows_here)),
+      λ entries' first'. (
+        λ ps' history book same count'.
+            let same_length : length h ≡ length history = ap (λ (y : Sits). length (held_history y)) same in
+            absurd (omega arith),
+        λ p' history line' same count'.
+            let same_p : p ∷ [] ≡ p' ∷ [] = ap held_passes same in
+            let same_pass : p ≡ p' = cc in
+            let same_history : h ≡ history = ap held_history same in
+            let pages : h ++ line ∷ [] ≡ history ++ line' ∷ [] = ap (λ (y : Sits). pages_or (book_or y.1)) same in
+            let pages_here : h ++ line ∷ [] ≡ h ++ line' ∷ [] = pages ∙ ap (λ (y : List Line). y ++ line' ∷ []) (sym same_history) in
+            let same_line : line ≡ line' =
+            sym (get_or_push h line line (length h) refl) ∙ (ap (λ (y : List Line). get_or y (length h) line) pages_here ∙ get_or_push h line' line (length h) refl) in
+            ap (λ (y : List Line). resting (added (length y) y line p ∷ [])) same_history
+            ∙ (ap (λ (y : Line). resting (added (length history) history y p ∷ [])) same_line
+            ∙ ap (λ (y : PassView). resting (added (length history) history line' y ∷ [])) same_pass),
+      ),
+    )
+
+pub append_allowed : FollowsLawfully → (decides : Deciding) (st : Step Slot) (b : Bounds) (slots id entries : ℕ) (m : Sits) (p : PassView) (h : List Line) (line : Line) → st.first ≡ 2 * entries
+    → CanAppend entries m p h line → Allows (IsRuled b) slots id m 0 (λ _. 2 * entries) (λ _. puts decides st m (2 * entries))
+append_allowed law decides st b slots id entries m p h line first can =
+    let at : Sits = holding (p ∷ []) h (Some (recorded p.bounds (h ++ line ∷ []))) in
+    subst (λ (y : Sits). Allows (IsRuled b) slots id y 0 (λ _. 2 * entries) (λ _. puts decides st y (2 * entries))) (sym can.at)
+    (allowed b slots id at (λ _. 2 * entries) (λ _. puts decides st at (2 * entries))
+    (append_goes law decides st b id entries p h line first can.count can.act can.number can.follows can.room))
