@@ -17,12 +17,13 @@ use crate::fault::Fault;
 use crate::mutex_writer::MutexWriter;
 use crate::unit_writer::UnitWriter;
 use crate::words::{Target, read_words};
-use std::env;
+use std::io::ErrorKind;
 use std::process::ExitCode;
 use std::rt::{Clock, Env};
 use std::sync::Wait;
 use std::thread::Threads;
 use std::time::CpuClock;
+use std::{env, io};
 
 fn main(rt: HostRuntime) -> ExitCode {
     match run(&rt) {
@@ -39,10 +40,11 @@ fn main(rt: HostRuntime) -> ExitCode {
 fn run<R: AllocGlobal + Env + Print + Eprint + Threads + Wait + Sync + Clock + CpuClock>(
     rt: &R,
 ) -> Result<(), Fault> {
-    let mut words = Vec::new(rt.alloc());
-    for word in env::args(rt).map_err(|_| Fault::Words)?.skip(1) {
-        words.push(word)?;
-    }
+    let words = match words_given(rt) {
+        Ok(words) => words,
+        Err(error) if error.kind() == ErrorKind::OutOfMemory => return Err(Fault::NoMemory),
+        Err(_) => return Err(Fault::Words),
+    };
     let asked = read_words(words.as_slice())?;
     let measured = match asked.target {
         Target::Unit => measure::<UnitWriter, R>(rt, rt.alloc(), &asked)?,
@@ -57,4 +59,13 @@ fn run<R: AllocGlobal + Env + Print + Eprint + Threads + Wait + Sync + Clock + C
     println!(rt; "changes {changes}").map_err(|_| Fault::Unwritten)?;
     eprintln!(rt; "{wall} {processor}").map_err(|_| Fault::Unwritten)?;
     Ok(())
+}
+
+/// The words after the program's name.
+fn words_given<R: AllocGlobal + Env>(rt: &R) -> io::Result<Vec<String>> {
+    let mut words = Vec::new(rt.alloc());
+    for word in env::args(rt)?.skip(1) {
+        words.push(word)?;
+    }
+    Ok(words)
 }

@@ -38,24 +38,24 @@ impl Plain {
         pass: u16,
         job: u32,
         lba: u64,
-        data: &[u8],
+        payload: &[u8],
     ) -> Result<(), Fault>
         ensures history { OnOk result (self.new.history.items
-            ≡ self.old.history.items ++ record { pass = pass; job = job; operation = write_operation lba 1 data.now } ∷ []) }
-        ensures block { OnOk result (HoldsAt (λ b. b.items ≡ data.now) self.new.blocks.items lba) }
+            ≡ self.old.history.items ++ record { pass = pass; job = job; operation = write_operation lba 1 payload.now } ∷ []) }
+        ensures block { OnOk result (HoldsAt (λ b. b.items ≡ payload.now) self.new.blocks.items lba) }
         ensures same_history { OnErr result (self.new.history.items ≡ self.old.history.items) }
         ensures same_blocks { OnErr result (self.new.blocks.items ≡ self.old.blocks.items) }
     {
         let Some(block) = self.blocks.get_mut(lba as usize) else {
             return Err(Fault::Refused);
         };
-        if block.len() != data.len() {
+        if block.len() != payload.len() {
             return Err(Fault::Refused);
         }
         let act = ActRef::Write {
             first: lba,
             blocks: 1,
-            payload: data,
+            payload,
         };
         let entry = Entry {
             pass,
@@ -63,7 +63,7 @@ impl Plain {
             act: act.to_act(alloc)?,
         };
         self.history.push(entry)?;
-        block.copy_from_slice(data);
+        block.copy_from_slice(payload);
         Ok(())
     }
 }
@@ -103,11 +103,11 @@ impl Writer for MutexWriter {
         alloc: Global,
         job: u32,
         lba: u64,
-        data: &[u8],
+        payload: &[u8],
     ) -> Result<(), Fault> {
         self.shared
             .lock(rt)
-            .write(alloc, self.number, job, lba, data)?;
+            .write(alloc, self.number, job, lba, payload)?;
         Ok(())
     }
 

@@ -125,3 +125,21 @@ fn a_unit_takes_no_more_changes_than_asked_for(rt: HostRuntime) -> Result<(), Fa
     assert_eq!(rt; full, Err(Fault::Refused));
     Ok(())
 }
+
+#[test]
+fn each_fault_has_its_line(rt: HostRuntime) -> Result<(), Fail> {
+    for (fault, line) in [
+        (Fault::Refused, "unit_bench: a change was refused"),
+        (
+            Fault::OtherChanges,
+            "unit_bench: the units have other changes",
+        ),
+        (Fault::NoClock, "unit_bench: no clock"),
+        (Fault::Unwritten, "unit_bench: cannot write"),
+        (Fault::NoMemory, "unit_bench: no memory"),
+    ] {
+        let text = fault.to_string(rt.alloc())?;
+        assert_eq!(rt; text.as_str(), line);
+    }
+    Ok(())
+}

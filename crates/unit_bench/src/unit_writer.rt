@@ -1,5 +1,6 @@
-ghost use Rattle.std.specs.Prelude.{◌≡◌, ◌+◌, All, IfOk, OnOk, OnErr, length};
+ghost use Rattle.std.specs.Prelude.{◌≡◌, ℕ, [], ◌∷◌, ◌++◌, All, IfOk, OnOk, OnErr, length};
 ghost use Rattle.std.specs.Arc.{arc_value};
+ghost use Rattle.nvm_store.specs.Operation.{write_operation};
 ghost use Rattle.nvm_unit.specs.Passes.{IsPassOf};
 
 use crate::fault::Fault;
@@ -72,15 +73,23 @@ impl Writer for UnitWriter {
         alloc: Global,
         job: u32,
         lba: u64,
-        data: &[u8],
+        payload: &[u8],
     ) -> Result<(), Fault>
-        ensures made { OnOk result (length self.new.pass.view.mine ≡ length self.old.pass.view.mine + 1) }
+        ensures made { OnOk result ((place : ℕ) × (self.new.pass.view.mine ≡ self.old.pass.view.mine
+            ++ (
+              place,
+              record {
+                pass = self.old.pass.view.number;
+                job = job;
+                operation = write_operation lba 1 payload.now;
+              },
+            ) ∷ [])) }
         ensures same { OnErr result (self.new.pass.view.mine ≡ self.old.pass.view.mine) }
     {
         let act = ActRef::Write {
             first: lba,
             blocks: 1,
-            payload: data,
+            payload,
         };
         if !self.unit.covers(act) {
             return Err(Fault::Refused);

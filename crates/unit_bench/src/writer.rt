@@ -29,7 +29,7 @@ pub trait Writer: Drop {
         alloc: Global,
         job: u32,
         lba: u64,
-        data: &[u8],
+        payload: &[u8],
     ) -> Result<(), Fault>;
 
     /// The number of changes that the unit has, whoever made them. It waits for the unit.
