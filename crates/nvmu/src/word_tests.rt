@@ -13,15 +13,15 @@ const WHOLE: [&str; 21] = [
     "--block",
     "512",
     "--nabsn",
-    "0",
+    "9",
     "--nabo",
-    "0",
+    "4",
     "--nawun",
     "7",
     "--nacwu",
     "3",
     "--workers",
-    "1",
+    "2",
     "--limit",
     "100",
     "--out",
@@ -52,11 +52,11 @@ fn whole_line_gives_its_values(rt: HostRuntime) -> Result<(), Fail> {
     let wanted = Settings {
         nsze: 32,
         block: 512,
-        nabsn: 0,
-        nabo: 0,
+        nabsn: 9,
+        nabo: 4,
         nawun: 7,
         nacwu: 3,
-        workers: 1,
+        workers: 2,
         limit: 100,
     };
     assert_eq!(rt; settings, wanted);
@@ -153,6 +153,16 @@ fn missing_words_are_refused(rt: HostRuntime) -> Result<(), Fail> {
     let words: [&str; 0] = [];
     let refused = is_refused(rt.alloc(), words.as_slice())?;
     assert!(rt; refused, "no words");
+    Ok(())
+}
+
+#[test]
+fn option_given_twice_is_refused(rt: HostRuntime) -> Result<(), Fail> {
+    let mut words = with_word(rt.alloc(), 0, "run")?;
+    words.push("--nsze")?;
+    words.push("32")?;
+    let refused = is_refused(rt.alloc(), words.as_slice())?;
+    assert!(rt; refused, "nsze twice");
     Ok(())
 }
 

@@ -144,6 +144,7 @@ fn program<'a>(alloc: Global) -> Result<Command<'a>, Error> {
     let run = run_command(alloc)?;
     Ok(
         Command::new(alloc, "nvmu")
+            .bin_name("nvmu")?
             .about("Executes the NVM commands of hosts on one namespace in memory")
             .no_binary_name(true)
             .subcommand_required(true)

@@ -118,6 +118,7 @@ fn program<'a>(alloc: Global) -> Result<Command<'a>, Error> {
     let list = list_command(alloc)?;
     Ok(
         Command::new(alloc, "nvq")
+            .bin_name("nvq")?
             .about("Makes lists of NVM commands into host files, and lists those")
             .no_binary_name(true)
             .subcommand_required(true)
