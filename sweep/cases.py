@@ -12,7 +12,7 @@ from dataclasses import dataclass, field
 from model import Model
 
 # How an assertion prints the want of memory that a call gave.
-GIVEN_FOR_MEMORY = re.compile(r'"nv(mu|q): no memory"|Err\((NoMemory|AllocError|AllocFailed \{ \.\. \})\)')
+GIVEN_FOR_MEMORY = re.compile(r'"(nvmu|nvq|unit_bench): no memory"|Err\((NoMemory|AllocError|AllocFailed \{ \.\. \})\)')
 
 
 @dataclass
@@ -41,6 +41,9 @@ class Run:
     model: Model = None  # of a run of host files
     input: str = None  # the path of its standard input
     row = 5  # this many growths, one after the other, are refused in a further run
+
+    def has_threads(self):
+        return False
 
     def whole(self, end):
         if end.status != self.status:
@@ -88,6 +91,9 @@ class Test:
     name: str
     words: list
     input = row = None
+
+    def has_threads(self):
+        return "::threads::" in self.name
 
     def whole(self, end):
         if not self.is_passed(end):

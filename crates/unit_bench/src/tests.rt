@@ -1,5 +1,6 @@
 //! The words, the sharing out, and writers of both kinds.
-use crate::course::measure;
+mod threads;
+
 use crate::fault::Fault;
 use crate::mutex_writer::MutexWriter;
 use crate::unit_writer::UnitWriter;
@@ -71,28 +72,6 @@ fn other_words_are_refused(rt: HostRuntime) -> Result<(), Fail> {
         asked(alloc, &["unit", "1", "1", "1", "x"])?,
         Err(Fault::Words)
     );
-    Ok(())
-}
-
-const ASKED: Asked = Asked {
-    target: Target::Unit,
-    units: 2,
-    threads: 3,
-    changes: 101,
-    blocks: 5,
-};
-
-#[test]
-fn threads_share_units(rt: HostRuntime) -> Result<(), Fail> {
-    let measured = measure::<UnitWriter, _>(&rt, rt.alloc(), &ASKED)?;
-    assert_eq!(rt; measured.changes, 101);
-    Ok(())
-}
-
-#[test]
-fn threads_share_mutexes(rt: HostRuntime) -> Result<(), Fail> {
-    let measured = measure::<MutexWriter, _>(&rt, rt.alloc(), &ASKED)?;
-    assert_eq!(rt; measured.changes, 101);
     Ok(())
 }
 
