@@ -6,7 +6,7 @@ use Rattle.nvm_engine.specs.Shown.{IsShown}
 use Rattle.nvm_engine.specs.declared.fault.Fault.{Fault}
 use Rattle.nvm_engine.specs.declared.settings.Settings.{Settings}
 use Rattle.nvm_engine.specs.declared.shown.Shown.{Shown}
-use Rattle.nvmu.specs.Files.{IsFilesFault}
+use Rattle.nvmu.specs.Files.{IsReadingFault}
 
 -- It is that of a run of the settings on the files at these paths.
 abbrev pub IsShownOn : Settings → List (List ℕ) → Shown → Type 0
@@ -15,4 +15,4 @@ IsShownOn settings paths shown = (files : List (List ℕ)) × (length files ≡ 
 -- Some file couldn't be read, or else it is the first fault of a run on them.
 abbrev pub IsFaultOn : Settings → List (List ℕ) → Fault → Type 0
 IsFaultOn settings paths fault =
-    IsFilesFault paths fault ⊎ ((files : List (List ℕ)) × (length files ≡ length paths) × IsFirstFault settings files fault)
+    IsReadingFault paths fault ⊎ ((files : List (List ℕ)) × (length files ≡ length paths) × IsFirstFault settings files fault)

@@ -1,5 +1,5 @@
 ghost use Rattle.std.specs.Prelude.{◌≡◌, IfOk, IfErr, length, map, string_bytes};
-ghost use Rattle.nvmu.specs.Files.{IsFileFault, IsFilesFault};
+ghost use Rattle.nvmu.specs.Files.{IsReadFault, IsReadingFault};
 
 use nvm_engine::Fault;
 use std::fs::OpenFile;
@@ -10,7 +10,7 @@ use std::{fs, io};
 /// The bytes of each file, in the files' order. The first that can't be read is the fault.
 pub fn read_files<R: Files + AllocGlobal>(rt: &R, paths: &[String]) -> Result<Vec<Vec<u8>>, Fault>
     ensures count { IfOk result (λ files. length files.items ≡ length paths.now) }
-    ensures fault { IfErr result (IsFilesFault (map (λ path. string_bytes path) paths.now)) }
+    ensures fault { IfErr result (IsReadingFault (map (λ path. string_bytes path) paths.now)) }
 {
     let mut files = Vec::with_capacity(rt.alloc(), paths.len())?;
     for path in paths {
@@ -21,7 +21,7 @@ pub fn read_files<R: Files + AllocGlobal>(rt: &R, paths: &[String]) -> Result<Ve
 
 /// The bytes of a file. Want of memory isn't the file's fault.
 fn read_file<R: Files + AllocGlobal>(rt: &R, path: &str) -> Result<Vec<u8>, Fault>
-    ensures { IfErr result (IsFileFault path.now) }
+    ensures { IfErr result (IsReadFault path.now) }
 {
     match bytes_of(rt, path) {
         Ok(bytes) => Ok(bytes),

@@ -1,18 +1,18 @@
 //! The program `nvq`: makes lists of commands, which people write, into host files, and lists those.
 #![tactic(auto)]
 
+mod conversion;
 mod fault;
 #[cfg(test)]
 mod fault_tests;
 mod files;
-mod turning;
 #[cfg(test)]
 mod word_tests;
 mod words;
 
+use crate::conversion::{file_of, list_of};
 use crate::fault::Fault;
 use crate::files::{bytes_of, write_bytes};
-use crate::turning::{file_of, list_of};
 use crate::words::{Asked, WordFault, read_words};
 use nvm_record::BlockSize;
 use std::alloc::{AllocError, Global};

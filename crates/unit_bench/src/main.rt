@@ -2,8 +2,8 @@
 //! it took.
 #![tactic(auto)]
 
-mod course;
 mod fault;
+mod measuring;
 mod mutex_writer;
 mod share;
 #[cfg(test)]
@@ -12,8 +12,8 @@ mod unit_writer;
 mod words;
 mod writer;
 
-use crate::course::{Measured, measure};
 use crate::fault::Fault;
+use crate::measuring::{Measured, measure};
 use crate::mutex_writer::MutexWriter;
 use crate::unit_writer::UnitWriter;
 use crate::words::{Target, read_words};

@@ -10,14 +10,14 @@ use std::sync::{Arc, Mutex, Wait};
 
 /// The blocks of a unit, and an entry for each change of them.
 #[derive(Drop)]
-struct Plain {
+struct LockedUnit {
     blocks: Vec<Vec<u8>>,
     history: History,
 }
 
-impl Plain {
+impl LockedUnit {
     /// So many blocks of zero bytes.
-    fn zeroed(alloc: Global, blocks: u32) -> Result<Plain, Fault>
+    fn zeroed(alloc: Global, blocks: u32) -> Result<LockedUnit, Fault>
         ensures blocks { IfOk result (λ p. length p.blocks.items ≡ blocks) }
         ensures history { IfOk result (λ p. p.history.items ≡ []) }
     {
@@ -25,7 +25,7 @@ impl Plain {
         for _ in 0..blocks {
             zeroed.push(vec![in alloc; 0; BLOCK]?)?;
         }
-        Ok(Plain {
+        Ok(LockedUnit {
             blocks: zeroed,
             history: Vec::new(alloc),
         })
@@ -71,7 +71,7 @@ impl Plain {
 /// Blocks and their history behind a mutex, and the number of one of those who share them.
 #[derive(Drop)]
 pub struct MutexWriter {
-    shared: Arc<Mutex<Plain>, Global>,
+    shared: Arc<Mutex<LockedUnit>, Global>,
     number: u16,
 }
 
@@ -82,7 +82,7 @@ impl Writer for MutexWriter {
         blocks: u32,
         _changes: u32,
     ) -> Result<(MutexWriter, Vec<MutexWriter>), Fault> {
-        let shared = Arc::new(alloc, Mutex::new(Plain::zeroed(alloc, blocks)?))?;
+        let shared = Arc::new(alloc, Mutex::new(LockedUnit::zeroed(alloc, blocks)?))?;
         let mut all = Vec::with_capacity(alloc, usize::from(writers))?;
         for number in 0..writers {
             all.push(MutexWriter {

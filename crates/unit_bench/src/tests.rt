@@ -3,6 +3,7 @@ mod threads;
 
 use crate::fault::Fault;
 use crate::mutex_writer::MutexWriter;
+use crate::share::shares_of;
 use crate::unit_writer::UnitWriter;
 use crate::words::{Asked, Target, read_words};
 use crate::writer::{BLOCK, Writer};
@@ -75,6 +76,27 @@ fn other_words_are_refused(rt: HostRuntime) -> Result<(), Fail> {
     Ok(())
 }
 
+#[test]
+fn shares_differ_by_one_at_most(rt: HostRuntime) -> Result<(), Fail> {
+    let asked = Asked {
+        target: Target::Unit,
+        units: 2,
+        threads: 3,
+        changes: 101,
+        blocks: 5,
+    };
+    let mut writers: Vec<Vec<UnitWriter>> = Vec::new(rt.alloc());
+    writers.push(Vec::new(rt.alloc()))?;
+    writers.push(Vec::new(rt.alloc()))?;
+    writers.push(Vec::new(rt.alloc()))?;
+    let shares = shares_of(rt.alloc(), &asked, writers)?;
+    assert_eq!(rt; shares.len(), 3);
+    for (share, changes) in shares.iter().zip([33, 34, 34]) {
+        assert_eq!(rt; share.changes, changes);
+    }
+    Ok(())
+}
+
 /// Two writers of a unit of four blocks make a change each, and one of them another that lies outside the unit.
 /// Gives what became of that one, and the number of changes that the unit has.
 fn by_two<W: Writer, R: Wait>(rt: &R, alloc: Global) -> Result<(Result<(), Fault>, u64), Fail> {
@@ -108,6 +130,10 @@ fn a_unit_takes_no_more_changes_than_asked_for(rt: HostRuntime) -> Result<(), Fa
 #[test]
 fn each_fault_has_its_line(rt: HostRuntime) -> Result<(), Fail> {
     for (fault, line) in [
+        (
+            Fault::Words,
+            "unit_bench: expected unit or mutex, 1 to 1024 units, 1 to 63 threads, 1 to 4194304 changes, 1 to 65536 blocks",
+        ),
         (Fault::Refused, "unit_bench: a change was refused"),
         (
             Fault::OtherChanges,

@@ -4,7 +4,7 @@ ghost use Rattle.nvm_store.specs.Operation.{write_operation};
 ghost use Rattle.nvm_unit.specs.Passes.{IsPassOf};
 
 use crate::fault::Fault;
-use crate::writer::Writer;
+use crate::writer::{BLOCK, Writer};
 use nvm_record::BlockSize;
 use nvm_store::{ActRef, Limit, Look};
 use nvm_unit::{Changed, ObserveFault, Open, Pass, Unit, UnitFault};
@@ -52,7 +52,7 @@ impl Writer for UnitWriter {
         blocks: u32,
         changes: u32,
     ) -> Result<(UnitWriter, Vec<UnitWriter>), Fault> {
-        let size = BlockSize::new(512).ok_or(Fault::Refused)?;
+        let size = BlockSize::new(BLOCK as u32).ok_or(Fault::Refused)?;
         let limit = Limit::new(changes).ok_or(Fault::Refused)?;
         let (unit, passes) = match Unit::new(alloc, 0, 0, blocks, size, writers + 1, limit) {
             Ok(made) => made,

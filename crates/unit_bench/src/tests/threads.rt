@@ -1,5 +1,5 @@
 //! Threads that share units and mutexes.
-use crate::course::measure;
+use crate::measuring::measure;
 use crate::mutex_writer::MutexWriter;
 use crate::unit_writer::UnitWriter;
 use crate::words::{Asked, Target};

@@ -1,5 +1,5 @@
 use Rattle.std.proofs.Common.{◌≡◌, length}
-use Rattle.unit_bench.proofs.course.writers_of.Given as goal
+use Rattle.unit_bench.proofs.measuring.writers_of.Given as goal
 
 abbrev pub invariant-loop : goal.invariant-loop
 invariant-loop g l = length l.all.items ≡ l.counter
