@@ -14,3 +14,4 @@ pub mod Resting
 pub mod Together
 pub mod Closing
 pub mod Dealing
+pub mod Newcomers

@@ -1,6 +1,6 @@
 //! Laws of this crate's definitions. Each function does nothing: its contract is the law, which a caller
 //! then knows.
-ghost use Rattle.std.specs.Prelude.{◌≤◌, ℕ, List, length, Result, Ok, None};
+ghost use Rattle.std.specs.Prelude.{◌≡◌, ◌≤◌, ℕ, List, length, Result, Ok, None};
 ghost use Rattle.nvm_record.specs.declared.status.Statuses.{Statuses};
 ghost use Rattle.nvm_record.specs.Step.{Operation};
 ghost use Rattle.nvm_store.specs.Line.{Line};
@@ -11,11 +11,13 @@ ghost use Rattle.nvm_unit.specs.declared.replies.Changed.TheVariants.{Done, Fail
 ghost use Rattle.nvm_unit.specs.declared.replies.Observed.{Observed as LookReply};
 ghost use Rattle.nvm_unit.specs.declared.replies.ObserveFault.{ObserveFault as LookFault};
 ghost use Rattle.nvm_unit.specs.declared.views.PassView.{PassView as View};
+ghost use Rattle.nvm_unit.specs.Ends.{AreAllPassesOf, new_passes, pass_at};
 ghost use Rattle.nvm_unit.specs.Machine.{UnitState, IsAt, IsSound, opening_state};
 ghost use Rattle.nvm_unit.specs.Events.{Event, Lead};
 ghost use Rattle.nvm_unit.specs.Knowledge.{IsKept};
+ghost use Rattle.nvm_unit.specs.Passes.{IsProper, PassState, UnitName};
 ghost use Rattle.nvm_unit.specs.Replies.{AnswersChange, AnswersLook, Makes, Observes, line_of, told_by, read_by};
-ghost use Rattle.nvm_unit.specs.Views.{Begins};
+ghost use Rattle.nvm_unit.specs.Views.{Begins, newcomer};
 
 use nvm_store::laws::lawful_with_one_more;
 
@@ -53,4 +55,13 @@ pub fn looks_rest_on_their_points()
         → Observes (Ok observed) p op q → Begins q.seen history
         → RestsOn p.bounds.place.size history observed.point op (told_by observed.answer)
         (read_by observed.answer) }
+{}
+
+/// The passes of a new unit are all its passes, each at the place of its number. None of them has seen or
+/// done anything, and such a pass is proper.
+pub fn new_passes_are_all()
+    ensures all { (unit : UnitName) → AreAllPassesOf unit (new_passes unit) }
+    ensures each { (unit : UnitName) (i : ℕ) (pass : PassState)
+        → IsAt (new_passes unit) i pass → pass ≡ pass_at unit.table (newcomer unit.bounds i) }
+    ensures proper { (b : UnitBounds) (number : ℕ) → IsProper (newcomer b number) }
 {}
