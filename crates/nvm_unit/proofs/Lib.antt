@@ -11,6 +11,7 @@ pub mod Joining
 pub mod Waiting
 pub mod Alone
 pub mod Resting
+pub mod Marking
 pub mod Together
 pub mod Closing
 pub mod Dealing

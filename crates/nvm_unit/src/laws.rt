@@ -15,8 +15,26 @@ ghost use Rattle.nvm_unit.specs.Ends.{AreAllPassesOf, new_passes, pass_at};
 ghost use Rattle.nvm_unit.specs.Machine.{UnitState, IsAt, IsSound, opening_state};
 ghost use Rattle.nvm_unit.specs.Events.{Event, Lead};
 ghost use Rattle.nvm_unit.specs.Knowledge.{IsKept};
+ghost use Rattle.nvm_unit.specs.Marks.{
+  HasKeptMarks,
+  HasMarked,
+  entries_after,
+  mine_after,
+  point_of,
+  point_of_look,
+};
 ghost use Rattle.nvm_unit.specs.Passes.{IsProper, PassState, UnitName};
-ghost use Rattle.nvm_unit.specs.Replies.{AnswersChange, AnswersLook, Makes, Observes, line_of, told_by, read_by};
+ghost use Rattle.nvm_unit.specs.Replies.{
+  AnswersChange,
+  AnswersLook,
+  IsBroughtUp,
+  Makes,
+  Meet,
+  Observes,
+  line_of,
+  told_by,
+  read_by,
+};
 ghost use Rattle.nvm_unit.specs.Views.{Begins, newcomer};
 
 use nvm_store::laws::lawful_with_one_more;
@@ -55,6 +73,46 @@ pub fn looks_rest_on_their_points()
         → Observes (Ok observed) p op q → Begins q.seen history
         → RestsOn p.bounds.place.size history observed.point op (told_by observed.answer)
         (read_by observed.answer) }
+{}
+
+/// A change adds its point to its pass's marks: no less than anything that the pass had found or seen. The
+/// pass has then seen as many entries, and after `Done` its own behind them.
+pub fn changes_mark_their_points()
+    ensures marked { (changed : ChangeReply) (p q : View) (job : ℕ) (op : Operation)
+        → Makes changed p job op q → HasMarked (point_of changed) p q }
+    ensures entries { (changed : ChangeReply) (p q : View) (job : ℕ) (op : Operation)
+        → Makes changed p job op q → length q.seen ≡ entries_after changed }
+    ensures mine { (changed : ChangeReply) (p q : View) (job : ℕ) (op : Operation)
+        → Makes changed p job op q → q.mine ≡ mine_after changed p job op }
+{}
+
+/// A look adds its point to its pass's marks too. The pass has then seen as many entries, and has made none.
+pub fn looks_mark_their_points()
+    ensures marked { (answer : Result LookReply LookFault) (p q : View) (op : Operation)
+        → Observes answer p op q → HasMarked (point_of_look answer) p q }
+    ensures entries { (answer : Result LookReply LookFault) (p q : View) (op : Operation)
+        → Observes answer p op q → length q.seen ≡ point_of_look answer }
+    ensures mine { (answer : Result LookReply LookFault) (p q : View) (op : Operation)
+        → Observes answer p op q → q.mine ≡ p.mine }
+{}
+
+/// A pass that is brought up keeps its marks, and what it had seen begins what it has seen then. Passes that
+/// met have seen the same.
+pub fn passes_brought_up_keep_their_marks()
+    ensures up { (p q : View) → IsBroughtUp p q → HasKeptMarks p q }
+    ensures met { (p o q r : View)
+        → Meet p o q r → HasKeptMarks p q × HasKeptMarks o r × (q.seen ≡ r.seen) }
+{}
+
+/// What begins a beginning begins the whole, and has no more entries. Of two that begin one history, the
+/// shorter begins the longer.
+pub fn beginnings_of_beginnings_begin()
+    ensures itself { (history : List Line) → Begins history history }
+    ensures further { (first second history : List Line)
+        → Begins first second → Begins second history → Begins first history }
+    ensures length { (seen history : List Line) → Begins seen history → length seen ≤ length history }
+    ensures shorter { (first second history : List Line)
+        → Begins first history → Begins second history → length first ≤ length second → Begins first second }
 {}
 
 /// The passes of a new unit are all its passes, each at the place of its number. None of them has seen or
