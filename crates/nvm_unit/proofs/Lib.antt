@@ -12,6 +12,7 @@ pub mod Waiting
 pub mod Alone
 pub mod Resting
 pub mod Marking
+pub mod Among
 pub mod Together
 pub mod Closing
 pub mod Dealing

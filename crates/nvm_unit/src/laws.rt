@@ -1,6 +1,6 @@
 //! Laws of this crate's definitions. Each function does nothing: its contract is the law, which a caller
 //! then knows.
-ghost use Rattle.std.specs.Prelude.{◌≡◌, ◌≤◌, ℕ, List, length, Result, Ok, None};
+ghost use Rattle.std.specs.Prelude.{◌≡◌, ◌≤◌, ℕ, List, length, true, Result, Ok, None};
 ghost use Rattle.nvm_record.specs.declared.status.Statuses.{Statuses};
 ghost use Rattle.nvm_record.specs.Step.{Operation};
 ghost use Rattle.nvm_store.specs.Line.{Line};
@@ -23,7 +23,7 @@ ghost use Rattle.nvm_unit.specs.Marks.{
   point_of,
   point_of_look,
 };
-ghost use Rattle.nvm_unit.specs.Passes.{IsProper, PassState, UnitName};
+ghost use Rattle.nvm_unit.specs.Passes.{Finds, IsProper, PassState, UnitName};
 ghost use Rattle.nvm_unit.specs.Replies.{
   AnswersChange,
   AnswersLook,
@@ -32,10 +32,12 @@ ghost use Rattle.nvm_unit.specs.Replies.{
   Meet,
   Observes,
   line_of,
+  medium_at,
+  pass_after,
   told_by,
   read_by,
 };
-ghost use Rattle.nvm_unit.specs.Views.{Begins, newcomer};
+ghost use Rattle.nvm_unit.specs.Views.{Begins, entries_by, newcomer, shown};
 
 use nvm_store::laws::lawful_with_one_more;
 
@@ -122,4 +124,29 @@ pub fn new_passes_are_all()
     ensures each { (unit : UnitName) (i : ℕ) (pass : PassState)
         → IsAt (new_passes unit) i pass → pass ≡ pass_at unit.table (newcomer unit.bounds i) }
     ensures proper { (b : UnitBounds) (number : ℕ) → IsProper (newcomer b number) }
+{}
+
+/// Each entry of a history stands, with its place, among those of the pass whose number it bears; and what
+/// stands among a pass's entries stands at that place of the history and bears its number.
+pub fn entries_are_their_passes_own()
+    ensures among { (history : List Line) (k : ℕ) (line : Line)
+        → IsAt history k line → (i : ℕ) × IsAt (entries_by line.pass history) i (k, line) }
+    ensures stands { (number : ℕ) (history : List Line) (i k : ℕ) (line : Line)
+        → IsAt (entries_by number history) i (k, line) → IsAt history k line × (line.pass ≡ number) }
+{}
+
+/// The pass of a unit that has one pass finds just what it had seen, so what it is answered, and what it has
+/// seen and done then, are those of what it had seen.
+pub fn a_pass_alone_has_seen_all()
+    ensures seen { (p : View) (history : List Line)
+        → p.bounds.passes ≡ 1 → p.number ≡ 0 → IsProper p → Finds (length history) p history
+        → history ≡ p.seen }
+    ensures changed { (changed : ChangeReply) (p q : View) (job : ℕ) (op : Operation)
+        → p.bounds.passes ≡ 1 → p.number ≡ 0 → IsProper p → Makes changed p job op q
+        → AnswersChange changed (length p.seen) p.bounds.limit op (medium_at p.bounds p.seen)
+        × (q ≡ pass_after changed p.seen (line_of p job op) p) }
+    ensures looked { (answer : Result LookReply LookFault) (p q : View) (op : Operation)
+        → p.bounds.passes ≡ 1 → p.number ≡ 0 → IsProper p → Observes answer p op q
+        → AnswersLook answer (length p.seen) op (medium_at p.bounds p.seen)
+        × (q ≡ shown true (length p.seen) p.seen p) }
 {}
