@@ -11,6 +11,9 @@ pub mod Joining
 pub mod Waiting
 pub mod Alone
 pub mod Resting
+pub mod Marking
+pub mod Among
 pub mod Together
 pub mod Closing
 pub mod Dealing
+pub mod Newcomers

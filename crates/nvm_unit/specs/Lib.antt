@@ -8,5 +8,6 @@ pub mod Plays
 pub mod Holding
 pub mod Passes
 pub mod Replies
+pub mod Marks
 pub mod Alone
 pub mod Ends

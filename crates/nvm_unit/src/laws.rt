@@ -1,6 +1,6 @@
 //! Laws of this crate's definitions. Each function does nothing: its contract is the law, which a caller
 //! then knows.
-ghost use Rattle.std.specs.Prelude.{◌≤◌, ℕ, List, length, Result, Ok, None};
+ghost use Rattle.std.specs.Prelude.{◌≡◌, ◌≤◌, ℕ, List, length, true, Result, Ok, None};
 ghost use Rattle.nvm_record.specs.declared.status.Statuses.{Statuses};
 ghost use Rattle.nvm_record.specs.Step.{Operation};
 ghost use Rattle.nvm_store.specs.Line.{Line};
@@ -11,11 +11,33 @@ ghost use Rattle.nvm_unit.specs.declared.replies.Changed.TheVariants.{Done, Fail
 ghost use Rattle.nvm_unit.specs.declared.replies.Observed.{Observed as LookReply};
 ghost use Rattle.nvm_unit.specs.declared.replies.ObserveFault.{ObserveFault as LookFault};
 ghost use Rattle.nvm_unit.specs.declared.views.PassView.{PassView as View};
+ghost use Rattle.nvm_unit.specs.Ends.{AreAllPassesOf, new_passes, pass_at};
 ghost use Rattle.nvm_unit.specs.Machine.{UnitState, IsAt, IsSound, opening_state};
 ghost use Rattle.nvm_unit.specs.Events.{Event, Lead};
 ghost use Rattle.nvm_unit.specs.Knowledge.{IsKept};
-ghost use Rattle.nvm_unit.specs.Replies.{AnswersChange, AnswersLook, Makes, Observes, line_of, told_by, read_by};
-ghost use Rattle.nvm_unit.specs.Views.{Begins};
+ghost use Rattle.nvm_unit.specs.Marks.{
+  HasKeptMarks,
+  HasMarked,
+  entries_after,
+  mine_after,
+  point_of,
+  point_of_look,
+};
+ghost use Rattle.nvm_unit.specs.Passes.{Finds, IsProper, PassState, UnitName};
+ghost use Rattle.nvm_unit.specs.Replies.{
+  AnswersChange,
+  AnswersLook,
+  IsBroughtUp,
+  Makes,
+  Meet,
+  Observes,
+  line_of,
+  medium_at,
+  pass_after,
+  told_by,
+  read_by,
+};
+ghost use Rattle.nvm_unit.specs.Views.{Begins, entries_by, newcomer, shown};
 
 use nvm_store::laws::lawful_with_one_more;
 
@@ -53,4 +75,78 @@ pub fn looks_rest_on_their_points()
         → Observes (Ok observed) p op q → Begins q.seen history
         → RestsOn p.bounds.place.size history observed.point op (told_by observed.answer)
         (read_by observed.answer) }
+{}
+
+/// A change adds its point to its pass's marks: no less than anything that the pass had found or seen. The
+/// pass has then seen as many entries, and after `Done` its own behind them.
+pub fn changes_mark_their_points()
+    ensures marked { (changed : ChangeReply) (p q : View) (job : ℕ) (op : Operation)
+        → Makes changed p job op q → HasMarked (point_of changed) p q }
+    ensures entries { (changed : ChangeReply) (p q : View) (job : ℕ) (op : Operation)
+        → Makes changed p job op q → length q.seen ≡ entries_after changed }
+    ensures mine { (changed : ChangeReply) (p q : View) (job : ℕ) (op : Operation)
+        → Makes changed p job op q → q.mine ≡ mine_after changed p job op }
+{}
+
+/// A look adds its point to its pass's marks too. The pass has then seen as many entries, and has made none.
+pub fn looks_mark_their_points()
+    ensures marked { (answer : Result LookReply LookFault) (p q : View) (op : Operation)
+        → Observes answer p op q → HasMarked (point_of_look answer) p q }
+    ensures entries { (answer : Result LookReply LookFault) (p q : View) (op : Operation)
+        → Observes answer p op q → length q.seen ≡ point_of_look answer }
+    ensures mine { (answer : Result LookReply LookFault) (p q : View) (op : Operation)
+        → Observes answer p op q → q.mine ≡ p.mine }
+{}
+
+/// A pass that is brought up keeps its marks, and what it had seen begins what it has seen then. Passes that
+/// met have seen the same.
+pub fn passes_brought_up_keep_their_marks()
+    ensures up { (p q : View) → IsBroughtUp p q → HasKeptMarks p q }
+    ensures met { (p o q r : View)
+        → Meet p o q r → HasKeptMarks p q × HasKeptMarks o r × (q.seen ≡ r.seen) }
+{}
+
+/// What begins a beginning begins the whole, and has no more entries. Of two that begin one history, the
+/// shorter begins the longer.
+pub fn beginnings_of_beginnings_begin()
+    ensures itself { (history : List Line) → Begins history history }
+    ensures further { (first second history : List Line)
+        → Begins first second → Begins second history → Begins first history }
+    ensures length { (seen history : List Line) → Begins seen history → length seen ≤ length history }
+    ensures shorter { (first second history : List Line)
+        → Begins first history → Begins second history → length first ≤ length second → Begins first second }
+{}
+
+/// The passes of a new unit are all its passes, each at the place of its number. None of them has seen or
+/// done anything, and such a pass is proper.
+pub fn new_passes_are_all()
+    ensures all { (unit : UnitName) → AreAllPassesOf unit (new_passes unit) }
+    ensures each { (unit : UnitName) (i : ℕ) (pass : PassState)
+        → IsAt (new_passes unit) i pass → pass ≡ pass_at unit.table (newcomer unit.bounds i) }
+    ensures proper { (b : UnitBounds) (number : ℕ) → IsProper (newcomer b number) }
+{}
+
+/// Each entry of a history stands, with its place, among those of the pass whose number it bears; and what
+/// stands among a pass's entries stands at that place of the history and bears its number.
+pub fn entries_are_their_passes_own()
+    ensures among { (history : List Line) (k : ℕ) (line : Line)
+        → IsAt history k line → (i : ℕ) × IsAt (entries_by line.pass history) i (k, line) }
+    ensures stands { (number : ℕ) (history : List Line) (i k : ℕ) (line : Line)
+        → IsAt (entries_by number history) i (k, line) → IsAt history k line × (line.pass ≡ number) }
+{}
+
+/// The pass of a unit that has one pass finds just what it had seen, so what it is answered, and what it has
+/// seen and done then, are those of what it had seen.
+pub fn a_pass_alone_has_seen_all()
+    ensures seen { (p : View) (history : List Line)
+        → p.bounds.passes ≡ 1 → p.number ≡ 0 → IsProper p → Finds (length history) p history
+        → history ≡ p.seen }
+    ensures changed { (changed : ChangeReply) (p q : View) (job : ℕ) (op : Operation)
+        → p.bounds.passes ≡ 1 → p.number ≡ 0 → IsProper p → Makes changed p job op q
+        → AnswersChange changed (length p.seen) p.bounds.limit op (medium_at p.bounds p.seen)
+        × (q ≡ pass_after changed p.seen (line_of p job op) p) }
+    ensures looked { (answer : Result LookReply LookFault) (p q : View) (op : Operation)
+        → p.bounds.passes ≡ 1 → p.number ≡ 0 → IsProper p → Observes answer p op q
+        → AnswersLook answer (length p.seen) op (medium_at p.bounds p.seen)
+        × (q ≡ shown true (length p.seen) p.seen p) }
 {}

@@ -1,4 +1,5 @@
 ghost use Rattle.std.specs.Prelude.{◌≡◌, [], ◌∷◌};
+ghost use Rattle.nvm_unit.specs.Passes.{IsProper};
 ghost use Rattle.nvm_unit.specs.Plays.{resting};
 
 use crate::steps::Token;
@@ -35,7 +36,8 @@ impl Model for Pass {
 impl Pass {
     /// Its number. The passes of a unit are numbered from 0.
     pub fn number(&self) -> u16
-        ensures { result ≡ self.now.view.number }
+        ensures number { result ≡ self.now.view.number }
+        ensures proper { IsProper self.now.view }
     {
         self.number
     }

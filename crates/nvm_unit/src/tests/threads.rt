@@ -52,9 +52,15 @@ fn two_threads_make_one_history(rt: HostRuntime) -> Result<(), Fail> {
         { write_all(alloc, &rt, &unit, second, 1000) },
     );
     let mut first = first.ok_or("there was no memory")?;
-    let second = second.ok_or("there was no memory")?;
+    let mut second = second.ok_or("there was no memory")?;
+    unit.meet(&rt, &mut first, &mut second);
+    assert_eq!(rt; (first.entries, second.entries), (2000, 2000));
     let seen = unit.history(&rt, rt.alloc(), &mut first)?;
-    assert_eq!(rt; seen.len(), 2000);
+    let other = unit.history(&rt, rt.alloc(), &mut second)?;
+    assert_eq!(rt; (seen.len(), other.len()), (2000, 2000));
+    for (one, two) in seen.iter().zip(&other) {
+        assert_eq!(rt; (one.pass, one.job), (two.pass, two.job));
+    }
     let history = close(rt.alloc(), unit, first, second)?;
     assert_eq!(rt; history.len(), 2000);
     let mut made = [0u32; 2];
