@@ -5,7 +5,7 @@ use Rattle.nvm_record.specs.declared.op.Op.{Op}
 use Rattle.nvm_record.specs.declared.op.Op.TheVariants.{Write, Read, WriteUncorrectable, Compare, WriteZeroes, Other}
 use Rattle.nvm_record.specs.Step.{Operation, writes, zeroes, uncorrectable, reads, compares, pairs}
 use Rattle.nvm_geometry.specs.Namespace.{Namespace}
-use Rattle.nvm_plan.specs.Operation.{on_range, single_operation, pair_operation, operation_of_body}
+use Rattle.nvm_plan.specs.Operation.{on_range, single_operation, operation_of_pair, operation_of_body}
 use Rattle.nvm_plan.specs.Profile.{is_in_profile}
 use Rattle.nvm_plan.specs.Ready.{IsReadyBody}
 use Rattle.nvm_plan.specs.declared.job.Body.{Body}
@@ -28,9 +28,9 @@ write_op c op is h = of_some _ _ (subst (λ (o : Op). single_operation o c ≡ S
 pub zeroes_op : (c : Command) (op : Operation) → c.op ≡ WriteZeroes → single_operation c.op c ≡ Some op → on_range c zeroes ≡ op
 zeroes_op c op is h = of_some _ _ (subst (λ (o : Op). single_operation o c ≡ Some op) is h)
 
-pub pair_op : (c d : Command) (op : Operation) → c.op ≡ Compare → d.op ≡ Write → pair_operation c.op d.op c d ≡ Some op → on_range c (pairs c.payload d.payload) ≡ op
+pub pair_op : (c d : Command) (op : Operation) → c.op ≡ Compare → d.op ≡ Write → operation_of_pair c.op d.op c d ≡ Some op → on_range c (pairs c.payload d.payload) ≡ op
 pair_op c d op is also h =
-    of_some _ _ (subst (λ (o : Op). pair_operation Compare o c d ≡ Some op) also (subst (λ (o : Op). pair_operation o d.op c d ≡ Some op) is h))
+    of_some _ _ (subst (λ (o : Op). operation_of_pair Compare o c d ≡ Some op) also (subst (λ (o : Op). operation_of_pair o d.op c d ≡ Some op) is h))
 
 -- what is of the profile and none of the others marks
 pub mark_op : (o : Op) (c : Command) (op : Operation) → IsTrue (is_in_profile o) → (o ≡ Write → ⊥) → (o ≡ Read → ⊥) → (o ≡ Compare → ⊥) → (o ≡ WriteZeroes → ⊥) → single_operation o c ≡ Some op → on_range c uncorrectable ≡ op

@@ -10,7 +10,7 @@ use Rattle.nvm_geometry.specs.Namespace.{Namespace}
 use Rattle.nvm_geometry.specs.Parts.{part_in, units_met}
 use Rattle.nvm_geometry.specs.declared.piece.Piece.{Piece}
 use Rattle.nvm_plan.specs.Outcome.{data_told, answered, unstarted_of, AreDone, IsOutcomeOf}
-use Rattle.nvm_plan.specs.Reply.{Reply, success_of, IsFailedComparison, IsFailedPair, IsReplyTo, Succeeds}
+use Rattle.nvm_plan.specs.Reply.{Reply, success_of, IsFailedComparison, AreOfFailedPair, IsReplyTo, IsSuccessfulReply}
 use Rattle.nvm_store.specs.declared.answers.Answer.TheVariants.{Payload, Status}
 use Rattle.nvm_engine.specs.Run.{Setup, Counts, Rests, medium_left, counts_left, part_told, Does, IsReadOverUnits, IsBegun}
 use Rattle.nvm_engine.specs.Units.{DoesPart, DoesParts, GoesOn, EndsWith, IsUnderWay, reply_of, statuses_told, payload_told}
@@ -48,7 +48,7 @@ comparison_fails : (s : Code) → IsFailedComparison s → s ≡ successful_comp
 comparison_fails s (inl e) ok = let bad : 2 ≡ 0 = ap (λ (x : Code). x.sct) (sym e ∙ ok) in absurd (omega (arith, bad))
 comparison_fails s (inr e) ok = let bad : 2 ≡ 0 = ap (λ (x : Code). x.sct) (sym e ∙ ok) in absurd (omega (arith, bad))
 
-failed_fails : (statuses : Statuses) → IsFailedPair statuses → IsSuccess statuses → ⊥
+failed_fails : (statuses : Statuses) → AreOfFailedPair statuses → IsSuccess statuses → ⊥
 failed_fails (One s) failed ok = absurd failed
 failed_fails (Two s t) failed ok = comparison_fails s failed.0 ok.0
 
@@ -67,7 +67,7 @@ module _ (s : Setup) (op : Operation) where
   not_begun units ps begun m counts at = record { replies = []; after = m; counted = counts; at = at; does = (refl, refl); done = begun; bytes_are = refl }
 
   -- One part more.
-  pub one_more : ((replies : List Reply) (r : Reply) (left : List ℕ) → AreDone s.namespace op replies (r.part.unit ∷ left) → Succeeds op.deed r → AreDone s.namespace op (replies ++ r ∷ []) left)
+  pub one_more : ((replies : List Reply) (r : Reply) (left : List ℕ) → AreDone s.namespace op replies (r.part.unit ∷ left) → IsSuccessfulReply op.deed r → AreDone s.namespace op (replies ++ r ∷ []) left)
       → ((replies : List Reply) (r : Reply) → data_told (replies ++ r ∷ []) ≡ data_told replies ++ unwrap_or r.payload [])
       → (start old new : List AtomicUnit) (p : Piece) (rest : List Piece) (told : Told) (bytes more_bytes : List ℕ)
       → IsUnderWay s op start old (p ∷ rest) bytes → DoesPart s op old new p.unit told → GoesOn told bytes more_bytes → IsUnderWay s op start new rest more_bytes

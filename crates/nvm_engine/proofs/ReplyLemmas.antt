@@ -5,7 +5,7 @@ use Rattle.nvm_record.specs.declared.status.Statuses.{Statuses}
 use Rattle.nvm_record.specs.declared.status.Statuses.TheVariants.{One}
 use Rattle.nvm_record.specs.Status.{IsSuccess, successful_completion, internal_error}
 use Rattle.nvm_record.specs.Step.{Deed, writes, zeroes, uncorrectable, reads, compares, pairs}
-use Rattle.nvm_plan.specs.Reply.{is_look, is_pair, success_of, stop_of, CanEndLook, IsReplyTo, GivesData, Succeeds}
+use Rattle.nvm_plan.specs.Reply.{is_look, is_pair, success_of, stop_of, CanEndLook, IsReplyTo, GivesData, IsSuccessfulReply}
 use Rattle.nvm_store.specs.declared.answers.Answer.TheVariants.{Payload, Status as Plain}
 use Rattle.nvm_engine.specs.Units.{CanBeTold, GoesOn, reply_of}
 use Rattle.nvm_engine.specs.declared.atomic_unit.Told.{Told}
@@ -63,7 +63,7 @@ is_reply unit point d NoMemory h = record { result = refl; told = refl; payload 
 is_reply unit point d Full h = record { result = h; told = refl; payload = no_read d _ (λ r. stop_fails d r.1) }
 
 -- What lets the job go on succeeded.
-pub goes_with_success : (unit point : ℕ) (d : Deed) (told : Told) (old new : List ℕ) → CanBeTold d told → GoesOn told old new → Succeeds d (reply_of unit point d told)
+pub goes_with_success : (unit point : ℕ) (d : Deed) (told : Told) (old new : List ℕ) → CanBeTold d told → GoesOn told old new → IsSuccessfulReply d (reply_of unit point d told)
 goes_with_success unit point d Done old new can go = record { reply = is_reply unit point d Done can; success = success_succeeds d }
 goes_with_success unit point d (Failed statuses) old new can go = absurd go
 goes_with_success unit point d (Looked (Payload bytes)) old new can go = record { reply = is_reply unit point d (Looked (Payload bytes)) can; success = refl }

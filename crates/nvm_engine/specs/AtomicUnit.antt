@@ -2,7 +2,7 @@
 use Rattle.std.specs.Prelude.{◌≡◌, ◌+◌, ◌<◌, ℕ, vec_len, IsSome, IsTrue}
 use Rattle.nvm_record.specs.Medium.{Medium}
 use Rattle.nvm_record.specs.Step.{Operation, statuses_of, data_of, medium_after}
-use Rattle.nvm_plan.specs.Reply.{is_pair, IsFailedPair}
+use Rattle.nvm_plan.specs.Reply.{is_pair, AreOfFailedPair}
 use Rattle.nvm_store.specs.Answer.{IsAnswer}
 use Rattle.nvm_store.specs.Contents.{Holds, StaysInPlace, Succeeds}
 use Rattle.nvm_engine.specs.declared.atomic_unit.AtomicUnit.{AtomicUnit}
@@ -10,8 +10,8 @@ use Rattle.nvm_engine.specs.declared.atomic_unit.Told.{Told}
 use Rattle.nvm_engine.specs.declared.atomic_unit.Told.TheVariants.{Done, Failed, Looked, NoMemory, Full}
 
 -- The blocks and the history are as before.
-abbrev pub IsKept : AtomicUnit → AtomicUnit → Type 0
-IsKept old new = (new.blocks ≡ old.blocks) × (vec_len new.history ≡ vec_len old.history)
+abbrev pub KeepsHistory : AtomicUnit → AtomicUnit → Type 0
+KeepsHistory old new = (new.blocks ≡ old.blocks) × (vec_len new.history ≡ vec_len old.history)
 
 -- The operation's step was made, and the history has one change more.
 pub record IsStepped (old new : AtomicUnit) (op : Operation) : Type 0 where
@@ -23,10 +23,10 @@ pub record IsStepped (old new : AtomicUnit) (op : Operation) : Type 0 where
 abbrev pub IsChanged : ℕ → AtomicUnit → AtomicUnit → Operation → Told → Type 0
 IsChanged limit old new op Done = Succeeds old.blocks op × (vec_len old.history < limit) × IsStepped old new op
 IsChanged limit old new op (Failed statuses) =
-    ((m : Medium) → Holds old.blocks m → statuses ≡ statuses_of op m) × IsTrue (is_pair op.deed) × IsFailedPair statuses × IsKept old new
+    ((m : Medium) → Holds old.blocks m → statuses ≡ statuses_of op m) × IsTrue (is_pair op.deed) × AreOfFailedPair statuses × KeepsHistory old new
 IsChanged limit old new op (Looked answer) = ⊥
-IsChanged limit old new op NoMemory = Succeeds old.blocks op × (vec_len old.history < limit) × IsKept old new
-IsChanged limit old new op Full = Succeeds old.blocks op × (vec_len old.history ≡ limit) × IsKept old new
+IsChanged limit old new op NoMemory = Succeeds old.blocks op × (vec_len old.history < limit) × KeepsHistory old new
+IsChanged limit old new op Full = Succeeds old.blocks op × (vec_len old.history ≡ limit) × KeepsHistory old new
 
 -- What the unit told of a look: its answer, or that there was no memory for its data.
 abbrev pub IsLookedAt : AtomicUnit → Operation → Told → Type 0

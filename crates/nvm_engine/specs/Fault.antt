@@ -1,7 +1,7 @@
 -- The faults of a run, in the order in which they are looked for: the number of files, the options, the
 -- files by their hosts' numbers.
 use Rattle.std.specs.Prelude.{◌≡◌, ◌⊎◌, ℕ, ◌+◌, ◌≤◌, ◌<◌, List, [], ◌∷◌, length}
-use Rattle.nvm_record.specs.HostFile.{IsFaultOf, IsHostFile}
+use Rattle.nvm_record.specs.HostFile.{IsHostFileFault, IsHostFile}
 use Rattle.nvm_record.specs.declared.command.Command.{Command}
 use Rattle.nvm_record.specs.declared.host_fault.HostFault.{HostFault}
 use Rattle.nvm_record.specs.declared.host_fault.HostFault.TheVariants as of_file
@@ -21,14 +21,14 @@ fault_of_host host of_file.NoMemory = NoMemory
 
 -- The first fault of the options.
 abbrev pub IsGeometryFault : Settings → Fault → Type 0
-IsGeometryFault s (Geometry fault) = numbers.IsFirstFault (advertised s) fault
+IsGeometryFault s (Geometry fault) = numbers.IsFirstGeometryFault (advertised s) fault
 IsGeometryFault s fault = ⊥
 
 -- The first fault of this host's file, where a block has `size` bytes.
 abbrev pub IsFileFault : ℕ → ℕ → List ℕ → Fault → Type 0
-IsFileFault size number file (HostBadName host) = (host ≡ number) × IsFaultOf size file of_file.BadName
-IsFileFault size number file (HostTruncated host at) = (host ≡ number) × IsFaultOf size file (of_file.Truncated at)
-IsFileFault size number file (HostTooMany host) = (host ≡ number) × IsFaultOf size file of_file.TooMany
+IsFileFault size number file (HostBadName host) = (host ≡ number) × IsHostFileFault size file of_file.BadName
+IsFileFault size number file (HostTruncated host at) = (host ≡ number) × IsHostFileFault size file (of_file.Truncated at)
+IsFileFault size number file (HostTooMany host) = (host ≡ number) × IsHostFileFault size file of_file.TooMany
 IsFileFault size number file fault = ⊥
 
 -- The first fault of these files, the first of which is that of host `number`: it is one of a file before
@@ -41,8 +41,8 @@ IsFilesFault size number (file ∷ files) fault =
 
 -- The first fault: too many files, or else one of the options, or else one of the files. Want of memory
 -- stands beside them, since no definition can say that memory was there.
-abbrev pub IsFirstFault : Settings → List (List ℕ) → Fault → Type 0
-IsFirstFault s files fault =
+abbrev pub IsFirstRunFault : Settings → List (List ℕ) → Fault → Type 0
+IsFirstRunFault s files fault =
     ((most_hosts < length files) × (fault ≡ TooManyHosts))
     ⊎ (((length files ≤ most_hosts) × IsGeometryFault s fault)
     ⊎ (((length files ≤ most_hosts) × IsNamespace s × IsFilesFault s.block 1 files fault)

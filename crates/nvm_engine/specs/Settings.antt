@@ -5,7 +5,7 @@ use Rattle.nvm_geometry.specs.Namespace.{Namespace, namespace_of}
 use Rattle.nvm_engine.specs.declared.settings.Settings.{Settings}
 
 -- What the options --workers and --limit take.
-pub record IsInRange (s : Settings) : Type 0 where
+pub record AreInRange (s : Settings) : Type 0 where
   pub workers : 1 ≤ s.workers
   pub workers_end : s.workers ≤ 64
   pub limit : 1 ≤ s.limit

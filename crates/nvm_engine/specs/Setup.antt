@@ -2,5 +2,5 @@
 use Rattle.nvm_engine.specs.Run.{Setup}
 use Rattle.nvm_engine.specs.declared.units.Units.{Units}
 
-abbrev pub setup_of : Units → Setup
-setup_of u = record { namespace = u.geometry; limit = u.limit }
+abbrev pub setup_of_units : Units → Setup
+setup_of_units u = record { namespace = u.geometry; limit = u.limit }

@@ -13,8 +13,8 @@ use Rattle.nvm_engine.specs.declared.done_job.DoneJob.{DoneJob}
 use Rattle.nvm_engine.specs.declared.settings.Settings.{Settings}
 use Rattle.nvm_engine.specs.declared.shown.Shown.{Shown}
 
-abbrev pub setup_of : Settings → Setup
-setup_of s = record { namespace = advertised s; limit = s.limit }
+abbrev pub setup_of_settings : Settings → Setup
+setup_of_settings s = record { namespace = advertised s; limit = s.limit }
 
 -- Each file is the host file of the commands at its place.
 abbrev pub AreHostFiles : ℕ → List (List ℕ) → List (List Command) → Type 0
@@ -33,7 +33,7 @@ pub record IsShown (s : Settings) (files : List (List ℕ)) (shown : Shown) : Ty
   pub namespace : IsNamespace s
   pub commands : AreHostFiles s.block files hosts
   pub order : IsJobList hosts jobs
-  pub run : IsRun (setup_of s) (zero_medium s.block) no_changes jobs done
+  pub run : IsRun (setup_of_settings s) (zero_medium s.block) no_changes jobs done
   pub text : shown.text.items ≡ job_lines jobs done
   pub rec : shown.rec ≡ None
   pub status : shown.status ≡ 0

@@ -12,7 +12,7 @@ use Rattle.nvm_geometry.specs.Boundaries.{unit_number, units_of, Crosses}
 use Rattle.nvm_geometry.specs.Parts.{piece_in, pieces_of, part_in}
 use Rattle.nvm_geometry.specs.declared.piece.Piece.{Piece}
 use Rattle.nvm_plan.specs.Outcome.{data_told, AreDone, IsOutcomeOf}
-use Rattle.nvm_plan.specs.Reply.{Reply, is_look, is_pair, success_of, stop_of, IsFailedPair, CanEndLook}
+use Rattle.nvm_plan.specs.Reply.{Reply, is_look, is_pair, success_of, stop_of, AreOfFailedPair, CanEndLook}
 use Rattle.nvm_plan.specs.declared.job.Body.{Body}
 use Rattle.nvm_plan.specs.declared.job.Body.TheVariants.{Single, Pair}
 use Rattle.nvm_plan.specs.declared.job.Job.{Job}
@@ -123,7 +123,7 @@ reply_of unit point deed told =
 -- What may be told of a part of the deed.
 abbrev pub CanBeTold : Deed → Told → Type 0
 CanBeTold deed Done = IsTrue (not (is_look deed))
-CanBeTold deed (Failed statuses) = IsTrue (is_pair deed) × IsFailedPair statuses
+CanBeTold deed (Failed statuses) = IsTrue (is_pair deed) × AreOfFailedPair statuses
 CanBeTold deed (Looked (Payload bytes)) = deed ≡ reads
 CanBeTold deed (Looked (Status status)) = CanEndLook deed status × (deed ≡ reads → status ≢ successful_completion)
 CanBeTold deed NoMemory = Unit {0}

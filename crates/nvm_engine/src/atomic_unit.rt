@@ -31,7 +31,7 @@ pub enum Told {
 }
 
 impl AtomicUnit {
-    ghost use Rattle.nvm_engine.specs.AtomicUnit.{IsChanged, IsLookedAt, IsKept, IsStepped};
+    ghost use Rattle.nvm_engine.specs.AtomicUnit.{IsChanged, IsLookedAt, KeepsHistory, IsStepped};
 
     /// Makes the act's change, unless it is a pair whose comparison fails, where the history has room for it
     /// below `limit`.
@@ -60,7 +60,7 @@ impl AtomicUnit {
         requires covered { Covers self.old.blocks (lent_operation_of act) }
         requires success { Succeeds self.old.blocks (lent_operation_of act) }
         ensures done { OnOk result (IsStepped self.old self.new (lent_operation_of act.entry)) }
-        ensures kept { OnErr result (IsKept self.old self.new) }
+        ensures kept { OnErr result (KeepsHistory self.old self.new) }
     {
         let entry = Entry {
             pass: 0,

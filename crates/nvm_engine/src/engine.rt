@@ -6,10 +6,10 @@ ghost use Rattle.nvm_geometry.specs.Namespace.{Namespace};
 ghost use Rattle.nvm_plan.specs.Fits.{FitsNamespace};
 ghost use Rattle.nvm_plan.specs.Jobs.{IsJobList};
 ghost use Rattle.nvm_engine.specs.declared.fault.Fault.TheVariants.{NoMemory};
-ghost use Rattle.nvm_engine.specs.Fault.{IsFirstFault, IsGeometryFault, IsFileFault, IsFilesFault};
+ghost use Rattle.nvm_engine.specs.Fault.{IsFirstRunFault, IsGeometryFault, IsFileFault, IsFilesFault};
 ghost use Rattle.nvm_engine.specs.Run.{no_changes, IsRun};
 ghost use Rattle.nvm_engine.specs.Settings.{IsNamespace, advertised};
-ghost use Rattle.nvm_engine.specs.Shown.{setup_of, AreHostFiles, IsShown};
+ghost use Rattle.nvm_engine.specs.Shown.{setup_of_settings, AreHostFiles, IsShown};
 
 use crate::done_job::DoneJob;
 use crate::fault::Fault;
@@ -35,7 +35,7 @@ const MOST_HOSTS: usize = 64;
 pub fn execute(alloc: Global, settings: &Settings, files: &[Vec<u8>]) -> Result<Shown, Fault>
     // What is shown is the text of a run of the files' commands, with status 0.
     ensures shown { IfOk result (IsShown settings.now (map (λ file. file.items) files.now)) }
-    ensures fault { IfErr result (IsFirstFault settings.now (map (λ file. file.items) files.now)) }
+    ensures fault { IfErr result (IsFirstRunFault settings.now (map (λ file. file.items) files.now)) }
 {
     if files.len() > MOST_HOSTS {
         return Err(Fault::TooManyHosts);
@@ -134,7 +134,7 @@ fn done_jobs(
     requires geometry { geometry ≡ advertised settings.now }
     requires fit { All (FitsNamespace geometry) jobs.now }
     requires few { length jobs.now < 2 ^ 32 }
-    ensures run { IfOk result (λ done. IsRun (setup_of settings.now) (zero_medium settings.now.block) no_changes
+    ensures run { IfOk result (λ done. IsRun (setup_of_settings settings.now) (zero_medium settings.now.block) no_changes
         jobs.now done.items) }
     ensures length { IfOk result (λ done. length done.items ≡ length jobs.now) }
 {

@@ -33,12 +33,12 @@ pub struct Units {
 }
 
 impl Units {
-    ghost use Rattle.nvm_engine.specs.Setup.{setup_of};
+    ghost use Rattle.nvm_engine.specs.Setup.{setup_of_units};
 
     /// The units of a namespace of zero bytes, each of which may have `limit` changes.
     pub fn new(alloc: Global, geometry: Geometry, limit: u32) -> Result<Units, NoMemory>
-        ensures laid { IfOk result (λ u. IsLaidOut (setup_of u) u.units.items) }
-        ensures setup { IfOk result (λ u. setup_of u ≡ record { namespace = geometry; limit = limit }) }
+        ensures laid { IfOk result (λ u. IsLaidOut (setup_of_units u) u.units.items) }
+        ensures setup { IfOk result (λ u. setup_of_units u ≡ record { namespace = geometry; limit = limit }) }
         ensures zeroes { IfOk result (λ u. AreAt u.units.items (zero_medium geometry.block_size) no_changes) }
     {
         let mut units = Vec::with_capacity(alloc, geometry.units() as usize)?;
@@ -54,11 +54,11 @@ impl Units {
 
     /// Does a job, or refuses it, and says what its host is told. `number` is its number.
     pub fn run_job(&mut self, alloc: Global, number: u32, job: &Job) -> DoneJob
-        requires laid { IsLaidOut (setup_of self.old) self.old.units.items }
+        requires laid { IsLaidOut (setup_of_units self.old) self.old.units.items }
         requires fits { FitsNamespace self.old.geometry job.now }
-        ensures laid { IsLaidOut (setup_of self.new) self.new.units.items }
-        ensures setup { setup_of self.new ≡ setup_of self.old }
-        ensures answer { AnswersTo (setup_of self.old) self.old.units.items self.new.units.items job.now result }
+        ensures laid { IsLaidOut (setup_of_units self.new) self.new.units.items }
+        ensures setup { setup_of_units self.new ≡ setup_of_units self.old }
+        ensures answer { AnswersTo (setup_of_units self.old) self.old.units.items self.new.units.items job.now result }
     {
         outcomes_by_plan();
         ready_jobs();
@@ -70,13 +70,13 @@ impl Units {
 
     /// Does the parts of a job, up to the first that isn't successful.
     fn do_parts(&mut self, alloc: Global, number: u32, body: &Body) -> DoneJob
-        requires laid { IsLaidOut (setup_of self.old) self.old.units.items }
+        requires laid { IsLaidOut (setup_of_units self.old) self.old.units.items }
         requires ready { IsReadyBody self.old.geometry body.now }
         requires whole { IsWholeBody self.old.geometry.block_size body.now }
-        ensures laid { IsLaidOut (setup_of self.new) self.new.units.items }
-        ensures setup { setup_of self.new ≡ setup_of self.old }
+        ensures laid { IsLaidOut (setup_of_units self.new) self.new.units.items }
+        ensures setup { setup_of_units self.new ≡ setup_of_units self.old }
         ensures parts { (op : Operation) → operation_of_body body.now ≡ Some op
-            → DoesParts (setup_of self.old) op self.old.units.items self.new.units.items result }
+            → DoesParts (setup_of_units self.old) op self.old.units.items self.new.units.items result }
     {
         laws::pieces_stand_in_line();
         outcomes_are_made_part_by_part();
@@ -95,14 +95,14 @@ impl Units {
 
     /// Does the part of a job in the unit of a piece of its range.
     fn do_part(&mut self, alloc: Global, number: u32, body: &Body, piece: Piece) -> Told
-        requires laid { IsLaidOut (setup_of self.old) self.old.units.items }
+        requires laid { IsLaidOut (setup_of_units self.old) self.old.units.items }
         requires ready { IsReadyBody self.old.geometry body.now }
         requires whole { IsWholeBody self.old.geometry.block_size body.now }
         requires piece { IsPieceOf self.old.geometry body.now piece }
-        ensures laid { IsLaidOut (setup_of self.new) self.new.units.items }
-        ensures setup { setup_of self.new ≡ setup_of self.old }
+        ensures laid { IsLaidOut (setup_of_units self.new) self.new.units.items }
+        ensures setup { setup_of_units self.new ≡ setup_of_units self.old }
         ensures part { (op : Operation) → operation_of_body body.now ≡ Some op
-            → DoesPart (setup_of self.old) op self.old.units.items self.new.units.items piece.unit result }
+            → DoesPart (setup_of_units self.old) op self.old.units.items self.new.units.items piece.unit result }
     {
         match body {
             Body::Single(command) => match command.op {
@@ -120,10 +120,10 @@ impl Units {
 
     /// Does the part of a Read.
     fn read(&self, alloc: Global, command: &Command, piece: Piece) -> Told
-        requires laid { IsLaidOut (setup_of self.now) self.now.units.items }
+        requires laid { IsLaidOut (setup_of_units self.now) self.now.units.items }
         requires range { command.now.slba + (command.now.nlb + 1) ≤ self.now.geometry.nsze }
         requires piece { IsPiece self.now.geometry command.now.slba (command.now.nlb + 1) piece }
-        ensures { DoesPart (setup_of self.now) (on_range command.now reads) self.now.units.items
+        ensures { DoesPart (setup_of_units self.now) (on_range command.now reads) self.now.units.items
             self.now.units.items piece.unit result }
     {
         let look = Look::Read {
@@ -135,11 +135,11 @@ impl Units {
 
     /// Does the part of a Compare.
     fn compare(&self, alloc: Global, command: &Command, piece: Piece) -> Told
-        requires laid { IsLaidOut (setup_of self.now) self.now.units.items }
+        requires laid { IsLaidOut (setup_of_units self.now) self.now.units.items }
         requires payload { length command.now.payload ≡ (command.now.nlb + 1) * self.now.geometry.block_size }
         requires range { command.now.slba + (command.now.nlb + 1) ≤ self.now.geometry.nsze }
         requires piece { IsPiece self.now.geometry command.now.slba (command.now.nlb + 1) piece }
-        ensures { DoesPart (setup_of self.now) (on_range command.now (compares command.now.payload))
+        ensures { DoesPart (setup_of_units self.now) (on_range command.now (compares command.now.payload))
             self.now.units.items self.now.units.items piece.unit result }
     {
         let look = Look::Compare {
@@ -152,13 +152,13 @@ impl Units {
 
     /// Does the part of a Write.
     fn write(&mut self, alloc: Global, number: u32, command: &Command, piece: Piece) -> Told
-        requires laid { IsLaidOut (setup_of self.old) self.old.units.items }
+        requires laid { IsLaidOut (setup_of_units self.old) self.old.units.items }
         requires payload { length command.now.payload ≡ (command.now.nlb + 1) * self.old.geometry.block_size }
         requires range { command.now.slba + (command.now.nlb + 1) ≤ self.old.geometry.nsze }
         requires piece { IsPiece self.old.geometry command.now.slba (command.now.nlb + 1) piece }
-        ensures laid { IsLaidOut (setup_of self.new) self.new.units.items }
-        ensures setup { setup_of self.new ≡ setup_of self.old }
-        ensures part { DoesPart (setup_of self.old) (on_range command.now (writes command.now.payload))
+        ensures laid { IsLaidOut (setup_of_units self.new) self.new.units.items }
+        ensures setup { setup_of_units self.new ≡ setup_of_units self.old }
+        ensures part { DoesPart (setup_of_units self.old) (on_range command.now (writes command.now.payload))
             self.old.units.items self.new.units.items piece.unit result }
     {
         let act = ActRef::Write {
@@ -171,12 +171,12 @@ impl Units {
 
     /// Does the part of a Write Zeroes.
     fn zero(&mut self, alloc: Global, number: u32, command: &Command, piece: Piece) -> Told
-        requires laid { IsLaidOut (setup_of self.old) self.old.units.items }
+        requires laid { IsLaidOut (setup_of_units self.old) self.old.units.items }
         requires range { command.now.slba + (command.now.nlb + 1) ≤ self.old.geometry.nsze }
         requires piece { IsPiece self.old.geometry command.now.slba (command.now.nlb + 1) piece }
-        ensures laid { IsLaidOut (setup_of self.new) self.new.units.items }
-        ensures setup { setup_of self.new ≡ setup_of self.old }
-        ensures part { DoesPart (setup_of self.old) (on_range command.now zeroes) self.old.units.items
+        ensures laid { IsLaidOut (setup_of_units self.new) self.new.units.items }
+        ensures setup { setup_of_units self.new ≡ setup_of_units self.old }
+        ensures part { DoesPart (setup_of_units self.old) (on_range command.now zeroes) self.old.units.items
             self.new.units.items piece.unit result }
     {
         let act = ActRef::Zeroes {
@@ -188,12 +188,12 @@ impl Units {
 
     /// Does the part of a Write Uncorrectable.
     fn mark(&mut self, alloc: Global, number: u32, command: &Command, piece: Piece) -> Told
-        requires laid { IsLaidOut (setup_of self.old) self.old.units.items }
+        requires laid { IsLaidOut (setup_of_units self.old) self.old.units.items }
         requires range { command.now.slba + (command.now.nlb + 1) ≤ self.old.geometry.nsze }
         requires piece { IsPiece self.old.geometry command.now.slba (command.now.nlb + 1) piece }
-        ensures laid { IsLaidOut (setup_of self.new) self.new.units.items }
-        ensures setup { setup_of self.new ≡ setup_of self.old }
-        ensures part { DoesPart (setup_of self.old) (on_range command.now uncorrectable) self.old.units.items
+        ensures laid { IsLaidOut (setup_of_units self.new) self.new.units.items }
+        ensures setup { setup_of_units self.new ≡ setup_of_units self.old }
+        ensures part { DoesPart (setup_of_units self.old) (on_range command.now uncorrectable) self.old.units.items
             self.new.units.items piece.unit result }
     {
         let act = ActRef::Uncorrectable {
@@ -212,16 +212,16 @@ impl Units {
         write: &Command,
         piece: Piece,
     ) -> Told
-        requires laid { IsLaidOut (setup_of self.old) self.old.units.items }
+        requires laid { IsLaidOut (setup_of_units self.old) self.old.units.items }
         requires slba { write.now.slba ≡ compare.now.slba }
         requires nlb { write.now.nlb ≡ compare.now.nlb }
         requires compared { length compare.now.payload ≡ (compare.now.nlb + 1) * self.old.geometry.block_size }
         requires written { length write.now.payload ≡ (compare.now.nlb + 1) * self.old.geometry.block_size }
         requires range { compare.now.slba + (compare.now.nlb + 1) ≤ self.old.geometry.nsze }
         requires piece { IsPiece self.old.geometry compare.now.slba (compare.now.nlb + 1) piece }
-        ensures laid { IsLaidOut (setup_of self.new) self.new.units.items }
-        ensures setup { setup_of self.new ≡ setup_of self.old }
-        ensures part { DoesPart (setup_of self.old) (on_range compare.now (pairs compare.now.payload write.now.payload))
+        ensures laid { IsLaidOut (setup_of_units self.new) self.new.units.items }
+        ensures setup { setup_of_units self.new ≡ setup_of_units self.old }
+        ensures part { DoesPart (setup_of_units self.old) (on_range compare.now (pairs compare.now.payload write.now.payload))
             self.old.units.items self.new.units.items piece.unit result }
     {
         let size = self.geometry.block_size();
@@ -236,15 +236,15 @@ impl Units {
 
     /// Makes a change in the unit of a piece.
     fn change_in(&mut self, alloc: Global, number: u32, piece: Piece, act: ActRef<'_>) -> Told
-        requires laid { IsLaidOut (setup_of self.old) self.old.units.items }
+        requires laid { IsLaidOut (setup_of_units self.old) self.old.units.items }
         requires piece { IsInside self.old.geometry piece }
         requires first { (lent_operation_of act).first ≡ piece.first }
         requires blocks { (lent_operation_of act).blocks ≡ piece.blocks }
         requires payload { HasData (piece.blocks * self.old.geometry.block_size) (lent_operation_of act).deed }
-        ensures laid { IsLaidOut (setup_of self.new) self.new.units.items }
-        ensures setup { setup_of self.new ≡ setup_of self.old }
+        ensures laid { IsLaidOut (setup_of_units self.new) self.new.units.items }
+        ensures setup { setup_of_units self.new ≡ setup_of_units self.old }
         ensures part { (op : Operation) → lent_operation_of act.entry ≡ part_in self.old.geometry op piece.unit
-            → DoesPart (setup_of self.old) op self.old.units.items self.new.units.items piece.unit result }
+            → DoesPart (setup_of_units self.old) op self.old.units.items self.new.units.items piece.unit result }
     {
         laws::part_has_its_blocks();
         let limit = self.limit;
@@ -254,13 +254,13 @@ impl Units {
 
     /// Looks at the unit of a piece.
     fn look_in(&self, alloc: Global, piece: Piece, look: Look<'_>) -> Told
-        requires laid { IsLaidOut (setup_of self.now) self.now.units.items }
+        requires laid { IsLaidOut (setup_of_units self.now) self.now.units.items }
         requires piece { IsInside self.now.geometry piece }
         requires first { (look_operation_of look).first ≡ piece.first }
         requires blocks { (look_operation_of look).blocks ≡ piece.blocks }
         requires payload { HasData (piece.blocks * self.now.geometry.block_size) (look_operation_of look).deed }
         ensures { (op : Operation) → look_operation_of look.entry ≡ part_in self.now.geometry op piece.unit
-            → DoesPart (setup_of self.now) op self.now.units.items self.now.units.items piece.unit result }
+            → DoesPart (setup_of_units self.now) op self.now.units.items self.now.units.items piece.unit result }
     {
         some_medium_is_held();
         let unit = &self.units[piece.unit as usize];

@@ -43,8 +43,8 @@ NoneApplies [] ns = Unit {0}
 NoneApplies (f ∷ fs) ns = (¬ (Applies ns f)) × NoneApplies fs ns
 
 -- the fault that is answered
-abbrev pub IsFirstFault : Namespace → GeometryFault → Type 0
-IsFirstFault ns fault = IsFirstOf faults ns fault
+abbrev pub IsFirstGeometryFault : Namespace → GeometryFault → Type 0
+IsFirstGeometryFault ns fault = IsFirstOf faults ns fault
 
 abbrev pub HasNoFault : Namespace → Type 0
 HasNoFault ns = NoneApplies faults ns

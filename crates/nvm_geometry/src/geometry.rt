@@ -4,7 +4,7 @@ ghost use Rattle.nvm_record.specs.BlockSize.{IsBlockSize};
 ghost use Rattle.nvm_geometry.specs.Namespace.{namespace_of};
 ghost use Rattle.nvm_geometry.specs.Boundaries.{unit_number, units_of, Crosses};
 ghost use Rattle.nvm_geometry.specs.Limits.{LiesInUnit, IsWithinWriteLimit, IsWithinPairLimit};
-ghost use Rattle.nvm_geometry.specs.Faults.{HasNoFault, IsFirstFault, IsValid, most_units};
+ghost use Rattle.nvm_geometry.specs.Faults.{HasNoFault, IsFirstGeometryFault, IsValid, most_units};
 ghost use Rattle.nvm_geometry.specs.declared.geometry_fault.GeometryFault.{GeometryFault as Fault};
 
 use crate::boundaries::{unit_at, unit_start};
@@ -72,12 +72,12 @@ impl Geometry {
     ) -> Result<Geometry, GeometryFault>
         ensures taken { IfOk result (λ g. g ≡ namespace_of nsze block_size nabsn nabo nawun nacwu) }
         ensures sound { IfOk result (λ g. HasNoFault g) }
-        ensures refused { IfErr result (IsFirstFault (namespace_of nsze block_size nabsn nabo nawun nacwu)) }
+        ensures refused { IfErr result (IsFirstGeometryFault (namespace_of nsze block_size nabsn nabo nawun nacwu)) }
 
         // Where no fault applies the numbers are taken, and else the first that does is answered.
         ensures each_sound { HasNoFault (namespace_of nsze block_size nabsn nabo nawun nacwu)
             → result ≡ Ok (namespace_of nsze block_size nabsn nabo nawun nacwu) }
-        ensures each_fault { (f : Fault) → IsFirstFault (namespace_of nsze block_size nabsn nabo nawun nacwu) f
+        ensures each_fault { (f : Fault) → IsFirstGeometryFault (namespace_of nsze block_size nabsn nabo nawun nacwu) f
             → result ≡ Err f }
     {
         if nsze == 0 || nsze > MOST_BLOCKS {

@@ -3,7 +3,7 @@ use Rattle.std.proofs.Common.{◌≡◌, ℕ, suc, ◌+◌, ◌*◌, ◌%◌, �
 use Rattle.std.specs.List.{AllByRecursion}
 use Rattle.std.proofs.lemmas.List.{nil_from_length}
 use Rattle.nvm_record.specs.BlockSize.{IsBlockSize}
-use Rattle.nvm_record.specs.Op.{opcode_of, IsProper, carries_data}
+use Rattle.nvm_record.specs.Op.{opcode_of, IsProperOp, carries_data}
 use Rattle.nvm_record.specs.Entry.{IsWhole}
 use Rattle.nvm_record.specs.declared.op.Op.{Op}
 use Rattle.nvm_record.specs.declared.op.Op.TheVariants as ops
@@ -19,7 +19,7 @@ use Rattle.nvm_list.specs.Names.{unnamed, of_opcode, operation}
 use Rattle.nvm_list.specs.Data.{payload}
 use Rattle.nvm_list.specs.Options.{Options, options}
 use Rattle.nvm_list.specs.Lines.{lba, nlb_of, nlb, carried, command_of, command}
-use Rattle.nvm_list.specs.Ranges.{IsInRange}
+use Rattle.nvm_list.specs.Ranges.{HasValuesInRange}
 use Rattle.nvm_list.specs.Listing.{range_words, data_words, option_words}
 use Rattle.nvm_list.specs.declared.expected.Expected.{Expected}
 use Rattle.nvm_list.specs.declared.expected.Expected.TheVariants as expecting
@@ -31,11 +31,11 @@ use Rattle.nvm_list.proofs.OptionListing.{options_of, options_again, options_pla
 -- what a command has that can be listed and read in blocks of `size`
 pub record IsListable (size : ℕ) (c : Command) : Type 0 where
   pub whole : IsWhole size c
-  pub range : IsInRange c
+  pub range : HasValuesInRange c
 
 -- ---- the name
 
-name_read : (op : Op) → IsProper op → opcode_of op < 256 → operation (name_of op) ≡ Ok op
+name_read : (op : Op) → IsProperOp op → opcode_of op < 256 → operation (name_of op) ≡ Ok op
 name_read ops.Write h fits = refl
 name_read ops.Read h fits = refl
 name_read ops.WriteUncorrectable h fits = refl

@@ -1,9 +1,9 @@
 -- The fault of lines is that of the first that is no command.
 use Rattle.std.proofs.Common.{◌≡◌, ℕ, ◌+◌, List, [], ◌∷◌, ◌++◌, length, Option, Some, None, Result, Ok, Err, refl, sym, ap, ◌∙◌, subst, arith}
 use Rattle.nvm_record.specs.declared.command.Command.{Command}
-use Rattle.nvm_list.specs.Words.{lines, words}
+use Rattle.nvm_list.specs.Words.{text_lines, words}
 use Rattle.nvm_list.specs.Lists.{command_at, at_line, on_line, in_front, followed_by, commands_from, commands}
-use Rattle.nvm_list.specs.FirstFault.{IsFirstFault, FaultsAreFirst}
+use Rattle.nvm_list.specs.FirstFault.{IsFirstListFault, FaultsAreFirst}
 use Rattle.nvm_list.specs.declared.expected.Expected.{Expected}
 use Rattle.nvm_list.specs.declared.fault.ListFault.{ListFault}
 use Rattle.nvm_list.specs.declared.fault.ListFault.TheVariants.{Line}
@@ -130,7 +130,7 @@ line_of_fault : (size line n place : ℕ) (expected : Expected) (ws : List (List
 line_of_fault size line n place expected [] h = absurd cc
 line_of_fault size line n place expected (w ∷ ws) h = line_of_read line n expected (command_at size place (w ∷ ws)) h
 
-first_of : (size : ℕ) (text : List ℕ) (line : ℕ) (expected : Expected) → Stops size 1 1 (lines text) (Line line expected) → IsFirstFault size text line expected
+first_of : (size : ℕ) (text : List ℕ) (line : ℕ) (expected : Expected) → Stops size 1 1 (text_lines text) (Line line expected) → IsFirstListFault size text line expected
 first_of size text line expected (before, here, behind, cs, n, m, h) =
     let number : line ≡ n = line_of_fault size line n m expected (words here) h.refused in (
       before,
@@ -145,11 +145,11 @@ first_of size text line expected (before, here, behind, cs, n, m, h) =
       },
     )
 
-refused_at : (size : ℕ) (text : List ℕ) (line : ℕ) (expected : Expected) → IsFirstFault size text line expected → commands size text ≡ Err (Line line expected)
+refused_at : (size : ℕ) (text : List ℕ) (line : ℕ) (expected : Expected) → IsFirstListFault size text line expected → commands size text ≡ Err (Line line expected)
 refused_at size text line expected (before, here, behind, cs, h) =
     ap (commands_from size 1 1) h.parts
     ∙ back size 1 1 before here behind cs (Line line expected) h.read
     (λ n m a b. subst (λ (k : ℕ). on_line size k m (words here) ≡ Err (Line line expected)) (h.number ∙ sym a) (subst (λ (k : ℕ). on_line size line k (words here) ≡ Err (Line line expected)) (sym b) h.refused))
 
 pub faults_are_first : FaultsAreFirst
-faults_are_first size text line expected = ((λ e. first_of size text line expected (stops size 1 1 (lines text) (Line line expected) e)), (λ h. refused_at size text line expected h))
+faults_are_first size text line expected = ((λ e. first_of size text line expected (stops size 1 1 (text_lines text) (Line line expected) e)), (λ h. refused_at size text line expected h))

@@ -9,10 +9,10 @@ use Rattle.nvm_record.specs.Entry.{IsWhole}
 use Rattle.nvm_record.specs.declared.command.Command.{Command}
 use Rattle.nvm_text.specs.Runs.{RunsAreLongest}
 use Rattle.nvm_text.specs.Lines.{name_of}
-use Rattle.nvm_list.specs.Words.{lines, words}
+use Rattle.nvm_list.specs.Words.{text_lines, words}
 use Rattle.nvm_list.specs.Lines.{command}
 use Rattle.nvm_list.specs.Lists.{at_line, on_line, in_front, followed_by, commands_from, commands}
-use Rattle.nvm_list.specs.Ranges.{IsInRange}
+use Rattle.nvm_list.specs.Ranges.{HasValuesInRange}
 use Rattle.nvm_list.specs.Listing.{behind_spaces, listing_from, listing}
 use Rattle.nvm_list.specs.declared.expected.Expected.TheVariants.{NoMoreCommands}
 use Rattle.nvm_list.specs.declared.fault.ListFault.{ListFault}
@@ -28,28 +28,28 @@ line_read size line place c longest valid h few =
     ap (on_line size line place) (line_words_again (name_of c.op) (words_behind place c) (name_is_word size c h) (behind_are_words size place c longest valid h))
     ∙ ap (at_line line) (cond-true (nat_le place 65536) (command size place (name_of c.op ∷ words_behind place c)) (Err NoMoreCommands) (le-leb place 65536 few) ∙ command_again size place c longest valid h)
 
-pub read_from : (size line place : ℕ) (cs : List Command) → RunsAreLongest → IsBlockSize size → AllByRecursion (IsListable size) cs → place + length cs ≤ 65537 → commands_from size line place (lines (listing_from place cs)) ≡ Ok cs
+pub read_from : (size line place : ℕ) (cs : List Command) → RunsAreLongest → IsBlockSize size → AllByRecursion (IsListable size) cs → place + length cs ≤ 65537 → commands_from size line place (text_lines (listing_from place cs)) ≡ Ok cs
 read_from size line place [] longest valid h few = refl
 read_from size line place (c ∷ cs) longest valid h few =
     ap (commands_from size line place) (lines_again (name_of c.op) (words_behind place c) (listing_from (place + 1) cs) (name_is_word size c h.0) (behind_are_words size place c longest valid h.0))
-    ∙ ap (λ (r : Result (Option Command) ListFault). followed_by r place (λ next. commands_from size (line + 1) next (lines (listing_from (place + 1) cs)))) (line_read size line place c longest valid h.0 (omega arith))
+    ∙ ap (λ (r : Result (Option Command) ListFault). followed_by r place (λ next. commands_from size (line + 1) next (text_lines (listing_from (place + 1) cs)))) (line_read size line place c longest valid h.0 (omega arith))
     ∙ ap (in_front c) (read_from size (line + 1) (place + 1) cs longest valid h.1 (omega arith))
 
-listable : (size : ℕ) (cs : List Command) → AllByRecursion (IsWhole size) cs → AllByRecursion IsInRange cs → AllByRecursion (IsListable size) cs
+listable : (size : ℕ) (cs : List Command) → AllByRecursion (IsWhole size) cs → AllByRecursion HasValuesInRange cs → AllByRecursion (IsListable size) cs
 listable size [] h k = tt
 listable size (c ∷ cs) h k = (record { whole = h.0; range = k.0 }, listable size cs h.1 k.1)
 
-pub read_again : (size : ℕ) (cs : List Command) (text : List ℕ) → text ≡ listing cs → RunsAreLongest → AllByRecursion IsInRange cs → IsBlockSize size → All (IsWhole size) cs → length cs ≤ 65536 → commands size text ≡ Ok cs
+pub read_again : (size : ℕ) (cs : List Command) (text : List ℕ) → text ≡ listing cs → RunsAreLongest → AllByRecursion HasValuesInRange cs → IsBlockSize size → All (IsWhole size) cs → length cs ≤ 65536 → commands size text ≡ Ok cs
 read_again size cs text e longest ranges valid whole few =
     ap (commands size) e ∙ read_from size 1 1 cs longest valid (listable size cs (recursion_from_All (IsWhole size) cs whole) ranges) (omega arith)
 
 -- one command more is listed
-pub in_range_more : (c : Command) (cs : List Command) (i : ℕ) → drop i cs ≡ c ∷ drop (i + 1) cs → IsInRange c
-    → (AllByRecursion IsInRange (drop i cs) → AllByRecursion IsInRange cs) → AllByRecursion IsInRange (drop (i + 1) cs) → AllByRecursion IsInRange cs
-in_range_more c cs i here this so_far rest = so_far (subst (λ (ds : List Command). AllByRecursion IsInRange ds) (sym here) (this, rest))
+pub in_range_more : (c : Command) (cs : List Command) (i : ℕ) → drop i cs ≡ c ∷ drop (i + 1) cs → HasValuesInRange c
+    → (AllByRecursion HasValuesInRange (drop i cs) → AllByRecursion HasValuesInRange cs) → AllByRecursion HasValuesInRange (drop (i + 1) cs) → AllByRecursion HasValuesInRange cs
+in_range_more c cs i here this so_far rest = so_far (subst (λ (ds : List Command). AllByRecursion HasValuesInRange ds) (sym here) (this, rest))
 
-pub all_in_range : (cs : List Command) (i : ℕ) → length cs ≤ i → (AllByRecursion IsInRange (drop i cs) → AllByRecursion IsInRange cs) → AllByRecursion IsInRange cs
-all_in_range cs i le h = h (subst (λ (ds : List Command). AllByRecursion IsInRange ds) (sym (drop_all i cs le)) tt)
+pub all_in_range : (cs : List Command) (i : ℕ) → length cs ≤ i → (AllByRecursion HasValuesInRange (drop i cs) → AllByRecursion HasValuesInRange cs) → AllByRecursion HasValuesInRange cs
+all_in_range cs i le h = h (subst (λ (ds : List Command). AllByRecursion HasValuesInRange ds) (sym (drop_all i cs le)) tt)
 
 pub all_listed : (text : List ℕ) (cs : List Command) (i : ℕ) → length cs ≤ i → text ++ listing_from (i + 1) (drop i cs) ≡ listing cs → text ≡ listing cs
 all_listed text cs i le so_far = sym (append-nil text) ∙ ap (λ (ds : List Command). text ++ listing_from (i + 1) ds) (sym (drop_all i cs le)) ∙ so_far

@@ -6,7 +6,7 @@ use Rattle.std.proofs.lemmas.List.{append-nil, take_all}
 use Rattle.std.proofs.lemmas.List.Elements.{All-from_recursion, All-get_or}
 use Rattle.std.proofs.lemmas.List.Splits.{slice_split_at, slice_split_none}
 use Rattle.std.proofs.lemmas.List.Sums.{position_or_len_is}
-use Rattle.nvm_list.specs.Words.{is, is_blank, is_word, words_in, words, lines}
+use Rattle.nvm_list.specs.Words.{is, is_blank, is_word, words_in, words, text_lines}
 use Rattle.nvm_list.specs.Listing.{behind_spaces}
 use Rattle.nvm_list.proofs.Cutting.{word_kept}
 
@@ -65,8 +65,8 @@ all_before p xs h =
 pub line_words_again : (word : List ℕ) (ws : List (List ℕ)) → IsPlainWord word → AllByRecursion IsPlainWord ws → words (word ++ behind_spaces ws) ≡ word ∷ ws
 line_words_again word ws h hs = ap words_in (all_before (is 35) (word ++ behind_spaces ws) (whole_has_none 35 word ws (omega arith) refl h hs)) ∙ words_again word ws h hs
 
-pub lines_again : (word : List ℕ) (ws : List (List ℕ)) (rest : List ℕ) → IsPlainWord word → AllByRecursion IsPlainWord ws → lines ((word ++ (behind_spaces ws ++ codes "\n")) ++ rest) ≡ (word ++ behind_spaces ws) ∷ lines rest
+pub lines_again : (word : List ℕ) (ws : List (List ℕ)) (rest : List ℕ) → IsPlainWord word → AllByRecursion IsPlainWord ws → text_lines ((word ++ (behind_spaces ws ++ codes "\n")) ++ rest) ≡ (word ++ behind_spaces ws) ∷ text_lines rest
 lines_again word ws rest h hs =
     let regrouped : (word ++ (behind_spaces ws ++ codes "\n")) ++ rest ≡ (word ++ behind_spaces ws) ++ 10 ∷ rest =
     ap (λ (x : List ℕ). x ++ rest) (sym (append_assoc word (behind_spaces ws) (codes "\n"))) ∙ append_assoc (word ++ behind_spaces ws) (codes "\n") rest in
-    ap lines regrouped ∙ slice_split_at (is 10) (word ++ behind_spaces ws) 10 rest (whole_has_none 10 word ws (omega arith) refl h hs) refl
+    ap text_lines regrouped ∙ slice_split_at (is 10) (word ++ behind_spaces ws) 10 rest (whole_has_none 10 word ws (omega arith) refl h hs) refl

@@ -6,14 +6,14 @@ use Rattle.std.proofs.lemmas.Bool.{cond_both, eqb-true, leb-true}
 use Rattle.std.proofs.lemmas.Result.{IfOk-at_ok}
 use Rattle.std.proofs.lemmas.List.Elements.{All-from_recursion}
 use Rattle.std.proofs.lemmas.List.{length-append, length-replicate}
-use Rattle.nvm_record.specs.Op.{op_of, IsProper, carries_data}
+use Rattle.nvm_record.specs.Op.{op_of, IsProperOp, carries_data}
 use Rattle.nvm_record.specs.Entry.{data_length, IsWhole}
 use Rattle.nvm_record.specs.declared.op.Op.{Op}
 use Rattle.nvm_record.specs.declared.op.Op.TheVariants.{Write, Read, WriteUncorrectable, Compare, WriteZeroes, Other}
 use Rattle.nvm_record.specs.declared.command.Command.{Command}
 use Rattle.nvm_text.specs.Runs.{Run, written_out}
 use Rattle.nvm_text.specs.Lines.{name_of}
-use Rattle.nvm_list.specs.Words.{is, first, others, words, lines}
+use Rattle.nvm_list.specs.Words.{is, first, others, words, text_lines}
 use Rattle.nvm_list.specs.Numbers.{hex_byte}
 use Rattle.nvm_list.specs.Expecting.{◌>>=◌}
 use Rattle.nvm_list.specs.Names.{unnamed, of_opcode, other_operation, operation}
@@ -28,9 +28,9 @@ use Rattle.nvm_list.specs.declared.fault.ListFault.{ListFault}
 -- ---- the operation
 
 abbrev IsProperRead : Result Op Expected → Type 0
-IsProperRead read = IfOk read IsProper
+IsProperRead read = IfOk read IsProperOp
 
-unnamed_proper : (op : Op) → IsProper op → IsProperRead (unnamed op)
+unnamed_proper : (op : Op) → IsProperOp op → IsProperRead (unnamed op)
 unnamed_proper Write h = tt
 unnamed_proper Read h = tt
 unnamed_proper WriteUncorrectable h = tt
@@ -84,12 +84,12 @@ carried_by false n ws = refl
 abbrev IsWholeRead : ℕ → Result Command Expected → Type 0
 IsWholeRead size read = IfOk read (IsWhole size)
 
-with_options : (size place : ℕ) (op : Op) (slba n : ℕ) (bytes : List ℕ) (o : Result Options Expected) → IsProper op → length bytes ≡ data_length size op n
+with_options : (size place : ℕ) (op : Op) (slba n : ℕ) (bytes : List ℕ) (o : Result Options Expected) → IsProperOp op → length bytes ≡ data_length size op n
     → IsWholeRead size (o >>= λ given. Ok (command_of place op slba n bytes given))
 with_options size place op slba n bytes (Ok o) proper long = record { payload = long; op = proper }
 with_options size place op slba n bytes (Err e) proper long = tt
 
-with_data : (size place : ℕ) (op : Op) (slba n : ℕ) (read : Result (List ℕ × List (List ℕ)) Expected) → IsProper op → IsCarried (data_length size op n) read
+with_data : (size place : ℕ) (op : Op) (slba n : ℕ) (read : Result (List ℕ × List (List ℕ)) Expected) → IsProperOp op → IsCarried (data_length size op n) read
     → IsWholeRead size (read >>= λ bytes. options bytes.1 >>= λ o. Ok (command_of place op slba n bytes.0 o))
 with_data size place op slba n (Ok bytes) proper long = with_options size place op slba n bytes.0 (options bytes.1) proper long
 with_data size place op slba n (Err e) proper long = tt
@@ -126,7 +126,7 @@ at_place size place (Err e) few whole = tt
 
 -- ---- where each opcode asks for something proper
 
-module _ (proper : (n : ℕ) → IsProper (op_of n)) where
+module _ (proper : (n : ℕ) → IsProperOp (op_of n)) where
   opcode_proper : (opcode : Option ℕ) → IsProperRead (of_opcode opcode)
   opcode_proper None = tt
   opcode_proper (Some n) = unnamed_proper (op_of n) (proper n)
@@ -158,7 +158,7 @@ module _ (proper : (n : ℕ) → IsProper (op_of n)) where
       line_whole size line place (words text) (λ next. commands_from size (line + 1) next texts) few (λ next below. all_whole size (line + 1) next texts below)
 
   read_whole : (size : ℕ) (text : List ℕ) (cs : List Command) → commands size text ≡ Ok cs → AreWhole size 1 cs
-  read_whole size text cs e = IfOk-at_ok (AreWhole size 1) e (all_whole size 1 1 (lines text) (omega arith))
+  read_whole size text cs e = IfOk-at_ok (AreWhole size 1) e (all_whole size 1 1 (text_lines text) (omega arith))
 
   pub whole_where_read : (size : ℕ) (text : List ℕ) (r : Result (Vec Command Global) ListFault) → IfOk r (λ v. commands size text ≡ Ok v.items) → IfOk r (λ v. All (IsWhole size) v.items)
   whole_where_read size text (Ok v) h = All-from_recursion (IsWhole size) v.items (read_whole size text v.items h).whole

@@ -4,14 +4,14 @@ use Rattle.std.specs.List.{flat_map, AllByRecursion}
 use Rattle.std.proofs.lemmas.List.{append-nil, drop_all}
 use Rattle.std.proofs.lemmas.List.Elements.{recursion_from_All}
 use Rattle.nvm_record.specs.Entry.{IsWhole, IsSpelling, entry_of}
-use Rattle.nvm_record.specs.HostFile.{Begins, IsHostFile}
+use Rattle.nvm_record.specs.HostFile.{BeginsWithAll, IsHostFile}
 use Rattle.nvm_record.specs.declared.command.Command.{Command}
 use Rattle.nvm_list.specs.Files.{spelling_of, file_of}
 
 abbrev pub SpellsItself : Command → Type 0
 SpellsItself c = (size : ℕ) → IsWhole size c → IsSpelling size (spelling_of c) c
 
-begins : (size : ℕ) (cs : List Command) → AllByRecursion SpellsItself cs → AllByRecursion (IsWhole size) cs → Begins size (flat_map spelling_of cs) cs []
+begins : (size : ℕ) (cs : List Command) → AllByRecursion SpellsItself cs → AllByRecursion (IsWhole size) cs → BeginsWithAll size (flat_map spelling_of cs) cs []
 begins size [] spelled whole = refl
 begins size (c ∷ cs) spelled whole = (flat_map spelling_of cs, (spelling_of c, refl, spelled.0 size whole.0), begins size cs spelled.1 whole.1)
 

@@ -38,15 +38,15 @@ behind_spaces [] = []
 behind_spaces (word ∷ words) = codes " " ++ (word ++ behind_spaces words)
 
 -- the line of the command at a place of the list
-abbrev pub line_of : ℕ → Command → List ℕ
-line_of place c =
+abbrev pub listed_line : ℕ → Command → List ℕ
+listed_line place c =
     name_of c.op
     ++ (behind_spaces (range_words c ++ (data_words c ++ option_words place c)) ++ codes "\n")
 
 -- the lines of commands, of which the first is at place `place`
 abbrev pub listing_from : ℕ → List Command → List ℕ
 listing_from place [] = []
-listing_from place (c ∷ cs) = line_of place c ++ listing_from (place + 1) cs
+listing_from place (c ∷ cs) = listed_line place c ++ listing_from (place + 1) cs
 
 abbrev pub listing : List Command → List ℕ
 listing cs = listing_from 1 cs

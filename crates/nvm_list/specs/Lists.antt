@@ -1,7 +1,7 @@
 -- A list: a command a line, where lines without words are passed over.
 use Rattle.std.specs.Prelude.{ℕ, ◌+◌, nat_le, if◌then◌else◌, List, [], ◌∷◌, Option, Some, None, Result, Ok, Err}
 use Rattle.nvm_record.specs.declared.command.Command.{Command}
-use Rattle.nvm_list.specs.Words.{lines, words}
+use Rattle.nvm_list.specs.Words.{text_lines, words}
 use Rattle.nvm_list.specs.Lines.{command}
 use Rattle.nvm_list.specs.declared.expected.Expected.{Expected}
 use Rattle.nvm_list.specs.declared.expected.Expected.TheVariants.{NoMoreCommands}
@@ -40,4 +40,4 @@ commands_from size line place (text ∷ texts) =
 
 -- the commands of a list
 abbrev pub commands : ℕ → List ℕ → Result (List Command) ListFault
-commands size text = commands_from size 1 1 (lines text)
+commands size text = commands_from size 1 1 (text_lines text)

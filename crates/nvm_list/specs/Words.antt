@@ -14,8 +14,8 @@ abbrev pub is_word : List ℕ → Bool
 is_word word = nat_lt 0 (length word)
 
 -- what stands between line feeds
-abbrev pub lines : List ℕ → List (List ℕ)
-lines text = slice_split (is 10) text
+abbrev pub text_lines : List ℕ → List (List ℕ)
+text_lines text = slice_split (is 10) text
 
 -- what stands between blanks
 abbrev pub words_in : List ℕ → List (List ℕ)

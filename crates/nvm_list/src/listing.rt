@@ -1,14 +1,14 @@
 ghost use Rattle.std.specs.Prelude.{◌≡◌, ◌⊎◌, ◌≤◌, ◌++◌, ℕ, List, Ok, IfOk, IfErr, OnOk, MatchResult, ◌<◌, get_or, length, All, string_bytes};
 ghost use Rattle.nvm_record.specs.Entry.{IsWhole};
 ghost use Rattle.nvm_record.specs.BlockSize.{IsBlockSize};
-ghost use Rattle.nvm_record.specs.HostFile.{IsHostFile, IsFaultOf, IsAnsweredFault, most_commands};
+ghost use Rattle.nvm_record.specs.HostFile.{IsHostFile, IsHostFileFault, IsAnsweredFault, most_commands};
 ghost use Rattle.nvm_record.specs.declared.command.Command.{Command as Listed};
 ghost use Rattle.nvm_record.specs.declared.host_fault.HostFault.{HostFault as Fault};
 ghost use Rattle.nvm_record.specs.declared.host_fault.HostFault.TheVariants as of_file;
 ghost use Rattle.nvm_list.specs.Lists as lists;
 ghost use Rattle.nvm_list.specs.Lists.{commands};
 ghost use Rattle.nvm_list.specs.Files.{file_of, assembled};
-ghost use Rattle.nvm_list.specs.Ranges.{IsInRange};
+ghost use Rattle.nvm_list.specs.Ranges.{HasValuesInRange};
 ghost use Rattle.nvm_list.specs.Listing as spec;
 ghost use Rattle.nvm_list.specs.Listing.{listing, behind_spaces};
 
@@ -28,7 +28,7 @@ pub fn list_file(alloc: Global, bytes: &[u8], size: BlockSize) -> Result<String,
     ensures same_file { IfOk result (λ text. (cs : List Listed) → IsHostFile size bytes.now cs
         → bytes.now ≡ file_of cs → assembled size (string_bytes text) ≡ Ok bytes.now) }
     ensures fault { IfErr result (IsAnsweredFault size bytes.now) }
-    ensures each_fault { (f : Fault) → IsFaultOf size bytes.now f
+    ensures each_fault { (f : Fault) → IsHostFileFault size bytes.now f
         → MatchResult result (λ _. ⊥) (λ e. (e ≡ f) ⊎ (e ≡ of_file.NoMemory)) }
 {
     let commands = read_host(alloc, bytes, size)?;
@@ -56,7 +56,7 @@ pub fn list(alloc: Global, commands: &[Command]) -> Result<String, NoMemory>
 
 /// Does nothing, and says what the types of a command's fields do.
 fn has_ranges(command: &Command)
-    ensures { IsInRange command.now }
+    ensures { HasValuesInRange command.now }
 {
     let _cid = command.cid;
     let _nsid = command.nsid;
@@ -73,7 +73,7 @@ fn has_bytes(bytes: &[u8])
 
 /// Appends the line of the command at a place of its list.
 fn push_command(text: &mut String, place: u64, command: &Command) -> Result<(), NoMemory>
-    ensures { OnOk result (string_bytes text.new ≡ string_bytes text.old ++ spec.line_of place command.now) }
+    ensures { OnOk result (string_bytes text.new ≡ string_bytes text.old ++ spec.listed_line place command.now) }
 {
     push_name(text, command.op)?;
     push_range(text, command)?;

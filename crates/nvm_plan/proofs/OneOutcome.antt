@@ -9,7 +9,7 @@ use Rattle.nvm_geometry.specs.Namespace.{Namespace}
 use Rattle.nvm_plan.specs.declared.job.Job.{Job}
 use Rattle.nvm_plan.specs.Checks.{refusal_of}
 use Rattle.nvm_plan.specs.Operation.{job_operation_of}
-use Rattle.nvm_plan.specs.Reply.{Reply, Succeeds}
+use Rattle.nvm_plan.specs.Reply.{Reply, IsSuccessfulReply}
 use Rattle.nvm_plan.specs.Outcome.{units_told, AllSucceed, StopsAtLast, IsUnstarted, IsOutcomeOf, IsRefused, IsOutcome}
 
 -- what holds of all holds of the last
@@ -28,8 +28,8 @@ IsSame told read other also = (told ≡ other) × (read ≡ also)
 succeed_not_stop : (ns : Namespace) (op : Operation) (replies : List Reply) (told other : Statuses) (read also : Option (List ℕ))
     → AllSucceed ns op replies told read → StopsAtLast ns op replies other also → ⊥
 succeed_not_stop ns op replies told other read also a s =
-    let P : List Reply → Type 0 = AllByRecursion (Succeeds op.deed) in
-    s.failure (all_last (Succeeds op.deed) s.before s.last (subst P s.are a.done.each)).success
+    let P : List Reply → Type 0 = AllByRecursion (IsSuccessfulReply op.deed) in
+    s.failure (all_last (IsSuccessfulReply op.deed) s.before s.last (subst P s.are a.done.each)).success
 
 succeed_not_unstarted : (ns : Namespace) (op : Operation) (replies : List Reply) (told other : Statuses) (read also : Option (List ℕ))
     → AllSucceed ns op replies told read → IsUnstarted ns op replies other also → ⊥

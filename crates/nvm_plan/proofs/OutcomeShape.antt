@@ -12,7 +12,7 @@ use Rattle.nvm_plan.specs.declared.job.Job.{Job}
 use Rattle.nvm_plan.specs.declared.part.Part.{Part}
 use Rattle.nvm_plan.specs.Checks.{refusal_of}
 use Rattle.nvm_plan.specs.Operation.{job_operation_of}
-use Rattle.nvm_plan.specs.Reply.{Reply, can_have, IsReplyTo, Succeeds}
+use Rattle.nvm_plan.specs.Reply.{Reply, can_have, IsReplyTo, IsSuccessfulReply}
 use Rattle.nvm_plan.specs.Outcome.{units_told, data_told, AllSucceed, StopsAtLast, IsOutcomeOf, IsOutcome}
 use Rattle.nvm_plan.specs.Shape.{goes_on, EndsAtLast, HasShapeOf, HasShapeOfRefusal, HasOutcomeShape}
 use Rattle.nvm_plan.proofs.Endings.{unstarted_fails, success_goes_on, told_shown, success_shown, answer_gives, no_data}
@@ -56,15 +56,15 @@ ends_after r (q ∷ qs) =
 can_have_it : (deed : Deed) (r : Reply) → IsReplyTo deed r → IsTrue (can_have deed r.part.result)
 can_have_it deed r h = h.result
 
-going_on : (deed : Deed) (before : List Reply) → AllByRecursion (Succeeds deed) before → AllByRecursion (λ part. IsTrue (goes_on part.result)) (parts_of before)
+going_on : (deed : Deed) (before : List Reply) → AllByRecursion (IsSuccessfulReply deed) before → AllByRecursion (λ part. IsTrue (goes_on part.result)) (parts_of before)
 going_on deed =
-    all_parts (λ part. IsTrue (goes_on part.result)) (Succeeds deed)
+    all_parts (λ part. IsTrue (goes_on part.result)) (IsSuccessfulReply deed)
     (λ r h. success_goes_on deed r.part.result r.statuses h.reply.told h.success)
 
 results : (deed : Deed) (replies : List Reply) → AllByRecursion (IsReplyTo deed) replies → AllByRecursion (λ part. IsTrue (can_have deed part.result)) (parts_of replies)
 results deed = all_parts (λ part. IsTrue (can_have deed part.result)) (IsReplyTo deed) (can_have_it deed)
 
-replies_of : (deed : Deed) (replies : List Reply) → AllByRecursion (Succeeds deed) replies → AllByRecursion (IsReplyTo deed) replies
+replies_of : (deed : Deed) (replies : List Reply) → AllByRecursion (IsSuccessfulReply deed) replies → AllByRecursion (IsReplyTo deed) replies
 replies_of deed [] h = tt
 replies_of deed (r ∷ rs) h = (h.0.reply, replies_of deed rs h.1)
 
@@ -100,7 +100,7 @@ stop_shape ns op replies told read s =
 succeed_shape : (ns : Namespace) (op : Operation) (replies : List Reply) (told : Statuses) (read : Option (List ℕ))
     → AllSucceed ns op replies told read → Ends replies → EndsAtLast ns op (parts_of replies) told
 succeed_shape ns op replies told read a e =
-    let each = all_but_last (Succeeds op.deed) e.before e.last (subst (AllByRecursion (Succeeds op.deed)) e.are a.done.each) in
+    let each = all_but_last (IsSuccessfulReply op.deed) e.before e.last (subst (AllByRecursion (IsSuccessfulReply op.deed)) e.are a.done.each) in
     record {
       before = parts_of e.before;
       last = e.last.part;

@@ -13,7 +13,7 @@ use Rattle.nvm_geometry.specs.Parts.{units_met}
 use Rattle.nvm_plan.specs.declared.job.Job.{Job}
 use Rattle.nvm_plan.specs.Checks.{refusal_of}
 use Rattle.nvm_plan.specs.Operation.{job_operation_of}
-use Rattle.nvm_plan.specs.Reply.{Reply, for_deed, success_of, IsReplyTo, Succeeds}
+use Rattle.nvm_plan.specs.Reply.{Reply, for_deed, success_of, IsReplyTo, IsSuccessfulReply}
 
 -- the units in which these parts were done, in their order
 abbrev pub units_told : List Reply → List ℕ
@@ -40,7 +40,7 @@ unstarted_of deed = for_deed deed (One internal_error) (Two internal_error abort
 -- still to be done.
 pub record AreDone (ns : Namespace) (op : Operation) (replies : List Reply) (left : List ℕ) : Type 0 where
   pub units : units_told replies ++ left ≡ units_met ns op.first op.blocks
-  pub each : AllByRecursion (Succeeds op.deed) replies
+  pub each : AllByRecursion (IsSuccessfulReply op.deed) replies
 
 -- All parts were done, each with success.
 pub record AllSucceed (ns : Namespace) (op : Operation) (replies : List Reply) (told : Statuses) (read : Option (List ℕ)) : Type 0 where

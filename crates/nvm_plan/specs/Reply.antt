@@ -67,9 +67,9 @@ abbrev pub IsFailedComparison : Status → Type 0
 IsFailedComparison s = (s ≡ unrecovered_read_error) ⊎ (s ≡ compare_failure)
 
 -- A comparison failed, and the Write with it.
-abbrev pub IsFailedPair : Statuses → Type 0
-IsFailedPair (One s) = ⊥
-IsFailedPair (Two s t) = IsFailedComparison s × (t ≡ aborted_due_to_failed_fused_command)
+abbrev pub AreOfFailedPair : Statuses → Type 0
+AreOfFailedPair (One s) = ⊥
+AreOfFailedPair (Two s t) = IsFailedComparison s × (t ≡ aborted_due_to_failed_fused_command)
 
 abbrev pub IsOneStatus : Statuses → Type 0
 IsOneStatus (One s) = Unit {0}
@@ -92,7 +92,7 @@ IsOfLook deed (Two s t) = ⊥
 -- rests on the medium.
 abbrev pub MayTell : Deed → PartResult → Statuses → Type 0
 MayTell deed Done told = told ≡ success_of deed
-MayTell deed Failed told = IsFailedPair told
+MayTell deed Failed told = AreOfFailedPair told
 MayTell deed Looked told = IsOfLook deed told
 MayTell deed NoMemory told = told ≡ stop_of deed
 MayTell deed Full told = told ≡ stop_of deed
@@ -108,7 +108,7 @@ pub record IsReplyTo (deed : Deed) (r : Reply) : Type 0 where
   pub payload : IsSome r.payload ↔ GivesData deed r.statuses
 
 -- The reply is one to a part of the deed that succeeded.
-pub record Succeeds (deed : Deed) (r : Reply) : Type 0 where
+pub record IsSuccessfulReply (deed : Deed) (r : Reply) : Type 0 where
   pub reply : IsReplyTo deed r
   pub success : IsSuccess r.statuses
 

@@ -1,6 +1,6 @@
 ghost use Rattle.std.specs.Prelude.{◌≡◌, ◌↔◌, ℕ, IsTrue};
 ghost use Rattle.nvm_record.specs.Entry.{IsWhole, data_length};
-ghost use Rattle.nvm_record.specs.Op.{IsProper};
+ghost use Rattle.nvm_record.specs.Op.{IsProperOp};
 ghost use Rattle.nvm_plan.specs.Fits.{FitsNamespace};
 
 use crate::job::{Body, Job};
@@ -49,7 +49,7 @@ fn called_for(size: BlockSize, command: &Command) -> usize
 
 /// Whether an `Other` holds no opcode that has a name.
 fn is_proper(op: Op) -> bool
-    ensures { IsTrue result ↔ IsProper op }
+    ensures { IsTrue result ↔ IsProperOp op }
 {
     Op::of_opcode(op.opcode()) == op
 }

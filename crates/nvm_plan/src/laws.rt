@@ -18,7 +18,7 @@ ghost use Rattle.nvm_plan.specs.Fits.{FitsNamespace};
 ghost use Rattle.nvm_plan.specs.Operation.{job_operation_of};
 ghost use Rattle.nvm_plan.specs.Outcome.{answered, data_told, unstarted_of, AreDone, IsOutcomeOf, IsRefused, IsOutcome};
 ghost use Rattle.nvm_plan.specs.Ready.{IsReady};
-ghost use Rattle.nvm_plan.specs.Reply.{Reply, is_look, is_pair, success_of, reply_on, reply_of_stop, IsReplyTo, Succeeds};
+ghost use Rattle.nvm_plan.specs.Reply.{Reply, is_look, is_pair, success_of, reply_on, reply_of_stop, IsReplyTo, IsSuccessfulReply};
 ghost use Rattle.nvm_plan.specs.Shape.{HasShapeOf, HasShapeOfRefusal, HasOutcomeShape, IsForEach};
 
 use nvm_geometry::laws;
@@ -106,7 +106,7 @@ pub fn answers_of_the_step_are_replies()
 pub fn outcomes_are_made_part_by_part()
     ensures begun { (ns : Namespace) (op : Operation) → AreDone ns op [] (units_met ns op.first op.blocks) }
     ensures more { (ns : Namespace) (op : Operation) (replies : List Reply) (r : Reply) (left : List ℕ)
-        → AreDone ns op replies (r.part.unit ∷ left) → Succeeds op.deed r
+        → AreDone ns op replies (r.part.unit ∷ left) → IsSuccessfulReply op.deed r
         → AreDone ns op (replies ++ r ∷ []) left }
     ensures payload { (replies : List Reply) (r : Reply)
         → data_told (replies ++ r ∷ []) ≡ data_told replies ++ unwrap_or r.payload [] }

@@ -3,7 +3,7 @@ use Rattle.std.proofs.Common.{◌≡◌, ℕ, ◌%◌, List, ◌++◌, length, t
 use Rattle.std.proofs.Math.Seq.{take-append_seam, drop-append_seam}
 use Rattle.byteorder.specs.Numbers.{little_number-reads_back}
 use Rattle.byteorder.specs.Endian.{little_bytes}
-use Rattle.nvm_record.specs.Op.{op_of, opcode_of, IsProper, fuse_of, bits_of}
+use Rattle.nvm_record.specs.Op.{op_of, opcode_of, IsProperOp, fuse_of, bits_of}
 use Rattle.nvm_record.specs.Entry.{IsEntryOf, HasFieldsInRange, IsWhole, IsSpelling, entry_of}
 use Rattle.nvm_record.specs.declared.op.Op.{Op}
 use Rattle.nvm_record.specs.declared.op.Op.TheVariants.{Write, Read, WriteUncorrectable, Compare, WriteZeroes, Other}
@@ -11,7 +11,7 @@ use Rattle.nvm_record.specs.declared.op.Fuse.{Fuse}
 use Rattle.nvm_record.specs.declared.op.Fuse.TheVariants.{Normal, First, Second, Reserved}
 use Rattle.nvm_record.specs.declared.command.Command.{Command}
 
-pub op_of-opcode_of : (op : Op) → IsProper op → op ≡ op_of (opcode_of op)
+pub op_of-opcode_of : (op : Op) → IsProperOp op → op ≡ op_of (opcode_of op)
 op_of-opcode_of Write h = refl
 op_of-opcode_of Read h = refl
 op_of-opcode_of WriteUncorrectable h = refl
@@ -42,7 +42,7 @@ after_cid : Command → List ℕ
 after_cid c = little_bytes 4 c.nsid ++ (replicate 32 0 ++ (little_bytes 8 c.slba ++ (little_bytes 2 c.nlb ++ replicate 14 0)))
 
 -- the entry alone
-pub is_entry : (c : Command) → HasFieldsInRange c → IsProper c.op → IsEntryOf (entry_of c) c
+pub is_entry : (c : Command) → HasFieldsInRange c → IsProperOp c.op → IsEntryOf (entry_of c) c
 unfolding after_nlb after_slba after_nsid after_cid
 is_entry c fits proper = record {
   whole = length-entry_of c;

@@ -3,7 +3,7 @@ use Rattle.std.proofs.Common.{inl, inr, ◌≡◌, ℕ, ◌+◌, ◌<◌, ◌≤
 use Rattle.std.proofs.Math.Seq.{take-append_seam, drop-append_seam}
 use Rattle.std.proofs.lemmas.List.{take-append-drop, length-take-le}
 use Rattle.nvm_record.specs.Entry.{IsEntryOf, data_length}
-use Rattle.nvm_record.specs.HostFile.{BeginsWith, Begins, IsCutFault, IsAnsweredFault, file_name}
+use Rattle.nvm_record.specs.HostFile.{BeginsWith, BeginsWithAll, IsCutFault, IsAnsweredFault, file_name}
 use Rattle.nvm_record.specs.declared.command.Command.{Command}
 use Rattle.nvm_record.specs.declared.host_fault.HostFault.{HostFault}
 use Rattle.nvm_record.specs.declared.host_fault.HostFault.TheVariants.{BadName, Truncated, TooMany, NoMemory}
@@ -30,12 +30,12 @@ begins_with size bytes c n whole called_for enough entry payload =
 
 -- So far the file gave these commands, and this is left.
 pub record IsReading (size : ℕ) (bytes : List ℕ) (cs : List Command) (rest : List ℕ) : Type 0 where
-  pub commands : Begins size (drop 4 bytes) cs rest
+  pub commands : BeginsWithAll size (drop 4 bytes) cs rest
   pub few : length cs ≤ 65536
   pub name : take 4 bytes ≡ file_name
 
 -- What is left is no longer than the whole.
-pub begins_shorter : (size : ℕ) (bytes : List ℕ) (cs : List Command) (rest : List ℕ) → Begins size bytes cs rest → length rest ≤ length bytes
+pub begins_shorter : (size : ℕ) (bytes : List ℕ) (cs : List Command) (rest : List ℕ) → BeginsWithAll size bytes cs rest → length rest ≤ length bytes
 begins_shorter size bytes [] rest h = let e : length bytes ≡ length rest = ap length h in omega arith
 begins_shorter size bytes (c ∷ cs) rest h =
     let less : length rest ≤ length h.0 = begins_shorter size h.0 cs rest h.2 in
@@ -43,7 +43,7 @@ begins_shorter size bytes (c ∷ cs) rest h =
     omega (arith, length-append h.1.0 h.0)
 
 -- One command more.
-pub begins_more : (size : ℕ) (bytes : List ℕ) (cs : List Command) (rest : List ℕ) (c : Command) (after : List ℕ) → Begins size bytes cs rest → BeginsWith size rest c after → Begins size bytes (cs ++ c ∷ []) after
+pub begins_more : (size : ℕ) (bytes : List ℕ) (cs : List Command) (rest : List ℕ) (c : Command) (after : List ℕ) → BeginsWithAll size bytes cs rest → BeginsWith size rest c after → BeginsWithAll size bytes (cs ++ c ∷ []) after
 begins_more size bytes [] rest c after h k = (after, subst (λ (b : List ℕ). BeginsWith size b c after) (sym h) k, refl)
 begins_more size bytes (d ∷ cs) rest c after h k = (h.0, h.1, begins_more size h.0 cs rest c after h.2 k)
 

@@ -6,7 +6,7 @@ use Rattle.std.proofs.lemmas.List.{length-take, take-append-le, drop-append-le}
 use Rattle.byteorder.specs.Endian.{little_number}
 use Rattle.nvm_record.specs.Op.{op_of}
 use Rattle.nvm_record.specs.Entry.{IsEntryOf, IsSpelling, data_length}
-use Rattle.nvm_record.specs.HostFile.{BeginsWith, Begins, IsHostFile, IsCut, IsTruncated, HasTooMany, IsFaultOf, IsAnsweredFault, called_for}
+use Rattle.nvm_record.specs.HostFile.{BeginsWith, BeginsWithAll, IsHostFile, IsCut, IsTruncated, HasTooMany, IsHostFileFault, IsAnsweredFault, called_for}
 use Rattle.nvm_record.specs.declared.command.Command.{Command}
 use Rattle.nvm_record.specs.declared.op.Op.{Op}
 use Rattle.nvm_record.specs.declared.op.Fuse.{Fuse}
@@ -84,7 +84,7 @@ blocked_at_cut size rest at cut c after h =
     ]
 
 -- Two readings that both stop, at a place where no command begins or at the greatest number, are one.
-one_end : (size most n : ℕ) (bytes : List ℕ) (cs ds : List Command) (r s : List ℕ) → Begins size bytes cs r → Begins size bytes ds s
+one_end : (size most n : ℕ) (bytes : List ℕ) (cs ds : List Command) (r s : List ℕ) → BeginsWithAll size bytes cs r → BeginsWithAll size bytes ds s
     → n + length cs ≤ most → n + length ds ≤ most → IsBlocked size r ⊎ (n + length cs ≡ most) → IsBlocked size s ⊎ (n + length ds ≡ most) → (cs ≡ ds) × (r ≡ s)
 one_end size most n bytes [] [] r s h k few fewer stop halt = (refl, sym h ∙ k)
 one_end size most n bytes [] (d ∷ ds) r s h k few fewer stop halt =
@@ -99,14 +99,14 @@ one_end size most n bytes (c ∷ cs) [] r s h k few fewer stop halt =
     ]
 one_end size most n bytes (c ∷ cs) (d ∷ ds) r s h k few fewer stop halt =
     let same = one_command size bytes c d h.0 k.0 h.1 k.1 in
-    let more = one_end size most (suc n) h.0 cs ds r s h.2 (subst (λ (b : List ℕ). Begins size b ds s) (sym same.1) k.2) (omega arith) (omega arith)
+    let more = one_end size most (suc n) h.0 cs ds r s h.2 (subst (λ (b : List ℕ). BeginsWithAll size b ds s) (sym same.1) k.2) (omega arith) (omega arith)
     (elim stop [ inl blocked ↦ inl blocked | inr full ↦ inr (omega arith) ])
     (elim halt [ inl blocked ↦ inl blocked | inr full ↦ inr (omega arith) ]) in
     (cc, more.1)
 
 -- how many commands a reading has at most, and why it stops
 record IsReadTo (size : ℕ) (bytes : List ℕ) (cs : List Command) (rest : List ℕ) : Type 0 where
-  pub commands : Begins size (drop 4 bytes) cs rest
+  pub commands : BeginsWithAll size (drop 4 bytes) cs rest
   pub few : length cs ≤ 65536
   pub stops : IsBlocked size rest ⊎ (0 + length cs ≡ 65536)
 
@@ -131,7 +131,7 @@ cut_has_rest : (size : ℕ) (rest : List ℕ) (at : ℕ) → IsCut size rest at 
 cut_has_rest size rest at cut = elim cut [ inl short ↦ short.0 | inr short ↦ (let l : 64 ≤ length rest = short.0 in omega arith) ]
 
 -- A file that has a fault is the file of no commands.
-pub no_list : (size : ℕ) (bytes : List ℕ) (cs : List Command) (f : HostFault) → IsHostFile size bytes cs → IsFaultOf size bytes f → ⊥
+pub no_list : (size : ℕ) (bytes : List ℕ) (cs : List Command) (f : HostFault) → IsHostFile size bytes cs → IsHostFileFault size bytes f → ⊥
 no_list size bytes cs BadName h k = k h.name
 no_list size bytes cs (Truncated offset) h (ds, rest, at, k) =
     let same : [] ≡ rest = (one_reading size bytes cs ds [] rest (read_whole size bytes cs h) (read_cut size bytes offset ds rest at k)).1 in
@@ -152,7 +152,7 @@ one_cut size rest at place h k =
     ]
 
 -- A file has one fault.
-pub one_fault : (size : ℕ) (bytes : List ℕ) (f g : HostFault) → IsFaultOf size bytes f → IsFaultOf size bytes g → f ≡ g
+pub one_fault : (size : ℕ) (bytes : List ℕ) (f g : HostFault) → IsHostFileFault size bytes f → IsHostFileFault size bytes g → f ≡ g
 one_fault size bytes BadName BadName h k = refl
 one_fault size bytes BadName (Truncated offset) h (ds, rest, at, k) = absurd (h k.name)
 one_fault size bytes BadName TooMany h (ds, rest, k) = absurd (h k.name)
@@ -190,7 +190,7 @@ all_alone size bytes cs (Err e) h ok (inl fault) = absurd (no_list size bytes cs
 all_alone size bytes cs (Err e) h ok (inr memory) = memory
 
 -- what is answered where the file has a fault
-pub each_alone : (size : ℕ) (bytes : List ℕ) (f : HostFault) (r : Result (Vec Command Global) HostFault) → IsFaultOf size bytes f → IfOk r (λ v. IsHostFile size bytes v.items) → IfErr r (IsAnsweredFault size bytes)
+pub each_alone : (size : ℕ) (bytes : List ℕ) (f : HostFault) (r : Result (Vec Command Global) HostFault) → IsHostFileFault size bytes f → IfOk r (λ v. IsHostFile size bytes v.items) → IfErr r (IsAnsweredFault size bytes)
     → MatchResult r (λ _. ⊥) (λ e. (e ≡ f) ⊎ (e ≡ NoMemory))
 each_alone size bytes f (Ok v) h ok err = no_list size bytes v.items f ok h
 each_alone size bytes f (Err e) h ok (inl fault) = inl (one_fault size bytes e f fault h)

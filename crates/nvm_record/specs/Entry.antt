@@ -2,7 +2,7 @@
 -- Specification, Read and Write, command dwords 10 to 12. All numbers are little endian.
 use Rattle.std.specs.Prelude.{◌≡◌, ℕ, ◌+◌, ◌*◌, ◌%◌, ◌^◌, ◌<◌, if◌then◌else◌, List, ◌∷◌, ◌++◌, length, take, drop, slice_index, replicate}
 use Rattle.byteorder.specs.Endian.{little_number, little_bytes}
-use Rattle.nvm_record.specs.Op.{op_of, opcode_of, IsProper, fuse_of, bits_of, carries_data}
+use Rattle.nvm_record.specs.Op.{op_of, opcode_of, IsProperOp, fuse_of, bits_of, carries_data}
 use Rattle.nvm_record.specs.declared.op.Op.{Op}
 use Rattle.nvm_record.specs.declared.command.Command.{Command}
 
@@ -23,7 +23,7 @@ data_length size op nlb = if carries_data op then (nlb + 1) * size else 0
 -- The command has just the data that it calls for, and its opcode can be read back.
 pub record IsWhole (size : ℕ) (c : Command) : Type 0 where
   pub payload : length c.payload ≡ data_length size c.op c.nlb
-  pub op : IsProper c.op
+  pub op : IsProperOp c.op
 
 -- Each field of the command fits its place in the entry, as its type says.
 pub record HasFieldsInRange (c : Command) : Type 0 where

@@ -20,14 +20,14 @@ abbrev pub BeginsWith : ℕ → List ℕ → Command → List ℕ → Type 0
 BeginsWith size bytes c rest = (front : List ℕ) × (bytes ≡ front ++ rest) × IsSpelling size front c
 
 -- The bytes are spellings of the commands, one after the other, and then the rest.
-abbrev pub Begins : ℕ → List ℕ → List Command → List ℕ → Type 0
-Begins size bytes [] rest = bytes ≡ rest
-Begins size bytes (c ∷ cs) rest = (after : List ℕ) × BeginsWith size bytes c after × Begins size after cs rest
+abbrev pub BeginsWithAll : ℕ → List ℕ → List Command → List ℕ → Type 0
+BeginsWithAll size bytes [] rest = bytes ≡ rest
+BeginsWithAll size bytes (c ∷ cs) rest = (after : List ℕ) × BeginsWith size bytes c after × BeginsWithAll size after cs rest
 
 -- The whole file is the name and the commands.
 pub record IsHostFile (size : ℕ) (bytes : List ℕ) (cs : List Command) : Type 0 where
   pub name : take 4 bytes ≡ file_name
-  pub commands : Begins size (drop 4 bytes) cs []
+  pub commands : BeginsWithAll size (drop 4 bytes) cs []
   pub few : length cs ≤ most_commands
 
 -- how many bytes of data an entry calls for
@@ -44,7 +44,7 @@ IsCut size rest inside =
 -- After these whole commands, something at offset `offset` of the file isn't whole.
 pub record IsTruncated (size : ℕ) (bytes : List ℕ) (offset : ℕ) (cs : List Command) (rest : List ℕ) (inside : ℕ) : Type 0 where
   pub name : take 4 bytes ≡ file_name
-  pub commands : Begins size (drop 4 bytes) cs rest
+  pub commands : BeginsWithAll size (drop 4 bytes) cs rest
   pub few : length cs < most_commands
   pub cut : IsCut size rest inside
   pub place : offset + length rest ≡ length bytes + inside
@@ -52,17 +52,17 @@ pub record IsTruncated (size : ℕ) (bytes : List ℕ) (offset : ℕ) (cs : List
 -- Bytes are left after as many commands as a file may have.
 pub record HasTooMany (size : ℕ) (bytes : List ℕ) (cs : List Command) (rest : List ℕ) : Type 0 where
   pub name : take 4 bytes ≡ file_name
-  pub commands : Begins size (drop 4 bytes) cs rest
+  pub commands : BeginsWithAll size (drop 4 bytes) cs rest
   pub many : length cs ≡ most_commands
   pub left : 0 < length rest
 
 -- The first fault of the bytes, from the front. Memory isn't a fault of the bytes.
-abbrev pub IsFaultOf : ℕ → List ℕ → HostFault → Type 0
-IsFaultOf size bytes BadName = take 4 bytes ≢ file_name
-IsFaultOf size bytes (Truncated offset) =
+abbrev pub IsHostFileFault : ℕ → List ℕ → HostFault → Type 0
+IsHostFileFault size bytes BadName = take 4 bytes ≢ file_name
+IsHostFileFault size bytes (Truncated offset) =
     (cs : List Command) × (rest : List ℕ) × (inside : ℕ) × IsTruncated size bytes offset cs rest inside
-IsFaultOf size bytes TooMany = (cs : List Command) × (rest : List ℕ) × HasTooMany size bytes cs rest
-IsFaultOf size bytes NoMemory = ⊥
+IsHostFileFault size bytes TooMany = (cs : List Command) × (rest : List ℕ) × HasTooMany size bytes cs rest
+IsHostFileFault size bytes NoMemory = ⊥
 
 -- What reading the command at the front of `rest`, at `offset` of the file, may answer in place of it.
 abbrev pub IsCutFault : ℕ → List ℕ → ℕ → HostFault → Type 0
@@ -73,4 +73,4 @@ IsCutFault size rest offset NoMemory = Unit {0}
 
 -- What is answered in place of the commands: the file's fault, or want of memory.
 abbrev pub IsAnsweredFault : ℕ → List ℕ → HostFault → Type 0
-IsAnsweredFault size bytes f = IsFaultOf size bytes f ⊎ (f ≡ NoMemory)
+IsAnsweredFault size bytes f = IsHostFileFault size bytes f ⊎ (f ≡ NoMemory)

@@ -25,13 +25,13 @@ opcode_of WriteZeroes = 8
 opcode_of (Other opcode) = opcode
 
 -- an `Other` holds none of the opcodes that have a name
-abbrev pub IsProper : Op → Type 0
-IsProper Write = Unit {0}
-IsProper Read = Unit {0}
-IsProper WriteUncorrectable = Unit {0}
-IsProper Compare = Unit {0}
-IsProper WriteZeroes = Unit {0}
-IsProper (Other opcode) = op_of opcode ≡ Other opcode
+abbrev pub IsProperOp : Op → Type 0
+IsProperOp Write = Unit {0}
+IsProperOp Read = Unit {0}
+IsProperOp WriteUncorrectable = Unit {0}
+IsProperOp Compare = Unit {0}
+IsProperOp WriteZeroes = Unit {0}
+IsProperOp (Other opcode) = op_of opcode ≡ Other opcode
 
 -- what the two FUSE bits say
 abbrev pub fuse_of : ℕ → Fuse

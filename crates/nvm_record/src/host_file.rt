@@ -1,6 +1,6 @@
 ghost use Rattle.std.specs.Prelude.{◌≡◌, ◌⊎◌, ◌+◌, ◌^◌, ◌<◌, All, ℕ, List, IfOk, IfErr, MatchResult, length};
 ghost use Rattle.nvm_record.specs.Entry.{IsWhole};
-ghost use Rattle.nvm_record.specs.HostFile.{IsHostFile, IsFaultOf, IsAnsweredFault, BeginsWith, IsCutFault};
+ghost use Rattle.nvm_record.specs.HostFile.{IsHostFile, IsHostFileFault, IsAnsweredFault, BeginsWith, IsCutFault};
 ghost use Rattle.nvm_record.specs.declared.command.Command.{Command as Spelled};
 ghost use Rattle.nvm_record.specs.declared.host_fault.HostFault.{HostFault as Fault};
 ghost use Rattle.nvm_record.specs.declared.host_fault.HostFault.TheVariants.{NoMemory};
@@ -33,7 +33,7 @@ pub fn read_host(alloc: Global, bytes: &[u8], size: BlockSize) -> Result<Vec<Com
     // A file reads as one thing alone, so nothing but want of memory is answered in its place.
     ensures all_commands { (cs : List Spelled) → IsHostFile size bytes.now cs
         → MatchResult result (λ v. v.items ≡ cs) (λ e. e ≡ NoMemory) }
-    ensures each_fault { (f : Fault) → IsFaultOf size bytes.now f
+    ensures each_fault { (f : Fault) → IsHostFileFault size bytes.now f
         → MatchResult result (λ _. ⊥) (λ e. (e ≡ f) ⊎ (e ≡ NoMemory)) }
 {
     commands_of(alloc, bytes, size)

@@ -1,6 +1,6 @@
 ghost use Rattle.std.specs.Prelude.{◌≡◌, ◌<◌};
 ghost use Rattle.nvm_record.specs.Op as op;
-ghost use Rattle.nvm_record.specs.Op.{op_of, opcode_of, IsProper, fuse_of, bits_of};
+ghost use Rattle.nvm_record.specs.Op.{op_of, opcode_of, IsProperOp, fuse_of, bits_of};
 
 /// What a submission entry asks for, by its opcode (NVM Command Set Specification, "NVM Command Set
 /// opcodes").
@@ -48,7 +48,7 @@ impl Op {
     /// What an opcode asks for. An `Other` never holds an opcode that has a name of its own.
     pub fn of_opcode(opcode: u8) -> Op
         ensures value { result ≡ op_of opcode }
-        ensures proper { IsProper result }
+        ensures proper { IsProperOp result }
     {
         match opcode {
             WRITE => Op::Write,

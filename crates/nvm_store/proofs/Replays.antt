@@ -4,25 +4,25 @@ use Rattle.std.proofs.lemmas.Bool.Decides.{leb_tells}
 use Rattle.std.proofs.lemmas.List.{take_more, take-append-le, take_at, get_or_append_left, get_or_push, length-append, length_push}
 use Rattle.nvm_record.specs.Medium.{Medium, zero_medium}
 use Rattle.nvm_record.specs.Step.{medium_after}
-use Rattle.nvm_store.specs.Line.{Line}
+use Rattle.nvm_store.specs.HistoryEntry.{HistoryEntry}
 use Rattle.nvm_store.specs.History.{replay_from, replay_of, CanFollow, IsLawfulHistory}
 use Rattle.nvm_store.specs.Point.{point}
 
 -- One entry more is one step more.
-pub replay_from-append : (size : ℕ) (m : Medium) (lines : List Line) (line : Line)
+pub replay_from-append : (size : ℕ) (m : Medium) (lines : List HistoryEntry) (line : HistoryEntry)
     → replay_from size m (lines ++ line ∷ []) ≡ medium_after size line.operation (replay_from size m lines)
 replay_from-append size m [] line = refl
 replay_from-append size m (l ∷ ls) line = replay_from-append size (medium_after size l.operation m) ls line
 
 -- The next point is the step of the entry between.
-pub point-more : (size : ℕ) (history : List Line) (d : Line) (n : ℕ) → n < length history
+pub point-more : (size : ℕ) (history : List HistoryEntry) (d : HistoryEntry) (n : ℕ) → n < length history
     → point size history (n + 1) ≡ medium_after size (get_or history n d).operation (point size history n)
 point-more size history d n lt =
     ap (replay_of size) (take_more history n d lt)
     ∙ replay_from-append size (zero_medium size) (take n history) (get_or history n d)
 
 -- What a lawful history begins with is lawful.
-pub lawful_beginning : (start count size : ℕ) (begin rest : List Line)
+pub lawful_beginning : (start count size : ℕ) (begin rest : List HistoryEntry)
     → IsLawfulHistory start count size (begin ++ rest) → IsLawfulHistory start count size begin
 lawful_beginning start count size begin rest lawful d i lt =
     let lt' : i < length (begin ++ rest) = omega (arith, length-append begin rest) in
@@ -31,7 +31,7 @@ lawful_beginning start count size begin rest lawful d i lt =
     rw (taken, read) at (lawful d i lt')
 
 -- The last entry of a lawful history can follow the others.
-pub lawful_last : (start count size : ℕ) (history : List Line) (line : Line)
+pub lawful_last : (start count size : ℕ) (history : List HistoryEntry) (line : HistoryEntry)
     → IsLawfulHistory start count size (history ++ line ∷ []) → CanFollow start count size history line
 lawful_last start count size history line lawful =
     let n = length history in
@@ -41,7 +41,7 @@ lawful_last start count size history line lawful =
     rw (taken, read) at (lawful line n lt)
 
 -- An entry that can follow a lawful history makes a lawful one.
-pub lawful_push : (start count size : ℕ) (history : List Line) (line : Line)
+pub lawful_push : (start count size : ℕ) (history : List HistoryEntry) (line : HistoryEntry)
     → IsLawfulHistory start count size history → CanFollow start count size history line
     → IsLawfulHistory start count size (history ++ line ∷ [])
 lawful_push start count size history line lawful follows d i lt =

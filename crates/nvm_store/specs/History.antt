@@ -5,24 +5,24 @@ use Rattle.nvm_record.specs.Medium.{Medium, zero_medium}
 use Rattle.nvm_record.specs.Status.{IsSuccess}
 use Rattle.nvm_record.specs.Step.{medium_after, statuses_of}
 use Rattle.nvm_store.specs.Contents.{IsCovered}
-use Rattle.nvm_store.specs.Line.{Line}
+use Rattle.nvm_store.specs.HistoryEntry.{HistoryEntry}
 
 -- the medium after each entry's operation, in order, where `m` was before
-abbrev pub replay_from : ℕ → Medium → List Line → Medium
+abbrev pub replay_from : ℕ → Medium → List HistoryEntry → Medium
 replay_from size m [] = m
 replay_from size m (line ∷ lines) = replay_from size (medium_after size line.operation m) lines
 
 -- the medium after each entry's operation, in order, from the zero medium
-abbrev pub replay_of : ℕ → List Line → Medium
+abbrev pub replay_of : ℕ → List HistoryEntry → Medium
 replay_of size history = replay_from size (zero_medium size) history
 
 -- The entry can stand after these: it lies in the unit, and succeeds on their replay.
-pub record CanFollow (start count block_size : ℕ) (before : List Line) (line : Line) : Type 0 where
+pub record CanFollow (start count block_size : ℕ) (before : List HistoryEntry) (line : HistoryEntry) : Type 0 where
   pub covered : IsCovered start count block_size line.operation
   pub succeeds : IsSuccess (statuses_of line.operation (replay_of block_size before))
 
 -- Each entry can stand after those before it, in the unit of `count` blocks from LBA `start`.
-abbrev pub IsLawfulHistory : ℕ → ℕ → ℕ → List Line → Type 0
+abbrev pub IsLawfulHistory : ℕ → ℕ → ℕ → List HistoryEntry → Type 0
 IsLawfulHistory start count size history =
-    (d : Line) (i : ℕ) → i < length history
+    (d : HistoryEntry) (i : ℕ) → i < length history
     → CanFollow start count size (take i history) (slice_index_or history i d)

@@ -6,7 +6,7 @@ pub mod Act
 pub mod ActRef
 pub mod Look
 pub mod Answer
-pub mod Line
+pub mod HistoryEntry
 pub mod Limit
 pub mod History
 pub mod Point

@@ -15,10 +15,10 @@ pub struct Entry {
 }
 
 impl Model for Entry {
-    ghost use Rattle.nvm_store.specs.Line.{Line};
+    ghost use Rattle.nvm_store.specs.HistoryEntry.{HistoryEntry};
     ghost use Rattle.nvm_store.specs.Act.{operation_of};
 
-    ghost Value = { Line };
+    ghost Value = { HistoryEntry };
 
     ghost view = { λ e. record { pass = e.pass; job = e.job; operation = operation_of e.act } };
 }

@@ -10,14 +10,14 @@ ghost use Rattle.nvm_store.specs.declared.act_ref.ActRef.{ActRef as Lent};
 ghost use Rattle.nvm_store.specs.ActRef.{lent_operation_of};
 ghost use Rattle.nvm_store.specs.Contents.{Contents, Holds, Covers, Succeeds};
 ghost use Rattle.nvm_store.specs.History.{replay_of, CanFollow, IsLawfulHistory};
-ghost use Rattle.nvm_store.specs.Line.{Line};
+ghost use Rattle.nvm_store.specs.HistoryEntry.{HistoryEntry};
 ghost use Rattle.nvm_store.specs.Operation.{write_operation, pair_operation};
 ghost use Rattle.nvm_store.specs.Pair.{IsPair, IsFailedPair};
 ghost use Rattle.nvm_store.specs.Point.{point};
 
 /// The replay of a history with one entry more is that entry's step on the replay of the others.
 pub fn replay_of_one_more()
-    ensures { (size : ℕ) (history : List Line) (line : Line)
+    ensures { (size : ℕ) (history : List HistoryEntry) (line : HistoryEntry)
         → replay_of size (history ++ line ∷ [])
         ≡ medium_after size line.operation (replay_of size history) }
 {}
@@ -25,34 +25,34 @@ pub fn replay_of_one_more()
 /// A history with one entry more is lawful exactly where the others are, and the entry can follow
 /// them.
 pub fn lawful_with_one_more()
-    ensures { (start count size : ℕ) (history : List Line) (line : Line)
+    ensures { (start count size : ℕ) (history : List HistoryEntry) (line : HistoryEntry)
         → IsLawfulHistory start count size (history ++ line ∷ [])
         ↔ (IsLawfulHistory start count size history × CanFollow start count size history line) }
 {}
 
 /// What a lawful history begins with is lawful.
 pub fn lawful_beginning()
-    ensures { (start count size : ℕ) (begin rest : List Line)
+    ensures { (start count size : ℕ) (begin rest : List HistoryEntry)
         → IsLawfulHistory start count size (begin ++ rest)
         → IsLawfulHistory start count size begin }
 {}
 
 /// A point is the same in each history that begins with its entries.
 pub fn point_of_beginning()
-    ensures { (size : ℕ) (begin rest : List Line) (n : ℕ) → n ≤ length begin
+    ensures { (size : ℕ) (begin rest : List HistoryEntry) (n : ℕ) → n ≤ length begin
         → point size (begin ++ rest) n ≡ point size begin n }
 {}
 
 /// The next point is the step of the entry between.
 pub fn next_point()
-    ensures { (size : ℕ) (history : List Line) (d : Line) (n : ℕ) → n < length history
+    ensures { (size : ℕ) (history : List HistoryEntry) (d : HistoryEntry) (n : ℕ) → n < length history
         → point size history (n + 1)
         ≡ medium_after size (slice_index_or history n d).operation (point size history n) }
 {}
 
 /// The point at a history's end is its replay.
 pub fn point_at_the_end()
-    ensures { (size : ℕ) (history : List Line)
+    ensures { (size : ℕ) (history : List HistoryEntry)
         → point size history (length history) ≡ replay_of size history }
 {}
 

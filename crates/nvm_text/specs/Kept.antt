@@ -2,6 +2,6 @@
 use Rattle.std.specs.Prelude.{◌≡◌, ℕ, List, ◌++◌}
 
 -- The old text still stands at the front of the new one.
-pub record IsKept (old new : List ℕ) : Type 0 where
+pub record KeepsText (old new : List ℕ) : Type 0 where
   pub part : List ℕ
   pub new_is : new ≡ old ++ part

@@ -57,7 +57,7 @@ line op completion =
     ++ (payload_text completion.payload ++ codes "\n")))))))
 
 -- a line for each command and its completion
-abbrev pub lines : List Command → List Completion → List ℕ
-lines [] completions = []
-lines (command ∷ commands) [] = []
-lines (command ∷ commands) (completion ∷ completions) = line command.op completion ++ lines commands completions
+abbrev pub printed_lines : List Command → List Completion → List ℕ
+printed_lines [] completions = []
+printed_lines (command ∷ commands) [] = []
+printed_lines (command ∷ commands) (completion ∷ completions) = line command.op completion ++ printed_lines commands completions

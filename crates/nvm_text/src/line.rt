@@ -1,5 +1,5 @@
 ghost use Rattle.std.specs.Prelude.{◌≡◌, ◌++◌, OnOk, OnErr, length, string_bytes};
-ghost use Rattle.nvm_text.specs.Kept.{IsKept};
+ghost use Rattle.nvm_text.specs.Kept.{KeepsText};
 ghost use Rattle.nvm_text.specs.Lines as spec;
 ghost use Rattle.nvm_text.specs.Lines.{name_of, status_text, payload_text};
 
@@ -15,8 +15,8 @@ pub fn push_lines(
 ) -> Result<(), NoMemory>
     requires { length commands.now ≡ length completions.now }
     ensures ok { OnOk result
-        (string_bytes text.new ≡ string_bytes text.old ++ spec.lines commands.now completions.now) }
-    ensures err { OnErr result (IsKept (string_bytes text.old) (string_bytes text.new)) }
+        (string_bytes text.new ≡ string_bytes text.old ++ spec.printed_lines commands.now completions.now) }
+    ensures err { OnErr result (KeepsText (string_bytes text.old) (string_bytes text.new)) }
 {
     for (command, completion) in commands.iter().zip(completions) {
         push_line(text, command.op, completion)?;
@@ -29,7 +29,7 @@ pub fn push_lines(
 pub fn push_line(text: &mut String, op: Op, completion: &Completion) -> Result<(), NoMemory>
     ensures ok { OnOk result
         (string_bytes text.new ≡ string_bytes text.old ++ spec.line op completion.now) }
-    ensures err { OnErr result (IsKept (string_bytes text.old) (string_bytes text.new)) }
+    ensures err { OnErr result (KeepsText (string_bytes text.old) (string_bytes text.new)) }
 {
     push_decimal(text, u64::from(completion.host))?;
     text.push_str(" ")?;
@@ -47,7 +47,7 @@ pub fn push_line(text: &mut String, op: Op, completion: &Completion) -> Result<(
 /// `op-` with two hexadecimal digits for another opcode.
 pub fn push_name(text: &mut String, op: Op) -> Result<(), NoMemory>
     ensures ok { OnOk result (string_bytes text.new ≡ string_bytes text.old ++ name_of op) }
-    ensures err { OnErr result (IsKept (string_bytes text.old) (string_bytes text.new)) }
+    ensures err { OnErr result (KeepsText (string_bytes text.old) (string_bytes text.new)) }
 {
     let name = match op {
         Op::Write => "write",
@@ -64,7 +64,7 @@ pub fn push_name(text: &mut String, op: Op) -> Result<(), NoMemory>
 /// Appends the name of an opcode that has no other.
 fn push_opcode(text: &mut String, opcode: u8) -> Result<(), NoMemory>
     ensures ok { OnOk result (string_bytes text.new ≡ string_bytes text.old ++ name_of (Op.Other opcode)) }
-    ensures err { OnErr result (IsKept (string_bytes text.old) (string_bytes text.new)) }
+    ensures err { OnErr result (KeepsText (string_bytes text.old) (string_bytes text.new)) }
 {
     text.push_str("op-")?;
     push_hex2(text, opcode)?;
@@ -74,7 +74,7 @@ fn push_opcode(text: &mut String, opcode: u8) -> Result<(), NoMemory>
 /// Appends a status as `<type>/<code>`, the code as two hexadecimal digits.
 pub fn push_status(text: &mut String, status: Status) -> Result<(), NoMemory>
     ensures ok { OnOk result (string_bytes text.new ≡ string_bytes text.old ++ status_text status) }
-    ensures err { OnErr result (IsKept (string_bytes text.old) (string_bytes text.new)) }
+    ensures err { OnErr result (KeepsText (string_bytes text.old) (string_bytes text.new)) }
 {
     push_decimal(text, u64::from(status.sct))?;
     text.push_str("/")?;
@@ -85,7 +85,7 @@ pub fn push_status(text: &mut String, status: Status) -> Result<(), NoMemory>
 /// Appends the data of a completion, if it has any.
 fn push_payload(text: &mut String, payload: &Option<Payload>) -> Result<(), NoMemory>
     ensures ok { OnOk result (string_bytes text.new ≡ string_bytes text.old ++ payload_text payload.now) }
-    ensures err { OnErr result (IsKept (string_bytes text.old) (string_bytes text.new)) }
+    ensures err { OnErr result (KeepsText (string_bytes text.old) (string_bytes text.new)) }
 {
     let Some(bytes) = payload else {
         return Ok(());

@@ -1,5 +1,5 @@
 ghost use Rattle.std.specs.Prelude.{◌≡◌, ◌<◌, ◌++◌, ◌∷◌, [], OnOk, OnErr, decimal, string_bytes};
-ghost use Rattle.nvm_text.specs.Kept.{IsKept};
+ghost use Rattle.nvm_text.specs.Kept.{KeepsText};
 ghost use Rattle.nvm_text.specs.Lines.{hex_digit, hex2};
 
 use nvm_record::NoMemory;
@@ -7,7 +7,7 @@ use nvm_record::NoMemory;
 /// Appends a number in decimal digits.
 pub fn push_decimal(text: &mut String, number: u64) -> Result<(), NoMemory>
     ensures ok { OnOk result (string_bytes text.new ≡ string_bytes text.old ++ decimal number) }
-    ensures err { OnErr result (IsKept (string_bytes text.old) (string_bytes text.new)) }
+    ensures err { OnErr result (KeepsText (string_bytes text.old) (string_bytes text.new)) }
 {
     if number >= 10 {
         push_decimal(text, number / 10)?;
@@ -19,7 +19,7 @@ pub fn push_decimal(text: &mut String, number: u64) -> Result<(), NoMemory>
 /// Appends a byte as two hexadecimal digits.
 pub fn push_hex2(text: &mut String, byte: u8) -> Result<(), NoMemory>
     ensures ok { OnOk result (string_bytes text.new ≡ string_bytes text.old ++ hex2 byte) }
-    ensures err { OnErr result (IsKept (string_bytes text.old) (string_bytes text.new)) }
+    ensures err { OnErr result (KeepsText (string_bytes text.old) (string_bytes text.new)) }
 {
     push_digit(text, byte / 16)?;
     push_digit(text, byte % 16)?;
@@ -31,7 +31,7 @@ fn push_digit(text: &mut String, digit: u8) -> Result<(), NoMemory>
     requires { digit < 16 }
     ensures ok { OnOk result
         (string_bytes text.new ≡ string_bytes text.old ++ hex_digit digit ∷ []) }
-    ensures err { OnErr result (IsKept (string_bytes text.old) (string_bytes text.new)) }
+    ensures err { OnErr result (KeepsText (string_bytes text.old) (string_bytes text.new)) }
 {
     let code = if digit < 10 {
         b'0' + digit

@@ -1,5 +1,5 @@
 ghost use Rattle.std.specs.Prelude.{◌≡◌, ◌≢◌, ◌-◌, ◌<◌, ◌≤◌, ◌++◌, ◌∷◌, ℕ, IfOk, OnOk, OnErr, length, drop, slice_index, string_bytes};
-ghost use Rattle.nvm_text.specs.Kept.{IsKept};
+ghost use Rattle.nvm_text.specs.Kept.{KeepsText};
 ghost use Rattle.nvm_text.specs.Runs.{runs, run_of};
 ghost use Rattle.nvm_text.specs.Lines.{runs_text, run_text};
 
@@ -14,7 +14,7 @@ const CHUNK: usize = 64;
 pub fn push_runs(text: &mut String, bytes: &[u8]) -> Result<(), NoMemory>
     ensures ok { OnOk result
         (string_bytes text.new ≡ string_bytes text.old ++ runs_text (runs bytes.now)) }
-    ensures err { OnErr result (IsKept (string_bytes text.old) (string_bytes text.new)) }
+    ensures err { OnErr result (KeepsText (string_bytes text.old) (string_bytes text.new)) }
 {
     if bytes.is_empty() {
         return Ok(());
@@ -34,7 +34,7 @@ fn push_first_run<'a>(text: &mut String, bytes: &'a [u8]) -> Result<&'a [u8], No
         × (runs bytes.now ≡ run_of count (slice_index bytes.now 0) ∷ runs rest.now)
         × (string_bytes text.new
         ≡ string_bytes text.old ++ run_text (run_of count (slice_index bytes.now 0)))) }
-    ensures err { OnErr result (IsKept (string_bytes text.old) (string_bytes text.new)) }
+    ensures err { OnErr result (KeepsText (string_bytes text.old) (string_bytes text.new)) }
 {
     let count = run_length(bytes);
     push_run(text, count, bytes[0])?;
@@ -45,7 +45,7 @@ fn push_first_run<'a>(text: &mut String, bytes: &'a [u8]) -> Result<&'a [u8], No
 fn push_run(text: &mut String, count: usize, byte: u8) -> Result<(), NoMemory>
     ensures ok { OnOk result
         (string_bytes text.new ≡ string_bytes text.old ++ run_text (run_of count byte)) }
-    ensures err { OnErr result (IsKept (string_bytes text.old) (string_bytes text.new)) }
+    ensures err { OnErr result (KeepsText (string_bytes text.old) (string_bytes text.new)) }
 {
     push_decimal(text, count as u64)?;
     text.push_str("*")?;

@@ -6,14 +6,14 @@ use lib.ListN.{get_elem?}
 use prog.Atomic.{either}
 use Rattle.atomic_table.specs.Table.{State, Step, Act, keeps, takes, stepped, Valid, carried_after, Allows}
 use Rattle.atomic_table.proofs.Lists.{exchanged, set_here}
-use Rattle.nvm_store.specs.Line.{Line}
+use Rattle.nvm_store.specs.HistoryEntry.{HistoryEntry}
 use Rattle.nvm_unit.specs.declared.bounds.Bounds.{Bounds}
 use Rattle.nvm_unit.specs.declared.views.Group.{Group}
 use Rattle.nvm_unit.specs.Views.{looked}
 use Rattle.nvm_unit.specs.Machine.{UnitState, IsAt, StandsAt, RestsAs}
 use Rattle.nvm_unit.specs.Events as events
 use Rattle.nvm_unit.specs.Events.{Event, loads, misses, Happens, IsReached, number_found, idle, CanStep, CanAdd, after_look, after_take, after_put, after_return}
-use Rattle.nvm_unit.specs.Knowledge.{IsKept}
+use Rattle.nvm_unit.specs.Knowledge.{IsKnown}
 use Rattle.nvm_unit.specs.Book.{Recorded, recorded}
 use Rattle.nvm_unit.specs.Passes.{IsHistoryOf}
 use Rattle.nvm_unit.specs.Rule.{slots_of, table_of, IsRuled}
@@ -40,7 +40,7 @@ Goes b s id m then new =
 
 -- It is enough to look at tables that show a state.
 pub allowed : (b : Bounds) (slots id : ℕ) (m : Sits) (f : ℕ → ℕ) (then : ℕ → Sits → Type 0)
-    → ((s : UnitState) → IsKept b s → IsReached b s → IsAt s.groups id m.0 → Goes b s id m then (f s.word))
+    → ((s : UnitState) → IsKnown b s → IsReached b s → IsAt s.groups id m.0 → Goes b s id m then (f s.word))
     → Allows (IsRuled b) slots id m 0 f then
 allowed b slots id m f then goes t ruled long at small =
     let P : State Slot Group → Type 0 =
@@ -50,7 +50,7 @@ allowed b slots id m f then goes t ruled long at small =
     subst P (sym ruled.1) (goes ruled.0 ruled.2 ruled.3) at
 
 -- A step finds no fewer entries than a pass has found and seen.
-not_above : (b : Bounds) (s : UnitState) → IsKept b s → (id : ℕ) (g : Group) → IsAt s.groups id g → EachIn (IsNotAbove (s.word / 2)) g.passes
+not_above : (b : Bounds) (s : UnitState) → IsKnown b s → (id : ℕ) (g : Group) → IsAt s.groups id g → EachIn (IsNotAbove (s.word / 2)) g.passes
 not_above b s kept id g at i p inside =
     let stands : StandsAt s.groups id i p = record { group = g; at = at; inside = inside } in
     let now : s.word / 2 ≡ length s.history = found_is b s kept.sound.hold in
@@ -59,7 +59,7 @@ not_above b s kept id g at i p inside =
     record { floor = omega arith; seen = omega arith }
 
 -- What holds of the unit's history.
-pub history_of : (b : Bounds) (s : UnitState) → IsKept b s → IsHistoryOf b s.history
+pub history_of : (b : Bounds) (s : UnitState) → IsKnown b s → IsHistoryOf b s.history
 history_of b s kept =
     record {
       lawful = kept.sound.hold.lawful;
@@ -68,7 +68,7 @@ history_of b s kept =
     }
 
 -- What holds of the passes of a group.
-pub fitting : (b : Bounds) (s : UnitState) → IsKept b s → (id : ℕ) (g : Group) → IsAt s.groups id g → EachIn (Fits b s.history) g.passes
+pub fitting : (b : Bounds) (s : UnitState) → IsKnown b s → (id : ℕ) (g : Group) → IsAt s.groups id g → EachIn (Fits b s.history) g.passes
 fitting b s kept id g at i p inside =
     let stands : StandsAt s.groups id i p = record { group = g; at = at; inside = inside } in
     record {
@@ -89,7 +89,7 @@ IsLook kind = (b : Bounds) (s : UnitState) (j : ℕ) (g : Group) (decides : Bool
 
 -- A step that leaves the unit as it is.
 look_goes : (kind : ℕ → Bool → Event) → IsLook kind → (decides : Deciding) (b : Bounds) (id : ℕ) (m : Sits) → 0 < length m.0.passes → ((word : ℕ) → decides word ≡ true → length m.0.passes ≡ 1)
-    → (s : UnitState) → IsKept b s → IsReached b s → IsAt s.groups id m.0 → Goes b s id m (λ word m'. HasLooked decides word m m' × WasEvent (λ j. kind j (decides word)) word m m') s.word
+    → (s : UnitState) → IsKnown b s → IsReached b s → IsAt s.groups id m.0 → Goes b s id m (λ word m'. HasLooked decides word m m' × WasEvent (λ j. kind j (decides word)) word m m') s.word
 look_goes kind happens decides b id m filled alone s kept reached at =
     let d : Bool = decides s.word in
     let can : CanStep s id m.0 d = record { at = at; some = filled; alone = alone s.word } in
@@ -121,7 +121,7 @@ look_allowed decides st b slots id m filled alone =
 
 -- A compare_exchange that takes the unit.
 take_goes : (decides : Deciding) (st : Step Slot) (b : Bounds) (id old : ℕ) (m : Sits) → st.first ≡ old → old % 2 ≡ 0 → m.1 ≡ [] → 0 < length m.0.passes
-    → (s : UnitState) → IsKept b s → IsReached b s → IsAt s.groups id m.0 → s.word ≡ old → Goes b s id m (tries decides st m) (old + 1)
+    → (s : UnitState) → IsKnown b s → IsReached b s → IsAt s.groups id m.0 → s.word ≡ old → Goes b s id m (tries decides st m) (old + 1)
 take_goes decides st b id old m first even rests filled s kept reached at is =
     let n = number_found s in
     let now : n ≡ length s.history = found_is b s kept.sound.hold in
@@ -134,13 +134,13 @@ take_goes decides st b id old m first even rests filled s kept reached at is =
     let w : Group = record { passes = map (looked false n) m.0.passes; held = Some s.history } in
     let t = after_take s id m.0 in
     let words : old + 1 ≡ 2 * n + 1 = omega arith in
-    let views : set s.groups id w ≡ t.groups = ap (λ (h : Option (List Line)). set s.groups id (record { passes = map (looked false n) m.0.passes; held = h })) (sym home) in
-    let out : set (slots_of b s.slot) 0 none ≡ none ∷ [] = ap (λ (h : Option (List Line)). set (slots_of b h) 0 none) home in
+    let views : set s.groups id w ≡ t.groups = ap (λ (h : Option (List HistoryEntry)). set s.groups id (record { passes = map (looked false n) m.0.passes; held = h })) (sym home) in
+    let out : set (slots_of b s.slot) 0 none ≡ none ∷ [] = ap (λ (h : Option (List HistoryEntry)). set (slots_of b h) 0 none) home in
     let carried : (0, book) ∷ m.1 ≡ (0, book) ∷ [] = ap (λ (xs : List (ℕ × Slot)). (0, book) ∷ xs) rests in
     let same : n ≡ length s.history = now in (
       w,
       takes 0 book,
-      ap (λ (h : Option (List Line)). get_elem? (slots_of b h) 0) home,
+      ap (λ (h : Option (List HistoryEntry)). get_elem? (slots_of b h) 0) home,
       ruled_after b s t (events.takes id) _ reached (m.0, can, free, refl)
           (same_table ((old + 1) ∷ []) ((2 * n + 1) ∷ []) (set (slots_of b s.slot) 0 none) (none ∷ []) (set s.groups id w) t.groups (ap (λ (x : ℕ). x ∷ []) words) out views)
           (keeps_take b s kept id m.0 can free),

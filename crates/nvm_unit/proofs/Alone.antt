@@ -10,7 +10,7 @@ use Rattle.nvm_store.specs.Contents.{IsCovered}
 use Rattle.nvm_unit.specs.Events.{IsAct}
 use Rattle.nvm_store.specs.History.{IsLawfulHistory, replay_of}
 use Rattle.nvm_store.specs.Limit.{IsLimit}
-use Rattle.nvm_store.specs.Line.{Line}
+use Rattle.nvm_store.specs.HistoryEntry.{HistoryEntry}
 use Rattle.nvm_unit.specs.declared.bounds.Bounds.{Bounds}
 use Rattle.nvm_unit.specs.declared.views.PassView.{PassView}
 use Rattle.nvm_unit.specs.declared.replies.Changed.{Changed}
@@ -18,9 +18,9 @@ use Rattle.nvm_unit.specs.declared.replies.Changed.TheVariants.{Done, Failed, No
 use Rattle.nvm_unit.specs.Alone.{only}
 use Rattle.nvm_unit.specs.Book.{Recorded, recorded}
 use Rattle.nvm_unit.specs.Holding.{HasHeld, CanGiveBack, CanGiveMore, GivesBack, GivesMore}
-use Rattle.nvm_unit.specs.Passes.{BearsNumbers, Finds, IsHistoryOf, IsProper}
+use Rattle.nvm_unit.specs.Passes.{BearsNumbers, Finds, IsHistoryOf, IsProperPass}
 use Rattle.nvm_unit.specs.Plays.{Sits, resting, holding, Fits}
-use Rattle.nvm_unit.specs.Replies.{AnswersChange, AnswersLook, Attempts, Makes, Observes, history_after, pass_after, line_of, medium_at}
+use Rattle.nvm_unit.specs.Replies.{AnswersChange, AnswersLook, Attempts, Makes, Observes, history_after, pass_after, entry_of_job, medium_at}
 use Rattle.nvm_unit.specs.declared.replies.Observed.{Observed}
 use Rattle.nvm_unit.specs.declared.replies.ObserveFault.{ObserveFault}
 use Rattle.nvm_unit.specs.Views.{looked, shown, added}
@@ -29,14 +29,14 @@ use Rattle.nvm_unit.proofs.Groups.{at_single}
 use Rattle.nvm_unit.proofs.Histories.{entries_more, rise_after, rise_more}
 
 -- The seat's one pass holds the unit, with this history and book.
-pub record HoldsAlone (b : Bounds) (h : List Line) (book : Recorded) (p : PassView) (m : Sits) : Type 0 where
+pub record HoldsAlone (b : Bounds) (h : List HistoryEntry) (book : Recorded) (p : PassView) (m : Sits) : Type 0 where
   pub at : m ≡ holding (looked false (length h) p ∷ []) h None
   pub pages : book ≡ recorded b h
   pub bounds : p.bounds ≡ b
   pub number : p.number < p.bounds.passes
   pub finds : Finds (length h) p h
 
-pub finds_of : (b : Bounds) (h : List Line) (p : PassView) → Fits b h p → IsHistoryOf b h → Finds (length h) p h
+pub finds_of : (b : Bounds) (h : List HistoryEntry) (p : PassView) → Fits b h p → IsHistoryOf b h → Finds (length h) p h
 finds_of b h p fits lawful =
     record {
       count = refl;
@@ -46,7 +46,7 @@ finds_of b h p fits lawful =
       lawful = subst (λ (x : Bounds). IsHistoryOf x h) (sym fits.bounds) lawful;
     }
 
-holds_alone : (b : Bounds) (h : List Line) (book : Recorded) (p : PassView) (m' : Sits) → HasHeld b h book (resting (p ∷ [])) m' → HoldsAlone b h book p m'
+holds_alone : (b : Bounds) (h : List HistoryEntry) (book : Recorded) (p : PassView) (m' : Sits) → HasHeld b h book (resting (p ∷ [])) m' → HoldsAlone b h book p m'
 holds_alone b h book p m' held =
     let fits : Fits b h p = held.fits 0 p refl in
     record {
@@ -58,13 +58,13 @@ holds_alone b h book p m' held =
     }
 
 -- What is known once the unit is taken, of the pass as contracts see it.
-pub alone : (b : Bounds) (h : List Line) (book : Recorded) (p inner : PassView) (m m' : Sits) → inner ≡ p → m ≡ resting (inner ∷ []) → HasHeld b h book m m' → HoldsAlone b h book p m'
+pub alone : (b : Bounds) (h : List HistoryEntry) (book : Recorded) (p inner : PassView) (m m' : Sits) → inner ≡ p → m ≡ resting (inner ∷ []) → HasHeld b h book m m' → HoldsAlone b h book p m'
 alone b h book p inner m m' same at held =
     let here : m ≡ resting (p ∷ []) = at ∙ ap (λ (x : PassView). resting (x ∷ [])) same in
     holds_alone b h book p m' (subst (λ (x : Sits). HasHeld b h book x m') here held)
 
 -- The history is no longer than a number of 32 bits.
-pub few : (b b' : Bounds) (h : List Line) (book : Recorded) (p : PassView) (m : Sits) → HoldsAlone b h book p m → p.bounds ≡ b' → IsLimit b'.limit → length book.history ≤ 4194304
+pub few : (b b' : Bounds) (h : List HistoryEntry) (book : Recorded) (p : PassView) (m : Sits) → HoldsAlone b h book p m → p.bounds ≡ b' → IsLimit b'.limit → length book.history ≤ 4194304
 few b b' h book p m a same limit =
     let pages : length book.history ≡ length h = ap (λ (x : Recorded). length x.history) a.pages in
     let within : length h ≤ p.bounds.limit = a.finds.lawful.within in
@@ -72,7 +72,7 @@ few b b' h book p m a same limit =
     let top : b'.limit ≤ 4194304 = limit.1 in
     omega arith
 
-pub can_back : (decides : ℕ → Bool) (b : Bounds) (h : List Line) (book book' : Recorded) (p : PassView) (m : Sits) → HoldsAlone b h book p m → book' ≡ book
+pub can_back : (decides : ℕ → Bool) (b : Bounds) (h : List HistoryEntry) (book book' : Recorded) (p : PassView) (m : Sits) → HoldsAlone b h book p m → book' ≡ book
     → CanGiveBack decides book' m (looked false (length h) p ∷ []) h b
 can_back decides b h book book' p m a same =
     record {
@@ -83,41 +83,41 @@ can_back decides b h book book' p m a same =
       alone = λ _. refl;
     }
 
-pub after_back : (decides : ℕ → Bool) (b : Bounds) (h : List Line) (book book' : Recorded) (p : PassView) (m m' : Sits) → HoldsAlone b h book p m → book' ≡ book → GivesBack decides book' m m'
+pub after_back : (decides : ℕ → Bool) (b : Bounds) (h : List HistoryEntry) (book book' : Recorded) (p : PassView) (m m' : Sits) → HoldsAlone b h book p m → book' ≡ book → GivesBack decides book' m m'
     → m' ≡ resting (shown (decides (2 * length h + 1)) (length h) h p ∷ [])
 after_back decides b h book book' p m m' a same back = back (looked false (length h) p ∷ []) h b a.at (same ∙ a.pages)
 
-pub proper_shown : (decides : Bool) (n : ℕ) (p : PassView) (h : List Line) → IsProper p → Finds n p h → IsProper (shown decides n h p)
+pub proper_shown : (decides : Bool) (n : ℕ) (p : PassView) (h : List HistoryEntry) → IsProperPass p → Finds n p h → IsProperPass (shown decides n h p)
 proper_shown decides n p h proper finds =
     record { seen = finds.lawful; own = finds.mine; marks = rise_after decides p.marks p.floor n proper.marks finds.floor }
 
 -- The pass can be used whole again.
-pub closed : (m : Sits) (q : PassView) (number entries : ℕ) → m ≡ resting (q ∷ []) → number ≡ q.number → entries ≡ length q.seen → IsProper q
-    → (m ≡ resting (only m.0.passes ∷ [])) × (number ≡ (only m.0.passes).number) × (entries ≡ length (only m.0.passes).seen) × IsProper (only m.0.passes)
+pub closed : (m : Sits) (q : PassView) (number entries : ℕ) → m ≡ resting (q ∷ []) → number ≡ q.number → entries ≡ length q.seen → IsProperPass q
+    → (m ≡ resting (only m.0.passes ∷ [])) × (number ≡ (only m.0.passes).number) × (entries ≡ length (only m.0.passes).seen) × IsProperPass (only m.0.passes)
 closed m q number entries is same count proper =
     let P : Sits → Type 0 =
-    λ x. (x ≡ resting (only x.0.passes ∷ [])) × (number ≡ (only x.0.passes).number) × (entries ≡ length (only x.0.passes).seen) × IsProper (only x.0.passes) in
+    λ x. (x ≡ resting (only x.0.passes ∷ [])) × (number ≡ (only x.0.passes).number) × (entries ≡ length (only x.0.passes).seen) × IsProperPass (only x.0.passes) in
     subst P (sym is) (refl, same, count, proper)
 
 pub only_is : (m : Sits) (q : PassView) → m ≡ resting (q ∷ []) → only m.0.passes ≡ q
 only_is m q is = ap (λ (x : Sits). only x.0.passes) is
 
 -- The book covers what the unit covers.
-pub covers_same : (b b' : Bounds) (h : List Line) (book : Recorded) (p : PassView) (m : Sits) (op : Operation) → HoldsAlone b h book p m → p.bounds ≡ b'
+pub covers_same : (b b' : Bounds) (h : List HistoryEntry) (book : Recorded) (p : PassView) (m : Sits) (op : Operation) → HoldsAlone b h book p m → p.bounds ≡ b'
     → IsCovered b'.place.first b'.place.blocks b'.place.size op → IsCovered book.place.first book.place.blocks book.place.size op
 covers_same b b' h book p m op a same covered =
     subst (λ (x : Recorded). IsCovered x.place.first x.place.blocks x.place.size op) (sym a.pages)
     (subst (λ (x : Bounds). IsCovered x.place.first x.place.blocks x.place.size op) (sym same ∙ a.bounds) covered)
 
 -- One entry more, which bears the number of a pass.
-bears_more : (count : ℕ) (h : List Line) (line : Line) → BearsNumbers count h → line.pass < count → BearsNumbers count (h ++ line ∷ [])
+bears_more : (count : ℕ) (h : List HistoryEntry) (line : HistoryEntry) → BearsNumbers count h → line.pass < count → BearsNumbers count (h ++ line ∷ [])
 bears_more count h line bears lt k x at =
     elim (at_snoc h line x k at) [
       | inl before ↦ bears k x before
-      | inr last ↦ subst (λ (y : Line). y.pass < count) last lt
+      | inr last ↦ subst (λ (y : HistoryEntry). y.pass < count) last lt
     ]
 
-pub observes : (r : Result Observed ObserveFault) (op : Operation) (b : Bounds) (h : List Line) (book : Recorded) (p q : PassView) (m : Sits) → HoldsAlone b h book p m
+pub observes : (r : Result Observed ObserveFault) (op : Operation) (b : Bounds) (h : List HistoryEntry) (book : Recorded) (p q : PassView) (m : Sits) → HoldsAlone b h book p m
     → q ≡ shown true (length h) h p → AnswersLook r (length book.history) op (replay_of book.place.size book.history) → Observes r p op q
 observes r op b h book p q m a is answers = (
   h,
@@ -128,14 +128,14 @@ observes r op b h book p q m a is answers = (
 )
 
 -- What the attempt answered, told of the history in hand.
-answers_here : (changed : Changed) (b : Bounds) (h : List Line) (book book' : Recorded) (p : PassView) (line : Line) (m : Sits) → HoldsAlone b h book p m
+answers_here : (changed : Changed) (b : Bounds) (h : List HistoryEntry) (book book' : Recorded) (p : PassView) (line : HistoryEntry) (m : Sits) → HoldsAlone b h book p m
     → Attempts changed p.bounds.limit line book book' → AnswersChange changed (length h) p.bounds.limit line.operation (medium_at p.bounds h)
 answers_here changed b h book book' p line m a done =
     subst (λ (x : Bounds). AnswersChange changed (length h) p.bounds.limit line.operation (medium_at x h)) (sym a.bounds)
     (subst (λ (x : Recorded). AnswersChange changed (length x.history) p.bounds.limit line.operation (replay_of x.place.size x.history)) a.pages done.0)
 
 -- The book after it.
-pages_after : (changed : Changed) (b : Bounds) (h : List Line) (book book' : Recorded) (p : PassView) (line : Line) (m : Sits) → HoldsAlone b h book p m
+pages_after : (changed : Changed) (b : Bounds) (h : List HistoryEntry) (book book' : Recorded) (p : PassView) (line : HistoryEntry) (m : Sits) → HoldsAlone b h book p m
     → Attempts changed p.bounds.limit line book book' → book' ≡ recorded p.bounds (history_after changed h line)
 pages_after changed b h book book' p line m a done =
     done.1
@@ -150,12 +150,12 @@ act_is (Uncorrectable first blocks) = tt
 act_is (Pair first blocks compare write) = tt
 
 -- The unit can be put back whatever the attempt came to.
-pub attempt_ready : (changed : Changed) (b : Bounds) (h : List Line) (book book' : Recorded) (p : PassView) (job : ℕ) (op : Operation) (m : Sits) → HoldsAlone b h book p m
-    → IsAct op.deed → IsCovered p.bounds.place.first p.bounds.place.blocks p.bounds.place.size op → Attempts changed p.bounds.limit (line_of p job op) book book'
-    → ((ps : List PassView) × (history : List Line) × (b : Bounds) × CanGiveBack (λ _. true) book' m ps history b)
-    ⊎ ((p : PassView) × (history : List Line) × (line : Line) × CanGiveMore book' m p history line)
+pub attempt_ready : (changed : Changed) (b : Bounds) (h : List HistoryEntry) (book book' : Recorded) (p : PassView) (job : ℕ) (op : Operation) (m : Sits) → HoldsAlone b h book p m
+    → IsAct op.deed → IsCovered p.bounds.place.first p.bounds.place.blocks p.bounds.place.size op → Attempts changed p.bounds.limit (entry_of_job p job op) book book'
+    → ((ps : List PassView) × (history : List HistoryEntry) × (b : Bounds) × CanGiveBack (λ _. true) book' m ps history b)
+    ⊎ ((p : PassView) × (history : List HistoryEntry) × (line : HistoryEntry) × CanGiveMore book' m p history line)
 attempt_ready (Done place) b h book book' p job op m a act covered done =
-    let line = line_of p job op in
+    let line = entry_of_job p job op in
     let answers = answers_here (Done place) b h book book' p line m a done in
     inr (
       looked false (length h) p,
@@ -179,14 +179,14 @@ pub record Ends (changed : Changed) (p : PassView) (job : ℕ) (op : Operation) 
   pub view : PassView
   pub at : m' ≡ resting (view ∷ [])
   pub makes : Makes changed p job op view
-  pub proper : IsProper view
+  pub proper : IsProperPass view
   pub count : length book'.history ≡ length view.seen
   pub number : view.number ≡ p.number
   pub bounds : view.bounds ≡ p.bounds
 
 -- An answer that leaves the history.
-ends_as_before : (changed : Changed) (b : Bounds) (h : List Line) (book book' : Recorded) (p : PassView) (job : ℕ) (op : Operation) (m m' : Sits) → HoldsAlone b h book p m → book' ≡ book
-    → AnswersChange changed (length h) p.bounds.limit op (medium_at p.bounds h) → shown true (length h) h p ≡ pass_after changed h (line_of p job op) p → IsProper p → GivesBack (λ _. true) book' m m'
+ends_as_before : (changed : Changed) (b : Bounds) (h : List HistoryEntry) (book book' : Recorded) (p : PassView) (job : ℕ) (op : Operation) (m m' : Sits) → HoldsAlone b h book p m → book' ≡ book
+    → AnswersChange changed (length h) p.bounds.limit op (medium_at p.bounds h) → shown true (length h) h p ≡ pass_after changed h (entry_of_job p job op) p → IsProperPass p → GivesBack (λ _. true) book' m m'
     → Ends changed p job op book' m'
 ends_as_before changed b h book book' p job op m m' a same answers is proper back =
     record {
@@ -199,11 +199,11 @@ ends_as_before changed b h book book' p job op m m' a same answers is proper bac
       bounds = refl;
     }
 
-pub attempt_ends : FollowsLawfully → (changed : Changed) (b : Bounds) (h : List Line) (book book' : Recorded) (p : PassView) (job : ℕ) (op : Operation) (m m' : Sits) → HoldsAlone b h book p m
-    → IsCovered p.bounds.place.first p.bounds.place.blocks p.bounds.place.size op → Attempts changed p.bounds.limit (line_of p job op) book book' → IsProper p
+pub attempt_ends : FollowsLawfully → (changed : Changed) (b : Bounds) (h : List HistoryEntry) (book book' : Recorded) (p : PassView) (job : ℕ) (op : Operation) (m m' : Sits) → HoldsAlone b h book p m
+    → IsCovered p.bounds.place.first p.bounds.place.blocks p.bounds.place.size op → Attempts changed p.bounds.limit (entry_of_job p job op) book book' → IsProperPass p
     → GivesBack (λ _. true) book' m m' → GivesMore book' m m' → Ends changed p job op book' m'
 attempt_ends law (Done place) b h book book' p job op m m' a covered done proper back more =
-    let line = line_of p job op in
+    let line = entry_of_job p job op in
     let pages = pages_after (Done place) b h book book' p line m a done in
     let answers = answers_here (Done place) b h book book' p line m a done in
     let room : length h < p.bounds.limit = answers.1 in
@@ -216,7 +216,7 @@ attempt_ends law (Done place) b h book book' p job op m m' a covered done proper
       makes = (h, a.finds, answers, refl);
       proper = record {
         seen = record { lawful = lawful; within = (omega arith); bears = bears_more p.bounds.passes h line a.finds.lawful.bears a.number };
-        own = entries_more p.number h line refl ∙ ap (λ (x : List (ℕ × Line)). x ++ (length h, line) ∷ []) a.finds.mine;
+        own = entries_more p.number h line refl ∙ ap (λ (x : List (ℕ × HistoryEntry)). x ++ (length h, line) ∷ []) a.finds.mine;
         marks = rise_more 0 p.marks p.floor (length h) proper.marks a.finds.floor;
       };
       count = ap (λ (x : Recorded). length x.history) pages;
@@ -224,20 +224,20 @@ attempt_ends law (Done place) b h book book' p job op m m' a covered done proper
       bounds = refl;
     }
 attempt_ends law (Failed point statuses) b h book book' p job op m m' a covered done proper back more =
-    ends_as_before (Failed point statuses) b h book book' p job op m m' a done.1 (answers_here (Failed point statuses) b h book book' p (line_of p job op) m a done) refl proper back
+    ends_as_before (Failed point statuses) b h book book' p job op m m' a done.1 (answers_here (Failed point statuses) b h book book' p (entry_of_job p job op) m a done) refl proper back
 attempt_ends law (NoMemory point) b h book book' p job op m m' a covered done proper back more =
-    ends_as_before (NoMemory point) b h book book' p job op m m' a done.1 (answers_here (NoMemory point) b h book book' p (line_of p job op) m a done) refl proper back
+    ends_as_before (NoMemory point) b h book book' p job op m m' a done.1 (answers_here (NoMemory point) b h book book' p (entry_of_job p job op) m a done) refl proper back
 attempt_ends law (Full point) b h book book' p job op m m' a covered done proper back more =
-    ends_as_before (Full point) b h book book' p job op m m' a done.1 (answers_here (Full point) b h book book' p (line_of p job op) m a done) refl proper back
+    ends_as_before (Full point) b h book book' p job op m m' a done.1 (answers_here (Full point) b h book book' p (entry_of_job p job op) m a done) refl proper back
 
 -- The attempt, told of the pass as contracts see it.
 pub attempt_as : (changed : Changed) (limit number job : ℕ) (op : Operation) (book book' : Recorded) (p : PassView) → limit ≡ p.bounds.limit → number ≡ p.number
-    → Attempts changed limit (record { pass = number; job = job; operation = op }) book book' → Attempts changed p.bounds.limit (line_of p job op) book book'
+    → Attempts changed limit (record { pass = number; job = job; operation = op }) book book' → Attempts changed p.bounds.limit (entry_of_job p job op) book book'
 attempt_as changed limit number job op book book' p same_limit same_number attempts =
-    subst (λ (l : ℕ). Attempts changed l (line_of p job op) book book') same_limit
+    subst (λ (l : ℕ). Attempts changed l (entry_of_job p job op) book book') same_limit
     (subst (λ (k : ℕ). Attempts changed limit (record { pass = k; job = job; operation = op }) book book') same_number attempts)
 
-pub within_limit : (b b' : Bounds) (h : List Line) (book : Recorded) (p : PassView) (m : Sits) → HoldsAlone b h book p m → p.bounds ≡ b' → length book.history ≤ b'.limit
+pub within_limit : (b b' : Bounds) (h : List HistoryEntry) (book : Recorded) (p : PassView) (m : Sits) → HoldsAlone b h book p m → p.bounds ≡ b' → length book.history ≤ b'.limit
 within_limit b b' h book p m a same =
     let pages : length book.history ≡ length h = ap (λ (x : Recorded). length x.history) a.pages in
     let within : length h ≤ p.bounds.limit = a.finds.lawful.within in
@@ -245,7 +245,7 @@ within_limit b b' h book p m a same =
     omega arith
 
 -- The history stays within the limit.
-pub attempt_within : (changed : Changed) (b : Bounds) (h : List Line) (book book' : Recorded) (p : PassView) (line : Line) (m : Sits) → HoldsAlone b h book p m
+pub attempt_within : (changed : Changed) (b : Bounds) (h : List HistoryEntry) (book book' : Recorded) (p : PassView) (line : HistoryEntry) (m : Sits) → HoldsAlone b h book p m
     → Attempts changed p.bounds.limit line book book' → length book'.history ≤ p.bounds.limit
 attempt_within (Done place) b h book book' p line m a done =
     let pages : length book'.history ≡ length (book.history ++ line ∷ []) = ap (λ (x : Recorded). length x.history) done.1 in

@@ -4,14 +4,14 @@ use mathlib.Core.Option.{some, none}
 use mathlib.Core.Option as there
 use lib.ListN.{get_elem?}
 use Rattle.atomic_table.specs.Table.{State, Final, Seen}
-use Rattle.nvm_store.specs.Line.{Line}
+use Rattle.nvm_store.specs.HistoryEntry.{HistoryEntry}
 use Rattle.nvm_unit.specs.declared.bounds.Bounds.{Bounds}
 use Rattle.nvm_unit.specs.declared.views.PassView.{PassView}
 use Rattle.nvm_unit.specs.declared.views.Group.{Group}
 use Rattle.nvm_unit.specs.Book.{Recorded, recorded}
 use Rattle.nvm_unit.specs.Ends.{AreAllViews, HasCome, IsWholeHistory}
 use Rattle.nvm_unit.specs.Events.{idle}
-use Rattle.nvm_unit.specs.Knowledge.{IsKept}
+use Rattle.nvm_unit.specs.Knowledge.{IsKnown}
 use Rattle.nvm_unit.specs.Machine.{UnitState, IsAt, StandsAt, RestsAs}
 use Rattle.nvm_unit.specs.Rule.{slots_of, IsRuled}
 use Rattle.nvm_unit.proofs.Allowed.{history_of, fitting}
@@ -25,7 +25,7 @@ at_some (p ∷ ps) zero lt = (p, refl)
 at_some (p ∷ ps) (suc i) lt = at_some ps i (omega arith)
 
 -- Nobody holds the unit: each pass is one of these, and they rest.
-unheld : (b : Bounds) (s : UnitState) → IsKept b s → (id : ℕ) (ps : List PassView) → IsAt s.groups id (idle ps) → AreAllViews b.passes ps
+unheld : (b : Bounds) (s : UnitState) → IsKnown b s → (id : ℕ) (ps : List PassView) → IsAt s.groups id (idle ps) → AreAllViews b.passes ps
     → (holder : Option ℕ) → s.holder ≡ holder → s.holder ≡ None
 unheld b s kept id ps at all None is = is
 unheld b s kept id ps at all (Some j) is =
@@ -45,13 +45,13 @@ unheld b s kept id ps at all (Some j) is =
     absurd (cc)
 
 -- The slot is home with the history.
-at_home : (b : Bounds) (s : UnitState) → IsKept b s → (id : ℕ) (ps : List PassView) → IsAt s.groups id (idle ps) → AreAllViews b.passes ps → s.slot ≡ Some s.history
+at_home : (b : Bounds) (s : UnitState) → IsKnown b s → (id : ℕ) (ps : List PassView) → IsAt s.groups id (idle ps) → AreAllViews b.passes ps → s.slot ≡ Some s.history
 at_home b s kept id ps at all =
     let nobody : s.holder ≡ None = unheld b s kept id ps at all s.holder refl in
     let r : RestsAs None s.word s.slot s.history = subst (λ (h : Option ℕ). RestsAs h s.word s.slot s.history) nobody kept.sound.hold.rests in
     r.1
 
-whole : (b : Bounds) (s : UnitState) → IsKept b s → (id : ℕ) (ps : List PassView) → IsAt s.groups id (idle ps) → IsWholeHistory b ps s.history
+whole : (b : Bounds) (s : UnitState) → IsKnown b s → (id : ℕ) (ps : List PassView) → IsAt s.groups id (idle ps) → IsWholeHistory b ps s.history
 whole b s kept id ps at =
     record {
       lawful = history_of b s kept;
@@ -61,7 +61,7 @@ whole b s kept id ps at =
 
 -- What lies in the slot at the end.
 pub closing : (b : Bounds) (id : ℕ) (ps : List PassView) (words : List ℕ) (slots : List (Option Recorded)) → AreAllViews b.passes ps
-    → Final (Seen (IsRuled b) id (idle ps)) words slots → (h : List Line) × IsAt slots 0 (Some (recorded b h)) × IsWholeHistory b ps h × HasCome b ps h
+    → Final (Seen (IsRuled b) id (idle ps)) words slots → (h : List HistoryEntry) × IsAt slots 0 (Some (recorded b h)) × IsWholeHistory b ps h × HasCome b ps h
 closing b id ps words slots all final =
     let t = final.0 in
     let ruled = final.1.0 in

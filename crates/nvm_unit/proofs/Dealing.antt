@@ -7,7 +7,7 @@ use Rattle.nvm_unit.specs.declared.bounds.Bounds.{Bounds}
 use Rattle.nvm_unit.specs.declared.views.PassView.{PassView}
 use Rattle.nvm_unit.specs.Ends.{pass_at, new_passes, views_of, AreAllPassesOf, AreAllViews}
 use Rattle.nvm_unit.specs.Machine.{IsAt, newcomers, newcomers_from}
-use Rattle.nvm_unit.specs.Passes.{IsPassOf, PassState, UnitName, IsProper}
+use Rattle.nvm_unit.specs.Passes.{IsPassOf, PassState, UnitName, IsProperPass}
 use Rattle.nvm_unit.specs.Views.{newcomer}
 use Rattle.nvm_unit.proofs.EventsKept.{newcomer_back}
 use Rattle.nvm_unit.proofs.Lists.{at_map_back}
@@ -20,7 +20,7 @@ next_left b number count lt =
     ap (newcomers_from b number) left ∙ ap (λ (k : ℕ). newcomer b number ∷ newcomers_from b k (count - (number + 1))) next
 
 -- A new pass has seen and done nothing.
-pub newcomer_proper : (b : Bounds) (number : ℕ) → IsProper (newcomer b number)
+pub newcomer_proper : (b : Bounds) (number : ℕ) → IsProperPass (newcomer b number)
 newcomer_proper b number = record {
   seen = record { lawful = λ d i lt. absurd (omega arith); within = (omega arith); bears = λ k line at. absurd (some-ne-none line (sym at)) };
   own = refl;

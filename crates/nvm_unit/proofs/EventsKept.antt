@@ -1,7 +1,7 @@
 -- Every list of events from the opening state keeps what is known.
 use Rattle.std.proofs.Common.{◌≡◌, ℕ, zero, suc, ◌+◌, ◌<◌, ◌≤◌, List, [], ◌∷◌, ◌++◌, subst, refl, sym, ap, ◌∙◌, arith, None}
 use mathlib.Core.Option.{some, some-injective, some-ne-none}
-use Rattle.nvm_store.specs.Line.{Line}
+use Rattle.nvm_store.specs.HistoryEntry.{HistoryEntry}
 use Rattle.nvm_store.specs.History.{CanFollow, IsLawfulHistory}
 use Rattle.nvm_unit.specs.declared.bounds.Bounds.{Bounds}
 use Rattle.nvm_unit.specs.declared.views.PassView.{PassView}
@@ -9,7 +9,7 @@ use Rattle.nvm_unit.specs.declared.views.Group.{Group}
 use Rattle.nvm_unit.specs.Views.{Begins, entries_by, RiseWithin, newcomer}
 use Rattle.nvm_unit.specs.Machine.{UnitState, IsAt, StandsAt, EachPass, IsHand, newcomers_from, newcomers, opening_state}
 use Rattle.nvm_unit.specs.Events.{Event, loads, takes, misses, adds, returns, joins, splits, idle, Happens, Lead}
-use Rattle.nvm_unit.specs.Knowledge.{Knows, IsKept}
+use Rattle.nvm_unit.specs.Knowledge.{Knows, IsKnown}
 use Rattle.nvm_unit.proofs.Groups.{stands_one}
 use Rattle.nvm_unit.proofs.Keeping.{keeps_look, keeps_take, keeps_return, keeps_put}
 use Rattle.nvm_unit.proofs.Regrouping.{keeps_join, keeps_split}
@@ -17,7 +17,7 @@ use Rattle.nvm_unit.proofs.Regrouping.{keeps_join, keeps_split}
 -- An entry that can follow a lawful history makes a lawful one.
 abbrev pub FollowsLawfully : Type 0
 FollowsLawfully =
-    (start count size : ℕ) (history : List Line) (line : Line) → IsLawfulHistory start count size history
+    (start count size : ℕ) (history : List HistoryEntry) (line : HistoryEntry) → IsLawfulHistory start count size history
     → CanFollow start count size history line → IsLawfulHistory start count size (history ++ line ∷ [])
 
 pub newcomer_back : (b : Bounds) (from n i : ℕ) (p : PassView) → IsAt (newcomers_from b from n) i p → (p ≡ newcomer b (from + i)) × (i < n)
@@ -52,7 +52,7 @@ idle_holds_none : (b : Bounds) (j : ℕ) (g : Group) → IsAt (opening_state b).
 idle_holds_none b zero g e = some-injective (idle (newcomers b)) g e
 idle_holds_none b (suc j) g e = absurd (some-ne-none g (sym e))
 
-pub opening_kept : (b : Bounds) → IsKept b (opening_state b)
+pub opening_kept : (b : Bounds) → IsKnown b (opening_state b)
 opening_kept b =
     record {
       sound = record {
@@ -87,17 +87,17 @@ opening_kept b =
       hands = λ j g held at is. let x : None ≡ g.held = ap (λ (y : Group). y.held) (idle_holds_none b j g at) in absurd (cc);
     }
 
-pub event_kept : FollowsLawfully → (b : Bounds) (s : UnitState) (event : Event) (t : UnitState) → IsKept b s → Happens b s event t → IsKept b t
-event_kept law b s (loads j decides) t kept h = subst (IsKept b) (sym h.2) (keeps_look b s kept j h.0 decides h.1)
-event_kept law b s (takes j) t kept h = subst (IsKept b) (sym h.3) (keeps_take b s kept j h.0 h.1 h.2)
-event_kept law b s (misses j decides) t kept h = subst (IsKept b) (sym h.2) (keeps_look b s kept j h.0 decides h.1)
+pub event_kept : FollowsLawfully → (b : Bounds) (s : UnitState) (event : Event) (t : UnitState) → IsKnown b s → Happens b s event t → IsKnown b t
+event_kept law b s (loads j decides) t kept h = subst (IsKnown b) (sym h.2) (keeps_look b s kept j h.0 decides h.1)
+event_kept law b s (takes j) t kept h = subst (IsKnown b) (sym h.3) (keeps_take b s kept j h.0 h.1 h.2)
+event_kept law b s (misses j decides) t kept h = subst (IsKnown b) (sym h.2) (keeps_look b s kept j h.0 decides h.1)
 event_kept law b s (adds j line) t kept h =
-    subst (IsKept b) (sym h.3)
+    subst (IsKnown b) (sym h.3)
     (keeps_put b s kept j h.0 h.1 line h.2 (law b.place.first b.place.blocks b.place.size s.history line kept.sound.hold.lawful h.2.follows))
-event_kept law b s (returns j decides) t kept h = subst (IsKept b) (sym h.3) (keeps_return b s kept j h.0 decides h.1 h.2)
-event_kept law b s (joins j k) t kept h = subst (IsKept b) (sym h.5) (keeps_join b s kept j k h.0 h.1 h.2 h.3 h.4)
-event_kept law b s (splits j first) t kept h = subst (IsKept b) (sym h.2) (keeps_split b s kept j first h.0 h.1)
+event_kept law b s (returns j decides) t kept h = subst (IsKnown b) (sym h.3) (keeps_return b s kept j h.0 decides h.1 h.2)
+event_kept law b s (joins j k) t kept h = subst (IsKnown b) (sym h.5) (keeps_join b s kept j k h.0 h.1 h.2 h.3 h.4)
+event_kept law b s (splits j first) t kept h = subst (IsKnown b) (sym h.2) (keeps_split b s kept j first h.0 h.1)
 
-pub events_kept : FollowsLawfully → (b : Bounds) (s : UnitState) (events : List Event) (t : UnitState) → IsKept b s → Lead b s events t → IsKept b t
-events_kept law b s [] t kept same = subst (IsKept b) (sym same) kept
+pub events_kept : FollowsLawfully → (b : Bounds) (s : UnitState) (events : List Event) (t : UnitState) → IsKnown b s → Lead b s events t → IsKnown b t
+events_kept law b s [] t kept same = subst (IsKnown b) (sym same) kept
 events_kept law b s (event ∷ events) t kept leads = events_kept law b leads.0 events t (event_kept law b s event leads.0 kept leads.1) leads.2

@@ -1,30 +1,30 @@
 -- Histories that grow: what begins them, whose entries they have, and marks that rise.
 use Rattle.std.proofs.Common.{◌≡◌, ◌≢◌, ℕ, suc, ◌+◌, ◌/◌, ◌≤◌, ◌==◌, if◌then◌else◌, Bool, true, false, List, [], ◌∷◌, ◌++◌, length, eq-eqb, ne_eqb, append_assoc, append-nil, length-append, refl, sym, ap, ◌∙◌, arith, Option, Some, None}
-use Rattle.nvm_store.specs.Line.{Line}
+use Rattle.nvm_store.specs.HistoryEntry.{HistoryEntry}
 use Rattle.nvm_unit.specs.Views.{Begins, entries_by_from, entries_by, RiseWithin, marks_after}
 use Rattle.nvm_unit.specs.Machine.{RestsAs}
 
-pub begins_itself : (history : List Line) → Begins history history
+pub begins_itself : (history : List HistoryEntry) → Begins history history
 begins_itself history = ([], sym (append-nil history))
 
-pub begins_more : (seen history : List Line) (line : Line) → Begins seen history → Begins seen (history ++ line ∷ [])
+pub begins_more : (seen history : List HistoryEntry) (line : HistoryEntry) → Begins seen history → Begins seen (history ++ line ∷ [])
 begins_more seen history line begins =
-    (begins.0 ++ line ∷ [], ap (λ (x : List Line). x ++ line ∷ []) begins.1 ∙ append_assoc seen begins.0 (line ∷ []))
+    (begins.0 ++ line ∷ [], ap (λ (x : List HistoryEntry). x ++ line ∷ []) begins.1 ∙ append_assoc seen begins.0 (line ∷ []))
 
-pub begins_length : (seen history : List Line) → Begins seen history → length seen ≤ length history
+pub begins_length : (seen history : List HistoryEntry) → Begins seen history → length seen ≤ length history
 begins_length seen history begins = omega (arith, ap length begins.1, length-append seen begins.0)
 
 -- One entry at a place, if it bears the number.
-abbrev kept_if : Bool → ℕ → Line → List (ℕ × Line) → List (ℕ × Line)
+abbrev kept_if : Bool → ℕ → HistoryEntry → List (ℕ × HistoryEntry) → List (ℕ × HistoryEntry)
 kept_if bears from line rest = if bears then (from, line) ∷ rest else rest
 
-kept_if-append : (bears : Bool) (from : ℕ) (line : Line) (rest more : List (ℕ × Line))
+kept_if-append : (bears : Bool) (from : ℕ) (line : HistoryEntry) (rest more : List (ℕ × HistoryEntry))
     → kept_if bears from line (rest ++ more) ≡ kept_if bears from line rest ++ more
 kept_if-append true from line rest more = refl
 kept_if-append false from line rest more = refl
 
 -- The entries of two histories, one behind the other.
-entries-append : (from pass : ℕ) (history more : List Line)
+entries-append : (from pass : ℕ) (history more : List HistoryEntry)
     → entries_by_from from pass (history ++ more) ≡ entries_by_from from pass history ++ entries_by_from (from + length history) pass more
 entries-append from pass [] more = let n : from + 0 ≡ from = omega arith in rw n refl
 entries-append from pass (x ∷ xs) more =
@@ -33,19 +33,19 @@ entries-append from pass (x ∷ xs) more =
     ∙ kept_if-append (x.pass == pass) from x (entries_by_from (suc from) pass xs) (entries_by_from (from + suc (length xs)) pass more)
 
 -- The entry is one more of the pass whose number it bears.
-pub entries_more : (pass : ℕ) (history : List Line) (line : Line) → line.pass ≡ pass
+pub entries_more : (pass : ℕ) (history : List HistoryEntry) (line : HistoryEntry) → line.pass ≡ pass
     → entries_by pass (history ++ line ∷ []) ≡ entries_by pass history ++ (length history, line) ∷ []
 entries_more pass history line is =
     let n : 0 + length history ≡ length history = omega arith in
     let one : entries_by_from (0 + length history) pass (line ∷ []) ≡ (length history, line) ∷ [] = rw (n, eq-eqb line.pass pass is) refl in
-    entries-append 0 pass history (line ∷ []) ∙ ap (λ (x : List (ℕ × Line)). entries_by pass history ++ x) one
+    entries-append 0 pass history (line ∷ []) ∙ ap (λ (x : List (ℕ × HistoryEntry)). entries_by pass history ++ x) one
 
 -- It is none of another.
-pub entries_same : (pass : ℕ) (history : List Line) (line : Line) → line.pass ≢ pass
+pub entries_same : (pass : ℕ) (history : List HistoryEntry) (line : HistoryEntry) → line.pass ≢ pass
     → entries_by pass (history ++ line ∷ []) ≡ entries_by pass history
 entries_same pass history line not =
     let one : entries_by_from (0 + length history) pass (line ∷ []) ≡ [] = rw (ne_eqb line.pass pass not) refl in
-    entries-append 0 pass history (line ∷ []) ∙ (ap (λ (x : List (ℕ × Line)). entries_by pass history ++ x) one ∙ append-nil (entries_by pass history))
+    entries-append 0 pass history (line ∷ []) ∙ (ap (λ (x : List (ℕ × HistoryEntry)). entries_by pass history ++ x) one ∙ append-nil (entries_by pass history))
 
 pub rise_up : (low : ℕ) (marks : List ℕ) (high n : ℕ) → RiseWithin low marks high → high ≤ n → RiseWithin low marks n
 rise_up low [] high n rises le = let h : low ≤ high = rises in omega arith
@@ -60,6 +60,6 @@ rise_after true marks high n rises le = rise_more 0 marks high n rises le
 rise_after false marks high n rises le = rise_up 0 marks high n rises le
 
 -- The word says how many entries there are.
-pub number_is : (holder : Option ℕ) (word : ℕ) (slot : Option (List Line)) (history : List Line) → RestsAs holder word slot history → word / 2 ≡ length history
+pub number_is : (holder : Option ℕ) (word : ℕ) (slot : Option (List HistoryEntry)) (history : List HistoryEntry) → RestsAs holder word slot history → word / 2 ≡ length history
 number_is None word slot history rests = let h = rests.0 in omega arith
 number_is (Some j) word slot history rests = let h = rests.0 in omega arith

@@ -4,7 +4,7 @@ use mathlib.Core.Logic.{dite}
 use native.Mathlib.Decide.{ℕ_discrete}
 use Rattle.atomic_table.proofs.Lists.{at_set, set_here, set_else, at_snoc}
 use Rattle.std.proofs.lemmas.List.{length-append, length-map}
-use Rattle.nvm_store.specs.Line.{Line}
+use Rattle.nvm_store.specs.HistoryEntry.{HistoryEntry}
 use Rattle.nvm_store.specs.History.{IsLawfulHistory}
 use Rattle.nvm_unit.specs.declared.bounds.Bounds.{Bounds}
 use Rattle.nvm_unit.specs.declared.views.PassView.{PassView}
@@ -12,12 +12,12 @@ use Rattle.nvm_unit.specs.declared.views.Group.{Group}
 use Rattle.nvm_unit.specs.Views.{Begins, entries_by, RiseWithin, marks_after, looked, shown, added}
 use Rattle.nvm_unit.specs.Machine.{UnitState, IsAt, StandsAt, EachPass, RestsAs, IsHand, IsHeld, AreMarked}
 use Rattle.nvm_unit.specs.Events.{number_found, idle, CanStep, CanAdd, after_look, after_take, after_put, after_return}
-use Rattle.nvm_unit.specs.Knowledge.{ArePlaced, Knows, IsKept}
+use Rattle.nvm_unit.specs.Knowledge.{ArePlaced, Knows, IsKnown}
 use Rattle.nvm_unit.proofs.Lists.{at_one, at_below}
 use Rattle.nvm_unit.proofs.Groups.{each_moved, placed_moved, numbered, numbered_below, number_apart, at_single, stands_one}
 use Rattle.nvm_unit.proofs.Histories.{begins_itself, begins_more, entries_more, entries_same, rise_after, rise_more, number_is}
 
-abbrev state : ℕ → Option (List Line) → List Line → Option ℕ → List Group → UnitState
+abbrev state : ℕ → Option (List HistoryEntry) → List HistoryEntry → Option ℕ → List Group → UnitState
 state word slot history holder groups =
     record { word = word; slot = slot; history = history; holder = holder; groups = groups }
 
@@ -36,7 +36,7 @@ pub record IsStep (decides : Bool) (n : ℕ) (f : PassView → PassView) : Type 
 looked_is : (decides : Bool) (n : ℕ) → IsStep decides n (looked decides n)
 looked_is decides n = record { number = λ p. refl; bounds = λ p. refl; mine = λ p. refl; marks = λ p. refl; floor = λ p. refl }
 
-shown_is : (decides : Bool) (n : ℕ) (history : List Line) → IsStep decides n (shown decides n history)
+shown_is : (decides : Bool) (n : ℕ) (history : List HistoryEntry) → IsStep decides n (shown decides n history)
 shown_is decides n history = record { number = λ p. refl; bounds = λ p. refl; mine = λ p. refl; marks = λ p. refl; floor = λ p. refl }
 
 -- The marks of a pass after such a step rise.
@@ -46,10 +46,10 @@ rise_step decides n f p is rises le =
     subst (λ (ms : List ℕ). RiseWithin 0 ms (f p).floor) (sym (is.marks p))
     (subst (λ (m : ℕ). RiseWithin 0 (marks_after decides n p.marks) m) (sym (is.floor p)) (rise_after decides p.marks p.floor n rises le))
 
-module _ (b : Bounds) (s : UnitState) (kept : IsKept b s) (j : ℕ) (g g' : Group) (at : IsAt s.groups j g) where
+module _ (b : Bounds) (s : UnitState) (kept : IsKnown b s) (j : ℕ) (g g' : Group) (at : IsAt s.groups j g) where
   module _ (decides : Bool) (f : PassView → PassView) (is : g'.passes ≡ map f g.passes) (step : IsStep decides (number_found s) f) where
     -- What the passes have found and done, after a step that leaves the history.
-    same_marks : (word : ℕ) (slot : Option (List Line)) (holder : Option ℕ) → AreMarked (state word slot s.history holder (set s.groups j g'))
+    same_marks : (word : ℕ) (slot : Option (List HistoryEntry)) (holder : Option ℕ) → AreMarked (state word slot s.history holder (set s.groups j g'))
     same_marks word slot holder =
         let old = kept.sound.marks in
         let n = number_found s in
@@ -82,7 +82,7 @@ module _ (b : Bounds) (s : UnitState) (kept : IsKept b s) (j : ℕ) (g g' : Grou
         (λ k i p away stands knows. knows)
 
   -- A spent group doesn't hold the unit, where the one that stepped isn't spent.
-  same_hands : 0 < length g'.passes → (k : ℕ) (x : Group) (held : List Line) → IsAt (set s.groups j g') k x → x.held ≡ Some held → 0 < length x.passes
+  same_hands : 0 < length g'.passes → (k : ℕ) (x : Group) (held : List HistoryEntry) → IsAt (set s.groups j g') k x → x.held ≡ Some held → 0 < length x.passes
   same_hands filled k x held x_at holds =
       elim (at_set s.groups j k g' x x_at) [
         | inl here ↦ subst (λ (y : Group). 0 < length y.passes) here.1 filled
@@ -90,19 +90,19 @@ module _ (b : Bounds) (s : UnitState) (kept : IsKept b s) (j : ℕ) (g g' : Grou
       ]
 
 -- A group that isn't the holder holds nothing, whoever is.
-hand_free : (history : List Line) (holder : Option ℕ) (k : ℕ) (held : Option (List Line)) → IsHand None history k held → IsHand holder history k held
+hand_free : (history : List HistoryEntry) (holder : Option ℕ) (k : ℕ) (held : Option (List HistoryEntry)) → IsHand None history k held → IsHand holder history k held
 hand_free history holder k None hand = tt
 hand_free history holder k (Some h) hand = let x = hand.0 in absurd (cc)
 
-hand_else : (history history' : List Line) (j k : ℕ) (holder : Option ℕ) (held : Option (List Line)) → k ≢ j → IsHand (Some j) history k held → IsHand holder history' k held
+hand_else : (history history' : List HistoryEntry) (j k : ℕ) (holder : Option ℕ) (held : Option (List HistoryEntry)) → k ≢ j → IsHand (Some j) history k held → IsHand holder history' k held
 hand_else history history' j k holder None away hand = tt
 hand_else history history' j k holder (Some h) away hand = let x : Some j ≡ Some k = hand.0 in let y : j ≡ k = cc in absurd (away (sym y))
 
-hand_same : (history : List Line) (holder : Option ℕ) (k : ℕ) (a b : Option (List Line)) → a ≡ b → IsHand holder history k a → IsHand holder history k b
-hand_same history holder k a b same hand = subst (λ (x : Option (List Line)). IsHand holder history k x) same hand
+hand_same : (history : List HistoryEntry) (holder : Option ℕ) (k : ℕ) (a b : Option (List HistoryEntry)) → a ≡ b → IsHand holder history k a → IsHand holder history k b
+hand_same history holder k a b same hand = subst (λ (x : Option (List HistoryEntry)). IsHand holder history k x) same hand
 
 -- An even word says that nobody holds the unit.
-free : (holder : Option ℕ) (word : ℕ) (slot : Option (List Line)) (history : List Line) → RestsAs holder word slot history → word ≡ 2 * (word / 2) → holder ≡ None
+free : (holder : Option ℕ) (word : ℕ) (slot : Option (List HistoryEntry)) (history : List HistoryEntry) → RestsAs holder word slot history → word ≡ 2 * (word / 2) → holder ≡ None
 free None word slot history rests even = refl
 free (Some j) word slot history rests even = let h = rests.0 in absurd (omega arith)
 
@@ -110,9 +110,9 @@ free (Some j) word slot history rests even = let h = rests.0 in absurd (omega ar
 map_filled : (f : PassView → PassView) (ps : List PassView) → 0 < length ps → 0 < length (map f ps)
 map_filled f ps filled = omega (arith, length-map ps f)
 
-module _ (b : Bounds) (s : UnitState) (kept : IsKept b s) where
+module _ (b : Bounds) (s : UnitState) (kept : IsKnown b s) where
   -- A load, or a compare_exchange that is lost.
-  pub keeps_look : (j : ℕ) (g : Group) (decides : Bool) → CanStep s j g decides → IsKept b (after_look s j g decides)
+  pub keeps_look : (j : ℕ) (g : Group) (decides : Bool) → CanStep s j g decides → IsKnown b (after_look s j g decides)
   keeps_look j g decides can =
       let n = number_found s in
       let g' : Group = record g { passes = map (looked decides n) g.passes } in
@@ -151,7 +151,7 @@ module _ (b : Bounds) (s : UnitState) (kept : IsKept b s) where
   pub free_is : s.word ≡ 2 * number_found s → s.holder ≡ None
   free_is even = free (s.holder) s.word s.slot s.history kept.sound.hold.rests even
 
-  pub keeps_take : (j : ℕ) (g : Group) → CanStep s j g false → s.word ≡ 2 * number_found s → IsKept b (after_take s j g)
+  pub keeps_take : (j : ℕ) (g : Group) → CanStep s j g false → s.word ≡ 2 * number_found s → IsKnown b (after_take s j g)
   keeps_take j g can even =
       let n = number_found s in
       let g' : Group = record { passes = map (looked false n) g.passes; held = s.slot } in
@@ -192,7 +192,7 @@ module _ (b : Bounds) (s : UnitState) (kept : IsKept b s) where
       ap (λ (x : Group). x.held) (at_one s.groups j g old.0 at old.1) ∙ old.2
 
   -- A put that leaves the history.
-  pub keeps_return : (j : ℕ) (g : Group) (decides : Bool) → CanStep s j g decides → s.holder ≡ Some j → IsKept b (after_return s j g decides)
+  pub keeps_return : (j : ℕ) (g : Group) (decides : Bool) → CanStep s j g decides → s.holder ≡ Some j → IsKnown b (after_return s j g decides)
   keeps_return j g decides can holds =
       let n = number_found s in
       let g' : Group = idle (map (shown decides n s.history) g.passes) in
@@ -221,16 +221,16 @@ module _ (b : Bounds) (s : UnitState) (kept : IsKept b s) where
       }
 
   -- The pass that put the entry has it as its own.
-  put_mine : (j : ℕ) (p : PassView) (line : Line) → line.pass ≡ p.number → (n : ℕ) → n ≡ length s.history → (i : ℕ) (q : PassView) → p ≡ q
+  put_mine : (j : ℕ) (p : PassView) (line : HistoryEntry) → line.pass ≡ p.number → (n : ℕ) → n ≡ length s.history → (i : ℕ) (q : PassView) → p ≡ q
       → entries_by q.number s.history ≡ q.mine → entries_by q.number (s.history ++ line ∷ []) ≡ q.mine ++ (n, line) ∷ []
   put_mine j p line number n now i q is own =
       entries_more q.number s.history line (number ∙ ap (λ (x : PassView). x.number) is)
-      ∙ (ap (λ (x : List (ℕ × Line)). x ++ (length s.history, line) ∷ []) own
+      ∙ (ap (λ (x : List (ℕ × HistoryEntry)). x ++ (length s.history, line) ∷ []) own
       ∙ ap (λ (m : ℕ). q.mine ++ (m, line) ∷ []) (sym now))
 
   -- A put with one entry more.
-  pub keeps_put : (j : ℕ) (p : PassView) (held : List Line) (line : Line) → CanAdd b s j p held line
-      → IsLawfulHistory b.place.first b.place.blocks b.place.size (s.history ++ line ∷ []) → IsKept b (after_put s j p held line)
+  pub keeps_put : (j : ℕ) (p : PassView) (held : List HistoryEntry) (line : HistoryEntry) → CanAdd b s j p held line
+      → IsLawfulHistory b.place.first b.place.blocks b.place.size (s.history ++ line ∷ []) → IsKnown b (after_put s j p held line)
   keeps_put j p held line can lawful =
       let n = number_found s in
       let g : Group = record { passes = p ∷ []; held = Some held } in
@@ -251,7 +251,7 @@ module _ (b : Bounds) (s : UnitState) (kept : IsKept b s) where
           hold = record {
             lawful = lawful;
             within = omega arith;
-            rests = (omega arith, ap (λ (x : List Line). Some (x ++ line ∷ [])) held_same);
+            rests = (omega arith, ap (λ (x : List HistoryEntry). Some (x ++ line ∷ [])) held_same);
             holder = λ k is. absurd (cc);
             others = λ k x x_at.
                 elim (at_set s.groups j k g' x x_at) [
@@ -275,7 +275,7 @@ module _ (b : Bounds) (s : UnitState) (kept : IsKept b s) where
                       (numbered_below b.passes kept.place s.groups kept.placed x.pass (old.bears k x before))
                   | inr last ↦
                       let lt : p.number < b.passes = kept.placed.below j 0 p mover in
-                      let e : x.pass ≡ p.number = ap (λ (y : Line). y.pass) (sym last) ∙ can.number in
+                      let e : x.pass ≡ p.number = ap (λ (y : HistoryEntry). y.pass) (sym last) ∙ can.number in
                       numbered b.passes kept.place (set s.groups j g') placed x.pass (omega arith)
                 ];
             mine = each_moved (λ q. entries_by q.number s.history ≡ q.mine) (λ q. entries_by q.number (s.history ++ line ∷ []) ≡ q.mine) s.groups j g g' f can.at refl old.mine

@@ -1,7 +1,7 @@
 -- Marks that answers leave, and beginnings of beginnings.
 use Rattle.std.proofs.Common.{◌≡◌, ℕ, ◌+◌, ◌≤◌, true, false, List, [], ◌∷◌, ◌++◌, length, length-append, append_assoc, subst, refl, sym, ap, ◌∙◌, arith, Result, Ok, Err}
 use Rattle.nvm_record.specs.Step.{Operation}
-use Rattle.nvm_store.specs.Line.{Line}
+use Rattle.nvm_store.specs.HistoryEntry.{HistoryEntry}
 use Rattle.nvm_unit.specs.declared.replies.Changed.{Changed}
 use Rattle.nvm_unit.specs.declared.replies.Changed.TheVariants.{Done, Failed, NoMemory, Full}
 use Rattle.nvm_unit.specs.declared.replies.Observed.{Observed}
@@ -10,11 +10,11 @@ use Rattle.nvm_unit.specs.declared.replies.ObserveFault.TheVariants as observe_f
 use Rattle.nvm_unit.specs.declared.views.PassView.{PassView}
 use Rattle.nvm_unit.specs.Marks.{point_of, entries_after, mine_after, point_of_look, HasMarked, HasKeptMarks}
 use Rattle.nvm_unit.specs.Passes.{Finds}
-use Rattle.nvm_unit.specs.Replies.{Makes, Observes, IsBroughtUp, Meet, line_of}
+use Rattle.nvm_unit.specs.Replies.{Makes, Observes, IsBroughtUp, Meet, entry_of_job}
 use Rattle.nvm_unit.specs.Views.{Begins, shown, added}
 use Rattle.nvm_unit.proofs.Histories.{begins_more, begins_length}
 
-shown_marks : (n : ℕ) (p : PassView) (history : List Line) → Finds (length history) p history → n ≡ length history → HasMarked n p (shown true (length history) history p)
+shown_marks : (n : ℕ) (p : PassView) (history : List HistoryEntry) → Finds (length history) p history → n ≡ length history → HasMarked n p (shown true (length history) history p)
 shown_marks n p history finds is =
     let floor : p.floor ≤ length history = finds.floor in
     let within : length p.seen ≤ length history = begins_length p.seen history finds.seen in
@@ -26,7 +26,7 @@ shown_marks n p history finds is =
       within = omega arith;
     }
 
-added_marks : (n : ℕ) (p : PassView) (history : List Line) (line : Line) → Finds (length history) p history → n ≡ length history → HasMarked n p (added (length history) history line p)
+added_marks : (n : ℕ) (p : PassView) (history : List HistoryEntry) (line : HistoryEntry) → Finds (length history) p history → n ≡ length history → HasMarked n p (added (length history) history line p)
 added_marks n p history line finds is =
     let floor : p.floor ≤ length history = finds.floor in
     let within : length p.seen ≤ length history = begins_length p.seen history finds.seen in
@@ -40,18 +40,18 @@ added_marks n p history line finds is =
 
 pub change_marks : (changed : Changed) (p q : PassView) (job : ℕ) (op : Operation) → Makes changed p job op q → HasMarked (point_of changed) p q
 change_marks (Done place) p q job op makes =
-    subst (HasMarked place p) (sym makes.3) (added_marks place p makes.0 (line_of p job op) makes.1 makes.2.0)
+    subst (HasMarked place p) (sym makes.3) (added_marks place p makes.0 (entry_of_job p job op) makes.1 makes.2.0)
 change_marks (Failed n statuses) p q job op makes = subst (HasMarked n p) (sym makes.3) (shown_marks n p makes.0 makes.1 makes.2.0)
 change_marks (NoMemory n) p q job op makes = subst (HasMarked n p) (sym makes.3) (shown_marks n p makes.0 makes.1 makes.2.0)
 change_marks (Full n) p q job op makes = subst (HasMarked n p) (sym makes.3) (shown_marks n p makes.0 makes.1 makes.2.0)
 
-shown_length : (n : ℕ) (p q : PassView) (history : List Line) → q ≡ shown true (length history) history p → n ≡ length history → length q.seen ≡ n
+shown_length : (n : ℕ) (p q : PassView) (history : List HistoryEntry) → q ≡ shown true (length history) history p → n ≡ length history → length q.seen ≡ n
 shown_length n p q history is same = ap (λ (x : PassView). length x.seen) is ∙ sym same
 
 pub change_entries : (changed : Changed) (p q : PassView) (job : ℕ) (op : Operation) → Makes changed p job op q → length q.seen ≡ entries_after changed
 change_entries (Done place) p q job op makes =
     let same : place ≡ length makes.0 = makes.2.0 in
-    let one : length (makes.0 ++ line_of p job op ∷ []) ≡ place + 1 = omega (arith, length-append makes.0 (line_of p job op ∷ [])) in
+    let one : length (makes.0 ++ entry_of_job p job op ∷ []) ≡ place + 1 = omega (arith, length-append makes.0 (entry_of_job p job op ∷ [])) in
     ap (λ (x : PassView). length x.seen) makes.3 ∙ one
 change_entries (Failed n statuses) p q job op makes = shown_length n p q makes.0 makes.3 makes.2.0
 change_entries (NoMemory n) p q job op makes = shown_length n p q makes.0 makes.3 makes.2.0
@@ -59,7 +59,7 @@ change_entries (Full n) p q job op makes = shown_length n p q makes.0 makes.3 ma
 
 pub change_mine : (changed : Changed) (p q : PassView) (job : ℕ) (op : Operation) → Makes changed p job op q → q.mine ≡ mine_after changed p job op
 change_mine (Done place) p q job op makes =
-    ap (λ (x : PassView). x.mine) makes.3 ∙ ap (λ (k : ℕ). p.mine ++ (k, line_of p job op) ∷ []) (sym makes.2.0)
+    ap (λ (x : PassView). x.mine) makes.3 ∙ ap (λ (k : ℕ). p.mine ++ (k, entry_of_job p job op) ∷ []) (sym makes.2.0)
 change_mine (Failed n statuses) p q job op makes = ap (λ (x : PassView). x.mine) makes.3
 change_mine (NoMemory n) p q job op makes = ap (λ (x : PassView). x.mine) makes.3
 change_mine (Full n) p q job op makes = ap (λ (x : PassView). x.mine) makes.3
@@ -76,7 +76,7 @@ look_entries (Err (observe_fault.NoMemory n)) p q op observes = shown_length n p
 pub look_mine : (answer : Result Observed ObserveFault) (p q : PassView) (op : Operation) → Observes answer p op q → q.mine ≡ p.mine
 look_mine answer p q op observes = ap (λ (x : PassView). x.mine) observes.3
 
-kept_marks : (p q : PassView) (history : List Line) → Finds (length history) p history → q ≡ shown false (length history) history p → HasKeptMarks p q
+kept_marks : (p q : PassView) (history : List HistoryEntry) → Finds (length history) p history → q ≡ shown false (length history) history p → HasKeptMarks p q
 kept_marks p q history finds is =
     subst (HasKeptMarks p) (sym is) (record { marks = refl; mine = refl; floor = refl; above = finds.floor; seen = finds.seen })
 
@@ -90,12 +90,12 @@ meeting p o q r meet = (
   ap (λ (x : PassView). x.seen) meet.3 ∙ sym (ap (λ (x : PassView). x.seen) meet.4),
 )
 
-pub begins_further : (a b c : List Line) → Begins a b → Begins b c → Begins a c
+pub begins_further : (a b c : List HistoryEntry) → Begins a b → Begins b c → Begins a c
 begins_further a b c first then_ =
-    (first.0 ++ then_.0, then_.1 ∙ (ap (λ (x : List Line). x ++ then_.0) first.1 ∙ append_assoc a first.0 then_.0))
+    (first.0 ++ then_.0, then_.1 ∙ (ap (λ (x : List HistoryEntry). x ++ then_.0) first.1 ∙ append_assoc a first.0 then_.0))
 
 -- Of two that begin one history, the shorter begins the longer.
-pub shorter_begins : (a b history : List Line) → Begins a history → Begins b history → length a ≤ length b → Begins a b
+pub shorter_begins : (a b history : List HistoryEntry) → Begins a history → Begins b history → length a ≤ length b → Begins a b
 shorter_begins [] b history first second le = (b, refl)
 shorter_begins (x ∷ xs) [] history first second le = absurd (omega arith)
 shorter_begins (x ∷ xs) (y ∷ ys) history first second le =
@@ -103,4 +103,4 @@ shorter_begins (x ∷ xs) (y ∷ ys) history first second le =
     let head : x ≡ y = cc in
     let tail : xs ++ first.0 ≡ ys ++ second.0 = cc in
     let rest : Begins xs ys = shorter_begins xs ys (xs ++ first.0) (first.0, refl) (second.0, tail) (omega arith) in
-    (rest.0, ap (λ (l : Line). l ∷ ys) (sym head) ∙ ap (λ (ls : List Line). x ∷ ls) rest.1)
+    (rest.0, ap (λ (l : HistoryEntry). l ∷ ys) (sym head) ∙ ap (λ (ls : List HistoryEntry). x ∷ ls) rest.1)

@@ -3,7 +3,7 @@ use Rattle.std.proofs.Common.{◌≡◌, ℕ, ◌+◌, ◌*◌, ◌<◌, List, [
 use mathlib.Core.Option.{some}
 use Rattle.atomic_table.specs.Table.{Step, gives, Allows}
 use Rattle.std.proofs.lemmas.List.{get_or_push}
-use Rattle.nvm_store.specs.Line.{Line}
+use Rattle.nvm_store.specs.HistoryEntry.{HistoryEntry}
 use Rattle.nvm_store.specs.History.{CanFollow}
 use Rattle.nvm_unit.specs.declared.bounds.Bounds.{Bounds}
 use Rattle.nvm_unit.specs.declared.views.PassView.{PassView}
@@ -11,7 +11,7 @@ use Rattle.nvm_unit.specs.declared.views.Group.{Group}
 use Rattle.nvm_unit.specs.Views.{shown, added}
 use Rattle.nvm_unit.specs.Machine.{UnitState, IsAt, RestsAs, IsHand}
 use Rattle.nvm_unit.specs.Events.{IsAct, adds, returns, Happens, IsReached, number_found, idle, CanStep, CanAdd, after_put, after_return}
-use Rattle.nvm_unit.specs.Knowledge.{IsKept}
+use Rattle.nvm_unit.specs.Knowledge.{IsKnown}
 use Rattle.nvm_unit.specs.Book.{recorded}
 use Rattle.nvm_unit.specs.Rule.{slots_of, IsRuled}
 use Rattle.nvm_unit.specs.Plays.{Sits, resting, holding, EachIn, puts, CanReturn, CanAppend}
@@ -22,7 +22,7 @@ use Rattle.nvm_unit.proofs.Lists.{at_below}
 use Rattle.nvm_unit.proofs.Reaching.{ruled_after}
 use Rattle.nvm_unit.proofs.Allowed.{Slot, Deciding, Goes, same_table, allowed}
 
-abbrev held_or : Option (List Line) → List Line
+abbrev held_or : Option (List HistoryEntry) → List HistoryEntry
 held_or None = []
 held_or (Some h) = h
 
@@ -30,12 +30,12 @@ abbrev book_or : List (ℕ × Slot) → Slot
 book_or [] = None
 book_or (x ∷ xs) = x.1
 
-abbrev pages_or : Slot → List Line
+abbrev pages_or : Slot → List HistoryEntry
 pages_or None = []
 pages_or (Some book) = book.history
 
 -- What the holder holds is the history, and the slot is out.
-holder_is : (b : Bounds) (s : UnitState) → IsKept b s → (id : ℕ) (ps : List PassView) (h : List Line) → IsAt s.groups id (record { passes = ps; held = Some h })
+holder_is : (b : Bounds) (s : UnitState) → IsKnown b s → (id : ℕ) (ps : List PassView) (h : List HistoryEntry) → IsAt s.groups id (record { passes = ps; held = Some h })
     → (s.holder ≡ Some id) × (h ≡ s.history) × (s.word ≡ 2 * length s.history + 1) × (s.slot ≡ None)
 holder_is b s kept id ps h at =
     let hand : IsHand s.holder s.history id (Some h) = kept.sound.hold.others id (record { passes = ps; held = Some h }) at in
@@ -46,20 +46,20 @@ holder_is b s kept id ps h at =
 abbrev held_passes : Sits → List PassView
 held_passes m = m.0.passes
 
-abbrev held_history : Sits → List Line
+abbrev held_history : Sits → List HistoryEntry
 held_history m = held_or m.0.held
 
 -- The passes of a group say what is settled of the unit.
-bounds_same : (b b' : Bounds) (s : UnitState) → IsKept b s → (id : ℕ) (ps : List PassView) (h : List Line) → IsAt s.groups id (record { passes = ps; held = Some h })
+bounds_same : (b b' : Bounds) (s : UnitState) → IsKnown b s → (id : ℕ) (ps : List PassView) (h : List HistoryEntry) → IsAt s.groups id (record { passes = ps; held = Some h })
     → 0 < length ps → EachIn (λ p. p.bounds ≡ b') ps → b' ≡ b
 bounds_same b b' s kept id [] h at filled each = absurd (omega arith)
 bounds_same b b' s kept id (p ∷ ps) h at filled each =
     sym (each 0 p refl) ∙ (kept.knows id 0 p (record { group = record { passes = p ∷ ps; held = Some h }; at = at; inside = refl })).bounds
 
 -- A store that puts the unit back as it was.
-return_goes : (decides : Deciding) (st : Step Slot) (b b' : Bounds) (id entries : ℕ) (ps : List PassView) (h : List Line) → st.first ≡ 2 * entries → entries ≡ length h
+return_goes : (decides : Deciding) (st : Step Slot) (b b' : Bounds) (id entries : ℕ) (ps : List PassView) (h : List HistoryEntry) → st.first ≡ 2 * entries → entries ≡ length h
     → 0 < length ps → EachIn (λ p. p.bounds ≡ b') ps → (decides (2 * length h + 1) ≡ true → length ps ≡ 1)
-    → (s : UnitState) → IsKept b s → IsReached b s → IsAt s.groups id (record { passes = ps; held = Some h })
+    → (s : UnitState) → IsKnown b s → IsReached b s → IsAt s.groups id (record { passes = ps; held = Some h })
     → Goes b s id (holding ps h (Some (recorded b' h))) (λ word. puts decides st (holding ps h (Some (recorded b' h))) word) (2 * entries)
 return_goes decides st b b' id entries ps h first count filled bounds alone s kept reached at =
     let x : Slot = Some (recorded b' h) in
@@ -76,11 +76,11 @@ return_goes decides st b b' id entries ps h first count filled bounds alone s ke
     let home : s.slot ≡ None = is.3 in
     let of_unit : b' ≡ b = bounds_same b b' s kept id ps h at filled bounds in
     let homes : set (slots_of b s.slot) 0 (some x) ≡ slots_of b (Some h) =
-    ap (λ (o : Option (List Line)). set (slots_of b o) 0 (some x)) home
+    ap (λ (o : Option (List HistoryEntry)). set (slots_of b o) 0 (some x)) home
     ∙ ap (λ (y : Bounds). some (let z : Slot = Some (recorded y h) in z) ∷ []) of_unit in
     let views : set s.groups id w ≡ t.groups =
     ap (λ (k : ℕ). set s.groups id (idle (map (shown d k h) ps))) (long ∙ sym now)
-    ∙ ap (λ (y : List Line). set s.groups id (idle (map (shown d n y) ps))) here in
+    ∙ ap (λ (y : List HistoryEntry). set s.groups id (idle (map (shown d n y) ps))) here in
     let twice : 2 * entries ≡ 2 * n = omega arith in (
       w,
       gives,
@@ -92,7 +92,7 @@ return_goes decides st b b' id entries ps h first count filled bounds alone s ke
         λ ps' history book same count'.
             let same_ps : ps ≡ ps' = ap held_passes same in
             let same_history : h ≡ history = ap held_history same in
-            ap (λ (y : List Line). resting (map (shown (decides (2 * length y + 1)) (length y) y) ps)) same_history
+            ap (λ (y : List HistoryEntry). resting (map (shown (decides (2 * length y + 1)) (length y) y) ps)) same_history
             ∙ ap (λ (y : List PassView). resting (map (shown (decides (2 * length history + 1)) (length history) history) y)) same_ps,
         λ p history line same count'.
             let same_length : length h ≡ length history = ap (λ (y : Sits). length (held_history y)) same in
@@ -114,7 +114,7 @@ return_goes decides st b b' id entries ps h first count filled bounds alone s ke
       ),
     )
 
-pub return_allowed : (decides : Deciding) (st : Step Slot) (b b' : Bounds) (slots id entries : ℕ) (m : Sits) (ps : List PassView) (h : List Line) → st.first ≡ 2 * entries
+pub return_allowed : (decides : Deciding) (st : Step Slot) (b b' : Bounds) (slots id entries : ℕ) (m : Sits) (ps : List PassView) (h : List HistoryEntry) → st.first ≡ 2 * entries
     → CanReturn decides entries m ps h b' → Allows (IsRuled b) slots id m 0 (λ _. 2 * entries) (λ _. puts decides st m (2 * entries))
 return_allowed decides st b b' slots id entries m ps h first can =
     let at : Sits = holding ps h (Some (recorded b' h)) in
@@ -123,9 +123,9 @@ return_allowed decides st b b' slots id entries m ps h first can =
     (return_goes decides st b b' id entries ps h first can.count can.filled can.bounds can.alone))
 
 -- A store that puts the unit back with one entry more.
-append_goes : FollowsLawfully → (decides : Deciding) (st : Step Slot) (b : Bounds) (id entries : ℕ) (p : PassView) (h : List Line) (line : Line) → st.first ≡ 2 * entries → entries ≡ length h + 1
+append_goes : FollowsLawfully → (decides : Deciding) (st : Step Slot) (b : Bounds) (id entries : ℕ) (p : PassView) (h : List HistoryEntry) (line : HistoryEntry) → st.first ≡ 2 * entries → entries ≡ length h + 1
     → IsAct line.operation.deed → line.pass ≡ p.number → CanFollow p.bounds.place.first p.bounds.place.blocks p.bounds.place.size h line → length h < p.bounds.limit
-    → (s : UnitState) → IsKept b s → IsReached b s → IsAt s.groups id (record { passes = p ∷ []; held = Some h })
+    → (s : UnitState) → IsKnown b s → IsReached b s → IsAt s.groups id (record { passes = p ∷ []; held = Some h })
     → Goes b s id (holding (p ∷ []) h (Some (recorded p.bounds (h ++ line ∷ [])))) (λ word. puts decides st (holding (p ∷ []) h (Some (recorded p.bounds (h ++ line ∷ [])))) word) (2 * entries)
 append_goes law decides st b id entries p h line first count act number follows room s kept reached at =
     let x : Slot = Some (recorded p.bounds (h ++ line ∷ [])) in
@@ -137,7 +137,7 @@ append_goes law decides st b id entries p h line first count act number follows 
     let long : length h ≡ length s.history = ap length here in
     let of_unit : p.bounds ≡ b = (kept.knows id 0 p (record { group = g; at = at; inside = refl })).bounds in
     let follows_here : CanFollow b.place.first b.place.blocks b.place.size s.history line =
-    subst (λ (y : List Line). CanFollow b.place.first b.place.blocks b.place.size y line) here
+    subst (λ (y : List HistoryEntry). CanFollow b.place.first b.place.blocks b.place.size y line) here
     (subst (λ (y : Bounds). CanFollow y.place.first y.place.blocks y.place.size h line) of_unit follows) in
     let room_here : length h < b.limit = subst (λ (y : Bounds). length h < y.limit) of_unit room in
     let can : CanAdd b s id p h line = record { at = at; holds = is.0; act = act; number = number; follows = follows_here; room = (omega arith) } in
@@ -145,11 +145,11 @@ append_goes law decides st b id entries p h line first count act number follows 
     let t = after_put s id p h line in
     let home : s.slot ≡ None = is.3 in
     let homes : set (slots_of b s.slot) 0 (some x) ≡ slots_of b (Some (h ++ line ∷ [])) =
-    ap (λ (o : Option (List Line)). set (slots_of b o) 0 (some x)) home
+    ap (λ (o : Option (List HistoryEntry)). set (slots_of b o) 0 (some x)) home
     ∙ ap (λ (y : Bounds). some (let z : Slot = Some (recorded y (h ++ line ∷ [])) in z) ∷ []) of_unit in
     let views : set s.groups id w ≡ t.groups =
     ap (λ (k : ℕ). set s.groups id (idle (added k h line p ∷ []))) (long ∙ sym now)
-    ∙ ap (λ (y : List Line). set s.groups id (idle (added n y line p ∷ []))) here in
+    ∙ ap (λ (y : List HistoryEntry). set s.groups id (idle (added n y line p ∷ []))) here in
     let twice : 2 * entries ≡ 2 * n + 2 = omega arith in (
       w,
       gives,
@@ -166,11 +166,11 @@ append_goes law decides st b id entries p h line first count act number follows 
             let same_pass : p ≡ p' = cc in
             let same_history : h ≡ history = ap held_history same in
             let pages : h ++ line ∷ [] ≡ history ++ line' ∷ [] = ap (λ (y : Sits). pages_or (book_or y.1)) same in
-            let pages_here : h ++ line ∷ [] ≡ h ++ line' ∷ [] = pages ∙ ap (λ (y : List Line). y ++ line' ∷ []) (sym same_history) in
+            let pages_here : h ++ line ∷ [] ≡ h ++ line' ∷ [] = pages ∙ ap (λ (y : List HistoryEntry). y ++ line' ∷ []) (sym same_history) in
             let same_line : line ≡ line' =
-            sym (get_or_push h line line (length h) refl) ∙ (ap (λ (y : List Line). get_or y (length h) line) pages_here ∙ get_or_push h line' line (length h) refl) in
-            ap (λ (y : List Line). resting (added (length y) y line p ∷ [])) same_history
-            ∙ (ap (λ (y : Line). resting (added (length history) history y p ∷ [])) same_line
+            sym (get_or_push h line line (length h) refl) ∙ (ap (λ (y : List HistoryEntry). get_or y (length h) line) pages_here ∙ get_or_push h line' line (length h) refl) in
+            ap (λ (y : List HistoryEntry). resting (added (length y) y line p ∷ [])) same_history
+            ∙ (ap (λ (y : HistoryEntry). resting (added (length history) history y p ∷ [])) same_line
             ∙ ap (λ (y : PassView). resting (added (length history) history line' y ∷ [])) same_pass),
         (
           s.word,
@@ -192,7 +192,7 @@ append_goes law decides st b id entries p h line first count act number follows 
       ),
     )
 
-pub append_allowed : FollowsLawfully → (decides : Deciding) (st : Step Slot) (b : Bounds) (slots id entries : ℕ) (m : Sits) (p : PassView) (h : List Line) (line : Line) → st.first ≡ 2 * entries
+pub append_allowed : FollowsLawfully → (decides : Deciding) (st : Step Slot) (b : Bounds) (slots id entries : ℕ) (m : Sits) (p : PassView) (h : List HistoryEntry) (line : HistoryEntry) → st.first ≡ 2 * entries
     → CanAppend entries m p h line → Allows (IsRuled b) slots id m 0 (λ _. 2 * entries) (λ _. puts decides st m (2 * entries))
 append_allowed law decides st b slots id entries m p h line first can =
     let at : Sits = holding (p ∷ []) h (Some (recorded p.bounds (h ++ line ∷ []))) in

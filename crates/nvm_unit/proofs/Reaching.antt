@@ -6,7 +6,7 @@ use Rattle.nvm_unit.specs.declared.views.Group.{Group}
 use Rattle.nvm_unit.specs.Book.{Recorded}
 use Rattle.nvm_unit.specs.Machine.{UnitState, opening_state}
 use Rattle.nvm_unit.specs.Events.{Event, Happens, Lead, IsReached}
-use Rattle.nvm_unit.specs.Knowledge.{IsKept}
+use Rattle.nvm_unit.specs.Knowledge.{IsKnown}
 use Rattle.nvm_unit.specs.Rule.{table_of, IsRuled}
 
 -- One event more leads on.
@@ -17,7 +17,7 @@ lead_more b s (first ∷ events) t event u leads happens = (leads.0, leads.1, le
 
 -- The table shows what one event more leads to.
 pub ruled_after : (b : Bounds) (s t : UnitState) (event : Event) (table : State (Option Recorded) Group) → IsReached b s → Happens b s event t
-    → table ≡ table_of b t → IsKept b t → IsRuled b table
+    → table ≡ table_of b t → IsKnown b t → IsRuled b table
 ruled_after b s t event table reached happens shows kept =
     (t, shows, kept, (reached.0 ++ event ∷ [], lead_more b (opening_state b) reached.0 s event t reached.1 happens))
 

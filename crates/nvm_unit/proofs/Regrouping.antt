@@ -1,19 +1,19 @@
 -- Groups that are joined or cut in two keep what is known of the unit.
 use Rattle.std.proofs.Common.{◌≡◌, ◌≢◌, ℕ, ◌≤◌, List, [], ◌∷◌, ◌++◌, length, take, drop, set, subst, refl, ap, ◌∙◌, inl, inr, Option, Some, None}
 use Rattle.atomic_table.proofs.Lists.{at_set, set_else, at_snoc, at_longer}
-use Rattle.nvm_store.specs.Line.{Line}
+use Rattle.nvm_store.specs.HistoryEntry.{HistoryEntry}
 use Rattle.nvm_unit.specs.declared.bounds.Bounds.{Bounds}
 use Rattle.nvm_unit.specs.declared.views.PassView.{PassView}
 use Rattle.nvm_unit.specs.declared.views.Group.{Group}
 use Rattle.nvm_unit.specs.Views.{Begins, entries_by, RiseWithin}
 use Rattle.nvm_unit.specs.Machine.{UnitState, IsAt, IsHand}
 use Rattle.nvm_unit.specs.Events.{idle, after_join, after_split}
-use Rattle.nvm_unit.specs.Knowledge.{ArePlaced, Knows, IsKept}
+use Rattle.nvm_unit.specs.Knowledge.{ArePlaced, Knows, IsKnown}
 use Rattle.nvm_unit.proofs.Lists.{at_one}
 use Rattle.nvm_unit.proofs.Groups.{numbered, numbered_below, AreRearranged, each_rearranged, placed_rearranged, moves_joined, moves_split, joined, cut}
 
-module _ (b : Bounds) (s : UnitState) (kept : IsKept b s) where
-  hand_found : (k : ℕ) (held : Option (List Line)) → ((h : List Line) → held ≡ Some h → IsHand s.holder s.history k (Some h)) → IsHand s.holder s.history k held
+module _ (b : Bounds) (s : UnitState) (kept : IsKnown b s) where
+  hand_found : (k : ℕ) (held : Option (List HistoryEntry)) → ((h : List HistoryEntry) → held ≡ Some h → IsHand s.holder s.history k (Some h)) → IsHand s.holder s.history k held
   hand_found k None hand = tt
   hand_found k (Some h) hand = hand h refl
 
@@ -26,9 +26,9 @@ module _ (b : Bounds) (s : UnitState) (kept : IsKept b s) where
 
   -- Groups that were joined or cut, where those that hold something are the same.
   keeps_rearranged : (moves : ℕ × ℕ → ℕ × ℕ) (groups : List Group) → AreRearranged moves s.groups groups
-      → ((m : ℕ) (g : Group) (held : List Line) → IsAt groups m g → g.held ≡ Some held → IsAt s.groups m g)
+      → ((m : ℕ) (g : Group) (held : List HistoryEntry) → IsAt groups m g → g.held ≡ Some held → IsAt s.groups m g)
       → ((m : ℕ) (g : Group) → IsAt s.groups m g → g.held ≡ Some s.history → IsAt groups m g)
-      → IsKept b (record s { groups = groups })
+      → IsKnown b (record s { groups = groups })
   keeps_rearranged moves groups re before after =
       let hold = kept.sound.hold in
       let old = kept.sound.marks in
@@ -40,7 +40,7 @@ module _ (b : Bounds) (s : UnitState) (kept : IsKept b s) where
             within = hold.within;
             rests = hold.rests;
             holder = λ k is. let g = hold.holder k is in (g.0, after k g.0 g.1 g.2, g.2);
-            others = λ k g at. hand_found k g.held (λ held is. subst (λ (x : Option (List Line)). IsHand s.holder s.history k x) is (hold.others k g (before k g held at is)));
+            others = λ k g at. hand_found k g.held (λ held is. subst (λ (x : Option (List HistoryEntry)). IsHand s.holder s.history k x) is (hold.others k g (before k g held at is)));
             seen = each_rearranged (λ p. Begins p.seen s.history) moves s.groups groups re hold.seen;
           };
           marks = record {
@@ -59,7 +59,7 @@ module _ (b : Bounds) (s : UnitState) (kept : IsKept b s) where
       }
 
   -- Passes that don't step stay as they were.
-  pub keeps_join : (j k : ℕ) (ps qs : List PassView) → IsAt s.groups j (idle ps) → IsAt s.groups k (idle qs) → j ≢ k → IsKept b (after_join s j k ps qs)
+  pub keeps_join : (j k : ℕ) (ps qs : List PassView) → IsAt s.groups j (idle ps) → IsAt s.groups k (idle qs) → j ≢ k → IsKnown b (after_join s j k ps qs)
   keeps_join j k ps qs at_j at_k apart =
       let both : Group = idle (ps ++ qs) in
       let groups : List Group = set (set s.groups j both) k (idle []) in
@@ -78,7 +78,7 @@ module _ (b : Bounds) (s : UnitState) (kept : IsKept b s) where
       let away_j : m ≢ j = idle_apart j m ps g at_j g_at is in
       set_else (set s.groups j both) k m (idle []) away_k ∙ (set_else s.groups j m both away_j ∙ g_at))
 
-  pub keeps_split : (j first : ℕ) (ps : List PassView) → IsAt s.groups j (idle ps) → IsKept b (after_split s j first ps)
+  pub keeps_split : (j first : ℕ) (ps : List PassView) → IsAt s.groups j (idle ps) → IsKnown b (after_split s j first ps)
   keeps_split j first ps at_j =
       let left : Group = idle (take first ps) in
       let right : Group = idle (drop first ps) in

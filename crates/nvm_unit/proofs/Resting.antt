@@ -10,7 +10,7 @@ use Rattle.nvm_store.specs.declared.answers.Answer.{Answer}
 use Rattle.nvm_store.specs.declared.answers.Answer.TheVariants.{Payload, Status}
 use Rattle.nvm_store.specs.Answer.{IsAnswer}
 use Rattle.nvm_store.specs.History.{replay_of}
-use Rattle.nvm_store.specs.Line.{Line}
+use Rattle.nvm_store.specs.HistoryEntry.{HistoryEntry}
 use Rattle.nvm_store.specs.Pair.{FailsOn}
 use Rattle.nvm_store.specs.Point.{point, RestsOn}
 use Rattle.nvm_unit.specs.declared.replies.Changed.{Changed}
@@ -19,23 +19,23 @@ use Rattle.nvm_unit.specs.declared.replies.Observed.{Observed}
 use Rattle.nvm_unit.specs.declared.replies.ObserveFault.{ObserveFault}
 use Rattle.nvm_unit.specs.declared.views.PassView.{PassView}
 use Rattle.nvm_unit.specs.Machine.{IsAt}
-use Rattle.nvm_unit.specs.Replies.{AnswersChange, AnswersLook, Makes, Observes, pass_after, line_of, told_by, read_by}
+use Rattle.nvm_unit.specs.Replies.{AnswersChange, AnswersLook, Makes, Observes, pass_after, entry_of_job, told_by, read_by}
 use Rattle.nvm_unit.specs.Views.{Begins}
 use Rattle.atomic_table.proofs.Lists.{at_longer, at_last}
 
 -- The replay of what a history begins with is a point of it.
-point_at : (size : ℕ) (begin history : List Line) → Begins begin history → point size history (length begin) ≡ replay_of size begin
+point_at : (size : ℕ) (begin history : List HistoryEntry) → Begins begin history → point size history (length begin) ≡ replay_of size begin
 point_at size begin history begins =
-    ap (λ (x : List Line). replay_of size (take (length begin) x)) begins.1 ∙ ap (replay_of size) (take-append_seam begin begins.0)
+    ap (λ (x : List HistoryEntry). replay_of size (take (length begin) x)) begins.1 ∙ ap (replay_of size) (take-append_seam begin begins.0)
 
-begins_below : (begin history : List Line) → Begins begin history → length begin ≤ length history
+begins_below : (begin history : List HistoryEntry) → Begins begin history → length begin ≤ length history
 begins_below begin history begins = omega (arith, ap length begins.1, length-append begin begins.0)
 
-begins_front : (begin more history : List Line) → Begins (begin ++ more) history → Begins begin history
+begins_front : (begin more history : List HistoryEntry) → Begins (begin ++ more) history → Begins begin history
 begins_front begin more history begins = (more ++ begins.0, begins.1 ∙ append_assoc begin more begins.0)
 
 -- What a step found begins what its pass has seen then.
-found_begins : (changed : Changed) (found : List Line) (line : Line) (p q : PassView) (history : List Line) → q ≡ pass_after changed found line p
+found_begins : (changed : Changed) (found : List HistoryEntry) (line : HistoryEntry) (p q : PassView) (history : List HistoryEntry) → q ≡ pass_after changed found line p
     → Begins q.seen history → Begins found history
 found_begins (Done place) found line p q history is begins =
     begins_front found (line ∷ []) history (subst (λ (x : PassView). Begins x.seen history) is begins)
@@ -43,24 +43,24 @@ found_begins (Failed n statuses) found line p q history is begins = subst (λ (x
 found_begins (NoMemory n) found line p q history is begins = subst (λ (x : PassView). Begins x.seen history) is begins
 found_begins (Full n) found line p q history is begins = subst (λ (x : PassView). Begins x.seen history) is begins
 
-pub change_rests : (changed : Changed) (p q : PassView) (job : ℕ) (op : Operation) (history : List Line) → Makes changed p job op q → Begins q.seen history
+pub change_rests : (changed : Changed) (p q : PassView) (job : ℕ) (op : Operation) (history : List HistoryEntry) → Makes changed p job op q → Begins q.seen history
     → (n : ℕ) × (n ≤ length history) × AnswersChange changed n p.bounds.limit op (point p.bounds.place.size history n)
 change_rests changed p q job op history makes begins =
     let found = makes.0 in
-    let front = found_begins changed found (line_of p job op) p q history makes.3 begins in (
+    let front = found_begins changed found (entry_of_job p job op) p q history makes.3 begins in (
       length found,
       begins_below found history front,
       subst (λ (x : Medium). AnswersChange changed (length found) p.bounds.limit op x) (sym (point_at p.bounds.place.size found history front)) makes.2,
     )
 
-pub done_stands : (place : ℕ) (p q : PassView) (job : ℕ) (op : Operation) (history : List Line) → Makes (Done place) p job op q → Begins q.seen history
-    → IsAt history place (line_of p job op)
+pub done_stands : (place : ℕ) (p q : PassView) (job : ℕ) (op : Operation) (history : List HistoryEntry) → Makes (Done place) p job op q → Begins q.seen history
+    → IsAt history place (entry_of_job p job op)
 done_stands place p q job op history makes begins =
     let found = makes.0 in
-    let line = line_of p job op in
+    let line = entry_of_job p job op in
     let seen : Begins (found ++ line ∷ []) history = subst (λ (x : PassView). Begins x.seen history) makes.3 begins in
     let last : IsAt (found ++ line ∷ []) place line = at_last found line place (sym makes.2.0) in
-    subst (λ (x : List Line). IsAt x place line) (sym seen.1) (at_longer (found ++ line ∷ []) seen.0 place line last)
+    subst (λ (x : List HistoryEntry). IsAt x place line) (sym seen.1) (at_longer (found ++ line ∷ []) seen.0 place line last)
 
 -- A pair reads nothing.
 fails_without_data : (blocks : List Block) (deed : Deed) → FailsOn blocks deed → data_on blocks deed ≡ None
@@ -71,7 +71,7 @@ fails_without_data blocks reads fails = absurd fails
 fails_without_data blocks (compares payload) fails = absurd fails
 fails_without_data blocks (pairs compare write) fails = refl
 
-pub failed_rests : (n : ℕ) (statuses : Statuses) (p q : PassView) (job : ℕ) (op : Operation) (history : List Line) → Makes (Failed n statuses) p job op q → Begins q.seen history
+pub failed_rests : (n : ℕ) (statuses : Statuses) (p q : PassView) (job : ℕ) (op : Operation) (history : List HistoryEntry) → Makes (Failed n statuses) p job op q → Begins q.seen history
     → RestsOn p.bounds.place.size history n op statuses None
 failed_rests n statuses p q job op history makes begins =
     let rests = change_rests (Failed n statuses) p q job op history makes begins in
@@ -85,7 +85,7 @@ failed_rests n statuses p q job op history makes begins =
       payload = sym (fails_without_data (range_of op m) op.deed answers.1) ∙ ap (λ (k : ℕ). data_of op (point p.bounds.place.size history k)) same;
     }
 
-pub look_rests : (answer : Result Observed ObserveFault) (p q : PassView) (op : Operation) (history : List Line) → Observes answer p op q → Begins q.seen history
+pub look_rests : (answer : Result Observed ObserveFault) (p q : PassView) (op : Operation) (history : List HistoryEntry) → Observes answer p op q → Begins q.seen history
     → (n : ℕ) × (n ≤ length history) × AnswersLook answer n op (point p.bounds.place.size history n)
 look_rests answer p q op history observes begins =
     let found = observes.0 in
@@ -99,7 +99,7 @@ answer_told : (op : Operation) (m : Medium) (a : Answer) → IsAnswer op m a →
 answer_told op m (Payload bytes) is = (sym is.0, sym is.1)
 answer_told op m (Status status) is = (sym is.0, sym is.1)
 
-pub observed_rests : (observed : Observed) (p q : PassView) (op : Operation) (history : List Line) → Observes (Ok observed) p op q → Begins q.seen history
+pub observed_rests : (observed : Observed) (p q : PassView) (op : Operation) (history : List HistoryEntry) → Observes (Ok observed) p op q → Begins q.seen history
     → RestsOn p.bounds.place.size history observed.point op (told_by observed.answer) (read_by observed.answer)
 observed_rests observed p q op history observes begins =
     let rests = look_rests (Ok observed) p q op history observes begins in

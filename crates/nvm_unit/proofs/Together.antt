@@ -1,7 +1,7 @@
 -- Two passes at one seat, which takes the unit and puts it back.
 use Rattle.std.proofs.Common.{◌≡◌, ℕ, zero, suc, ◌≤◌, List, [], ◌∷◌, ◌++◌, length, take, drop, subst, refl, sym, ap, ◌∙◌, arith, false, None}
 use Rattle.nvm_store.specs.Limit.{IsLimit}
-use Rattle.nvm_store.specs.Line.{Line}
+use Rattle.nvm_store.specs.HistoryEntry.{HistoryEntry}
 use Rattle.nvm_unit.specs.declared.bounds.Bounds.{Bounds}
 use Rattle.nvm_unit.specs.declared.views.PassView.{PassView}
 use Rattle.nvm_unit.specs.Book.{Recorded, recorded}
@@ -32,7 +32,7 @@ both_join m m' m'' ps qs is is' both =
     both ∙ (ap (λ (xs : List PassView). resting (xs ++ m'.0.passes)) (passes_are m ps is) ∙ ap (λ (xs : List PassView). resting (ps ++ xs)) (passes_are m' qs is'))
 
 -- The two passes hold the unit, with this history and book.
-pub record HoldTogether (b : Bounds) (h : List Line) (book : Recorded) (p o : PassView) (m : Sits) : Type 0 where
+pub record HoldTogether (b : Bounds) (h : List HistoryEntry) (book : Recorded) (p o : PassView) (m : Sits) : Type 0 where
   pub at : m ≡ holding (looked false (length h) p ∷ looked false (length h) o ∷ []) h None
   pub pages : book ≡ recorded b h
   pub bounds : p.bounds ≡ b
@@ -40,7 +40,7 @@ pub record HoldTogether (b : Bounds) (h : List Line) (book : Recorded) (p o : Pa
   pub finds : Finds (length h) p h
   pub other_finds : Finds (length h) o h
 
-hold_together : (b : Bounds) (h : List Line) (book : Recorded) (p o : PassView) (m' : Sits) → HasHeld b h book (resting (p ∷ o ∷ [])) m' → HoldTogether b h book p o m'
+hold_together : (b : Bounds) (h : List HistoryEntry) (book : Recorded) (p o : PassView) (m' : Sits) → HasHeld b h book (resting (p ∷ o ∷ [])) m' → HoldTogether b h book p o m'
 hold_together b h book p o m' held =
     let fits : Fits b h p = held.fits 0 p refl in
     let other : Fits b h o = held.fits 1 o refl in
@@ -53,7 +53,7 @@ hold_together b h book p o m' held =
       other_finds = finds_of b h o other held.lawful;
     }
 
-pub together : (b : Bounds) (h : List Line) (book : Recorded) (p o : PassView) (m m' : Sits) → m ≡ resting (p ∷ o ∷ []) → HasHeld b h book m m' → HoldTogether b h book p o m'
+pub together : (b : Bounds) (h : List HistoryEntry) (book : Recorded) (p o : PassView) (m m' : Sits) → m ≡ resting (p ∷ o ∷ []) → HasHeld b h book m m' → HoldTogether b h book p o m'
 together b h book p o m m' is held = hold_together b h book p o m' (subst (λ (x : Sits). HasHeld b h book x m') is held)
 
 both_at : (p o q : PassView) (P : PassView → Type 0) (i : ℕ) → P p → P o → IsAt (p ∷ o ∷ []) i q → P q
@@ -61,7 +61,7 @@ both_at p o q P zero here other at = subst P (some-injective p q at) here
 both_at p o q P (suc zero) here other at = subst P (some-injective o q at) other
 both_at p o q P (suc (suc i)) here other at = absurd (some-ne-none q (sym at))
 
-pub both_back : (b : Bounds) (h : List Line) (book : Recorded) (p o : PassView) (m : Sits) → HoldTogether b h book p o m
+pub both_back : (b : Bounds) (h : List HistoryEntry) (book : Recorded) (p o : PassView) (m : Sits) → HoldTogether b h book p o m
     → CanGiveBack (λ _. false) book m (looked false (length h) p ∷ looked false (length h) o ∷ []) h b
 both_back b h book p o m a =
     record {
@@ -72,11 +72,11 @@ both_back b h book p o m a =
       alone = λ e. absurd (cc);
     }
 
-pub both_shown : (b : Bounds) (h : List Line) (book : Recorded) (p o : PassView) (m m' : Sits) → HoldTogether b h book p o m → GivesBack (λ _. false) book m m'
+pub both_shown : (b : Bounds) (h : List HistoryEntry) (book : Recorded) (p o : PassView) (m m' : Sits) → HoldTogether b h book p o m → GivesBack (λ _. false) book m m'
     → m' ≡ resting (shown false (length h) h p ∷ shown false (length h) h o ∷ [])
 both_shown b h book p o m m' a back = back (looked false (length h) p ∷ looked false (length h) o ∷ []) h b a.at a.pages
 
-pub both_few : (b : Bounds) (h : List Line) (book : Recorded) (p o : PassView) (m : Sits) → HoldTogether b h book p o m → IsLimit p.bounds.limit → length book.history ≤ 4194304
+pub both_few : (b : Bounds) (h : List HistoryEntry) (book : Recorded) (p o : PassView) (m : Sits) → HoldTogether b h book p o m → IsLimit p.bounds.limit → length book.history ≤ 4194304
 both_few b h book p o m a limit =
     let pages : length book.history ≡ length h = ap (λ (x : Recorded). length x.history) a.pages in
     let within : length h ≤ p.bounds.limit = a.finds.lawful.within in

@@ -2,7 +2,7 @@
 use Rattle.std.proofs.Common.{◌≡◌, ℕ, ◌/◌, ◌<◌, ◌≤◌, List, [], ◌∷◌, length, map, subst, refl, sym, ap, ◌∙◌, arith, inl, inr, false, Some}
 use Rattle.atomic_table.proofs.Lists.{at_map}
 use Rattle.std.proofs.lemmas.List.{length-map}
-use Rattle.nvm_store.specs.Line.{Line}
+use Rattle.nvm_store.specs.HistoryEntry.{HistoryEntry}
 use Rattle.nvm_unit.specs.declared.bounds.Bounds.{Bounds}
 use Rattle.nvm_unit.specs.declared.views.PassView.{PassView}
 use Rattle.nvm_unit.specs.Views.{looked}
@@ -53,7 +53,7 @@ pub waited_rests : (m m' : Sits) → HasWaited m m' → m.1 ≡ [] → m'.1 ≡ 
 waited_rests m m' (inl same) rests = ap (λ (x : Sits). x.1) same ∙ rests
 waited_rests m m' (inr a) rests = ap (λ (x : Sits). x.1) a.1 ∙ rests
 
-taken_after : (k word : ℕ) (b : Bounds) (history : List Line) (m m'' : Sits) → EachIn (IsNotAbove k) m.0.passes → HasTaken word b history (after_found k m) m'' → HasTaken word b history m m''
+taken_after : (k word : ℕ) (b : Bounds) (history : List HistoryEntry) (m m'' : Sits) → EachIn (IsNotAbove k) m.0.passes → HasTaken word b history (after_found k m) m'' → HasTaken word b history m m''
 taken_after k word b history m m'' before took =
     record {
       found = took.found;

@@ -1,7 +1,7 @@
 -- How a unit begins and ends.
 use Rattle.std.specs.Prelude.{◌≡◌, ℕ, ◌<◌, ◌≤◌, List, map, length}
 use Rattle.atomic_table.specs.Seated.{TableId}
-use Rattle.nvm_store.specs.Line.{Line}
+use Rattle.nvm_store.specs.HistoryEntry.{HistoryEntry}
 use Rattle.nvm_unit.specs.declared.bounds.Bounds.{Bounds}
 use Rattle.nvm_unit.specs.declared.unit_fault.UnitFault.{UnitFault}
 use Rattle.nvm_unit.specs.declared.unit_fault.UnitFault.TheVariants.{Passes, NoMemory}
@@ -16,9 +16,9 @@ abbrev pub IsPassCount : ℕ → Type 0
 IsPassCount count = (0 < count) × (count ≤ 64)
 
 -- why there is no unit with so many passes
-abbrev pub IsFaultOf : ℕ → UnitFault → Type 0
-IsFaultOf count Passes = ¬ IsPassCount count
-IsFaultOf count NoMemory = IsPassCount count
+abbrev pub IsUnitFault : ℕ → UnitFault → Type 0
+IsUnitFault count Passes = ¬ IsPassCount count
+IsUnitFault count NoMemory = IsPassCount count
 
 -- a pass of this table
 abbrev pub pass_at : TableId → PassView → PassState
@@ -42,7 +42,7 @@ pub record AreAllViews (n : ℕ) (views : List PassView) : Type 0 where
 -- entries under their numbers. It begins with what each pass had seen, and is no shorter than anything that
 -- one had found: a pass's marks never fall, none is above its floor, and the floor isn't above the number of
 -- entries.
-pub record IsWholeHistory (b : Bounds) (views : List PassView) (history : List Line) : Type 0 where
+pub record IsWholeHistory (b : Bounds) (views : List PassView) (history : List HistoryEntry) : Type 0 where
   pub lawful : IsHistoryOf b history
   pub each : (i : ℕ) (view : PassView) → IsAt views i view → Finds (length history) view history
   pub marks : (i : ℕ) (view : PassView) → IsAt views i view → RiseWithin 0 view.marks view.floor
@@ -51,6 +51,6 @@ abbrev pub views_of : List PassState → List PassView
 views_of passes = map (λ p. p.view) passes
 
 -- Events led from a new unit to this history, and to these views of passes that are all at one seat.
-abbrev pub HasCome : Bounds → List PassView → List Line → Type 0
+abbrev pub HasCome : Bounds → List PassView → List HistoryEntry → Type 0
 HasCome b views history =
     (s : UnitState) × (j : ℕ) × IsReached b s × (s.history ≡ history) × IsAt s.groups j (idle views)

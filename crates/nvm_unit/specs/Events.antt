@@ -2,7 +2,7 @@
 -- by two. Of all views it changes theirs alone. Joins and splits see no word, so they leave each floor.
 use Rattle.std.specs.Prelude.{◌≡◌, ◌≢◌, ℕ, ◌+◌, ◌*◌, ◌/◌, ◌<◌, List, [], ◌∷◌, ◌++◌, map, take, drop, length, slice_set, Bool, true, false, Some, None}
 use Rattle.nvm_record.specs.Step.{Deed, writes, zeroes, uncorrectable, reads, compares, pairs}
-use Rattle.nvm_store.specs.Line.{Line}
+use Rattle.nvm_store.specs.HistoryEntry.{HistoryEntry}
 use Rattle.nvm_store.specs.History.{CanFollow}
 use Rattle.nvm_unit.specs.declared.bounds.Bounds.{Bounds}
 use Rattle.nvm_unit.specs.declared.views.PassView.{PassView}
@@ -18,7 +18,7 @@ pub data Event : Type 0 where
   -- The group j tries to take the unit, and finds another word; the step may decide.
   misses : ℕ → Bool → Event
   -- The group j puts the unit back with one entry more.
-  adds : ℕ → Line → Event
+  adds : ℕ → HistoryEntry → Event
   -- The group j puts the unit back as it was; the step may decide.
   returns : ℕ → Bool → Event
   -- The group j takes in the passes of the group k, which is spent then.
@@ -58,7 +58,7 @@ after_take s j g =
     }
 
 -- the state after the group j put the unit back with what it held and one entry more
-abbrev pub after_put : UnitState → ℕ → PassView → List Line → Line → UnitState
+abbrev pub after_put : UnitState → ℕ → PassView → List HistoryEntry → HistoryEntry → UnitState
 after_put s j p held line =
     record {
       word = 2 * number_found s + 2;
@@ -100,7 +100,7 @@ IsAct (pairs compare write) = Unit {0}
 
 -- The pass can add the entry: it holds the unit and is alone, the entry is an act's and bears its number,
 -- lies in the unit and succeeds behind the history, and there is room.
-pub record CanAdd (b : Bounds) (s : UnitState) (j : ℕ) (p : PassView) (held : List Line) (line : Line) : Type 0 where
+pub record CanAdd (b : Bounds) (s : UnitState) (j : ℕ) (p : PassView) (held : List HistoryEntry) (line : HistoryEntry) : Type 0 where
   pub at : IsAt s.groups j (record { passes = p ∷ []; held = Some held })
   pub holds : s.holder ≡ Some j
   pub act : IsAct line.operation.deed
@@ -115,7 +115,7 @@ Happens b s (takes j) t =
     (g : Group) × CanStep s j g false × (s.word ≡ 2 * number_found s) × (t ≡ after_take s j g)
 Happens b s (misses j decides) t = (g : Group) × CanStep s j g decides × (t ≡ after_look s j g decides)
 Happens b s (adds j line) t =
-    (p : PassView) × (held : List Line) × CanAdd b s j p held line × (t ≡ after_put s j p held line)
+    (p : PassView) × (held : List HistoryEntry) × CanAdd b s j p held line × (t ≡ after_put s j p held line)
 Happens b s (returns j decides) t =
     (g : Group) × CanStep s j g decides × (s.holder ≡ Some j) × (t ≡ after_return s j g decides)
 Happens b s (joins j k) t =

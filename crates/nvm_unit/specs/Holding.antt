@@ -1,6 +1,6 @@
 -- What a seat knows once it has waited for the unit, and once it holds it.
 use Rattle.std.specs.Prelude.{◌≡◌, ◌⊎◌, ℕ, ◌+◌, ◌*◌, ◌<◌, List, [], ◌∷◌, ◌++◌, map, length, Bool, true, false, None}
-use Rattle.nvm_store.specs.Line.{Line}
+use Rattle.nvm_store.specs.HistoryEntry.{HistoryEntry}
 use Rattle.nvm_store.specs.History.{CanFollow}
 use Rattle.nvm_unit.specs.declared.bounds.Bounds.{Bounds}
 use Rattle.nvm_unit.specs.declared.views.PassView.{PassView}
@@ -17,14 +17,14 @@ HasWaited m m' =
     ⊎ ((n : ℕ) × (m' ≡ (record m.0 { passes = map (looked false n) m.0.passes }, m.1)) × EachIn (IsNotAbove n) m.0.passes)
 
 -- It holds the unit with this history, and has the book in hand.
-pub record HasHeld (b : Bounds) (history : List Line) (book : Recorded) (m m' : Sits) : Type 0 where
+pub record HasHeld (b : Bounds) (history : List HistoryEntry) (book : Recorded) (m m' : Sits) : Type 0 where
   pub pages : book ≡ recorded b history
   pub after : m' ≡ holding (map (looked false (length history)) m.0.passes) history None
   pub fits : EachIn (Fits b history) m.0.passes
   pub lawful : IsHistoryOf b history
 
 -- The seat can let go of the unit with the book of the history that it holds.
-pub record CanGiveBack (decides : ℕ → Bool) (book : Recorded) (m : Sits) (ps : List PassView) (history : List Line) (b : Bounds) : Type 0 where
+pub record CanGiveBack (decides : ℕ → Bool) (book : Recorded) (m : Sits) (ps : List PassView) (history : List HistoryEntry) (b : Bounds) : Type 0 where
   pub at : m ≡ holding ps history None
   pub pages : book ≡ recorded b history
   pub filled : 0 < length ps
@@ -32,7 +32,7 @@ pub record CanGiveBack (decides : ℕ → Bool) (book : Recorded) (m : Sits) (ps
   pub alone : decides (2 * length history + 1) ≡ true → length ps ≡ 1
 
 -- The seat can let go of the unit with a book that has one entry more.
-pub record CanGiveMore (book : Recorded) (m : Sits) (p : PassView) (history : List Line) (line : Line) : Type 0 where
+pub record CanGiveMore (book : Recorded) (m : Sits) (p : PassView) (history : List HistoryEntry) (line : HistoryEntry) : Type 0 where
   pub at : m ≡ holding (p ∷ []) history None
   pub pages : book ≡ recorded p.bounds (history ++ line ∷ [])
   pub act : IsAct line.operation.deed
@@ -43,18 +43,18 @@ pub record CanGiveMore (book : Recorded) (m : Sits) (p : PassView) (history : Li
 -- The unit was let go as it was.
 abbrev pub GivesBack : (ℕ → Bool) → Recorded → Sits → Sits → Type 0
 GivesBack decides book m m' =
-    (ps : List PassView) (history : List Line) (b : Bounds) → m ≡ holding ps history None → book ≡ recorded b history
+    (ps : List PassView) (history : List HistoryEntry) (b : Bounds) → m ≡ holding ps history None → book ≡ recorded b history
     → m' ≡ resting (map (shown (decides (2 * length history + 1)) (length history) history) ps)
 
 -- The unit was let go with one entry more.
 abbrev pub GivesMore : Recorded → Sits → Sits → Type 0
 GivesMore book m m' =
-    (p : PassView) (history : List Line) (line : Line) → m ≡ holding (p ∷ []) history None
+    (p : PassView) (history : List HistoryEntry) (line : HistoryEntry) → m ≡ holding (p ∷ []) history None
     → book ≡ recorded p.bounds (history ++ line ∷ [])
     → m' ≡ resting (added (length history) history line p ∷ [])
 
 -- Two passes were brought to one history, which has so many entries.
 abbrev pub HasMet : ℕ → PassView → PassView → Sits → Sits → Type 0
 HasMet n p o m m' =
-    (history : List Line) × (n ≡ length history) × Finds (length history) p history × Finds (length history) o history
+    (history : List HistoryEntry) × (n ≡ length history) × Finds (length history) p history × Finds (length history) o history
     × (m ≡ resting (shown false (length history) history p ∷ [])) × (m' ≡ resting (shown false (length history) history o ∷ []))

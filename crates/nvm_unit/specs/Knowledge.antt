@@ -1,6 +1,6 @@
 -- What is known of a unit beyond that its state is sound. It is kept with it at each step.
 use Rattle.std.specs.Prelude.{◌≡◌, ℕ, ◌<◌, List, length, Some}
-use Rattle.nvm_store.specs.Line.{Line}
+use Rattle.nvm_store.specs.HistoryEntry.{HistoryEntry}
 use Rattle.nvm_unit.specs.declared.bounds.Bounds.{Bounds}
 use Rattle.nvm_unit.specs.declared.views.PassView.{PassView}
 use Rattle.nvm_unit.specs.declared.views.Group.{Group}
@@ -21,10 +21,10 @@ pub record Knows (b : Bounds) (p : PassView) : Type 0 where
   pub own : entries_by p.number p.seen ≡ p.mine
 
 -- The state is sound, and what goes beyond it.
-pub record IsKept (b : Bounds) (s : UnitState) : Type 0 where
+pub record IsKnown (b : Bounds) (s : UnitState) : Type 0 where
   pub sound : IsSound b s
   pub place : ℕ → ℕ × ℕ
   pub placed : ArePlaced b.passes place s.groups
   pub knows : EachPass (Knows b) s.groups
   -- A spent group doesn't hold the unit.
-  pub hands : (j : ℕ) (g : Group) (held : List Line) → IsAt s.groups j g → g.held ≡ Some held → 0 < length g.passes
+  pub hands : (j : ℕ) (g : Group) (held : List HistoryEntry) → IsAt s.groups j g → g.held ≡ Some held → 0 < length g.passes

@@ -2,7 +2,7 @@
 use Rattle.std.specs.Prelude.{◌≡◌, ℕ, suc, zero, ◌+◌, ◌*◌, ◌≤◌, List, [], ◌∷◌, length, Option, Some, None}
 use mathlib.Core.Option.{some}
 use lib.ListN.{get_elem?}
-use Rattle.nvm_store.specs.Line.{Line}
+use Rattle.nvm_store.specs.HistoryEntry.{HistoryEntry}
 use Rattle.nvm_store.specs.History.{IsLawfulHistory}
 use Rattle.nvm_unit.specs.declared.bounds.Bounds.{Bounds}
 use Rattle.nvm_unit.specs.declared.views.PassView.{PassView}
@@ -13,8 +13,8 @@ use Rattle.nvm_unit.specs.Views.{Begins, entries_by, RiseWithin, newcomer}
 -- history, or out. The holder is the place of a group. Each group is what one seat carries.
 pub record UnitState : Type 0 where
   pub word : ℕ
-  pub slot : Option (List Line)
-  pub history : List Line
+  pub slot : Option (List HistoryEntry)
+  pub history : List HistoryEntry
   pub holder : Option ℕ
   pub groups : List Group
 
@@ -37,12 +37,12 @@ abbrev pub IsNumbered : List Group → ℕ → Type 0
 IsNumbered groups number = (j i : ℕ) × (p : PassView) × StandsAt groups j i p × (p.number ≡ number)
 
 -- The word, and the slot's value, while nobody holds the unit, and while somebody does.
-abbrev pub RestsAs : Option ℕ → ℕ → Option (List Line) → List Line → Type 0
+abbrev pub RestsAs : Option ℕ → ℕ → Option (List HistoryEntry) → List HistoryEntry → Type 0
 RestsAs None word slot history = (word ≡ 2 * length history) × (slot ≡ Some history)
 RestsAs (Some j) word slot history = (word ≡ 2 * length history + 1) × (slot ≡ None)
 
 -- A group that isn't the holder holds nothing.
-abbrev pub IsHand : Option ℕ → List Line → ℕ → Option (List Line) → Type 0
+abbrev pub IsHand : Option ℕ → List HistoryEntry → ℕ → Option (List HistoryEntry) → Type 0
 IsHand holder history j None = Unit {0}
 IsHand holder history j (Some held) = (holder ≡ Some j) × (held ≡ history)
 
@@ -59,7 +59,7 @@ pub record IsHeld (b : Bounds) (s : UnitState) : Type 0 where
 pub record AreMarked (s : UnitState) : Type 0 where
   pub marks : EachPass (λ p. RiseWithin 0 p.marks p.floor) s.groups
   pub floors : EachPass (λ p. p.floor ≤ length s.history) s.groups
-  pub bears : (k : ℕ) (line : Line) → IsAt s.history k line → IsNumbered s.groups line.pass
+  pub bears : (k : ℕ) (line : HistoryEntry) → IsAt s.history k line → IsNumbered s.groups line.pass
   pub mine : EachPass (λ p. entries_by p.number s.history ≡ p.mine) s.groups
 
 pub record IsSound (b : Bounds) (s : UnitState) : Type 0 where

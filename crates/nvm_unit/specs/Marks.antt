@@ -1,14 +1,14 @@
 -- What a call leaves in its pass: a mark where it decides, none where it doesn't.
 use Rattle.std.specs.Prelude.{◌≡◌, ℕ, ◌+◌, ◌≤◌, List, [], ◌∷◌, ◌++◌, length, Ok, Err, Result}
 use Rattle.nvm_record.specs.Step.{Operation}
-use Rattle.nvm_store.specs.Line.{Line}
+use Rattle.nvm_store.specs.HistoryEntry.{HistoryEntry}
 use Rattle.nvm_unit.specs.declared.views.PassView.{PassView}
 use Rattle.nvm_unit.specs.declared.replies.Changed.{Changed}
 use Rattle.nvm_unit.specs.declared.replies.Changed.TheVariants.{Done, Failed, NoMemory, Full}
 use Rattle.nvm_unit.specs.declared.replies.Observed.{Observed}
 use Rattle.nvm_unit.specs.declared.replies.ObserveFault.{ObserveFault}
 use Rattle.nvm_unit.specs.declared.replies.ObserveFault.TheVariants as observe_fault
-use Rattle.nvm_unit.specs.Replies.{line_of}
+use Rattle.nvm_unit.specs.Replies.{entry_of_job}
 use Rattle.nvm_unit.specs.Views.{Begins}
 
 -- the point on which the answer to a change rests
@@ -26,8 +26,8 @@ entries_after (NoMemory point) = point
 entries_after (Full point) = point
 
 -- the pass's own entries after it
-abbrev pub mine_after : Changed → PassView → ℕ → Operation → List (ℕ × Line)
-mine_after (Done place) p job op = p.mine ++ (place, line_of p job op) ∷ []
+abbrev pub mine_after : Changed → PassView → ℕ → Operation → List (ℕ × HistoryEntry)
+mine_after (Done place) p job op = p.mine ++ (place, entry_of_job p job op) ∷ []
 mine_after (Failed point statuses) p job op = p.mine
 mine_after (NoMemory point) p job op = p.mine
 mine_after (Full point) p job op = p.mine

@@ -1,7 +1,7 @@
 -- What contracts see of a unit and of its passes.
 use Rattle.std.specs.Prelude.{◌≡◌, ℕ, ◌<◌, ◌≤◌, List, length}
 use Rattle.atomic_table.specs.Seated.{TableId}
-use Rattle.nvm_store.specs.Line.{Line}
+use Rattle.nvm_store.specs.HistoryEntry.{HistoryEntry}
 use Rattle.nvm_store.specs.History.{IsLawfulHistory}
 use Rattle.nvm_unit.specs.declared.bounds.Bounds.{Bounds}
 use Rattle.nvm_unit.specs.declared.views.PassView.{PassView}
@@ -25,25 +25,25 @@ pub record IsPassOf (unit : UnitName) (pass : PassState) : Type 0 where
   pub bounds : pass.view.bounds ≡ unit.bounds
 
 -- Each entry bears the number of one of so many passes.
-abbrev pub BearsNumbers : ℕ → List Line → Type 0
-BearsNumbers count history = (k : ℕ) (line : Line) → IsAt history k line → line.pass < count
+abbrev pub BearsNumbers : ℕ → List HistoryEntry → Type 0
+BearsNumbers count history = (k : ℕ) (line : HistoryEntry) → IsAt history k line → line.pass < count
 
 -- The history is lawful in the unit and not above its limit, and each entry is by one of its passes.
-pub record IsHistoryOf (b : Bounds) (history : List Line) : Type 0 where
+pub record IsHistoryOf (b : Bounds) (history : List HistoryEntry) : Type 0 where
   pub lawful : IsLawfulHistory b.place.first b.place.blocks b.place.size history
   pub within : length history ≤ b.limit
   pub bears : BearsNumbers b.passes history
 
 -- What holds of each pass: what it has seen is lawful, and has just its own entries under its number; its
 -- marks never fall, and none is above what its last step found.
-pub record IsProper (p : PassView) : Type 0 where
+pub record IsProperPass (p : PassView) : Type 0 where
   pub seen : IsHistoryOf p.bounds p.seen
   pub own : entries_by p.number p.seen ≡ p.mine
   pub marks : RiseWithin 0 p.marks p.floor
 
 -- A step of the pass finds this history, of n entries: it begins with what the pass had seen, and is no
 -- shorter than anything that it had found.
-pub record Finds (n : ℕ) (p : PassView) (history : List Line) : Type 0 where
+pub record Finds (n : ℕ) (p : PassView) (history : List HistoryEntry) : Type 0 where
   pub count : n ≡ length history
   pub seen : Begins p.seen history
   pub floor : p.floor ≤ n

@@ -1,7 +1,7 @@
 -- What each atomic step tells the seat that makes it.
 use Rattle.std.specs.Prelude.{◌≡◌, ◌≢◌, ◌⊎◌, ℕ, ◌+◌, ◌*◌, ◌/◌, ◌<◌, ◌≤◌, List, [], ◌∷◌, ◌++◌, map, take, drop, length, Bool, true, false, Option, Some}
 use Rattle.atomic_table.specs.Table.{Me, Step}
-use Rattle.nvm_store.specs.Line.{Line}
+use Rattle.nvm_store.specs.HistoryEntry.{HistoryEntry}
 use Rattle.nvm_store.specs.History.{CanFollow}
 use Rattle.nvm_unit.specs.declared.bounds.Bounds.{Bounds}
 use Rattle.nvm_unit.specs.declared.views.PassView.{PassView}
@@ -21,7 +21,7 @@ abbrev pub resting : List PassView → Sits
 resting passes = (idle passes, [])
 
 -- A seat with these passes, which holds the unit and its history. `book` is in the slot now.
-abbrev pub holding : List PassView → List Line → Option Recorded → Sits
+abbrev pub holding : List PassView → List HistoryEntry → Option Recorded → Sits
 holding passes history book = (record { passes = passes; held = Some history }, (0, book) ∷ [])
 
 -- It is so of each of them.
@@ -34,7 +34,7 @@ pub record IsNotAbove (n : ℕ) (p : PassView) : Type 0 where
   pub seen : length p.seen ≤ n
 
 -- What holds of a pass at this history.
-pub record Fits (b : Bounds) (history : List Line) (p : PassView) : Type 0 where
+pub record Fits (b : Bounds) (history : List HistoryEntry) (p : PassView) : Type 0 where
   pub bounds : p.bounds ≡ b
   pub number : p.number < b.passes
   pub seen : Begins p.seen history
@@ -48,14 +48,14 @@ pub record HasLooked (decides : ℕ → Bool) (word : ℕ) (m m' : Sits) : Type 
   pub later : EachIn (IsNotAbove (word / 2)) m.0.passes
 
 -- A compare_exchange that takes the unit, with this history.
-pub record HasTaken (word : ℕ) (b : Bounds) (history : List Line) (m m' : Sits) : Type 0 where
+pub record HasTaken (word : ℕ) (b : Bounds) (history : List HistoryEntry) (m m' : Sits) : Type 0 where
   pub found : word ≡ 2 * length history
   pub after : m' ≡ holding (map (looked false (length history)) m.0.passes) history (Some (recorded b history))
   pub fits : EachIn (Fits b history) m.0.passes
   pub lawful : IsHistoryOf b history
 
 abbrev pub Takes : ℕ → Sits → Sits → Type 0
-Takes word m m' = (b : Bounds) × (history : List Line) × HasTaken word b history m m'
+Takes word m m' = (b : Bounds) × (history : List HistoryEntry) × HasTaken word b history m m'
 
 -- The step was one event of this kind, by the seat's group, which found this word: it led from a state to
 -- which events lead to the next.
@@ -73,7 +73,7 @@ pub record WasEvent (kind : ℕ → Event) (word : ℕ) (m m' : Sits) : Type 0 w
 -- The step was a put: with one entry more, or as it was.
 abbrev pub WasPut : (ℕ → Bool) → Sits → Sits → Type 0
 WasPut decides m m' =
-    (word : ℕ) × (WasEvent (λ j. returns j (decides word)) word m m' ⊎ ((line : Line) × WasEvent (λ j. adds j line) word m m'))
+    (word : ℕ) × (WasEvent (λ j. returns j (decides word)) word m m' ⊎ ((line : HistoryEntry) × WasEvent (λ j. adds j line) word m m'))
 
 -- a load
 abbrev pub looks : (ℕ → Bool) → Step (Option Recorded) → Sits → ℕ → Sits → Type 0
@@ -88,14 +88,14 @@ tries decides step m word m' =
 -- The unit is put back as it was, with so many entries.
 abbrev pub ReturnsAs : (ℕ → Bool) → ℕ → Sits → Sits → Type 0
 ReturnsAs decides entries m m' =
-    (ps : List PassView) (history : List Line) (book : Option Recorded)
+    (ps : List PassView) (history : List HistoryEntry) (book : Option Recorded)
     → m ≡ holding ps history book → entries ≡ length history
     → m' ≡ resting (map (shown (decides (2 * length history + 1)) (length history) history) ps)
 
 -- The unit is put back with one entry more, and then has so many.
 abbrev pub AddsAs : ℕ → Sits → Sits → Type 0
 AddsAs entries m m' =
-    (p : PassView) (history : List Line) (line : Line)
+    (p : PassView) (history : List HistoryEntry) (line : HistoryEntry)
     → m ≡ holding (p ∷ []) history (Some (recorded p.bounds (history ++ line ∷ []))) → entries ≡ length history + 1
     → m' ≡ resting (added (length history) history line p ∷ [])
 
@@ -105,7 +105,7 @@ puts decides step m word m' =
     (entries : ℕ) → step.first ≡ 2 * entries → ReturnsAs decides entries m m' × AddsAs entries m m' × WasPut decides m m'
 
 -- The seat can put the unit back as it was: the slot has the book of the history that is held.
-pub record CanReturn (decides : ℕ → Bool) (entries : ℕ) (m : Sits) (ps : List PassView) (history : List Line) (b : Bounds) : Type 0 where
+pub record CanReturn (decides : ℕ → Bool) (entries : ℕ) (m : Sits) (ps : List PassView) (history : List HistoryEntry) (b : Bounds) : Type 0 where
   pub at : m ≡ holding ps history (Some (recorded b history))
   pub count : entries ≡ length history
   pub filled : 0 < length ps
@@ -113,7 +113,7 @@ pub record CanReturn (decides : ℕ → Bool) (entries : ℕ) (m : Sits) (ps : L
   pub alone : decides (2 * length history + 1) ≡ true → length ps ≡ 1
 
 -- The seat can put the unit back with one entry more: the slot has its book.
-pub record CanAppend (entries : ℕ) (m : Sits) (p : PassView) (history : List Line) (line : Line) : Type 0 where
+pub record CanAppend (entries : ℕ) (m : Sits) (p : PassView) (history : List HistoryEntry) (line : HistoryEntry) : Type 0 where
   pub at : m ≡ holding (p ∷ []) history (Some (recorded p.bounds (history ++ line ∷ [])))
   pub count : entries ≡ length history + 1
   pub act : IsAct line.operation.deed

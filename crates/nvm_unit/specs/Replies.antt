@@ -10,7 +10,7 @@ use Rattle.nvm_store.specs.declared.answers.Answer.{Answer}
 use Rattle.nvm_store.specs.declared.answers.Answer.TheVariants.{Payload, Status}
 use Rattle.nvm_store.specs.Answer.{IsAnswer}
 use Rattle.nvm_store.specs.History.{replay_of}
-use Rattle.nvm_store.specs.Line.{Line}
+use Rattle.nvm_store.specs.HistoryEntry.{HistoryEntry}
 use Rattle.nvm_store.specs.Pair.{IsFailedPair}
 use Rattle.nvm_unit.specs.declared.bounds.Bounds.{Bounds}
 use Rattle.nvm_unit.specs.declared.views.PassView.{PassView}
@@ -24,12 +24,12 @@ use Rattle.nvm_unit.specs.Views.{shown, added}
 use Rattle.nvm_unit.specs.Passes.{Finds}
 
 -- the medium to which the history of a unit leads
-abbrev pub medium_at : Bounds → List Line → Medium
+abbrev pub medium_at : Bounds → List HistoryEntry → Medium
 medium_at b history = replay_of b.place.size history
 
 -- the entry of a job's operation by this pass
-abbrev pub line_of : PassView → ℕ → Operation → Line
-line_of p job op = record { pass = p.number; job = job; operation = op }
+abbrev pub entry_of_job : PassView → ℕ → Operation → HistoryEntry
+entry_of_job p job op = record { pass = p.number; job = job; operation = op }
 
 -- What may be answered to a change, where a history of so many entries leads to this medium.
 abbrev pub AnswersChange : Changed → ℕ → ℕ → Operation → Medium → Type 0
@@ -41,14 +41,14 @@ AnswersChange (NoMemory point) entries limit op m = (point ≡ entries) × (entr
 AnswersChange (Full point) entries limit op m = (point ≡ entries) × (entries ≡ limit) × (¬ IsFailedPair op m)
 
 -- The history after a change that was answered so: `Done` alone adds the entry.
-abbrev pub history_after : Changed → List Line → Line → List Line
+abbrev pub history_after : Changed → List HistoryEntry → HistoryEntry → List HistoryEntry
 history_after (Done place) history line = history ++ line ∷ []
 history_after (Failed point statuses) history line = history
 history_after (NoMemory point) history line = history
 history_after (Full point) history line = history
 
 -- the pass after it
-abbrev pub pass_after : Changed → List Line → Line → PassView → PassView
+abbrev pub pass_after : Changed → List HistoryEntry → HistoryEntry → PassView → PassView
 pass_after (Done place) history line p = added (length history) history line p
 pass_after (Failed point statuses) history line p = shown true (length history) history p
 pass_after (NoMemory point) history line p = shown true (length history) history p
@@ -57,9 +57,9 @@ pass_after (Full point) history line p = shown true (length history) history p
 -- What `change` answers, and the pass after it.
 abbrev pub Makes : Changed → PassView → ℕ → Operation → PassView → Type 0
 Makes changed p job op q =
-    (history : List Line) × Finds (length history) p history
+    (history : List HistoryEntry) × Finds (length history) p history
     × AnswersChange changed (length history) p.bounds.limit op (medium_at p.bounds history)
-    × (q ≡ pass_after changed history (line_of p job op) p)
+    × (q ≡ pass_after changed history (entry_of_job p job op) p)
 
 -- What may be answered to a look. Only the data of a Read wants memory.
 abbrev pub AnswersLook : Result Observed ObserveFault → ℕ → Operation → Medium → Type 0
@@ -69,7 +69,7 @@ AnswersLook (Err (observe_fault.NoMemory point)) entries op m = (point ≡ entri
 -- What `observe` answers, and the pass after it.
 abbrev pub Observes : Result Observed ObserveFault → PassView → Operation → PassView → Type 0
 Observes answer p op q =
-    (history : List Line) × Finds (length history) p history
+    (history : List HistoryEntry) × Finds (length history) p history
     × AnswersLook answer (length history) op (medium_at p.bounds history)
     × (q ≡ shown true (length history) history p)
 
@@ -84,16 +84,16 @@ read_by (Status status) = None
 
 -- The pass was brought to the history that a step found, with no mark.
 abbrev pub IsBroughtUp : PassView → PassView → Type 0
-IsBroughtUp p q = (history : List Line) × Finds (length history) p history × (q ≡ shown false (length history) history p)
+IsBroughtUp p q = (history : List HistoryEntry) × Finds (length history) p history × (q ≡ shown false (length history) history p)
 
 -- Two passes were brought to one history.
 abbrev pub Meet : PassView → PassView → PassView → PassView → Type 0
 Meet p o q r =
-    (history : List Line) × Finds (length history) p history × Finds (length history) o history
+    (history : List HistoryEntry) × Finds (length history) p history × Finds (length history) o history
     × (q ≡ shown false (length history) history p) × (r ≡ shown false (length history) history o)
 
 -- What is answered of a book in hand, and what becomes of the book.
-abbrev pub Attempts : Changed → ℕ → Line → Recorded → Recorded → Type 0
+abbrev pub Attempts : Changed → ℕ → HistoryEntry → Recorded → Recorded → Type 0
 Attempts changed limit line old new =
     AnswersChange changed (length old.history) limit line.operation (replay_of old.place.size old.history)
     × (new ≡ record { place = old.place; history = history_after changed old.history line })

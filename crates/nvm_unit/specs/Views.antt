@@ -1,23 +1,23 @@
 -- What a pass has seen and done, and how a step changes it. In all of these n is the number of entries
 -- that the step finds.
 use Rattle.std.specs.Prelude.{◌≡◌, ℕ, suc, ◌≤◌, ◌==◌, if◌then◌else◌, Bool, List, [], ◌∷◌, ◌++◌}
-use Rattle.nvm_store.specs.Line.{Line}
+use Rattle.nvm_store.specs.HistoryEntry.{HistoryEntry}
 use Rattle.nvm_unit.specs.declared.bounds.Bounds.{Bounds}
 use Rattle.nvm_unit.specs.declared.views.PassView.{PassView}
 
 -- `seen` is what the history begins with.
-abbrev pub Begins : List Line → List Line → Type 0
-Begins seen history = (rest : List Line) × (history ≡ seen ++ rest)
+abbrev pub Begins : List HistoryEntry → List HistoryEntry → Type 0
+Begins seen history = (rest : List HistoryEntry) × (history ≡ seen ++ rest)
 
 -- the entries that bear the pass's number, each with its place, where the first place is `from`
-abbrev pub entries_by_from : ℕ → ℕ → List Line → List (ℕ × Line)
+abbrev pub entries_by_from : ℕ → ℕ → List HistoryEntry → List (ℕ × HistoryEntry)
 entries_by_from from pass [] = []
 entries_by_from from pass (line ∷ lines) =
     if line.pass == pass then (from, line) ∷ entries_by_from (suc from) pass lines
     else entries_by_from (suc from) pass lines
 
 -- the entries of a history that bear the pass's number, each with its place
-abbrev pub entries_by : ℕ → List Line → List (ℕ × Line)
+abbrev pub entries_by : ℕ → List HistoryEntry → List (ℕ × HistoryEntry)
 entries_by pass history = entries_by_from 0 pass history
 
 -- The numbers never fall, the first isn't below `low`, and none is above `high`.
@@ -38,11 +38,11 @@ abbrev pub looked : Bool → ℕ → PassView → PassView
 looked decides n p = record p { marks = marks_after decides n p.marks; floor = n }
 
 -- after a step that shows the history
-abbrev pub shown : Bool → ℕ → List Line → PassView → PassView
+abbrev pub shown : Bool → ℕ → List HistoryEntry → PassView → PassView
 shown decides n history p = record p { seen = history; marks = marks_after decides n p.marks; floor = n }
 
 -- after the step that adds the entry behind the history
-abbrev pub added : ℕ → List Line → Line → PassView → PassView
+abbrev pub added : ℕ → List HistoryEntry → HistoryEntry → PassView → PassView
 added n history line p =
     record p {
       seen = history ++ line ∷ [];

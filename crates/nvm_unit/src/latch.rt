@@ -1,7 +1,7 @@
 ghost use Rattle.std.specs.Prelude.{◌≡◌, ◌≢◌, ◌⊎◌, ℕ, ◌+◌, ◌*◌, ◌%◌, ◌^◌, ◌<◌, List, [], ◌∷◌, length, false};
 ghost use Rattle.nvm_store.specs.Limit.{IsLimit};
 ghost use Rattle.nvm_unit.specs.Alone.{only};
-ghost use Rattle.nvm_store.specs.Line.{Line};
+ghost use Rattle.nvm_store.specs.HistoryEntry.{HistoryEntry};
 ghost use Rattle.nvm_unit.specs.declared.bounds.Bounds.{Bounds as UnitBounds};
 ghost use Rattle.nvm_unit.specs.declared.views.PassView.{PassView as View};
 ghost use Rattle.nvm_unit.specs.Plays.{resting, holding, Takes};
@@ -102,7 +102,7 @@ impl Latch {
         requires rests { token.old.seat.me ≡ resting token.old.seat.me.0.passes }
         requires filled { 0 < length token.old.seat.me.0.passes }
         ensures at { token.new.seat.table_id ≡ token.old.seat.table_id }
-        ensures held { (b : UnitBounds) × (history : List Line)
+        ensures held { (b : UnitBounds) × (history : List HistoryEntry)
             × HasHeld b history result token.old.seat.me token.new.seat.me }
     {
         self.take(rt, token, entries);
@@ -113,9 +113,9 @@ impl Latch {
     pub(crate) fn release<D: Decides>(&self, token: &mut Token, book: Book)
         requires at { token.old.seat.table_id ≡ self.now.desk.table.shared.table_id }
         requires few { length book.history < 2 ^ 32 }
-        requires ready { ((ps : List View) × (history : List Line) × (b : UnitBounds)
+        requires ready { ((ps : List View) × (history : List HistoryEntry) × (b : UnitBounds)
             × CanGiveBack D.decides book token.old.seat.me ps history b)
-            ⊎ ((p : View) × (history : List Line) × (line : Line)
+            ⊎ ((p : View) × (history : List HistoryEntry) × (line : HistoryEntry)
             × CanGiveMore book token.old.seat.me p history line) }
         ensures at { token.new.seat.table_id ≡ token.old.seat.table_id }
         ensures back { GivesBack D.decides book token.old.seat.me token.new.seat.me }

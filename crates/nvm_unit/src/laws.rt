@@ -3,7 +3,7 @@
 ghost use Rattle.std.specs.Prelude.{◌≡◌, ◌≤◌, ℕ, List, length, true, Result, Ok, None};
 ghost use Rattle.nvm_record.specs.declared.status.Statuses.{Statuses};
 ghost use Rattle.nvm_record.specs.Step.{Operation};
-ghost use Rattle.nvm_store.specs.Line.{Line};
+ghost use Rattle.nvm_store.specs.HistoryEntry.{HistoryEntry};
 ghost use Rattle.nvm_store.specs.Point.{point, RestsOn};
 ghost use Rattle.nvm_unit.specs.declared.bounds.Bounds.{Bounds as UnitBounds};
 ghost use Rattle.nvm_unit.specs.declared.replies.Changed.{Changed as ChangeReply};
@@ -14,7 +14,7 @@ ghost use Rattle.nvm_unit.specs.declared.views.PassView.{PassView as View};
 ghost use Rattle.nvm_unit.specs.Ends.{AreAllPassesOf, new_passes, pass_at};
 ghost use Rattle.nvm_unit.specs.Machine.{UnitState, IsAt, IsSound, opening_state};
 ghost use Rattle.nvm_unit.specs.Events.{Event, Lead};
-ghost use Rattle.nvm_unit.specs.Knowledge.{IsKept};
+ghost use Rattle.nvm_unit.specs.Knowledge.{IsKnown};
 ghost use Rattle.nvm_unit.specs.Marks.{
   HasKeptMarks,
   HasMarked,
@@ -23,7 +23,7 @@ ghost use Rattle.nvm_unit.specs.Marks.{
   point_of,
   point_of_look,
 };
-ghost use Rattle.nvm_unit.specs.Passes.{Finds, IsProper, PassState, UnitName};
+ghost use Rattle.nvm_unit.specs.Passes.{Finds, IsProperPass, PassState, UnitName};
 ghost use Rattle.nvm_unit.specs.Replies.{
   AnswersChange,
   AnswersLook,
@@ -31,7 +31,7 @@ ghost use Rattle.nvm_unit.specs.Replies.{
   Makes,
   Meet,
   Observes,
-  line_of,
+  entry_of_job,
   medium_at,
   pass_after,
   told_by,
@@ -46,7 +46,7 @@ pub fn events_lead_to_sound_states()
     ensures sound { (b : UnitBounds) (events : List Event) (s : UnitState)
         → Lead b (opening_state b) events s → IsSound b s }
     ensures known { (b : UnitBounds) (events : List Event) (s : UnitState)
-        → Lead b (opening_state b) events s → IsKept b s }
+        → Lead b (opening_state b) events s → IsKnown b s }
 {
     lawful_with_one_more();
 }
@@ -54,13 +54,13 @@ pub fn events_lead_to_sound_states()
 /// What a change was answered rests on its point in each history that begins with what its pass had seen
 /// then. Where it was done, its entry stands there.
 pub fn changes_rest_on_their_points()
-    ensures at { (changed : ChangeReply) (p q : View) (job : ℕ) (op : Operation) (history : List Line)
+    ensures at { (changed : ChangeReply) (p q : View) (job : ℕ) (op : Operation) (history : List HistoryEntry)
         → Makes changed p job op q → Begins q.seen history
         → (n : ℕ) × (n ≤ length history)
         × AnswersChange changed n p.bounds.limit op (point p.bounds.place.size history n) }
-    ensures done { (place : ℕ) (p q : View) (job : ℕ) (op : Operation) (history : List Line)
-        → Makes (Done place) p job op q → Begins q.seen history → IsAt history place (line_of p job op) }
-    ensures failed { (n : ℕ) (statuses : Statuses) (p q : View) (job : ℕ) (op : Operation) (history : List Line)
+    ensures done { (place : ℕ) (p q : View) (job : ℕ) (op : Operation) (history : List HistoryEntry)
+        → Makes (Done place) p job op q → Begins q.seen history → IsAt history place (entry_of_job p job op) }
+    ensures failed { (n : ℕ) (statuses : Statuses) (p q : View) (job : ℕ) (op : Operation) (history : List HistoryEntry)
         → Makes (Failed n statuses) p job op q → Begins q.seen history
         → RestsOn p.bounds.place.size history n op statuses None }
 {}
@@ -68,10 +68,10 @@ pub fn changes_rest_on_their_points()
 /// What a look was answered rests on its point in each history that begins with what its pass had seen
 /// then.
 pub fn looks_rest_on_their_points()
-    ensures at { (answer : Result LookReply LookFault) (p q : View) (op : Operation) (history : List Line)
+    ensures at { (answer : Result LookReply LookFault) (p q : View) (op : Operation) (history : List HistoryEntry)
         → Observes answer p op q → Begins q.seen history
         → (n : ℕ) × (n ≤ length history) × AnswersLook answer n op (point p.bounds.place.size history n) }
-    ensures observed { (observed : LookReply) (p q : View) (op : Operation) (history : List Line)
+    ensures observed { (observed : LookReply) (p q : View) (op : Operation) (history : List HistoryEntry)
         → Observes (Ok observed) p op q → Begins q.seen history
         → RestsOn p.bounds.place.size history observed.point op (told_by observed.answer)
         (read_by observed.answer) }
@@ -109,11 +109,11 @@ pub fn passes_brought_up_keep_their_marks()
 /// What begins a beginning begins the whole, and has no more entries. Of two that begin one history, the
 /// shorter begins the longer.
 pub fn beginnings_of_beginnings_begin()
-    ensures itself { (history : List Line) → Begins history history }
-    ensures further { (first second history : List Line)
+    ensures itself { (history : List HistoryEntry) → Begins history history }
+    ensures further { (first second history : List HistoryEntry)
         → Begins first second → Begins second history → Begins first history }
-    ensures length { (seen history : List Line) → Begins seen history → length seen ≤ length history }
-    ensures shorter { (first second history : List Line)
+    ensures length { (seen history : List HistoryEntry) → Begins seen history → length seen ≤ length history }
+    ensures shorter { (first second history : List HistoryEntry)
         → Begins first history → Begins second history → length first ≤ length second → Begins first second }
 {}
 
@@ -123,30 +123,30 @@ pub fn new_passes_are_all()
     ensures all { (unit : UnitName) → AreAllPassesOf unit (new_passes unit) }
     ensures each { (unit : UnitName) (i : ℕ) (pass : PassState)
         → IsAt (new_passes unit) i pass → pass ≡ pass_at unit.table (newcomer unit.bounds i) }
-    ensures proper { (b : UnitBounds) (number : ℕ) → IsProper (newcomer b number) }
+    ensures proper { (b : UnitBounds) (number : ℕ) → IsProperPass (newcomer b number) }
 {}
 
 /// Each entry of a history stands, with its place, among those of the pass whose number it bears; and what
 /// stands among a pass's entries stands at that place of the history and bears its number.
 pub fn entries_are_their_passes_own()
-    ensures among { (history : List Line) (k : ℕ) (line : Line)
+    ensures among { (history : List HistoryEntry) (k : ℕ) (line : HistoryEntry)
         → IsAt history k line → (i : ℕ) × IsAt (entries_by line.pass history) i (k, line) }
-    ensures stands { (number : ℕ) (history : List Line) (i k : ℕ) (line : Line)
+    ensures stands { (number : ℕ) (history : List HistoryEntry) (i k : ℕ) (line : HistoryEntry)
         → IsAt (entries_by number history) i (k, line) → IsAt history k line × (line.pass ≡ number) }
 {}
 
 /// The pass of a unit that has one pass finds just what it had seen, so what it is answered, and what it has
 /// seen and done then, are those of what it had seen.
 pub fn a_pass_alone_has_seen_all()
-    ensures seen { (p : View) (history : List Line)
-        → p.bounds.passes ≡ 1 → p.number ≡ 0 → IsProper p → Finds (length history) p history
+    ensures seen { (p : View) (history : List HistoryEntry)
+        → p.bounds.passes ≡ 1 → p.number ≡ 0 → IsProperPass p → Finds (length history) p history
         → history ≡ p.seen }
     ensures changed { (changed : ChangeReply) (p q : View) (job : ℕ) (op : Operation)
-        → p.bounds.passes ≡ 1 → p.number ≡ 0 → IsProper p → Makes changed p job op q
+        → p.bounds.passes ≡ 1 → p.number ≡ 0 → IsProperPass p → Makes changed p job op q
         → AnswersChange changed (length p.seen) p.bounds.limit op (medium_at p.bounds p.seen)
-        × (q ≡ pass_after changed p.seen (line_of p job op) p) }
+        × (q ≡ pass_after changed p.seen (entry_of_job p job op) p) }
     ensures looked { (answer : Result LookReply LookFault) (p q : View) (op : Operation)
-        → p.bounds.passes ≡ 1 → p.number ≡ 0 → IsProper p → Observes answer p op q
+        → p.bounds.passes ≡ 1 → p.number ≡ 0 → IsProperPass p → Observes answer p op q
         → AnswersLook answer (length p.seen) op (medium_at p.bounds p.seen)
         × (q ≡ shown true (length p.seen) p.seen p) }
 {}

@@ -1,5 +1,5 @@
 ghost use Rattle.std.specs.Prelude.{◌≡◌, [], ◌∷◌};
-ghost use Rattle.nvm_unit.specs.Passes.{IsProper};
+ghost use Rattle.nvm_unit.specs.Passes.{IsProperPass};
 ghost use Rattle.nvm_unit.specs.Plays.{resting};
 
 use crate::steps::Token;
@@ -20,7 +20,7 @@ pub struct Pass {
 impl Model for Pass {
     ghost use Rattle.std.specs.Prelude.{◌≡◌, [], ◌∷◌, length};
     ghost use Rattle.nvm_unit.specs.Plays.{resting};
-    ghost use Rattle.nvm_unit.specs.Passes.{PassState, IsProper};
+    ghost use Rattle.nvm_unit.specs.Passes.{PassState, IsProperPass};
     ghost use Rattle.nvm_unit.specs.Alone.{only};
 
     ghost Value = { PassState };
@@ -30,14 +30,14 @@ impl Model for Pass {
     ghost invariant = { λ p. (p.token.seat.me ≡ resting (only p.token.seat.me.0.passes ∷ []))
         × (p.number ≡ (only p.token.seat.me.0.passes).number)
         × (p.entries ≡ length (only p.token.seat.me.0.passes).seen)
-        × IsProper (only p.token.seat.me.0.passes) };
+        × IsProperPass (only p.token.seat.me.0.passes) };
 }
 
 impl Pass {
     /// Its number. The passes of a unit are numbered from 0.
     pub fn number(&self) -> u16
         ensures number { result ≡ self.now.view.number }
-        ensures proper { IsProper self.now.view }
+        ensures proper { IsProperPass self.now.view }
     {
         self.number
     }

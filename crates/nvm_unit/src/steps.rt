@@ -1,7 +1,7 @@
 //! The atomic steps on a unit's word. They alone have the table and its seats, so nothing else writes what
 //! a pass knows.
 ghost use Rattle.std.specs.Prelude.{◌≡◌, ◌≢◌, ◌⊎◌, ℕ, ◌+◌, ◌*◌, ◌%◌, ◌^◌, ◌<◌, List, [], ◌∷◌, ◌++◌, length, take, drop, true, false, Some, None, IfOk};
-ghost use Rattle.nvm_store.specs.Line.{Line};
+ghost use Rattle.nvm_store.specs.HistoryEntry.{HistoryEntry};
 ghost use Rattle.nvm_unit.specs.declared.bounds.Bounds.{Bounds as UnitBounds};
 ghost use Rattle.nvm_unit.specs.declared.views.PassView.{PassView as View};
 ghost use Rattle.nvm_unit.specs.declared.views.Group.{Group as Carried};
@@ -70,9 +70,9 @@ pub fn take<D: Decides>(desk: &Desk, token: &mut Token, word: u64) -> u64
 pub fn put<D: Decides>(desk: &Desk, token: &mut Token, entries: u64)
     requires at { token.old.seat.table_id ≡ desk.now.table.shared.table_id }
     requires few { entries < 2 ^ 32 }
-    requires ready { ((ps : List View) × (history : List Line) × (b : UnitBounds)
+    requires ready { ((ps : List View) × (history : List HistoryEntry) × (b : UnitBounds)
         × CanReturn D.decides entries token.old.seat.me ps history b)
-        ⊎ ((p : View) × (history : List Line) × (line : Line)
+        ⊎ ((p : View) × (history : List HistoryEntry) × (line : HistoryEntry)
         × CanAppend entries token.old.seat.me p history line) }
     ensures at { token.new.seat.table_id ≡ token.old.seat.table_id }
     ensures returned { ReturnsAs D.decides entries token.old.seat.me token.new.seat.me }
@@ -117,10 +117,10 @@ pub fn split(desk: &Desk, token: &mut Token) -> Token
 /// Takes the book out of the slot. The seat holds the unit.
 pub fn take_book(desk: &Desk, token: &mut Token) -> Book
     requires at { token.old.seat.table_id ≡ desk.now.table.shared.table_id }
-    requires held { (ps : List View) × (history : List Line) × (book : Recorded)
+    requires held { (ps : List View) × (history : List HistoryEntry) × (book : Recorded)
         × (token.old.seat.me ≡ holding ps history (Some book)) }
     ensures at { token.new.seat.table_id ≡ token.old.seat.table_id }
-    ensures taken { (ps : List View) (history : List Line) (book : Recorded)
+    ensures taken { (ps : List View) (history : List HistoryEntry) (book : Recorded)
         → token.old.seat.me ≡ holding ps history (Some book)
         → (result ≡ book) × (token.new.seat.me ≡ holding ps history None) }
 {
@@ -133,9 +133,9 @@ pub fn take_book(desk: &Desk, token: &mut Token) -> Book
 /// Lays a book into the slot. The seat holds the unit.
 pub fn lay_book(desk: &Desk, token: &mut Token, book: Book)
     requires at { token.old.seat.table_id ≡ desk.now.table.shared.table_id }
-    requires held { (ps : List View) × (history : List Line) × (token.old.seat.me ≡ holding ps history None) }
+    requires held { (ps : List View) × (history : List HistoryEntry) × (token.old.seat.me ≡ holding ps history None) }
     ensures at { token.new.seat.table_id ≡ token.old.seat.table_id }
-    ensures laid { (ps : List View) (history : List Line) → token.old.seat.me ≡ holding ps history None
+    ensures laid { (ps : List View) (history : List HistoryEntry) → token.old.seat.me ≡ holding ps history None
         → token.new.seat.me ≡ holding ps history (Some book) }
 {
     drop(desk.table.shared.exchange(&mut token.seat, 0, Some(book)));

@@ -1,9 +1,9 @@
 ghost use Rattle.std.specs.Prelude.{◌≡◌, ◌↔◌, ◌+◌, ◌≤◌, ◌<◌, IfOk, IfErr, IsTrue, length};
-ghost use Rattle.nvm_unit.specs.Ends.{IsPassCount, IsFaultOf, new_passes, AreAllPassesOf, IsWholeHistory, HasCome, views_of};
+ghost use Rattle.nvm_unit.specs.Ends.{IsPassCount, IsUnitFault, new_passes, AreAllPassesOf, IsWholeHistory, HasCome, views_of};
 ghost use Rattle.nvm_store.specs.ActRef.{lent_operation_of};
 ghost use Rattle.nvm_store.specs.Contents.{IsCovered};
 ghost use Rattle.nvm_store.specs.Look.{look_operation_of};
-ghost use Rattle.nvm_unit.specs.Passes.{IsPassOf, IsProper};
+ghost use Rattle.nvm_unit.specs.Passes.{IsPassOf, IsProperPass};
 ghost use Rattle.nvm_unit.specs.Replies.{Makes, Observes, IsBroughtUp, Meet};
 
 use crate::attempt::{attempt, observed};
@@ -70,7 +70,7 @@ impl Unit {
         requires some { 0 < blocks }
         requires low { first + blocks ≤ 65536 }
         ensures taken { IfOk result (λ u. IsPassCount passes) }
-        ensures refused { IfErr result (IsFaultOf passes) }
+        ensures refused { IfErr result (IsUnitFault passes) }
         ensures bounds { IfOk result (λ u. u.0.bounds ≡ record {
           place = record { first = first; blocks = blocks; size = size };
           passes = passes;
@@ -160,7 +160,7 @@ impl Unit {
         ensures of { IsPassOf self.now pass.new }
         ensures number { pass.new.view.number ≡ pass.old.view.number }
         ensures made { Makes result pass.old.view job (lent_operation_of act.entry) pass.new.view }
-        ensures proper { IsProper pass.new.view }
+        ensures proper { IsProperPass pass.new.view }
     {
         lawful_with_one_more();
         let mut book = self.latch.hold(rt, &mut pass.token, pass.entries);
@@ -185,7 +185,7 @@ impl Unit {
         ensures of { IsPassOf self.now pass.new }
         ensures number { pass.new.view.number ≡ pass.old.view.number }
         ensures observed { Observes result pass.old.view (look_operation_of look.entry) pass.new.view }
-        ensures proper { IsProper pass.new.view }
+        ensures proper { IsProperPass pass.new.view }
     {
         let current = self.latch.hold(rt, &mut pass.token, pass.entries);
         let observed = observed(alloc, &current, look);
@@ -200,7 +200,7 @@ impl Unit {
         ensures of { IsPassOf self.now pass.new }
         ensures number { pass.new.view.number ≡ pass.old.view.number }
         ensures up { IsBroughtUp pass.old.view pass.new.view }
-        ensures proper { IsProper pass.new.view }
+        ensures proper { IsProperPass pass.new.view }
     {
         let found = self.latch.hold(rt, &mut pass.token, pass.entries);
         pass.entries = found.entries() as u32;
@@ -219,7 +219,7 @@ impl Unit {
         ensures of { IsPassOf self.now pass.new }
         ensures number { pass.new.view.number ≡ pass.old.view.number }
         ensures up { IsBroughtUp pass.old.view pass.new.view }
-        ensures proper { IsProper pass.new.view }
+        ensures proper { IsProperPass pass.new.view }
         ensures seen { IfOk result (λ v. v.items ≡ pass.new.view.seen) }
     {
         let book = self.latch.hold(rt, &mut pass.token, pass.entries);
@@ -239,8 +239,8 @@ impl Unit {
         ensures number { one.new.view.number ≡ one.old.view.number }
         ensures other_number { other.new.view.number ≡ other.old.view.number }
         ensures met { Meet one.old.view other.old.view one.new.view other.new.view }
-        ensures one_proper { IsProper one.new.view }
-        ensures other_proper { IsProper other.new.view }
+        ensures one_proper { IsProperPass one.new.view }
+        ensures other_proper { IsProperPass other.new.view }
     {
         let entries = self
             .latch

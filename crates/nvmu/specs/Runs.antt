@@ -1,7 +1,7 @@
 -- What a run shows. What stands in a file no definition can say, so the files' bytes are some,
 -- as many as there are files.
 use Rattle.std.specs.Prelude.{◌≡◌, ◌⊎◌, ℕ, List, length}
-use Rattle.nvm_engine.specs.Fault.{IsFirstFault}
+use Rattle.nvm_engine.specs.Fault.{IsFirstRunFault}
 use Rattle.nvm_engine.specs.Shown.{IsShown}
 use Rattle.nvm_engine.specs.declared.fault.Fault.{Fault}
 use Rattle.nvm_engine.specs.declared.settings.Settings.{Settings}
@@ -15,4 +15,4 @@ IsShownOn settings paths shown = (files : List (List ℕ)) × (length files ≡ 
 -- Some file couldn't be read, or else it is the first fault of a run on them.
 abbrev pub IsFaultOn : Settings → List (List ℕ) → Fault → Type 0
 IsFaultOn settings paths fault =
-    IsReadingFault paths fault ⊎ ((files : List (List ℕ)) × (length files ≡ length paths) × IsFirstFault settings files fault)
+    IsReadingFault paths fault ⊎ ((files : List (List ℕ)) × (length files ≡ length paths) × IsFirstRunFault settings files fault)

@@ -1,5 +1,5 @@
 ghost use Rattle.std.specs.Prelude.{◌≡◌, IfOk, IfSome, length};
-ghost use Rattle.nvm_engine.specs.Settings.{IsInRange};
+ghost use Rattle.nvm_engine.specs.Settings.{AreInRange};
 ghost use Rattle.nvmu.specs.Words.{IsAsked};
 
 use clap::builder::ValueParser;
@@ -120,7 +120,7 @@ fn owned(alloc: Global, texts: &[&str]) -> Result<Vec<String>, AllocError>
 
 /// The options that are numbers.
 fn settings_of(run: &ArgMatches<'_>) -> Option<Settings>
-    ensures { IfSome result IsInRange }
+    ensures { IfSome result AreInRange }
 {
     let settings = Settings {
         nsze: run.get_one::<u64>("nsze")?,

@@ -1,7 +1,7 @@
 use Rattle.std.proofs.Common.{◌≡◌, ◌<◌, length, rules, get_or, sym, ap, ◌∙◌}
 use Rattle.nvm_store.specs.ActRef.{lent_operation_of}
 use Rattle.nvm_store.specs.Contents.{Covers}
-use Rattle.nvm_store.specs.Line.{Line}
+use Rattle.nvm_store.specs.HistoryEntry.{HistoryEntry}
 use Rattle.nvm_store.specs.Point.{point}
 use Rattle.nvm_store.proofs.Ranges.{succeeds_on_held}
 use Rattle.nvm_store.proofs.Replays.{point-more}
@@ -15,7 +15,7 @@ change-requires-clause-success c =
     let here : at < length lines = search rules in
     let line_is : get_or lines at line ≡ line = sym (rw c.deref-entry-items.ensures.value at c.entry-item.is) in
     let does : lent_operation_of c.as_ref.result ≡ line.operation =
-    c.as_ref.ensures ∙ ap (λ (l : Line). l.operation) c.entry.view_is in
+    c.as_ref.ensures ∙ ap (λ (l : HistoryEntry). l.operation) c.entry.view_is in
     let follows = rw line_is at (c.requires.lawful line at here) in
     let place = c.loop-entry.invariant.place in
     let covered : Covers c.loop-entry.unit line.operation = rw (place.first, place.blocks, place.size) follows.covered in
@@ -31,7 +31,7 @@ loop-entry-preserved c =
     let here : at < length lines = search rules in
     let line_is : get_or lines at line ≡ line = sym (rw c.deref-entry-items.ensures.value at c.entry-item.is) in
     let does : lent_operation_of c.as_ref.result ≡ line.operation =
-    c.as_ref.ensures ∙ ap (λ (l : Line). l.operation) c.entry.view_is in
+    c.as_ref.ensures ∙ ap (λ (l : HistoryEntry). l.operation) c.entry.view_is in
     let stepped = c.change.ensures.step (point c.args.size lines at) c.loop-entry.invariant.replayed in
     record {
       place = search rules;

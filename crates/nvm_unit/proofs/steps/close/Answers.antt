@@ -1,7 +1,7 @@
 use Rattle.std.proofs.Common.{◌≡◌, ap, sym, refl, subst, ◌∙◌, List, Option, Some, IsSome}
 use Rattle.std.specs.Slots.{slots_items}
 use Rattle.atomic_table.specs.Table.{Final, Seen}
-use Rattle.nvm_store.specs.Line.{Line}
+use Rattle.nvm_store.specs.HistoryEntry.{HistoryEntry}
 use Rattle.nvm_unit.specs.declared.views.Group.{Group}
 use Rattle.nvm_unit.specs.Book.{Recorded, recorded}
 use Rattle.nvm_unit.specs.Ends.{HasCome, IsWholeHistory}
@@ -36,7 +36,7 @@ returns-clause-whole c =
     let both : Some c.unwrap-book.result ≡ Some (recorded b end.0) = sym c.unwrap-book.ensures ∙ found in
     let book : c.unwrap-book.result ≡ recorded b end.0 = cc in
     let items : c.into_history.result.items ≡ end.0 = c.into_history.ensures ∙ ap (λ (x : Recorded). x.history) book in
-    subst (λ (h : List Line). IsWholeHistory b seat.me.0.passes h) (sym items) end.2
+    subst (λ (h : List HistoryEntry). IsWholeHistory b seat.me.0.passes h) (sym items) end.2
 
 pub returns-clause-events : goal.returns-clause-events
 returns-clause-events c =
@@ -51,4 +51,4 @@ returns-clause-events c =
     let both : Some c.unwrap-book.result ≡ Some (recorded b end.0) = sym c.unwrap-book.ensures ∙ found in
     let book : c.unwrap-book.result ≡ recorded b end.0 = cc in
     let items : c.into_history.result.items ≡ end.0 = c.into_history.ensures ∙ ap (λ (x : Recorded). x.history) book in
-    subst (λ (h : List Line). HasCome b seat.me.0.passes h) (sym items) end.3
+    subst (λ (h : List HistoryEntry). HasCome b seat.me.0.passes h) (sym items) end.3

@@ -5,7 +5,7 @@ use Rattle.nvm_store.specs.Act.{operation_of}
 use Rattle.nvm_store.specs.ActRef.{lent_operation_of}
 use Rattle.nvm_store.specs.Contents.{Holds, IsUnit, Covers}
 use Rattle.nvm_store.specs.History.{replay_of, CanFollow}
-use Rattle.nvm_store.specs.Line.{Line}
+use Rattle.nvm_store.specs.HistoryEntry.{HistoryEntry}
 use Rattle.nvm_store.proofs.tests.histories.push.Goals as goal
 
 pub returns : goal.returns
@@ -13,7 +13,7 @@ returns c =
     let history = c.args.history.now.items in
     let unit = c.in_ok-unit.unit in
     let op = lent_operation_of c.as_ref-lent.result in
-    let line : Line = record { pass = 0; job = 0; operation = operation_of c.args.act } in
+    let line : HistoryEntry = record { pass = 0; job = 0; operation = operation_of c.args.act } in
     let place : IsUnit 8 4 512 unit = search rules in
     let held : Holds unit (replay_of 512 history) = search rules in
     let covered : Covers unit op = search rules in

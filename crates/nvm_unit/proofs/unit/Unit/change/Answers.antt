@@ -5,7 +5,7 @@ use Rattle.nvm_store.specs.Contents.{IsCovered}
 use Rattle.nvm_unit.specs.declared.bounds.Bounds.{Bounds}
 use Rattle.nvm_unit.specs.declared.views.PassView.{PassView}
 use Rattle.nvm_unit.specs.Alone.{only}
-use Rattle.nvm_unit.specs.Passes.{PassState, UnitName, IsProper}
+use Rattle.nvm_unit.specs.Passes.{PassState, UnitName, IsProperPass}
 use Rattle.nvm_unit.specs.Plays.{Sits}
 use Rattle.nvm_unit.specs.Replies.{Makes}
 use Rattle.nvm_unit.proofs.Alone.{act_is, alone, covers_same, within_limit, attempt_as, attempt_within, attempt_ready, attempt_ends, closed, only_is}
@@ -105,7 +105,7 @@ invariant_of-pass g c =
     let law : FollowsLawfully = λ start count size history line lawful follows. (c.lawful_with_one_more.ensures start count size history line).1 (lawful, follows) in
     let ends =
     attempt_ends law c.attempt-changed.result held.0 held.1 book book' p c.args.job op _ _ a covered attempt
-    (subst IsProper (ap view_of c.pass.view_is) c.pass.invariant.3) c.release.ensures.back c.release.ensures.more in
+    (subst IsProperPass (ap view_of c.pass.view_is) c.pass.invariant.3) c.release.ensures.back c.release.ensures.more in
     closed _ ends.view c.pass.inside.number c.entries.result ends.at
     (c.pass.invariant.1 ∙ (ap (λ (x : PassState). x.view.number) c.pass.view_is ∙ sym ends.number)) (c.entries.ensures ∙ ends.count) ends.proper
 
@@ -126,7 +126,7 @@ returns-clause-of g c =
     let law : FollowsLawfully = λ start count size history line lawful follows. (c.lawful_with_one_more.ensures start count size history line).1 (lawful, follows) in
     let ends =
     attempt_ends law c.attempt-changed.result held.0 held.1 book book' p c.args.job op _ _ a covered attempt
-    (subst IsProper (ap view_of c.pass.view_is) c.pass.invariant.3) c.release.ensures.back c.release.ensures.more in
+    (subst IsProperPass (ap view_of c.pass.view_is) c.pass.invariant.3) c.release.ensures.back c.release.ensures.more in
     record {
       table = c.release.ensures.at ∙ (c.hold-book.ensures.at ∙ (ap table_of c.pass.view_is ∙ c.requires.of.table));
       bounds = ap (λ (m : Sits). (only m.0.passes).bounds) ends.at ∙ (ends.bounds ∙ c.requires.of.bounds);
@@ -149,7 +149,7 @@ returns-clause-number g c =
     let law : FollowsLawfully = λ start count size history line lawful follows. (c.lawful_with_one_more.ensures start count size history line).1 (lawful, follows) in
     let ends =
     attempt_ends law c.attempt-changed.result held.0 held.1 book book' p c.args.job op _ _ a covered attempt
-    (subst IsProper (ap view_of c.pass.view_is) c.pass.invariant.3) c.release.ensures.back c.release.ensures.more in
+    (subst IsProperPass (ap view_of c.pass.view_is) c.pass.invariant.3) c.release.ensures.back c.release.ensures.more in
     ap (λ (m : Sits). (only m.0.passes).number) ends.at ∙ ends.number
 
 pub returns-clause-made : goal.returns-clause-made
@@ -169,7 +169,7 @@ returns-clause-made g c =
     let law : FollowsLawfully = λ start count size history line lawful follows. (c.lawful_with_one_more.ensures start count size history line).1 (lawful, follows) in
     let ends =
     attempt_ends law c.attempt-changed.result held.0 held.1 book book' p c.args.job op _ _ a covered attempt
-    (subst IsProper (ap view_of c.pass.view_is) c.pass.invariant.3) c.release.ensures.back c.release.ensures.more in
+    (subst IsProperPass (ap view_of c.pass.view_is) c.pass.invariant.3) c.release.ensures.back c.release.ensures.more in
     subst (λ (q : PassView). Makes c.attempt-changed.result p c.args.job op q) (sym (only_is _ ends.view ends.at)) ends.makes
 
 pub returns-clause-proper : goal.returns-clause-proper
@@ -189,5 +189,5 @@ returns-clause-proper g c =
     let law : FollowsLawfully = λ start count size history line lawful follows. (c.lawful_with_one_more.ensures start count size history line).1 (lawful, follows) in
     let ends =
     attempt_ends law c.attempt-changed.result held.0 held.1 book book' p c.args.job op _ _ a covered attempt
-    (subst IsProper (ap view_of c.pass.view_is) c.pass.invariant.3) c.release.ensures.back c.release.ensures.more in
-    subst IsProper (sym (only_is _ ends.view ends.at)) ends.proper
+    (subst IsProperPass (ap view_of c.pass.view_is) c.pass.invariant.3) c.release.ensures.back c.release.ensures.more in
+    subst IsProperPass (sym (only_is _ ends.view ends.at)) ends.proper

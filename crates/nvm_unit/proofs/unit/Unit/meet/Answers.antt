@@ -1,7 +1,7 @@
 use Rattle.std.proofs.Common.{ap, sym, subst, ◌∙◌, length, false}
 use Rattle.nvm_unit.specs.declared.views.PassView.{PassView}
 use Rattle.nvm_unit.specs.Alone.{only}
-use Rattle.nvm_unit.specs.Passes.{PassState, Finds, IsProper}
+use Rattle.nvm_unit.specs.Passes.{PassState, Finds, IsProperPass}
 use Rattle.nvm_unit.specs.Views.{shown}
 use Rattle.nvm_unit.proofs.Alone.{proper_shown, closed, only_is}
 use Rattle.nvm_unit.proofs.unit.Unit.meet.Goals as goal
@@ -42,13 +42,13 @@ pub returns-clause-one_proper : goal.returns-clause-one_proper
 returns-clause-one_proper g c =
     let p = only c.one.inside.token.seat.me.0.passes in
     let met = c.meet-entries.ensures.met in
-    subst IsProper (sym (only_is _ _ met.4)) (proper_shown false (length met.0) p met.0 c.one.invariant.3 met.2)
+    subst IsProperPass (sym (only_is _ _ met.4)) (proper_shown false (length met.0) p met.0 c.one.invariant.3 met.2)
 
 pub returns-clause-other_proper : goal.returns-clause-other_proper
 returns-clause-other_proper g c =
     let p = only c.other.inside.token.seat.me.0.passes in
     let met = c.meet-entries.ensures.met in
-    subst IsProper (sym (only_is _ _ met.5)) (proper_shown false (length met.0) p met.0 c.other.invariant.3 met.3)
+    subst IsProperPass (sym (only_is _ _ met.5)) (proper_shown false (length met.0) p met.0 c.other.invariant.3 met.3)
 
 pub returns-clause-number : goal.returns-clause-number
 returns-clause-number g c =

@@ -4,7 +4,7 @@ use Rattle.nvm_unit.specs.declared.bounds.Bounds.{Bounds}
 use Rattle.nvm_unit.specs.declared.views.PassView.{PassView}
 use Rattle.nvm_unit.specs.Alone.{only}
 use Rattle.nvm_unit.specs.Book.{Recorded}
-use Rattle.nvm_unit.specs.Passes.{PassState, UnitName, IsProper}
+use Rattle.nvm_unit.specs.Passes.{PassState, UnitName, IsProperPass}
 use Rattle.nvm_unit.specs.Plays.{Sits}
 use Rattle.nvm_unit.specs.Views.{looked, shown}
 use Rattle.nvm_unit.proofs.Alone.{alone, few, can_back, after_back, proper_shown, closed, only_is}
@@ -52,7 +52,7 @@ invariant_of-pass g c =
     let a = alone held.0 held.1 c.hold-found.result p _ _ _ (ap view_of c.pass.view_is) c.pass.invariant.0 held.2 in
     let after = after_back (λ _. false) held.0 held.1 c.hold-found.result c.hold-found.result p _ _ a refl c.release.ensures.back in
     let q : PassView = shown false (length held.1) held.1 p in
-    let proper : IsProper q = proper_shown false (length held.1) p held.1 (subst IsProper (ap view_of c.pass.view_is) c.pass.invariant.3) a.finds in
+    let proper : IsProperPass q = proper_shown false (length held.1) p held.1 (subst IsProperPass (ap view_of c.pass.view_is) c.pass.invariant.3) a.finds in
     let count = c.entries.ensures ∙ ap (λ (x : Recorded). length x.history) a.pages in
     closed _ q c.pass.inside.number c.entries.result after (c.pass.invariant.1 ∙ ap (λ (x : PassState). x.view.number) c.pass.view_is) count proper
 
@@ -84,8 +84,8 @@ returns-clause-proper g c =
     let a = alone held.0 held.1 c.hold-found.result p _ _ _ (ap view_of c.pass.view_is) c.pass.invariant.0 held.2 in
     let after = after_back (λ _. false) held.0 held.1 c.hold-found.result c.hold-found.result p _ _ a refl c.release.ensures.back in
     let q : PassView = shown false (length held.1) held.1 p in
-    let proper : IsProper q = proper_shown false (length held.1) p held.1 (subst IsProper (ap view_of c.pass.view_is) c.pass.invariant.3) a.finds in
-    subst IsProper (sym (only_is _ q after)) proper
+    let proper : IsProperPass q = proper_shown false (length held.1) p held.1 (subst IsProperPass (ap view_of c.pass.view_is) c.pass.invariant.3) a.finds in
+    subst IsProperPass (sym (only_is _ q after)) proper
 
 pub returns-clause-up : goal.returns-clause-up
 returns-clause-up g c =
