@@ -57,7 +57,7 @@ last_begun : (ns : Namespace) (op : Operation) (replies : List Reply) (r : Reply
 last_begun ns op [] r = tt
 last_begun ns op (first ∷ replies) r = tt
 
-all_begun : (ns : Namespace) (op : Operation) (replies : List Reply) → units_met ns op.first op.blocks ≢ [] → AreDone ns op replies [] → IsBegun ns op replies
+all_begun : (ns : Namespace) (op : Operation) (replies : List Reply) → units_met ns op ≢ [] → AreDone ns op replies [] → IsBegun ns op replies
 all_begun ns op [] some done = absurd (some (sym done.units))
 all_begun ns op (first ∷ replies) some done = tt
 
@@ -131,7 +131,7 @@ module _ (s : Setup) (op : Operation) where
       stops so start old new p rest Full bytes done under part (stop_fails op.deed) (ap (λ (d : DoneJob). d.statuses) end) (ap (λ (d : DoneJob). d.payload) end)
 
   -- After the last part.
-  pub all_done : units_met s.namespace op.first op.blocks ≢ [] → ((replies : List Reply) → AreDone s.namespace op replies [] → IsOutcomeOf s.namespace op replies (success_of op.deed) (answered op.deed (data_told replies)))
+  pub all_done : units_met s.namespace op ≢ [] → ((replies : List Reply) → AreDone s.namespace op replies [] → IsOutcomeOf s.namespace op replies (success_of op.deed) (answered op.deed (data_told replies)))
       → (start now : List AtomicUnit) (bytes : List ℕ) (done : DoneJob) → IsUnderWay s op start now [] bytes → done.statuses ≡ success_of op.deed → done.payload ≡ answered op.deed bytes → DoesParts s op start now done
   all_done some whole start now bytes done under is payload m counts at =
       let end = under m counts at in

@@ -5,7 +5,7 @@ use Rattle.std.proofs.lemmas.Bool.{cases_lt, cases_eq}
 use Rattle.std.proofs.lemmas.List.Elements.{All-nil, All-cons}
 use Rattle.nvm_geometry.specs.Namespace.{Namespace}
 use Rattle.nvm_geometry.specs.Boundaries.{unit_number}
-use Rattle.nvm_geometry.specs.Parts.{blocks_below, blocks_in, units_met, piece_in, pieces_of, AreInLine, IsInUnit}
+use Rattle.nvm_geometry.specs.Parts.{blocks_below, blocks_in, units_of_range, piece_in, pieces_of, AreInLine, IsInUnit}
 use Rattle.nvm_geometry.proofs.UnitOrder.{count_rises, unit_below}
 use Rattle.nvm_geometry.proofs.Places.{is_below, part_inside, place_in, place_here}
 use Rattle.nvm_geometry.proofs.Pieces.{IsFront, pieces_none, pieces_front}
@@ -73,7 +73,7 @@ pieces_in_unit ns first blocks inside = in_unit ns blocks first blocks (omega ar
 
 -- each piece is the one of its unit
 pub pieces_of_units : (ns : Namespace) (first blocks : ℕ) → All (λ p. p ≡ piece_in ns first blocks p.unit) (pieces_of ns first blocks)
-pieces_of_units ns first blocks = each (units_met ns first blocks)
+pieces_of_units ns first blocks = each (units_of_range ns first blocks)
   where
     each : (units : List ℕ) → All (λ p. p ≡ piece_in ns first blocks p.unit) (map (piece_in ns first blocks) units)
     each [] = All-nil (λ p. p ≡ piece_in ns first blocks p.unit)
@@ -81,8 +81,8 @@ pieces_of_units ns first blocks = each (units_met ns first blocks)
         All-cons (λ p. p ≡ piece_in ns first blocks p.unit) (piece_in ns first blocks u) (map (piece_in ns first blocks) us) refl (each us)
 
 -- and there is one for each unit that the range meets
-pub units_of_pieces : (ns : Namespace) (first blocks : ℕ) → map (λ p. p.unit) (pieces_of ns first blocks) ≡ units_met ns first blocks
-units_of_pieces ns first blocks = each (units_met ns first blocks)
+pub units_of_pieces : (ns : Namespace) (first blocks : ℕ) → map (λ p. p.unit) (pieces_of ns first blocks) ≡ units_of_range ns first blocks
+units_of_pieces ns first blocks = each (units_of_range ns first blocks)
   where
     each : (units : List ℕ) → map (λ p. p.unit) (map (piece_in ns first blocks) units) ≡ units
     each [] = refl

@@ -5,7 +5,7 @@ use Rattle.nvm_record.specs.Step.{HasData, Deed, Operation, writes, zeroes, unco
 use Rattle.nvm_geometry.specs.Namespace.{Namespace}
 use Rattle.nvm_geometry.specs.Boundaries.{unit_number}
 use Rattle.nvm_geometry.specs.Limits.{LiesInUnit}
-use Rattle.nvm_geometry.specs.Parts.{units_met, data_part, deed_part, part_in}
+use Rattle.nvm_geometry.specs.Parts.{units_of_range, data_part, deed_part, part_in}
 use Rattle.nvm_geometry.proofs.UnitOrder.{count_rises, unit_below, same_number}
 use Rattle.nvm_geometry.proofs.Pieces.{IsFront, below_here, in_here, units_front, units_none}
 
@@ -24,7 +24,7 @@ one_front ns first blocks some one = record {
 }
 
 pub one_unit : (ns : Namespace) (first blocks : ℕ) → 0 < blocks → first + blocks ≤ ns.nsze → LiesInUnit ns first blocks
-    → units_met ns first blocks ≡ unit_number ns first ∷ []
+    → units_of_range ns first blocks ≡ unit_number ns first ∷ []
 one_unit ns first blocks some inside one =
     let none : blocks - blocks ≡ 0 = omega arith in
     units_front ns first blocks blocks (unit_number ns first) (one_front ns first blocks some one) (unit_below ns first (omega arith))

@@ -9,7 +9,7 @@ use Rattle.nvm_record.specs.Medium.{Medium, range, has_mark, bytes_of, joined}
 use Rattle.nvm_record.specs.Step.{Operation, reads, data_on, data_of}
 use Rattle.nvm_geometry.specs.Namespace.{Namespace}
 use Rattle.nvm_geometry.specs.Boundaries.{units_of}
-use Rattle.nvm_geometry.specs.Parts.{blocks_below, blocks_in, units_met, part_in}
+use Rattle.nvm_geometry.specs.Parts.{blocks_below, blocks_in, units_of_range, part_in}
 use Rattle.nvm_geometry.specs.Turns.{IsOrderOf, answer_of_part, both_data, joined_data}
 use Rattle.nvm_geometry.proofs.Counting.{count_no}
 use Rattle.nvm_geometry.proofs.Places.{blocks_below_next, blocks_below_first, blocks_below_all}
@@ -106,8 +106,8 @@ answer_is ns op (u ∷ units) m unit look some =
     ]
 
 pub parts_data : (ns : Namespace) (op : Operation) (units : List ℕ) (m : Medium) → op.deed ≡ reads → IsOrderOf ns op units
-    → joined_data (answer_of_part ns op units m) (units_met ns op.first op.blocks) ≡ data_of op m
-unfolding units_met
+    → joined_data (answer_of_part ns op units m) (units_of_range ns op.first op.blocks) ≡ data_of op m
+unfolding units_of_range
 parts_data ns op units m is_read order =
     let look : IsLook op.deed = rw is_read tt in
     joined_kept (λ u. nat_lt 0 (blocks_in ns op.first op.blocks u)) (answer_of_part ns op units m) (read_part ns m op.first op.blocks) 0 (units_of ns)

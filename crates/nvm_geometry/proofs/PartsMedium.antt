@@ -8,8 +8,9 @@ use Rattle.nvm_record.specs.Medium.{Medium}
 use Rattle.nvm_record.specs.Step.{Deed, Operation, writes, zeroes, uncorrectable, reads, compares, pairs, block_after, is_in_range, range_of, medium_after}
 use Rattle.nvm_geometry.specs.Namespace.{Namespace}
 use Rattle.nvm_geometry.specs.Boundaries.{unit_number, units_of}
-use Rattle.nvm_geometry.specs.Parts.{blocks_below, blocks_in, units_met, deed_part, part_in}
-use Rattle.nvm_geometry.specs.Turns.{IsSingle, IsOrderOf, medium_after_parts}
+use Rattle.nvm_geometry.specs.Parts.{blocks_below, blocks_in, units_of_range, deed_part, part_in}
+use Rattle.nvm_geometry.specs.Turns.{IsOrderOf, medium_after_parts}
+use Rattle.nvm_record.specs.Deeds.{IsSingle}
 use Rattle.nvm_geometry.proofs.UnitOrder.{unit_below}
 use Rattle.nvm_geometry.proofs.Counting.{count_yes, count_no, kept_member}
 use Rattle.nvm_geometry.proofs.Places.{place_in, part_lbas, block_of_part}
@@ -25,7 +26,7 @@ single_after size blocks zeroes i old single = refl
 single_after size blocks uncorrectable i old single = refl
 single_after size blocks reads i old single = refl
 single_after size blocks (compares payload) i old single = refl
-single_after size blocks (pairs payload new) i old single = absurd single
+single_after size blocks (pairs payload new) i old single = absurd (cc single)
 
 -- doing it twice is doing it once
 left_twice : (size : ℕ) (deed : Deed) (i : ℕ) (old : Block) → IsSingle deed
@@ -35,15 +36,15 @@ left_twice size zeroes i old single = refl
 left_twice size uncorrectable i old single = refl
 left_twice size reads i old single = refl
 left_twice size (compares payload) i old single = refl
-left_twice size (pairs payload new) i old single = absurd single
+left_twice size (pairs payload new) i old single = absurd (cc single)
 
 pub part_single : (size skipped blocks : ℕ) (deed : Deed) → IsSingle deed → IsSingle (deed_part size skipped blocks deed)
-part_single size skipped blocks (writes payload) single = tt
-part_single size skipped blocks zeroes single = tt
-part_single size skipped blocks uncorrectable single = tt
-part_single size skipped blocks reads single = tt
-part_single size skipped blocks (compares payload) single = tt
-part_single size skipped blocks (pairs payload new) single = absurd single
+part_single size skipped blocks (writes payload) single = refl
+part_single size skipped blocks zeroes single = refl
+part_single size skipped blocks uncorrectable single = refl
+part_single size skipped blocks reads single = refl
+part_single size skipped blocks (compares payload) single = refl
+part_single size skipped blocks (pairs payload new) single = absurd (cc single)
 
 -- a part leaves of a block what the whole leaves of it
 part_left : (size skipped blocks : ℕ) (deed : Deed) (i : ℕ) (old : Block) → IsSingle deed → i < blocks
@@ -53,7 +54,7 @@ part_left size skipped blocks zeroes i old single inside = refl
 part_left size skipped blocks uncorrectable i old single inside = refl
 part_left size skipped blocks reads i old single inside = refl
 part_left size skipped blocks (compares payload) i old single inside = refl
-part_left size skipped blocks (pairs payload new) i old single inside = absurd single
+part_left size skipped blocks (pairs payload new) i old single inside = absurd (cc single)
 
 pub after_inside : (size : ℕ) (op : Operation) (m : Medium) (lba : ℕ) → IsSingle op.deed → is_in_range op lba ≡ true
     → medium_after size op m lba ≡ left_by size op.deed (lba - op.first) (m lba)
@@ -140,11 +141,11 @@ parts_inside ns op (unit ∷ units) m lba single inside some =
 -- each unit that the operation meets is among those in order
 pub met_among : (ns : Namespace) (op : Operation) (units : List ℕ) (unit : ℕ) → IsOrderOf ns op units
     → 0 < blocks_in ns op.first op.blocks unit → unit < units_of ns → 0 < count_by (λ v. v == unit) units
-unfolding units_met
+unfolding units_of_range
 met_among ns op units unit order some known =
     let met = kept_member (λ u. nat_lt 0 (blocks_in ns op.first op.blocks u)) 0 (units_of ns) unit
     (lt-ltb 0 (blocks_in ns op.first op.blocks unit) some) (omega arith) (omega (arith, known)) in
-    let same = sum_by-IsPermutation (λ v. cond (v == unit) 1 0) (units_met ns op.first op.blocks) units order.each in
+    let same = sum_by-IsPermutation (λ v. cond (v == unit) 1 0) (units_of_range ns op.first op.blocks) units order.each in
     omega (arith, met, same)
 
 -- and so is the unit of each LBA of the range

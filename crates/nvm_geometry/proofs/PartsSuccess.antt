@@ -7,12 +7,13 @@ use Rattle.std.proofs.lemmas.Bool.{cases_Bool, cases_eq, ne_eqb, lt-ltb, le-leb,
 use Rattle.std.proofs.lemmas.List.{length-take-le, length-drop}
 use Rattle.nvm_record.specs.declared.block.Block.{Block}
 use Rattle.nvm_record.specs.Status.{IsSuccess}
-use Rattle.nvm_record.specs.Medium.{Medium}
+use Rattle.nvm_record.specs.Medium.{Medium, HasBlockSize}
 use Rattle.nvm_record.specs.Step.{HasData, Deed, Operation, writes, zeroes, uncorrectable, reads, compares, pairs, statuses_on, block_after, is_in_range, range_of, medium_after, statuses_of}
 use Rattle.nvm_geometry.specs.Namespace.{Namespace}
 use Rattle.nvm_geometry.specs.Boundaries.{unit_number}
 use Rattle.nvm_geometry.specs.Parts.{blocks_below, blocks_in, data_part, deed_part, part_in}
-use Rattle.nvm_geometry.specs.Turns.{IsSingle, HoldsBlocks, IsOrderOf, EachSucceeds}
+use Rattle.nvm_geometry.specs.Turns.{IsOrderOf, EachSucceeds}
+use Rattle.nvm_record.specs.Deeds.{IsSingle}
 use Rattle.nvm_geometry.proofs.Counting.{count_no}
 use Rattle.nvm_geometry.proofs.Places.{place_in, part_inside, data_of_part}
 use Rattle.nvm_geometry.proofs.PartsMedium.{part_single, unit_among}
@@ -42,7 +43,7 @@ change_or_look zeroes single = inl tt
 change_or_look uncorrectable single = inl tt
 change_or_look reads single = inr tt
 change_or_look (compares payload) single = inr tt
-change_or_look (pairs payload new) single = absurd single
+change_or_look (pairs payload new) single = absurd (cc single)
 
 change_succeeds : (blocks : List Block) (deed : Deed) → IsChange deed → IsSuccess (statuses_on blocks deed)
 change_succeeds blocks (writes payload) change = refl
@@ -153,7 +154,7 @@ place_in_range op i inside =
 
 -- where each part of a look succeeds, each block is good for the whole
 whole_good : (ns : Namespace) (op : Operation) (units : List ℕ) (m : Medium) → IsSingle op.deed → IsLook op.deed → IsOrderOf ns op units
-    → HoldsBlocks ns.block_size m → EachSucceeds ns op units m
+    → HasBlockSize ns.block_size m → EachSucceeds ns op units m
     → (i : ℕ) → i < op.blocks → IsGood ns.block_size op.deed i (m (op.first + i))
 whole_good ns op units m single look order holds each i inside =
     let unit = unit_number ns (op.first + i) in
@@ -184,7 +185,7 @@ part_succeeds ns op m unit single has good =
     (rw at at (good (skipped + j) (omega (arith, inside, below)))))
 
 pub parts_success : (ns : Namespace) (op : Operation) (units : List ℕ) (m : Medium) → IsSingle op.deed → IsOrderOf ns op units
-    → HasData (op.blocks * ns.block_size) op.deed → HoldsBlocks ns.block_size m → EachSucceeds ns op units m ↔ IsSuccess (statuses_of op m)
+    → HasData (op.blocks * ns.block_size) op.deed → HasBlockSize ns.block_size m → EachSucceeds ns op units m ↔ IsSuccess (statuses_of op m)
 parts_success ns op units m single order has holds =
     elim (change_or_look op.deed single) [
       | inl change ↦ ((λ _. change_succeeds (range_of op m) op.deed change), (λ _. each_change ns op units m change))

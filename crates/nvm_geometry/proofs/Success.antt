@@ -8,9 +8,9 @@ use Rattle.nvm_record.specs.declared.block.Block.{Block}
 use Rattle.nvm_record.specs.declared.block.Block.TheVariants.{Bytes, Uncorrectable}
 use Rattle.nvm_record.specs.declared.status.Status.{Status}
 use Rattle.nvm_record.specs.Status.{IsSuccess, successful_completion, unrecovered_read_error, compare_failure}
-use Rattle.nvm_record.specs.Medium.{Medium, range, is_marked, has_mark, bytes_of, joined}
+use Rattle.nvm_record.specs.Medium.{Medium, range, is_marked, has_mark, bytes_of, joined, IsOfSize, HasBlockSize}
 use Rattle.nvm_record.specs.Step.{HasData, Deed, writes, zeroes, uncorrectable, reads, compares, pairs, statuses_on}
-use Rattle.nvm_geometry.specs.Turns.{IsSingle, HasSize, HoldsBlocks}
+use Rattle.nvm_record.specs.Deeds.{IsSingle}
 
 -- The block at place i of the range lets the command succeed.
 abbrev pub IsGood : ℕ → Deed → ℕ → Block → Type 0
@@ -37,12 +37,12 @@ unmarked_from m first (suc n) each =
     let next : first + suc i ≡ suc first + i = omega arith in
     rw next at (each (suc i) (omega (arith, inside)))))
 
-unmarked_size : (size : ℕ) (b : Block) → HasSize size b → is_marked b ≡ false → length (bytes_of b) ≡ size
+unmarked_size : (size : ℕ) (b : Block) → IsOfSize size b → is_marked b ≡ false → length (bytes_of b) ≡ size
 unmarked_size size (Bytes bytes) has unmarked = has
 unmarked_size size Uncorrectable has unmarked = absurd (cc)
 
 -- the bytes at a place of unmarked blocks
-joined_at : (size : ℕ) (m : Medium) (first n i : ℕ) → HoldsBlocks size m → has_mark (range m first n) ≡ false → i < n
+joined_at : (size : ℕ) (m : Medium) (first n i : ℕ) → HasBlockSize size m → has_mark (range m first n) ≡ false → i < n
     → take size (drop (i * size) (joined (range m first n))) ≡ bytes_of (m (first + i))
 joined_at size m first zero i holds none inside = absurd (omega (arith, inside))
 joined_at size m first (suc n) zero holds none inside =
@@ -83,7 +83,7 @@ differing_fails : compare_failure ≡ successful_completion → ⊥
 differing_fails e = omega (arith, ap (λ (s : Status). s.sct) e)
 
 -- where the command succeeds, each block is good
-pub good_from_success : (size : ℕ) (m : Medium) (first n : ℕ) (deed : Deed) → IsSingle deed → HoldsBlocks size m
+pub good_from_success : (size : ℕ) (m : Medium) (first n : ℕ) (deed : Deed) → IsSingle deed → HasBlockSize size m
     → IsSuccess (statuses_on (range m first n) deed) → (i : ℕ) → i < n → IsGood size deed i (m (first + i))
 good_from_success size m first n (writes payload) single holds success i inside = tt
 good_from_success size m first n zeroes single holds success i inside = tt
@@ -106,7 +106,7 @@ good_from_success size m first n (compares payload) single holds success i insid
             | inr d ↦ absurd (differing_fails (rw (f, d) at success))
           ]
     ]
-good_from_success size m first n (pairs payload new) single holds success i inside = absurd single
+good_from_success size m first n (pairs payload new) single holds success i inside = absurd (cc single)
 
 -- and where each is, the command succeeds
 pub success_from_good : (size : ℕ) (m : Medium) (first n : ℕ) (deed : Deed) → IsSingle deed → HasData (n * size) deed
@@ -118,4 +118,4 @@ success_from_good size m first n reads single has good = rw (unmarked_from m fir
 success_from_good size m first n (compares payload) single has good =
     let same = joined_from size m first n payload has (λ i inside. (good i inside).1) in
     rw (unmarked_from m first n (λ i inside. (good i inside).0), (bytes_eq-Decides (joined (range m first n)) payload).1 same) refl
-success_from_good size m first n (pairs payload new) single has good = absurd single
+success_from_good size m first n (pairs payload new) single has good = absurd (cc single)

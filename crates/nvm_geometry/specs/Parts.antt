@@ -1,4 +1,4 @@
--- What a command does in each unit that it meets. A unit's number never falls as the LBA rises, so
+-- Which units a command meets, and what it does in each. A unit's number never falls as the LBA rises, so
 -- the LBAs of a range that lie in lower units are its first ones.
 use Rattle.std.specs.Prelude.{◌≡◌, ◌==◌, ℕ, ◌+◌, ◌-◌, ◌*◌, ◌<◌, ◌≤◌, nat_lt, List, [], ◌∷◌, take, drop, map, filter, count_by}
 use Rattle.std.specs.List.{range_with_len}
@@ -15,9 +15,9 @@ blocks_below ns first blocks unit = count_by (λ lba. nat_lt (unit_number ns lba
 unfoldable pub blocks_in : Namespace → ℕ → ℕ → ℕ → ℕ
 blocks_in ns first blocks unit = count_by (λ lba. unit_number ns lba == unit) (range_with_len first blocks)
 
--- the units that the range meets, ascending
-unfoldable pub units_met : Namespace → ℕ → ℕ → List ℕ
-units_met ns first blocks = filter (λ unit. nat_lt 0 (blocks_in ns first blocks unit)) (range_with_len 0 (units_of ns))
+-- the units in which the range has an LBA, ascending
+unfoldable pub units_of_range : Namespace → ℕ → ℕ → List ℕ
+units_of_range ns first blocks = filter (λ unit. nat_lt 0 (blocks_in ns first blocks unit)) (range_with_len 0 (units_of ns))
 
 -- the LBAs of the range that lie in the unit
 abbrev pub piece_in : Namespace → ℕ → ℕ → ℕ → Piece
@@ -26,7 +26,7 @@ piece_in ns first blocks unit =
 
 -- one piece for each unit that the range meets, ascending
 abbrev pub pieces_of : Namespace → ℕ → ℕ → List Piece
-pieces_of ns first blocks = map (piece_in ns first blocks) (units_met ns first blocks)
+pieces_of ns first blocks = map (piece_in ns first blocks) (units_of_range ns first blocks)
 
 -- the data of `blocks` blocks, after that of `skipped` blocks
 abbrev pub data_part : ℕ → ℕ → ℕ → List ℕ → List ℕ
@@ -41,6 +41,10 @@ deed_part size skipped blocks reads = reads
 deed_part size skipped blocks (compares payload) = compares (data_part size skipped blocks payload)
 deed_part size skipped blocks (pairs payload new) =
     pairs (data_part size skipped blocks payload) (data_part size skipped blocks new)
+
+-- the units that an operation meets, ascending
+abbrev pub units_met : Namespace → Operation → List ℕ
+units_met ns op = units_of_range ns op.first op.blocks
 
 -- The part of an operation in a unit: the operation on just those LBAs of its range that lie there,
 -- with the data of just these.

@@ -1,35 +1,15 @@
 -- An operation done part by part: one unit after the other, in any order of the units that it meets.
-use Rattle.std.specs.Prelude.{◌≡◌, ◌==◌, ℕ, ◌+◌, ◌≤◌, List, [], ◌∷◌, ◌++◌, length, IsPermutation, Option, Some, None, if◌then◌else◌}
-use Rattle.nvm_record.specs.declared.block.Block.{Block}
-use Rattle.nvm_record.specs.declared.block.Block.TheVariants.{Bytes, Uncorrectable}
+use Rattle.std.specs.Prelude.{◌==◌, ℕ, ◌+◌, ◌≤◌, List, [], ◌∷◌, ◌++◌, IsPermutation, Option, Some, None, if◌then◌else◌}
 use Rattle.nvm_record.specs.Status.{IsSuccess}
 use Rattle.nvm_record.specs.Medium.{Medium}
-use Rattle.nvm_record.specs.Step.{Deed, Operation, writes, zeroes, uncorrectable, reads, compares, pairs, medium_after, statuses_of, data_of}
+use Rattle.nvm_record.specs.Step.{Operation, medium_after, statuses_of, data_of}
 use Rattle.nvm_geometry.specs.Namespace.{Namespace}
 use Rattle.nvm_geometry.specs.Parts.{units_met, part_in}
-
--- the deed of one command; a pair is none
-abbrev pub IsSingle : Deed → Type 0
-IsSingle (writes payload) = Unit {0}
-IsSingle zeroes = Unit {0}
-IsSingle uncorrectable = Unit {0}
-IsSingle reads = Unit {0}
-IsSingle (compares payload) = Unit {0}
-IsSingle (pairs payload new) = ⊥
-
--- the block is marked, or has just so many bytes
-abbrev pub HasSize : ℕ → Block → Type 0
-HasSize size (Bytes bytes) = length bytes ≡ size
-HasSize size Uncorrectable = Unit {0}
-
--- each block of the medium does
-abbrev pub HoldsBlocks : ℕ → Medium → Type 0
-HoldsBlocks size m = (lba : ℕ) → HasSize size (m lba)
 
 -- The units are those that the operation meets, each once, in any order.
 pub record IsOrderOf (ns : Namespace) (op : Operation) (units : List ℕ) : Type 0 where
   pub inside : op.first + op.blocks ≤ ns.nsze
-  pub each : IsPermutation (units_met ns op.first op.blocks) units
+  pub each : IsPermutation (units_met ns op) units
 
 -- the medium after the parts in these units, in turn
 abbrev pub medium_after_parts : Namespace → Operation → List ℕ → Medium → Medium

@@ -3,14 +3,15 @@
 
 ghost use Rattle.std.specs.Prelude.{◌≡◌, ◌==◌, ◌↔◌, ℕ, ◌+◌, ◌*◌, ◌-◌, ◌<◌, ◌≤◌, ◌&&◌, List, [], ◌∷◌, All, map};
 ghost use Rattle.nvm_record.specs.Status.{IsSuccess};
-ghost use Rattle.nvm_record.specs.Medium.{Medium};
+ghost use Rattle.nvm_record.specs.Medium.{Medium, HasBlockSize};
 ghost use Rattle.nvm_record.specs.Step.{HasData, Operation, reads, block_at, is_in_range, medium_after, statuses_of, data_of};
 ghost use Rattle.nvm_geometry.specs.Namespace.{Namespace};
 ghost use Rattle.nvm_geometry.specs.Boundaries.{IsBoundary, SharesUnit, unit_number, units_of};
 ghost use Rattle.nvm_geometry.specs.Faults.{HasNoFault, IsValid};
 ghost use Rattle.nvm_geometry.specs.Limits.{LiesInUnit};
-ghost use Rattle.nvm_geometry.specs.Parts.{units_met, data_part, part_in, piece_in, pieces_of, AreInLine, IsInUnit};
-ghost use Rattle.nvm_geometry.specs.Turns.{IsSingle, HoldsBlocks, IsOrderOf, medium_after_parts, EachSucceeds, answer_of_part, joined_data};
+ghost use Rattle.nvm_geometry.specs.Parts.{units_met, units_of_range, data_part, part_in, piece_in, pieces_of, AreInLine, IsInUnit};
+ghost use Rattle.nvm_geometry.specs.Turns.{IsOrderOf, medium_after_parts, EachSucceeds, answer_of_part, joined_data};
+ghost use Rattle.nvm_record.specs.Deeds.{IsSingle};
 
 /// Units number the LBAs of a namespace from 0 upwards: LBA 0 lies in unit 0, the number rises by 1 at
 /// each boundary and nowhere else, and each number below that of the units is some LBA's.
@@ -47,7 +48,7 @@ pub fn pieces_stand_in_line()
     ensures in_unit { (ns : Namespace) (first blocks : ℕ) → first + blocks ≤ ns.nsze
         → All (IsInUnit ns) (pieces_of ns first blocks) }
     ensures units { (ns : Namespace) (first blocks : ℕ)
-        → map (λ p. p.unit) (pieces_of ns first blocks) ≡ units_met ns first blocks }
+        → map (λ p. p.unit) (pieces_of ns first blocks) ≡ units_of_range ns first blocks }
     ensures each { (ns : Namespace) (first blocks : ℕ)
         → All (λ p. p ≡ piece_in ns first blocks p.unit) (pieces_of ns first blocks) }
 {}
@@ -64,7 +65,7 @@ pub fn part_has_its_blocks()
 /// An operation whose range lies in one unit has one part, which is the operation itself.
 pub fn one_unit_is_one_part()
     ensures unit { (ns : Namespace) (first blocks : ℕ) → 0 < blocks → first + blocks ≤ ns.nsze
-        → LiesInUnit ns first blocks → units_met ns first blocks ≡ unit_number ns first ∷ [] }
+        → LiesInUnit ns first blocks → units_of_range ns first blocks ≡ unit_number ns first ∷ [] }
     ensures part { (ns : Namespace) (op : Operation) → 0 < op.blocks → op.first + op.blocks ≤ ns.nsze
         → LiesInUnit ns op.first op.blocks → HasData (op.blocks * ns.block_size) op.deed
         → part_in ns op (unit_number ns op.first) ≡ op }
@@ -78,9 +79,9 @@ pub fn parts_are_the_whole()
         → IsOrderOf ns op units
         → (lba : ℕ) → medium_after_parts ns op units m lba ≡ medium_after ns.block_size op m lba }
     ensures success { (ns : Namespace) (op : Operation) (units : List ℕ) (m : Medium) → IsSingle op.deed
-        → IsOrderOf ns op units → HasData (op.blocks * ns.block_size) op.deed → HoldsBlocks ns.block_size m
+        → IsOrderOf ns op units → HasData (op.blocks * ns.block_size) op.deed → HasBlockSize ns.block_size m
         → EachSucceeds ns op units m ↔ IsSuccess (statuses_of op m) }
     ensures data { (ns : Namespace) (op : Operation) (units : List ℕ) (m : Medium) → op.deed ≡ reads
         → IsOrderOf ns op units
-        → joined_data (answer_of_part ns op units m) (units_met ns op.first op.blocks) ≡ data_of op m }
+        → joined_data (answer_of_part ns op units m) (units_met ns op) ≡ data_of op m }
 {}

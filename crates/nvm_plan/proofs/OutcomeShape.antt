@@ -68,8 +68,8 @@ replies_of : (deed : Deed) (replies : List Reply) → AllByRecursion (IsSuccessf
 replies_of deed [] h = tt
 replies_of deed (r ∷ rs) h = (h.0.reply, replies_of deed rs h.1)
 
-units_end : (ns : Namespace) (op : Operation) (replies : List Reply) (left : List ℕ) → units_told replies ++ left ≡ units_met ns op.first op.blocks
-    → map (λ part. part.unit) (parts_of replies) ++ left ≡ units_met ns op.first op.blocks
+units_end : (ns : Namespace) (op : Operation) (replies : List Reply) (left : List ℕ) → units_told replies ++ left ≡ units_met ns op
+    → map (λ part. part.unit) (parts_of replies) ++ left ≡ units_met ns op
 units_end ns op replies left h = ap (λ units. units ++ left) (units_shown replies) ∙ h
 
 -- the unit of one more reply
@@ -115,7 +115,7 @@ succeed_shape ns op replies told read a e =
 
 -- Some unit is met.
 abbrev MeetsSome : Namespace → Operation → Type 0
-MeetsSome ns op = units_met ns op.first op.blocks ≢ []
+MeetsSome ns op = units_met ns op ≢ []
 
 succeed_ends : (ns : Namespace) (op : Operation) (replies : List Reply) (told : Statuses) (read : Option (List ℕ))
     → MeetsSome ns op → AllSucceed ns op replies told read → Ends replies

@@ -39,7 +39,7 @@ unstarted_of deed = for_deed deed (One internal_error) (Two internal_error abort
 -- The parts so far were done in ascending order of units, each with success, and those in `left` are
 -- still to be done.
 pub record AreDone (ns : Namespace) (op : Operation) (replies : List Reply) (left : List ℕ) : Type 0 where
-  pub units : units_told replies ++ left ≡ units_met ns op.first op.blocks
+  pub units : units_told replies ++ left ≡ units_met ns op
   pub each : AllByRecursion (IsSuccessfulReply op.deed) replies
 
 -- All parts were done, each with success.
@@ -64,7 +64,7 @@ pub record StopsAtLast (ns : Namespace) (op : Operation) (replies : List Reply) 
 -- Nothing was done, for want of memory before the first part. A job that isn't refused may always end so
 -- here: that a growth was really refused, no definition can say.
 pub record IsUnstarted (ns : Namespace) (op : Operation) (replies : List Reply) (told : Statuses) (read : Option (List ℕ)) : Type 0 where
-  pub some : units_met ns op.first op.blocks ≢ []
+  pub some : units_met ns op ≢ []
   pub none_done : replies ≡ []
   pub statuses : told ≡ unstarted_of op.deed
   pub payload : read ≡ None

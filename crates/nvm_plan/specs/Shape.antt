@@ -47,7 +47,7 @@ pub record EndsAtLast (ns : Namespace) (op : Operation) (parts : List Part) (tol
   -- the units of the parts that aren't there
   pub left : List ℕ
   pub are : parts ≡ before ++ last ∷ []
-  pub units : map (λ part. part.unit) parts ++ left ≡ units_met ns op.first op.blocks
+  pub units : map (λ part. part.unit) parts ++ left ≡ units_met ns op
   pub results : AllByRecursion (λ part. IsTrue (can_have op.deed part.result)) parts
   pub going_on : AllByRecursion (λ part. IsTrue (goes_on part.result)) before
   pub statuses : MayShow op.deed last.result told

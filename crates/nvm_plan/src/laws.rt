@@ -44,10 +44,10 @@ pub fn ready_jobs()
     ensures range { (ns : Namespace) (job : Job) (op : Operation) → refusal_of ns job ≡ None
         → job_operation_of job ≡ Some op → (0 < op.blocks) × (op.first + op.blocks ≤ ns.nsze) }
     ensures units { (ns : Namespace) (job : Job) (op : Operation) → refusal_of ns job ≡ None
-        → job_operation_of job ≡ Some op → units_met ns op.first op.blocks ≢ [] }
+        → job_operation_of job ≡ Some op → units_met ns op ≢ [] }
     ensures pair { (ns : Namespace) (job : Job) (op : Operation) → refusal_of ns job ≡ None
         → job_operation_of job ≡ Some op → IsTrue (is_pair op.deed)
-        → units_met ns op.first op.blocks ≡ unit_number ns op.first ∷ [] }
+        → units_met ns op ≡ unit_number ns op.first ∷ [] }
 {
     laws::sharing_is_one_number();
     laws::pieces_stand_in_line();
@@ -104,7 +104,7 @@ pub fn answers_of_the_step_are_replies()
 /// An outcome is made part by part: one more part that succeeds leaves those after it, one that doesn't
 /// ends the job, and the job has succeeded when no part is left.
 pub fn outcomes_are_made_part_by_part()
-    ensures begun { (ns : Namespace) (op : Operation) → AreDone ns op [] (units_met ns op.first op.blocks) }
+    ensures begun { (ns : Namespace) (op : Operation) → AreDone ns op [] (units_met ns op) }
     ensures more { (ns : Namespace) (op : Operation) (replies : List Reply) (r : Reply) (left : List ℕ)
         → AreDone ns op replies (r.part.unit ∷ left) → IsSuccessfulReply op.deed r
         → AreDone ns op (replies ++ r ∷ []) left }
@@ -115,7 +115,7 @@ pub fn outcomes_are_made_part_by_part()
     ensures stopped { (ns : Namespace) (op : Operation) (replies : List Reply) (r : Reply) (left : List ℕ)
         → AreDone ns op replies (r.part.unit ∷ left) → IsReplyTo op.deed r → ¬ (IsSuccess r.statuses)
         → IsOutcomeOf ns op (replies ++ r ∷ []) r.statuses None }
-    ensures unstarted { (ns : Namespace) (op : Operation) → units_met ns op.first op.blocks ≢ []
+    ensures unstarted { (ns : Namespace) (op : Operation) → units_met ns op ≢ []
         → IsOutcomeOf ns op [] (unstarted_of op.deed) None }
 {}
 

@@ -5,4 +5,6 @@ pub mod HostFile
 pub mod Status
 pub mod Medium
 pub mod Step
+pub mod Deeds
 pub mod Completion
+pub mod Lists

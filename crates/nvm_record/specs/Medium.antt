@@ -1,5 +1,5 @@
 -- What a namespace holds (NVM Command Set Specification, "Logical Block").
-use Rattle.std.specs.Prelude.{ℕ, zero, suc, List, [], ◌∷◌, ◌++◌, replicate, Bool, true, false, ◌||◌}
+use Rattle.std.specs.Prelude.{◌≡◌, ℕ, zero, suc, List, [], ◌∷◌, ◌++◌, length, replicate, Bool, true, false, ◌||◌}
 use Rattle.nvm_record.specs.declared.block.Block.{Block}
 use Rattle.nvm_record.specs.declared.block.Block.TheVariants.{Bytes, Uncorrectable}
 
@@ -10,6 +10,15 @@ Medium = ℕ → Block
 -- all blocks start as zero bytes
 abbrev pub zero_medium : ℕ → Medium
 zero_medium size lba = Bytes (replicate size 0)
+
+-- The block is marked, or has just so many bytes.
+abbrev pub IsOfSize : ℕ → Block → Type 0
+IsOfSize size (Bytes bytes) = length bytes ≡ size
+IsOfSize size Uncorrectable = Unit {0}
+
+-- Each block of the medium is of this size.
+abbrev pub HasBlockSize : ℕ → Medium → Type 0
+HasBlockSize size m = (lba : ℕ) → IsOfSize size (m lba)
 
 -- the blocks of the n LBAs from `first`
 abbrev pub range : Medium → ℕ → ℕ → List Block

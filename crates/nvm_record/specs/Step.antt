@@ -3,7 +3,7 @@
 -- Specification, "Fused Operation". No unit, part or version occurs here. A block
 -- is marked where it is Uncorrectable; that zeroes clear a mark, and that a mark decides a comparison before any
 -- byte, are this project's own.
-use Rattle.std.specs.Prelude.{◌≡◌, ℕ, ◌+◌, ◌*◌, ◌-◌, nat_le, nat_lt, if◌then◌else◌, List, length, take, drop, replicate, Bool, false, ◌&&◌, Option, Some, None}
+use Rattle.std.specs.Prelude.{◌≡◌, ℕ, ◌+◌, ◌*◌, ◌-◌, nat_le, nat_lt, if◌then◌else◌, List, length, take, drop, replicate, Bool, false, ◌&&◌, IsTrue, Option, Some, None}
 use Rattle.std.specs.Str.{bytes_eq}
 use Rattle.nvm_record.specs.declared.block.Block.{Block}
 use Rattle.nvm_record.specs.declared.block.Block.TheVariants.{Bytes, Uncorrectable}
@@ -100,3 +100,7 @@ data_of op m = data_on (range_of op m) op.deed
 abbrev pub medium_after : ℕ → Operation → Medium → Medium
 medium_after size op m lba =
     if is_in_range op lba then block_after size (range_of op m) op.deed (lba - op.first) (m lba) else m lba
+
+-- The two media hold the same blocks on the operation's range.
+abbrev pub AgreeOn : Operation → Medium → Medium → Type 0
+AgreeOn op m n = (lba : ℕ) → IsTrue (is_in_range op lba) → m lba ≡ n lba

@@ -12,7 +12,7 @@ use Rattle.nvm_record.specs.Medium.{Medium, range, is_marked, has_mark, bytes_of
 use Rattle.nvm_record.specs.Status.{IsSuccess, successful_completion, unrecovered_read_error, compare_failure, aborted_due_to_failed_fused_command}
 use Rattle.nvm_record.specs.Step.{Deed, writes, zeroes, uncorrectable, reads, compares, pairs, compares_equal, comparison, statuses_on, statuses_of, medium_after}
 use Rattle.nvm_store.specs.Operation.{write_operation, pair_operation}
-use Rattle.nvm_store.specs.Pair.{FailsOn}
+use Rattle.nvm_record.specs.Deeds.{FailsOn}
 use Rattle.nvm_store.specs.Stored.{Stored, AreSized, block_of, blocks_of}
 
 -- Bytes are equal where their fronts of one length are, and what follows.

@@ -12,7 +12,8 @@ ghost use Rattle.nvm_store.specs.Contents.{Contents, Holds, Covers, Succeeds};
 ghost use Rattle.nvm_store.specs.History.{replay_of, CanFollow, IsLawfulHistory};
 ghost use Rattle.nvm_store.specs.HistoryEntry.{HistoryEntry};
 ghost use Rattle.nvm_store.specs.Operation.{write_operation, pair_operation};
-ghost use Rattle.nvm_store.specs.Pair.{IsPair, IsFailedPair};
+ghost use Rattle.nvm_store.specs.Pair.{IsPair};
+ghost use Rattle.nvm_record.specs.Deeds.{IsFailedPair};
 ghost use Rattle.nvm_store.specs.Point.{point};
 
 /// The replay of a history with one entry more is that entry's step on the replay of the others.

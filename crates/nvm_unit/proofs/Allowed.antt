@@ -10,7 +10,8 @@ use Rattle.nvm_store.specs.HistoryEntry.{HistoryEntry}
 use Rattle.nvm_unit.specs.declared.bounds.Bounds.{Bounds}
 use Rattle.nvm_unit.specs.declared.views.Group.{Group}
 use Rattle.nvm_unit.specs.Views.{looked}
-use Rattle.nvm_unit.specs.Machine.{UnitState, IsAt, StandsAt, RestsAs}
+use Rattle.nvm_unit.specs.Machine.{UnitState, StandsAt, RestsAs}
+use Rattle.nvm_record.specs.Lists.{IsAt}
 use Rattle.nvm_unit.specs.Events as events
 use Rattle.nvm_unit.specs.Events.{Event, loads, misses, Happens, IsReached, number_found, idle, CanStep, CanAdd, after_look, after_take, after_put, after_return}
 use Rattle.nvm_unit.specs.Knowledge.{IsKnown}

@@ -8,7 +8,7 @@ use Rattle.nvm_unit.specs.declared.replies.Changed.{Changed}
 use Rattle.nvm_unit.specs.declared.replies.Observed.{Observed}
 use Rattle.nvm_unit.specs.declared.replies.ObserveFault.{ObserveFault}
 use Rattle.nvm_unit.specs.declared.views.PassView.{PassView}
-use Rattle.nvm_unit.specs.Machine.{IsAt}
+use Rattle.nvm_record.specs.Lists.{IsAt}
 use Rattle.nvm_unit.specs.Passes.{IsProperPass, Finds}
 use Rattle.nvm_unit.specs.Replies.{AnswersChange, AnswersLook, Makes, Observes, medium_at, entry_of_job, pass_after}
 use Rattle.nvm_unit.specs.Views.{entries_by_from, entries_by, shown}

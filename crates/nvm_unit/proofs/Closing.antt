@@ -12,7 +12,8 @@ use Rattle.nvm_unit.specs.Book.{Recorded, recorded}
 use Rattle.nvm_unit.specs.Ends.{AreAllViews, HasCome, IsWholeHistory}
 use Rattle.nvm_unit.specs.Events.{idle}
 use Rattle.nvm_unit.specs.Knowledge.{IsKnown}
-use Rattle.nvm_unit.specs.Machine.{UnitState, IsAt, StandsAt, RestsAs}
+use Rattle.nvm_unit.specs.Machine.{UnitState, StandsAt, RestsAs}
+use Rattle.nvm_record.specs.Lists.{IsAt}
 use Rattle.nvm_unit.specs.Rule.{slots_of, IsRuled}
 use Rattle.nvm_unit.proofs.Allowed.{history_of, fitting}
 use Rattle.nvm_unit.proofs.Alone.{finds_of}

@@ -6,7 +6,8 @@ use Rattle.atomic_table.proofs.Lists.{at_index, at_longer, at_last}
 use Rattle.nvm_unit.specs.declared.bounds.Bounds.{Bounds}
 use Rattle.nvm_unit.specs.declared.views.PassView.{PassView}
 use Rattle.nvm_unit.specs.Ends.{pass_at, new_passes, views_of, AreAllPassesOf, AreAllViews}
-use Rattle.nvm_unit.specs.Machine.{IsAt, newcomers, newcomers_from}
+use Rattle.nvm_unit.specs.Machine.{newcomers, newcomers_from}
+use Rattle.nvm_record.specs.Lists.{IsAt}
 use Rattle.nvm_unit.specs.Passes.{IsPassOf, PassState, UnitName, IsProperPass}
 use Rattle.nvm_unit.specs.Views.{newcomer}
 use Rattle.nvm_unit.proofs.EventsKept.{newcomer_back}

@@ -7,7 +7,8 @@ use Rattle.nvm_unit.specs.declared.bounds.Bounds.{Bounds}
 use Rattle.nvm_unit.specs.declared.views.PassView.{PassView}
 use Rattle.nvm_unit.specs.declared.views.Group.{Group}
 use Rattle.nvm_unit.specs.Views.{Begins, entries_by, RiseWithin, newcomer}
-use Rattle.nvm_unit.specs.Machine.{UnitState, IsAt, StandsAt, EachPass, IsHand, newcomers_from, newcomers, opening_state}
+use Rattle.nvm_unit.specs.Machine.{UnitState, StandsAt, EachPass, IsHand, newcomers_from, newcomers, opening_state}
+use Rattle.nvm_record.specs.Lists.{IsAt}
 use Rattle.nvm_unit.specs.Events.{Event, loads, takes, misses, adds, returns, joins, splits, idle, Happens, Lead}
 use Rattle.nvm_unit.specs.Knowledge.{Knows, IsKnown}
 use Rattle.nvm_unit.proofs.Groups.{stands_one}

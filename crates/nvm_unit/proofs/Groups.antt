@@ -10,7 +10,8 @@ use native.Mathlib.Decide.{ℕ_discrete}
 use Rattle.atomic_table.proofs.Lists.{at_set, set_here, set_else, at_map, at_longer, at_last}
 use Rattle.nvm_unit.specs.declared.views.PassView.{PassView}
 use Rattle.nvm_unit.specs.declared.views.Group.{Group}
-use Rattle.nvm_unit.specs.Machine.{IsAt, StandsAt, EachPass, IsNumbered}
+use Rattle.nvm_unit.specs.Machine.{StandsAt, EachPass, IsNumbered}
+use Rattle.nvm_record.specs.Lists.{IsAt}
 use Rattle.nvm_unit.specs.Events.{idle}
 use Rattle.nvm_unit.specs.Knowledge.{ArePlaced}
 use Rattle.nvm_unit.proofs.Lists.{at_one, at_below, at_map_back, at_append, at_append_right, at_take, at_take_back, at_drop, at_drop_back}

@@ -10,7 +10,8 @@ use Rattle.nvm_unit.specs.declared.bounds.Bounds.{Bounds}
 use Rattle.nvm_unit.specs.declared.views.PassView.{PassView}
 use Rattle.nvm_unit.specs.declared.views.Group.{Group}
 use Rattle.nvm_unit.specs.Views.{Begins, entries_by, RiseWithin, marks_after, looked, shown, added}
-use Rattle.nvm_unit.specs.Machine.{UnitState, IsAt, StandsAt, EachPass, RestsAs, IsHand, IsHeld, AreMarked}
+use Rattle.nvm_unit.specs.Machine.{UnitState, StandsAt, EachPass, RestsAs, IsHand, IsHeld, AreMarked}
+use Rattle.nvm_record.specs.Lists.{IsAt}
 use Rattle.nvm_unit.specs.Events.{number_found, idle, CanStep, CanAdd, after_look, after_take, after_put, after_return}
 use Rattle.nvm_unit.specs.Knowledge.{ArePlaced, Knows, IsKnown}
 use Rattle.nvm_unit.proofs.Lists.{at_one, at_below}

@@ -1,7 +1,7 @@
 -- Lists that are read by place.
 use Rattle.std.proofs.Common.{◌≡◌, ◌⊎◌, ℕ, zero, suc, ◌+◌, ◌<◌, List, [], ◌∷◌, ◌++◌, length, map, take, drop, refl, sym, ◌∙◌, arith, inl, inr}
 use mathlib.Core.Option.{some-injective, some-ne-none}
-use Rattle.nvm_unit.specs.Machine.{IsAt}
+use Rattle.nvm_record.specs.Lists.{IsAt}
 
 module _ {A : Type 0} where
   -- One thing stands at a place.

@@ -3,7 +3,8 @@ use Rattle.std.proofs.Common.{◌≡◌, ℕ, zero, suc, ◌+◌, map, length, r
 use Rattle.atomic_table.specs.Seated.{TableId}
 use Rattle.nvm_unit.specs.declared.bounds.Bounds.{Bounds}
 use Rattle.nvm_unit.specs.Ends.{pass_at, new_passes, AreAllPassesOf}
-use Rattle.nvm_unit.specs.Machine.{IsAt, newcomers, newcomers_from}
+use Rattle.nvm_unit.specs.Machine.{newcomers, newcomers_from}
+use Rattle.nvm_record.specs.Lists.{IsAt}
 use Rattle.nvm_unit.specs.Passes.{PassState, UnitName}
 use Rattle.nvm_unit.specs.Views.{newcomer}
 use Rattle.nvm_unit.proofs.Dealing.{new_is_of}

@@ -9,7 +9,8 @@ use Rattle.nvm_unit.specs.declared.bounds.Bounds.{Bounds}
 use Rattle.nvm_unit.specs.declared.views.PassView.{PassView}
 use Rattle.nvm_unit.specs.declared.views.Group.{Group}
 use Rattle.nvm_unit.specs.Views.{shown, added}
-use Rattle.nvm_unit.specs.Machine.{UnitState, IsAt, RestsAs, IsHand}
+use Rattle.nvm_unit.specs.Machine.{UnitState, RestsAs, IsHand}
+use Rattle.nvm_record.specs.Lists.{IsAt}
 use Rattle.nvm_unit.specs.Events.{IsAct, adds, returns, Happens, IsReached, number_found, idle, CanStep, CanAdd, after_put, after_return}
 use Rattle.nvm_unit.specs.Knowledge.{IsKnown}
 use Rattle.nvm_unit.specs.Book.{recorded}

@@ -6,7 +6,8 @@ use Rattle.nvm_unit.specs.declared.bounds.Bounds.{Bounds}
 use Rattle.nvm_unit.specs.declared.views.PassView.{PassView}
 use Rattle.nvm_unit.specs.declared.views.Group.{Group}
 use Rattle.nvm_unit.specs.Views.{Begins, entries_by, RiseWithin}
-use Rattle.nvm_unit.specs.Machine.{UnitState, IsAt, IsHand}
+use Rattle.nvm_unit.specs.Machine.{UnitState, IsHand}
+use Rattle.nvm_record.specs.Lists.{IsAt}
 use Rattle.nvm_unit.specs.Events.{idle, after_join, after_split}
 use Rattle.nvm_unit.specs.Knowledge.{ArePlaced, Knows, IsKnown}
 use Rattle.nvm_unit.proofs.Lists.{at_one}

@@ -11,14 +11,14 @@ use Rattle.nvm_store.specs.declared.answers.Answer.TheVariants.{Payload, Status}
 use Rattle.nvm_store.specs.Answer.{IsAnswer}
 use Rattle.nvm_store.specs.History.{replay_of}
 use Rattle.nvm_store.specs.HistoryEntry.{HistoryEntry}
-use Rattle.nvm_store.specs.Pair.{FailsOn}
+use Rattle.nvm_record.specs.Deeds.{FailsOn}
 use Rattle.nvm_store.specs.Point.{point, RestsOn}
 use Rattle.nvm_unit.specs.declared.replies.Changed.{Changed}
 use Rattle.nvm_unit.specs.declared.replies.Changed.TheVariants.{Done, Failed, NoMemory, Full}
 use Rattle.nvm_unit.specs.declared.replies.Observed.{Observed}
 use Rattle.nvm_unit.specs.declared.replies.ObserveFault.{ObserveFault}
 use Rattle.nvm_unit.specs.declared.views.PassView.{PassView}
-use Rattle.nvm_unit.specs.Machine.{IsAt}
+use Rattle.nvm_record.specs.Lists.{IsAt}
 use Rattle.nvm_unit.specs.Replies.{AnswersChange, AnswersLook, Makes, Observes, pass_after, entry_of_job, told_by, read_by}
 use Rattle.nvm_unit.specs.Views.{Begins}
 use Rattle.atomic_table.proofs.Lists.{at_longer, at_last}

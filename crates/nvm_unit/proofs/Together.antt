@@ -6,7 +6,7 @@ use Rattle.nvm_unit.specs.declared.bounds.Bounds.{Bounds}
 use Rattle.nvm_unit.specs.declared.views.PassView.{PassView}
 use Rattle.nvm_unit.specs.Book.{Recorded, recorded}
 use Rattle.nvm_unit.specs.Holding.{HasHeld, CanGiveBack, GivesBack}
-use Rattle.nvm_unit.specs.Machine.{IsAt}
+use Rattle.nvm_record.specs.Lists.{IsAt}
 use Rattle.nvm_unit.specs.Passes.{Finds}
 use Rattle.nvm_unit.specs.Plays.{Sits, resting, holding, Fits}
 use Rattle.nvm_unit.specs.Views.{looked, shown}

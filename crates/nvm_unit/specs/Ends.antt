@@ -6,7 +6,8 @@ use Rattle.nvm_unit.specs.declared.bounds.Bounds.{Bounds}
 use Rattle.nvm_unit.specs.declared.unit_fault.UnitFault.{UnitFault}
 use Rattle.nvm_unit.specs.declared.unit_fault.UnitFault.TheVariants.{Passes, NoMemory}
 use Rattle.nvm_unit.specs.declared.views.PassView.{PassView}
-use Rattle.nvm_unit.specs.Machine.{UnitState, IsAt, newcomers}
+use Rattle.nvm_unit.specs.Machine.{UnitState, newcomers}
+use Rattle.nvm_record.specs.Lists.{IsAt}
 use Rattle.nvm_unit.specs.Events.{idle, IsReached}
 use Rattle.nvm_unit.specs.Views.{RiseWithin}
 use Rattle.nvm_unit.specs.Passes.{UnitName, PassState, IsPassOf, IsHistoryOf, Finds}

@@ -8,7 +8,8 @@ use Rattle.nvm_unit.specs.declared.bounds.Bounds.{Bounds}
 use Rattle.nvm_unit.specs.declared.views.PassView.{PassView}
 use Rattle.nvm_unit.specs.declared.views.Group.{Group}
 use Rattle.nvm_unit.specs.Views.{looked, shown, added}
-use Rattle.nvm_unit.specs.Machine.{UnitState, IsAt, opening_state}
+use Rattle.nvm_unit.specs.Machine.{UnitState, opening_state}
+use Rattle.nvm_record.specs.Lists.{IsAt}
 
 pub data Event : Type 0 where
   -- The group j loads the word; the step may decide.

@@ -5,7 +5,8 @@ use Rattle.nvm_unit.specs.declared.bounds.Bounds.{Bounds}
 use Rattle.nvm_unit.specs.declared.views.PassView.{PassView}
 use Rattle.nvm_unit.specs.declared.views.Group.{Group}
 use Rattle.nvm_unit.specs.Views.{entries_by}
-use Rattle.nvm_unit.specs.Machine.{UnitState, IsAt, StandsAt, EachPass, IsSound}
+use Rattle.nvm_unit.specs.Machine.{UnitState, StandsAt, EachPass, IsSound}
+use Rattle.nvm_record.specs.Lists.{IsAt}
 
 -- The passes have the numbers below `count`, each of them one pass. `place` says where it stands: the
 -- group, and the place in it.

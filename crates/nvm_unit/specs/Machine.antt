@@ -1,7 +1,6 @@
 -- A shared unit as a machine: its states, and which of them are sound.
 use Rattle.std.specs.Prelude.{◌≡◌, ℕ, suc, zero, ◌+◌, ◌*◌, ◌≤◌, List, [], ◌∷◌, length, Option, Some, None}
-use mathlib.Core.Option.{some}
-use lib.ListN.{get_elem?}
+use Rattle.nvm_record.specs.Lists.{IsAt}
 use Rattle.nvm_store.specs.HistoryEntry.{HistoryEntry}
 use Rattle.nvm_store.specs.History.{IsLawfulHistory}
 use Rattle.nvm_unit.specs.declared.bounds.Bounds.{Bounds}
@@ -17,10 +16,6 @@ pub record UnitState : Type 0 where
   pub history : List HistoryEntry
   pub holder : Option ℕ
   pub groups : List Group
-
--- It stands at place i of the list.
-abbrev pub IsAt : {A : Type 0} → List A → ℕ → A → Type 0
-IsAt xs i x = get_elem? xs i ≡ some x
 
 -- The pass stands at place i of the group j.
 pub record StandsAt (groups : List Group) (j i : ℕ) (p : PassView) : Type 0 where

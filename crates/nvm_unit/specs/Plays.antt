@@ -7,7 +7,8 @@ use Rattle.nvm_unit.specs.declared.bounds.Bounds.{Bounds}
 use Rattle.nvm_unit.specs.declared.views.PassView.{PassView}
 use Rattle.nvm_unit.specs.declared.views.Group.{Group}
 use Rattle.nvm_unit.specs.Views.{Begins, entries_by, looked, shown, added}
-use Rattle.nvm_unit.specs.Machine.{UnitState, IsAt}
+use Rattle.nvm_unit.specs.Machine.{UnitState}
+use Rattle.nvm_record.specs.Lists.{IsAt}
 use Rattle.nvm_unit.specs.Book.{Recorded, recorded}
 use Rattle.nvm_unit.specs.Events.{Event, loads, takes, misses, adds, returns, IsAct, idle, Happens, IsReached}
 use Rattle.nvm_unit.specs.Passes.{IsHistoryOf}

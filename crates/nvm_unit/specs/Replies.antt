@@ -11,7 +11,7 @@ use Rattle.nvm_store.specs.declared.answers.Answer.TheVariants.{Payload, Status}
 use Rattle.nvm_store.specs.Answer.{IsAnswer}
 use Rattle.nvm_store.specs.History.{replay_of}
 use Rattle.nvm_store.specs.HistoryEntry.{HistoryEntry}
-use Rattle.nvm_store.specs.Pair.{IsFailedPair}
+use Rattle.nvm_record.specs.Deeds.{IsFailedPair}
 use Rattle.nvm_unit.specs.declared.bounds.Bounds.{Bounds}
 use Rattle.nvm_unit.specs.declared.views.PassView.{PassView}
 use Rattle.nvm_unit.specs.declared.replies.Changed.{Changed}

@@ -12,7 +12,8 @@ ghost use Rattle.nvm_unit.specs.declared.replies.Observed.{Observed as LookReply
 ghost use Rattle.nvm_unit.specs.declared.replies.ObserveFault.{ObserveFault as LookFault};
 ghost use Rattle.nvm_unit.specs.declared.views.PassView.{PassView as View};
 ghost use Rattle.nvm_unit.specs.Ends.{AreAllPassesOf, new_passes, pass_at};
-ghost use Rattle.nvm_unit.specs.Machine.{UnitState, IsAt, IsSound, opening_state};
+ghost use Rattle.nvm_unit.specs.Machine.{UnitState, IsSound, opening_state};
+ghost use Rattle.nvm_record.specs.Lists.{IsAt};
 ghost use Rattle.nvm_unit.specs.Events.{Event, Lead};
 ghost use Rattle.nvm_unit.specs.Knowledge.{IsKnown};
 ghost use Rattle.nvm_unit.specs.Marks.{

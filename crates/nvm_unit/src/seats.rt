@@ -1,7 +1,8 @@
 //! The seats of all passes, when a unit begins and when it ends.
 ghost use Rattle.std.specs.Prelude.{◌≡◌, ℕ, ◌<◌, ◌≤◌, [], map, length, IfOk};
 ghost use Rattle.nvm_unit.specs.Ends.{pass_at, views_of};
-ghost use Rattle.nvm_unit.specs.Machine.{IsAt, newcomers_from};
+ghost use Rattle.nvm_unit.specs.Machine.{newcomers_from};
+ghost use Rattle.nvm_record.specs.Lists.{IsAt};
 ghost use Rattle.nvm_unit.specs.Passes.{PassState};
 ghost use Rattle.nvm_unit.specs.Plays.{resting};
 

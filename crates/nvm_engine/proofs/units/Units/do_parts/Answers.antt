@@ -1,6 +1,6 @@
 use Rattle.std.proofs.Common.{◌≡◌, ◌≢◌, ℕ, ◌+◌, ◌<◌, List, [], ◌∷◌, map, length, refl, sym, ap, ◌∙◌, subst, arith}
 use Rattle.std.specs.List.{AllByRecursion}
-use Rattle.nvm_geometry.specs.Parts.{units_met}
+use Rattle.nvm_geometry.specs.Parts.{units_met, units_of_range}
 use Rattle.nvm_geometry.specs.declared.piece.Piece.{Piece}
 use Rattle.nvm_plan.specs.Outcome.{AreDone}
 use Rattle.nvm_engine.specs.Run.{Setup}
@@ -20,8 +20,8 @@ some_unit f xs ys e some none =
 pub returns-in_default-clause-parts : goal.returns-in_default-clause-parts
 returns-in_default-clause-parts c = λ op stands.
     let range = range_is c.args.self.now.geometry c.args.body.now op c.requires.ready stands in
-    let some : units_met c.args.self.now.geometry op.first op.blocks ≢ [] =
-    rw (range.0, range.1) (some_unit _ (units_met c.args.self.now.geometry (leader c.args.body.now).slba ((leader c.args.body.now).nlb + 1)) _ c.pieces-pieces.ensures.list c.pieces-pieces.ensures.some) in
+    let some : units_met c.args.self.now.geometry op ≢ [] =
+    rw (range.0, range.1) (some_unit _ (units_of_range c.args.self.now.geometry (leader c.args.body.now).slba ((leader c.args.body.now).nlb + 1)) _ c.pieces-pieces.ensures.list c.pieces-pieces.ensures.some) in
     none_done (setup_of_units c.args.self.now) op (over_units c.args.self.now.geometry c.args.body.now op c.requires.ready stands c.in_default.ensures.asked) c.args.self.now.units.items c.of_no_part.result (c.outcomes_are_made_part_by_part.ensures.unstarted c.args.self.now.geometry op some)
     (ap (λ (d : DoneJob). d.statuses) (c.of_no_part.ensures op stands)) (ap (λ (d : DoneJob). d.payload) (c.of_no_part.ensures op stands))
 
@@ -34,7 +34,7 @@ loop-piece-init c =
       subst (λ (ps : List Piece). AllByRecursion (IsPieceOf c.args.self.now.geometry c.args.body.now) ps) (sym same) c.pieces-pieces.ensures.each,
       λ op stands.
           let range = range_is c.args.self.now.geometry c.args.body.now op c.requires.ready stands in
-          let met : units_met c.args.self.now.geometry op.first op.blocks ≡ map (λ p. p.unit) c.into_iter-piece-iterator.result =
+          let met : units_met c.args.self.now.geometry op ≡ map (λ p. p.unit) c.into_iter-piece-iterator.result =
           rw (range.0, range.1) (sym (c.pieces_stand_in_line.ensures.units c.args.self.now.geometry (leader c.args.body.now).slba ((leader c.args.body.now).nlb + 1))
           ∙ ap (λ (ps : List Piece). map (λ p. p.unit) ps) (sym (same ∙ c.pieces-pieces.ensures.list))) in
           let begun : AreDone c.args.self.now.geometry op [] (map (λ p. p.unit) c.into_iter-piece-iterator.result) =
@@ -71,7 +71,7 @@ returns-clause-parts c = λ op stands.
     let none : c.loop-piece.piece-iterator ≡ [] = c.in-None.ensures.steps.0 in
     let under = subst (λ (ps : List Piece). IsUnderWay (setup_of_units c.args.self.now) op c.args.self.now.units.items c.loop-piece.self.units.items ps c.loop-piece.bytes.items) none (c.loop-piece.invariant.3 op stands) in
     let range = range_is c.args.self.now.geometry c.args.body.now op c.requires.ready stands in
-    let some : units_met c.args.self.now.geometry op.first op.blocks ≢ [] =
-    rw (range.0, range.1) (some_unit _ (units_met c.args.self.now.geometry (leader c.args.body.now).slba ((leader c.args.body.now).nlb + 1)) _ c.pieces-pieces.ensures.list c.pieces-pieces.ensures.some) in
+    let some : units_met c.args.self.now.geometry op ≢ [] =
+    rw (range.0, range.1) (some_unit _ (units_of_range c.args.self.now.geometry (leader c.args.body.now).slba ((leader c.args.body.now).nlb + 1)) _ c.pieces-pieces.ensures.list c.pieces-pieces.ensures.some) in
     all_done (setup_of_units c.args.self.now) op some (c.outcomes_are_made_part_by_part.ensures.whole c.args.self.now.geometry op) c.args.self.now.units.items c.loop-piece.self.units.items c.loop-piece.bytes.items c.of_success.result under
     (ap (λ (d : DoneJob). d.statuses) (c.of_success.ensures op stands)) (ap (λ (d : DoneJob). d.payload) (c.of_success.ensures op stands))

@@ -1,0 +1,59 @@
+-- The kinds of deeds, and pairs that fail. Each other definition that tells deeds apart rests on these.
+use Rattle.std.specs.Prelude.{◌≡◌, List, Bool, true, false, not, IsTrue}
+use Rattle.nvm_record.specs.declared.block.Block.{Block}
+use Rattle.nvm_record.specs.Medium.{Medium}
+use Rattle.nvm_record.specs.Step.{Deed, Operation, writes, zeroes, uncorrectable, reads, compares, pairs, compares_equal, range_of}
+
+-- a Read: where it succeeds, it is answered data
+abbrev pub is_read : Deed → Bool
+is_read (writes payload) = false
+is_read zeroes = false
+is_read uncorrectable = false
+is_read reads = true
+is_read (compares payload) = false
+is_read (pairs payload new) = false
+
+-- a Read, or a Compare by itself: it changes nothing
+abbrev pub is_look : Deed → Bool
+is_look (writes payload) = false
+is_look zeroes = false
+is_look uncorrectable = false
+is_look reads = true
+is_look (compares payload) = true
+is_look (pairs payload new) = false
+
+-- a fused Compare and Write
+abbrev pub is_pair : Deed → Bool
+is_pair (writes payload) = false
+is_pair zeroes = false
+is_pair uncorrectable = false
+is_pair reads = false
+is_pair (compares payload) = false
+is_pair (pairs payload new) = true
+
+abbrev pub IsLook : Deed → Type 0
+IsLook deed = IsTrue (is_look deed)
+
+-- It isn't a look: where it succeeds, it may change the medium.
+abbrev pub IsAct : Deed → Type 0
+IsAct deed = IsTrue (not (is_look deed))
+
+abbrev pub IsPair : Deed → Type 0
+IsPair deed = IsTrue (is_pair deed)
+
+-- the deed of one command
+abbrev pub IsSingle : Deed → Type 0
+IsSingle deed = IsTrue (not (is_pair deed))
+
+-- The deed is a pair, and its comparison with these blocks doesn't hold.
+abbrev pub FailsOn : List Block → Deed → Type 0
+FailsOn blocks (writes payload) = ⊥
+FailsOn blocks zeroes = ⊥
+FailsOn blocks uncorrectable = ⊥
+FailsOn blocks reads = ⊥
+FailsOn blocks (compares payload) = ⊥
+FailsOn blocks (pairs payload new) = compares_equal blocks payload ≡ false
+
+-- The operation is a pair, and its comparison doesn't hold on the medium.
+abbrev pub IsFailedPair : Operation → Medium → Type 0
+IsFailedPair op m = FailsOn (range_of op m) op.deed
