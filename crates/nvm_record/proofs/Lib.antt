@@ -1,4 +1,6 @@
+pub mod BlockSizes
 pub mod EntryLemmas
 pub mod HostFileLemmas
+pub mod Locality
 pub mod OneReading
 pub mod WholeCommands

@@ -1,8 +1,10 @@
 //! Laws of this crate's definitions, for the crates above. Each function does nothing: its contract
 //! is the law, which a caller then knows.
-ghost use Rattle.std.specs.Prelude.{◌≡◌, ℕ};
+ghost use Rattle.std.specs.Prelude.{◌≡◌, ◌↔◌, ℕ, ◌+◌, ◌*◌, ◌<◌, ◌≤◌, List, length, Some, IsTrue, false};
+ghost use Rattle.nvm_record.specs.Medium.{Medium, HasBlockSize, zero_medium};
 ghost use Rattle.nvm_record.specs.Op.{op_of, IsProperOp};
 ghost use Rattle.nvm_record.specs.Status as status;
+ghost use Rattle.nvm_record.specs.Step.{HasData, Operation, AgreeOn, is_in_range, medium_after, statuses_of, data_of};
 ghost use Rattle.nvm_record.specs.declared.status.TheConstants.Status as named;
 
 /// What an opcode asks for is proper: an `Other` only where the opcode has no name of its own.
@@ -23,4 +25,27 @@ pub fn statuses_have_their_codes()
     ensures range { named.LBA_OUT_OF_RANGE ≡ status.lba_out_of_range }
     ensures marked { named.UNRECOVERED_READ_ERROR ≡ status.unrecovered_read_error }
     ensures differs { named.COMPARE_FAILURE ≡ status.compare_failure }
+{}
+
+/// Media keep their block size. The medium of zero bytes has it, a step whose data has just its range's
+/// blocks keeps it, and what a Read answers has just so many bytes as its blocks.
+pub fn steps_keep_block_sizes()
+    ensures begun { (size : ℕ) → HasBlockSize size (zero_medium size) }
+    ensures step { (size : ℕ) (op : Operation) (m : Medium) → HasData (op.blocks * size) op.deed
+        → HasBlockSize size m → HasBlockSize size (medium_after size op m) }
+    ensures payload { (size : ℕ) (op : Operation) (m : Medium) (payload : List ℕ) → HasBlockSize size m
+        → data_of op m ≡ Some payload → length payload ≡ op.blocks * size }
+{}
+
+/// A step sees and changes its range alone. Outside it each block stays. Two media that agree on the
+/// range give the same statuses and the same data, and agree there afterwards.
+pub fn steps_are_local()
+    ensures range { (op : Operation) (lba : ℕ)
+        → IsTrue (is_in_range op lba) ↔ ((op.first ≤ lba) × (lba < op.first + op.blocks)) }
+    ensures outside { (size : ℕ) (op : Operation) (m : Medium) (lba : ℕ) → is_in_range op lba ≡ false
+        → medium_after size op m lba ≡ m lba }
+    ensures statuses { (op : Operation) (m n : Medium) → AgreeOn op m n → statuses_of op m ≡ statuses_of op n }
+    ensures payload { (op : Operation) (m n : Medium) → AgreeOn op m n → data_of op m ≡ data_of op n }
+    ensures blocks { (size : ℕ) (op : Operation) (m n : Medium) → AgreeOn op m n
+        → AgreeOn op (medium_after size op m) (medium_after size op n) }
 {}
