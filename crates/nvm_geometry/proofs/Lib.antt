@@ -9,3 +9,4 @@ pub mod Success
 pub mod PartsSuccess
 pub mod PartsData
 pub mod InLine
+pub mod UnitPlaces

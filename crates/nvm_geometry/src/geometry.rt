@@ -5,11 +5,11 @@ ghost use Rattle.nvm_geometry.specs.Namespace.{namespace_of};
 ghost use Rattle.nvm_geometry.specs.Boundaries.{unit_number, units_of, Crosses};
 ghost use Rattle.nvm_geometry.specs.Limits.{LiesInUnit, IsWithinWriteLimit, IsWithinPairLimit};
 ghost use Rattle.nvm_geometry.specs.Faults.{HasNoFault, IsFirstGeometryFault, IsValid, most_units};
+ghost use Rattle.nvm_geometry.specs.Place.{IsPlaceOf};
 ghost use Rattle.nvm_geometry.specs.declared.geometry_fault.GeometryFault.{GeometryFault as Fault};
 
 use crate::boundaries::{unit_at, unit_start};
 use crate::geometry_fault::GeometryFault;
-use crate::parts::Parts;
 use nvm_record::BlockSize;
 use std::marker::Model;
 
@@ -55,8 +55,6 @@ impl Model for Geometry {
 }
 
 impl Geometry {
-    ghost use Rattle.nvm_geometry.specs.Parts.{pieces_of};
-
     /// The geometry of these numbers, or the first fault that applies to them, in the order of
     /// [`GeometryFault`].
     ///
@@ -176,13 +174,7 @@ impl Geometry {
     /// the first by NABO. It takes a constant number of steps.
     pub fn unit_range(self, unit: u16) -> (u64, u32)
         requires { unit < units_of self }
-        ensures some { 0 < result.1 }
-        ensures inside { result.0 + result.1 ≤ self.nsze }
-
-        // The LBAs of the unit are just these.
-        ensures lies { (lba : ℕ) → result.0 ≤ lba → lba < result.0 + result.1 → unit_number self lba ≡ unit }
-        ensures whole { (lba : ℕ) → lba < self.nsze → unit_number self lba ≡ unit
-            → (result.0 ≤ lba) × (lba < result.0 + result.1) }
+        ensures { IsPlaceOf self unit result.0 result.1 }
     {
         if self.nabsn == 0 {
             return (0, self.nsze as u32);
@@ -223,15 +215,6 @@ impl Geometry {
         ensures beyond { OnFalse result ((self.nacwu + 1 < blocks) ⊎ Crosses self slba blocks) }
     {
         blocks <= u32::from(self.nacwu) + 1 && !self.crosses(slba, blocks)
-    }
-
-    /// The range cut at the boundaries: a piece for each unit that it meets, ascending.
-    pub fn parts(self, slba: u64, blocks: u32) -> Parts
-        requires some { 0 < blocks }
-        requires in_range { slba + blocks ≤ self.nsze }
-        ensures { result ≡ pieces_of self slba blocks }
-    {
-        Parts::new(self, slba, blocks)
     }
 
     /// Whether the range lies below NSZE, for any first LBA and any number of blocks, 0 too.

@@ -1,7 +1,7 @@
 //! What holds of boundaries, units and parts by their definitions alone. Each law is a call that does
 //! nothing and whose contract is the law.
 
-ghost use Rattle.std.specs.Prelude.{◌≡◌, ◌==◌, ◌↔◌, ℕ, ◌+◌, ◌*◌, ◌-◌, ◌<◌, ◌≤◌, ◌&&◌, List, [], ◌∷◌, All, map};
+ghost use Rattle.std.specs.Prelude.{◌≡◌, ◌==◌, ◌↔◌, ℕ, ◌+◌, ◌*◌, ◌-◌, ◌<◌, ◌≤◌, ◌&&◌, List, [], ◌∷◌, All, Contains, length, map};
 ghost use Rattle.nvm_record.specs.Status.{IsSuccess};
 ghost use Rattle.nvm_record.specs.Medium.{Medium, HasBlockSize};
 ghost use Rattle.nvm_record.specs.Step.{HasData, Operation, reads, block_at, is_in_range, medium_after, statuses_of, data_of};
@@ -10,6 +10,7 @@ ghost use Rattle.nvm_geometry.specs.Boundaries.{IsBoundary, SharesUnit, unit_num
 ghost use Rattle.nvm_geometry.specs.Faults.{HasNoFault, IsValid};
 ghost use Rattle.nvm_geometry.specs.Limits.{LiesInUnit};
 ghost use Rattle.nvm_geometry.specs.Parts.{units_met, units_of_range, data_part, part_in, piece_in, pieces_of, AreInLine, IsInUnit};
+ghost use Rattle.nvm_geometry.specs.Place.{IsPlaceOf};
 ghost use Rattle.nvm_geometry.specs.Turns.{IsOrderOf, medium_after_parts, EachSucceeds, answer_of_part, joined_data};
 ghost use Rattle.nvm_record.specs.Deeds.{IsSingle};
 
@@ -51,6 +52,29 @@ pub fn pieces_stand_in_line()
         → map (λ p. p.unit) (pieces_of ns first blocks) ≡ units_of_range ns first blocks }
     ensures each { (ns : Namespace) (first blocks : ℕ)
         → All (λ p. p ≡ piece_in ns first blocks p.unit) (pieces_of ns first blocks) }
+{}
+
+/// Each unit has a place, and only one: the piece of the whole namespace in it.
+pub fn each_unit_has_one_place()
+    ensures place { (ns : Namespace) (unit : ℕ) → 0 < ns.nsze → unit < units_of ns
+        → IsPlaceOf ns unit (piece_in ns 0 ns.nsze unit).first (piece_in ns 0 ns.nsze unit).blocks }
+    ensures one { (ns : Namespace) (unit first blocks start count : ℕ) → IsPlaceOf ns unit first blocks
+        → IsPlaceOf ns unit start count → (first ≡ start) × (blocks ≡ count) }
+{}
+
+/// An operation in the namespace meets just the units in which its part has a block, and no more units
+/// than there are. Its part in a unit that it meets lies in the unit's place, and each part has the data
+/// of its own blocks.
+pub fn parts_lie_in_their_units()
+    ensures met { (ns : Namespace) (op : Operation) (unit : ℕ) → op.first + op.blocks ≤ ns.nsze
+        → Contains (units_met ns op) unit ↔ (0 < (part_in ns op unit).blocks) }
+    ensures few { (ns : Namespace) (op : Operation) → length (units_met ns op) ≤ units_of ns }
+    ensures lies { (ns : Namespace) (op : Operation) (unit first blocks : ℕ) → op.first + op.blocks ≤ ns.nsze
+        → IsPlaceOf ns unit first blocks → Contains (units_met ns op) unit
+        → (first ≤ (part_in ns op unit).first)
+        × ((part_in ns op unit).first + (part_in ns op unit).blocks ≤ first + blocks) }
+    ensures payload { (ns : Namespace) (op : Operation) (unit : ℕ) → HasData (op.blocks * ns.block_size) op.deed
+        → HasData ((part_in ns op unit).blocks * ns.block_size) (part_in ns op unit).deed }
 {}
 
 /// The part of an operation in a unit has just those LBAs of its range that lie in the unit, and the

@@ -1,4 +1,5 @@
-ghost use Rattle.std.specs.Prelude.{◌≡◌, ◌+◌, ◌≤◌};
+ghost use Rattle.std.specs.Prelude.{◌≡◌, ◌+◌, ◌<◌, ◌≤◌, length, IfSome, IfNone};
+ghost use Rattle.nvm_geometry.specs.Boundaries.{units_of};
 
 use crate::geometry::Geometry;
 use crate::piece::Piece;
@@ -27,11 +28,66 @@ impl Model for Parts {
     ghost invariant = { λ p. p.at + p.left ≤ p.geometry.nsze };
 }
 
+impl Geometry {
+    ghost use Rattle.nvm_geometry.specs.Parts.{blocks_in, piece_in, pieces_of, units_of_range, IsInUnit};
+
+    /// The range cut at the boundaries: a piece for each unit that it meets, ascending.
+    pub fn parts(self, slba: u64, blocks: u32) -> Parts
+        requires some { 0 < blocks }
+        requires in_range { slba + blocks ≤ self.nsze }
+        ensures { result ≡ pieces_of self slba blocks }
+    {
+        Parts::new(self, slba, blocks)
+    }
+
+    /// How many units the range meets, which is how many parts it has: 0 where it has no block. It takes
+    /// a constant number of steps.
+    pub fn part_count(self, slba: u64, blocks: u32) -> u16
+        requires { slba + blocks ≤ self.nsze }
+        ensures value { result ≡ length (units_of_range self slba blocks) }
+        ensures valid { result ≤ units_of self }
+    {
+        if blocks == 0 {
+            return 0;
+        }
+        let last = slba + u64::from(blocks) - 1;
+        self.unit_of(last) - self.unit_of(slba) + 1
+    }
+
+    /// The part of the range in a unit: `None` where no LBA of the range lies in the unit, or no unit has
+    /// that number. It takes a constant number of steps.
+    pub fn part_in(self, unit: u16, slba: u64, blocks: u32) -> Option<Piece>
+        requires { slba + blocks ≤ self.nsze }
+        ensures part { IfSome result (λ p. p ≡ piece_in self slba blocks unit) }
+        ensures none { IfNone result (blocks_in self slba blocks unit ≡ 0) }
+
+        // The part has a block, lies in the unit, and lies in the range.
+        ensures some { IfSome result (λ p. 0 < p.blocks) }
+        ensures inside { IfSome result (IsInUnit self) }
+        ensures within { IfSome result (λ p. (slba ≤ p.first) × (p.first + p.blocks ≤ slba + blocks)) }
+    {
+        if unit >= self.units() {
+            return None;
+        }
+        let (start, count) = self.unit_range(unit);
+        let first = slba.max(start);
+        let past = (slba + u64::from(blocks)).min(start + u64::from(count));
+        if past <= first {
+            return None;
+        }
+        Some(Piece {
+            unit,
+            first,
+            blocks: (past - first) as u32,
+        })
+    }
+}
+
 impl Parts {
     ghost use Rattle.nvm_geometry.specs.Parts.{pieces_of};
 
     /// The pieces of the range.
-    pub(crate) fn new(geometry: Geometry, slba: u64, blocks: u32) -> Parts
+    fn new(geometry: Geometry, slba: u64, blocks: u32) -> Parts
         requires { slba + blocks ≤ geometry.nsze }
         ensures { result ≡ pieces_of geometry slba blocks }
     {
