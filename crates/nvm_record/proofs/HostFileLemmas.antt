@@ -2,8 +2,8 @@
 use Rattle.std.proofs.Common.{inl, inr, ◌≡◌, ℕ, ◌+◌, ◌<◌, ◌≤◌, List, [], ◌∷◌, ◌++◌, length, take, drop, refl, sym, ap, ◌∙◌, subst, arith, append_assoc, length-append, length-drop}
 use Rattle.std.proofs.Math.Seq.{take-append_seam, drop-append_seam}
 use Rattle.std.proofs.lemmas.List.{take-append-drop, length-take-le}
-use Rattle.nvm_record.specs.Entry.{IsEntryOf, data_length}
-use Rattle.nvm_record.specs.HostFile.{BeginsWith, BeginsWithAll, IsCutFault, IsAnsweredFault, file_name}
+use Rattle.nvm_record.specs.Entry.{BeginsWith, IsEntryOf, data_length}
+use Rattle.nvm_record.specs.HostFile.{BeginsWithAll, IsCutFault, IsAnsweredFault, file_name}
 use Rattle.nvm_record.specs.declared.command.Command.{Command}
 use Rattle.nvm_record.specs.declared.host_fault.HostFault.{HostFault}
 use Rattle.nvm_record.specs.declared.host_fault.HostFault.TheVariants.{BadName, Truncated, TooMany, NoMemory}

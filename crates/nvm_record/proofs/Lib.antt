@@ -4,3 +4,4 @@ pub mod HostFileLemmas
 pub mod Locality
 pub mod OneReading
 pub mod WholeCommands
+pub mod WrittenFiles

@@ -5,8 +5,8 @@ use Rattle.std.proofs.Math.Seq.{take-append_seam, drop-append_seam}
 use Rattle.std.proofs.lemmas.List.{length-take, take-append-le, drop-append-le}
 use Rattle.byteorder.specs.Endian.{little_number}
 use Rattle.nvm_record.specs.Op.{op_of}
-use Rattle.nvm_record.specs.Entry.{IsEntryOf, IsSpelling, data_length}
-use Rattle.nvm_record.specs.HostFile.{BeginsWith, BeginsWithAll, IsHostFile, IsCut, IsTruncated, HasTooMany, IsHostFileFault, IsAnsweredFault, called_for}
+use Rattle.nvm_record.specs.Entry.{IsEntryOf, IsSpelling, data_length, BeginsWith, called_for}
+use Rattle.nvm_record.specs.HostFile.{BeginsWithAll, IsHostFile, IsCut, IsTruncated, HasTooMany, IsHostFileFault, IsAnsweredFault}
 use Rattle.nvm_record.specs.declared.command.Command.{Command}
 use Rattle.nvm_record.specs.declared.op.Op.{Op}
 use Rattle.nvm_record.specs.declared.op.Fuse.{Fuse}

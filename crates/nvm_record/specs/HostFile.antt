@@ -1,8 +1,7 @@
 -- The host file: its name, then each command of one host with its data.
-use Rattle.std.specs.Prelude.{◌≡◌, ◌≢◌, ◌⊎◌, ℕ, ◌+◌, ◌<◌, ◌≤◌, List, [], ◌∷◌, ◌++◌, length, take, drop, slice_index}
-use Rattle.byteorder.specs.Endian.{little_number}
-use Rattle.nvm_record.specs.Op.{op_of}
-use Rattle.nvm_record.specs.Entry.{IsSpelling, data_length}
+use Rattle.std.specs.Prelude.{◌≡◌, ◌≢◌, ◌⊎◌, ℕ, ◌+◌, ◌<◌, ◌≤◌, List, [], ◌∷◌, ◌++◌, length, take, drop}
+use Rattle.std.specs.List.{flat_map}
+use Rattle.nvm_record.specs.Entry.{BeginsWith, called_for, spelling_of}
 use Rattle.nvm_record.specs.declared.command.Command.{Command}
 use Rattle.nvm_record.specs.declared.host_fault.HostFault.{HostFault}
 use Rattle.nvm_record.specs.declared.host_fault.HostFault.TheVariants.{BadName, Truncated, TooMany, NoMemory}
@@ -15,10 +14,6 @@ file_name = 78 ∷ 86 ∷ 81 ∷ 49 ∷ []
 abbrev pub most_commands : ℕ
 most_commands = 65536
 
--- The bytes begin with a spelling of the command, and then comes the rest.
-abbrev pub BeginsWith : ℕ → List ℕ → Command → List ℕ → Type 0
-BeginsWith size bytes c rest = (front : List ℕ) × (bytes ≡ front ++ rest) × IsSpelling size front c
-
 -- The bytes are spellings of the commands, one after the other, and then the rest.
 abbrev pub BeginsWithAll : ℕ → List ℕ → List Command → List ℕ → Type 0
 BeginsWithAll size bytes [] rest = bytes ≡ rest
@@ -30,9 +25,9 @@ pub record IsHostFile (size : ℕ) (bytes : List ℕ) (cs : List Command) : Type
   pub commands : BeginsWithAll size (drop 4 bytes) cs []
   pub few : length cs ≤ most_commands
 
--- how many bytes of data an entry calls for
-abbrev pub called_for : ℕ → List ℕ → ℕ
-called_for size entry = data_length size (op_of (slice_index entry 0)) (little_number 2 (drop 48 entry))
+-- the file of the commands in which every unnamed bit is 0
+abbrev pub file_of : List Command → List ℕ
+file_of cs = file_name ++ flat_map spelling_of cs
 
 -- Bytes are left, and either there is no whole entry among them, or there is one and the data that it
 -- calls for isn't whole. What isn't whole begins `inside` bytes behind the front of what is left.

@@ -12,19 +12,25 @@ use byteorder::{ByteOrder, LittleEndian};
 /// A submission entry has so many bytes.
 pub const ENTRY_BYTES: usize = 64;
 
-/// What an entry says of its command.
-#[derive(Clone, Copy)]
-pub struct Fields {
+/// What a submission entry says of its command, which is all but the data.
+#[derive(Clone, Copy, Debug, PartialEq, Eq)]
+pub struct EntryFields {
+    /// The command identifier.
     pub cid: u16,
+    /// The namespace identifier.
     pub nsid: u32,
+    /// The command's place in a fused operation.
     pub fuse: Fuse,
+    /// The opcode.
     pub op: Op,
+    /// The starting LBA.
     pub slba: u64,
+    /// The number of logical blocks, zeroes-based.
     pub nlb: u16,
 }
 
-/// The fields of an entry. All other bits may be anything.
-pub fn fields_of(entry: &[u8]) -> Fields
+/// The fields of an entry of 64 bytes. All other bits may be anything.
+pub fn entry_fields(entry: &[u8]) -> EntryFields
     requires { length entry.now ≡ 64 }
     ensures op { result.op ≡ op_of (slice_index entry.now 0) }
     ensures fuse { result.fuse ≡ fuse_of (slice_index entry.now 1 % 4) }
@@ -33,7 +39,7 @@ pub fn fields_of(entry: &[u8]) -> Fields
     ensures slba { result.slba ≡ little_number 8 (drop 40 entry.now) }
     ensures nlb { result.nlb ≡ little_number 2 (drop 48 entry.now) }
 {
-    Fields {
+    EntryFields {
         cid: LittleEndian::read_u16(&entry[2..]),
         nsid: LittleEndian::read_u32(&entry[4..]),
         fuse: Fuse::of_bits(entry[1] % 4),
@@ -43,7 +49,7 @@ pub fn fields_of(entry: &[u8]) -> Fields
     }
 }
 
-impl Fields {
+impl EntryFields {
     /// How many bytes of data follow the entry, in blocks of `size`.
     pub fn data_length(self, size: BlockSize) -> usize
         ensures { result ≡ spec.data_length size self.op self.nlb }
@@ -63,6 +69,7 @@ impl Fields {
 /// calls for and an `Other` holds no opcode that has a name of its own.
 pub fn command_bytes(command: &Command) -> [u8; 64]
     ensures entry { result ≡ entry_of command.now }
+    ensures fields { HasFieldsInRange command.now }
     ensures spelling { (size : ℕ) → IsWhole size command.now
         → IsSpelling size (result ++ command.now.payload) command.now }
 {

@@ -1,15 +1,17 @@
-ghost use Rattle.std.specs.Prelude.{◌≡◌, ◌⊎◌, ◌+◌, ◌^◌, ◌<◌, All, ℕ, List, IfOk, IfErr, MatchResult, length};
-ghost use Rattle.nvm_record.specs.Entry.{IsWhole};
-ghost use Rattle.nvm_record.specs.HostFile.{IsHostFile, IsHostFileFault, IsAnsweredFault, BeginsWith, IsCutFault};
+ghost use Rattle.std.specs.Prelude.{◌≡◌, ◌⊎◌, ◌+◌, ◌^◌, ◌<◌, ◌≤◌, All, ℕ, List, IfOk, IfErr, MatchResult, length};
+ghost use Rattle.nvm_record.specs.Entry.{BeginsWith, IsWhole};
+ghost use Rattle.nvm_record.specs.HostFile.{IsHostFile, IsHostFileFault, IsAnsweredFault, IsCutFault, file_of, most_commands};
 ghost use Rattle.nvm_record.specs.declared.command.Command.{Command as Spelled};
 ghost use Rattle.nvm_record.specs.declared.host_fault.HostFault.{HostFault as Fault};
-ghost use Rattle.nvm_record.specs.declared.host_fault.HostFault.TheVariants.{NoMemory};
+ghost use Rattle.nvm_record.specs.declared.host_fault.HostFault.TheVariants.{NoMemory as Refused};
 
+use crate::NoMemory;
 use crate::block_size::BlockSize;
 use crate::command::Command;
-use crate::entry::{ENTRY_BYTES, fields_of};
+use crate::command_fault::CommandFault;
+use crate::entry::ENTRY_BYTES;
 use crate::host_fault::HostFault;
-use crate::payload::Payload;
+use crate::spelling::{push_spelling, read_command};
 use std::alloc::Global;
 
 /// A host file begins with these bytes.
@@ -32,9 +34,9 @@ pub fn read_host(alloc: Global, bytes: &[u8], size: BlockSize) -> Result<Vec<Com
 
     // A file reads as one thing alone, so nothing but want of memory is answered in its place.
     ensures all_commands { (cs : List Spelled) → IsHostFile size bytes.now cs
-        → MatchResult result (λ v. v.items ≡ cs) (λ e. e ≡ NoMemory) }
+        → MatchResult result (λ v. v.items ≡ cs) (λ e. e ≡ Refused) }
     ensures each_fault { (f : Fault) → IsHostFileFault size bytes.now f
-        → MatchResult result (λ _. ⊥) (λ e. (e ≡ f) ⊎ (e ≡ NoMemory)) }
+        → MatchResult result (λ _. ⊥) (λ e. (e ≡ f) ⊎ (e ≡ Refused)) }
 {
     commands_of(alloc, bytes, size)
 }
@@ -53,7 +55,7 @@ fn commands_of(alloc: Global, bytes: &[u8], size: BlockSize) -> Result<Vec<Comma
         if commands.len() == MOST_COMMANDS {
             return Err(HostFault::TooMany);
         }
-        let (command, after) = read_command(alloc, rest, size, length - rest.len())?;
+        let (command, after) = next_command(alloc, rest, size, length - rest.len())?;
         commands.push(command)?;
         rest = after;
     }
@@ -62,7 +64,7 @@ fn commands_of(alloc: Global, bytes: &[u8], size: BlockSize) -> Result<Vec<Comma
 
 /// Reads the command at the front of `rest`, which stands at `offset` of its file, and gives what
 /// follows it.
-fn read_command(
+fn next_command(
     alloc: Global,
     rest: &[u8],
     size: BlockSize,
@@ -73,27 +75,40 @@ fn read_command(
     ensures command { IfOk result (λ read. BeginsWith size rest.now read.0 read.1.now) }
     ensures fault { IfErr result (IsCutFault size rest.now offset) }
 {
-    if rest.len() < ENTRY_BYTES {
-        return Err(HostFault::Truncated { at: offset as u64 });
-    }
-    let (entry, after) = rest.split_at(ENTRY_BYTES);
-    let fields = fields_of(entry);
-    let wanted = fields.data_length(size);
-    if after.len() < wanted {
-        return Err(HostFault::Truncated {
+    match read_command(alloc, rest, size) {
+        Ok(read) => Ok(read),
+        Err(CommandFault::CutEntry) => Err(HostFault::Truncated { at: offset as u64 }),
+        Err(CommandFault::CutData) => Err(HostFault::Truncated {
             at: (offset + ENTRY_BYTES) as u64,
-        });
+        }),
+        Err(CommandFault::NoMemory) => Err(HostFault::NoMemory),
     }
-    let (payload, after) = after.split_at(wanted);
-    let payload = Payload::copy_of(alloc, payload)?;
-    let command = Command {
-        cid: fields.cid,
-        nsid: fields.nsid,
-        fuse: fields.fuse,
-        op: fields.op,
-        slba: fields.slba,
-        nlb: fields.nlb,
-        payload,
-    };
-    Ok((command, after))
+}
+
+/// The bytes of the host file that holds the commands, every unnamed bit being 0.
+///
+/// It is read as just these commands, where each has just the data that it calls for and a proper opcode,
+/// and there are 65,536 of them at most.
+pub fn host_bytes(alloc: Global, commands: &[Command]) -> Result<Vec<u8>, NoMemory>
+    ensures bytes { IfOk result (λ v. v.items ≡ file_of commands.now) }
+    ensures file { IfOk result (λ v. (size : ℕ) → All (IsWhole size) commands.now
+        → length commands.now ≤ most_commands → IsHostFile size v.items commands.now) }
+{
+    let mut bytes = Vec::with_capacity(alloc, length_of(commands))?;
+    bytes.extend_from_slice(NAME)?;
+    for command in commands {
+        push_spelling(&mut bytes, command)?;
+    }
+    Ok(bytes)
+}
+
+/// How many bytes the host file has. Where no memory can have so many, it is as much as can be asked for.
+fn length_of(commands: &[Command]) -> usize {
+    let mut length = NAME.len();
+    for command in commands {
+        length = length
+            .saturating_add(ENTRY_BYTES)
+            .saturating_add(command.payload.len());
+    }
+    length
 }

@@ -1,15 +1,26 @@
 //! Laws of this crate's definitions, for the crates above. Each function does nothing: its contract
 //! is the law, which a caller then knows.
-ghost use Rattle.std.specs.Prelude.{◌≡◌, ◌↔◌, ℕ, ◌+◌, ◌*◌, ◌<◌, ◌≤◌, List, length, Some, IsTrue, false};
+ghost use Rattle.std.specs.Prelude.{◌≡◌, ◌↔◌, ℕ, ◌+◌, ◌*◌, ◌++◌, ◌<◌, ◌≤◌, List, length, Some, IsTrue, false};
+ghost use Rattle.nvm_record.specs.Entry.{BeginsWith, HasFieldsInRange, IsWhole, spelling_of};
 ghost use Rattle.nvm_record.specs.Medium.{Medium, HasBlockSize, zero_medium};
 ghost use Rattle.nvm_record.specs.Op.{op_of, IsProperOp};
 ghost use Rattle.nvm_record.specs.Status as status;
 ghost use Rattle.nvm_record.specs.Step.{HasData, Operation, AgreeOn, is_in_range, medium_after, statuses_of, data_of};
+ghost use Rattle.nvm_record.specs.declared.command.Command.{Command as Spelled};
 ghost use Rattle.nvm_record.specs.declared.status.TheConstants.Status as named;
 
 /// What an opcode asks for is proper: an `Other` only where the opcode has no name of its own.
 pub fn opcodes_are_proper()
     ensures { (opcode : ℕ) → IsProperOp (op_of opcode) }
+{}
+
+/// A command is read in one way: where bytes begin with a spelling of a command and then the rest, they
+/// begin with that of no other, and no other rest follows. What is written of a whole command reads as it.
+pub fn commands_are_read_one_way()
+    ensures one { (size : ℕ) (bytes : List ℕ) (c d : Spelled) (rest after : List ℕ) → BeginsWith size bytes c rest
+        → BeginsWith size bytes d after → (c ≡ d) × (rest ≡ after) }
+    ensures again { (size : ℕ) (c : Spelled) (rest : List ℕ) → HasFieldsInRange c → IsWhole size c
+        → BeginsWith size (spelling_of c ++ rest) c rest }
 {}
 
 /// Each constant of [`Status`](crate::Status) has the type and the code that its name has in the standard.

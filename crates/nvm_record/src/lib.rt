@@ -1,13 +1,15 @@
 //! Commands, statuses, completions and host files of the NVM Command Set, and, in specs alone, what
 //! a medium is and what a command does to it.
 //!
-//! A host file holds the commands of one host: [`read_host`] reads it, [`command_bytes`] writes one
-//! submission entry of it.
+//! A host file holds the commands of one host: [`read_host`] reads it, [`host_bytes`] writes it. A command
+//! alone, its submission entry and then its data, is read by [`read_command`] and written by
+//! [`push_spelling`].
 #![tactic(auto)]
 
 mod block;
 mod block_size;
 mod command;
+mod command_fault;
 mod completion;
 mod entry;
 mod host_fault;
@@ -15,17 +17,20 @@ mod host_file;
 pub mod laws;
 mod op;
 mod payload;
+mod spelling;
 mod status;
 
 pub use block::Block;
 pub use block_size::BlockSize;
 pub use command::Command;
+pub use command_fault::CommandFault;
 pub use completion::{Completion, completion_bytes};
-pub use entry::command_bytes;
+pub use entry::{ENTRY_BYTES, EntryFields, command_bytes, entry_fields};
 pub use host_fault::HostFault;
-pub use host_file::{MOST_COMMANDS, read_host};
+pub use host_file::{MOST_COMMANDS, host_bytes, read_host};
 pub use op::{Fuse, Op};
 pub use payload::Payload;
+pub use spelling::{push_spelling, read_command};
 pub use status::{Status, Statuses};
 
 /// Memory was asked for and refused.

@@ -8,8 +8,8 @@ overflow_sub-length c =
     let shorter = reading_shorter c.args.size c.args.bytes.now c.loop-rest.commands.items c.loop-rest.rest.now c.loop-rest.invariant in
     omega arith
 
-pub read_command-requires-clause-in_file : goal.read_command-requires-clause-in_file
-read_command-requires-clause-in_file c =
+pub next_command-requires-clause-in_file : goal.next_command-requires-clause-in_file
+next_command-requires-clause-in_file c =
     let shorter = reading_shorter c.args.size c.args.bytes.now c.loop-rest.commands.items c.loop-rest.rest.now c.loop-rest.invariant in
     omega arith
 
