@@ -1,8 +1,26 @@
+ghost use Rattle.std.specs.Prelude.{◌≡◌};
+
 use crate::payload::Payload;
+use std::alloc::AllocError;
 
 /// What a logical block holds: its bytes, or the mark that Write Uncorrectable leaves.
-#[derive(Debug, Drop)]
+#[derive(Debug, PartialEq, Eq, Drop)]
 pub enum Block {
     Bytes(Payload),
     Uncorrectable,
+}
+
+/// A copy of the block and of its bytes, which take memory.
+impl Clone for Block {
+    ghost is_clone = { λ block copy. copy ≡ block };
+
+    fn clone(&self) -> Result<Block, AllocError> {
+        match self {
+            Block::Bytes(bytes) => {
+                let bytes = bytes.clone()?;
+                Ok(Block::Bytes(bytes))
+            }
+            Block::Uncorrectable => Ok(Block::Uncorrectable),
+        }
+    }
 }

@@ -1,8 +1,11 @@
+ghost use Rattle.std.specs.Prelude.{◌≡◌};
+
 use crate::op::{Fuse, Op};
 use crate::payload::Payload;
+use std::alloc::AllocError;
 
 /// A command of one host: the fields of its submission entry that this project reads, and its data.
-#[derive(Debug, Drop)]
+#[derive(Debug, PartialEq, Eq, Drop)]
 pub struct Command {
     /// The command identifier (CID), which the completion repeats.
     pub cid: u16,
@@ -18,4 +21,22 @@ pub struct Command {
     pub nlb: u16,
     /// The data: `nlb + 1` blocks for a Write and a Compare, none for the rest.
     pub payload: Payload,
+}
+
+/// A copy of the command and of its data, which takes memory.
+impl Clone for Command {
+    ghost is_clone = { λ command copy. copy ≡ command };
+
+    fn clone(&self) -> Result<Command, AllocError> {
+        let payload = self.payload.clone()?;
+        Ok(Command {
+            cid: self.cid,
+            nsid: self.nsid,
+            fuse: self.fuse,
+            op: self.op,
+            slba: self.slba,
+            nlb: self.nlb,
+            payload,
+        })
+    }
 }

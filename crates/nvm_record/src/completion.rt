@@ -4,9 +4,10 @@ ghost use Rattle.nvm_record.specs.Completion.{posted};
 use crate::payload::Payload;
 use crate::status::Status;
 use byteorder::{ByteOrder, LittleEndian};
+use std::alloc::AllocError;
 
 /// What a host is told of one of its commands.
-#[derive(Debug, Drop)]
+#[derive(Debug, PartialEq, Eq, Drop)]
 pub struct Completion {
     /// The number of the host, from 1.
     pub host: u16,
@@ -16,6 +17,27 @@ pub struct Completion {
     pub status: Status,
     /// The data of a Read of status 0/00.
     pub payload: Option<Payload>,
+}
+
+/// A copy of the completion and of its data, which takes memory.
+impl Clone for Completion {
+    ghost is_clone = { λ completion copy. copy ≡ completion };
+
+    fn clone(&self) -> Result<Completion, AllocError> {
+        let payload = match &self.payload {
+            Some(payload) => {
+                let payload = payload.clone()?;
+                Some(payload)
+            }
+            None => None,
+        };
+        Ok(Completion {
+            host: self.host,
+            cid: self.cid,
+            status: self.status,
+            payload,
+        })
+    }
 }
 
 /// The status code begins at this bit of dword 3.

@@ -20,6 +20,37 @@ impl Model for Payload {
     ghost view = { λ p. p.bytes.items };
 }
 
+/// Two are equal where their bytes are.
+impl PartialEq for Payload {
+    ghost use Rattle.std.specs.Prelude.{nat_eq};
+    ghost use Rattle.std.specs.Cmp.{partial_equiv_from_equiv};
+    ghost use Rattle.std.specs.Cmp.Lexicographic.{pointwise, nat_list_eq_equiv};
+
+    ghost eq = { pointwise nat_eq };
+
+    ghost laws = { partial_equiv_from_equiv nat_list_eq_equiv };
+
+    fn eq(&self, other: &Payload) -> bool {
+        self.bytes == other.bytes
+    }
+}
+
+impl Eq for Payload {
+    ghost use Rattle.std.specs.Cmp.Lexicographic.{nat_list_eq_equiv};
+
+    ghost laws = { nat_list_eq_equiv };
+}
+
+/// A copy of the bytes, which takes memory.
+impl Clone for Payload {
+    ghost is_clone = { λ payload copy. copy ≡ payload };
+
+    fn clone(&self) -> Result<Payload, AllocError> {
+        let bytes = self.bytes.clone()?;
+        Ok(Payload { bytes })
+    }
+}
+
 impl Payload {
     /// No bytes. It takes no memory.
     pub fn empty(alloc: Global) -> Payload
