@@ -60,9 +60,6 @@ pub after_inside : (size : ℕ) (op : Operation) (m : Medium) (lba : ℕ) → Is
     → medium_after size op m lba ≡ left_by size op.deed (lba - op.first) (m lba)
 after_inside size op m lba single inside = rw inside (single_after size (range_of op m) op.deed (lba - op.first) (m lba) single)
 
-pub after_outside : (size : ℕ) (op : Operation) (m : Medium) (lba : ℕ) → is_in_range op lba ≡ false → medium_after size op m lba ≡ m lba
-after_outside size op m lba outside = rw outside refl
-
 -- the bounds that the test for the range tells
 pub range_bounds : (op : Operation) (lba : ℕ) → is_in_range op lba ≡ true → (op.first ≤ lba) × (lba < op.first + op.blocks)
 range_bounds op lba inside =
@@ -91,16 +88,17 @@ part_here ns op unit m lba single inside here =
 part_apart : (ns : Namespace) (op : Operation) (unit : ℕ) (m : Medium) (lba : ℕ) → (unit ≡ unit_number ns lba → ⊥)
     → medium_after ns.block_size (part_in ns op unit) m lba ≡ m lba
 part_apart ns op unit m lba apart =
-    after_outside ns.block_size (part_in ns op unit) m lba
-    (part_lbas ns op unit lba ∙ and_right _ _ (ne_eqb (unit_number ns lba) unit (λ e. apart (sym e))))
+    let outside : is_in_range (part_in ns op unit) lba ≡ false =
+    part_lbas ns op unit lba ∙ and_right _ _ (ne_eqb (unit_number ns lba) unit (λ e. apart (sym e))) in
+    rw outside refl
 
 -- outside the range nothing changes
 parts_outside : (ns : Namespace) (op : Operation) (units : List ℕ) (m : Medium) (lba : ℕ) → is_in_range op lba ≡ false
     → medium_after_parts ns op units m lba ≡ m lba
 parts_outside ns op [] m lba outside = refl
 parts_outside ns op (unit ∷ units) m lba outside =
-    parts_outside ns op units (medium_after ns.block_size (part_in ns op unit) m) lba outside
-    ∙ after_outside ns.block_size (part_in ns op unit) m lba (part_lbas ns op unit lba ∙ rw outside refl)
+    let beyond : is_in_range (part_in ns op unit) lba ≡ false = part_lbas ns op unit lba ∙ rw outside refl in
+    parts_outside ns op units (medium_after ns.block_size (part_in ns op unit) m) lba outside ∙ rw beyond refl
 
 -- nor does an LBA of a unit that isn't among these
 parts_apart : (ns : Namespace) (op : Operation) (units : List ℕ) (m : Medium) (lba : ℕ) → count_by (λ v. v == unit_number ns lba) units ≡ 0
@@ -164,5 +162,5 @@ pub parts_medium : (ns : Namespace) (op : Operation) (units : List ℕ) (m : Med
 parts_medium ns op units m single order lba =
     elim (cases_Bool (is_in_range op lba)) [
       | inl t ↦ parts_inside ns op units m lba single t (unit_among ns op units lba order t) ∙ sym (after_inside ns.block_size op m lba single t)
-      | inr f ↦ parts_outside ns op units m lba f ∙ sym (after_outside ns.block_size op m lba f)
+      | inr f ↦ parts_outside ns op units m lba f ∙ rw f refl
     ]

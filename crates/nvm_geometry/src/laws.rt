@@ -88,8 +88,8 @@ pub fn part_has_its_blocks()
 
 /// An operation whose range lies in one unit has one part, which is the operation itself.
 pub fn one_unit_is_one_part()
-    ensures unit { (ns : Namespace) (first blocks : ℕ) → 0 < blocks → first + blocks ≤ ns.nsze
-        → LiesInUnit ns first blocks → units_of_range ns first blocks ≡ unit_number ns first ∷ [] }
+    ensures unit { (ns : Namespace) (op : Operation) → 0 < op.blocks → op.first + op.blocks ≤ ns.nsze
+        → LiesInUnit ns op.first op.blocks → units_met ns op ≡ unit_number ns op.first ∷ [] }
     ensures part { (ns : Namespace) (op : Operation) → 0 < op.blocks → op.first + op.blocks ≤ ns.nsze
         → LiesInUnit ns op.first op.blocks → HasData (op.blocks * ns.block_size) op.deed
         → part_in ns op (unit_number ns op.first) ≡ op }

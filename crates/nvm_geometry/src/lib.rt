@@ -3,17 +3,16 @@
 #![tactic(auto)]
 
 mod boundaries;
-#[cfg(test)]
-mod counter_tests;
 mod geometry;
 mod geometry_fault;
 pub mod laws;
 mod parts;
 mod piece;
-#[cfg(test)]
-mod tests;
 
 pub use geometry::{Geometry, MOST_BLOCKS, MOST_UNITS};
 pub use geometry_fault::GeometryFault;
 pub use parts::Parts;
 pub use piece::Piece;
+
+#[cfg(test)]
+mod tests;

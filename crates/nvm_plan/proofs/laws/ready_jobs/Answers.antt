@@ -11,4 +11,4 @@ pub returns-clause-pair : goal.returns-clause-pair
 returns-clause-pair c ns job op h stands pair =
     let ready = ready_job c.sharing_is_one_number.ensures.shares ns job h in
     let place = pair_in_unit ns job op ready stands pair in
-    c.one_unit_is_one_part.ensures.unit ns op.first op.blocks place.0 place.1 place.2
+    c.one_unit_is_one_part.ensures.unit ns op place.0 place.1 place.2
