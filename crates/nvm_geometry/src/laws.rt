@@ -12,7 +12,7 @@ ghost use Rattle.nvm_geometry.specs.Limits.{LiesInUnit};
 ghost use Rattle.nvm_geometry.specs.Parts.{units_met, units_of_range, data_part, part_in, piece_in, pieces_of, AreInLine, IsInUnit};
 ghost use Rattle.nvm_geometry.specs.Place.{IsPlaceOf};
 ghost use Rattle.nvm_geometry.specs.Turns.{IsOrderOf, medium_after_parts, EachSucceeds, answer_of_part, joined_data};
-ghost use Rattle.nvm_record.specs.Deeds.{IsSingle};
+ghost use Rattle.nvm_record.specs.Deeds.{is_look, is_read, is_pair, IsSingle};
 
 /// Units number the LBAs of a namespace from 0 upwards: LBA 0 lies in unit 0, the number rises by 1 at
 /// each boundary and nowhere else, and each number below that of the units is some LBA's.
@@ -84,6 +84,13 @@ pub fn part_has_its_blocks()
         → is_in_range (part_in ns op unit) lba ≡ (is_in_range op lba && unit_number ns lba == unit) }
     ensures payload { (size skipped blocks i : ℕ) (payload : List ℕ) → i < blocks
         → block_at size (data_part size skipped blocks payload) i ≡ block_at size payload (skipped + i) }
+{}
+
+/// A part is of its operation's kind: a look of a look, a Read of a Read, a pair of a pair.
+pub fn parts_keep_their_kind()
+    ensures look { (ns : Namespace) (op : Operation) (unit : ℕ) → is_look (part_in ns op unit).deed ≡ is_look op.deed }
+    ensures read { (ns : Namespace) (op : Operation) (unit : ℕ) → is_read (part_in ns op unit).deed ≡ is_read op.deed }
+    ensures pair { (ns : Namespace) (op : Operation) (unit : ℕ) → is_pair (part_in ns op unit).deed ≡ is_pair op.deed }
 {}
 
 /// An operation whose range lies in one unit has one part, which is the operation itself.

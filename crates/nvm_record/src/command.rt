@@ -1,5 +1,7 @@
-ghost use Rattle.std.specs.Prelude.{◌≡◌};
+ghost use Rattle.std.specs.Prelude.{◌≡◌, ◌↔◌, IsTrue};
+ghost use Rattle.nvm_record.specs.Entry.{IsWhole};
 
+use crate::block_size::BlockSize;
 use crate::op::{Fuse, Op};
 use crate::payload::Payload;
 use std::alloc::AllocError;
@@ -21,6 +23,15 @@ pub struct Command {
     pub nlb: u16,
     /// The data: `nlb + 1` blocks for a Write and a Compare, none for the rest.
     pub payload: Payload,
+}
+
+impl Command {
+    /// Whether the command has just the data that it calls for, in blocks of `size`, and a proper opcode.
+    pub fn is_whole(&self, size: BlockSize) -> bool
+        ensures { IsTrue result ↔ IsWhole size self.now }
+    {
+        self.payload.len() == self.op.data_length(self.nlb, size) && self.op.is_proper()
+    }
 }
 
 /// A copy of the command and of its data, which takes memory.

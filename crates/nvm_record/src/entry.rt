@@ -1,10 +1,8 @@
 ghost use Rattle.std.specs.Prelude.{◌≡◌, ◌%◌, ℕ, length, drop, slice_index, ◌++◌};
 ghost use Rattle.byteorder.specs.Endian.{little_number};
-ghost use Rattle.nvm_record.specs.Entry as spec;
 ghost use Rattle.nvm_record.specs.Entry.{entry_of, HasFieldsInRange, IsWhole, IsSpelling};
 ghost use Rattle.nvm_record.specs.Op.{op_of, fuse_of};
 
-use crate::block_size::BlockSize;
 use crate::command::Command;
 use crate::op::{Fuse, Op};
 use byteorder::{ByteOrder, LittleEndian};
@@ -46,19 +44,6 @@ pub fn entry_fields(entry: &[u8]) -> EntryFields
         op: Op::of_opcode(entry[0]),
         slba: LittleEndian::read_u64(&entry[40..]),
         nlb: LittleEndian::read_u16(&entry[48..]),
-    }
-}
-
-impl EntryFields {
-    /// How many bytes of data follow the entry, in blocks of `size`.
-    pub fn data_length(self, size: BlockSize) -> usize
-        ensures { result ≡ spec.data_length size self.op self.nlb }
-    {
-        if self.op.carries_data() {
-            (self.nlb as usize + 1) * size.bytes() as usize
-        } else {
-            0
-        }
     }
 }
 

@@ -1,6 +1,9 @@
-ghost use Rattle.std.specs.Prelude.{◌≡◌, ◌<◌};
+ghost use Rattle.std.specs.Prelude.{◌≡◌, ◌↔◌, ◌<◌, IsTrue};
+ghost use Rattle.nvm_record.specs.Entry as entry;
 ghost use Rattle.nvm_record.specs.Op as op;
 ghost use Rattle.nvm_record.specs.Op.{op_of, opcode_of, IsProperOp, fuse_of, bits_of};
+
+use crate::block_size::BlockSize;
 
 /// What a submission entry asks for, by its opcode (NVM Command Set Specification, "NVM Command Set
 /// opcodes").
@@ -79,6 +82,24 @@ impl Op {
         ensures { result ≡ op.carries_data self }
     {
         matches!(self, Op::Write | Op::Compare)
+    }
+
+    /// How many bytes of data follow the entry of `nlb + 1` blocks of `size`.
+    pub fn data_length(self, nlb: u16, size: BlockSize) -> usize
+        ensures { result ≡ entry.data_length size self nlb }
+    {
+        if self.carries_data() {
+            (nlb as usize + 1) * size.bytes() as usize
+        } else {
+            0
+        }
+    }
+
+    /// Whether it isn't an `Other` with an opcode that has a name of its own.
+    pub fn is_proper(self) -> bool
+        ensures { IsTrue result ↔ IsProperOp self }
+    {
+        Op::of_opcode(self.opcode()) == self
     }
 }
 

@@ -27,7 +27,7 @@ pub fn read_command(
     }
     let (entry, after) = bytes.split_at(ENTRY_BYTES);
     let fields = entry_fields(entry);
-    let wanted = fields.data_length(size);
+    let wanted = fields.op.data_length(fields.nlb, size);
     if after.len() < wanted {
         return Err(CommandFault::CutData);
     }
