@@ -9,8 +9,8 @@ use Rattle.nvm_record.specs.Medium.{Medium, range, has_mark, bytes_of, joined}
 use Rattle.nvm_record.specs.Step.{Operation, reads, data_on, data_of}
 use Rattle.nvm_geometry.specs.Namespace.{Namespace}
 use Rattle.nvm_geometry.specs.Boundaries.{units_of}
-use Rattle.nvm_geometry.specs.Parts.{blocks_below, blocks_in, units_of_range, part_in}
-use Rattle.nvm_geometry.specs.Turns.{IsOrderOf, answer_of_part, both_data, joined_data}
+use Rattle.nvm_geometry.specs.Parts.{blocks_below, blocks_in, units_of_range, units_where, part_in}
+use Rattle.nvm_geometry.specs.Turns.{IsOrderOf, data_of_part, both_data, joined_data}
 use Rattle.nvm_geometry.proofs.Counting.{count_no}
 use Rattle.nvm_geometry.proofs.Places.{blocks_below_next, blocks_below_first, blocks_below_all}
 use Rattle.nvm_geometry.proofs.PartsMedium.{met_among}
@@ -95,7 +95,7 @@ joined_kept p f g a (suc k) same none =
 
 -- what a part answers in its turn is what it answers at once
 answer_is : (ns : Namespace) (op : Operation) (units : List ℕ) (m : Medium) (unit : ℕ) → IsLook op.deed → 0 < count_by (λ v. v == unit) units
-    → answer_of_part ns op units m unit ≡ data_of (part_in ns op unit) m
+    → data_of_part ns op units m unit ≡ data_of (part_in ns op unit) m
 answer_is ns op [] m unit look some = absurd (omega (arith, some))
 answer_is ns op (u ∷ units) m unit look some =
     elim (cases_eq u unit) [
@@ -105,16 +105,16 @@ answer_is ns op (u ∷ units) m unit look some =
           (answer_is ns op units m unit look (omega (arith, some, count_no (λ v. v == unit) u units (ne_eqb u unit o))))
     ]
 
-pub parts_data : (ns : Namespace) (op : Operation) (units : List ℕ) (m : Medium) → op.deed ≡ reads → IsOrderOf ns op units
-    → joined_data (answer_of_part ns op units m) (units_of_range ns op.first op.blocks) ≡ data_of op m
-unfolding units_of_range
-parts_data ns op units m is_read order =
+pub parts_data : (ns : Namespace) (op : Operation) (units : List ℕ) (m : Medium) → op.deed ≡ reads → op.first + op.blocks ≤ ns.nsze → IsOrderOf ns op units
+    → joined_data (data_of_part ns op units m) (units_of_range ns op.first op.blocks) ≡ data_of op m
+unfolding units_where
+parts_data ns op units m is_read fits order =
     let look : IsLook op.deed = rw is_read tt in
-    joined_kept (λ u. nat_lt 0 (blocks_in ns op.first op.blocks u)) (answer_of_part ns op units m) (read_part ns m op.first op.blocks) 0 (units_of ns)
+    joined_kept (λ u. nat_lt 0 (blocks_in ns op.first op.blocks u)) (data_of_part ns op units m) (read_part ns m op.first op.blocks) 0 (units_of ns)
     (λ u below t.
     answer_is ns op units m u look (met_among ns op units u order (ltb-true 0 (blocks_in ns op.first op.blocks u) t) (omega (arith, below)))
     ∙ rw is_read refl)
     (λ u f. let none : blocks_in ns op.first op.blocks u ≡ 0 = omega (arith, ltb-false 0 (blocks_in ns op.first op.blocks u) f) in rw none refl)
     ∙ joined_run ns m op.first op.blocks 0 (units_of ns) (units_of ns) op.blocks (omega arith)
-    (omega (arith, blocks_below_first ns op.first op.blocks, blocks_below_all ns op.first op.blocks order.inside))
+    (omega (arith, blocks_below_first ns op.first op.blocks, blocks_below_all ns op.first op.blocks fits))
     ∙ rw (blocks_below_first ns op.first op.blocks, add-zero op.first, is_read) refl

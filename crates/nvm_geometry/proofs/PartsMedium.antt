@@ -8,7 +8,7 @@ use Rattle.nvm_record.specs.Medium.{Medium}
 use Rattle.nvm_record.specs.Step.{Deed, Operation, writes, zeroes, uncorrectable, reads, compares, pairs, block_after, is_in_range, range_of, medium_after}
 use Rattle.nvm_geometry.specs.Namespace.{Namespace}
 use Rattle.nvm_geometry.specs.Boundaries.{unit_number, units_of}
-use Rattle.nvm_geometry.specs.Parts.{blocks_below, blocks_in, units_of_range, deed_part, part_in}
+use Rattle.nvm_geometry.specs.Parts.{blocks_below, blocks_in, units_of_range, units_where, deed_part, part_in}
 use Rattle.nvm_geometry.specs.Turns.{IsOrderOf, medium_after_parts}
 use Rattle.nvm_record.specs.Deeds.{IsSingle}
 use Rattle.nvm_geometry.proofs.UnitOrder.{unit_below}
@@ -139,28 +139,28 @@ parts_inside ns op (unit ∷ units) m lba single inside some =
 -- each unit that the operation meets is among those in order
 pub met_among : (ns : Namespace) (op : Operation) (units : List ℕ) (unit : ℕ) → IsOrderOf ns op units
     → 0 < blocks_in ns op.first op.blocks unit → unit < units_of ns → 0 < count_by (λ v. v == unit) units
-unfolding units_of_range
+unfolding units_where
 met_among ns op units unit order some known =
     let met = kept_member (λ u. nat_lt 0 (blocks_in ns op.first op.blocks u)) 0 (units_of ns) unit
     (lt-ltb 0 (blocks_in ns op.first op.blocks unit) some) (omega arith) (omega (arith, known)) in
-    let same = sum_by-IsPermutation (λ v. cond (v == unit) 1 0) (units_of_range ns op.first op.blocks) units order.each in
+    let same = sum_by-IsPermutation (λ v. cond (v == unit) 1 0) (units_of_range ns op.first op.blocks) units order in
     omega (arith, met, same)
 
 -- and so is the unit of each LBA of the range
-pub unit_among : (ns : Namespace) (op : Operation) (units : List ℕ) (lba : ℕ) → IsOrderOf ns op units → is_in_range op lba ≡ true
+pub unit_among : (ns : Namespace) (op : Operation) (units : List ℕ) (lba : ℕ) → op.first + op.blocks ≤ ns.nsze → IsOrderOf ns op units → is_in_range op lba ≡ true
     → 0 < count_by (λ v. v == unit_number ns lba) units
-unit_among ns op units lba order inside =
+unit_among ns op units lba fits order inside =
     let bounds = range_bounds op lba inside in
     let i = lba - op.first in
     let at : op.first + i ≡ lba = omega (arith, bounds.0) in
     let place = place_in ns op.first op.blocks (unit_number ns lba) i (omega (arith, bounds.0, bounds.1)) (rw at refl) in
     met_among ns op units (unit_number ns lba) order (omega (arith, place.0, place.1))
-    (unit_below ns lba (omega (arith, bounds.1, order.inside)))
+    (unit_below ns lba (omega (arith, bounds.1, fits)))
 
-pub parts_medium : (ns : Namespace) (op : Operation) (units : List ℕ) (m : Medium) → IsSingle op.deed → IsOrderOf ns op units
+pub parts_medium : (ns : Namespace) (op : Operation) (units : List ℕ) (m : Medium) → IsSingle op.deed → op.first + op.blocks ≤ ns.nsze → IsOrderOf ns op units
     → (lba : ℕ) → medium_after_parts ns op units m lba ≡ medium_after ns.block_size op m lba
-parts_medium ns op units m single order lba =
+parts_medium ns op units m single fits order lba =
     elim (cases_Bool (is_in_range op lba)) [
-      | inl t ↦ parts_inside ns op units m lba single t (unit_among ns op units lba order t) ∙ sym (after_inside ns.block_size op m lba single t)
+      | inl t ↦ parts_inside ns op units m lba single t (unit_among ns op units lba fits order t) ∙ sym (after_inside ns.block_size op m lba single t)
       | inr f ↦ parts_outside ns op units m lba f ∙ rw f refl
     ]

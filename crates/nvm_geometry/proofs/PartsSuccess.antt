@@ -153,10 +153,10 @@ place_in_range op i inside =
     and_from _ _ (le-leb op.first (op.first + i) (omega arith)) (lt-ltb (op.first + i) (op.first + op.blocks) (omega (arith, inside)))
 
 -- where each part of a look succeeds, each block is good for the whole
-whole_good : (ns : Namespace) (op : Operation) (units : List ℕ) (m : Medium) → IsSingle op.deed → IsLook op.deed → IsOrderOf ns op units
+whole_good : (ns : Namespace) (op : Operation) (units : List ℕ) (m : Medium) → IsSingle op.deed → IsLook op.deed → op.first + op.blocks ≤ ns.nsze → IsOrderOf ns op units
     → HasBlockSize ns.block_size m → EachSucceeds ns op units m
     → (i : ℕ) → i < op.blocks → IsGood ns.block_size op.deed i (m (op.first + i))
-whole_good ns op units m single look order holds each i inside =
+whole_good ns op units m single look fits order holds each i inside =
     let unit = unit_number ns (op.first + i) in
     let skipped = blocks_below ns op.first op.blocks unit in
     let blocks = blocks_in ns op.first op.blocks unit in
@@ -165,7 +165,7 @@ whole_good ns op units m single look order holds each i inside =
     let same : skipped + j ≡ i = omega (arith, place.0) in
     let at : op.first + skipped + j ≡ op.first + i = omega (arith, place.0) in
     let below : j < blocks = omega (arith, place.0, place.1) in
-    let part = one_of_each ns op units m unit look each (unit_among ns op units (op.first + i) order (place_in_range op i inside)) in
+    let part = one_of_each ns op units m unit look each (unit_among ns op units (op.first + i) fits order (place_in_range op i inside)) in
     let good = good_from_success ns.block_size m (op.first + skipped) blocks (deed_part ns.block_size skipped blocks op.deed)
     (part_single ns.block_size skipped blocks op.deed single) holds part j below in
     rw (same, at) at ((part_good ns.block_size skipped blocks op.deed j (m (op.first + skipped + j)) below).0 good)
@@ -184,13 +184,13 @@ part_succeeds ns op m unit single has good =
     (part_good ns.block_size skipped blocks op.deed j (m (op.first + skipped + j)) below).1
     (rw at at (good (skipped + j) (omega (arith, inside, below)))))
 
-pub parts_success : (ns : Namespace) (op : Operation) (units : List ℕ) (m : Medium) → IsSingle op.deed → IsOrderOf ns op units
+pub parts_success : (ns : Namespace) (op : Operation) (units : List ℕ) (m : Medium) → IsSingle op.deed → op.first + op.blocks ≤ ns.nsze → IsOrderOf ns op units
     → HasData (op.blocks * ns.block_size) op.deed → HasBlockSize ns.block_size m → EachSucceeds ns op units m ↔ IsSuccess (statuses_of op m)
-parts_success ns op units m single order has holds =
+parts_success ns op units m single fits order has holds =
     elim (change_or_look op.deed single) [
       | inl change ↦ ((λ _. change_succeeds (range_of op m) op.deed change), (λ _. each_change ns op units m change))
       | inr look ↦ (
-        (λ each. success_from_good ns.block_size m op.first op.blocks op.deed single has (whole_good ns op units m single look order holds each)),
+        (λ each. success_from_good ns.block_size m op.first op.blocks op.deed single has (whole_good ns op units m single look fits order holds each)),
         (λ success. each_of_one ns op units m look
             (λ unit. part_succeeds ns op m unit single has (good_from_success ns.block_size m op.first op.blocks op.deed single holds success))),
       )

@@ -6,7 +6,7 @@ use Rattle.std.specs.List.{range_with_len}
 use Rattle.std.proofs.lemmas.Bool.{lt-ltb, le-ltb, eq-eqb, ne_eqb, cases_eq}
 use Rattle.nvm_geometry.specs.Namespace.{Namespace}
 use Rattle.nvm_geometry.specs.Boundaries.{unit_number, units_of}
-use Rattle.nvm_geometry.specs.Parts.{blocks_below, blocks_in, units_of_range, piece_in, pieces_of}
+use Rattle.nvm_geometry.specs.Parts.{blocks_below, blocks_in, units_of_range, units_where, piece_in, pieces_of}
 use Rattle.nvm_geometry.proofs.UnitOrder.{count_rises}
 use Rattle.nvm_geometry.proofs.Counting.{count_none_pass, count_front_passes, count_front_fails, kept_from}
 
@@ -66,7 +66,7 @@ kept_none f a (suc k) = kept_none f (a + 1) k
 
 -- the pieces of an empty range
 pub pieces_none : (ns : Namespace) (at : ℕ) → pieces_of ns at 0 ≡ []
-unfolding units_of_range blocks_in
+unfolding units_where blocks_in
 pieces_none ns at = kept_none (piece_in ns at 0) 0 (units_of ns)
 
 -- the piece of the front
@@ -82,7 +82,7 @@ piece_beyond ns at left n unit v front above =
 -- the pieces of a range with a front
 pub pieces_front : (ns : Namespace) (at left n unit : ℕ) → IsFront ns at left n unit → unit < units_of ns
     → pieces_of ns at left ≡ record { unit = unit; first = at; blocks = n } ∷ pieces_of ns (at + n) (left - n)
-unfolding units_of_range
+unfolding units_where
 pieces_front ns at left n unit front known =
     kept_from (λ v. nat_lt 0 (blocks_in ns at left v)) (λ v. nat_lt 0 (blocks_in ns (at + n) (left - n) v))
     (piece_in ns at left) (piece_in ns (at + n) (left - n)) 0 (units_of ns) unit
@@ -128,7 +128,7 @@ map_same (x ∷ xs) = ap (λ ys. x ∷ ys) (map_same xs)
 -- the units that a range with a front meets
 pub units_front : (ns : Namespace) (at left n unit : ℕ) → IsFront ns at left n unit → unit < units_of ns
     → units_of_range ns at left ≡ unit ∷ units_of_range ns (at + n) (left - n)
-unfolding units_of_range
+unfolding units_where
 units_front ns at left n unit front known =
     sym (map_same (filter (λ v. nat_lt 0 (blocks_in ns at left v)) (range_with_len 0 (units_of ns))))
     ∙ kept_from (λ v. nat_lt 0 (blocks_in ns at left v)) (λ v. nat_lt 0 (blocks_in ns (at + n) (left - n) v))
@@ -143,5 +143,5 @@ units_front ns at left n unit front known =
 
 -- the units of an empty range
 pub units_none : (ns : Namespace) (at : ℕ) → units_of_range ns at 0 ≡ []
-unfolding units_of_range blocks_in
+unfolding units_where blocks_in
 units_none ns at = sym (map_same (filter (λ _. false) (range_with_len 0 (units_of ns)))) ∙ kept_none (λ x. x) 0 (units_of ns)

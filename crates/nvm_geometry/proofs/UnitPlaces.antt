@@ -11,7 +11,7 @@ use Rattle.std.proofs.Math.Nat.{mul-le-mul_right}
 use Rattle.nvm_record.specs.Step.{HasData, Deed, Operation, writes, zeroes, uncorrectable, reads, compares, pairs}
 use Rattle.nvm_geometry.specs.Namespace.{Namespace}
 use Rattle.nvm_geometry.specs.Boundaries.{unit_number, units_of}
-use Rattle.nvm_geometry.specs.Parts.{blocks_below, blocks_in, units_of_range, units_met, piece_in, data_part, deed_part, part_in}
+use Rattle.nvm_geometry.specs.Parts.{blocks_below, blocks_in, units_of_range, units_where, units_met, piece_in, data_part, deed_part, part_in}
 use Rattle.nvm_geometry.specs.Place.{IsPlaceOf}
 use Rattle.nvm_geometry.proofs.UnitOrder.{count_none, count_rises, number_reached, range_some, unit_below}
 use Rattle.nvm_geometry.proofs.Counting.{count_none_pass, count_front_passes, count_front_fails}
@@ -158,7 +158,7 @@ contains_kept p a (suc n) u passes low high =
 -- a range meets the units in which it has a block
 pub unit_is_met : (ns : Namespace) (first blocks unit : ℕ) → first + blocks ≤ ns.nsze
     → Contains (units_of_range ns first blocks) unit ↔ (0 < blocks_in ns first blocks unit)
-unfolding units_of_range
+unfolding units_where
 unit_is_met ns first blocks unit inside = (
   (λ h. ltb-true 0 (blocks_in ns first blocks unit)
       (All-contains (λ v. nat_lt 0 (blocks_in ns first blocks v) ≡ true) _ unit
@@ -230,7 +230,7 @@ unit_between ns first blocks unit some low high =
 -- a range meets the units from its first LBA's to its last one's
 pub units_counted : (ns : Namespace) (first blocks : ℕ) → 0 < blocks → first + blocks ≤ ns.nsze
     → length (units_of_range ns first blocks) ≡ unit_number ns (first + blocks - 1) - unit_number ns first + 1
-unfolding units_of_range
+unfolding units_where
 units_counted ns first blocks some inside =
     let low = unit_number ns first in
     let high = unit_number ns (first + blocks - 1) in
@@ -257,7 +257,7 @@ units_counted ns first blocks some inside =
     )
 
 pub units_few : (ns : Namespace) (first blocks : ℕ) → length (units_of_range ns first blocks) ≤ units_of ns
-unfolding units_of_range
+unfolding units_where
 units_few ns first blocks =
     let meets : ℕ → Bool = λ v. nat_lt 0 (blocks_in ns first blocks v) in
     omega (

@@ -1,6 +1,6 @@
 -- Which units a command meets, and what it does in each. A unit's number never falls as the LBA rises, so
 -- the LBAs of a range that lie in lower units are its first ones.
-use Rattle.std.specs.Prelude.{◌≡◌, ◌==◌, ℕ, ◌+◌, ◌-◌, ◌*◌, ◌<◌, ◌≤◌, nat_lt, List, [], ◌∷◌, take, drop, map, filter, count_by}
+use Rattle.std.specs.Prelude.{◌≡◌, ◌==◌, ℕ, ◌+◌, ◌-◌, ◌*◌, ◌<◌, ◌≤◌, nat_lt, Bool, List, [], ◌∷◌, take, drop, map, filter, count_by}
 use Rattle.std.specs.List.{range_with_len}
 use Rattle.nvm_record.specs.Step.{Deed, Operation, writes, zeroes, uncorrectable, reads, compares, pairs}
 use Rattle.nvm_geometry.specs.Namespace.{Namespace}
@@ -15,9 +15,13 @@ blocks_below ns first blocks unit = count_by (λ lba. nat_lt (unit_number ns lba
 unfoldable pub blocks_in : Namespace → ℕ → ℕ → ℕ → ℕ
 blocks_in ns first blocks unit = count_by (λ lba. unit_number ns lba == unit) (range_with_len first blocks)
 
+-- the units that pass the test, ascending
+unfoldable pub units_where : Namespace → (ℕ → Bool) → List ℕ
+units_where ns test = filter test (range_with_len 0 (units_of ns))
+
 -- the units in which the range has an LBA, ascending
-unfoldable pub units_of_range : Namespace → ℕ → ℕ → List ℕ
-units_of_range ns first blocks = filter (λ unit. nat_lt 0 (blocks_in ns first blocks unit)) (range_with_len 0 (units_of ns))
+abbrev pub units_of_range : Namespace → ℕ → ℕ → List ℕ
+units_of_range ns first blocks = units_where ns (λ unit. nat_lt 0 (blocks_in ns first blocks unit))
 
 -- the LBAs of the range that lie in the unit
 abbrev pub piece_in : Namespace → ℕ → ℕ → ℕ → Piece
@@ -42,9 +46,13 @@ deed_part size skipped blocks (compares payload) = compares (data_part size skip
 deed_part size skipped blocks (pairs payload new) =
     pairs (data_part size skipped blocks payload) (data_part size skipped blocks new)
 
+-- The operation has an LBA in the unit.
+abbrev pub meets : Namespace → Operation → ℕ → Bool
+meets ns op unit = nat_lt 0 (blocks_in ns op.first op.blocks unit)
+
 -- the units that an operation meets, ascending
 abbrev pub units_met : Namespace → Operation → List ℕ
-units_met ns op = units_of_range ns op.first op.blocks
+units_met ns op = units_where ns (λ unit. meets ns op unit)
 
 -- The part of an operation in a unit: the operation on just those LBAs of its range that lie there,
 -- with the data of just these.

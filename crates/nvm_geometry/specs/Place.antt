@@ -1,4 +1,5 @@
--- Where a unit lies.
+-- Where a unit lies: this project's own words for what lies between two boundaries (NVM Command Set
+-- Specification, "Atomic Boundaries").
 use Rattle.std.specs.Prelude.{◌≡◌, ℕ, ◌+◌, ◌<◌, ◌≤◌}
 use Rattle.nvm_geometry.specs.Namespace.{Namespace}
 use Rattle.nvm_geometry.specs.Boundaries.{unit_number}

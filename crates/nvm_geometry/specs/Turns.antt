@@ -1,5 +1,5 @@
 -- An operation done part by part: one unit after the other, in any order of the units that it meets.
-use Rattle.std.specs.Prelude.{◌==◌, ℕ, ◌+◌, ◌≤◌, List, [], ◌∷◌, ◌++◌, IsPermutation, Option, Some, None, if◌then◌else◌}
+use Rattle.std.specs.Prelude.{◌==◌, ℕ, List, [], ◌∷◌, ◌++◌, IsPermutation, Option, Some, None, if◌then◌else◌}
 use Rattle.nvm_record.specs.Status.{IsSuccess}
 use Rattle.nvm_record.specs.Medium.{Medium}
 use Rattle.nvm_record.specs.Step.{Operation, medium_after, statuses_of, data_of}
@@ -7,9 +7,8 @@ use Rattle.nvm_geometry.specs.Namespace.{Namespace}
 use Rattle.nvm_geometry.specs.Parts.{units_met, part_in}
 
 -- The units are those that the operation meets, each once, in any order.
-pub record IsOrderOf (ns : Namespace) (op : Operation) (units : List ℕ) : Type 0 where
-  pub inside : op.first + op.blocks ≤ ns.nsze
-  pub each : IsPermutation (units_met ns op) units
+abbrev pub IsOrderOf : Namespace → Operation → List ℕ → Type 0
+IsOrderOf ns op units = IsPermutation (units_met ns op) units
 
 -- the medium after the parts in these units, in turn
 abbrev pub medium_after_parts : Namespace → Operation → List ℕ → Medium → Medium
@@ -24,12 +23,12 @@ EachSucceeds ns op (unit ∷ units) m =
     IsSuccess (statuses_of (part_in ns op unit) m)
     × EachSucceeds ns op units (medium_after ns.block_size (part_in ns op unit) m)
 
--- what the part in `asked` answers in its turn
-abbrev pub answer_of_part : Namespace → Operation → List ℕ → Medium → ℕ → Option (List ℕ)
-answer_of_part ns op [] m asked = None
-answer_of_part ns op (unit ∷ units) m asked =
+-- the data that the part in `asked` answers in its turn
+abbrev pub data_of_part : Namespace → Operation → List ℕ → Medium → ℕ → Option (List ℕ)
+data_of_part ns op [] m asked = None
+data_of_part ns op (unit ∷ units) m asked =
     if unit == asked then data_of (part_in ns op unit) m
-    else answer_of_part ns op units (medium_after ns.block_size (part_in ns op unit) m) asked
+    else data_of_part ns op units (medium_after ns.block_size (part_in ns op unit) m) asked
 
 -- both data, one after the other, where both are there
 abbrev pub both_data : Option (List ℕ) → Option (List ℕ) → Option (List ℕ)

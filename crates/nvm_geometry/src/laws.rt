@@ -1,7 +1,7 @@
 //! What holds of boundaries, units and parts by their definitions alone. Each law is a call that does
 //! nothing and whose contract is the law.
 
-ghost use Rattle.std.specs.Prelude.{◌≡◌, ◌==◌, ◌↔◌, ℕ, ◌+◌, ◌*◌, ◌-◌, ◌<◌, ◌≤◌, ◌&&◌, List, [], ◌∷◌, All, Contains, length, map};
+ghost use Rattle.std.specs.Prelude.{◌≡◌, ◌≢◌, ◌==◌, ◌↔◌, ℕ, ◌+◌, ◌*◌, ◌-◌, ◌<◌, ◌≤◌, ◌&&◌, List, [], ◌∷◌, All, Contains, IsTrue, length, map};
 ghost use Rattle.nvm_record.specs.Status.{IsSuccess};
 ghost use Rattle.nvm_record.specs.Medium.{Medium, HasBlockSize};
 ghost use Rattle.nvm_record.specs.Step.{HasData, Operation, reads, block_at, is_in_range, medium_after, statuses_of, data_of};
@@ -9,9 +9,9 @@ ghost use Rattle.nvm_geometry.specs.Namespace.{Namespace};
 ghost use Rattle.nvm_geometry.specs.Boundaries.{IsBoundary, SharesUnit, unit_number, units_of};
 ghost use Rattle.nvm_geometry.specs.Faults.{HasNoFault, IsValid};
 ghost use Rattle.nvm_geometry.specs.Limits.{LiesInUnit};
-ghost use Rattle.nvm_geometry.specs.Parts.{units_met, units_of_range, data_part, part_in, piece_in, pieces_of, AreInLine, IsInUnit};
+ghost use Rattle.nvm_geometry.specs.Parts.{meets, units_met, units_of_range, data_part, part_in, piece_in, pieces_of, AreInLine, IsInUnit};
 ghost use Rattle.nvm_geometry.specs.Place.{IsPlaceOf};
-ghost use Rattle.nvm_geometry.specs.Turns.{IsOrderOf, medium_after_parts, EachSucceeds, answer_of_part, joined_data};
+ghost use Rattle.nvm_geometry.specs.Turns.{IsOrderOf, medium_after_parts, EachSucceeds, data_of_part, joined_data};
 ghost use Rattle.nvm_record.specs.Deeds.{is_look, is_read, is_pair, IsSingle};
 
 /// Units number the LBAs of a namespace from 0 upwards: LBA 0 lies in unit 0, the number rises by 1 at
@@ -62,12 +62,16 @@ pub fn each_unit_has_one_place()
         → IsPlaceOf ns unit start count → (first ≡ start) × (blocks ≡ count) }
 {}
 
-/// An operation in the namespace meets just the units in which its part has a block, and no more units
-/// than there are. Its part in a unit that it meets lies in the unit's place, and each part has the data
+/// An operation in the namespace meets just the units in which its part has a block: one at least, where
+/// it has a block itself, and no more units than there are. Its part in a unit that it meets lies in the unit's place, and each part has the data
 /// of its own blocks.
 pub fn parts_lie_in_their_units()
     ensures met { (ns : Namespace) (op : Operation) (unit : ℕ) → op.first + op.blocks ≤ ns.nsze
         → Contains (units_met ns op) unit ↔ (0 < (part_in ns op unit).blocks) }
+    ensures tested { (ns : Namespace) (op : Operation) (unit : ℕ) → op.first + op.blocks ≤ ns.nsze
+        → Contains (units_met ns op) unit ↔ IsTrue (meets ns op unit) }
+    ensures some { (ns : Namespace) (op : Operation) → 0 < op.blocks → op.first + op.blocks ≤ ns.nsze
+        → units_met ns op ≢ [] }
     ensures few { (ns : Namespace) (op : Operation) → length (units_met ns op) ≤ units_of ns }
     ensures lies { (ns : Namespace) (op : Operation) (unit first blocks : ℕ) → op.first + op.blocks ≤ ns.nsze
         → IsPlaceOf ns unit first blocks → Contains (units_met ns op) unit
@@ -107,12 +111,12 @@ pub fn one_unit_is_one_part()
 /// answer, joined by ascending LBAs, is what it answers.
 pub fn parts_are_the_whole()
     ensures medium { (ns : Namespace) (op : Operation) (units : List ℕ) (m : Medium) → IsSingle op.deed
-        → IsOrderOf ns op units
+        → op.first + op.blocks ≤ ns.nsze → IsOrderOf ns op units
         → (lba : ℕ) → medium_after_parts ns op units m lba ≡ medium_after ns.block_size op m lba }
     ensures success { (ns : Namespace) (op : Operation) (units : List ℕ) (m : Medium) → IsSingle op.deed
-        → IsOrderOf ns op units → HasData (op.blocks * ns.block_size) op.deed → HasBlockSize ns.block_size m
+        → op.first + op.blocks ≤ ns.nsze → IsOrderOf ns op units → HasData (op.blocks * ns.block_size) op.deed → HasBlockSize ns.block_size m
         → EachSucceeds ns op units m ↔ IsSuccess (statuses_of op m) }
     ensures data { (ns : Namespace) (op : Operation) (units : List ℕ) (m : Medium) → op.deed ≡ reads
-        → IsOrderOf ns op units
-        → joined_data (answer_of_part ns op units m) (units_met ns op) ≡ data_of op m }
+        → op.first + op.blocks ≤ ns.nsze → IsOrderOf ns op units
+        → joined_data (data_of_part ns op units m) (units_met ns op) ≡ data_of op m }
 {}

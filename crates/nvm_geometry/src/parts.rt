@@ -42,7 +42,7 @@ impl Geometry {
 
     /// How many units the range meets, which is how many parts it has: 0 where it has no block. It takes
     /// a constant number of steps.
-    pub fn part_count(self, slba: u64, blocks: u32) -> u16
+    pub fn piece_count(self, slba: u64, blocks: u32) -> u16
         requires { slba + blocks ≤ self.nsze }
         ensures value { result ≡ length (units_of_range self slba blocks) }
         ensures valid { result ≤ units_of self }
@@ -56,7 +56,7 @@ impl Geometry {
 
     /// The part of the range in a unit: `None` where no LBA of the range lies in the unit, or no unit has
     /// that number. It takes a constant number of steps.
-    pub fn part_in(self, unit: u16, slba: u64, blocks: u32) -> Option<Piece>
+    pub fn piece_in(self, unit: u16, slba: u64, blocks: u32) -> Option<Piece>
         requires { slba + blocks ≤ self.nsze }
         ensures part { IfSome result (λ p. p ≡ piece_in self slba blocks unit) }
         ensures none { IfNone result (blocks_in self slba blocks unit ≡ 0) }

@@ -1,4 +1,5 @@
 pub mod BlockSizes
+pub mod DeedLemmas
 pub mod EntryLemmas
 pub mod HostFileLemmas
 pub mod Locality

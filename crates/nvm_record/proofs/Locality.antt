@@ -1,6 +1,6 @@
 -- A step sees and changes its range alone.
-use Rattle.std.proofs.Common.{◌≡◌, ◌↔◌, ℕ, zero, suc, ◌+◌, ◌-◌, ◌<◌, ◌≤◌, true, false, IsTrue, List, ◌∷◌, refl, ap, ap₂, arith}
-use Rattle.std.proofs.lemmas.Bool.{and_parts, leb-true, ltb-true, le-leb, lt-ltb}
+use Rattle.std.proofs.Common.{◌≡◌, ◌↔◌, ℕ, zero, suc, ◌+◌, ◌-◌, ◌<◌, ◌≤◌, true, false, IsTrue, List, ◌∷◌, inl, inr, refl, ap, ap₂, arith}
+use Rattle.std.proofs.lemmas.Bool.{cases_Bool, and_parts, leb-true, ltb-true, le-leb, lt-ltb}
 use Rattle.nvm_record.specs.declared.block.Block.{Block}
 use Rattle.nvm_record.specs.Medium.{Medium, range}
 use Rattle.nvm_record.specs.Step.{Operation, block_after, is_in_range, range_of, statuses_of, data_of, data_on, statuses_on, medium_after, AgreeOn}
@@ -40,6 +40,10 @@ statuses_agree op m n agree = ap (λ (blocks : List Block). statuses_on blocks o
 pub data_agrees : (op : Operation) (m n : Medium) → AgreeOn op m n → data_of op m ≡ data_of op n
 data_agrees op m n agree = ap (λ (blocks : List Block). data_on blocks op.deed) (range_agrees op m n agree)
 
-pub blocks_agree : (size : ℕ) (op : Operation) (m n : Medium) → AgreeOn op m n → AgreeOn op (medium_after size op m) (medium_after size op n)
-blocks_agree size op m n agree lba inside =
-    rw (after_inside size op m lba inside, after_inside size op n lba inside, range_agrees op m n agree, agree lba inside) refl
+pub blocks_agree : (size : ℕ) (op : Operation) (m n : Medium) (lba : ℕ) → AgreeOn op m n → m lba ≡ n lba
+    → medium_after size op m lba ≡ medium_after size op n lba
+blocks_agree size op m n lba agree same =
+    elim (cases_Bool (is_in_range op lba)) [
+      | inl t ↦ rw (after_inside size op m lba t, after_inside size op n lba t, range_agrees op m n agree, same) refl
+      | inr f ↦ rw (after_outside size op m lba f, after_outside size op n lba f, same) refl
+    ]

@@ -1,6 +1,9 @@
--- The kinds of deeds, and pairs that fail. Each other definition that tells deeds apart rests on these.
-use Rattle.std.specs.Prelude.{◌≡◌, List, Bool, true, false, not, IsTrue}
+-- The kinds of deeds, what is told of success, and pairs that fail. Who asks for a kind, asks here.
+use Rattle.std.specs.Prelude.{◌≡◌, List, Bool, true, false, not, IsTrue, if◌then◌else◌}
 use Rattle.nvm_record.specs.declared.block.Block.{Block}
+use Rattle.nvm_record.specs.declared.status.Statuses.{Statuses}
+use Rattle.nvm_record.specs.declared.status.Statuses.TheVariants.{One, Two}
+use Rattle.nvm_record.specs.Status.{successful_completion}
 use Rattle.nvm_record.specs.Medium.{Medium}
 use Rattle.nvm_record.specs.Step.{Deed, Operation, writes, zeroes, uncorrectable, reads, compares, pairs, compares_equal, range_of}
 
@@ -44,6 +47,14 @@ IsPair deed = IsTrue (is_pair deed)
 -- the deed of one command
 abbrev pub IsSingle : Deed → Type 0
 IsSingle deed = IsTrue (not (is_pair deed))
+
+-- one status for a command by itself, two for a pair
+abbrev pub for_deed : Deed → Statuses → Statuses → Statuses
+for_deed deed one two = if is_pair deed then two else one
+
+-- what is told of success
+abbrev pub success_of : Deed → Statuses
+success_of deed = for_deed deed (One successful_completion) (Two successful_completion successful_completion)
 
 -- The deed is a pair, and its comparison with these blocks doesn't hold.
 abbrev pub FailsOn : List Block → Deed → Type 0

@@ -1,8 +1,7 @@
 -- What a command does to a medium, LBA by LBA, and what its host is told: NVM Command Set
 -- Specification, the commands Write, Read, Write Zeroes, Write Uncorrectable and Compare; Base
--- Specification, "Fused Operation". No unit, part or version occurs here. A block
--- is marked where it is Uncorrectable; that zeroes clear a mark, and that a mark decides a comparison before any
--- byte, are this project's own.
+-- Specification, "Fused Operation". No unit, part or version occurs here. A block is marked where it is
+-- Uncorrectable. This project's own: zeroes clear a mark, and a mark decides a comparison before any byte does.
 use Rattle.std.specs.Prelude.{◌≡◌, ℕ, ◌+◌, ◌*◌, ◌-◌, nat_le, nat_lt, if◌then◌else◌, List, length, take, drop, replicate, Bool, false, ◌&&◌, IsTrue, Option, Some, None}
 use Rattle.std.specs.Str.{bytes_eq}
 use Rattle.nvm_record.specs.declared.block.Block.{Block}

@@ -1,11 +1,14 @@
 //! Laws of this crate's definitions, for the crates above. Each function does nothing: its contract
 //! is the law, which a caller then knows.
-ghost use Rattle.std.specs.Prelude.{◌≡◌, ◌↔◌, ℕ, ◌+◌, ◌*◌, ◌++◌, ◌<◌, ◌≤◌, List, length, Some, IsTrue, false};
+ghost use Rattle.std.specs.Prelude.{◌≡◌, ◌⊎◌, ◌↔◌, ℕ, ◌+◌, ◌*◌, ◌++◌, ◌<◌, ◌≤◌, List, length, Some, IsTrue, false, true};
+ghost use Rattle.nvm_record.specs.Deeds.{IsLook, IsFailedPair, success_of};
 ghost use Rattle.nvm_record.specs.Entry.{BeginsWith, HasFieldsInRange, IsWhole, spelling_of};
 ghost use Rattle.nvm_record.specs.Medium.{Medium, HasBlockSize, zero_medium};
 ghost use Rattle.nvm_record.specs.Op.{op_of, IsProperOp};
 ghost use Rattle.nvm_record.specs.Status as status;
-ghost use Rattle.nvm_record.specs.Step.{HasData, Operation, AgreeOn, is_in_range, medium_after, statuses_of, data_of};
+ghost use Rattle.nvm_record.specs.Status.{IsSuccess};
+ghost use Rattle.nvm_record.specs.Step.{HasData, Operation, AgreeOn, is_in_range, compares_equal, data_on, medium_after, reads, statuses_of, data_of};
+ghost use Rattle.nvm_record.specs.declared.block.Block.{Block};
 ghost use Rattle.nvm_record.specs.declared.command.Command.{Command as Spelled};
 ghost use Rattle.nvm_record.specs.declared.status.TheConstants.Status as named;
 
@@ -49,7 +52,7 @@ pub fn steps_keep_block_sizes()
 {}
 
 /// A step sees and changes its range alone. Outside it each block stays. Two media that agree on the
-/// range give the same statuses and the same data, and agree there afterwards.
+/// range give the same statuses and the same data, and agree afterwards wherever they did.
 pub fn steps_are_local()
     ensures range { (op : Operation) (lba : ℕ)
         → IsTrue (is_in_range op lba) ↔ ((op.first ≤ lba) × (lba < op.first + op.blocks)) }
@@ -57,6 +60,23 @@ pub fn steps_are_local()
         → medium_after size op m lba ≡ m lba }
     ensures statuses { (op : Operation) (m n : Medium) → AgreeOn op m n → statuses_of op m ≡ statuses_of op n }
     ensures payload { (op : Operation) (m n : Medium) → AgreeOn op m n → data_of op m ≡ data_of op n }
-    ensures blocks { (size : ℕ) (op : Operation) (m n : Medium) → AgreeOn op m n
-        → AgreeOn op (medium_after size op m) (medium_after size op n) }
+    ensures blocks { (size : ℕ) (op : Operation) (m n : Medium) (lba : ℕ) → AgreeOn op m n → m lba ≡ n lba
+        → medium_after size op m lba ≡ medium_after size op n lba }
+{}
+
+/// A look leaves the medium as it is, and so does a fused pair that fails.
+pub fn looks_change_nothing()
+    ensures { (size : ℕ) (op : Operation) (m : Medium) (lba : ℕ) → IsLook op.deed ⊎ IsFailedPair op m
+        → medium_after size op m lba ≡ m lba }
+{}
+
+/// Success is told in one way: 0/00 for each command.
+pub fn success_is_told_alike()
+    ensures { (op : Operation) (m : Medium) → IsSuccess (statuses_of op m) → statuses_of op m ≡ success_of op.deed }
+{}
+
+/// A Read is answered these bytes exactly where a Compare with them holds.
+pub fn reading_is_comparing()
+    ensures { (blocks : List Block) (bytes : List ℕ)
+        → (data_on blocks reads ≡ Some bytes) ↔ (compares_equal blocks bytes ≡ true) }
 {}

@@ -12,7 +12,7 @@ fn units_from_an_offset(rt: HostRuntime) -> Result<(), Fail> {
 
     // The range has LBAs of the first three units.
     assert!(rt; geometry.in_range(2, 12));
-    assert_eq!(rt; geometry.part_count(2, 12), 3);
+    assert_eq!(rt; geometry.piece_count(2, 12), 3);
     let wanted = [
         Piece {
             unit: 0,
@@ -32,8 +32,8 @@ fn units_from_an_offset(rt: HostRuntime) -> Result<(), Fail> {
     ];
     let pieces: Vec<Piece> = geometry.parts(2, 12).collect(rt.alloc())?;
     assert_eq!(rt; pieces.as_slice(), wanted.as_slice());
-    assert_eq!(rt; geometry.part_in(2, 2, 12), Some(wanted[2]));
-    assert_eq!(rt; geometry.part_in(3, 2, 12), None);
+    assert_eq!(rt; geometry.piece_in(2, 2, 12), Some(wanted[2]));
+    assert_eq!(rt; geometry.piece_in(3, 2, 12), None);
 
     // The write limit is seven blocks, that of pairs four.
     assert!(rt; geometry.in_range(4, 8));

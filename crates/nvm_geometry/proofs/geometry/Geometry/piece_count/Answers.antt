@@ -3,7 +3,7 @@ use Rattle.nvm_geometry.specs.Boundaries.{unit_number}
 use Rattle.nvm_geometry.proofs.Pieces.{units_none}
 use Rattle.nvm_geometry.proofs.UnitOrder.{count_rises}
 use Rattle.nvm_geometry.proofs.UnitPlaces.{units_counted}
-use Rattle.nvm_geometry.proofs.geometry.Geometry.part_count.Goals as goal
+use Rattle.nvm_geometry.proofs.geometry.Geometry.piece_count.Goals as goal
 
 pub returns-then-blocks-eq0-clause-value : goal.returns-then-blocks-eq0-clause-value
 returns-then-blocks-eq0-clause-value c =

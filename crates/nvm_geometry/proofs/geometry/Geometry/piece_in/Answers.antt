@@ -1,6 +1,6 @@
 use Rattle.std.proofs.Common.{refl, arith}
 use Rattle.nvm_geometry.proofs.UnitPlaces.{part_is_overlap, no_overlap, no_unit}
-use Rattle.nvm_geometry.proofs.geometry.Geometry.part_in.Goals as goal
+use Rattle.nvm_geometry.proofs.geometry.Geometry.piece_in.Goals as goal
 
 pub returns-then-unit-units-clause-none : goal.returns-then-unit-units-clause-none
 returns-then-unit-units-clause-none c = no_unit c.args.self c.args.slba c.args.blocks c.args.unit c.requires (omega arith)
