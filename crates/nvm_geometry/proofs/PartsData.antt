@@ -7,6 +7,7 @@ use Rattle.nvm_record.specs.declared.block.Block.{Block}
 use Rattle.nvm_record.specs.declared.block.Block.TheVariants.{Bytes, Uncorrectable}
 use Rattle.nvm_record.specs.Medium.{Medium, range, has_mark, bytes_of, joined}
 use Rattle.nvm_record.specs.Step.{Operation, reads, data_on, data_of}
+use Rattle.nvm_record.specs.Deeds.{IsLook}
 use Rattle.nvm_geometry.specs.Namespace.{Namespace}
 use Rattle.nvm_geometry.specs.Boundaries.{units_of}
 use Rattle.nvm_geometry.specs.Parts.{blocks_below, blocks_in, units_of_range, units_where, part_in}
@@ -14,7 +15,7 @@ use Rattle.nvm_geometry.specs.Turns.{IsOrderOf, data_of_part, both_data, joined_
 use Rattle.nvm_geometry.proofs.Counting.{count_no}
 use Rattle.nvm_geometry.proofs.Places.{blocks_below_next, blocks_below_first, blocks_below_all}
 use Rattle.nvm_geometry.proofs.PartsMedium.{met_among}
-use Rattle.nvm_geometry.proofs.PartsSuccess.{IsLook, part_unchanged}
+use Rattle.nvm_geometry.proofs.PartsSuccess.{part_unchanged}
 
 range_append : (m : Medium) (first a b : ℕ) → range m first (a + b) ≡ range m first a ++ range m (first + a) b
 range_append m first zero b =
@@ -109,7 +110,7 @@ pub parts_data : (ns : Namespace) (op : Operation) (units : List ℕ) (m : Mediu
     → joined_data (data_of_part ns op units m) (units_of_range ns op.first op.blocks) ≡ data_of op m
 unfolding units_where
 parts_data ns op units m is_read fits order =
-    let look : IsLook op.deed = rw is_read tt in
+    let look : IsLook op.deed = rw is_read refl in
     joined_kept (λ u. nat_lt 0 (blocks_in ns op.first op.blocks u)) (data_of_part ns op units m) (read_part ns m op.first op.blocks) 0 (units_of ns)
     (λ u below t.
     answer_is ns op units m u look (met_among ns op units u order (ltb-true 0 (blocks_in ns op.first op.blocks u) t) (omega (arith, below)))

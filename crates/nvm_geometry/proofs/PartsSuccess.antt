@@ -13,61 +13,47 @@ use Rattle.nvm_geometry.specs.Namespace.{Namespace}
 use Rattle.nvm_geometry.specs.Boundaries.{unit_number}
 use Rattle.nvm_geometry.specs.Parts.{blocks_below, blocks_in, data_part, deed_part, part_in}
 use Rattle.nvm_geometry.specs.Turns.{IsOrderOf, EachSucceeds}
-use Rattle.nvm_record.specs.Deeds.{IsSingle}
+use Rattle.nvm_record.specs.Deeds.{IsAct, IsLook, IsSingle}
 use Rattle.nvm_geometry.proofs.Counting.{count_no}
-use Rattle.nvm_geometry.proofs.Places.{place_in, part_inside, data_of_part}
+use Rattle.nvm_geometry.proofs.Places.{place_in, part_inside, part_data_at}
 use Rattle.nvm_geometry.proofs.PartsMedium.{part_single, unit_among}
 use Rattle.nvm_geometry.proofs.Success.{IsGood, good_from_success, success_from_good}
 
 -- a command that changes blocks, and always succeeds
 abbrev IsChange : Deed → Type 0
-IsChange (writes payload) = Unit {0}
-IsChange zeroes = Unit {0}
-IsChange uncorrectable = Unit {0}
-IsChange reads = ⊥
-IsChange (compares payload) = ⊥
-IsChange (pairs payload new) = ⊥
-
--- a command that only looks
-abbrev pub IsLook : Deed → Type 0
-IsLook (writes payload) = ⊥
-IsLook zeroes = ⊥
-IsLook uncorrectable = ⊥
-IsLook reads = Unit {0}
-IsLook (compares payload) = Unit {0}
-IsLook (pairs payload new) = ⊥
+IsChange deed = IsAct deed × IsSingle deed
 
 change_or_look : (deed : Deed) → IsSingle deed → IsChange deed ⊎ IsLook deed
-change_or_look (writes payload) single = inl tt
-change_or_look zeroes single = inl tt
-change_or_look uncorrectable single = inl tt
-change_or_look reads single = inr tt
-change_or_look (compares payload) single = inr tt
+change_or_look (writes payload) single = inl (refl, refl)
+change_or_look zeroes single = inl (refl, refl)
+change_or_look uncorrectable single = inl (refl, refl)
+change_or_look reads single = inr refl
+change_or_look (compares payload) single = inr refl
 change_or_look (pairs payload new) single = absurd (cc single)
 
 change_succeeds : (blocks : List Block) (deed : Deed) → IsChange deed → IsSuccess (statuses_on blocks deed)
 change_succeeds blocks (writes payload) change = refl
 change_succeeds blocks zeroes change = refl
 change_succeeds blocks uncorrectable change = refl
-change_succeeds blocks reads change = absurd change
-change_succeeds blocks (compares payload) change = absurd change
-change_succeeds blocks (pairs payload new) change = absurd change
+change_succeeds blocks reads change = absurd (cc change.0)
+change_succeeds blocks (compares payload) change = absurd (cc change.0)
+change_succeeds blocks (pairs payload new) change = absurd (cc change.1)
 
 part_change : (size skipped blocks : ℕ) (deed : Deed) → IsChange deed → IsChange (deed_part size skipped blocks deed)
-part_change size skipped blocks (writes payload) change = tt
-part_change size skipped blocks zeroes change = tt
-part_change size skipped blocks uncorrectable change = tt
-part_change size skipped blocks reads change = absurd change
-part_change size skipped blocks (compares payload) change = absurd change
-part_change size skipped blocks (pairs payload new) change = absurd change
+part_change size skipped blocks (writes payload) change = (refl, refl)
+part_change size skipped blocks zeroes change = (refl, refl)
+part_change size skipped blocks uncorrectable change = (refl, refl)
+part_change size skipped blocks reads change = absurd (cc change.0)
+part_change size skipped blocks (compares payload) change = absurd (cc change.0)
+part_change size skipped blocks (pairs payload new) change = absurd (cc change.1)
 
 part_look : (size skipped blocks : ℕ) (deed : Deed) → IsLook deed → IsLook (deed_part size skipped blocks deed)
-part_look size skipped blocks (writes payload) look = absurd look
-part_look size skipped blocks zeroes look = absurd look
-part_look size skipped blocks uncorrectable look = absurd look
-part_look size skipped blocks reads look = tt
-part_look size skipped blocks (compares payload) look = tt
-part_look size skipped blocks (pairs payload new) look = absurd look
+part_look size skipped blocks (writes payload) look = absurd (cc look)
+part_look size skipped blocks zeroes look = absurd (cc look)
+part_look size skipped blocks uncorrectable look = absurd (cc look)
+part_look size skipped blocks reads look = refl
+part_look size skipped blocks (compares payload) look = refl
+part_look size skipped blocks (pairs payload new) look = absurd (cc look)
 
 each_change : (ns : Namespace) (op : Operation) (units : List ℕ) (m : Medium) → IsChange op.deed → EachSucceeds ns op units m
 each_change ns op [] m change = tt
@@ -78,12 +64,12 @@ each_change ns op (unit ∷ units) m change = (
 )
 
 look_leaves : (size : ℕ) (blocks : List Block) (deed : Deed) (i : ℕ) (old : Block) → IsLook deed → block_after size blocks deed i old ≡ old
-look_leaves size blocks (writes payload) i old look = absurd look
-look_leaves size blocks zeroes i old look = absurd look
-look_leaves size blocks uncorrectable i old look = absurd look
+look_leaves size blocks (writes payload) i old look = absurd (cc look)
+look_leaves size blocks zeroes i old look = absurd (cc look)
+look_leaves size blocks uncorrectable i old look = absurd (cc look)
 look_leaves size blocks reads i old look = refl
 look_leaves size blocks (compares payload) i old look = refl
-look_leaves size blocks (pairs payload new) i old look = absurd look
+look_leaves size blocks (pairs payload new) i old look = absurd (cc look)
 
 -- a look leaves the medium as it is
 look_unchanged : (size : ℕ) (op : Operation) (m : Medium) → IsLook op.deed → medium_after size op m ≡ m
@@ -126,7 +112,7 @@ part_good size skipped blocks zeroes i b inside = ((λ h. h), (λ h. h))
 part_good size skipped blocks uncorrectable i b inside = ((λ h. h), (λ h. h))
 part_good size skipped blocks reads i b inside = ((λ h. h), (λ h. h))
 part_good size skipped blocks (compares payload) i b inside =
-    let same = data_of_part size skipped blocks i payload inside in
+    let same = part_data_at size skipped blocks i payload inside in
     ((λ h. (h.0, h.1 ∙ same)), (λ h. (h.0, h.1 ∙ sym same)))
 part_good size skipped blocks (pairs payload new) i b inside = ((λ h. h), (λ h. h))
 

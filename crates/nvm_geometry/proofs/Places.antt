@@ -139,9 +139,9 @@ place_here ns first blocks unit i inside =
     ]
 
 -- the data at a place of the part
-pub data_of_part : (size skipped blocks i : ℕ) (payload : List ℕ) → i < blocks
+pub part_data_at : (size skipped blocks i : ℕ) (payload : List ℕ) → i < blocks
     → take size (drop (i * size) (data_part size skipped blocks payload)) ≡ take size (drop ((skipped + i) * size) payload)
-data_of_part size skipped blocks i payload inside =
+part_data_at size skipped blocks i payload inside =
     let k = blocks - i - 1 in
     let whole : blocks ≡ i + (k + 1) = omega (arith, inside) in
     let split : (i + (k + 1)) * size ≡ i * size + (k + 1) * size = omega arith in
@@ -157,7 +157,7 @@ data_of_part size skipped blocks i payload inside =
 
 pub block_of_part : (size skipped blocks i : ℕ) (payload : List ℕ) → i < blocks
     → block_at size (data_part size skipped blocks payload) i ≡ block_at size payload (skipped + i)
-block_of_part size skipped blocks i payload inside = ap Bytes (data_of_part size skipped blocks i payload inside)
+block_of_part size skipped blocks i payload inside = ap Bytes (part_data_at size skipped blocks i payload inside)
 
 -- for an LBA of the range
 inside_lbas : (ns : Namespace) (op : Operation) (unit lba : ℕ) → op.first ≤ lba → lba < op.first + op.blocks
