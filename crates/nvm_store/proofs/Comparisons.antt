@@ -13,7 +13,7 @@ use Rattle.nvm_record.specs.Status.{IsSuccess, successful_completion, unrecovere
 use Rattle.nvm_record.specs.Step.{Deed, writes, zeroes, uncorrectable, reads, compares, pairs, compares_equal, comparison, statuses_on, statuses_of, medium_after}
 use Rattle.nvm_store.specs.Operation.{write_operation, pair_operation}
 use Rattle.nvm_record.specs.Deeds.{FailsOn}
-use Rattle.nvm_store.specs.Stored.{Stored, AreSized, block_of, blocks_of}
+use Rattle.nvm_store.specs.Inside.Stored.{Stored, AreSized, block_of, blocks_of}
 
 -- Bytes are equal where their fronts of one length are, and what follows.
 bytes_eq-append : (a b c d : List ℕ) → length a ≡ length c → bytes_eq (a ++ b) (c ++ d) ≡ (bytes_eq a c && bytes_eq b d)

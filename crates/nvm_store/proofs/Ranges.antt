@@ -9,7 +9,7 @@ use Rattle.nvm_record.specs.Status.{IsSuccess}
 use Rattle.nvm_record.specs.Step.{Operation, range_of, block_after, statuses_of, medium_after}
 use Rattle.nvm_store.specs.Contents.{Contents, Holds, IsWithin, Covers, Succeeds}
 use Rattle.nvm_store.specs.Operation.{write_operation, zeroes_operation, uncorrectable_operation}
-use Rattle.nvm_store.specs.Stored.{Stored, AreSized, block_of, blocks_of, zero_block, KeepsAllBut, written, marked}
+use Rattle.nvm_store.specs.Inside.Stored.{Stored, AreSized, block_of, blocks_of, zero_block, KeepsAllBut, written, marked}
 
 -- These blocks are the medium's, from this LBA.
 abbrev pub AreAt : List Block → ℕ → Medium → Type 0

@@ -4,8 +4,8 @@ use Rattle.nvm_record.specs.declared.status.Statuses.TheVariants.{One}
 use Rattle.nvm_record.specs.Medium.{Medium}
 use Rattle.nvm_record.specs.Status.{successful_completion}
 use Rattle.nvm_record.specs.Step.{Operation, statuses_of, data_of}
-use Rattle.nvm_store.specs.declared.answers.Answer.{Answer}
-use Rattle.nvm_store.specs.declared.answers.Answer.TheVariants.{Payload, Status}
+use Rattle.nvm_store.specs.declared.look.answer.Answer.{Answer}
+use Rattle.nvm_store.specs.declared.look.answer.Answer.TheVariants.{Payload, Status}
 
 -- The answer is that of the step: data with success, or else a status.
 abbrev pub IsAnswer : Operation → Medium → Answer → Type 0

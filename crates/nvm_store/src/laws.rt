@@ -1,41 +1,46 @@
 //! Laws of this crate's definitions, for the crates above. Each function does nothing: its contract
 //! is the law, which a caller then knows.
-ghost use Rattle.std.specs.Prelude.{◌≡◌, ◌≢◌, ◌↔◌, ℕ, true, ◌+◌, ◌<◌, ◌≤◌, List, [], ◌∷◌, ◌++◌, length, slice_index_or};
+ghost use Rattle.std.specs.Prelude.{◌≡◌, ◌≢◌, ◌↔◌, ℕ, true, ◌+◌, ◌*◌, ◌≤◌, List, [], ◌∷◌, ◌++◌, All, Some, length};
 ghost use Rattle.nvm_record.specs.declared.status.Status.{Status as CommandStatus};
+ghost use Rattle.nvm_record.specs.declared.status.Statuses.{Statuses as Told};
 ghost use Rattle.nvm_record.specs.declared.status.Statuses.TheVariants.{One, Two};
-ghost use Rattle.nvm_record.specs.Medium.{Medium, range};
+ghost use Rattle.nvm_record.specs.Deeds.{IsAct, IsLook, IsSingle, IsFailedPair};
+ghost use Rattle.nvm_record.specs.Lists.{IsAt};
+ghost use Rattle.nvm_record.specs.Medium.{Medium, HasBlockSize, range, zero_medium};
 ghost use Rattle.nvm_record.specs.Status.{IsSuccess, successful_completion, aborted_due_to_failed_fused_command};
 ghost use Rattle.nvm_record.specs.Step.{Operation, range_of, statuses_of, medium_after, compares_equal};
 ghost use Rattle.nvm_store.specs.declared.act_ref.ActRef.{ActRef as Lent};
+ghost use Rattle.nvm_store.specs.declared.look.Look.{Look as Asked};
+ghost use Rattle.nvm_store.specs.declared.place.Place.{Place as UnitPlace};
 ghost use Rattle.nvm_store.specs.ActRef.{lent_operation_of};
+ghost use Rattle.nvm_store.specs.Call.{Call, IsCallOn};
 ghost use Rattle.nvm_store.specs.Contents.{Contents, Holds, Covers, Succeeds};
 ghost use Rattle.nvm_store.specs.History.{replay_of, CanFollow, IsLawfulHistory};
 ghost use Rattle.nvm_store.specs.HistoryEntry.{HistoryEntry};
+ghost use Rattle.nvm_store.specs.Look.{look_operation_of};
 ghost use Rattle.nvm_store.specs.Operation.{write_operation, pair_operation};
-ghost use Rattle.nvm_store.specs.Pair.{IsPair};
-ghost use Rattle.nvm_record.specs.Deeds.{IsFailedPair};
-ghost use Rattle.nvm_store.specs.Point.{point};
+ghost use Rattle.nvm_store.specs.PlacedRun.{RunStep, IsRunFrom, IsPlacedRun};
+ghost use Rattle.nvm_store.specs.Point.{point, RestsOn};
 
 /// The replay of a history with one entry more is that entry's step on the replay of the others.
 pub fn replay_of_one_more()
-    ensures { (size : ℕ) (history : List HistoryEntry) (line : HistoryEntry)
-        → replay_of size (history ++ line ∷ [])
-        ≡ medium_after size line.operation (replay_of size history) }
+    ensures { (size : ℕ) (history : List HistoryEntry) (entry : HistoryEntry)
+        → replay_of size (history ++ entry ∷ [])
+        ≡ medium_after size entry.operation (replay_of size history) }
 {}
 
 /// A history with one entry more is lawful exactly where the others are, and the entry can follow
 /// them.
 pub fn lawful_with_one_more()
-    ensures { (start count size : ℕ) (history : List HistoryEntry) (line : HistoryEntry)
-        → IsLawfulHistory start count size (history ++ line ∷ [])
-        ↔ (IsLawfulHistory start count size history × CanFollow start count size history line) }
+    ensures { (place : UnitPlace) (history : List HistoryEntry) (entry : HistoryEntry)
+        → IsLawfulHistory place (history ++ entry ∷ [])
+        ↔ (IsLawfulHistory place history × CanFollow place history entry) }
 {}
 
 /// What a lawful history begins with is lawful.
 pub fn lawful_beginning()
-    ensures { (start count size : ℕ) (begin rest : List HistoryEntry)
-        → IsLawfulHistory start count size (begin ++ rest)
-        → IsLawfulHistory start count size begin }
+    ensures { (place : UnitPlace) (begin rest : List HistoryEntry)
+        → IsLawfulHistory place (begin ++ rest) → IsLawfulHistory place begin }
 {}
 
 /// A point is the same in each history that begins with its entries.
@@ -46,15 +51,30 @@ pub fn point_of_beginning()
 
 /// The next point is the step of the entry between.
 pub fn next_point()
-    ensures { (size : ℕ) (history : List HistoryEntry) (d : HistoryEntry) (n : ℕ) → n < length history
-        → point size history (n + 1)
-        ≡ medium_after size (slice_index_or history n d).operation (point size history n) }
+    ensures { (size : ℕ) (history : List HistoryEntry) (n : ℕ) (entry : HistoryEntry) → IsAt history n entry
+        → point size history (n + 1) ≡ medium_after size entry.operation (point size history n) }
 {}
 
 /// The point at a history's end is its replay.
 pub fn point_at_the_end()
     ensures { (size : ℕ) (history : List HistoryEntry)
         → point size history (length history) ≡ replay_of size history }
+{}
+
+/// The replay of a lawful history has the unit's block size, and so has each of its points.
+pub fn lawful_replay_has_block_size()
+    ensures replay { (place : UnitPlace) (history : List HistoryEntry) → IsLawfulHistory place history
+        → HasBlockSize place.size (replay_of place.size history) }
+    ensures points { (place : UnitPlace) (history : List HistoryEntry) (n : ℕ) → IsLawfulHistory place history
+        → HasBlockSize place.size (point place.size history n) }
+{}
+
+/// Data that was read at a point of a lawful history has just the bytes of the range.
+pub fn data_at_point_has_its_length()
+    ensures { (place : UnitPlace) (history : List HistoryEntry) (n : ℕ) (operation : Operation) (told : Told)
+        (bytes : List ℕ) → IsLawfulHistory place history
+        → RestsOn place.size history n operation told (Some bytes)
+        → length bytes ≡ operation.blocks * place.size }
 {}
 
 /// Each unit holds the blocks of some medium.
@@ -77,17 +97,22 @@ pub fn success_on_held()
         → Succeeds unit operation }
 {}
 
+/// An act stands for the operation of an act, and a look for that of a look.
+pub fn acts_and_looks()
+    ensures acts { (act : Lent) → IsAct (lent_operation_of act).deed }
+    ensures looks { (look : Asked) → IsLook (look_operation_of look).deed }
+{}
+
 /// An act that isn't a pair succeeds on every medium.
 pub fn single_act_succeeds()
-    ensures { (act : Lent) (m : Medium) → ¬ IsPair (lent_operation_of act).deed
-        → statuses_of (lent_operation_of act) m ≡ One successful_completion }
+    ensures { (operation : Operation) (m : Medium) → IsAct operation.deed → IsSingle operation.deed
+        → statuses_of operation m ≡ One successful_completion }
 {}
 
 /// An act succeeds exactly where it isn't a pair whose comparison fails.
 pub fn act_succeeds_unless_failed_pair()
-    ensures { (act : Lent) (m : Medium)
-        → IsSuccess (statuses_of (lent_operation_of act) m)
-        ↔ (¬ IsFailedPair (lent_operation_of act) m) }
+    ensures { (operation : Operation) (m : Medium) → IsAct operation.deed
+        → IsSuccess (statuses_of operation m) ↔ (¬ IsFailedPair operation m) }
 {}
 
 /// A pair succeeds exactly where its comparison holds, and its Write is done then: what it does to the
@@ -111,4 +136,20 @@ pub fn pair_that_fails()
         × (status ≢ successful_completion) }
     ensures medium { (size : ℕ) (operation : Operation) (m : Medium) (lba : ℕ)
         → IsFailedPair operation m → medium_after size operation m lba ≡ m lba }
+{}
+
+/// A call leaves the medium at its point as it is.
+pub fn calls_leave_the_medium()
+    ensures { (place : UnitPlace) (history : List HistoryEntry) (call : Call) (lba : ℕ)
+        → IsCallOn place history call
+        → medium_after place.size call.operation (point place.size history call.point) lba
+        ≡ point place.size history call.point lba }
+{}
+
+/// A placed run of a lawful history and of calls that rest on their points is a run of the step from the
+/// zero medium: every entry succeeds, and each call has the answer that it got.
+pub fn placed_runs_are_runs()
+    ensures { (place : UnitPlace) (history : List HistoryEntry) (calls : List Call) (run : List RunStep)
+        → IsLawfulHistory place history → All (IsCallOn place history) calls
+        → IsPlacedRun history calls run → IsRunFrom place.size (zero_medium place.size) run }
 {}

@@ -4,8 +4,9 @@ ghost use Rattle.nvm_record.specs.Step.{medium_after};
 ghost use Rattle.nvm_store.specs.Operation.{write_operation, zeroes_operation, uncorrectable_operation};
 ghost use Rattle.nvm_store.specs.ActRef.{lent_operation_of};
 ghost use Rattle.nvm_store.specs.Look.{look_operation_of};
-ghost use Rattle.nvm_store.specs.Contents.{Holds, IsUnit, IsWithin, Covers, Succeeds, StaysInPlace};
-ghost use Rattle.nvm_store.specs.Stored.{AreSized, blocks_of};
+ghost use Rattle.nvm_store.specs.Contents.{Holds, IsUnit, Covers, Succeeds, StaysInPlace, place_of};
+ghost use Rattle.nvm_store.specs.Place.{IsWithin, place_at};
+ghost use Rattle.nvm_store.specs.Inside.Stored.{AreSized, blocks_of};
 
 use crate::act_ref::ActRef;
 use crate::look::Look;
@@ -28,7 +29,7 @@ pub struct UnitBlocks {
 
 impl Model for UnitBlocks {
     ghost use Rattle.nvm_store.specs.Contents.{Contents};
-    ghost use Rattle.nvm_store.specs.Stored.{blocks_of, AreSound};
+    ghost use Rattle.nvm_store.specs.Inside.Stored.{blocks_of, AreSound};
 
     ghost Value = { Contents };
 
@@ -51,7 +52,7 @@ impl UnitBlocks {
     ) -> Result<UnitBlocks, NoMemory>
         requires some { 0 < blocks }
         requires low { first + blocks ≤ 65536 }
-        ensures place { IfOk result (IsUnit first blocks size) }
+        ensures place { IfOk result (IsUnit (place_at first blocks size)) }
         ensures zeroes { IfOk result (λ unit. Holds unit (zero_medium size)) }
     {
         let blocks = zeroed_blocks(alloc, blocks as usize, size.bytes() as usize)?;
@@ -76,9 +77,7 @@ impl UnitBlocks {
 
     /// Where the unit lies.
     pub fn place(&self) -> Place
-        ensures first { result.first ≡ self.now.first }
-        ensures blocks { result.blocks ≡ length self.now.blocks }
-        ensures size { result.size ≡ self.now.size }
+        ensures { result ≡ place_of self.now }
     {
         Place {
             first: self.first,
@@ -132,7 +131,7 @@ impl UnitBlocks {
 
     /// The `blocks` LBAs from `first` take the data.
     fn write(&mut self, first: u64, blocks: u32, payload: &[u8])
-        requires range { IsWithin self.old.first (length self.old.blocks) first blocks }
+        requires range { IsWithin (place_of self.old) first blocks }
         requires payload { length payload.now ≡ blocks * self.old.size }
         ensures step { (m : Medium) → Holds self.old m
             → Holds self.new
@@ -146,7 +145,7 @@ impl UnitBlocks {
 
     /// The `blocks` LBAs from `first` become zero bytes.
     fn zero(&mut self, first: u64, blocks: u32)
-        requires { IsWithin self.old.first (length self.old.blocks) first blocks }
+        requires { IsWithin (place_of self.old) first blocks }
         ensures step { (m : Medium) → Holds self.old m
             → Holds self.new (medium_after self.old.size (zeroes_operation first blocks) m) }
         ensures place { StaysInPlace self.old self.new }
@@ -157,7 +156,7 @@ impl UnitBlocks {
 
     /// The `blocks` LBAs from `first` are marked.
     fn mark(&mut self, first: u64, blocks: u32)
-        requires { IsWithin self.old.first (length self.old.blocks) first blocks }
+        requires { IsWithin (place_of self.old) first blocks }
         ensures step { (m : Medium) → Holds self.old m
             → Holds self.new (medium_after self.old.size (uncorrectable_operation first blocks) m) }
         ensures place { StaysInPlace self.old self.new }
@@ -168,7 +167,7 @@ impl UnitBlocks {
 
     /// The stored blocks of the `blocks` LBAs from `first`.
     pub(crate) fn range(&self, first: u64, blocks: u32) -> &[StoredBlock]
-        requires { IsWithin self.now.first (length self.now.blocks) first blocks }
+        requires { IsWithin (place_of self.now) first blocks }
         ensures blocks { (m : Medium) → Holds self.now m
             → range m first blocks ≡ blocks_of result.now }
         ensures len { length result.now ≡ blocks }

@@ -1,5 +1,6 @@
 ghost use Rattle.std.specs.Prelude.{OnOk};
 ghost use Rattle.nvm_store.specs.History.{IsLawfulHistory};
+ghost use Rattle.nvm_store.specs.Place.{place_at};
 
 use super::{BLOCK, MARKED, failure, read, size};
 use crate::laws::lawful_with_one_more;
@@ -10,8 +11,8 @@ use std::test::Fail;
 
 /// Adds the act to a history of the unit of the 4 blocks from LBA 8, if it succeeds after the others.
 fn push(alloc: Global, history: &mut History, act: Act) -> Result<(), Fail>
-    requires { IsLawfulHistory 8 4 512 history.old.items }
-    ensures { OnOk result (IsLawfulHistory 8 4 512 history.new.items) }
+    requires { IsLawfulHistory (place_at 8 4 512) history.old.items }
+    ensures { OnOk result (IsLawfulHistory (place_at 8 4 512) history.new.items) }
 {
     lawful_with_one_more();
     let unit = replay(alloc, 8, 4, size()?, history)?;

@@ -1,6 +1,6 @@
 use Rattle.std.proofs.Common.{◌≡◌, ◌+◌, ◌-◌, ◌≤◌, arith, length}
 use Rattle.std.proofs.lemmas.List.{length-map}
-use Rattle.nvm_store.specs.Stored.{block_of, zero_block}
+use Rattle.nvm_store.specs.Inside.Stored.{block_of, zero_block}
 use Rattle.nvm_store.proofs.Ranges.{range-held}
 use Rattle.nvm_store.proofs.unit_blocks.UnitBlocks.range.Goals as goal
 

@@ -1,6 +1,6 @@
 use Rattle.std.proofs.Common.{◌≡◌, ◌+◌, ◌-◌, ◌≤◌, arith, rules, length}
 use Rattle.std.proofs.lemmas.List.{with_items_is, length-map}
-use Rattle.nvm_store.specs.Stored.{zero_block, block_of}
+use Rattle.nvm_store.specs.Inside.Stored.{zero_block, block_of}
 use Rattle.nvm_store.proofs.Ranges.{held-zeroed}
 use Rattle.nvm_store.proofs.unit_blocks.UnitBlocks.zero.Goals as goal
 

@@ -1,0 +1,2 @@
+-- What contracts of private functions say of the blocks as a unit keeps them. No public clause cites it.
+pub mod Stored
