@@ -1,6 +1,6 @@
 -- The placed run of a unit: its entries in order, and each call between them at its point. And what it is to be a run of
 -- the step.
-use Rattle.std.specs.Prelude.{◌≡◌, ℕ, ◌+◌, nat_eq, List, [], ◌∷◌, ◌++◌, map, filter}
+use Rattle.std.specs.Prelude.{◌≡◌, ℕ, ◌+◌, ◌≤◌, nat_eq, List, [], ◌∷◌, ◌++◌, map, filter}
 use Rattle.nvm_record.specs.Medium.{Medium}
 use Rattle.nvm_record.specs.Status.{IsSuccess}
 use Rattle.nvm_record.specs.Step.{Operation, statuses_of, data_of, medium_after}
@@ -71,3 +71,9 @@ placed_from n (entry ∷ entries) calls =
 -- the placed run in which calls at one point keep the order that they are given in
 abbrev pub placed_run : List HistoryEntry → List Call → List RunStep
 placed_run history calls = placed_from 0 history calls
+
+-- The points of calls, from `low` on and none past `high`, never go back.
+abbrev pub NeverGoBack : ℕ → ℕ → List Call → Type 0
+NeverGoBack low high [] = Unit {0}
+NeverGoBack low high (call ∷ calls) =
+    (low ≤ call.point) × (call.point ≤ high) × NeverGoBack call.point high calls

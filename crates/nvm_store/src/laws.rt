@@ -19,7 +19,7 @@ ghost use Rattle.nvm_store.specs.History.{replay_of, CanFollow, IsLawfulHistory}
 ghost use Rattle.nvm_store.specs.HistoryEntry.{HistoryEntry};
 ghost use Rattle.nvm_store.specs.Look.{look_operation_of};
 ghost use Rattle.nvm_store.specs.Operation.{write_operation, pair_operation};
-ghost use Rattle.nvm_store.specs.PlacedRun.{RunStep, IsRunFrom, IsPlacedRun};
+ghost use Rattle.nvm_store.specs.PlacedRun.{RunStep, IsRunFrom, IsPlacedRun, NeverGoBack, calls_by, placed_run};
 ghost use Rattle.nvm_store.specs.Point.{point, RestsOn};
 
 /// The replay of a history with one entry more is that entry's step on the replay of the others.
@@ -152,4 +152,12 @@ pub fn placed_runs_are_runs()
     ensures { (place : UnitPlace) (history : List HistoryEntry) (calls : List Call) (run : List RunStep)
         → IsLawfulHistory place history → All (IsCallOn place history) calls
         → IsPlacedRun history calls run → IsRunFrom place.size (zero_medium place.size) run }
+{}
+
+/// Where the points of each pass's calls never go back, and none is past the history's end, there is a
+/// placed run: that in which the calls at one point keep the order of their list.
+pub fn placed_run_is_one()
+    ensures { (history : List HistoryEntry) (calls : List Call)
+        → ((pass : ℕ) → NeverGoBack 0 (length history) (calls_by pass calls))
+        → IsPlacedRun history calls (placed_run history calls) }
 {}

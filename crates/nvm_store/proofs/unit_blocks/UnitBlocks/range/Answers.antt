@@ -15,4 +15,4 @@ returns-clause-blocks c m held =
     omega (arith, within.above, within.below, length-map items block_of) in
     let some : at + c.args.blocks - at ≡ c.args.blocks = omega arith in
     rw (some, c.deref.ensures.value)
-    (range-held m items (zero_block 0) c.self.inside.first c.args.first c.args.blocks at held' place fits)
+    (range-held m items (zero_block 0) c.self.inside.first c.self.inside.size c.args.first c.args.blocks at held' place fits)
