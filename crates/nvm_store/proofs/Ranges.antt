@@ -1,15 +1,13 @@
 -- A range of a medium, and the stored blocks of a unit that hold it.
-use Rattle.std.proofs.Common.{◌≡◌, ◌⊎◌, ℕ, zero, suc, ◌+◌, ◌-◌, ◌<◌, ◌≤◌, List, [], ◌∷◌, length, get_or, take, drop, replicate, refl, sym, ap, ◌∙◌, arith, inl, inr}
+use Rattle.std.proofs.Common.{◌≡◌, ◌⊎◌, ℕ, zero, suc, ◌+◌, ◌-◌, ◌<◌, ◌≤◌, List, [], ◌∷◌, length, get_or, take, drop, replicate, false, refl, sym, ap, ◌∙◌, arith, inl, inr}
 use Rattle.std.proofs.lemmas.Bool.Decides.{nat_tests, leb_tells}
 use Rattle.std.proofs.lemmas.List.{get_or-map, get_or-take, get_or-drop, get_or-replicate, length-map, length-take-le, length-drop, length-replicate, get_or_default}
 use Rattle.nvm_record.specs.declared.block.Block.{Block}
 use Rattle.nvm_record.specs.declared.block.Block.TheVariants.{Bytes, Uncorrectable}
+use Rattle.nvm_record.specs.Lists.{IsAt}
 use Rattle.nvm_record.specs.Medium.{Medium, zero_medium, range}
-use Rattle.nvm_record.specs.Status.{IsSuccess}
-use Rattle.nvm_record.specs.Step.{Operation, range_of, block_after, statuses_of, medium_after}
-use Rattle.nvm_store.specs.Contents.{Contents, Holds, Covers, Succeeds}
-use Rattle.nvm_store.specs.declared.place.Place.{Place}
-use Rattle.nvm_store.specs.Place.{place_at, IsWithin}
+use Rattle.nvm_record.specs.Step.{Operation, range_of, is_in_range, block_after, medium_after}
+use Rattle.nvm_store.specs.Contents.{Contents, Holds}
 use Rattle.nvm_store.specs.Operation.{write_operation, zeroes_operation, uncorrectable_operation}
 use Rattle.nvm_store.proofs.AtLemmas.{at_below, at_read, get_or_at_place}
 use Rattle.nvm_store.specs.Inside.Stored.{Stored, AreSized, block_of, blocks_of, zero_block, KeepsAllBut, written, marked}
@@ -90,18 +88,21 @@ medium_after-inside : (m : Medium) (size : ℕ) (op : Operation) (lba : ℕ) →
     → medium_after size op m lba ≡ block_after size (range_of op m) op.deed (lba - op.first) (m lba)
 medium_after-inside m size op lba above below = grind (arith, nat_tests)
 
--- An LBA outside the range keeps its block.
-pub medium_after-outside : (m : Medium) (size : ℕ) (op : Operation) (lba : ℕ) → (lba < op.first) ⊎ (op.first + op.blocks ≤ lba)
-    → medium_after size op m lba ≡ m lba
-medium_after-outside m size op lba out = grind (arith, nat_tests)
+-- A step leaves what is outside its range.
+abbrev pub StepsStayInside : Type 0
+StepsStayInside =
+    (size : ℕ) (op : Operation) (m : Medium) (lba : ℕ) → is_in_range op lba ≡ false → medium_after size op m lba ≡ m lba
+
+is_outside : (op : Operation) (lba : ℕ) → (lba < op.first) ⊎ (op.first + op.blocks ≤ lba) → is_in_range op lba ≡ false
+is_outside op lba out = grind (arith, nat_tests)
 
 -- Stored blocks of which the operation's range was changed are those of the medium after it.
-held_at-changed : (m : Medium) (old new : List Stored) (d : Stored) (start size at : ℕ) (op : Operation)
+held_at-changed : StepsStayInside → (m : Medium) (old new : List Stored) (d : Stored) (start size at : ℕ) (op : Operation)
     → AreAt (blocks_of old) start m → start + at ≡ op.first → length new ≡ length old
     → ((i : ℕ) → i < op.blocks → block_of (get_or new (at + i) d) ≡ block_after size (range_of op m) op.deed i (m (op.first + i)))
     → KeepsAllBut at op.blocks old new
     → AreAt (blocks_of new) start (medium_after size op m)
-held_at-changed m old new d start size at op held place len put others e i lt =
+held_at-changed law m old new d start size at op held place len put others e i lt =
     let lt' : i < length new = omega (arith, length-map new block_of) in
     let a : get_or (blocks_of new) i e ≡ block_of (get_or new i d) = get_or-blocks_of new d e i lt' in
     let outside : (i < at) ⊎ (at + op.blocks ≤ i) → get_or (blocks_of new) i e ≡ medium_after size op m (start + i) =
@@ -110,7 +111,7 @@ held_at-changed m old new d start size at op held place len put others e i lt =
     let f : get_or (blocks_of old) i e ≡ block_of (get_or old i d) = get_or-blocks_of old d e i (omega arith) in
     let h : get_or (blocks_of old) i e ≡ m (start + i) = held e i (omega (arith, length-map old block_of)) in
     let out' : (start + i < op.first) ⊎ (op.first + op.blocks ≤ start + i) = grind arith in
-    let g = medium_after-outside m size op (start + i) out' in
+    let g = law size op m (start + i) (is_outside op (start + i) out') in
     cc
     in
     elim (leb_tells at i) [
@@ -132,78 +133,53 @@ held_at-changed m old new d start size at op held place len put others e i lt =
     ]
 
 -- The unit of such blocks holds the medium after the operation.
-held-changed : (m : Medium) (old new : List Stored) (d : Stored) (start size at : ℕ) (op : Operation)
+held-changed : StepsStayInside → (m : Medium) (old new : List Stored) (d : Stored) (start size at : ℕ) (op : Operation)
     → Holds (unit_with start size old) m → start + at ≡ op.first → length new ≡ length old
     → ((i : ℕ) → i < op.blocks → block_of (get_or new (at + i) d) ≡ block_after size (range_of op m) op.deed i (m (op.first + i)))
     → KeepsAllBut at op.blocks old new
     → Holds (unit_with start size new) (medium_after size op m)
-held-changed m old new d start size at op held place len put others =
+held-changed law m old new d start size at op held place len put others =
     held_where_at (unit_with start size new) (medium_after size op m)
-    (held_at-changed m old new d start size at op (held_are_at (unit_with start size old) m held) place len put others)
+    (held_at-changed law m old new d start size at op (held_are_at (unit_with start size old) m held) place len put others)
 
 -- Stored blocks of which a range was written are those of the medium after the Write.
-pub held-written : (m : Medium) (old new : List Stored) (d : Stored) (start size first count at : ℕ) (payload : List ℕ)
+pub held-written : StepsStayInside → (m : Medium) (old new : List Stored) (d : Stored) (start size first count at : ℕ) (payload : List ℕ)
     → Holds (unit_with start size old) m → start + at ≡ first → length new ≡ length old
     → ((i : ℕ) → i < count → get_or new (at + i) d ≡ written size payload i)
     → KeepsAllBut at count old new
     → Holds (unit_with start size new) (medium_after size (write_operation first count payload) m)
-held-written m old new d start size first count at payload held place len put others =
-    held-changed m old new d start size at (write_operation first count payload) held place len
+held-written law m old new d start size first count at payload held place len put others =
+    held-changed law m old new d start size at (write_operation first count payload) held place len
     (λ i lt. ap block_of (put i lt)) others
 
 -- Stored blocks of which a range was zeroed are those of the medium after the Write Zeroes.
-pub held-zeroed : (m : Medium) (old new : List Stored) (d : Stored) (start size first count at : ℕ)
+pub held-zeroed : StepsStayInside → (m : Medium) (old new : List Stored) (d : Stored) (start size first count at : ℕ)
     → Holds (unit_with start size old) m → start + at ≡ first → at + count ≤ length old → AreSized size old → length new ≡ length old
     → ((i : ℕ) → i < count → get_or new (at + i) d ≡ zero_block (length (get_or old (at + i) d).bytes))
     → KeepsAllBut at count old new
     → Holds (unit_with start size new) (medium_after size (zeroes_operation first count) m)
-held-zeroed m old new d start size first count at held place fits sized len put others =
-    held-changed m old new d start size at (zeroes_operation first count) held place len
+held-zeroed law m old new d start size first count at held place fits sized len put others =
+    held-changed law m old new d start size at (zeroes_operation first count) held place len
     (λ i lt. ap block_of (put i lt) ∙ ap (λ (n : ℕ). Bytes (replicate n 0)) (sized d (at + i) (omega arith))) others
 
 -- Stored blocks of which a range was marked are those of the medium after the Write Uncorrectable.
-pub held-marked : (m : Medium) (old new : List Stored) (d : Stored) (start size first count at : ℕ)
+pub held-marked : StepsStayInside → (m : Medium) (old new : List Stored) (d : Stored) (start size first count at : ℕ)
     → Holds (unit_with start size old) m → start + at ≡ first → length new ≡ length old
     → ((i : ℕ) → i < count → get_or new (at + i) d ≡ marked (get_or old (at + i) d))
     → KeepsAllBut at count old new
     → Holds (unit_with start size new) (medium_after size (uncorrectable_operation first count) m)
-held-marked m old new d start size first count at held place len put others =
-    held-changed m old new d start size at (uncorrectable_operation first count) held place len
+held-marked law m old new d start size first count at held place len put others =
+    held-changed law m old new d start size at (uncorrectable_operation first count) held place len
     (λ i lt. ap block_of (put i lt)) others
 
--- Media that agree on the LBAs of a range have the same range.
-pub range-same : (m n : Medium) (first count : ℕ) → ((i : ℕ) → i < count → m (first + i) ≡ n (first + i))
-    → range m first count ≡ range n first count
-range-same m n first zero same = refl
-range-same m n first (suc count) same =
-    let here : m (first + 0) ≡ n (first + 0) = same 0 (omega arith) in
-    let at : first + 0 ≡ first = omega arith in
-    let rest : range m (suc first) count ≡ range n (suc first) count =
-    range-same m n (suc first) count
-    (λ i lt. let next : suc first + i ≡ first + suc i = omega arith in rw next (same (suc i) (omega arith))) in
-    cc
-
--- All media that a unit holds have the same range there.
-pub range-held_same : (blocks : List Block) (start first count : ℕ) (size : ℕ) (m n : Medium) → IsWithin (place_at start (length blocks) size) first count
-    → AreAt blocks start m → AreAt blocks start n → range m first count ≡ range n first count
-range-held_same blocks start first count size m n within held held' =
-    range-same m n first count
-    (λ i lt.
-    let above : start ≤ first = within.above in
-    let below : first + count ≤ start + length blocks = within.below in
-    let at : start + (first - start + i) ≡ first + i = omega arith in
-    let lt' : first - start + i < length blocks = omega arith in
-    rw (← at) (sym (held Uncorrectable (first - start + i) lt') ∙ held' Uncorrectable (first - start + i) lt'))
-
-pub held_same : (unit : Contents) (op : Operation) (m n : Medium) → Covers unit op → Holds unit m → Holds unit n → range_of op m ≡ range_of op n
-held_same unit op m n covered held held' =
-    range-held_same unit.blocks unit.first op.first op.blocks unit.size m n covered.range (held_are_at unit m held) (held_are_at unit n held')
-
--- An operation that succeeds on one medium that the unit holds succeeds on all of them.
-pub succeeds_on_held : (unit : Contents) (op : Operation) (m : Medium) → Covers unit op → Holds unit m
-    → IsSuccess (statuses_of op m) → Succeeds unit op
-succeeds_on_held unit op m covered held success n held' =
-    rw (held_same unit op m n covered held held') at success
+-- Two media that a unit holds have the same block at each of its LBAs.
+pub same_on_held : (unit : Contents) (m n : Medium) (lba : ℕ) → unit.first ≤ lba → lba < unit.first + length unit.blocks
+    → Holds unit m → Holds unit n → m lba ≡ n lba
+same_on_held unit m n lba above below held held' =
+    let i = lba - unit.first in
+    let at : IsAt unit.blocks i (get_or unit.blocks i Uncorrectable) = at_read unit.blocks i Uncorrectable (omega arith) in
+    let here : unit.first + i ≡ lba = omega arith in
+    rw here at (held i (get_or unit.blocks i Uncorrectable) at ∙ sym (held' i (get_or unit.blocks i Uncorrectable) at))
 
 -- a medium that has a unit's blocks
 abbrev medium_with : Contents → Medium

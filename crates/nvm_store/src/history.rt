@@ -4,6 +4,7 @@ ghost use Rattle.nvm_store.specs.History.{replay_of, IsLawfulHistory};
 ghost use Rattle.nvm_store.specs.Place.{place_at};
 
 use crate::entry::Entry;
+use crate::laws::success_on_held;
 use crate::unit_blocks::UnitBlocks;
 use nvm_record::{BlockSize, NoMemory};
 use std::alloc::Global;
@@ -28,6 +29,7 @@ pub fn replay(
     ensures place { IfOk result (IsUnit (place_at first blocks size)) }
     ensures replayed { IfOk result (λ unit. Holds unit (replay_of size history.now.items)) }
 {
+    success_on_held();
     let mut unit = UnitBlocks::zeroed(alloc, first, blocks, size)?;
     for entry in history {
         unit.change(entry.act.as_ref());

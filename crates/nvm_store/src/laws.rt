@@ -8,7 +8,7 @@ ghost use Rattle.nvm_record.specs.Deeds.{IsAct, IsLook, IsSingle, IsFailedPair};
 ghost use Rattle.nvm_record.specs.Lists.{IsAt};
 ghost use Rattle.nvm_record.specs.Medium.{Medium, HasBlockSize, range, zero_medium};
 ghost use Rattle.nvm_record.specs.Status.{IsSuccess, successful_completion, aborted_due_to_failed_fused_command};
-ghost use Rattle.nvm_record.specs.Step.{Operation, range_of, statuses_of, medium_after, compares_equal};
+ghost use Rattle.nvm_record.specs.Step.{Operation, AgreeOn, statuses_of, medium_after, compares_equal};
 ghost use Rattle.nvm_store.specs.declared.act_ref.ActRef.{ActRef as Lent};
 ghost use Rattle.nvm_store.specs.declared.look.Look.{Look as Asked};
 ghost use Rattle.nvm_store.specs.declared.place.Place.{Place as UnitPlace};
@@ -21,6 +21,8 @@ ghost use Rattle.nvm_store.specs.Look.{look_operation_of};
 ghost use Rattle.nvm_store.specs.Operation.{write_operation, pair_operation};
 ghost use Rattle.nvm_store.specs.PlacedRun.{RunStep, IsRunFrom, IsPlacedRun, NeverGoBack, calls_by, placed_run};
 ghost use Rattle.nvm_store.specs.Point.{point, RestsOn};
+
+use nvm_record::laws::{steps_are_local, steps_keep_block_sizes};
 
 /// The replay of a history with one entry more is that entry's step on the replay of the others.
 pub fn replay_of_one_more()
@@ -67,7 +69,9 @@ pub fn lawful_replay_has_block_size()
         → HasBlockSize place.size (replay_of place.size history) }
     ensures points { (place : UnitPlace) (history : List HistoryEntry) (n : ℕ) → IsLawfulHistory place history
         → HasBlockSize place.size (point place.size history n) }
-{}
+{
+    steps_keep_block_sizes();
+}
 
 /// Data that was read at a point of a lawful history has just the bytes of the range.
 pub fn data_at_point_has_its_length()
@@ -75,27 +79,34 @@ pub fn data_at_point_has_its_length()
         (bytes : List ℕ) → IsLawfulHistory place history
         → RestsOn place.size history n operation told (Some bytes)
         → length bytes ≡ operation.blocks * place.size }
-{}
+{
+    steps_keep_block_sizes();
+    lawful_replay_has_block_size();
+}
 
 /// Each unit holds the blocks of some medium.
 pub fn some_medium_is_held()
     ensures { (unit : Contents) → (m : Medium) × Holds unit m }
 {}
 
-/// All media whose blocks a unit holds have the same blocks in the range of an operation that the
-/// unit covers. So the operation's statuses and data are the same on them.
-pub fn same_range_on_held()
+/// All media whose blocks a unit holds agree on the range of an operation that the unit covers. So the
+/// operation's statuses and data are the same on them.
+pub fn held_media_agree()
     ensures { (unit : Contents) (operation : Operation) (m n : Medium)
-        → Covers unit operation → Holds unit m → Holds unit n
-        → range_of operation m ≡ range_of operation n }
-{}
+        → Covers unit operation → Holds unit m → Holds unit n → AgreeOn operation m n }
+{
+    steps_are_local();
+}
 
 /// An operation that succeeds on one medium whose blocks the unit holds succeeds on the unit.
 pub fn success_on_held()
     ensures { (unit : Contents) (operation : Operation) (m : Medium)
         → Covers unit operation → Holds unit m → IsSuccess (statuses_of operation m)
         → Succeeds unit operation }
-{}
+{
+    held_media_agree();
+    steps_are_local();
+}
 
 /// An act stands for the operation of an act, and a look for that of a look.
 pub fn acts_and_looks()

@@ -13,6 +13,7 @@ use crate::look::Look;
 use crate::place::Place;
 use crate::stored_block::StoredBlock;
 use crate::stored_blocks::{copies_of, mark_range, write_range, zero_range, zeroed_blocks};
+use nvm_record::laws::steps_are_local;
 use nvm_record::{BlockSize, NoMemory};
 use std::alloc::Global;
 use std::marker::Model;
@@ -140,6 +141,7 @@ impl UnitBlocks {
     {
         let at = (first - self.first) as usize;
         let size = self.size.bytes() as usize;
+        steps_are_local();
         write_range(&mut self.blocks, at, blocks as usize, size, payload);
     }
 
@@ -151,6 +153,7 @@ impl UnitBlocks {
         ensures place { StaysInPlace self.old self.new }
     {
         let at = (first - self.first) as usize;
+        steps_are_local();
         zero_range(&mut self.blocks, at, blocks as usize);
     }
 
@@ -162,6 +165,7 @@ impl UnitBlocks {
         ensures place { StaysInPlace self.old self.new }
     {
         let at = (first - self.first) as usize;
+        steps_are_local();
         mark_range(&mut self.blocks, at, blocks as usize);
     }
 

@@ -5,7 +5,6 @@ use Rattle.nvm_store.specs.Contents.{Covers}
 use Rattle.nvm_store.specs.HistoryEntry.{HistoryEntry}
 use Rattle.nvm_store.specs.Point.{point}
 use Rattle.nvm_store.proofs.AtLemmas.{at_read}
-use Rattle.nvm_store.proofs.Ranges.{succeeds_on_held}
 use Rattle.nvm_store.proofs.Replays.{point-more}
 use Rattle.nvm_store.proofs.history.replay.Goals as goal
 
@@ -36,7 +35,7 @@ change-requires-clause-success c =
     let place = c.loop-entry.invariant.place in
     let covered : Covers c.loop-entry.unit entry.operation = rw (place.first, place.blocks, place.size) follows.covered in
     rw does
-    (succeeds_on_held c.loop-entry.unit entry.operation (point c.args.size entries n) covered
+    (c.success_on_held.ensures c.loop-entry.unit entry.operation (point c.args.size entries n) covered
     c.loop-entry.invariant.replayed follows.succeeds)
 
 pub loop-entry-preserved : goal.loop-entry-preserved
