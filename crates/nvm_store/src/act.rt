@@ -1,6 +1,7 @@
-ghost use Rattle.std.specs.Prelude.{◌≡◌};
+ghost use Rattle.std.specs.Prelude.{◌≡◌, ◌↔◌, IsTrue};
 ghost use Rattle.nvm_store.specs.Act.{operation_of};
 ghost use Rattle.nvm_store.specs.ActRef.{lent_operation_of};
+ghost use Rattle.nvm_store.specs.Operation.{write_operation, zeroes_operation, uncorrectable_operation, pair_operation};
 
 use crate::act_ref::ActRef;
 use nvm_record::Payload;
@@ -73,6 +74,60 @@ impl Act {
                 compare: compare.as_slice(),
                 write: write.as_slice(),
             },
+        }
+    }
+
+    /// Whether it is this Write.
+    pub(crate) fn is_write(&self, from: u64, count: u32, bytes: &[u8]) -> bool
+        ensures { IsTrue result ↔ (write_operation from count bytes.now ≡ operation_of self.now) }
+    {
+        match self {
+            Act::Write {
+                first,
+                blocks,
+                payload,
+            } => *first == from && *blocks == count && payload.as_slice() == bytes,
+            _ => false,
+        }
+    }
+
+    /// Whether it is this Write Zeroes.
+    pub(crate) fn is_zeroes(&self, from: u64, count: u32) -> bool
+        ensures { IsTrue result ↔ (zeroes_operation from count ≡ operation_of self.now) }
+    {
+        match self {
+            Act::Zeroes { first, blocks } => *first == from && *blocks == count,
+            _ => false,
+        }
+    }
+
+    /// Whether it is this Write Uncorrectable.
+    pub(crate) fn is_uncorrectable(&self, from: u64, count: u32) -> bool
+        ensures { IsTrue result ↔ (uncorrectable_operation from count ≡ operation_of self.now) }
+    {
+        match self {
+            Act::Uncorrectable { first, blocks } => *first == from && *blocks == count,
+            _ => false,
+        }
+    }
+
+    /// Whether it is this pair.
+    pub(crate) fn is_pair(&self, from: u64, count: u32, old: &[u8], new: &[u8]) -> bool
+        ensures { IsTrue result ↔ (pair_operation from count old.now new.now ≡ operation_of self.now) }
+    {
+        match self {
+            Act::Pair {
+                first,
+                blocks,
+                compare,
+                write,
+            } => {
+                *first == from
+                    && *blocks == count
+                    && compare.as_slice() == old
+                    && write.as_slice() == new
+            }
+            _ => false,
         }
     }
 }

@@ -1,4 +1,4 @@
-ghost use Rattle.std.specs.Prelude.{◌≡◌, IfOk};
+ghost use Rattle.std.specs.Prelude.{◌≡◌, ◌↔◌, IfOk, IsTrue};
 ghost use Rattle.nvm_store.specs.Act.{operation_of};
 ghost use Rattle.nvm_store.specs.ActRef.{lent_operation_of};
 
@@ -35,6 +35,27 @@ pub enum ActRef<'a> {
 }
 
 impl<'a> ActRef<'a> {
+    /// Whether it is the same act, with the same data. It takes no memory.
+    pub fn is(self, act: &Act) -> bool
+        ensures { IsTrue result ↔ (lent_operation_of self.entry ≡ operation_of act.now) }
+    {
+        match self {
+            ActRef::Write {
+                first,
+                blocks,
+                payload,
+            } => act.is_write(first, blocks, payload),
+            ActRef::Zeroes { first, blocks } => act.is_zeroes(first, blocks),
+            ActRef::Uncorrectable { first, blocks } => act.is_uncorrectable(first, blocks),
+            ActRef::Pair {
+                first,
+                blocks,
+                compare,
+                write,
+            } => act.is_pair(first, blocks, compare, write),
+        }
+    }
+
     /// The same act with a copy of the data.
     pub fn to_act(self, alloc: Global) -> Result<Act, NoMemory>
         ensures { IfOk result (λ act. operation_of act ≡ lent_operation_of self.entry) }

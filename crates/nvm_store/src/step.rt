@@ -1,4 +1,5 @@
 ghost use Rattle.std.specs.Prelude.{◌≡◌, IfOk, IsSome, IsTrue, OnErr};
+ghost use Rattle.nvm_record.specs.declared.status.Statuses.TheVariants.{One};
 ghost use Rattle.nvm_record.specs.Deeds.{is_read};
 ghost use Rattle.nvm_record.specs.Medium.{Medium};
 ghost use Rattle.nvm_record.specs.Step.{statuses_of, data_of, medium_after};
@@ -35,6 +36,29 @@ pub fn judge(unit: &UnitBlocks, act: ActRef<'_>) -> Statuses
             compare,
             write: _,
         } => pair_statuses(unit, first, blocks, compare),
+    }
+}
+
+/// The status that the look's command completes with on these blocks: 2/81 where a block is marked, for a
+/// Compare else 2/85 where a byte differs, and else 0/00. It takes no memory.
+pub fn judge_look(unit: &UnitBlocks, look: Look<'_>) -> Status
+    requires { Covers unit.now (look_operation_of look) }
+    ensures { (m : Medium) → Holds unit.now m
+        → One result ≡ statuses_of (look_operation_of look.entry) m }
+{
+    match look {
+        Look::Read { first, blocks } => {
+            if has_mark(unit.range(first, blocks)) {
+                Status::UNRECOVERED_READ_ERROR
+            } else {
+                Status::SUCCESSFUL_COMPLETION
+            }
+        }
+        Look::Compare {
+            first,
+            blocks,
+            payload,
+        } => compare_range(unit, first, blocks, payload),
     }
 }
 
