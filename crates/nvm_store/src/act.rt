@@ -5,11 +5,12 @@ ghost use Rattle.nvm_store.specs.Operation.{write_operation, zeroes_operation, u
 
 use crate::act_ref::ActRef;
 use nvm_record::Payload;
+use std::alloc::AllocError;
 
 /// What may change the blocks of a unit.
 ///
 /// `first` is an LBA of the namespace, and `blocks` a number of logical blocks, not zeroes-based.
-#[derive(Debug, Drop)]
+#[derive(Debug, PartialEq, Eq, Drop)]
 pub enum Act {
     /// The blocks take the data, one block after the other, and lose their marks (NVM Command Set
     /// Specification, "Write command").
@@ -38,6 +39,51 @@ pub enum Act {
         compare: Payload,
         write: Payload,
     },
+}
+
+/// A copy of the act and of its data, which takes memory.
+impl Clone for Act {
+    ghost is_clone = { λ act copy. copy ≡ act };
+
+    fn clone(&self) -> Result<Act, AllocError> {
+        match self {
+            Act::Write {
+                first,
+                blocks,
+                payload,
+            } => {
+                let payload = payload.clone()?;
+                Ok(Act::Write {
+                    first: *first,
+                    blocks: *blocks,
+                    payload,
+                })
+            }
+            Act::Zeroes { first, blocks } => Ok(Act::Zeroes {
+                first: *first,
+                blocks: *blocks,
+            }),
+            Act::Uncorrectable { first, blocks } => Ok(Act::Uncorrectable {
+                first: *first,
+                blocks: *blocks,
+            }),
+            Act::Pair {
+                first,
+                blocks,
+                compare,
+                write,
+            } => {
+                let compare = compare.clone()?;
+                let write = write.clone()?;
+                Ok(Act::Pair {
+                    first: *first,
+                    blocks: *blocks,
+                    compare,
+                    write,
+                })
+            }
+        }
+    }
 }
 
 impl Act {

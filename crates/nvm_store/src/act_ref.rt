@@ -7,7 +7,7 @@ use nvm_record::{NoMemory, Payload};
 use std::alloc::Global;
 
 /// An [`Act`] whose data is borrowed.
-#[derive(Clone, Copy, Debug)]
+#[derive(Clone, Copy, Debug, PartialEq, Eq)]
 pub enum ActRef<'a> {
     /// See [`Act::Write`].
     Write {

@@ -1,11 +1,11 @@
-ghost use Rattle.std.specs.Prelude.{◌≡◌, IfOk, IsSome, IsTrue, OnErr};
+ghost use Rattle.std.specs.Prelude.{◌≡◌, ◌*◌, IfOk, IsSome, IsTrue, OnErr};
 ghost use Rattle.nvm_record.specs.declared.status.Statuses.TheVariants.{One};
 ghost use Rattle.nvm_record.specs.Deeds.{is_read};
 ghost use Rattle.nvm_record.specs.Medium.{Medium};
 ghost use Rattle.nvm_record.specs.Step.{statuses_of, data_of, medium_after};
 ghost use Rattle.nvm_store.specs.ActRef.{lent_operation_of};
 ghost use Rattle.nvm_store.specs.Look.{look_operation_of};
-ghost use Rattle.nvm_store.specs.Answer.{IsAnswer};
+ghost use Rattle.nvm_store.specs.Answer.{IsAnswer, HasBytes};
 ghost use Rattle.nvm_store.specs.Contents.{Holds, Covers, Succeeds, StaysInPlace, place_of};
 ghost use Rattle.nvm_store.specs.Operation.{read_operation};
 ghost use Rattle.nvm_store.specs.Place.{IsWithin};
@@ -81,6 +81,7 @@ pub fn answer(alloc: Global, unit: &UnitBlocks, look: Look<'_>) -> Result<Answer
     requires { Covers unit.now (look_operation_of look) }
     ensures step { IfOk result (λ answer. (m : Medium) → Holds unit.now m
         → IsAnswer (look_operation_of look.entry) m answer) }
+    ensures length { IfOk result (HasBytes ((look_operation_of look.entry).blocks * unit.now.size)) }
 
     // Only the data of a Read wants memory.
     ensures memory { OnErr result ((m : Medium) → Holds unit.now m
@@ -102,6 +103,7 @@ fn read(alloc: Global, unit: &UnitBlocks, first: u64, blocks: u32) -> Result<Ans
     requires { IsWithin (place_of unit.now) first blocks }
     ensures step { IfOk result (λ answer. (m : Medium) → Holds unit.now m
         → IsAnswer (read_operation first blocks) m answer) }
+    ensures length { IfOk result (HasBytes (blocks * unit.now.size)) }
     ensures memory { OnErr result ((m : Medium) → Holds unit.now m
         → IsSome (data_of (read_operation first blocks) m)) }
 {
