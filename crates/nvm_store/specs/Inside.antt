@@ -1,2 +1,3 @@
--- What contracts of private functions say of the blocks as a unit keeps them. No public clause cites it.
+-- What private functions' contracts say of the blocks as a unit keeps them, and what `==` of entries computes.
+pub mod SameEntries
 pub mod Stored
