@@ -80,5 +80,5 @@ placed_runs_are_runs place history calls run lawful on placed =
     let P = IsCallOn place history in
     run_from place history [] run placed.whole lawful placed.at_points
     (all_by_pass P (calls_in run)
-    (λ pass. All-same P (calls_by pass (calls_in run)) (calls_by pass calls) (placed.each_once pass)
+    (λ pass. All-same P (calls_by pass (calls_in run)) (calls_by pass calls) (placed.in_order pass)
     (All-filter (λ call. eqb call.pass pass) P calls on)))

@@ -144,7 +144,7 @@ pub placed_run_is_placed : (history : List HistoryEntry) (calls : List Call)
     → ((pass : ℕ) → NeverGoBack 0 (length history) (calls_by pass calls)) → IsPlacedRun history calls (placed_run history calls)
 placed_run_is_placed history calls rise = record {
   whole = placed_whole 0 history calls;
-  each_once =
+  in_order =
       λ pass.
       ap (calls_by pass) (placed_calls 0 history calls)
       ∙ by_in_turn pass 0 history calls

@@ -1,4 +1,5 @@
--- A call on a unit that has no entry in its history: a look, or a fused pair that fails.
+-- A call that rests on a point of a unit's history without an entry there: a look, or a fused pair that fails (own). One
+-- that was answered for want of memory, or at a full history, stands nowhere.
 use Rattle.std.specs.Prelude.{◌⊎◌, ℕ, List, Option}
 use Rattle.nvm_record.specs.Deeds.{IsLook, IsFailedPair}
 use Rattle.nvm_record.specs.Step.{Operation}

@@ -23,14 +23,14 @@ abbrev pub Holds : Contents → Medium → Type 0
 Holds u m = (i : ℕ) (block : Block) → IsAt u.blocks i block → m (u.first + i) ≡ block
 
 -- The unit lies in just this place.
-pub record IsUnit (place : Place) (u : Contents) : Type 0 where
-  pub first : u.first ≡ place.first
-  pub blocks : length u.blocks ≡ place.blocks
-  pub size : u.size ≡ place.size
+abbrev pub LiesAt : Place → Contents → Type 0
+LiesAt place u = place_of u ≡ place
 
 -- The unit has the same LBAs and the same block size as before.
 abbrev pub StaysInPlace : Contents → Contents → Type 0
-StaysInPlace old new = IsUnit (place_of old) new
+StaysInPlace old new = LiesAt (place_of old) new
+
+-- The unit covers the operation: it lies there, with its data.
 
 abbrev pub Covers : Contents → Operation → Type 0
 Covers u op = IsCovered (place_of u) op

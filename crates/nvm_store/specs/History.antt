@@ -1,4 +1,4 @@
--- The history of a unit: its changes, oldest first.
+-- The history of a unit: its changes, oldest first (own).
 use Rattle.std.specs.Prelude.{ℕ, List, [], ◌∷◌, take}
 use Rattle.nvm_record.specs.Deeds.{IsAct}
 use Rattle.nvm_record.specs.Lists.{IsAt}

@@ -1,5 +1,5 @@
--- The placed run of a unit: its entries in order, and each call between them at its point. And what it is to be a run of
--- the step.
+-- The placed run of a unit: its entries in order, and each call between them at its point. And when a list of such steps
+-- is a run of one medium: each has its answer where it stands (own).
 use Rattle.std.specs.Prelude.{◌≡◌, ℕ, ◌+◌, ◌≤◌, nat_eq, List, [], ◌∷◌, ◌++◌, map, filter}
 use Rattle.nvm_record.specs.Medium.{Medium}
 use Rattle.nvm_record.specs.Status.{IsSuccess}
@@ -55,7 +55,7 @@ calls_by pass calls = filter (λ call. nat_eq call.pass pass) calls
 -- its point: after entry `n - 1` and before entry n.
 pub record IsPlacedRun (history : List HistoryEntry) (calls : List Call) (run : List RunStep) : Type 0 where
   pub whole : entries_in run ≡ history
-  pub each_once : (pass : ℕ) → calls_by pass (calls_in run) ≡ calls_by pass calls
+  pub in_order : (pass : ℕ) → calls_by pass (calls_in run) ≡ calls_by pass calls
   pub at_points : StandAtPoints 0 run
 
 -- the calls that rest on point n, in order

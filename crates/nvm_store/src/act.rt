@@ -124,7 +124,7 @@ impl Act {
     }
 
     /// Whether it is this Write.
-    pub(crate) fn is_write(&self, from: u64, count: u32, bytes: &[u8]) -> bool
+    pub(crate) fn is_this_write(&self, from: u64, count: u32, bytes: &[u8]) -> bool
         ensures { IsTrue result ↔ (write_operation from count bytes.now ≡ operation_of self.now) }
     {
         match self {
@@ -138,7 +138,7 @@ impl Act {
     }
 
     /// Whether it is this Write Zeroes.
-    pub(crate) fn is_zeroes(&self, from: u64, count: u32) -> bool
+    pub(crate) fn are_these_zeroes(&self, from: u64, count: u32) -> bool
         ensures { IsTrue result ↔ (zeroes_operation from count ≡ operation_of self.now) }
     {
         match self {
@@ -148,7 +148,7 @@ impl Act {
     }
 
     /// Whether it is this Write Uncorrectable.
-    pub(crate) fn is_uncorrectable(&self, from: u64, count: u32) -> bool
+    pub(crate) fn is_this_mark(&self, from: u64, count: u32) -> bool
         ensures { IsTrue result ↔ (uncorrectable_operation from count ≡ operation_of self.now) }
     {
         match self {
@@ -158,7 +158,7 @@ impl Act {
     }
 
     /// Whether it is this pair.
-    pub(crate) fn is_pair(&self, from: u64, count: u32, old: &[u8], new: &[u8]) -> bool
+    pub(crate) fn is_this_pair(&self, from: u64, count: u32, old: &[u8], new: &[u8]) -> bool
         ensures { IsTrue result ↔ (pair_operation from count old.now new.now ≡ operation_of self.now) }
     {
         match self {

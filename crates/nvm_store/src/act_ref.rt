@@ -44,15 +44,15 @@ impl<'a> ActRef<'a> {
                 first,
                 blocks,
                 payload,
-            } => act.is_write(first, blocks, payload),
-            ActRef::Zeroes { first, blocks } => act.is_zeroes(first, blocks),
-            ActRef::Uncorrectable { first, blocks } => act.is_uncorrectable(first, blocks),
+            } => act.is_this_write(first, blocks, payload),
+            ActRef::Zeroes { first, blocks } => act.are_these_zeroes(first, blocks),
+            ActRef::Uncorrectable { first, blocks } => act.is_this_mark(first, blocks),
             ActRef::Pair {
                 first,
                 blocks,
                 compare,
                 write,
-            } => act.is_pair(first, blocks, compare, write),
+            } => act.is_this_pair(first, blocks, compare, write),
         }
     }
 

@@ -1,5 +1,5 @@
 ghost use Rattle.std.specs.Prelude.{◌+◌, ◌<◌, ◌≤◌, IfOk};
-ghost use Rattle.nvm_store.specs.Contents.{Holds, IsUnit};
+ghost use Rattle.nvm_store.specs.Contents.{Holds, LiesAt};
 ghost use Rattle.nvm_store.specs.History.{replay_of, IsLawfulHistory};
 ghost use Rattle.nvm_store.specs.Place.{place_at};
 
@@ -26,7 +26,7 @@ pub fn replay(
     requires some { 0 < blocks }
     requires low { first + blocks ≤ 65536 }
     requires lawful { IsLawfulHistory (place_at first blocks size) history.now.items }
-    ensures place { IfOk result (IsUnit (place_at first blocks size)) }
+    ensures place { IfOk result (LiesAt (place_at first blocks size)) }
     ensures replayed { IfOk result (λ unit. Holds unit (replay_of size history.now.items)) }
 {
     success_on_held();

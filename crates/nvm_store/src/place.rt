@@ -8,7 +8,7 @@ use crate::look::Look;
 use nvm_record::BlockSize;
 
 /// Where a unit lies in the namespace, and what it therefore covers.
-#[derive(Clone, Copy, Debug)]
+#[derive(Clone, Copy, Debug, PartialEq, Eq)]
 pub struct Place {
     /// The unit's first LBA.
     pub first: u64,

@@ -4,7 +4,7 @@ ghost use Rattle.nvm_record.specs.Step.{medium_after};
 ghost use Rattle.nvm_store.specs.Operation.{write_operation, zeroes_operation, uncorrectable_operation};
 ghost use Rattle.nvm_store.specs.ActRef.{lent_operation_of};
 ghost use Rattle.nvm_store.specs.Look.{look_operation_of};
-ghost use Rattle.nvm_store.specs.Contents.{Holds, IsUnit, Covers, Succeeds, StaysInPlace, place_of};
+ghost use Rattle.nvm_store.specs.Contents.{Holds, LiesAt, Covers, Succeeds, StaysInPlace, place_of};
 ghost use Rattle.nvm_store.specs.Place.{IsWithin, place_at};
 ghost use Rattle.nvm_store.specs.Inside.Stored.{AreSized, blocks_of};
 
@@ -53,7 +53,7 @@ impl UnitBlocks {
     ) -> Result<UnitBlocks, NoMemory>
         requires some { 0 < blocks }
         requires low { first + blocks ≤ 65536 }
-        ensures place { IfOk result (IsUnit (place_at first blocks size)) }
+        ensures place { IfOk result (LiesAt (place_at first blocks size)) }
         ensures zeroes { IfOk result (λ unit. Holds unit (zero_medium size)) }
     {
         let blocks = zeroed_blocks(alloc, blocks as usize, size.bytes() as usize)?;

@@ -1,8 +1,10 @@
-use Rattle.std.proofs.Common.{◌≡◌, ◌<◌, length, rules, get_or, sym, ap, ◌∙◌}
+use Rattle.std.proofs.Common.{◌≡◌, ◌<◌, length, rules, get_or, subst, sym, ap, ◌∙◌}
 use Rattle.nvm_record.specs.Lists.{IsAt}
 use Rattle.nvm_store.specs.ActRef.{lent_operation_of}
 use Rattle.nvm_store.specs.Contents.{Covers}
 use Rattle.nvm_store.specs.HistoryEntry.{HistoryEntry}
+use Rattle.nvm_store.specs.declared.place.Place.{Place}
+use Rattle.nvm_store.specs.Place.{IsCovered}
 use Rattle.nvm_store.specs.Point.{point}
 use Rattle.nvm_store.proofs.AtLemmas.{at_read}
 use Rattle.nvm_store.proofs.Replays.{point-more}
@@ -19,7 +21,7 @@ change-requires-clause-covered c =
     let does : lent_operation_of c.as_ref.result ≡ entry.operation =
     c.as_ref.ensures ∙ ap (λ (e : HistoryEntry). e.operation) c.entry.view_is in
     let place = c.loop-entry.invariant.place in
-    rw (does, place.first, place.blocks, place.size) (c.requires.lawful n entry at).covered
+    rw does (subst (λ (p : Place). IsCovered p entry.operation) (sym place) (c.requires.lawful n entry at).covered)
 
 pub change-requires-clause-success : goal.change-requires-clause-success
 change-requires-clause-success c =
@@ -33,7 +35,8 @@ change-requires-clause-success c =
     c.as_ref.ensures ∙ ap (λ (e : HistoryEntry). e.operation) c.entry.view_is in
     let follows = c.requires.lawful n entry at in
     let place = c.loop-entry.invariant.place in
-    let covered : Covers c.loop-entry.unit entry.operation = rw (place.first, place.blocks, place.size) follows.covered in
+    let covered : Covers c.loop-entry.unit entry.operation =
+    subst (λ (p : Place). IsCovered p entry.operation) (sym place) follows.covered in
     rw does
     (c.success_on_held.ensures c.loop-entry.unit entry.operation (point c.args.size entries n) covered
     c.loop-entry.invariant.replayed follows.succeeds)
@@ -53,5 +56,5 @@ loop-entry-preserved c =
       place = search rules;
       replayed =
           rw (point-more c.args.size entries n entry at)
-          (rw (c.loop-entry.invariant.place.size, does) at stepped);
+          (rw (ap (λ (p : Place). p.size) c.loop-entry.invariant.place, does) at stepped);
     }
