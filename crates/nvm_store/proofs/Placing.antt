@@ -1,5 +1,5 @@
 -- Calls are placed at their points between the entries of a history.
-use Rattle.std.proofs.Common.{◌≡◌, ◌⊎◌, ℕ, ◌+◌, ◌<◌, ◌≤◌, List, [], ◌∷◌, ◌++◌, length, map, filter, Bool, true, false, cond, eqb, refl, ap, sym, ◌∙◌, arith, inl, inr}
+use Rattle.std.proofs.Common.{◌≡◌, ◌⊎◌, ℕ, suc, ◌+◌, ◌<◌, ◌≤◌, List, [], ◌∷◌, ◌++◌, length, map, filter, Bool, true, false, cond, eqb, refl, ap, sym, ◌∙◌, arith, inl, inr}
 use Rattle.std.proofs.lemmas.Bool.{eqb-true, eq-eqb}
 use Rattle.std.proofs.lemmas.Bool.Decides.{eqb_tells}
 use Rattle.std.proofs.lemmas.List.Elements.{filter-append}
@@ -151,3 +151,24 @@ placed_run_is_placed history calls rise = record {
       ∙ placed_in_order 0 0 (length history) history (calls_by pass calls) (omega arith) (omega arith) (rise pass);
   at_points = placed_stand 0 history calls;
 }
+
+-- The points of one pass's calls in a placed run never go back.
+points_rise : (pass low n : ℕ) (run : List RunStep) → low ≤ n → StandAtPoints n run
+    → NeverGoBack low (n + length (entries_in run)) (calls_by pass (calls_in run))
+points_rise pass low n [] from stand = tt
+points_rise pass low n (changes entry ∷ steps) from stand =
+    let more : n + suc (length (entries_in steps)) ≡ n + 1 + length (entries_in steps) = omega arith in
+    rw more (points_rise pass low (n + 1) steps (omega arith) stand)
+points_rise pass low n (answers call ∷ steps) from stand =
+    let here : call.point ≡ n = stand.0 in
+    elim (eqb_tells call.pass pass) [
+      | inl own ↦ rw own.0 (omega arith, omega arith, points_rise pass call.point n steps (omega arith) stand.1)
+      | inr other ↦ rw other.0 (points_rise pass low n steps from stand.1)
+    ]
+
+pub placed_back : (history : List HistoryEntry) (calls : List Call) (run : List RunStep) (pass : ℕ) → IsPlacedRun history calls run
+    → NeverGoBack 0 (length history) (calls_by pass calls)
+placed_back history calls run pass placed =
+    let same : length (entries_in run) ≡ length history = ap length placed.whole in
+    let high : 0 + length (entries_in run) ≡ length history = omega arith in
+    rw (placed.in_order pass, high) at (points_rise pass 0 0 run (omega arith) placed.at_points)

@@ -19,7 +19,7 @@ ghost use Rattle.nvm_store.specs.History.{replay_of, CanFollow, IsLawfulHistory}
 ghost use Rattle.nvm_store.specs.HistoryEntry.{HistoryEntry};
 ghost use Rattle.nvm_store.specs.Look.{look_operation_of};
 ghost use Rattle.nvm_store.specs.Operation.{write_operation, pair_operation};
-ghost use Rattle.nvm_store.specs.PlacedRun.{RunStep, IsRunFrom, IsPlacedRun, NeverGoBack, calls_by, placed_run};
+ghost use Rattle.nvm_store.specs.PlacedRun.{RunStep, IsRunFrom, IsPlacedRun, NeverGoBack, StepsNeverGoBack, entries_in, entries_by, calls_in, calls_by, steps_by, placed_run};
 ghost use Rattle.nvm_store.specs.Point.{point, RestsOn};
 
 use nvm_record::laws::{steps_are_local, steps_keep_block_sizes};
@@ -165,10 +165,21 @@ pub fn placed_runs_are_runs()
         → IsPlacedRun history calls run → IsRunFrom place.size (zero_medium place.size) run }
 {}
 
-/// Where the points of each pass's calls never go back, and none is past the history's end, there is a
-/// placed run: that in which the calls at one point keep the order of their list.
-pub fn placed_run_is_one()
-    ensures { (history : List HistoryEntry) (calls : List Call)
+/// There is a placed run just where the points of each pass's calls never go back, and none is past the
+/// history's end. One of them is that in which the calls at one point keep the order of their list.
+pub fn there_is_a_placed_run()
+    ensures placed { (history : List HistoryEntry) (calls : List Call)
         → ((pass : ℕ) → NeverGoBack 0 (length history) (calls_by pass calls))
         → IsPlacedRun history calls (placed_run history calls) }
+    ensures back { (history : List HistoryEntry) (calls : List Call) (run : List RunStep) (pass : ℕ)
+        → IsPlacedRun history calls run → NeverGoBack 0 (length history) (calls_by pass calls) }
+{}
+
+/// A placed run has each pass's steps in the order in which the pass made them: its entries and its calls,
+/// where these never go back.
+pub fn placed_runs_keep_order()
+    ensures { (history : List HistoryEntry) (calls : List Call) (run own : List RunStep) (pass : ℕ)
+        → IsPlacedRun history calls run → StepsNeverGoBack history 0 own
+        → entries_in own ≡ entries_by pass history → calls_in own ≡ calls_by pass calls
+        → steps_by pass run ≡ own }
 {}
