@@ -1,12 +1,11 @@
 -- The replay of a lawful history has its unit's block size.
-use Rattle.std.proofs.Common.{◌≡◌, ℕ, ◌*◌, List, [], ◌∷◌, ◌++◌, length, take, drop, ap, sym, ◌∙◌, refl}
-use Rattle.std.proofs.lemmas.List.{take-append-drop, append_assoc, take_at}
-use Rattle.nvm_record.specs.Lists.{IsAt}
+use Rattle.std.proofs.Common.{◌≡◌, ℕ, ◌*◌, List, [], ◌∷◌, ◌++◌, length, take, drop}
+use Rattle.std.proofs.lemmas.List.{take-append-drop, append_assoc}
 use Rattle.nvm_record.specs.Medium.{Medium, HasBlockSize, zero_medium}
 use Rattle.nvm_record.specs.Step.{HasData, Operation, medium_after}
 use Rattle.nvm_store.specs.declared.place.Place.{Place}
 use Rattle.nvm_store.specs.HistoryEntry.{HistoryEntry}
-use Rattle.nvm_store.specs.History.{replay_from, replay_of, CanFollow, IsLawfulHistory}
+use Rattle.nvm_store.specs.History.{replay_from, replay_of, IsLawfulHistory}
 use Rattle.nvm_store.specs.Point.{point}
 use Rattle.nvm_store.proofs.AtLemmas.{at_end}
 use Rattle.nvm_store.proofs.Replays.{lawful_beginning}

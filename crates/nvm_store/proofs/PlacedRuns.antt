@@ -1,13 +1,12 @@
 -- A placed run is a run of the step.
-use Rattle.std.proofs.Common.{◌≡◌, ◌⊎◌, ℕ, ◌+◌, ◌<◌, ◌≤◌, List, [], ◌∷◌, ◌++◌, length, take, Bool, true, false, cond, eqb, filter, All, refl, ap, sym, ◌∙◌, append_assoc, arith, inl, inr}
+use Rattle.std.proofs.Common.{◌≡◌, ◌⊎◌, ℕ, ◌+◌, List, [], ◌∷◌, ◌++◌, length, take, Bool, true, false, cond, eqb, All, refl, ap, ◌∙◌, append_assoc}
 use Rattle.std.proofs.lemmas.Bool.{eq-eqb}
-use Rattle.std.proofs.lemmas.Bool.Decides.{nat_tests}
 use Rattle.std.proofs.lemmas.List.{take_at, length_push}
 use Rattle.std.proofs.lemmas.List.Elements.{All-head, All-tail, All-cons, All-nil, All-filter, All-same}
-use Rattle.nvm_record.specs.Deeds.{IsLook, IsFailedPair, FailsOn}
+use Rattle.nvm_record.specs.Deeds.{IsLook, IsFailedPair}
 use Rattle.nvm_record.specs.Lists.{IsAt}
-use Rattle.nvm_record.specs.Medium.{Medium, range, zero_medium}
-use Rattle.nvm_record.specs.Step.{Operation, Deed, writes, zeroes, uncorrectable, reads, compares, pairs, range_of, medium_after}
+use Rattle.nvm_record.specs.Medium.{Medium, zero_medium}
+use Rattle.nvm_record.specs.Step.{Operation, medium_after}
 use Rattle.nvm_store.specs.declared.place.Place.{Place}
 use Rattle.nvm_store.specs.Call.{Call, IsCallOn}
 use Rattle.nvm_store.specs.HistoryEntry.{HistoryEntry}
@@ -17,27 +16,17 @@ use Rattle.nvm_store.specs.Point.{point}
 use Rattle.nvm_store.proofs.AtLemmas.{at_end}
 use Rattle.nvm_store.proofs.Replays.{replay_from-append}
 
--- A look, and a pair that fails, leave each block.
-block_left : (size first blocks : ℕ) (deed : Deed) (m : Medium) (lba : ℕ)
-    → IsLook deed ⊎ FailsOn (range m first blocks) deed
-    → medium_after size (record { first = first; blocks = blocks; deed = deed }) m lba ≡ m lba
-block_left size first blocks (writes payload) m lba leaves = elim leaves [ inl look ↦ absurd (cc) | inr fails ↦ absurd fails ]
-block_left size first blocks zeroes m lba leaves = elim leaves [ inl look ↦ absurd (cc) | inr fails ↦ absurd fails ]
-block_left size first blocks uncorrectable m lba leaves = elim leaves [ inl look ↦ absurd (cc) | inr fails ↦ absurd fails ]
-block_left size first blocks reads m lba leaves = grind arith
-block_left size first blocks (compares payload) m lba leaves = grind arith
-block_left size first blocks (pairs payload new) m lba leaves =
-    elim leaves [ inl look ↦ absurd (cc) | inr fails ↦ grind (arith, fails) ]
-
-medium_left : (size : ℕ) (op : Operation) (m : Medium) → IsLook op.deed ⊎ IsFailedPair op m → medium_after size op m ≡ m
-medium_left size op m leaves = λ i lba. block_left size op.first op.blocks op.deed m lba leaves i
+-- A look, and a pair that fails, leave the medium as it is.
+abbrev pub LooksLeave : Type 0
+LooksLeave =
+    (size : ℕ) (op : Operation) (m : Medium) (lba : ℕ) → IsLook op.deed ⊎ IsFailedPair op m → medium_after size op m lba ≡ m lba
 
 -- From the replay of the entries before, the rest of a placed run is a run of the step.
-run_from : (place : Place) (history before : List HistoryEntry) (run : List RunStep)
+run_from : LooksLeave → (place : Place) (history before : List HistoryEntry) (run : List RunStep)
     → before ++ entries_in run ≡ history → IsLawfulHistory place history → StandAtPoints (length before) run
     → All (IsCallOn place history) (calls_in run) → IsRunFrom place.size (replay_of place.size before) run
-run_from place history before [] whole lawful at rest = tt
-run_from place history before (changes entry ∷ steps) whole lawful at rest =
+run_from law place history before [] whole lawful at rest = tt
+run_from law place history before (changes entry ∷ steps) whole lawful at rest =
     let n = length before in
     let here : IsAt history n entry = rw whole at (at_end before (entries_in steps) entry) in
     let taken : take n history ≡ before = rw whole at (take_at before (entry ∷ entries_in steps) n refl) in
@@ -47,17 +36,17 @@ run_from place history before (changes entry ∷ steps) whole lawful at rest =
     let stepped : replay_of place.size (before ++ entry ∷ []) ≡ medium_after place.size entry.operation (replay_of place.size before) =
     replay_from-append place.size (zero_medium place.size) before entry in (
       follows.succeeds,
-      rw stepped at (run_from place history (before ++ entry ∷ []) steps joined lawful (rw more at) rest),
+      rw stepped at (run_from law place history (before ++ entry ∷ []) steps joined lawful (rw more at) rest),
     )
-run_from place history before (answers call ∷ steps) whole lawful at rest =
+run_from law place history before (answers call ∷ steps) whole lawful at rest =
     let n = length before in
     let on : IsCallOn place history call = All-head (IsCallOn place history) call (calls_in steps) rest in
     let taken : take n history ≡ before = rw whole at (take_at before (entries_in steps) n refl) in
     let here : point place.size history call.point ≡ replay_of place.size before = rw (at.0) (ap (replay_of place.size) taken) in
     let same : medium_after place.size call.operation (replay_of place.size before) ≡ replay_of place.size before =
-    medium_left place.size call.operation (replay_of place.size before) (rw here at on.leaves) in (
+    λ i lba. law place.size call.operation (replay_of place.size before) lba (rw here at on.leaves) i in (
       (rw here at on.rests.statuses, rw here at on.rests.payload),
-      rw same (run_from place history before steps whole lawful at.1 (All-tail (IsCallOn place history) call (calls_in steps) rest)),
+      rw same (run_from law place history before steps whole lawful at.1 (All-tail (IsCallOn place history) call (calls_in steps) rest)),
     )
 
 -- What is so of each pass's calls is so of all.
@@ -73,12 +62,12 @@ all_by_pass P (call ∷ calls) each =
     (all_by_pass P calls (λ pass. all_of_front P (eqb call.pass pass) call (calls_by pass calls) (each pass)))
 
 -- A placed run of a lawful history is a run of the step, where its calls rest on their points.
-pub placed_runs_are_runs : (place : Place) (history : List HistoryEntry) (calls : List Call) (run : List RunStep)
+pub placed_runs_are_runs : LooksLeave → (place : Place) (history : List HistoryEntry) (calls : List Call) (run : List RunStep)
     → IsLawfulHistory place history → All (IsCallOn place history) calls → IsPlacedRun history calls run
     → IsRunFrom place.size (zero_medium place.size) run
-placed_runs_are_runs place history calls run lawful on placed =
+placed_runs_are_runs law place history calls run lawful on placed =
     let P = IsCallOn place history in
-    run_from place history [] run placed.whole lawful placed.at_points
+    run_from law place history [] run placed.whole lawful placed.at_points
     (all_by_pass P (calls_in run)
     (λ pass. All-same P (calls_by pass (calls_in run)) (calls_by pass calls) (placed.in_order pass)
     (All-filter (λ call. eqb call.pass pass) P calls on)))

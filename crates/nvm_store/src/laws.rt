@@ -22,7 +22,7 @@ ghost use Rattle.nvm_store.specs.Operation.{write_operation, pair_operation};
 ghost use Rattle.nvm_store.specs.PlacedRun.{RunStep, IsRunFrom, IsPlacedRun, NeverGoBack, StepsNeverGoBack, entries_in, entries_by, calls_in, calls_by, steps_by, placed_run};
 ghost use Rattle.nvm_store.specs.Point.{point, RestsOn};
 
-use nvm_record::laws::{steps_are_local, steps_keep_block_sizes};
+use nvm_record::laws::{looks_change_nothing, steps_are_local, steps_keep_block_sizes};
 
 /// The replay of a history with one entry more is that entry's step on the replay of the others.
 pub fn replay_of_one_more()
@@ -138,23 +138,12 @@ pub fn pair_that_succeeds()
         ≡ medium_after size (write_operation first blocks write) m lba }
 {}
 
-/// A pair whose comparison fails has its status, which isn't success, and then 0/09 for the Write; it
-/// changes nothing.
+/// A pair whose comparison fails has its status, which isn't success, and then 0/09 for the Write.
 pub fn pair_that_fails()
-    ensures statuses { (operation : Operation) (m : Medium) → IsFailedPair operation m
+    ensures { (operation : Operation) (m : Medium) → IsFailedPair operation m
         → (status : CommandStatus)
         × (statuses_of operation m ≡ Two status aborted_due_to_failed_fused_command)
         × (status ≢ successful_completion) }
-    ensures medium { (size : ℕ) (operation : Operation) (m : Medium) (lba : ℕ)
-        → IsFailedPair operation m → medium_after size operation m lba ≡ m lba }
-{}
-
-/// A call leaves the medium at its point as it is.
-pub fn calls_leave_the_medium()
-    ensures { (place : UnitPlace) (history : List HistoryEntry) (call : Call) (lba : ℕ)
-        → IsCallOn place history call
-        → medium_after place.size call.operation (point place.size history call.point) lba
-        ≡ point place.size history call.point lba }
 {}
 
 /// A placed run of a lawful history and of calls that rest on their points is a run of the step from the
@@ -163,7 +152,9 @@ pub fn placed_runs_are_runs()
     ensures { (place : UnitPlace) (history : List HistoryEntry) (calls : List Call) (run : List RunStep)
         → IsLawfulHistory place history → All (IsCallOn place history) calls
         → IsPlacedRun history calls run → IsRunFrom place.size (zero_medium place.size) run }
-{}
+{
+    looks_change_nothing();
+}
 
 /// There is a placed run just where the points of each pass's calls never go back, and none is past the
 /// history's end. One of them is that in which the calls at one point keep the order of their list.

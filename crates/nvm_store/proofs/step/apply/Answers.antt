@@ -1,5 +1,4 @@
 use Rattle.std.proofs.Common.{◌≡◌}
-use Rattle.nvm_store.specs.Contents.{Contents}
 use Rattle.nvm_store.proofs.step.apply.Goals as goal
 
 pub returns-clause-step : goal.returns-clause-step
