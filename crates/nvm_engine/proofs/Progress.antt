@@ -11,7 +11,7 @@ use Rattle.nvm_geometry.specs.Parts.{part_in, units_met}
 use Rattle.nvm_geometry.specs.declared.piece.Piece.{Piece}
 use Rattle.nvm_plan.specs.Outcome.{data_told, answered, unstarted_of, AreDone, IsOutcomeOf}
 use Rattle.nvm_plan.specs.Reply.{Reply, success_of, IsFailedComparison, AreOfFailedPair, IsReplyTo, IsSuccessfulReply}
-use Rattle.nvm_store.specs.declared.answers.Answer.TheVariants.{Payload, Status}
+use Rattle.nvm_store.specs.declared.look.answer.Answer.TheVariants.{Payload, Status}
 use Rattle.nvm_engine.specs.Run.{Setup, Counts, Rests, medium_left, counts_left, part_told, Does, IsReadOverUnits, IsBegun}
 use Rattle.nvm_engine.specs.Units.{DoesPart, DoesParts, GoesOn, EndsWith, IsUnderWay, reply_of, statuses_told, payload_told}
 use Rattle.nvm_engine.specs.declared.atomic_unit.AtomicUnit.{AtomicUnit}

@@ -6,7 +6,7 @@ use Rattle.nvm_record.specs.declared.status.Statuses.TheVariants.{One}
 use Rattle.nvm_record.specs.Status.{IsSuccess, successful_completion, internal_error}
 use Rattle.nvm_record.specs.Step.{Deed, writes, zeroes, uncorrectable, reads, compares, pairs}
 use Rattle.nvm_plan.specs.Reply.{is_look, is_pair, success_of, stop_of, CanEndLook, IsReplyTo, GivesData, IsSuccessfulReply}
-use Rattle.nvm_store.specs.declared.answers.Answer.TheVariants.{Payload, Status as Plain}
+use Rattle.nvm_store.specs.declared.look.answer.Answer.TheVariants.{Payload, Status as Plain}
 use Rattle.nvm_engine.specs.Units.{CanBeTold, GoesOn, reply_of}
 use Rattle.nvm_engine.specs.declared.atomic_unit.Told.{Told}
 use Rattle.nvm_engine.specs.declared.atomic_unit.Told.TheVariants.{Done, Failed, Looked, NoMemory, Full}

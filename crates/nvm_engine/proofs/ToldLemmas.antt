@@ -19,7 +19,7 @@ use Rattle.nvm_store.specs.declared.act_ref.ActRef.TheVariants.{Write, Zeroes, U
 use Rattle.nvm_store.specs.declared.look.Look.{Look}
 use Rattle.nvm_store.specs.declared.look.Look.TheVariants.{Read, Compare}
 use Rattle.nvm_store.specs.Contents.{Contents, Holds}
-use Rattle.nvm_store.specs.declared.answers.Answer.TheVariants as answers
+use Rattle.nvm_store.specs.declared.look.answer.Answer.TheVariants as answers
 use Rattle.nvm_engine.specs.AtomicUnit.{IsChanged, IsLookedAt}
 use Rattle.nvm_engine.specs.Run.{Setup, Counts, recounted}
 use Rattle.nvm_engine.specs.Units.{IsLaidOut, AreAt, DoesPart}

@@ -19,7 +19,7 @@ use Rattle.nvm_plan.specs.declared.job.Job.{Job}
 use Rattle.nvm_plan.specs.declared.part.PartResult.{PartResult}
 use Rattle.nvm_plan.specs.declared.part.PartResult.TheVariants as result
 use Rattle.nvm_store.specs.Contents.{Contents, Holds}
-use Rattle.nvm_store.specs.declared.answers.Answer.TheVariants.{Payload, Status}
+use Rattle.nvm_store.specs.declared.look.answer.Answer.TheVariants.{Payload, Status}
 use Rattle.nvm_engine.specs.DoneJob.{told}
 use Rattle.nvm_engine.specs.Run.{Setup, Counts, Rests, medium_left, counts_left, Does, IsBegun, RunsJob}
 use Rattle.nvm_engine.specs.declared.atomic_unit.AtomicUnit.{AtomicUnit}

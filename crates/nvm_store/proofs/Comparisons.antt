@@ -1,7 +1,7 @@
 -- Comparisons of blocks with data, and pairs, which rest on one.
 use Rattle.std.proofs.Common.{◌≡◌, ◌≢◌, ℕ, suc, ◌+◌, ◌*◌, ◌<◌, List, [], ◌∷◌, ◌++◌, length, get_or, take, drop, Bool, true, false, ◌&&◌, ◌||◌, cond, eqb, add-one, drop-cons, refl, sym, ap, ◌∙◌, arith}
 use Rattle.std.proofs.lemmas.Bool.{true≢false}
-use Rattle.std.proofs.lemmas.List.{take-append-drop, length-take-le, length-drop}
+use Rattle.std.proofs.lemmas.List.{take-append-drop, length-take-le, length-drop, length-append}
 use Rattle.std.proofs.Math.Bool.{and_assoc}
 use Rattle.std.specs.Str.{bytes_eq}
 use Rattle.nvm_record.specs.declared.block.Block.{Block}
@@ -13,7 +13,7 @@ use Rattle.nvm_record.specs.Status.{IsSuccess, successful_completion, unrecovere
 use Rattle.nvm_record.specs.Step.{Deed, writes, zeroes, uncorrectable, reads, compares, pairs, compares_equal, comparison, statuses_on, statuses_of, medium_after}
 use Rattle.nvm_store.specs.Operation.{write_operation, pair_operation}
 use Rattle.nvm_record.specs.Deeds.{FailsOn}
-use Rattle.nvm_store.specs.Stored.{Stored, AreSized, block_of, blocks_of}
+use Rattle.nvm_store.specs.Inside.Stored.{Stored, AreSized, block_of, blocks_of}
 
 -- Bytes are equal where their fronts of one length are, and what follows.
 bytes_eq-append : (a b c d : List ℕ) → length a ≡ length c → bytes_eq (a ++ b) (c ++ d) ≡ (bytes_eq a c && bytes_eq b d)
@@ -62,6 +62,21 @@ next_compares_at blocks i size b rest lt is sized none len =
     let next : drop i blocks ≡ b ∷ drop (i + 1) blocks = drop-cons blocks i b lt ∙ (rw (is, add-one) refl) in
     let sized' : length b.bytes ≡ size = rw is at (sized b i lt) in
     rw next (next_compares b (drop (i + 1) blocks) size rest (rw next at none) sized' (rw next at len))
+
+-- Blocks without a mark, each of its size, are together that many bytes.
+pub length-joined : (size : ℕ) (blocks : List Stored) → AreSized size blocks → has_mark (blocks_of blocks) ≡ false
+    → length (joined (blocks_of blocks)) ≡ length blocks * size
+length-joined size [] sized none = omega arith
+length-joined size (b ∷ bs) sized none =
+    let none' = no_mark_next b.is_marked (has_mark (blocks_of bs)) b.bytes none in
+    let plain : b.is_marked ≡ false = none'.0 in
+    let is : bytes_of (block_of b) ≡ b.bytes = rw plain refl in
+    let here : length b.bytes ≡ size = sized b 0 (omega arith) in
+    let rest : length (joined (blocks_of bs)) ≡ length bs * size = length-joined size bs (λ d k lt. sized d (suc k) (omega arith)) none'.1 in
+    let both : length (bytes_of (block_of b) ++ joined (blocks_of bs)) ≡ length (bytes_of (block_of b)) + length (joined (blocks_of bs)) =
+    length-append (bytes_of (block_of b)) (joined (blocks_of bs)) in
+    let front : length (bytes_of (block_of b)) ≡ size = ap length is ∙ here in
+    both ∙ grind (arith, front, rest)
 
 -- A comparison that ends with success holds.
 holds_where_successful : (mark same : Bool)

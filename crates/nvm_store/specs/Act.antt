@@ -4,6 +4,7 @@ use Rattle.nvm_store.specs.Operation.{write_operation, zeroes_operation, uncorre
 use Rattle.nvm_store.specs.declared.act.Act.{Act}
 use Rattle.nvm_store.specs.declared.act.Act.TheVariants.{Write, Zeroes, Uncorrectable, Pair}
 
+-- the operation that the act stands for
 abbrev pub operation_of : Act → Operation
 operation_of (Write first blocks payload) = write_operation first blocks payload
 operation_of (Zeroes first blocks) = zeroes_operation first blocks

@@ -4,6 +4,7 @@ use Rattle.nvm_store.specs.Operation.{write_operation, zeroes_operation, uncorre
 use Rattle.nvm_store.specs.declared.act_ref.ActRef.{ActRef}
 use Rattle.nvm_store.specs.declared.act_ref.ActRef.TheVariants.{Write, Zeroes, Uncorrectable, Pair}
 
+-- the operation that the act stands for
 abbrev pub lent_operation_of : ActRef → Operation
 lent_operation_of (Write first blocks payload) = write_operation first blocks payload.now
 lent_operation_of (Zeroes first blocks) = zeroes_operation first blocks

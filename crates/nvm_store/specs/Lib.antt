@@ -1,7 +1,6 @@
+pub mod Place
 pub mod Contents
-pub mod Stored
 pub mod Operation
-pub mod Pair
 pub mod Act
 pub mod ActRef
 pub mod Look
@@ -10,3 +9,6 @@ pub mod HistoryEntry
 pub mod Limit
 pub mod History
 pub mod Point
+pub mod Call
+pub mod PlacedRun
+pub mod Inside

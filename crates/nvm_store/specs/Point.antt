@@ -1,4 +1,4 @@
--- Points of a history, and what it is to rest on one.
+-- Points of a history, and what it is to rest on one (own).
 use Rattle.std.specs.Prelude.{◌≡◌, ◌≤◌, ℕ, List, length, take, Option}
 use Rattle.nvm_record.specs.declared.status.Statuses.{Statuses}
 use Rattle.nvm_record.specs.Medium.{Medium}
@@ -10,7 +10,7 @@ use Rattle.nvm_store.specs.HistoryEntry.{HistoryEntry}
 abbrev pub point : ℕ → List HistoryEntry → ℕ → Medium
 point size history n = replay_of size (take n history)
 
--- What was answered of the operation is what the step gives at point n, which the history has.
+-- What was answered of the operation is what the step gives at point n, and n is at most the number of entries.
 pub record RestsOn (block_size : ℕ) (history : List HistoryEntry) (n : ℕ) (op : Operation) (told : Statuses)
     (read : Option (List ℕ)) : Type 0 where
   pub within : n ≤ length history

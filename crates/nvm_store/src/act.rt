@@ -1,14 +1,16 @@
-ghost use Rattle.std.specs.Prelude.{◌≡◌};
+ghost use Rattle.std.specs.Prelude.{◌≡◌, ◌↔◌, IsTrue};
 ghost use Rattle.nvm_store.specs.Act.{operation_of};
 ghost use Rattle.nvm_store.specs.ActRef.{lent_operation_of};
+ghost use Rattle.nvm_store.specs.Operation.{write_operation, zeroes_operation, uncorrectable_operation, pair_operation};
 
 use crate::act_ref::ActRef;
 use nvm_record::Payload;
+use std::alloc::AllocError;
 
 /// What may change the blocks of a unit.
 ///
 /// `first` is an LBA of the namespace, and `blocks` a number of logical blocks, not zeroes-based.
-#[derive(Debug, Drop)]
+#[derive(Debug, PartialEq, Eq, Drop)]
 pub enum Act {
     /// The blocks take the data, one block after the other, and lose their marks (NVM Command Set
     /// Specification, "Write command").
@@ -37,6 +39,51 @@ pub enum Act {
         compare: Payload,
         write: Payload,
     },
+}
+
+/// A copy of the act and of its data, which takes memory.
+impl Clone for Act {
+    ghost is_clone = { λ act copy. copy ≡ act };
+
+    fn clone(&self) -> Result<Act, AllocError> {
+        match self {
+            Act::Write {
+                first,
+                blocks,
+                payload,
+            } => {
+                let payload = payload.clone()?;
+                Ok(Act::Write {
+                    first: *first,
+                    blocks: *blocks,
+                    payload,
+                })
+            }
+            Act::Zeroes { first, blocks } => Ok(Act::Zeroes {
+                first: *first,
+                blocks: *blocks,
+            }),
+            Act::Uncorrectable { first, blocks } => Ok(Act::Uncorrectable {
+                first: *first,
+                blocks: *blocks,
+            }),
+            Act::Pair {
+                first,
+                blocks,
+                compare,
+                write,
+            } => {
+                let compare = compare.clone()?;
+                let write = write.clone()?;
+                Ok(Act::Pair {
+                    first: *first,
+                    blocks: *blocks,
+                    compare,
+                    write,
+                })
+            }
+        }
+    }
 }
 
 impl Act {
@@ -73,6 +120,60 @@ impl Act {
                 compare: compare.as_slice(),
                 write: write.as_slice(),
             },
+        }
+    }
+
+    /// Whether it is this Write.
+    pub(crate) fn is_this_write(&self, from: u64, count: u32, bytes: &[u8]) -> bool
+        ensures { IsTrue result ↔ (write_operation from count bytes.now ≡ operation_of self.now) }
+    {
+        match self {
+            Act::Write {
+                first,
+                blocks,
+                payload,
+            } => *first == from && *blocks == count && payload.as_slice() == bytes,
+            _ => false,
+        }
+    }
+
+    /// Whether it is this Write Zeroes.
+    pub(crate) fn are_these_zeroes(&self, from: u64, count: u32) -> bool
+        ensures { IsTrue result ↔ (zeroes_operation from count ≡ operation_of self.now) }
+    {
+        match self {
+            Act::Zeroes { first, blocks } => *first == from && *blocks == count,
+            _ => false,
+        }
+    }
+
+    /// Whether it is this Write Uncorrectable.
+    pub(crate) fn is_this_mark(&self, from: u64, count: u32) -> bool
+        ensures { IsTrue result ↔ (uncorrectable_operation from count ≡ operation_of self.now) }
+    {
+        match self {
+            Act::Uncorrectable { first, blocks } => *first == from && *blocks == count,
+            _ => false,
+        }
+    }
+
+    /// Whether it is this pair.
+    pub(crate) fn is_this_pair(&self, from: u64, count: u32, old: &[u8], new: &[u8]) -> bool
+        ensures { IsTrue result ↔ (pair_operation from count old.now new.now ≡ operation_of self.now) }
+    {
+        match self {
+            Act::Pair {
+                first,
+                blocks,
+                compare,
+                write,
+            } => {
+                *first == from
+                    && *blocks == count
+                    && compare.as_slice() == old
+                    && write.as_slice() == new
+            }
+            _ => false,
         }
     }
 }

@@ -1,4 +1,4 @@
-ghost use Rattle.std.specs.Prelude.{◌≡◌, IfOk};
+ghost use Rattle.std.specs.Prelude.{◌≡◌, ◌↔◌, IfOk, IsTrue};
 ghost use Rattle.nvm_store.specs.Act.{operation_of};
 ghost use Rattle.nvm_store.specs.ActRef.{lent_operation_of};
 
@@ -7,7 +7,7 @@ use nvm_record::{NoMemory, Payload};
 use std::alloc::Global;
 
 /// An [`Act`] whose data is borrowed.
-#[derive(Clone, Copy, Debug)]
+#[derive(Clone, Copy, Debug, PartialEq, Eq)]
 pub enum ActRef<'a> {
     /// See [`Act::Write`].
     Write {
@@ -35,6 +35,27 @@ pub enum ActRef<'a> {
 }
 
 impl<'a> ActRef<'a> {
+    /// Whether it is the same act, with the same data. It takes no memory.
+    pub fn is(self, act: &Act) -> bool
+        ensures { IsTrue result ↔ (lent_operation_of self.entry ≡ operation_of act.now) }
+    {
+        match self {
+            ActRef::Write {
+                first,
+                blocks,
+                payload,
+            } => act.is_this_write(first, blocks, payload),
+            ActRef::Zeroes { first, blocks } => act.are_these_zeroes(first, blocks),
+            ActRef::Uncorrectable { first, blocks } => act.is_this_mark(first, blocks),
+            ActRef::Pair {
+                first,
+                blocks,
+                compare,
+                write,
+            } => act.is_this_pair(first, blocks, compare, write),
+        }
+    }
+
     /// The same act with a copy of the data.
     pub fn to_act(self, alloc: Global) -> Result<Act, NoMemory>
         ensures { IfOk result (λ act. operation_of act ≡ lent_operation_of self.entry) }

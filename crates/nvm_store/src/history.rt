@@ -1,8 +1,10 @@
 ghost use Rattle.std.specs.Prelude.{◌+◌, ◌<◌, ◌≤◌, IfOk};
-ghost use Rattle.nvm_store.specs.Contents.{Holds, IsUnit};
+ghost use Rattle.nvm_store.specs.Contents.{Holds, LiesAt};
 ghost use Rattle.nvm_store.specs.History.{replay_of, IsLawfulHistory};
+ghost use Rattle.nvm_store.specs.Place.{place_at};
 
 use crate::entry::Entry;
+use crate::laws::success_on_held;
 use crate::unit_blocks::UnitBlocks;
 use nvm_record::{BlockSize, NoMemory};
 use std::alloc::Global;
@@ -23,10 +25,11 @@ pub fn replay(
 ) -> Result<UnitBlocks, NoMemory>
     requires some { 0 < blocks }
     requires low { first + blocks ≤ 65536 }
-    requires lawful { IsLawfulHistory first blocks size history.now.items }
-    ensures place { IfOk result (IsUnit first blocks size) }
+    requires lawful { IsLawfulHistory (place_at first blocks size) history.now.items }
+    ensures place { IfOk result (LiesAt (place_at first blocks size)) }
     ensures replayed { IfOk result (λ unit. Holds unit (replay_of size history.now.items)) }
 {
+    success_on_held();
     let mut unit = UnitBlocks::zeroed(alloc, first, blocks, size)?;
     for entry in history {
         unit.change(entry.act.as_ref());

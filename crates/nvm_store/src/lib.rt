@@ -9,7 +9,6 @@
 
 mod act;
 mod act_ref;
-mod answers;
 mod comparison;
 mod entry;
 mod history;
@@ -26,11 +25,10 @@ mod unit_blocks;
 
 pub use act::Act;
 pub use act_ref::ActRef;
-pub use answers::Answer;
 pub use entry::Entry;
 pub use history::{History, replay};
 pub use limit::Limit;
-pub use look::Look;
+pub use look::{Answer, Look};
 pub use place::Place;
-pub use step::{answer, apply, judge};
+pub use step::{answer, apply, judge, judge_look};
 pub use unit_blocks::UnitBlocks;

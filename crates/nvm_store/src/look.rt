@@ -1,3 +1,7 @@
+mod answer;
+
+pub use answer::Answer;
+
 /// What may be asked of the blocks of a unit. It changes nothing.
 ///
 /// `first` is an LBA of the namespace, and `blocks` a number of logical blocks, not zeroes-based.

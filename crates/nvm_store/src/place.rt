@@ -1,14 +1,14 @@
 ghost use Rattle.std.specs.Prelude.{◌≡◌, ◌↔◌, ◌*◌, IsTrue, length};
 ghost use Rattle.nvm_store.specs.ActRef.{lent_operation_of};
-ghost use Rattle.nvm_store.specs.Contents.{IsWithin, IsCovered};
 ghost use Rattle.nvm_store.specs.Look.{look_operation_of};
+ghost use Rattle.nvm_store.specs.Place.{IsWithin, IsCovered};
 
 use crate::act_ref::ActRef;
 use crate::look::Look;
 use nvm_record::BlockSize;
 
 /// Where a unit lies in the namespace, and what it therefore covers.
-#[derive(Clone, Copy, Debug)]
+#[derive(Clone, Copy, Debug, PartialEq, Eq)]
 pub struct Place {
     /// The unit's first LBA.
     pub first: u64,
@@ -22,8 +22,7 @@ impl Place {
     /// Whether the act's range has a block and lies here, and its data, if it has any, has just the
     /// blocks of the range. No LBA makes it wrap.
     pub fn covers(&self, act: ActRef<'_>) -> bool
-        ensures { IsTrue result
-            ↔ IsCovered self.now.first self.now.blocks self.now.size (lent_operation_of act.entry) }
+        ensures { IsTrue result ↔ IsCovered self.now (lent_operation_of act.entry) }
     {
         match act {
             ActRef::Write {
@@ -50,8 +49,7 @@ impl Place {
     /// Whether the look's range has a block and lies here, and its data, if it has any, has just the
     /// blocks of the range. No LBA makes it wrap.
     pub fn covers_look(&self, look: Look<'_>) -> bool
-        ensures { IsTrue result
-            ↔ IsCovered self.now.first self.now.blocks self.now.size (look_operation_of look.entry) }
+        ensures { IsTrue result ↔ IsCovered self.now (look_operation_of look.entry) }
     {
         match look {
             Look::Read { first, blocks } => self.has_range(first, blocks),
@@ -65,7 +63,7 @@ impl Place {
 
     /// Whether there is a block among the `blocks` LBAs from `first`, and all of them lie here.
     fn has_range(&self, first: u64, blocks: u32) -> bool
-        ensures { IsTrue result ↔ IsWithin self.now.first self.now.blocks first blocks }
+        ensures { IsTrue result ↔ IsWithin self.now first blocks }
     {
         blocks > 0
             && first >= self.first

@@ -1,16 +1,18 @@
-ghost use Rattle.std.specs.Prelude.{◌≡◌, IfOk, IsSome, OnErr, length};
+ghost use Rattle.std.specs.Prelude.{◌≡◌, ◌*◌, IfOk, IsSome, IsTrue, OnErr};
+ghost use Rattle.nvm_record.specs.declared.status.Statuses.TheVariants.{One};
+ghost use Rattle.nvm_record.specs.Deeds.{is_read};
 ghost use Rattle.nvm_record.specs.Medium.{Medium};
 ghost use Rattle.nvm_record.specs.Step.{statuses_of, data_of, medium_after};
 ghost use Rattle.nvm_store.specs.ActRef.{lent_operation_of};
-ghost use Rattle.nvm_store.specs.Look.{look_operation_of, AsksForData};
-ghost use Rattle.nvm_store.specs.Answer.{IsAnswer};
-ghost use Rattle.nvm_store.specs.Contents.{Holds, IsWithin, Covers, Succeeds, StaysInPlace};
+ghost use Rattle.nvm_store.specs.Look.{look_operation_of};
+ghost use Rattle.nvm_store.specs.Answer.{IsAnswer, HasBytes};
+ghost use Rattle.nvm_store.specs.Contents.{Holds, Covers, Succeeds, StaysInPlace, place_of};
 ghost use Rattle.nvm_store.specs.Operation.{read_operation};
+ghost use Rattle.nvm_store.specs.Place.{IsWithin};
 
 use crate::act_ref::ActRef;
-use crate::answers::Answer;
 use crate::comparison::{compare_range, pair_statuses};
-use crate::look::Look;
+use crate::look::{Answer, Look};
 use crate::stored_blocks::{has_mark, joined};
 use crate::unit_blocks::UnitBlocks;
 use nvm_record::{NoMemory, Payload, Status, Statuses};
@@ -37,6 +39,29 @@ pub fn judge(unit: &UnitBlocks, act: ActRef<'_>) -> Statuses
     }
 }
 
+/// The status that the look's command completes with on these blocks: 2/81 where a block is marked, for a
+/// Compare else 2/85 where a byte differs, and else 0/00. It takes no memory.
+pub fn judge_look(unit: &UnitBlocks, look: Look<'_>) -> Status
+    requires { Covers unit.now (look_operation_of look) }
+    ensures { (m : Medium) → Holds unit.now m
+        → One result ≡ statuses_of (look_operation_of look.entry) m }
+{
+    match look {
+        Look::Read { first, blocks } => {
+            if has_mark(unit.range(first, blocks)) {
+                Status::UNRECOVERED_READ_ERROR
+            } else {
+                Status::SUCCESSFUL_COMPLETION
+            }
+        }
+        Look::Compare {
+            first,
+            blocks,
+            payload,
+        } => compare_range(unit, first, blocks, payload),
+    }
+}
+
 /// The unit after the act's step. The unit that is lent stays as it is.
 pub fn apply(alloc: Global, unit: &UnitBlocks, act: ActRef<'_>) -> Result<UnitBlocks, NoMemory>
     requires covered { Covers unit.now (lent_operation_of act) }
@@ -56,11 +81,12 @@ pub fn answer(alloc: Global, unit: &UnitBlocks, look: Look<'_>) -> Result<Answer
     requires { Covers unit.now (look_operation_of look) }
     ensures step { IfOk result (λ answer. (m : Medium) → Holds unit.now m
         → IsAnswer (look_operation_of look.entry) m answer) }
+    ensures length { IfOk result (HasBytes ((look_operation_of look.entry).blocks * unit.now.size)) }
 
     // Only the data of a Read wants memory.
     ensures memory { OnErr result ((m : Medium) → Holds unit.now m
         → IsSome (data_of (look_operation_of look.entry) m)) }
-    ensures always { OnErr result (AsksForData look.entry) }
+    ensures always { OnErr result (IsTrue (is_read (look_operation_of look.entry).deed)) }
 {
     match look {
         Look::Read { first, blocks } => read(alloc, unit, first, blocks),
@@ -74,9 +100,10 @@ pub fn answer(alloc: Global, unit: &UnitBlocks, look: Look<'_>) -> Result<Answer
 
 /// The answer of a Read of the `blocks` LBAs from `first`.
 fn read(alloc: Global, unit: &UnitBlocks, first: u64, blocks: u32) -> Result<Answer, NoMemory>
-    requires { IsWithin unit.now.first (length unit.now.blocks) first blocks }
+    requires { IsWithin (place_of unit.now) first blocks }
     ensures step { IfOk result (λ answer. (m : Medium) → Holds unit.now m
         → IsAnswer (read_operation first blocks) m answer) }
+    ensures length { IfOk result (HasBytes (blocks * unit.now.size)) }
     ensures memory { OnErr result ((m : Medium) → Holds unit.now m
         → IsSome (data_of (read_operation first blocks) m)) }
 {

@@ -1,5 +1,5 @@
 ghost use Rattle.std.specs.Prelude.{◌≡◌, IfOk, false, length, replicate};
-ghost use Rattle.nvm_store.specs.Stored.{Stored, zero_block, marked};
+ghost use Rattle.nvm_store.specs.Inside.Stored.{Stored, zero_block, marked};
 
 use nvm_record::NoMemory;
 use std::alloc::Global;
@@ -14,7 +14,7 @@ pub struct StoredBlock {
 }
 
 impl Model for StoredBlock {
-    ghost use Rattle.nvm_store.specs.Stored.{Stored};
+    ghost use Rattle.nvm_store.specs.Inside.Stored.{Stored};
 
     ghost Value = { Stored };
 

@@ -1,7 +1,7 @@
 ghost use Rattle.std.specs.Prelude.{◌≡◌, ◌+◌, ◌*◌, ◌<◌, ◌≤◌, ◌^◌, ℕ, false, IfOk, length, replicate, slice_index_or};
 ghost use Rattle.std.specs.Str.{bytes_eq};
 ghost use Rattle.nvm_record.specs.Medium as medium;
-ghost use Rattle.nvm_store.specs.Stored.{Stored, AreSized, blocks_of, zero_block, KeepsAllBut, KeepsRoom, written, marked};
+ghost use Rattle.nvm_store.specs.Inside.Stored.{Stored, AreSized, blocks_of, zero_block, KeepsAllBut, KeepsRoom, written, marked};
 
 use crate::stored_block::StoredBlock;
 use nvm_record::NoMemory;

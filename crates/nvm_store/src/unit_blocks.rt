@@ -4,14 +4,16 @@ ghost use Rattle.nvm_record.specs.Step.{medium_after};
 ghost use Rattle.nvm_store.specs.Operation.{write_operation, zeroes_operation, uncorrectable_operation};
 ghost use Rattle.nvm_store.specs.ActRef.{lent_operation_of};
 ghost use Rattle.nvm_store.specs.Look.{look_operation_of};
-ghost use Rattle.nvm_store.specs.Contents.{Holds, IsUnit, IsWithin, Covers, Succeeds, StaysInPlace};
-ghost use Rattle.nvm_store.specs.Stored.{AreSized, blocks_of};
+ghost use Rattle.nvm_store.specs.Contents.{Holds, LiesAt, Covers, Succeeds, StaysInPlace, place_of};
+ghost use Rattle.nvm_store.specs.Place.{IsWithin, place_at};
+ghost use Rattle.nvm_store.specs.Inside.Stored.{AreSized, blocks_of};
 
 use crate::act_ref::ActRef;
 use crate::look::Look;
 use crate::place::Place;
 use crate::stored_block::StoredBlock;
 use crate::stored_blocks::{copies_of, mark_range, write_range, zero_range, zeroed_blocks};
+use nvm_record::laws::steps_are_local;
 use nvm_record::{BlockSize, NoMemory};
 use std::alloc::Global;
 use std::marker::Model;
@@ -28,7 +30,7 @@ pub struct UnitBlocks {
 
 impl Model for UnitBlocks {
     ghost use Rattle.nvm_store.specs.Contents.{Contents};
-    ghost use Rattle.nvm_store.specs.Stored.{blocks_of, AreSound};
+    ghost use Rattle.nvm_store.specs.Inside.Stored.{blocks_of, AreSound};
 
     ghost Value = { Contents };
 
@@ -51,7 +53,7 @@ impl UnitBlocks {
     ) -> Result<UnitBlocks, NoMemory>
         requires some { 0 < blocks }
         requires low { first + blocks ≤ 65536 }
-        ensures place { IfOk result (IsUnit first blocks size) }
+        ensures place { IfOk result (LiesAt (place_at first blocks size)) }
         ensures zeroes { IfOk result (λ unit. Holds unit (zero_medium size)) }
     {
         let blocks = zeroed_blocks(alloc, blocks as usize, size.bytes() as usize)?;
@@ -76,9 +78,7 @@ impl UnitBlocks {
 
     /// Where the unit lies.
     pub fn place(&self) -> Place
-        ensures first { result.first ≡ self.now.first }
-        ensures blocks { result.blocks ≡ length self.now.blocks }
-        ensures size { result.size ≡ self.now.size }
+        ensures { result ≡ place_of self.now }
     {
         Place {
             first: self.first,
@@ -132,7 +132,7 @@ impl UnitBlocks {
 
     /// The `blocks` LBAs from `first` take the data.
     fn write(&mut self, first: u64, blocks: u32, payload: &[u8])
-        requires range { IsWithin self.old.first (length self.old.blocks) first blocks }
+        requires range { IsWithin (place_of self.old) first blocks }
         requires payload { length payload.now ≡ blocks * self.old.size }
         ensures step { (m : Medium) → Holds self.old m
             → Holds self.new
@@ -141,34 +141,37 @@ impl UnitBlocks {
     {
         let at = (first - self.first) as usize;
         let size = self.size.bytes() as usize;
+        steps_are_local();
         write_range(&mut self.blocks, at, blocks as usize, size, payload);
     }
 
     /// The `blocks` LBAs from `first` become zero bytes.
     fn zero(&mut self, first: u64, blocks: u32)
-        requires { IsWithin self.old.first (length self.old.blocks) first blocks }
+        requires { IsWithin (place_of self.old) first blocks }
         ensures step { (m : Medium) → Holds self.old m
             → Holds self.new (medium_after self.old.size (zeroes_operation first blocks) m) }
         ensures place { StaysInPlace self.old self.new }
     {
         let at = (first - self.first) as usize;
+        steps_are_local();
         zero_range(&mut self.blocks, at, blocks as usize);
     }
 
     /// The `blocks` LBAs from `first` are marked.
     fn mark(&mut self, first: u64, blocks: u32)
-        requires { IsWithin self.old.first (length self.old.blocks) first blocks }
+        requires { IsWithin (place_of self.old) first blocks }
         ensures step { (m : Medium) → Holds self.old m
             → Holds self.new (medium_after self.old.size (uncorrectable_operation first blocks) m) }
         ensures place { StaysInPlace self.old self.new }
     {
         let at = (first - self.first) as usize;
+        steps_are_local();
         mark_range(&mut self.blocks, at, blocks as usize);
     }
 
     /// The stored blocks of the `blocks` LBAs from `first`.
     pub(crate) fn range(&self, first: u64, blocks: u32) -> &[StoredBlock]
-        requires { IsWithin self.now.first (length self.now.blocks) first blocks }
+        requires { IsWithin (place_of self.now) first blocks }
         ensures blocks { (m : Medium) → Holds self.now m
             → range m first blocks ≡ blocks_of result.now }
         ensures len { length result.now ≡ blocks }

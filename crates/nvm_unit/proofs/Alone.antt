@@ -6,7 +6,7 @@ use Rattle.nvm_record.specs.Step.{Operation}
 use Rattle.nvm_store.specs.ActRef.{lent_operation_of}
 use Rattle.nvm_store.specs.declared.act_ref.ActRef.{ActRef}
 use Rattle.nvm_store.specs.declared.act_ref.ActRef.TheVariants.{Write, Zeroes, Uncorrectable, Pair}
-use Rattle.nvm_store.specs.Contents.{IsCovered}
+use Rattle.nvm_store.specs.Place.{IsCovered}
 use Rattle.nvm_unit.specs.Events.{IsAct}
 use Rattle.nvm_store.specs.History.{IsLawfulHistory, replay_of}
 use Rattle.nvm_store.specs.Limit.{IsLimit}
@@ -104,10 +104,10 @@ only_is m q is = ap (λ (x : Sits). only x.0.passes) is
 
 -- The book covers what the unit covers.
 pub covers_same : (b b' : Bounds) (h : List HistoryEntry) (book : Recorded) (p : PassView) (m : Sits) (op : Operation) → HoldsAlone b h book p m → p.bounds ≡ b'
-    → IsCovered b'.place.first b'.place.blocks b'.place.size op → IsCovered book.place.first book.place.blocks book.place.size op
+    → IsCovered b'.place op → IsCovered book.place op
 covers_same b b' h book p m op a same covered =
-    subst (λ (x : Recorded). IsCovered x.place.first x.place.blocks x.place.size op) (sym a.pages)
-    (subst (λ (x : Bounds). IsCovered x.place.first x.place.blocks x.place.size op) (sym same ∙ a.bounds) covered)
+    subst (λ (x : Recorded). IsCovered x.place op) (sym a.pages)
+    (subst (λ (x : Bounds). IsCovered x.place op) (sym same ∙ a.bounds) covered)
 
 -- One entry more, which bears the number of a pass.
 bears_more : (count : ℕ) (h : List HistoryEntry) (line : HistoryEntry) → BearsNumbers count h → line.pass < count → BearsNumbers count (h ++ line ∷ [])
@@ -151,7 +151,7 @@ act_is (Pair first blocks compare write) = tt
 
 -- The unit can be put back whatever the attempt came to.
 pub attempt_ready : (changed : Changed) (b : Bounds) (h : List HistoryEntry) (book book' : Recorded) (p : PassView) (job : ℕ) (op : Operation) (m : Sits) → HoldsAlone b h book p m
-    → IsAct op.deed → IsCovered p.bounds.place.first p.bounds.place.blocks p.bounds.place.size op → Attempts changed p.bounds.limit (entry_of_job p job op) book book'
+    → IsAct op.deed → IsCovered p.bounds.place op → Attempts changed p.bounds.limit (entry_of_job p job op) book book'
     → ((ps : List PassView) × (history : List HistoryEntry) × (b : Bounds) × CanGiveBack (λ _. true) book' m ps history b)
     ⊎ ((p : PassView) × (history : List HistoryEntry) × (line : HistoryEntry) × CanGiveMore book' m p history line)
 attempt_ready (Done place) b h book book' p job op m a act covered done =
@@ -200,7 +200,7 @@ ends_as_before changed b h book book' p job op m m' a same answers is proper bac
     }
 
 pub attempt_ends : FollowsLawfully → (changed : Changed) (b : Bounds) (h : List HistoryEntry) (book book' : Recorded) (p : PassView) (job : ℕ) (op : Operation) (m m' : Sits) → HoldsAlone b h book p m
-    → IsCovered p.bounds.place.first p.bounds.place.blocks p.bounds.place.size op → Attempts changed p.bounds.limit (entry_of_job p job op) book book' → IsProperPass p
+    → IsCovered p.bounds.place op → Attempts changed p.bounds.limit (entry_of_job p job op) book book' → IsProperPass p
     → GivesBack (λ _. true) book' m m' → GivesMore book' m m' → Ends changed p job op book' m'
 attempt_ends law (Done place) b h book book' p job op m m' a covered done proper back more =
     let line = entry_of_job p job op in
@@ -208,7 +208,7 @@ attempt_ends law (Done place) b h book book' p job op m m' a covered done proper
     let answers = answers_here (Done place) b h book book' p line m a done in
     let room : length h < p.bounds.limit = answers.1 in
     let u = p.bounds.place in
-    let lawful : IsLawfulHistory u.first u.blocks u.size (h ++ line ∷ []) = law u.first u.blocks u.size h line a.finds.lawful.lawful (record { covered = covered; succeeds = answers.2 }) in
+    let lawful : IsLawfulHistory u (h ++ line ∷ []) = law u h line a.finds.lawful.lawful (record { covered = covered; succeeds = answers.2 }) in
     let longer : length (h ++ line ∷ []) ≡ length h + 1 = length-append h (line ∷ []) in
     record {
       view = added (length h) h line p;

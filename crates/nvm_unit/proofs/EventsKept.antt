@@ -1,6 +1,7 @@
 -- Every list of events from the opening state keeps what is known.
 use Rattle.std.proofs.Common.{◌≡◌, ℕ, zero, suc, ◌+◌, ◌<◌, ◌≤◌, List, [], ◌∷◌, ◌++◌, subst, refl, sym, ap, ◌∙◌, arith, None}
 use mathlib.Core.Option.{some, some-injective, some-ne-none}
+use Rattle.nvm_store.specs.declared.place.Place.{Place}
 use Rattle.nvm_store.specs.HistoryEntry.{HistoryEntry}
 use Rattle.nvm_store.specs.History.{CanFollow, IsLawfulHistory}
 use Rattle.nvm_unit.specs.declared.bounds.Bounds.{Bounds}
@@ -18,8 +19,8 @@ use Rattle.nvm_unit.proofs.Regrouping.{keeps_join, keeps_split}
 -- An entry that can follow a lawful history makes a lawful one.
 abbrev pub FollowsLawfully : Type 0
 FollowsLawfully =
-    (start count size : ℕ) (history : List HistoryEntry) (line : HistoryEntry) → IsLawfulHistory start count size history
-    → CanFollow start count size history line → IsLawfulHistory start count size (history ++ line ∷ [])
+    (place : Place) (history : List HistoryEntry) (line : HistoryEntry) → IsLawfulHistory place history
+    → CanFollow place history line → IsLawfulHistory place (history ++ line ∷ [])
 
 pub newcomer_back : (b : Bounds) (from n i : ℕ) (p : PassView) → IsAt (newcomers_from b from n) i p → (p ≡ newcomer b (from + i)) × (i < n)
 newcomer_back b from zero i p e = absurd (some-ne-none p (sym e))
@@ -94,7 +95,7 @@ event_kept law b s (takes j) t kept h = subst (IsKnown b) (sym h.3) (keeps_take 
 event_kept law b s (misses j decides) t kept h = subst (IsKnown b) (sym h.2) (keeps_look b s kept j h.0 decides h.1)
 event_kept law b s (adds j line) t kept h =
     subst (IsKnown b) (sym h.3)
-    (keeps_put b s kept j h.0 h.1 line h.2 (law b.place.first b.place.blocks b.place.size s.history line kept.sound.hold.lawful h.2.follows))
+    (keeps_put b s kept j h.0 h.1 line h.2 (law b.place s.history line kept.sound.hold.lawful h.2.follows))
 event_kept law b s (returns j decides) t kept h = subst (IsKnown b) (sym h.3) (keeps_return b s kept j h.0 decides h.1 h.2)
 event_kept law b s (joins j k) t kept h = subst (IsKnown b) (sym h.5) (keeps_join b s kept j k h.0 h.1 h.2 h.3 h.4)
 event_kept law b s (splits j first) t kept h = subst (IsKnown b) (sym h.2) (keeps_split b s kept j first h.0 h.1)

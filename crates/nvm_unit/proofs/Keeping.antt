@@ -231,7 +231,7 @@ module _ (b : Bounds) (s : UnitState) (kept : IsKnown b s) where
 
   -- A put with one entry more.
   pub keeps_put : (j : ℕ) (p : PassView) (held : List HistoryEntry) (line : HistoryEntry) → CanAdd b s j p held line
-      → IsLawfulHistory b.place.first b.place.blocks b.place.size (s.history ++ line ∷ []) → IsKnown b (after_put s j p held line)
+      → IsLawfulHistory b.place (s.history ++ line ∷ []) → IsKnown b (after_put s j p held line)
   keeps_put j p held line can lawful =
       let n = number_found s in
       let g : Group = record { passes = p ∷ []; held = Some held } in

@@ -125,7 +125,7 @@ return_allowed decides st b b' slots id entries m ps h first can =
 
 -- A store that puts the unit back with one entry more.
 append_goes : FollowsLawfully → (decides : Deciding) (st : Step Slot) (b : Bounds) (id entries : ℕ) (p : PassView) (h : List HistoryEntry) (line : HistoryEntry) → st.first ≡ 2 * entries → entries ≡ length h + 1
-    → IsAct line.operation.deed → line.pass ≡ p.number → CanFollow p.bounds.place.first p.bounds.place.blocks p.bounds.place.size h line → length h < p.bounds.limit
+    → IsAct line.operation.deed → line.pass ≡ p.number → CanFollow p.bounds.place h line → length h < p.bounds.limit
     → (s : UnitState) → IsKnown b s → IsReached b s → IsAt s.groups id (record { passes = p ∷ []; held = Some h })
     → Goes b s id (holding (p ∷ []) h (Some (recorded p.bounds (h ++ line ∷ [])))) (λ word. puts decides st (holding (p ∷ []) h (Some (recorded p.bounds (h ++ line ∷ [])))) word) (2 * entries)
 append_goes law decides st b id entries p h line first count act number follows room s kept reached at =
@@ -137,9 +137,9 @@ append_goes law decides st b id entries p h line first count act number follows 
     let here : h ≡ s.history = is.1 in
     let long : length h ≡ length s.history = ap length here in
     let of_unit : p.bounds ≡ b = (kept.knows id 0 p (record { group = g; at = at; inside = refl })).bounds in
-    let follows_here : CanFollow b.place.first b.place.blocks b.place.size s.history line =
-    subst (λ (y : List HistoryEntry). CanFollow b.place.first b.place.blocks b.place.size y line) here
-    (subst (λ (y : Bounds). CanFollow y.place.first y.place.blocks y.place.size h line) of_unit follows) in
+    let follows_here : CanFollow b.place s.history line =
+    subst (λ (y : List HistoryEntry). CanFollow b.place y line) here
+    (subst (λ (y : Bounds). CanFollow y.place h line) of_unit follows) in
     let room_here : length h < b.limit = subst (λ (y : Bounds). length h < y.limit) of_unit room in
     let can : CanAdd b s id p h line = record { at = at; holds = is.0; act = act; number = number; follows = follows_here; room = (omega arith) } in
     let w : Group = idle (added (length h) h line p ∷ []) in
@@ -157,7 +157,7 @@ append_goes law decides st b id entries p h line first count act number follows 
       tt,
       ruled_after b s t (adds id line) _ reached (p, h, can, refl)
           (same_table (2 * entries ∷ []) ((2 * n + 2) ∷ []) (set (slots_of b s.slot) 0 (some x)) (slots_of b (Some (h ++ line ∷ []))) (set s.groups id w) t.groups (ap (λ (y : ℕ). y ∷ []) twice) homes views)
-          (keeps_put b s kept id p h line can (law b.place.first b.place.blocks b.place.size s.history line kept.sound.hold.lawful follows_here)),
+          (keeps_put b s kept id p h line can (law b.place s.history line kept.sound.hold.lawful follows_here)),
       λ entries' first'. (
         λ ps' history book same count'.
             let same_length : length h ≡ length history = ap (λ (y : Sits). length (held_history y)) same in

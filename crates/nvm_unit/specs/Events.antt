@@ -106,7 +106,7 @@ pub record CanAdd (b : Bounds) (s : UnitState) (j : ℕ) (p : PassView) (held : 
   pub holds : s.holder ≡ Some j
   pub act : IsAct line.operation.deed
   pub number : line.pass ≡ p.number
-  pub follows : CanFollow b.place.first b.place.blocks b.place.size s.history line
+  pub follows : CanFollow b.place s.history line
   pub room : number_found s < b.limit
 
 -- The event can happen in the state s, and leads to the state t.

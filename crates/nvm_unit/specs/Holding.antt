@@ -37,7 +37,7 @@ pub record CanGiveMore (book : Recorded) (m : Sits) (p : PassView) (history : Li
   pub pages : book ≡ recorded p.bounds (history ++ line ∷ [])
   pub act : IsAct line.operation.deed
   pub number : line.pass ≡ p.number
-  pub follows : CanFollow p.bounds.place.first p.bounds.place.blocks p.bounds.place.size history line
+  pub follows : CanFollow p.bounds.place history line
   pub room : length history < p.bounds.limit
 
 -- The unit was let go as it was.

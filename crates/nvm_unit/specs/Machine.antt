@@ -43,7 +43,7 @@ IsHand holder history j (Some held) = (holder ≡ Some j) × (held ≡ history)
 
 -- The unit's history, and who holds it.
 pub record IsHeld (b : Bounds) (s : UnitState) : Type 0 where
-  pub lawful : IsLawfulHistory b.place.first b.place.blocks b.place.size s.history
+  pub lawful : IsLawfulHistory b.place s.history
   pub within : length s.history ≤ b.limit
   pub rests : RestsAs s.holder s.word s.slot s.history
   pub holder : (j : ℕ) → s.holder ≡ Some j → (g : Group) × IsAt s.groups j g × (g.held ≡ Some s.history)

@@ -30,7 +30,7 @@ BearsNumbers count history = (k : ℕ) (line : HistoryEntry) → IsAt history k 
 
 -- The history is lawful in the unit and not above its limit, and each entry is by one of its passes.
 pub record IsHistoryOf (b : Bounds) (history : List HistoryEntry) : Type 0 where
-  pub lawful : IsLawfulHistory b.place.first b.place.blocks b.place.size history
+  pub lawful : IsLawfulHistory b.place history
   pub within : length history ≤ b.limit
   pub bears : BearsNumbers b.passes history
 

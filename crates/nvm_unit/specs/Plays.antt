@@ -119,7 +119,7 @@ pub record CanAppend (entries : ℕ) (m : Sits) (p : PassView) (history : List H
   pub count : entries ≡ length history + 1
   pub act : IsAct line.operation.deed
   pub number : line.pass ≡ p.number
-  pub follows : CanFollow p.bounds.place.first p.bounds.place.blocks p.bounds.place.size history line
+  pub follows : CanFollow p.bounds.place history line
   pub room : length history < p.bounds.limit
 
 -- how passes that meet are told apart again: the first stays

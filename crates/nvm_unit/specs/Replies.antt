@@ -6,8 +6,8 @@ use Rattle.nvm_record.specs.declared.status.Statuses.{Statuses}
 use Rattle.nvm_record.specs.declared.status.Statuses.TheVariants.{One}
 use Rattle.nvm_record.specs.Status.{IsSuccess, successful_completion}
 use Rattle.nvm_record.specs.Step.{Operation, statuses_of, data_of}
-use Rattle.nvm_store.specs.declared.answers.Answer.{Answer}
-use Rattle.nvm_store.specs.declared.answers.Answer.TheVariants.{Payload, Status}
+use Rattle.nvm_store.specs.declared.look.answer.Answer.{Answer}
+use Rattle.nvm_store.specs.declared.look.answer.Answer.TheVariants.{Payload, Status}
 use Rattle.nvm_store.specs.Answer.{IsAnswer}
 use Rattle.nvm_store.specs.History.{replay_of}
 use Rattle.nvm_store.specs.HistoryEntry.{HistoryEntry}

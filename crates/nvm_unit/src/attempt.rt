@@ -1,6 +1,6 @@
 ghost use Rattle.std.specs.Prelude.{◌≤◌, length};
 ghost use Rattle.nvm_store.specs.ActRef.{lent_operation_of};
-ghost use Rattle.nvm_store.specs.Contents.{IsCovered};
+ghost use Rattle.nvm_store.specs.Place.{IsCovered};
 ghost use Rattle.nvm_store.specs.History.{replay_of};
 ghost use Rattle.nvm_store.specs.Look.{look_operation_of};
 ghost use Rattle.nvm_unit.specs.Replies.{AnswersLook, Attempts};
@@ -21,7 +21,7 @@ pub(crate) fn attempt(
     job: u32,
     act: ActRef<'_>,
 ) -> Changed
-    requires covered { IsCovered book.old.place.first book.old.place.blocks book.old.place.size (lent_operation_of act) }
+    requires covered { IsCovered book.old.place (lent_operation_of act) }
     requires within { length book.old.history ≤ limit }
     ensures { Attempts result limit (record { pass = pass; job = job; operation = lent_operation_of act.entry }) book.old book.new }
 {
@@ -43,7 +43,7 @@ pub(crate) fn attempt(
 
 /// What the look is answered by the book in hand.
 pub(crate) fn observed(alloc: Global, book: &Book, look: Look<'_>) -> Result<Observed, ObserveFault>
-    requires covered { IsCovered book.now.place.first book.now.place.blocks book.now.place.size (look_operation_of look) }
+    requires covered { IsCovered book.now.place (look_operation_of look) }
     requires within { length book.now.history ≤ 4194304 }
     ensures { AnswersLook result (length book.now.history) (look_operation_of look.entry)
         (replay_of book.now.place.size book.now.history) }

@@ -4,7 +4,8 @@ ghost use Rattle.nvm_record.specs.Status.{IsSuccess};
 ghost use Rattle.nvm_record.specs.Step.{statuses_of, data_of};
 ghost use Rattle.nvm_store.specs.ActRef.{lent_operation_of};
 ghost use Rattle.nvm_store.specs.Answer.{IsAnswer};
-ghost use Rattle.nvm_store.specs.Contents.{Holds, IsUnit, IsCovered};
+ghost use Rattle.nvm_store.specs.Contents.{Holds, IsUnit};
+ghost use Rattle.nvm_store.specs.Place.{IsCovered};
 ghost use Rattle.nvm_store.specs.History.{replay_of};
 ghost use Rattle.nvm_store.specs.Look.{look_operation_of};
 
@@ -47,7 +48,7 @@ impl Book {
     /// The book of a unit whose blocks are all zero bytes. It has no entry, and takes no memory.
     pub fn new(alloc: Global, blocks: UnitBlocks) -> Book
         requires { Holds blocks (zero_medium blocks.size) }
-        ensures place { IsUnit result.place.first result.place.blocks result.place.size blocks }
+        ensures place { IsUnit result.place blocks }
         ensures history { result.history ≡ [] }
     {
         Book {
@@ -65,7 +66,7 @@ impl Book {
 
     /// The statuses that the act completes with. It takes no memory.
     pub fn judge(&self, act: ActRef<'_>) -> Statuses
-        requires { IsCovered self.now.place.first self.now.place.blocks self.now.place.size (lent_operation_of act) }
+        requires { IsCovered self.now.place (lent_operation_of act) }
         ensures { result
             ≡ statuses_of (lent_operation_of act.entry) (replay_of self.now.place.size self.now.history) }
     {
@@ -74,7 +75,7 @@ impl Book {
 
     /// What the look is answered.
     pub fn answer(&self, alloc: Global, look: Look<'_>) -> Result<Answer, NoMemory>
-        requires { IsCovered self.now.place.first self.now.place.blocks self.now.place.size (look_operation_of look) }
+        requires { IsCovered self.now.place (look_operation_of look) }
         ensures step { IfOk result (IsAnswer (look_operation_of look.entry) (replay_of self.now.place.size self.now.history)) }
         ensures memory { OnErr result (IsSome (data_of (look_operation_of look.entry) (replay_of self.now.place.size self.now.history))) }
     {
@@ -89,7 +90,7 @@ impl Book {
         job: u32,
         act: ActRef<'_>,
     ) -> Result<(), NoMemory>
-        requires covered { IsCovered self.old.place.first self.old.place.blocks self.old.place.size (lent_operation_of act) }
+        requires covered { IsCovered self.old.place (lent_operation_of act) }
         requires success { IsSuccess (statuses_of (lent_operation_of act) (replay_of self.old.place.size self.old.history)) }
         ensures added { OnOk result (self.new ≡ record {
           place = self.old.place;

@@ -1,7 +1,7 @@
 ghost use Rattle.std.specs.Prelude.{◌≡◌, ◌↔◌, ◌+◌, ◌≤◌, ◌<◌, IfOk, IfErr, IsTrue, length};
 ghost use Rattle.nvm_unit.specs.Ends.{IsPassCount, IsUnitFault, new_passes, AreAllPassesOf, IsWholeHistory, HasCome, views_of};
 ghost use Rattle.nvm_store.specs.ActRef.{lent_operation_of};
-ghost use Rattle.nvm_store.specs.Contents.{IsCovered};
+ghost use Rattle.nvm_store.specs.Place.{IsCovered};
 ghost use Rattle.nvm_store.specs.Look.{look_operation_of};
 ghost use Rattle.nvm_unit.specs.Passes.{IsPassOf, IsProperPass};
 ghost use Rattle.nvm_unit.specs.Replies.{Makes, Observes, IsBroughtUp, Meet};
@@ -127,8 +127,7 @@ impl Unit {
     /// Whether the act's range has a block and lies in the unit, and its data has just the blocks of the
     /// range. It takes no memory.
     pub fn covers(&self, act: ActRef<'_>) -> bool
-        ensures { IsTrue result ↔ IsCovered self.now.bounds.place.first self.now.bounds.place.blocks
-            self.now.bounds.place.size (lent_operation_of act.entry) }
+        ensures { IsTrue result ↔ IsCovered self.now.bounds.place (lent_operation_of act.entry) }
     {
         self.bounds.place.covers(act)
     }
@@ -136,8 +135,7 @@ impl Unit {
     /// Whether the look's range has a block and lies in the unit, and its data, if it has any, has just
     /// the blocks of the range. It takes no memory.
     pub fn covers_look(&self, look: Look<'_>) -> bool
-        ensures { IsTrue result ↔ IsCovered self.now.bounds.place.first self.now.bounds.place.blocks
-            self.now.bounds.place.size (look_operation_of look.entry) }
+        ensures { IsTrue result ↔ IsCovered self.now.bounds.place (look_operation_of look.entry) }
     {
         self.bounds.place.covers_look(look)
     }
@@ -155,8 +153,7 @@ impl Unit {
         gate: &G,
     ) -> Changed
         requires of { IsPassOf self.now pass.old }
-        requires covered { IsCovered self.now.bounds.place.first self.now.bounds.place.blocks
-            self.now.bounds.place.size (lent_operation_of act) }
+        requires covered { IsCovered self.now.bounds.place (lent_operation_of act) }
         ensures of { IsPassOf self.now pass.new }
         ensures number { pass.new.view.number ≡ pass.old.view.number }
         ensures made { Makes result pass.old.view job (lent_operation_of act.entry) pass.new.view }
@@ -180,8 +177,7 @@ impl Unit {
         look: Look<'_>,
     ) -> Result<Observed, ObserveFault>
         requires of { IsPassOf self.now pass.old }
-        requires covered { IsCovered self.now.bounds.place.first self.now.bounds.place.blocks
-            self.now.bounds.place.size (look_operation_of look) }
+        requires covered { IsCovered self.now.bounds.place (look_operation_of look) }
         ensures of { IsPassOf self.now pass.new }
         ensures number { pass.new.view.number ≡ pass.old.view.number }
         ensures observed { Observes result pass.old.view (look_operation_of look.entry) pass.new.view }

@@ -1,174 +1,174 @@
-use super::{BLOCK, DONE, MARKED, change, failure, mark, read, rising, size, write};
-use crate::{ActRef, UnitBlocks, apply, judge};
-use nvm_record::Statuses;
+use super::{BLOCK, size};
+use crate::{ActRef, Answer, Look, UnitBlocks, answer, apply, judge, judge_look};
+use nvm_record::{Status, Statuses};
 use std::test::Fail;
 
-#[test]
-fn a_unit_begins_with_zero_bytes(rt: HostRuntime) -> Result<(), Fail> {
-    let unit = UnitBlocks::zeroed(rt.alloc(), 65_534, 2, size()?)?;
-    let bytes = read(rt.alloc(), &unit, 65_534, 2)?;
-    assert_eq!(rt; bytes.as_slice(), [0; 2 * BLOCK].as_slice());
-    Ok(())
-}
+const DONE: Status = Status::SUCCESSFUL_COMPLETION;
 
-#[test]
-fn a_write_is_read_back_at_its_blocks(rt: HostRuntime) -> Result<(), Fail> {
-    let mut unit = UnitBlocks::zeroed(rt.alloc(), 8, 4, size()?)?;
-    let payload = rising(rt.alloc(), 2, 1)?;
-    let statuses = write(&mut unit, 9, 2, payload.as_slice())?;
-    assert_eq!(rt; statuses, Statuses::One(DONE));
-    let before = read(rt.alloc(), &unit, 8, 1)?;
-    let written = read(rt.alloc(), &unit, 9, 2)?;
-    let after = read(rt.alloc(), &unit, 11, 1)?;
-    assert_eq!(rt; before.as_slice(), [0; BLOCK].as_slice());
-    assert_eq!(rt; written.as_slice(), payload.as_slice());
-    assert_eq!(rt; after.as_slice(), [0; BLOCK].as_slice());
-    Ok(())
-}
+const MARKED: Status = Status::UNRECOVERED_READ_ERROR;
 
-#[test]
-fn zeroes_stand_at_their_blocks(rt: HostRuntime) -> Result<(), Fail> {
-    let mut unit = UnitBlocks::zeroed(rt.alloc(), 8, 4, size()?)?;
-    write(&mut unit, 8, 4, rising(rt.alloc(), 4, 1)?.as_slice())?;
-    let zeroes = ActRef::Zeroes {
-        first: 9,
-        blocks: 2,
-    };
-    assert_eq!(rt; change(&mut unit, zeroes)?, Statuses::One(DONE));
-    for (first, byte) in [(8, 1), (9, 0), (10, 0), (11, 4)] {
-        let bytes = read(rt.alloc(), &unit, first, 1)?;
-        assert_eq!(rt;
-            bytes.as_slice(),
-            [byte; BLOCK].as_slice(),
-            "at LBA {first}"
-        );
-    }
-    Ok(())
-}
+const DIFFERS: Status = Status::COMPARE_FAILURE;
 
-#[test]
-fn marks_stand_at_their_blocks(rt: HostRuntime) -> Result<(), Fail> {
-    let mut unit = UnitBlocks::zeroed(rt.alloc(), 8, 4, size()?)?;
-    assert_eq!(rt; mark(&mut unit, 9, 2)?, Statuses::One(DONE));
-    for (first, blocks) in [(9, 1), (10, 1), (8, 2), (10, 2), (8, 4)] {
-        assert_eq!(rt;
-            failure(rt.alloc(), &unit, first, blocks)?,
-            MARKED,
-            "{first} {blocks}"
-        );
-    }
-    for first in [8, 11] {
-        let bytes = read(rt.alloc(), &unit, first, 1)?;
-        assert_eq!(rt; bytes.as_slice(), [0; BLOCK].as_slice(), "at LBA {first}");
-    }
-    Ok(())
-}
+const ABORTED: Status = Status::ABORTED_DUE_TO_FAILED_FUSED_COMMAND;
 
-#[test]
-fn writes_and_zeroes_clear_marks(rt: HostRuntime) -> Result<(), Fail> {
-    let mut unit = UnitBlocks::zeroed(rt.alloc(), 8, 4, size()?)?;
-    write(&mut unit, 8, 4, rising(rt.alloc(), 4, 1)?.as_slice())?;
-    mark(&mut unit, 8, 3)?;
-    write(&mut unit, 8, 1, &[9; BLOCK])?;
-    change(
-        &mut unit,
-        ActRef::Zeroes {
+const ONES: [u8; BLOCK] = [1; BLOCK];
+
+const TWOS: [u8; BLOCK] = [2; BLOCK];
+
+/// What is done to the unit of the 4 blocks from LBA 8, and what each command is told.
+const ACTS: [(ActRef<'static>, Statuses); 6] = [
+    (
+        ActRef::Write {
             first: 9,
             blocks: 1,
+            payload: &ONES,
         },
-    )?;
-    for (first, byte) in [(8, 9), (9, 0), (11, 4)] {
-        let bytes = read(rt.alloc(), &unit, first, 1)?;
-        assert_eq!(rt;
-            bytes.as_slice(),
-            [byte; BLOCK].as_slice(),
-            "at LBA {first}"
-        );
-    }
-    assert_eq!(rt; failure(rt.alloc(), &unit, 10, 1)?, MARKED);
-    Ok(())
-}
-
-#[test]
-fn apply_leaves_the_old_unit(rt: HostRuntime) -> Result<(), Fail> {
-    let old = UnitBlocks::zeroed(rt.alloc(), 0, 2, size()?)?;
-    let act = ActRef::Pair {
-        first: 1,
-        blocks: 1,
-        compare: &[0; BLOCK],
-        write: &[7; BLOCK],
-    };
-    assert!(rt; old.covers(act));
-    assert!(rt; judge(&old, act).is_success());
-    let new = apply(rt.alloc(), &old, act)?;
-    let kept = read(rt.alloc(), &old, 1, 1)?;
-    let changed = read(rt.alloc(), &new, 1, 1)?;
-    assert_eq!(rt; kept.as_slice(), [0; BLOCK].as_slice());
-    assert_eq!(rt; changed.as_slice(), [7; BLOCK].as_slice());
-    Ok(())
-}
-
-#[test]
-fn apply_keeps_marks(rt: HostRuntime) -> Result<(), Fail> {
-    let mut old = UnitBlocks::zeroed(rt.alloc(), 0, 2, size()?)?;
-    mark(&mut old, 0, 1)?;
-    let act = ActRef::Zeroes {
-        first: 1,
-        blocks: 1,
-    };
-    assert!(rt; old.covers(act));
-    assert!(rt; judge(&old, act).is_success());
-    let new = apply(rt.alloc(), &old, act)?;
-    assert_eq!(rt; failure(rt.alloc(), &new, 0, 1)?, MARKED);
-    Ok(())
-}
-
-/// An act as plain data: its name, its range, and its data.
-type Parts<'a> = (&'static str, u64, u32, &'a [u8], &'a [u8]);
-
-fn parts(act: ActRef<'_>) -> Parts<'_> {
-    match act {
-        ActRef::Write {
-            first,
-            blocks,
-            payload,
-        } => ("write", first, blocks, payload, &[]),
-        ActRef::Zeroes { first, blocks } => ("zeroes", first, blocks, &[], &[]),
-        ActRef::Uncorrectable { first, blocks } => ("uncorrectable", first, blocks, &[], &[]),
+        Statuses::One(DONE),
+    ),
+    (
         ActRef::Pair {
-            first,
-            blocks,
-            compare,
-            write,
-        } => ("pair", first, blocks, compare, write),
-    }
-}
-
-#[test]
-fn an_owned_act_is_the_same(rt: HostRuntime) -> Result<(), Fail> {
-    for act in [
-        ActRef::Write {
-            first: 5,
+            first: 9,
             blocks: 1,
-            payload: &[3; BLOCK],
+            compare: &ONES,
+            write: &TWOS,
         },
-        ActRef::Zeroes {
-            first: 6,
+        Statuses::Two(DONE, DONE),
+    ),
+    (
+        ActRef::Pair {
+            first: 9,
+            blocks: 1,
+            compare: &ONES,
+            write: &ONES,
+        },
+        Statuses::Two(DIFFERS, ABORTED),
+    ),
+    (
+        ActRef::Uncorrectable {
+            first: 10,
             blocks: 2,
         },
-        ActRef::Uncorrectable {
-            first: 7,
-            blocks: 3,
-        },
+        Statuses::One(DONE),
+    ),
+    (
         ActRef::Pair {
-            first: 8,
+            first: 10,
             blocks: 1,
-            compare: &[4; BLOCK],
-            write: &[5; BLOCK],
+            compare: &ONES,
+            write: &ONES,
         },
-    ] {
-        let owned = act.to_act(rt.alloc())?;
-        assert_eq!(rt; parts(owned.as_ref()), parts(act));
+        Statuses::Two(MARKED, ABORTED),
+    ),
+    (
+        ActRef::Zeroes {
+            first: 11,
+            blocks: 1,
+        },
+        Statuses::One(DONE),
+    ),
+];
+
+/// What the unit is asked then, and the status.
+const LOOKS: [(Look<'static>, Status); 6] = [
+    (
+        Look::Read {
+            first: 8,
+            blocks: 2,
+        },
+        DONE,
+    ),
+    (
+        Look::Read {
+            first: 9,
+            blocks: 2,
+        },
+        MARKED,
+    ),
+    (
+        Look::Compare {
+            first: 9,
+            blocks: 1,
+            payload: &TWOS,
+        },
+        DONE,
+    ),
+    (
+        Look::Compare {
+            first: 9,
+            blocks: 1,
+            payload: &ONES,
+        },
+        DIFFERS,
+    ),
+    (
+        Look::Compare {
+            first: 10,
+            blocks: 1,
+            payload: &TWOS,
+        },
+        MARKED,
+    ),
+    (
+        Look::Read {
+            first: 11,
+            blocks: 1,
+        },
+        DONE,
+    ),
+];
+
+#[test]
+fn acts_change_what_looks_see(rt: HostRuntime) -> Result<(), Fail> {
+    let mut unit = UnitBlocks::zeroed(rt.alloc(), 8, 4, size()?)?;
+    for (act, statuses) in ACTS {
+        assert!(rt; unit.covers(act));
+        let told = judge(&unit, act);
+        assert_eq!(rt; told, statuses);
+        if told.is_success() {
+            unit.change(act);
+        }
+    }
+    for (look, status) in LOOKS {
+        assert!(rt; unit.covers_look(look));
+        assert_eq!(rt; judge_look(&unit, look), status);
+    }
+    let mut read = [0; 2 * BLOCK];
+    read[BLOCK..].copy_from_slice(&TWOS);
+    let look = Look::Read {
+        first: 8,
+        blocks: 2,
+    };
+    assert!(rt; unit.covers_look(look));
+    match answer(rt.alloc(), &unit, look)? {
+        Answer::Payload(bytes) => {
+            assert_eq!(rt; bytes.as_slice(), read.as_slice());
+        }
+        Answer::Status(_) => return Err(Fail::new("the Read failed")),
+    }
+    Ok(())
+}
+
+#[test]
+fn an_act_and_its_copy_are_the_same(rt: HostRuntime) -> Result<(), Fail> {
+    let unit = UnitBlocks::zeroed(rt.alloc(), 8, 4, size()?)?;
+    let act = ActRef::Write {
+        first: 8,
+        blocks: 1,
+        payload: &ONES,
+    };
+    let owned = act.to_act(rt.alloc())?;
+    assert!(rt; act.is(&owned));
+    assert!(rt; unit.covers(owned.as_ref()));
+    assert!(rt; judge(&unit, owned.as_ref()).is_success());
+    let after = apply(rt.alloc(), &unit, owned.as_ref())?;
+    let look = Look::Compare {
+        first: 8,
+        blocks: 1,
+        payload: &ONES,
+    };
+    for (unit, status) in [(&unit, DIFFERS), (&after, DONE)] {
+        assert!(rt; unit.covers_look(look));
+        assert_eq!(rt; judge_look(unit, look), status);
     }
     Ok(())
 }

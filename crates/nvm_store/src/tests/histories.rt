@@ -1,27 +1,29 @@
 ghost use Rattle.std.specs.Prelude.{OnOk};
 ghost use Rattle.nvm_store.specs.History.{IsLawfulHistory};
+ghost use Rattle.nvm_store.specs.Place.{place_at};
 
-use super::{BLOCK, MARKED, failure, read, size};
-use crate::laws::lawful_with_one_more;
-use crate::{Act, Entry, History, judge, replay};
-use nvm_record::Payload;
-use std::alloc::{AllocError, Global};
+use super::{BLOCK, size};
+use crate::laws::{acts_and_looks, lawful_with_one_more};
+use crate::{ActRef, Entry, History, Look, judge, judge_look, replay};
+use nvm_record::{BlockSize, Status};
+use std::alloc::Global;
 use std::test::Fail;
 
 /// Adds the act to a history of the unit of the 4 blocks from LBA 8, if it succeeds after the others.
-fn push(alloc: Global, history: &mut History, act: Act) -> Result<(), Fail>
-    requires { IsLawfulHistory 8 4 512 history.old.items }
-    ensures { OnOk result (IsLawfulHistory 8 4 512 history.new.items) }
+fn push(alloc: Global, size: BlockSize, history: &mut History, act: ActRef<'_>) -> Result<(), Fail>
+    requires { IsLawfulHistory (place_at 8 4 size) history.old.items }
+    ensures { OnOk result (IsLawfulHistory (place_at 8 4 size) history.new.items) }
 {
     lawful_with_one_more();
-    let unit = replay(alloc, 8, 4, size()?, history)?;
-    let lent = act.as_ref();
-    if !unit.covers(lent) {
+    acts_and_looks();
+    let unit = replay(alloc, 8, 4, size, history)?;
+    if !unit.covers(act) {
         return Err(Fail::new("the unit doesn't cover the act"));
     }
-    if !judge(&unit, lent).is_success() {
+    if !judge(&unit, act).is_success() {
         return Err(Fail::new("the act fails"));
     }
+    let act = act.to_act(alloc)?;
     history.push(Entry {
         pass: 0,
         job: 0,
@@ -30,67 +32,30 @@ fn push(alloc: Global, history: &mut History, act: Act) -> Result<(), Fail>
     Ok(())
 }
 
-/// Blocks of one byte.
-fn blocks_of(alloc: Global, blocks: u32, byte: u8) -> Result<Payload, AllocError> {
-    Ok(Payload::new(vec![in alloc; byte; blocks as usize * BLOCK]?))
-}
-
-fn write(alloc: Global, first: u64, byte: u8) -> Result<Act, AllocError> {
-    Ok(Act::Write {
+/// A Write of two blocks.
+fn write_at(first: u64, payload: &[u8]) -> ActRef<'_> {
+    ActRef::Write {
         first,
         blocks: 2,
-        payload: blocks_of(alloc, 2, byte)?,
-    })
+        payload,
+    }
 }
 
 #[test]
 fn replay_does_the_entries_in_order(rt: HostRuntime) -> Result<(), Fail> {
+    let size = size()?;
     let mut history = Vec::new(rt.alloc());
-    push(rt.alloc(), &mut history, write(rt.alloc(), 8, 1)?)?;
-    push(rt.alloc(), &mut history, write(rt.alloc(), 9, 2)?)?;
-    let unit = replay(rt.alloc(), 8, 4, size()?, &history)?;
+    push(rt.alloc(), size, &mut history, write_at(8, &[1; 2 * BLOCK]))?;
+    push(rt.alloc(), size, &mut history, write_at(9, &[2; 2 * BLOCK]))?;
+    let unit = replay(rt.alloc(), 8, 4, size, &history)?;
     for (first, byte) in [(8, 1), (9, 2), (10, 2), (11, 0)] {
-        let bytes = read(rt.alloc(), &unit, first, 1)?;
-        assert_eq!(rt;
-            bytes.as_slice(),
-            [byte; BLOCK].as_slice(),
-            "at LBA {first}"
-        );
+        let look = Look::Compare {
+            first,
+            blocks: 1,
+            payload: &[byte; BLOCK],
+        };
+        assert!(rt; unit.covers_look(look));
+        assert_eq!(rt; judge_look(&unit, look), Status::SUCCESSFUL_COMPLETION);
     }
-    Ok(())
-}
-
-#[test]
-fn replay_does_all_acts(rt: HostRuntime) -> Result<(), Fail> {
-    let mut history = Vec::new(rt.alloc());
-    push(rt.alloc(), &mut history, write(rt.alloc(), 8, 1)?)?;
-    push(rt.alloc(), &mut history, write(rt.alloc(), 10, 2)?)?;
-    let pair = Act::Pair {
-        first: 9,
-        blocks: 1,
-        compare: blocks_of(rt.alloc(), 1, 1)?,
-        write: blocks_of(rt.alloc(), 1, 3)?,
-    };
-    push(rt.alloc(), &mut history, pair)?;
-    let mark = Act::Uncorrectable {
-        first: 10,
-        blocks: 2,
-    };
-    push(rt.alloc(), &mut history, mark)?;
-    let zeroes = Act::Zeroes {
-        first: 11,
-        blocks: 1,
-    };
-    push(rt.alloc(), &mut history, zeroes)?;
-    let unit = replay(rt.alloc(), 8, 4, size()?, &history)?;
-    for (first, byte) in [(8, 1), (9, 3), (11, 0)] {
-        let bytes = read(rt.alloc(), &unit, first, 1)?;
-        assert_eq!(rt;
-            bytes.as_slice(),
-            [byte; BLOCK].as_slice(),
-            "at LBA {first}"
-        );
-    }
-    assert_eq!(rt; failure(rt.alloc(), &unit, 10, 1)?, MARKED);
     Ok(())
 }

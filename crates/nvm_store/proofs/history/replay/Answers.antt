@@ -1,41 +1,60 @@
-use Rattle.std.proofs.Common.{◌≡◌, ◌<◌, length, rules, get_or, sym, ap, ◌∙◌}
+use Rattle.std.proofs.Common.{◌≡◌, ◌<◌, length, rules, get_or, subst, sym, ap, ◌∙◌}
+use Rattle.nvm_record.specs.Lists.{IsAt}
 use Rattle.nvm_store.specs.ActRef.{lent_operation_of}
 use Rattle.nvm_store.specs.Contents.{Covers}
 use Rattle.nvm_store.specs.HistoryEntry.{HistoryEntry}
+use Rattle.nvm_store.specs.declared.place.Place.{Place}
+use Rattle.nvm_store.specs.Place.{IsCovered}
 use Rattle.nvm_store.specs.Point.{point}
-use Rattle.nvm_store.proofs.Ranges.{succeeds_on_held}
+use Rattle.nvm_store.proofs.AtLemmas.{at_read}
 use Rattle.nvm_store.proofs.Replays.{point-more}
 use Rattle.nvm_store.proofs.history.replay.Goals as goal
 
+pub change-requires-clause-covered : goal.change-requires-clause-covered
+change-requires-clause-covered c =
+    let entries = c.args.history.now.items in
+    let n = c.loop-entry.entry-index in
+    let entry = c.entry-item.result in
+    let here : n < length entries = search rules in
+    let is : get_or entries n entry ≡ entry = sym (rw c.deref-entry-items.ensures.value at c.entry-item.is) in
+    let at : IsAt entries n entry = rw is at (at_read entries n entry here) in
+    let does : lent_operation_of c.as_ref.result ≡ entry.operation =
+    c.as_ref.ensures ∙ ap (λ (e : HistoryEntry). e.operation) c.entry.view_is in
+    let place = c.loop-entry.invariant.place in
+    rw does (subst (λ (p : Place). IsCovered p entry.operation) (sym place) (c.requires.lawful n entry at).covered)
+
 pub change-requires-clause-success : goal.change-requires-clause-success
 change-requires-clause-success c =
-    let lines = c.args.history.now.items in
-    let at = c.loop-entry.entry-index in
-    let line = c.entry-item.result in
-    let here : at < length lines = search rules in
-    let line_is : get_or lines at line ≡ line = sym (rw c.deref-entry-items.ensures.value at c.entry-item.is) in
-    let does : lent_operation_of c.as_ref.result ≡ line.operation =
-    c.as_ref.ensures ∙ ap (λ (l : HistoryEntry). l.operation) c.entry.view_is in
-    let follows = rw line_is at (c.requires.lawful line at here) in
+    let entries = c.args.history.now.items in
+    let n = c.loop-entry.entry-index in
+    let entry = c.entry-item.result in
+    let here : n < length entries = search rules in
+    let is : get_or entries n entry ≡ entry = sym (rw c.deref-entry-items.ensures.value at c.entry-item.is) in
+    let at : IsAt entries n entry = rw is at (at_read entries n entry here) in
+    let does : lent_operation_of c.as_ref.result ≡ entry.operation =
+    c.as_ref.ensures ∙ ap (λ (e : HistoryEntry). e.operation) c.entry.view_is in
+    let follows = c.requires.lawful n entry at in
     let place = c.loop-entry.invariant.place in
-    let covered : Covers c.loop-entry.unit line.operation = rw (place.first, place.blocks, place.size) follows.covered in
+    let covered : Covers c.loop-entry.unit entry.operation =
+    subst (λ (p : Place). IsCovered p entry.operation) (sym place) follows.covered in
     rw does
-    (succeeds_on_held c.loop-entry.unit line.operation (point c.args.size lines at) covered
+    (c.success_on_held.ensures c.loop-entry.unit entry.operation (point c.args.size entries n) covered
     c.loop-entry.invariant.replayed follows.succeeds)
 
 pub loop-entry-preserved : goal.loop-entry-preserved
 loop-entry-preserved c =
-    let lines = c.args.history.now.items in
-    let at = c.loop-entry.entry-index in
-    let line = c.entry-item.result in
-    let here : at < length lines = search rules in
-    let line_is : get_or lines at line ≡ line = sym (rw c.deref-entry-items.ensures.value at c.entry-item.is) in
-    let does : lent_operation_of c.as_ref.result ≡ line.operation =
-    c.as_ref.ensures ∙ ap (λ (l : HistoryEntry). l.operation) c.entry.view_is in
-    let stepped = c.change.ensures.step (point c.args.size lines at) c.loop-entry.invariant.replayed in
+    let entries = c.args.history.now.items in
+    let n = c.loop-entry.entry-index in
+    let entry = c.entry-item.result in
+    let here : n < length entries = search rules in
+    let is : get_or entries n entry ≡ entry = sym (rw c.deref-entry-items.ensures.value at c.entry-item.is) in
+    let at : IsAt entries n entry = rw is at (at_read entries n entry here) in
+    let does : lent_operation_of c.as_ref.result ≡ entry.operation =
+    c.as_ref.ensures ∙ ap (λ (e : HistoryEntry). e.operation) c.entry.view_is in
+    let stepped = c.change.ensures.step (point c.args.size entries n) c.loop-entry.invariant.replayed in
     record {
       place = search rules;
       replayed =
-          rw (point-more c.args.size lines line at here, line_is)
-          (rw (c.loop-entry.invariant.place.size, does) at stepped);
+          rw (point-more c.args.size entries n entry at)
+          (rw (ap (λ (p : Place). p.size) c.loop-entry.invariant.place, does) at stepped);
     }

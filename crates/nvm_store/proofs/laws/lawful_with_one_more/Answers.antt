@@ -3,10 +3,10 @@ use Rattle.std.proofs.Common.{[], ◌∷◌}
 use Rattle.nvm_store.proofs.laws.lawful_with_one_more.Goals as goal
 
 pub returns : goal.returns
-returns c start count size history line = (
+returns c place history entry = (
   λ lawful. (
-    lawful_beginning start count size history (line ∷ []) lawful,
-    lawful_last start count size history line lawful,
+    lawful_beginning place history (entry ∷ []) lawful,
+    lawful_last place history entry lawful,
   ),
-  λ both. lawful_push start count size history line both.0 both.1,
+  λ both. lawful_push place history entry both.0 both.1,
 )

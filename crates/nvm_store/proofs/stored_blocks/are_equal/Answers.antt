@@ -1,7 +1,7 @@
 use Rattle.std.proofs.Common.{◌≡◌, ◌<◌, ◌+◌, length, drop, take, Bool, true, false, ◌&&◌, sym, ap, ◌∙◌, arith, rules}
 use Rattle.std.specs.Str.{bytes_eq}
 use Rattle.nvm_record.specs.Medium as medium
-use Rattle.nvm_store.specs.Stored.{blocks_of}
+use Rattle.nvm_store.specs.Inside.Stored.{blocks_of}
 use Rattle.nvm_store.proofs.Comparisons.{next_compares_at}
 use Rattle.nvm_store.proofs.stored_blocks.are_equal.Goals as goal
 

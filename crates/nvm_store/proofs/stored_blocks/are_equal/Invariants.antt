@@ -1,7 +1,7 @@
 use Rattle.std.proofs.Common.{◌≡◌, ◌*◌, length, drop, false}
 use Rattle.std.specs.Str.{bytes_eq}
 use Rattle.nvm_record.specs.Medium as medium
-use Rattle.nvm_store.specs.Stored.{blocks_of}
+use Rattle.nvm_store.specs.Inside.Stored.{blocks_of}
 use Rattle.nvm_store.proofs.stored_blocks.are_equal.Given as goal
 
 -- No byte so far differs, so what is left of the blocks and of the data decides.

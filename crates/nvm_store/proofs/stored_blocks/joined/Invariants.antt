@@ -1,6 +1,6 @@
 use Rattle.std.proofs.Common.{◌≡◌, ◌++◌, drop, false}
 use Rattle.nvm_record.specs.Medium as medium
-use Rattle.nvm_store.specs.Stored.{blocks_of}
+use Rattle.nvm_store.specs.Inside.Stored.{blocks_of}
 use Rattle.nvm_store.proofs.stored_blocks.joined.Given as goal
 
 -- What is left has no mark, and its bytes complete the whole.

@@ -1,5 +1,5 @@
 use Rattle.std.proofs.Common.{◌≡◌, ℕ, ◌+◌, ◌<◌, length, get_or}
-use Rattle.nvm_store.specs.Stored.{Stored, KeepsAllBut, KeepsRoom, marked}
+use Rattle.nvm_store.specs.Inside.Stored.{Stored, KeepsAllBut, KeepsRoom, marked}
 use Rattle.nvm_store.proofs.stored_blocks.mark_range.Given as goal
 
 -- The first `i` blocks of the range are marked, and the others are as they were.

@@ -1,5 +1,5 @@
 use Rattle.std.proofs.Common.{◌≡◌, ℕ, ◌+◌, ◌<◌, length, get_or}
-use Rattle.nvm_store.specs.Stored.{Stored, AreSized, KeepsAllBut, written}
+use Rattle.nvm_store.specs.Inside.Stored.{Stored, AreSized, KeepsAllBut, written}
 use Rattle.nvm_store.proofs.stored_blocks.write_range.Given as goal
 
 -- The first `i` blocks of the range have the data, and the others are as they were.

@@ -1,5 +1,5 @@
 use Rattle.std.proofs.Common.{◌≡◌, replicate}
-use Rattle.nvm_store.specs.Stored.{zero_block}
+use Rattle.nvm_store.specs.Inside.Stored.{zero_block}
 use Rattle.nvm_store.proofs.stored_blocks.zeroed_blocks.Given as goal
 
 abbrev pub invariant-loop : goal.invariant-loop

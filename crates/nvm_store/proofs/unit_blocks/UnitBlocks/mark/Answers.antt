@@ -1,6 +1,6 @@
 use Rattle.std.proofs.Common.{◌≡◌, ◌+◌, ◌-◌, arith, rules, length}
 use Rattle.std.proofs.lemmas.List.{with_items_is}
-use Rattle.nvm_store.specs.Stored.{zero_block}
+use Rattle.nvm_store.specs.Inside.Stored.{zero_block}
 use Rattle.nvm_store.proofs.Ranges.{held-marked}
 use Rattle.nvm_store.proofs.unit_blocks.UnitBlocks.mark.Goals as goal
 
@@ -13,6 +13,6 @@ returns-clause-step c m held =
     let put = rw c.deref_mut.ensures.value at c.mark_range.ensures in
     let len : length c.mark_range.new.blocks ≡ c.self.inside.blocks.len = search rules in
     rw (with_items_is c.self.inside.blocks c.mark_range.new.blocks len)
-    (held-marked m c.self.inside.blocks.items c.mark_range.new.blocks (zero_block 0) c.self.inside.first
+    (held-marked c.steps_are_local.ensures.outside m c.self.inside.blocks.items c.mark_range.new.blocks (zero_block 0) c.self.inside.first
     c.self.inside.size c.args.first c.args.blocks at held' place put.len
     (put.marked (zero_block 0)) put.others)

@@ -1,6 +1,6 @@
 use Rattle.std.proofs.Common.{◌≡◌, ◌+◌, ◌-◌, ◌≤◌, arith, length}
 use Rattle.std.proofs.lemmas.List.{length-map}
-use Rattle.nvm_store.specs.Stored.{block_of, zero_block}
+use Rattle.nvm_store.specs.Inside.Stored.{block_of, zero_block}
 use Rattle.nvm_store.proofs.Ranges.{range-held}
 use Rattle.nvm_store.proofs.unit_blocks.UnitBlocks.range.Goals as goal
 
@@ -15,4 +15,4 @@ returns-clause-blocks c m held =
     omega (arith, within.above, within.below, length-map items block_of) in
     let some : at + c.args.blocks - at ≡ c.args.blocks = omega arith in
     rw (some, c.deref.ensures.value)
-    (range-held m items (zero_block 0) c.self.inside.first c.args.first c.args.blocks at held' place fits)
+    (range-held m items (zero_block 0) c.self.inside.first c.self.inside.size c.args.first c.args.blocks at held' place fits)

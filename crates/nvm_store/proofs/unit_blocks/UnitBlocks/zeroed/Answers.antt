@@ -1,6 +1,6 @@
-use Rattle.nvm_store.proofs.Ranges.{zero_blocks}
+use Rattle.nvm_store.proofs.Ranges.{zeroes_held}
 use Rattle.nvm_store.proofs.unit_blocks.UnitBlocks.zeroed.Goals as goal
 
 pub returns-clause-zeroes : goal.returns-clause-zeroes
 returns-clause-zeroes c =
-    rw (c.in_ok-blocks.ensures, c.bytes.ensures.value) (zero_blocks c.args.blocks c.args.size)
+    rw (c.in_ok-blocks.ensures, c.bytes.ensures.value) (zeroes_held c.args.blocks c.args.first c.args.size)

@@ -1,7 +1,7 @@
 use Rattle.std.proofs.Common.{◌≡◌, ◌≤◌, ap, sym, subst, ◌∙◌, length, arith}
 use Rattle.atomic_table.specs.Seated.{TableId}
 use Rattle.nvm_store.specs.ActRef.{lent_operation_of}
-use Rattle.nvm_store.specs.Contents.{IsCovered}
+use Rattle.nvm_store.specs.Place.{IsCovered}
 use Rattle.nvm_unit.specs.declared.bounds.Bounds.{Bounds}
 use Rattle.nvm_unit.specs.declared.views.PassView.{PassView}
 use Rattle.nvm_unit.specs.Alone.{only}
@@ -85,7 +85,7 @@ release-requires-clause-ready g c =
     attempt_as c.attempt-changed.result c.self.inside.bounds.limit c.pass.inside.number c.args.job op book book' p (ap (λ (b : Bounds). b.limit) (sym same_bounds))
     (c.pass.invariant.1 ∙ ap (λ (x : PassState). x.view.number) c.pass.view_is) c.attempt-changed.ensures in
     let covered =
-    subst (λ (b : Bounds). IsCovered b.place.first b.place.blocks b.place.size op) (sym c.requires.of.bounds) c.requires.covered in
+    subst (λ (b : Bounds). IsCovered b.place op) (sym c.requires.of.bounds) c.requires.covered in
     attempt_ready c.attempt-changed.result held.0 held.1 book book' p c.args.job op _ a (act_is c.args.act) covered attempt
 
 pub invariant_of-pass : goal.invariant_of-pass
@@ -101,8 +101,8 @@ invariant_of-pass g c =
     attempt_as c.attempt-changed.result c.self.inside.bounds.limit c.pass.inside.number c.args.job op book book' p (ap (λ (b : Bounds). b.limit) (sym same_bounds))
     (c.pass.invariant.1 ∙ ap (λ (x : PassState). x.view.number) c.pass.view_is) c.attempt-changed.ensures in
     let covered =
-    subst (λ (b : Bounds). IsCovered b.place.first b.place.blocks b.place.size op) (sym c.requires.of.bounds) c.requires.covered in
-    let law : FollowsLawfully = λ start count size history line lawful follows. (c.lawful_with_one_more.ensures start count size history line).1 (lawful, follows) in
+    subst (λ (b : Bounds). IsCovered b.place op) (sym c.requires.of.bounds) c.requires.covered in
+    let law : FollowsLawfully = λ place history line lawful follows. (c.lawful_with_one_more.ensures place history line).1 (lawful, follows) in
     let ends =
     attempt_ends law c.attempt-changed.result held.0 held.1 book book' p c.args.job op _ _ a covered attempt
     (subst IsProperPass (ap view_of c.pass.view_is) c.pass.invariant.3) c.release.ensures.back c.release.ensures.more in
@@ -122,8 +122,8 @@ returns-clause-of g c =
     attempt_as c.attempt-changed.result c.self.inside.bounds.limit c.pass.inside.number c.args.job op book book' p (ap (λ (b : Bounds). b.limit) (sym same_bounds))
     (c.pass.invariant.1 ∙ ap (λ (x : PassState). x.view.number) c.pass.view_is) c.attempt-changed.ensures in
     let covered =
-    subst (λ (b : Bounds). IsCovered b.place.first b.place.blocks b.place.size op) (sym c.requires.of.bounds) c.requires.covered in
-    let law : FollowsLawfully = λ start count size history line lawful follows. (c.lawful_with_one_more.ensures start count size history line).1 (lawful, follows) in
+    subst (λ (b : Bounds). IsCovered b.place op) (sym c.requires.of.bounds) c.requires.covered in
+    let law : FollowsLawfully = λ place history line lawful follows. (c.lawful_with_one_more.ensures place history line).1 (lawful, follows) in
     let ends =
     attempt_ends law c.attempt-changed.result held.0 held.1 book book' p c.args.job op _ _ a covered attempt
     (subst IsProperPass (ap view_of c.pass.view_is) c.pass.invariant.3) c.release.ensures.back c.release.ensures.more in
@@ -145,8 +145,8 @@ returns-clause-number g c =
     attempt_as c.attempt-changed.result c.self.inside.bounds.limit c.pass.inside.number c.args.job op book book' p (ap (λ (b : Bounds). b.limit) (sym same_bounds))
     (c.pass.invariant.1 ∙ ap (λ (x : PassState). x.view.number) c.pass.view_is) c.attempt-changed.ensures in
     let covered =
-    subst (λ (b : Bounds). IsCovered b.place.first b.place.blocks b.place.size op) (sym c.requires.of.bounds) c.requires.covered in
-    let law : FollowsLawfully = λ start count size history line lawful follows. (c.lawful_with_one_more.ensures start count size history line).1 (lawful, follows) in
+    subst (λ (b : Bounds). IsCovered b.place op) (sym c.requires.of.bounds) c.requires.covered in
+    let law : FollowsLawfully = λ place history line lawful follows. (c.lawful_with_one_more.ensures place history line).1 (lawful, follows) in
     let ends =
     attempt_ends law c.attempt-changed.result held.0 held.1 book book' p c.args.job op _ _ a covered attempt
     (subst IsProperPass (ap view_of c.pass.view_is) c.pass.invariant.3) c.release.ensures.back c.release.ensures.more in
@@ -165,8 +165,8 @@ returns-clause-made g c =
     attempt_as c.attempt-changed.result c.self.inside.bounds.limit c.pass.inside.number c.args.job op book book' p (ap (λ (b : Bounds). b.limit) (sym same_bounds))
     (c.pass.invariant.1 ∙ ap (λ (x : PassState). x.view.number) c.pass.view_is) c.attempt-changed.ensures in
     let covered =
-    subst (λ (b : Bounds). IsCovered b.place.first b.place.blocks b.place.size op) (sym c.requires.of.bounds) c.requires.covered in
-    let law : FollowsLawfully = λ start count size history line lawful follows. (c.lawful_with_one_more.ensures start count size history line).1 (lawful, follows) in
+    subst (λ (b : Bounds). IsCovered b.place op) (sym c.requires.of.bounds) c.requires.covered in
+    let law : FollowsLawfully = λ place history line lawful follows. (c.lawful_with_one_more.ensures place history line).1 (lawful, follows) in
     let ends =
     attempt_ends law c.attempt-changed.result held.0 held.1 book book' p c.args.job op _ _ a covered attempt
     (subst IsProperPass (ap view_of c.pass.view_is) c.pass.invariant.3) c.release.ensures.back c.release.ensures.more in
@@ -185,8 +185,8 @@ returns-clause-proper g c =
     attempt_as c.attempt-changed.result c.self.inside.bounds.limit c.pass.inside.number c.args.job op book book' p (ap (λ (b : Bounds). b.limit) (sym same_bounds))
     (c.pass.invariant.1 ∙ ap (λ (x : PassState). x.view.number) c.pass.view_is) c.attempt-changed.ensures in
     let covered =
-    subst (λ (b : Bounds). IsCovered b.place.first b.place.blocks b.place.size op) (sym c.requires.of.bounds) c.requires.covered in
-    let law : FollowsLawfully = λ start count size history line lawful follows. (c.lawful_with_one_more.ensures start count size history line).1 (lawful, follows) in
+    subst (λ (b : Bounds). IsCovered b.place op) (sym c.requires.of.bounds) c.requires.covered in
+    let law : FollowsLawfully = λ place history line lawful follows. (c.lawful_with_one_more.ensures place history line).1 (lawful, follows) in
     let ends =
     attempt_ends law c.attempt-changed.result held.0 held.1 book book' p c.args.job op _ _ a covered attempt
     (subst IsProperPass (ap view_of c.pass.view_is) c.pass.invariant.3) c.release.ensures.back c.release.ensures.more in

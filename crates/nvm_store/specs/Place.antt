@@ -1,0 +1,19 @@
+-- Where a unit lies in the namespace, and which operations lie there.
+use Rattle.std.specs.Prelude.{ℕ, ◌+◌, ◌*◌, ◌<◌, ◌≤◌}
+use Rattle.nvm_record.specs.Step.{HasData, Operation}
+use Rattle.nvm_store.specs.declared.place.Place.{Place}
+
+-- the place of so many blocks of this size in bytes, from this LBA on
+abbrev pub place_at : ℕ → ℕ → ℕ → Place
+place_at first blocks size = record { first = first; blocks = blocks; size = size }
+
+-- The `blocks` LBAs from `first` are at least one, and lie in the place.
+pub record IsWithin (place : Place) (first blocks : ℕ) : Type 0 where
+  pub some : 0 < blocks
+  pub above : place.first ≤ first
+  pub below : first + blocks ≤ place.first + place.blocks
+
+-- The operation's range has a block and lies in the place, and its data has just the range's blocks.
+pub record IsCovered (place : Place) (op : Operation) : Type 0 where
+  pub range : IsWithin place op.first op.blocks
+  pub payload : HasData (op.blocks * place.size) op.deed
