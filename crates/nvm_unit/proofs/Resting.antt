@@ -35,13 +35,13 @@ begins_front : (begin more history : List HistoryEntry) → Begins (begin ++ mor
 begins_front begin more history begins = (more ++ begins.0, begins.1 ∙ append_assoc begin more begins.0)
 
 -- What a step found begins what its pass has seen then.
-found_begins : (changed : Changed) (found : List HistoryEntry) (line : HistoryEntry) (p q : PassView) (history : List HistoryEntry) → q ≡ pass_after changed found line p
+found_begins : (changed : Changed) (found : List HistoryEntry) (entry : HistoryEntry) (p q : PassView) (history : List HistoryEntry) → q ≡ pass_after changed found entry p
     → Begins q.seen history → Begins found history
-found_begins (Done place) found line p q history is begins =
-    begins_front found (line ∷ []) history (subst (λ (x : PassView). Begins x.seen history) is begins)
-found_begins (Failed n statuses) found line p q history is begins = subst (λ (x : PassView). Begins x.seen history) is begins
-found_begins (NoMemory n) found line p q history is begins = subst (λ (x : PassView). Begins x.seen history) is begins
-found_begins (Full n) found line p q history is begins = subst (λ (x : PassView). Begins x.seen history) is begins
+found_begins (Done n) found entry p q history is begins =
+    begins_front found (entry ∷ []) history (subst (λ (x : PassView). Begins x.seen history) is begins)
+found_begins (Failed n statuses) found entry p q history is begins = subst (λ (x : PassView). Begins x.seen history) is begins
+found_begins (NoMemory n) found entry p q history is begins = subst (λ (x : PassView). Begins x.seen history) is begins
+found_begins (Full n) found entry p q history is begins = subst (λ (x : PassView). Begins x.seen history) is begins
 
 pub change_rests : (changed : Changed) (p q : PassView) (job : ℕ) (op : Operation) (history : List HistoryEntry) → Makes changed p job op q → Begins q.seen history
     → (n : ℕ) × (n ≤ length history) × AnswersChange changed n p.bounds.limit op (point p.bounds.place.size history n)
@@ -53,14 +53,14 @@ change_rests changed p q job op history makes begins =
       subst (λ (x : Medium). AnswersChange changed (length found) p.bounds.limit op x) (sym (point_at p.bounds.place.size found history front)) makes.2,
     )
 
-pub done_stands : (place : ℕ) (p q : PassView) (job : ℕ) (op : Operation) (history : List HistoryEntry) → Makes (Done place) p job op q → Begins q.seen history
-    → IsAt history place (entry_of_job p job op)
-done_stands place p q job op history makes begins =
+pub done_stands : (n : ℕ) (p q : PassView) (job : ℕ) (op : Operation) (history : List HistoryEntry) → Makes (Done n) p job op q → Begins q.seen history
+    → IsAt history n (entry_of_job p job op)
+done_stands n p q job op history makes begins =
     let found = makes.0 in
-    let line = entry_of_job p job op in
-    let seen : Begins (found ++ line ∷ []) history = subst (λ (x : PassView). Begins x.seen history) makes.3 begins in
-    let last : IsAt (found ++ line ∷ []) place line = at_last found line place (sym makes.2.0) in
-    subst (λ (x : List HistoryEntry). IsAt x place line) (sym seen.1) (at_longer (found ++ line ∷ []) seen.0 place line last)
+    let entry = entry_of_job p job op in
+    let seen : Begins (found ++ entry ∷ []) history = subst (λ (x : PassView). Begins x.seen history) makes.3 begins in
+    let last : IsAt (found ++ entry ∷ []) n entry = at_last found entry n (sym makes.2.0) in
+    subst (λ (x : List HistoryEntry). IsAt x n entry) (sym seen.1) (at_longer (found ++ entry ∷ []) seen.0 n entry last)
 
 -- A pair reads nothing.
 fails_without_data : (blocks : List Block) (deed : Deed) → FailsOn blocks deed → data_on blocks deed ≡ None

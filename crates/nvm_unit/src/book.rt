@@ -25,19 +25,14 @@ pub struct Book {
 }
 
 impl Model for Book {
-    ghost use Rattle.std.specs.Prelude.{length};
-    ghost use Rattle.nvm_store.specs.Contents.{Holds};
+    ghost use Rattle.nvm_store.specs.Contents.{Holds, place_of};
     ghost use Rattle.nvm_store.specs.History.{replay_of};
-    ghost use Rattle.nvm_unit.specs.Book.{Recorded};
+    ghost use Rattle.nvm_unit.specs.Inside.Book.{Recorded};
 
     ghost Value = { Recorded };
 
     ghost view = { λ b. record {
-      place = record {
-        first = b.blocks.first;
-        blocks = length b.blocks.blocks;
-        size = b.blocks.size;
-      };
+      place = place_of b.blocks;
       history = b.history.items;
     } };
 

@@ -5,8 +5,8 @@ use nvm_store::Answer;
 /// blocks are unchanged.
 #[derive(Clone, Copy, Debug, PartialEq, Eq)]
 pub enum Changed {
-    /// The act was done; its entry stands at place `at` of the history.
-    Done { at: u32 },
+    /// The act was done at this point. Its entry stands at the place of that number in the history.
+    Done { point: u32 },
     /// The act is a pair, and its comparison failed at this point.
     Failed { point: u32, statuses: Statuses },
     /// Memory was asked for and refused. The act would have been done at this point.

@@ -169,7 +169,7 @@ fn a_change_is_seen_by_the_other_pass(rt: HostRuntime) -> Result<(), Fail> {
         let byte = (k % 256) as u8;
         let lba = u64::from(k % 8);
         let changed = write(rt.alloc(), &rt, &unit, &mut first, k, lba, byte)?;
-        assert_eq!(rt; changed, Changed::Done { at: k });
+        assert_eq!(rt; changed, Changed::Done { point: k });
         let (point, bytes) = read(rt.alloc(), &rt, &unit, &mut second, lba, 1)?;
         assert_eq!(rt; point, k + 1);
         assert_eq!(rt; bytes.as_slice(), [byte; BLOCK].as_slice());
@@ -190,8 +190,8 @@ fn passes_that_met_have_one_history(rt: HostRuntime) -> Result<(), Fail> {
     let (unit, mut first, mut second) = two_passes(rt.alloc(), 100)?;
     let one = write(rt.alloc(), &rt, &unit, &mut first, 7, 2, 0x41)?;
     let two = write(rt.alloc(), &rt, &unit, &mut second, 9, 3, 0x42)?;
-    assert_eq!(rt; one, Changed::Done { at: 0 });
-    assert_eq!(rt; two, Changed::Done { at: 1 });
+    assert_eq!(rt; one, Changed::Done { point: 0 });
+    assert_eq!(rt; two, Changed::Done { point: 1 });
     let (point, bytes) = read(rt.alloc(), &rt, &unit, &mut first, 2, 2)?;
     assert_eq!(rt; point, 2);
     let mut both = [0x41; 2 * BLOCK];
@@ -229,7 +229,7 @@ fn a_full_unit_still_compares_pairs(rt: HostRuntime) -> Result<(), Fail> {
     let full = write(rt.alloc(), &rt, &unit, &mut second, 1, 1, 0x42)?;
     let held = pair(rt.alloc(), &rt, &unit, &mut second, 0, 0x41, 0x43)?;
     let failed = pair(rt.alloc(), &rt, &unit, &mut second, 0, 0x40, 0x43)?;
-    assert_eq!(rt; done, Changed::Done { at: 0 });
+    assert_eq!(rt; done, Changed::Done { point: 0 });
     assert_eq!(rt; full, Changed::Full { point: 1 });
     assert_eq!(rt; held, Changed::Full { point: 1 });
     let statuses = Statuses::Two(
@@ -249,11 +249,11 @@ fn a_full_unit_still_compares_pairs(rt: HostRuntime) -> Result<(), Fail> {
 fn a_refreshed_pass_has_seen_all(rt: HostRuntime) -> Result<(), Fail> {
     let (unit, mut first, mut second) = two_passes(rt.alloc(), 100)?;
     let done = write(rt.alloc(), &rt, &unit, &mut first, 0, 5, 0x41)?;
-    assert_eq!(rt; done, Changed::Done { at: 0 });
+    assert_eq!(rt; done, Changed::Done { point: 0 });
     unit.refresh(&rt, &mut second);
     assert_eq!(rt; second.entries, 1);
     let changed = write(rt.alloc(), &rt, &unit, &mut second, 1, 5, 0x42)?;
-    assert_eq!(rt; changed, Changed::Done { at: 1 });
+    assert_eq!(rt; changed, Changed::Done { point: 1 });
     Ok(())
 }
 
@@ -261,7 +261,7 @@ fn a_refreshed_pass_has_seen_all(rt: HostRuntime) -> Result<(), Fail> {
 fn a_refused_growth_leaves_the_unit(rt: HostRuntime) -> Result<(), Fail> {
     let (unit, mut first, mut second) = two_passes(rt.alloc(), 100)?;
     let done = write(rt.alloc(), &rt, &unit, &mut first, 0, 0, 0x41)?;
-    assert_eq!(rt; done, Changed::Done { at: 0 });
+    assert_eq!(rt; done, Changed::Done { point: 0 });
     let act = ActRef::Write {
         first: 0,
         blocks: 1,
@@ -270,8 +270,8 @@ fn a_refused_growth_leaves_the_unit(rt: HostRuntime) -> Result<(), Fail> {
     let changed = tried(rt.alloc(), &rt, &unit, &mut first, 1, act, &Open)?;
     let (point, bytes) = read(rt.alloc(), &rt, &unit, &mut second, 0, 1)?;
     match changed {
-        Changed::Done { at } => {
-            assert_eq!(rt; (at, point), (1, 2));
+        Changed::Done { point: found } => {
+            assert_eq!(rt; (found, point), (1, 2));
             assert_eq!(rt; bytes.as_slice(), [0x42; BLOCK].as_slice());
         }
         Changed::NoMemory { point: found } => {

@@ -18,7 +18,7 @@ use crate::seats::{deal, gather};
 use crate::steps;
 use crate::unit_fault::UnitFault;
 use nvm_record::{BlockSize, NoMemory};
-use nvm_store::laws::lawful_with_one_more;
+use nvm_store::laws::{acts_and_looks, lawful_with_one_more};
 use nvm_store::{ActRef, History, Limit, Look, Place, UnitBlocks};
 use std::alloc::Global;
 use std::marker::Model;
@@ -160,6 +160,7 @@ impl Unit {
         ensures proper { IsProperPass pass.new.view }
     {
         lawful_with_one_more();
+        acts_and_looks();
         let mut book = self.latch.hold(rt, &mut pass.token, pass.entries);
         let changed = attempt(alloc, &mut book, self.bounds.limit, pass.number, job, act);
         gate.before_put(self.number, job);

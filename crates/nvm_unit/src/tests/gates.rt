@@ -51,7 +51,7 @@ fn the_gate_is_called_once_and_under_the_hold(rt: HostRuntime) -> Result<(), Fai
         write: &[2; 512],
     };
     let done = change(rt.alloc(), &rt, &unit, &mut first, 5, zeroes, &gate)?;
-    assert_eq!(rt; done, Changed::Done { at: 0 });
+    assert_eq!(rt; done, Changed::Done { point: 0 });
     let full = change(rt.alloc(), &rt, &unit, &mut first, 5, zeroes, &gate)?;
     assert_eq!(rt; full, Changed::Full { point: 1 });
     let failed = change(rt.alloc(), &rt, &unit, &mut first, 5, failing, &gate)?;

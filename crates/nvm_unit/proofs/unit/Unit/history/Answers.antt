@@ -3,10 +3,10 @@ use Rattle.atomic_table.specs.Seated.{TableId}
 use Rattle.nvm_store.specs.HistoryEntry.{HistoryEntry}
 use Rattle.nvm_unit.specs.declared.bounds.Bounds.{Bounds}
 use Rattle.nvm_unit.specs.declared.views.PassView.{PassView}
-use Rattle.nvm_unit.specs.Alone.{only}
-use Rattle.nvm_unit.specs.Book.{Recorded}
+use Rattle.nvm_unit.specs.Inside.Seats.{only}
+use Rattle.nvm_unit.specs.Inside.Book.{Recorded}
 use Rattle.nvm_unit.specs.Passes.{PassState, UnitName, IsProperPass}
-use Rattle.nvm_unit.specs.Plays.{Sits}
+use Rattle.nvm_unit.specs.Inside.Plays.{Sits}
 use Rattle.nvm_unit.specs.Views.{looked, shown}
 use Rattle.nvm_unit.proofs.Alone.{alone, few, can_back, after_back, proper_shown, closed, only_is}
 use Rattle.nvm_unit.proofs.unit.Unit.history.Goals as goal
