@@ -8,7 +8,7 @@ ghost use Rattle.nvm_unit.specs.Passes.{IsPassOf};
 
 use crate::{Changed, Gate, Pass, Unit};
 use nvm_record::BlockSize;
-use nvm_store::{ActRef, Limit};
+use nvm_store::{ActRef, Limit, Place};
 use std::alloc::Global;
 use std::sync::Wait;
 use std::test::Fail;
@@ -21,9 +21,13 @@ fn two_passes(alloc: Global, limit: u32) -> Result<(Unit, Pass, Pass), Fail>
     ensures count { IfOk result (λ u. u.0.bounds.passes ≡ 2) }
     ensures numbers { IfOk result (λ u. (u.1.view.number ≡ 0) × (u.2.view.number ≡ 1)) }
 {
-    let size = BlockSize::new(512).ok_or("no block has 512 bytes")?;
+    let place = Place {
+        first: 0,
+        blocks: 8,
+        size: BlockSize::new(512).ok_or("no block has 512 bytes")?,
+    };
     let limit = Limit::new(limit).ok_or("there is no such limit")?;
-    let Ok((unit, mut passes)) = Unit::new(alloc, 3, 0, 8, size, 2, limit) else {
+    let Ok((unit, mut passes)) = Unit::new(alloc, 3, place, 2, limit) else {
         return Err(Fail::new("there was no memory"));
     };
     let second = passes.pop().ok_or("there is no second pass")?;

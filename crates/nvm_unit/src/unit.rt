@@ -17,7 +17,7 @@ use crate::rule::{Always, Never};
 use crate::seats::{deal, gather};
 use crate::steps;
 use crate::unit_fault::UnitFault;
-use nvm_record::{BlockSize, NoMemory};
+use nvm_record::NoMemory;
 use nvm_store::laws::{acts_and_looks, lawful_with_one_more};
 use nvm_store::{ActRef, History, Limit, Look, Place, UnitBlocks};
 use std::alloc::Global;
@@ -56,44 +56,35 @@ impl Model for Unit {
 }
 
 impl Unit {
-    /// The unit of `blocks` blocks of this size from LBA `first`, all of them zero bytes, and its passes,
-    /// which are numbered from 0. The number of the unit is what a gate is told.
+    /// The unit that lies there, with all its blocks zero bytes, and its passes, which are numbered from 0.
+    /// The number of the unit is what a gate is told.
     pub fn new(
         alloc: Global,
         number: u16,
-        first: u64,
-        blocks: u32,
-        size: BlockSize,
+        place: Place,
         passes: u16,
         limit: Limit,
     ) -> Result<(Unit, Vec<Pass>), UnitFault>
-        requires some { 0 < blocks }
-        requires low { first + blocks ≤ 65536 }
+        requires some { 0 < place.blocks }
+        requires low { place.first + place.blocks ≤ 65536 }
         ensures taken { IfOk result (λ u. IsPassCount passes) }
         ensures refused { IfErr result (IsUnitFault passes) }
-        ensures bounds { IfOk result (λ u. u.0.bounds ≡ record {
-          place = record { first = first; blocks = blocks; size = size };
-          passes = passes;
-          limit = limit;
-        }) }
+        ensures bounds { IfOk result (λ u. u.0.bounds ≡ record { place = place; passes = passes; limit = limit }) }
         ensures number { IfOk result (λ u. u.0.number ≡ number) }
         ensures passes { IfOk result (λ u. u.1.items ≡ new_passes u.0) }
     {
+        // For the proof alone: how large a limit can be.
         let _entries = limit.entries();
         if passes == 0 || passes > MOST_PASSES {
             return Err(UnitFault::Passes);
         }
-        let place = Place {
-            first,
-            blocks,
-            size,
-        };
         let bounds = Bounds {
             place,
             passes,
             limit,
         };
-        let book = Book::new(alloc, UnitBlocks::zeroed(alloc, first, blocks, size)?);
+        let blocks = UnitBlocks::zeroed(alloc, place.first, place.blocks, place.size)?;
+        let book = Book::new(alloc, blocks);
         let (desk, token) = steps::open(alloc, bounds, book)?;
         let dealt = deal(alloc, &desk, token, passes)?;
         let latch = Latch::new(desk);

@@ -5,6 +5,11 @@ use nvm_store::ActRef;
 use std::sync::atomic::{AtomicU64, Ordering};
 use std::test::Fail;
 
+/// Whether somebody holds the unit.
+fn is_held(unit: &Unit) -> bool {
+    unit.latch.desk.is_held()
+}
+
 /// Counts its calls for job 5 of unit 3 at which the unit was held.
 #[derive(Drop)]
 struct Noting<'a> {
@@ -14,7 +19,8 @@ struct Noting<'a> {
 
 impl Gate for Noting<'_> {
     fn before_put(&self, unit: u16, job: u32) {
-        if unit == 3 && job == 5 && self.unit.latch.desk.is_held() {
+        let held = is_held(self.unit);
+        if unit == 3 && job == 5 && held {
             self.calls.fetch_add(1, Ordering::SeqCst);
         }
     }
@@ -48,6 +54,6 @@ fn the_gate_is_called_once_and_under_the_hold(rt: HostRuntime) -> Result<(), Fai
     let failed = change(rt.alloc(), &rt, &unit, &mut first, failing, &gate)?;
     assert!(rt; matches!(failed, Changed::Failed { point: 1, .. }));
     assert_eq!(rt; gate.calls.load(Ordering::SeqCst), 3);
-    assert!(rt; !unit.latch.desk.is_held());
+    assert!(rt; !is_held(&unit));
     Ok(())
 }

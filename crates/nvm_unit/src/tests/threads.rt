@@ -3,7 +3,7 @@ ghost use Rattle.nvm_unit.specs.Passes.{IsPassOf};
 
 use crate::{Gate, Pass, Unit};
 use nvm_record::BlockSize;
-use nvm_store::{ActRef, Limit};
+use nvm_store::{ActRef, Limit, Place};
 use std::alloc::Global;
 use std::sync::Wait;
 use std::test::Fail;
@@ -44,10 +44,14 @@ fn change_often<R: Wait>(alloc: Global, rt: &R, unit: &Unit, pass: Pass, tries: 
 
 #[test]
 fn threads_that_wait_go_on(rt: HostRuntime) -> Result<(), Fail> {
-    let size = BlockSize::new(512).ok_or("no block has 512 bytes")?;
+    let place = Place {
+        first: 0,
+        blocks: 8,
+        size: BlockSize::new(512).ok_or("no block has 512 bytes")?,
+    };
     let limit = Limit::new(1600).ok_or("there is no such limit")?;
     let alloc = rt.alloc();
-    let Ok((unit, passes)) = Unit::new(alloc, 0, 0, 8, size, 8, limit) else {
+    let Ok((unit, passes)) = Unit::new(alloc, 0, place, 8, limit) else {
         return Err(Fail::new("there was no memory"));
     };
     let done = map_vec(
