@@ -24,7 +24,7 @@ next_left b number count lt =
 -- A new pass has seen and done nothing.
 pub newcomer_proper : (b : Bounds) (number : ℕ) → IsProperPass (newcomer b number)
 newcomer_proper b number = record {
-  seen = record { lawful = λ d i lt. absurd (omega arith); within = (omega arith); bears = λ k entry at. absurd (some-ne-none entry (sym at)) };
+  seen = record { lawful = λ i entry at. absurd (some-ne-none entry (sym at)); within = (omega arith); bears = λ k entry at. absurd (some-ne-none entry (sym at)) };
   own = refl;
   marks = (omega arith);
 }

@@ -1,6 +1,8 @@
 ghost use Rattle.std.specs.Prelude.{◌≡◌, ◌↔◌, ◌+◌, ◌≤◌, ◌<◌, IfOk, IfErr, IsTrue, length};
 ghost use Rattle.nvm_unit.specs.Ends.{IsPassCount, IsUnitFault, new_passes, AreAllPassesOf, IsWholeHistory, HasCome, views_of};
 ghost use Rattle.nvm_store.specs.ActRef.{lent_operation_of};
+ghost use Rattle.nvm_record.specs.Medium.{zero_medium};
+ghost use Rattle.nvm_store.specs.Contents.{Holds, IsUnit};
 ghost use Rattle.nvm_store.specs.Place.{IsCovered};
 ghost use Rattle.nvm_store.specs.Look.{look_operation_of};
 ghost use Rattle.nvm_unit.specs.Passes.{IsPassOf, IsProperPass};
@@ -83,8 +85,7 @@ impl Unit {
             passes,
             limit,
         };
-        let blocks = UnitBlocks::zeroed(alloc, place.first, place.blocks, place.size)?;
-        let book = Book::new(alloc, blocks);
+        let book = Book::new(alloc, blocks_of(alloc, bounds)?);
         let (desk, token) = steps::open(alloc, bounds, book)?;
         let dealt = deal(alloc, &desk, token, passes)?;
         let latch = Latch::new(desk);
@@ -236,4 +237,15 @@ impl Unit {
         one.entries = entries;
         other.entries = entries;
     }
+}
+
+/// The blocks of a new unit, all of them zero bytes.
+fn blocks_of(alloc: Global, bounds: Bounds) -> Result<UnitBlocks, NoMemory>
+    requires some { 0 < bounds.place.blocks }
+    requires low { bounds.place.first + bounds.place.blocks ≤ 65536 }
+    ensures place { IfOk result (IsUnit bounds.place) }
+    ensures zeroes { IfOk result (λ unit. Holds unit (zero_medium bounds.place.size)) }
+{
+    let place = bounds.place;
+    UnitBlocks::zeroed(alloc, place.first, place.blocks, place.size)
 }
