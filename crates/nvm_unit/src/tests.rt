@@ -30,8 +30,12 @@ fn two_passes(alloc: Global, limit: u32) -> Result<(Unit, Pass, Pass), Fail>
     let Ok((unit, mut passes)) = Unit::new(alloc, 3, place, 2, limit) else {
         return Err(Fail::new("there was no memory"));
     };
-    let second = passes.pop().ok_or("there is no second pass")?;
-    let first = passes.pop().ok_or("there is no first pass")?;
+    let Some(second) = passes.pop() else {
+        return Err(Fail::new("there is no second pass"));
+    };
+    let Some(first) = passes.pop() else {
+        return Err(Fail::new("there is no first pass"));
+    };
     Ok((unit, first, second))
 }
 
