@@ -1,5 +1,8 @@
+ghost use Rattle.std.specs.Prelude.{◌≡◌};
+
 use nvm_record::Statuses;
 use nvm_store::Answer;
+use std::alloc::AllocError;
 
 /// What [`Unit::change`](crate::Unit::change) answers. In all cases but `Done` the unit's history and
 /// blocks are unchanged.
@@ -16,12 +19,25 @@ pub enum Changed {
 }
 
 /// What [`Unit::observe`](crate::Unit::observe) answers.
-#[derive(Debug, Drop)]
+#[derive(Debug, PartialEq, Eq, Drop)]
 pub struct Observed {
     /// The number of entries on whose replay the answer rests.
     pub point: u32,
     /// The answer.
     pub answer: Answer,
+}
+
+/// A copy of it and of its data, which takes memory.
+impl Clone for Observed {
+    ghost is_clone = { λ observed copy. copy ≡ observed };
+
+    fn clone(&self) -> Result<Observed, AllocError> {
+        let answer = self.answer.clone()?;
+        Ok(Observed {
+            point: self.point,
+            answer,
+        })
+    }
 }
 
 /// Why [`Unit::observe`](crate::Unit::observe) has no answer.

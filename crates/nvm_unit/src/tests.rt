@@ -24,7 +24,7 @@ fn two_passes(alloc: Global, limit: u32) -> Result<(Unit, Pass, Pass), Fail>
     let place = Place {
         first: 0,
         blocks: 8,
-        size: BlockSize::new(512).ok_or("no block has 512 bytes")?,
+        size: BlockSize::BYTES_512,
     };
     let limit = Limit::new(limit).ok_or("there is no such limit")?;
     let Ok((unit, mut passes)) = Unit::new(alloc, 3, place, 2, limit) else {

@@ -31,7 +31,7 @@ fn each_call_once(rt: HostRuntime) -> Result<(), Fail> {
     let Answer::Payload(read) = observed.answer else {
         return Err(Fail::new("the Read failed"));
     };
-    assert_eq!(rt; read.into_vec().as_slice(), payload.as_slice());
+    assert_eq!(rt; read.as_slice(), payload.as_slice());
     unit.refresh(&rt, &mut first);
     unit.meet(&rt, &mut first, &mut second);
     let seen = unit.history(&rt, alloc, &mut second)?;

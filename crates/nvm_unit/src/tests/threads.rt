@@ -47,7 +47,7 @@ fn threads_that_wait_go_on(rt: HostRuntime) -> Result<(), Fail> {
     let place = Place {
         first: 0,
         blocks: 8,
-        size: BlockSize::new(512).ok_or("no block has 512 bytes")?,
+        size: BlockSize::BYTES_512,
     };
     let limit = Limit::new(1600).ok_or("there is no such limit")?;
     let alloc = rt.alloc();
