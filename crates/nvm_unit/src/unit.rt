@@ -6,7 +6,9 @@ ghost use Rattle.nvm_store.specs.Contents.{Holds, IsUnit};
 ghost use Rattle.nvm_store.specs.Place.{IsCovered};
 ghost use Rattle.nvm_store.specs.Look.{look_operation_of};
 ghost use Rattle.nvm_unit.specs.Passes.{IsPassOf, IsProperPass};
-ghost use Rattle.nvm_unit.specs.Replies.{Makes, Observes, IsBroughtUp, Meet};
+ghost use Rattle.nvm_store.specs.History.{replay_of};
+ghost use Rattle.nvm_unit.specs.Inside.Holding.{IsBookOf, Visits};
+ghost use Rattle.nvm_unit.specs.Replies.{AnswersLook, Makes, Observes, IsBroughtUp, Meet};
 
 use crate::attempt::{attempt, observed};
 use crate::book::Book;
@@ -15,7 +17,7 @@ use crate::gate::Gate;
 use crate::latch::Latch;
 use crate::pass::Pass;
 use crate::replies::{Changed, ObserveFault, Observed};
-use crate::rule::{Always, Never};
+use crate::rule::{Always, Decides, Never};
 use crate::seats::{deal, gather};
 use crate::steps;
 use crate::unit_fault::UnitFault;
@@ -176,11 +178,17 @@ impl Unit {
         ensures observed { Observes result pass.old.view (look_operation_of look.entry) pass.new.view }
         ensures proper { IsProperPass pass.new.view }
     {
-        let current = self.latch.hold(rt, &mut pass.token, pass.entries);
-        let observed = observed(alloc, &current, look);
-        pass.entries = current.entries() as u32;
-        self.latch.release::<Always>(&mut pass.token, current);
-        observed
+        self.visit::<Always, R, Look<'_>, Result<Observed, ObserveFault>, _>(
+            rt,
+            pass,
+            look,
+            |book: &Book, look: Look<'_>| -> Result<Observed, ObserveFault>
+                requires covered { IsCovered book.now.place (look_operation_of look) }
+                requires within { length book.now.history ≤ 4194304 }
+                ensures { AnswersLook result (length book.now.history) (look_operation_of look.entry)
+                    (replay_of book.now.place.size book.now.history) }
+            { observed(alloc, book, look) },
+        )
     }
 
     /// Brings the pass to the history that it finds. It waits for the unit, and takes no memory.
@@ -191,9 +199,7 @@ impl Unit {
         ensures up { IsBroughtUp pass.old.view pass.new.view }
         ensures proper { IsProperPass pass.new.view }
     {
-        let found = self.latch.hold(rt, &mut pass.token, pass.entries);
-        pass.entries = found.entries() as u32;
-        self.latch.release::<Never>(&mut pass.token, found);
+        self.visit::<Never, R, (), (), _>(rt, pass, (), |_book: &Book, _asked: ()| {});
     }
 
     /// Brings the pass to the history that it finds, and gives a copy of it. It waits for the unit. Where
@@ -211,11 +217,36 @@ impl Unit {
         ensures proper { IsProperPass pass.new.view }
         ensures seen { IfOk result (λ v. v.items ≡ pass.new.view.seen) }
     {
+        self.visit::<Never, R, (), Result<History, NoMemory>, _>(
+            rt,
+            pass,
+            (),
+            |book: &Book, _asked: ()| book.copy_of_history(alloc),
+        )
+    }
+
+    /// Takes the unit, lets its book be read, and puts it back as it was. `D` says whether an answer rests on
+    /// what was read.
+    fn visit<D: Decides, R: Wait, A, T, F: FnOnce(&Book, A) -> T>(
+        &self,
+        rt: &R,
+        pass: &mut Pass,
+        asked: A,
+        read: F,
+    ) -> T
+        requires of { IsPassOf self.now pass.old }
+        requires ready { (book : _) → IsBookOf self.now.bounds book.now → F.pre read book asked }
+        ensures of { IsPassOf self.now pass.new }
+        ensures number { pass.new.view.number ≡ pass.old.view.number }
+        ensures visited { Visits D.decides self.now.bounds pass.old.view pass.new.view
+            (λ pages. (book : _) × F.post read book asked result × (book.now ≡ pages)) }
+        ensures proper { IsProperPass pass.new.view }
+    {
         let book = self.latch.hold(rt, &mut pass.token, pass.entries);
-        let history = book.copy_of_history(alloc);
+        let answer = read(&book, asked);
         pass.entries = book.entries() as u32;
-        self.latch.release::<Never>(&mut pass.token, book);
-        history
+        self.latch.release::<D>(&mut pass.token, book);
+        answer
     }
 
     /// Brings both passes to one history, so that what either had seen stands in it. It waits for the

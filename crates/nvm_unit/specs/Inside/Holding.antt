@@ -1,5 +1,5 @@
 -- What a seat knows once it has waited for the unit, and once it holds it.
-use Rattle.std.specs.Prelude.{◌≡◌, ◌⊎◌, ℕ, ◌+◌, ◌*◌, ◌<◌, List, [], ◌∷◌, ◌++◌, map, length, Bool, true, false, None}
+use Rattle.std.specs.Prelude.{◌≡◌, ◌⊎◌, ℕ, ◌+◌, ◌*◌, ◌<◌, ◌≤◌, List, [], ◌∷◌, ◌++◌, map, length, Bool, true, false, None}
 use Rattle.nvm_store.specs.HistoryEntry.{HistoryEntry}
 use Rattle.nvm_store.specs.History.{CanFollow}
 use Rattle.nvm_unit.specs.declared.bounds.Bounds.{Bounds}
@@ -50,6 +50,17 @@ GivesMore book m m' =
     (p : PassView) (history : List HistoryEntry) (entry : HistoryEntry) → m ≡ holding (p ∷ []) history None
     → book ≡ recorded p.bounds (history ++ entry ∷ [])
     → m' ≡ resting (added (length history) history entry p ∷ [])
+
+-- A book that can be in hand of this unit.
+pub record IsBookOf (b : Bounds) (book : Recorded) : Type 0 where
+  pub place : book.place ≡ b.place
+  pub few : length book.history ≤ 4194304
+
+-- The pass found a history, whose book was read, and was brought to it.
+abbrev pub Visits : (ℕ → Bool) → Bounds → PassView → PassView → (Recorded → Type 0) → Type 0
+Visits decides b p q IsRead =
+    (history : List HistoryEntry) × Finds (length history) p history
+    × (q ≡ shown (decides (2 * length history + 1)) (length history) history p) × IsRead (recorded b history)
 
 -- Two passes were brought to one history, which has so many entries.
 abbrev pub HasMet : ℕ → PassView → PassView → Sits → Sits → Type 0

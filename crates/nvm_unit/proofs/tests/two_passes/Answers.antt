@@ -1,8 +1,8 @@
-use Rattle.std.proofs.Common.{◌≡◌, ℕ, List, [], ◌∷◌, ◌++◌, length, length-append, map, refl, sym, ap, ◌∙◌, arith}
+use Rattle.std.proofs.Common.{◌≡◌, ℕ, List, [], ◌∷◌, ◌++◌, length, length-append, map, sym, ap, ◌∙◌, arith}
 use Rattle.nvm_unit.specs.declared.bounds.Bounds.{Bounds}
 use Rattle.nvm_unit.specs.Ends.{pass_at, new_passes}
 use Rattle.nvm_unit.specs.Machine.{newcomers_from}
-use Rattle.nvm_unit.specs.Passes.{IsPassOf, PassState, UnitName}
+use Rattle.nvm_unit.specs.Passes.{PassState, UnitName}
 use Rattle.nvm_unit.specs.Views.{newcomer}
 use Rattle.nvm_unit.proofs.tests.two_passes.Goals as goal
 
