@@ -6,9 +6,7 @@ use Rattle.nvm_record.specs.declared.block.Block.{Block}
 use Rattle.nvm_record.specs.declared.status.Statuses.{Statuses}
 use Rattle.nvm_record.specs.Medium.{Medium}
 use Rattle.nvm_record.specs.Step.{Deed, writes, zeroes, uncorrectable, reads, compares, pairs, Operation, range_of, statuses_of, data_of, data_on}
-use Rattle.nvm_store.specs.declared.look.answer.Answer.{Answer}
-use Rattle.nvm_store.specs.declared.look.answer.Answer.TheVariants.{Payload, Status}
-use Rattle.nvm_store.specs.Answer.{IsAnswer}
+use Rattle.nvm_store.specs.Answer.{told_by, read_by}
 use Rattle.nvm_store.specs.History.{replay_of}
 use Rattle.nvm_store.specs.HistoryEntry.{HistoryEntry}
 use Rattle.nvm_record.specs.Deeds.{FailsOn}
@@ -19,7 +17,7 @@ use Rattle.nvm_unit.specs.declared.replies.Observed.{Observed}
 use Rattle.nvm_unit.specs.declared.replies.ObserveFault.{ObserveFault}
 use Rattle.nvm_unit.specs.declared.views.PassView.{PassView}
 use Rattle.nvm_record.specs.Lists.{IsAt}
-use Rattle.nvm_unit.specs.Replies.{AnswersChange, AnswersLook, Makes, Observes, pass_after, entry_of_job, told_by, read_by}
+use Rattle.nvm_unit.specs.Replies.{AnswersChange, AnswersLook, Makes, Observes, pass_after, entry_of_job}
 use Rattle.nvm_unit.specs.Views.{Begins}
 use Rattle.atomic_table.proofs.Lists.{at_longer, at_last}
 
@@ -95,10 +93,6 @@ look_rests answer p q op history observes begins =
       subst (λ (x : Medium). AnswersLook answer (length found) op x) (sym (point_at p.bounds.place.size found history front)) observes.2,
     )
 
-answer_told : (op : Operation) (m : Medium) (a : Answer) → IsAnswer op m a → (told_by a ≡ statuses_of op m) × (read_by a ≡ data_of op m)
-answer_told op m (Payload bytes) is = (sym is.0, sym is.1)
-answer_told op m (Status status) is = (sym is.0, sym is.1)
-
 pub observed_rests : (observed : Observed) (p q : PassView) (op : Operation) (history : List HistoryEntry) → Observes (Ok observed) p op q → Begins q.seen history
     → RestsOn p.bounds.place.size history observed.point op (told_by observed.answer) (read_by observed.answer)
 observed_rests observed p q op history observes begins =
@@ -106,7 +100,7 @@ observed_rests observed p q op history observes begins =
     let answers = rests.2 in
     let same : rests.0 ≡ observed.point = sym answers.0 in
     let within : rests.0 ≤ length history = rests.1 in
-    let told = answer_told op (point p.bounds.place.size history rests.0) observed.answer answers.1 in
+    let told = answers.1 in
     record {
       within = omega arith;
       statuses = told.0 ∙ ap (λ (k : ℕ). statuses_of op (point p.bounds.place.size history k)) same;

@@ -1,13 +1,9 @@
 -- What a call answers, and what its pass has seen and done then. The call's deciding step finds a history, of
 -- as many entries as the answer's point: the answer is that of the step there.
-use Rattle.std.specs.Prelude.{◌≡◌, ℕ, ◌<◌, List, [], ◌∷◌, ◌++◌, length, if◌then◌else◌, Bool, true, false, Option, Some, None, Ok, Err, Result, IsSome}
+use Rattle.std.specs.Prelude.{◌≡◌, ℕ, ◌<◌, List, [], ◌∷◌, ◌++◌, length, if◌then◌else◌, Bool, true, false, Ok, Err, Result, IsSome}
 use Rattle.nvm_record.specs.Medium.{Medium}
-use Rattle.nvm_record.specs.declared.status.Statuses.{Statuses}
-use Rattle.nvm_record.specs.declared.status.Statuses.TheVariants.{One}
-use Rattle.nvm_record.specs.Status.{IsSuccess, successful_completion}
+use Rattle.nvm_record.specs.Status.{IsSuccess}
 use Rattle.nvm_record.specs.Step.{Operation, statuses_of, data_of}
-use Rattle.nvm_store.specs.declared.look.answer.Answer.{Answer}
-use Rattle.nvm_store.specs.declared.look.answer.Answer.TheVariants.{Payload, Status}
 use Rattle.nvm_store.specs.Answer.{IsAnswer}
 use Rattle.nvm_store.specs.History.{replay_of}
 use Rattle.nvm_store.specs.HistoryEntry.{HistoryEntry}
@@ -80,15 +76,6 @@ Observes answer p op q =
     (history : List HistoryEntry) × Finds (length history) p history
     × AnswersLook answer (length history) op (medium_at p.bounds history)
     × (q ≡ shown true (length history) history p)
-
--- the statuses that an answer to a look tells, and the data that it gives
-abbrev pub told_by : Answer → Statuses
-told_by (Payload bytes) = One successful_completion
-told_by (Status status) = One status
-
-abbrev pub read_by : Answer → Option (List ℕ)
-read_by (Payload bytes) = Some bytes
-read_by (Status status) = None
 
 -- The pass was brought to the history that a step found, with no mark.
 abbrev pub IsBroughtUp : PassView → PassView → Type 0

@@ -3,6 +3,7 @@
 ghost use Rattle.std.specs.Prelude.{◌≡◌, ◌≤◌, ℕ, List, length, true, Result, Ok, None};
 ghost use Rattle.nvm_record.specs.declared.status.Statuses.{Statuses};
 ghost use Rattle.nvm_record.specs.Step.{Operation};
+ghost use Rattle.nvm_store.specs.Answer.{told_by, read_by};
 ghost use Rattle.nvm_store.specs.HistoryEntry.{HistoryEntry};
 ghost use Rattle.nvm_store.specs.Point.{point, RestsOn};
 ghost use Rattle.nvm_unit.specs.declared.bounds.Bounds.{Bounds as UnitBounds};
@@ -35,8 +36,6 @@ ghost use Rattle.nvm_unit.specs.Replies.{
   medium_at,
   pass_after,
   point_of,
-  told_by,
-  read_by,
 };
 ghost use Rattle.nvm_unit.specs.Views.{Begins, entries_by, newcomer, shown};
 

@@ -2,7 +2,7 @@ ghost use Rattle.std.specs.Prelude.{◌≡◌, ◌↔◌, ◌+◌, ◌≤◌, �
 ghost use Rattle.nvm_unit.specs.Ends.{IsPassCount, IsUnitFault, new_passes, AreAllPassesOf, IsWholeHistory, HasCome, views_of};
 ghost use Rattle.nvm_store.specs.ActRef.{lent_operation_of};
 ghost use Rattle.nvm_record.specs.Medium.{zero_medium};
-ghost use Rattle.nvm_store.specs.Contents.{Holds, IsUnit};
+ghost use Rattle.nvm_store.specs.Contents.{Holds, LiesAt};
 ghost use Rattle.nvm_store.specs.Place.{IsCovered};
 ghost use Rattle.nvm_store.specs.Look.{look_operation_of};
 ghost use Rattle.nvm_unit.specs.Passes.{IsPassOf, IsProperPass};
@@ -274,7 +274,7 @@ impl Unit {
 fn blocks_of(alloc: Global, bounds: Bounds) -> Result<UnitBlocks, NoMemory>
     requires some { 0 < bounds.place.blocks }
     requires low { bounds.place.first + bounds.place.blocks ≤ 65536 }
-    ensures place { IfOk result (IsUnit bounds.place) }
+    ensures place { IfOk result (LiesAt bounds.place) }
     ensures zeroes { IfOk result (λ unit. Holds unit (zero_medium bounds.place.size)) }
 {
     let place = bounds.place;
