@@ -4,15 +4,15 @@ use nvm_record::Statuses;
 use nvm_store::Answer;
 use std::alloc::AllocError;
 
-/// What [`Unit::change`](crate::Unit::change) answers. In all cases but `Done` the unit's history and
-/// blocks are unchanged.
+/// What [`Unit::change`](crate::Unit::change) answers. The point is the number of entries on whose replay
+/// the answer rests. In all cases but `Done` the unit's history and blocks are unchanged.
 #[derive(Clone, Copy, Debug, PartialEq, Eq)]
 pub enum Changed {
-    /// The act was done at this point. Its entry stands at the place of that number in the history.
+    /// The act was done. So many entries stand before its own.
     Done { point: u32 },
-    /// The act is a pair, and its comparison failed at this point.
+    /// The act is a pair whose comparison failed, with these statuses.
     Failed { point: u32, statuses: Statuses },
-    /// Memory was asked for and refused. The act would have been done at this point.
+    /// Memory was asked for and refused. The act would have been done.
     NoMemory { point: u32 },
     /// The history is at its limit, which is the point. The act isn't a pair whose comparison fails there.
     Full { point: u32 },

@@ -60,8 +60,9 @@ impl Model for Unit {
 }
 
 impl Unit {
-    /// The unit that lies there, with all its blocks zero bytes, and its passes, which are numbered from 0.
-    /// The number of the unit is what a gate is told.
+    /// A new unit in this place, whose blocks are all zero bytes, and its passes, which are numbered from 0.
+    /// A gate is told the unit's number. `Passes` says that there can't be so many passes; a refusal of
+    /// memory leaves nothing.
     pub fn new(
         alloc: Global,
         number: u16,
