@@ -15,10 +15,10 @@ use Rattle.nvm_record.specs.Lists.{IsAt}
 use Rattle.nvm_unit.specs.Events as events
 use Rattle.nvm_unit.specs.Events.{Event, loads, misses, Happens, IsReached, number_found, idle, CanStep, CanAdd, after_look, after_take, after_put, after_return}
 use Rattle.nvm_unit.specs.Knowledge.{IsKnown}
-use Rattle.nvm_unit.specs.Book.{Recorded, recorded}
+use Rattle.nvm_unit.specs.Inside.Book.{Recorded, recorded}
 use Rattle.nvm_unit.specs.Passes.{IsHistoryOf}
-use Rattle.nvm_unit.specs.Rule.{slots_of, table_of, IsRuled}
-use Rattle.nvm_unit.specs.Plays.{Sits, EachIn, IsNotAbove, Fits, HasLooked, WasEvent, looks, tries}
+use Rattle.nvm_unit.specs.Inside.Rule.{slots_of, table_of, IsRuled}
+use Rattle.nvm_unit.specs.Inside.Plays.{Sits, EachIn, IsNotAbove, Fits, HasLooked, WasEvent, looks, tries}
 use Rattle.nvm_unit.proofs.Groups.{numbered_below}
 use Rattle.nvm_unit.proofs.Histories.{begins_length}
 use Rattle.nvm_unit.proofs.Keeping.{found_is, free_is, keeps_look, keeps_take}
@@ -65,7 +65,7 @@ history_of b s kept =
     record {
       lawful = kept.sound.hold.lawful;
       within = kept.sound.hold.within;
-      bears = λ k line at. numbered_below b.passes kept.place s.groups kept.placed line.pass (kept.sound.marks.bears k line at);
+      bears = λ k entry at. numbered_below b.passes kept.spot s.groups kept.placed entry.pass (kept.sound.marks.bears k entry at);
     }
 
 -- What holds of the passes of a group.

@@ -3,11 +3,8 @@ use Rattle.std.proofs.Common.{◌≡◌, ◌⊎◌, ℕ, ◌+◌, ◌*◌, ◌<�
 use Rattle.atomic_table.proofs.Lists.{at_snoc}
 use Rattle.std.proofs.lemmas.List.{length-append}
 use Rattle.nvm_record.specs.Step.{Operation}
-use Rattle.nvm_store.specs.ActRef.{lent_operation_of}
-use Rattle.nvm_store.specs.declared.act_ref.ActRef.{ActRef}
-use Rattle.nvm_store.specs.declared.act_ref.ActRef.TheVariants.{Write, Zeroes, Uncorrectable, Pair}
 use Rattle.nvm_store.specs.Place.{IsCovered}
-use Rattle.nvm_unit.specs.Events.{IsAct}
+use Rattle.nvm_record.specs.Deeds.{IsAct}
 use Rattle.nvm_store.specs.History.{IsLawfulHistory, replay_of}
 use Rattle.nvm_store.specs.Limit.{IsLimit}
 use Rattle.nvm_store.specs.HistoryEntry.{HistoryEntry}
@@ -15,12 +12,13 @@ use Rattle.nvm_unit.specs.declared.bounds.Bounds.{Bounds}
 use Rattle.nvm_unit.specs.declared.views.PassView.{PassView}
 use Rattle.nvm_unit.specs.declared.replies.Changed.{Changed}
 use Rattle.nvm_unit.specs.declared.replies.Changed.TheVariants.{Done, Failed, NoMemory, Full}
-use Rattle.nvm_unit.specs.Alone.{only}
-use Rattle.nvm_unit.specs.Book.{Recorded, recorded}
-use Rattle.nvm_unit.specs.Holding.{HasHeld, CanGiveBack, CanGiveMore, GivesBack, GivesMore}
+use Rattle.nvm_unit.specs.Inside.Seats.{only}
+use Rattle.nvm_unit.specs.Inside.Attempt.{Attempts}
+use Rattle.nvm_unit.specs.Inside.Book.{Recorded, recorded}
+use Rattle.nvm_unit.specs.Inside.Holding.{HasHeld, CanGiveBack, CanGiveMore, GivesBack, GivesMore}
 use Rattle.nvm_unit.specs.Passes.{BearsNumbers, Finds, IsHistoryOf, IsProperPass}
-use Rattle.nvm_unit.specs.Plays.{Sits, resting, holding, Fits}
-use Rattle.nvm_unit.specs.Replies.{AnswersChange, AnswersLook, Attempts, Makes, Observes, history_after, pass_after, entry_of_job, medium_at}
+use Rattle.nvm_unit.specs.Inside.Plays.{Sits, resting, holding, Fits}
+use Rattle.nvm_unit.specs.Replies.{AnswersChange, AnswersLook, Makes, Observes, history_after, pass_after, entry_of_job, medium_at}
 use Rattle.nvm_unit.specs.declared.replies.Observed.{Observed}
 use Rattle.nvm_unit.specs.declared.replies.ObserveFault.{ObserveFault}
 use Rattle.nvm_unit.specs.Views.{looked, shown, added}
@@ -110,9 +108,9 @@ covers_same b b' h book p m op a same covered =
     (subst (λ (x : Bounds). IsCovered x.place op) (sym same ∙ a.bounds) covered)
 
 -- One entry more, which bears the number of a pass.
-bears_more : (count : ℕ) (h : List HistoryEntry) (line : HistoryEntry) → BearsNumbers count h → line.pass < count → BearsNumbers count (h ++ line ∷ [])
-bears_more count h line bears lt k x at =
-    elim (at_snoc h line x k at) [
+bears_more : (count : ℕ) (h : List HistoryEntry) (entry : HistoryEntry) → BearsNumbers count h → entry.pass < count → BearsNumbers count (h ++ entry ∷ [])
+bears_more count h entry bears lt k x at =
+    elim (at_snoc h entry x k at) [
       | inl before ↦ bears k x before
       | inr last ↦ subst (λ (y : HistoryEntry). y.pass < count) last lt
     ]
@@ -128,45 +126,37 @@ observes r op b h book p q m a is answers = (
 )
 
 -- What the attempt answered, told of the history in hand.
-answers_here : (changed : Changed) (b : Bounds) (h : List HistoryEntry) (book book' : Recorded) (p : PassView) (line : HistoryEntry) (m : Sits) → HoldsAlone b h book p m
-    → Attempts changed p.bounds.limit line book book' → AnswersChange changed (length h) p.bounds.limit line.operation (medium_at p.bounds h)
-answers_here changed b h book book' p line m a done =
-    subst (λ (x : Bounds). AnswersChange changed (length h) p.bounds.limit line.operation (medium_at x h)) (sym a.bounds)
-    (subst (λ (x : Recorded). AnswersChange changed (length x.history) p.bounds.limit line.operation (replay_of x.place.size x.history)) a.pages done.0)
+answers_here : (changed : Changed) (b : Bounds) (h : List HistoryEntry) (book book' : Recorded) (p : PassView) (entry : HistoryEntry) (m : Sits) → HoldsAlone b h book p m
+    → Attempts changed p.bounds.limit entry book book' → AnswersChange changed (length h) p.bounds.limit entry.operation (medium_at p.bounds h)
+answers_here changed b h book book' p entry m a done =
+    subst (λ (x : Bounds). AnswersChange changed (length h) p.bounds.limit entry.operation (medium_at x h)) (sym a.bounds)
+    (subst (λ (x : Recorded). AnswersChange changed (length x.history) p.bounds.limit entry.operation (replay_of x.place.size x.history)) a.pages done.0)
 
 -- The book after it.
-pages_after : (changed : Changed) (b : Bounds) (h : List HistoryEntry) (book book' : Recorded) (p : PassView) (line : HistoryEntry) (m : Sits) → HoldsAlone b h book p m
-    → Attempts changed p.bounds.limit line book book' → book' ≡ recorded p.bounds (history_after changed h line)
-pages_after changed b h book book' p line m a done =
+pages_after : (changed : Changed) (b : Bounds) (h : List HistoryEntry) (book book' : Recorded) (p : PassView) (entry : HistoryEntry) (m : Sits) → HoldsAlone b h book p m
+    → Attempts changed p.bounds.limit entry book book' → book' ≡ recorded p.bounds (history_after changed h entry)
+pages_after changed b h book book' p entry m a done =
     done.1
-    ∙ (ap (λ (x : Recorded). let y : Recorded = record { place = x.place; history = history_after changed x.history line } in y) a.pages
-    ∙ ap (λ (x : Bounds). recorded x (history_after changed h line)) (sym a.bounds))
-
--- What is lent to a change is an act.
-pub act_is : (act : ActRef) → IsAct (lent_operation_of act).deed
-act_is (Write first blocks payload) = tt
-act_is (Zeroes first blocks) = tt
-act_is (Uncorrectable first blocks) = tt
-act_is (Pair first blocks compare write) = tt
+    ∙ (ap (λ (x : Recorded). let y : Recorded = record { place = x.place; history = history_after changed x.history entry } in y) a.pages
+    ∙ ap (λ (x : Bounds). recorded x (history_after changed h entry)) (sym a.bounds))
 
 -- The unit can be put back whatever the attempt came to.
 pub attempt_ready : (changed : Changed) (b : Bounds) (h : List HistoryEntry) (book book' : Recorded) (p : PassView) (job : ℕ) (op : Operation) (m : Sits) → HoldsAlone b h book p m
     → IsAct op.deed → IsCovered p.bounds.place op → Attempts changed p.bounds.limit (entry_of_job p job op) book book'
     → ((ps : List PassView) × (history : List HistoryEntry) × (b : Bounds) × CanGiveBack (λ _. true) book' m ps history b)
-    ⊎ ((p : PassView) × (history : List HistoryEntry) × (line : HistoryEntry) × CanGiveMore book' m p history line)
-attempt_ready (Done place) b h book book' p job op m a act covered done =
-    let line = entry_of_job p job op in
-    let answers = answers_here (Done place) b h book book' p line m a done in
+    ⊎ ((p : PassView) × (history : List HistoryEntry) × (entry : HistoryEntry) × CanGiveMore book' m p history entry)
+attempt_ready (Done point) b h book book' p job op m a act covered done =
+    let entry = entry_of_job p job op in
+    let answers = answers_here (Done point) b h book book' p entry m a done in
     inr (
       looked false (length h) p,
       h,
-      line,
+      entry,
       record {
         at = a.at;
-        pages = pages_after (Done place) b h book book' p line m a done;
-        act = act;
+        pages = pages_after (Done point) b h book book' p entry m a done;
         number = refl;
-        follows = record { covered = covered; succeeds = answers.2 };
+        follows = record { act = act; covered = covered; succeeds = answers.2 };
         room = answers.1;
       },
     )
@@ -200,34 +190,34 @@ ends_as_before changed b h book book' p job op m m' a same answers is proper bac
     }
 
 pub attempt_ends : FollowsLawfully → (changed : Changed) (b : Bounds) (h : List HistoryEntry) (book book' : Recorded) (p : PassView) (job : ℕ) (op : Operation) (m m' : Sits) → HoldsAlone b h book p m
-    → IsCovered p.bounds.place op → Attempts changed p.bounds.limit (entry_of_job p job op) book book' → IsProperPass p
+    → IsAct op.deed → IsCovered p.bounds.place op → Attempts changed p.bounds.limit (entry_of_job p job op) book book' → IsProperPass p
     → GivesBack (λ _. true) book' m m' → GivesMore book' m m' → Ends changed p job op book' m'
-attempt_ends law (Done place) b h book book' p job op m m' a covered done proper back more =
-    let line = entry_of_job p job op in
-    let pages = pages_after (Done place) b h book book' p line m a done in
-    let answers = answers_here (Done place) b h book book' p line m a done in
+attempt_ends law (Done point) b h book book' p job op m m' a act covered done proper back more =
+    let entry = entry_of_job p job op in
+    let pages = pages_after (Done point) b h book book' p entry m a done in
+    let answers = answers_here (Done point) b h book book' p entry m a done in
     let room : length h < p.bounds.limit = answers.1 in
     let u = p.bounds.place in
-    let lawful : IsLawfulHistory u (h ++ line ∷ []) = law u h line a.finds.lawful.lawful (record { covered = covered; succeeds = answers.2 }) in
-    let longer : length (h ++ line ∷ []) ≡ length h + 1 = length-append h (line ∷ []) in
+    let lawful : IsLawfulHistory u (h ++ entry ∷ []) = law u h entry a.finds.lawful.lawful (record { act = act; covered = covered; succeeds = answers.2 }) in
+    let longer : length (h ++ entry ∷ []) ≡ length h + 1 = length-append h (entry ∷ []) in
     record {
-      view = added (length h) h line p;
-      at = more (looked false (length h) p) h line a.at pages;
+      view = added (length h) h entry p;
+      at = more (looked false (length h) p) h entry a.at pages;
       makes = (h, a.finds, answers, refl);
       proper = record {
-        seen = record { lawful = lawful; within = (omega arith); bears = bears_more p.bounds.passes h line a.finds.lawful.bears a.number };
-        own = entries_more p.number h line refl ∙ ap (λ (x : List (ℕ × HistoryEntry)). x ++ (length h, line) ∷ []) a.finds.mine;
+        seen = record { lawful = lawful; within = (omega arith); bears = bears_more p.bounds.passes h entry a.finds.lawful.bears a.number };
+        own = entries_more p.number h entry refl ∙ ap (λ (x : List (ℕ × HistoryEntry)). x ++ (length h, entry) ∷ []) a.finds.mine;
         marks = rise_more 0 p.marks p.floor (length h) proper.marks a.finds.floor;
       };
       count = ap (λ (x : Recorded). length x.history) pages;
       number = refl;
       bounds = refl;
     }
-attempt_ends law (Failed point statuses) b h book book' p job op m m' a covered done proper back more =
+attempt_ends law (Failed point statuses) b h book book' p job op m m' a act covered done proper back more =
     ends_as_before (Failed point statuses) b h book book' p job op m m' a done.1 (answers_here (Failed point statuses) b h book book' p (entry_of_job p job op) m a done) refl proper back
-attempt_ends law (NoMemory point) b h book book' p job op m m' a covered done proper back more =
+attempt_ends law (NoMemory point) b h book book' p job op m m' a act covered done proper back more =
     ends_as_before (NoMemory point) b h book book' p job op m m' a done.1 (answers_here (NoMemory point) b h book book' p (entry_of_job p job op) m a done) refl proper back
-attempt_ends law (Full point) b h book book' p job op m m' a covered done proper back more =
+attempt_ends law (Full point) b h book book' p job op m m' a act covered done proper back more =
     ends_as_before (Full point) b h book book' p job op m m' a done.1 (answers_here (Full point) b h book book' p (entry_of_job p job op) m a done) refl proper back
 
 -- The attempt, told of the pass as contracts see it.
@@ -245,22 +235,22 @@ within_limit b b' h book p m a same =
     omega arith
 
 -- The history stays within the limit.
-pub attempt_within : (changed : Changed) (b : Bounds) (h : List HistoryEntry) (book book' : Recorded) (p : PassView) (line : HistoryEntry) (m : Sits) → HoldsAlone b h book p m
-    → Attempts changed p.bounds.limit line book book' → length book'.history ≤ p.bounds.limit
-attempt_within (Done place) b h book book' p line m a done =
-    let pages : length book'.history ≡ length (book.history ++ line ∷ []) = ap (λ (x : Recorded). length x.history) done.1 in
-    let longer : length (book.history ++ line ∷ []) ≡ length book.history + 1 = length-append book.history (line ∷ []) in
+pub attempt_within : (changed : Changed) (b : Bounds) (h : List HistoryEntry) (book book' : Recorded) (p : PassView) (entry : HistoryEntry) (m : Sits) → HoldsAlone b h book p m
+    → Attempts changed p.bounds.limit entry book book' → length book'.history ≤ p.bounds.limit
+attempt_within (Done point) b h book book' p entry m a done =
+    let pages : length book'.history ≡ length (book.history ++ entry ∷ []) = ap (λ (x : Recorded). length x.history) done.1 in
+    let longer : length (book.history ++ entry ∷ []) ≡ length book.history + 1 = length-append book.history (entry ∷ []) in
     let room : length book.history < p.bounds.limit = done.0.1 in
     omega arith
-attempt_within (Failed point statuses) b h book book' p line m a done =
+attempt_within (Failed point statuses) b h book book' p entry m a done =
     let same : length book'.history ≡ length book.history = ap (λ (x : Recorded). length x.history) done.1 in
     let within = within_limit b p.bounds h book p m a refl in
     omega arith
-attempt_within (NoMemory point) b h book book' p line m a done =
+attempt_within (NoMemory point) b h book book' p entry m a done =
     let same : length book'.history ≡ length book.history = ap (λ (x : Recorded). length x.history) done.1 in
     let within = within_limit b p.bounds h book p m a refl in
     omega arith
-attempt_within (Full point) b h book book' p line m a done =
+attempt_within (Full point) b h book book' p entry m a done =
     let same : length book'.history ≡ length book.history = ap (λ (x : Recorded). length x.history) done.1 in
     let within = within_limit b p.bounds h book p m a refl in
     omega arith

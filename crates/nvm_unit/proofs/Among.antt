@@ -36,49 +36,49 @@ before_back true entry rest zero e at = inl (refl, some-injective entry e at)
 before_back true entry rest (suc i) e at = inr (i, at)
 before_back false entry rest i e at = inr (i, at)
 
-among_from : (from pass : ℕ) (history : List HistoryEntry) (k : ℕ) (line : HistoryEntry) → line.pass ≡ pass → IsAt history k line
-    → (i : ℕ) × IsAt (entries_by_from from pass history) i (from + k, line)
-among_from from pass [] k line bears at = absurd (some-ne-none line (sym at))
-among_from from pass (x ∷ xs) zero line bears at =
-    let same : x ≡ line = some-injective x line at in
+among_from : (from pass : ℕ) (history : List HistoryEntry) (k : ℕ) (entry : HistoryEntry) → entry.pass ≡ pass → IsAt history k entry
+    → (i : ℕ) × IsAt (entries_by_from from pass history) i (from + k, entry)
+among_from from pass [] k entry bears at = absurd (some-ne-none entry (sym at))
+among_from from pass (x ∷ xs) zero entry bears at =
+    let same : x ≡ entry = some-injective x entry at in
     let place : from + 0 ≡ from = omega arith in
     let is : (x.pass == pass) ≡ true = eq-eqb x.pass pass (ap (λ (l : HistoryEntry). l.pass) same ∙ bears) in
     let here : IsAt (entries_by_from from pass (x ∷ xs)) 0 (from, x) = before_here (x.pass == pass) (from, x) (entries_by_from (suc from) pass xs) is in
     (0, subst (λ (l : HistoryEntry). IsAt (entries_by_from from pass (x ∷ xs)) 0 (from + 0, l)) same (rw place here))
-among_from from pass (x ∷ xs) (suc k) line bears at =
-    let rest = among_from (suc from) pass xs k line bears at in
+among_from from pass (x ∷ xs) (suc k) entry bears at =
+    let rest = among_from (suc from) pass xs k entry bears at in
     let place : suc from + k ≡ from + suc k = omega arith in
-    before_there (x.pass == pass) (from, x) (entries_by_from (suc from) pass xs) rest.0 (from + suc k, line)
-    (subst (λ (n : ℕ). IsAt (entries_by_from (suc from) pass xs) rest.0 (n, line)) place rest.1)
+    before_there (x.pass == pass) (from, x) (entries_by_from (suc from) pass xs) rest.0 (from + suc k, entry)
+    (subst (λ (n : ℕ). IsAt (entries_by_from (suc from) pass xs) rest.0 (n, entry)) place rest.1)
 
-pub entry_among : (history : List HistoryEntry) (k : ℕ) (line : HistoryEntry) → IsAt history k line → (i : ℕ) × IsAt (entries_by line.pass history) i (k, line)
-entry_among history k line at =
-    let one = among_from 0 line.pass history k line refl at in
+pub entry_among : (history : List HistoryEntry) (k : ℕ) (entry : HistoryEntry) → IsAt history k entry → (i : ℕ) × IsAt (entries_by entry.pass history) i (k, entry)
+entry_among history k entry at =
+    let one = among_from 0 entry.pass history k entry refl at in
     let place : 0 + k ≡ k = omega arith in
-    (one.0, subst (λ (n : ℕ). IsAt (entries_by line.pass history) one.0 (n, line)) place one.1)
+    (one.0, subst (λ (n : ℕ). IsAt (entries_by entry.pass history) one.0 (n, entry)) place one.1)
 
-back_from : (from pass : ℕ) (history : List HistoryEntry) (i n : ℕ) (line : HistoryEntry) → IsAt (entries_by_from from pass history) i (n, line)
-    → (k : ℕ) × (n ≡ from + k) × IsAt history k line × (line.pass ≡ pass)
-back_from from pass [] i n line at = let e : Placed = (n, line) in absurd (some-ne-none e (sym at))
-back_from from pass (x ∷ xs) i n line at =
-    elim (before_back (x.pass == pass) (from, x) (entries_by_from (suc from) pass xs) i (n, line) at) [
+back_from : (from pass : ℕ) (history : List HistoryEntry) (i n : ℕ) (entry : HistoryEntry) → IsAt (entries_by_from from pass history) i (n, entry)
+    → (k : ℕ) × (n ≡ from + k) × IsAt history k entry × (entry.pass ≡ pass)
+back_from from pass [] i n entry at = let e : Placed = (n, entry) in absurd (some-ne-none e (sym at))
+back_from from pass (x ∷ xs) i n entry at =
+    elim (before_back (x.pass == pass) (from, x) (entries_by_from (suc from) pass xs) i (n, entry) at) [
       | inl here ↦
-          let same : x ≡ line = ap (λ (e : Placed). e.1) here.1 in
+          let same : x ≡ entry = ap (λ (e : Placed). e.1) here.1 in
           let place : from ≡ n = ap (λ (e : Placed). e.0) here.1 in
-          let bears : line.pass ≡ pass = ap (λ (l : HistoryEntry). l.pass) (sym same) ∙ eqb-true x.pass pass here.0 in
+          let bears : entry.pass ≡ pass = ap (λ (l : HistoryEntry). l.pass) (sym same) ∙ eqb-true x.pass pass here.0 in
           (0, omega arith, ap (λ (l : HistoryEntry). some l) same, bears)
       | inr there ↦
-          let rest = back_from (suc from) pass xs there.0 n line there.1 in
+          let rest = back_from (suc from) pass xs there.0 n entry there.1 in
           let place : n ≡ suc from + rest.0 = rest.1 in
           (suc rest.0, omega arith, rest.2, rest.3)
     ]
 
-pub entry_stands : (pass : ℕ) (history : List HistoryEntry) (i k : ℕ) (line : HistoryEntry) → IsAt (entries_by pass history) i (k, line)
-    → IsAt history k line × (line.pass ≡ pass)
-entry_stands pass history i k line at =
-    let one = back_from 0 pass history i k line at in
+pub entry_stands : (pass : ℕ) (history : List HistoryEntry) (i k : ℕ) (entry : HistoryEntry) → IsAt (entries_by pass history) i (k, entry)
+    → IsAt history k entry × (entry.pass ≡ pass)
+entry_stands pass history i k entry at =
+    let one = back_from 0 pass history i k entry at in
     let place : one.0 ≡ k = let is : k ≡ 0 + one.0 = one.1 in omega arith in
-    (subst (λ (n : ℕ). IsAt history n line) place one.2, one.3)
+    (subst (λ (n : ℕ). IsAt history n entry) place one.2, one.3)
 
 -- Behind what the pass had seen stands nothing, where each entry is its own.
 none_behind : (p : PassView) (history rest : List HistoryEntry) → p.bounds.passes ≡ 1 → p.number ≡ 0 → IsProperPass p → Finds (length history) p history

@@ -8,13 +8,14 @@ use Rattle.nvm_store.specs.HistoryEntry.{HistoryEntry}
 use Rattle.nvm_unit.specs.declared.bounds.Bounds.{Bounds}
 use Rattle.nvm_unit.specs.declared.views.PassView.{PassView}
 use Rattle.nvm_unit.specs.declared.views.Group.{Group}
-use Rattle.nvm_unit.specs.Book.{Recorded, recorded}
-use Rattle.nvm_unit.specs.Ends.{AreAllViews, HasCome, IsWholeHistory}
+use Rattle.nvm_unit.specs.Inside.Book.{Recorded, recorded}
+use Rattle.nvm_unit.specs.Ends.{HasCome, IsWholeHistory}
+use Rattle.nvm_unit.specs.Inside.Seats.{AreAllViews}
 use Rattle.nvm_unit.specs.Events.{idle}
 use Rattle.nvm_unit.specs.Knowledge.{IsKnown}
 use Rattle.nvm_unit.specs.Machine.{UnitState, StandsAt, RestsAs}
 use Rattle.nvm_record.specs.Lists.{IsAt}
-use Rattle.nvm_unit.specs.Rule.{slots_of, IsRuled}
+use Rattle.nvm_unit.specs.Inside.Rule.{slots_of, IsRuled}
 use Rattle.nvm_unit.proofs.Allowed.{history_of, fitting}
 use Rattle.nvm_unit.proofs.Alone.{finds_of}
 use Rattle.nvm_unit.proofs.Lists.{at_one}
@@ -40,7 +41,7 @@ unheld b s kept id ps at all (Some j) is =
     let mine : StandsAt s.groups id q.0.number p.0 = record { group = idle ps; at = at; inside = p.1 } in
     let number : p.0.number ≡ q.0.number = all.each q.0.number p.0 p.1 in
     let place : id ≡ j =
-    ap (λ (x : ℕ × ℕ). x.0) (sym (kept.placed.here id q.0.number p.0 mine) ∙ (ap kept.place number ∙ kept.placed.here j 0 q.0 stands)) in
+    ap (λ (x : ℕ × ℕ). x.0) (sym (kept.placed.here id q.0.number p.0 mine) ∙ (ap kept.spot number ∙ kept.placed.here j 0 q.0 stands)) in
     let same : idle ps ≡ held.0 = at_one s.groups j (idle ps) held.0 (subst (λ (k : ℕ). IsAt s.groups k (idle ps)) place at) held.1 in
     let nothing : None ≡ Some s.history = ap (λ (g : Group). g.held) same ∙ held.2 in
     absurd (cc)

@@ -5,7 +5,8 @@ use Rattle.atomic_table.specs.Seated.{TableId}
 use Rattle.atomic_table.proofs.Lists.{at_index, at_longer, at_last}
 use Rattle.nvm_unit.specs.declared.bounds.Bounds.{Bounds}
 use Rattle.nvm_unit.specs.declared.views.PassView.{PassView}
-use Rattle.nvm_unit.specs.Ends.{pass_at, new_passes, views_of, AreAllPassesOf, AreAllViews}
+use Rattle.nvm_unit.specs.Ends.{pass_at, new_passes, views_of, AreAllPassesOf}
+use Rattle.nvm_unit.specs.Inside.Seats.{AreAllViews}
 use Rattle.nvm_unit.specs.Machine.{newcomers, newcomers_from}
 use Rattle.nvm_record.specs.Lists.{IsAt}
 use Rattle.nvm_unit.specs.Passes.{IsPassOf, PassState, UnitName, IsProperPass}
@@ -23,7 +24,7 @@ next_left b number count lt =
 -- A new pass has seen and done nothing.
 pub newcomer_proper : (b : Bounds) (number : ℕ) → IsProperPass (newcomer b number)
 newcomer_proper b number = record {
-  seen = record { lawful = λ d i lt. absurd (omega arith); within = (omega arith); bears = λ k line at. absurd (some-ne-none line (sym at)) };
+  seen = record { lawful = λ i entry at. absurd (some-ne-none entry (sym at)); within = (omega arith); bears = λ k entry at. absurd (some-ne-none entry (sym at)) };
   own = refl;
   marks = (omega arith);
 }

@@ -19,8 +19,8 @@ use Rattle.nvm_unit.proofs.Regrouping.{keeps_join, keeps_split}
 -- An entry that can follow a lawful history makes a lawful one.
 abbrev pub FollowsLawfully : Type 0
 FollowsLawfully =
-    (place : Place) (history : List HistoryEntry) (line : HistoryEntry) → IsLawfulHistory place history
-    → CanFollow place history line → IsLawfulHistory place (history ++ line ∷ [])
+    (place : Place) (history : List HistoryEntry) (entry : HistoryEntry) → IsLawfulHistory place history
+    → CanFollow place history entry → IsLawfulHistory place (history ++ entry ∷ [])
 
 pub newcomer_back : (b : Bounds) (from n i : ℕ) (p : PassView) → IsAt (newcomers_from b from n) i p → (p ≡ newcomer b (from + i)) × (i < n)
 newcomer_back b from zero i p e = absurd (some-ne-none p (sym e))
@@ -59,7 +59,7 @@ opening_kept b =
     record {
       sound = record {
         hold = record {
-          lawful = λ d i lt. absurd (omega arith);
+          lawful = λ i entry at. absurd (some-ne-none entry (sym at));
           within = omega arith;
           rests = (refl, refl);
           holder = λ j is. absurd (cc);
@@ -69,11 +69,11 @@ opening_kept b =
         marks = record {
           marks = each_new (λ p. RiseWithin 0 p.marks p.floor) b (λ number lt. omega arith);
           floors = each_new (λ p. p.floor ≤ 0) b (λ number lt. omega arith);
-          bears = λ k line at. absurd (some-ne-none line (sym at));
+          bears = λ k entry at. absurd (some-ne-none entry (sym at));
           mine = each_new (λ p. entries_by p.number [] ≡ p.mine) b (λ number lt. refl);
         };
       };
-      place = λ number. (0, number);
+      spot = λ number. (0, number);
       placed = record {
         below = each_new (λ p. p.number < b.passes) b (λ number lt. lt);
         here = λ j i p s.
@@ -93,9 +93,9 @@ pub event_kept : FollowsLawfully → (b : Bounds) (s : UnitState) (event : Event
 event_kept law b s (loads j decides) t kept h = subst (IsKnown b) (sym h.2) (keeps_look b s kept j h.0 decides h.1)
 event_kept law b s (takes j) t kept h = subst (IsKnown b) (sym h.3) (keeps_take b s kept j h.0 h.1 h.2)
 event_kept law b s (misses j decides) t kept h = subst (IsKnown b) (sym h.2) (keeps_look b s kept j h.0 decides h.1)
-event_kept law b s (adds j line) t kept h =
+event_kept law b s (adds j entry) t kept h =
     subst (IsKnown b) (sym h.3)
-    (keeps_put b s kept j h.0 h.1 line h.2 (law b.place s.history line kept.sound.hold.lawful h.2.follows))
+    (keeps_put b s kept j h.0 h.1 entry h.2 (law b.place s.history entry kept.sound.hold.lawful h.2.follows))
 event_kept law b s (returns j decides) t kept h = subst (IsKnown b) (sym h.3) (keeps_return b s kept j h.0 decides h.1 h.2)
 event_kept law b s (joins j k) t kept h = subst (IsKnown b) (sym h.5) (keeps_join b s kept j k h.0 h.1 h.2 h.3 h.4)
 event_kept law b s (splits j first) t kept h = subst (IsKnown b) (sym h.2) (keeps_split b s kept j first h.0 h.1)

@@ -58,9 +58,9 @@ each_moved P Q groups j g g' f at is each mover other k i q s =
       | inr else_ ↦ other k i q else_.0 else_.1 (each k i q else_.1)
     ]
 
-pub placed_moved : (n : ℕ) (place : ℕ → ℕ × ℕ) (groups : List Group) (j : ℕ) (g g' : Group) (f : PassView → PassView) → IsAt groups j g → g'.passes ≡ map f g.passes
-    → ((p : PassView) → (f p).number ≡ p.number) → ArePlaced n place groups → ArePlaced n place (set groups j g')
-placed_moved n place groups j g g' f at is same placed =
+pub placed_moved : (n : ℕ) (spot : ℕ → ℕ × ℕ) (groups : List Group) (j : ℕ) (g g' : Group) (f : PassView → PassView) → IsAt groups j g → g'.passes ≡ map f g.passes
+    → ((p : PassView) → (f p).number ≡ p.number) → ArePlaced n spot groups → ArePlaced n spot (set groups j g')
+placed_moved n spot groups j g g' f at is same placed =
     record {
       below = each_moved (λ p. p.number < n) (λ p. p.number < n) groups j g g' f at is placed.below
           (λ i p s lt. let e = same p in omega arith) (λ k i p away s lt. lt);
@@ -68,31 +68,31 @@ placed_moved n place groups j g g' f at is same placed =
           elim (moved_back groups j g g' f at is k i q s) [
             | inl here ↦
                 let number : q.number ≡ here.1.number = ap (λ (x : PassView). x.number) here.3 ∙ same here.1 in
-                let at_place : place here.1.number ≡ (j, i) = placed.here j i here.1 here.2 in
+                let at_place : spot here.1.number ≡ (j, i) = placed.here j i here.1 here.2 in
                 let target : (λ (x : ℕ). let y : ℕ × ℕ = (x, i) in y) j ≡ (λ (x : ℕ). let y : ℕ × ℕ = (x, i) in y) k = ap (λ (x : ℕ). let y : ℕ × ℕ = (x, i) in y) (sym here.0) in
-                ap place number ∙ (at_place ∙ target)
+                ap spot number ∙ (at_place ∙ target)
             | inr else_ ↦ placed.here k i q else_.1
           ];
       all = λ number lt.
           let old = placed.all number lt in
-          let new = moved_forth groups j g g' f at is same (place number).0 (place number).1 old.0 old.1 in
+          let new = moved_forth groups j g g' f at is same (spot number).0 (spot number).1 old.0 old.1 in
           (new.0, new.1, new.2 ∙ old.2);
     }
 
 -- A number is that of some pass exactly where it is below their count.
-pub numbered : (n : ℕ) (place : ℕ → ℕ × ℕ) (groups : List Group) → ArePlaced n place groups → (number : ℕ) → number < n → IsNumbered groups number
-numbered n place groups placed number lt =
-    let s = placed.all number lt in ((place number).0, (place number).1, s.0, s.1, s.2)
+pub numbered : (n : ℕ) (spot : ℕ → ℕ × ℕ) (groups : List Group) → ArePlaced n spot groups → (number : ℕ) → number < n → IsNumbered groups number
+numbered n spot groups placed number lt =
+    let s = placed.all number lt in ((spot number).0, (spot number).1, s.0, s.1, s.2)
 
-pub numbered_below : (n : ℕ) (place : ℕ → ℕ × ℕ) (groups : List Group) → ArePlaced n place groups → (number : ℕ) → IsNumbered groups number → number < n
-numbered_below n place groups placed number s =
+pub numbered_below : (n : ℕ) (spot : ℕ → ℕ × ℕ) (groups : List Group) → ArePlaced n spot groups → (number : ℕ) → IsNumbered groups number → number < n
+numbered_below n spot groups placed number s =
     let lt = placed.below s.0 s.1 s.2 s.3 in let e = s.4 in omega arith
 
 -- Passes of two groups have two numbers.
-pub number_apart : (n : ℕ) (place : ℕ → ℕ × ℕ) (groups : List Group) → ArePlaced n place groups
+pub number_apart : (n : ℕ) (spot : ℕ → ℕ × ℕ) (groups : List Group) → ArePlaced n spot groups
     → (j i k m : ℕ) (p q : PassView) → StandsAt groups j i p → StandsAt groups k m q → k ≢ j → q.number ≢ p.number
-number_apart n place groups placed j i k m p q at_p at_q away same =
-    away (ap (λ (x : ℕ × ℕ). x.0) (sym (placed.here k m q at_q) ∙ (ap place same ∙ placed.here j i p at_p)))
+number_apart n spot groups placed j i k m p q at_p at_q away same =
+    away (ap (λ (x : ℕ × ℕ). x.0) (sym (placed.here k m q at_q) ∙ (ap spot same ∙ placed.here j i p at_p)))
 
 -- Each pass stands somewhere before and after, and `moves` says where.
 pub record AreRearranged (moves : ℕ × ℕ → ℕ × ℕ) (groups groups' : List Group) : Type 0 where
@@ -103,9 +103,9 @@ pub each_rearranged : (P : PassView → Type 0) (moves : ℕ × ℕ → ℕ × �
     → AreRearranged moves groups groups' → EachPass P groups → EachPass P groups'
 each_rearranged P moves groups groups' re each m i q s = let old = re.back m i q s in each old.0 old.1 q old.2
 
-pub placed_rearranged : (n : ℕ) (place : ℕ → ℕ × ℕ) (moves : ℕ × ℕ → ℕ × ℕ) (groups groups' : List Group)
-    → AreRearranged moves groups groups' → ArePlaced n place groups → ArePlaced n (λ number. moves (place number)) groups'
-placed_rearranged n place moves groups groups' re placed =
+pub placed_rearranged : (n : ℕ) (spot : ℕ → ℕ × ℕ) (moves : ℕ × ℕ → ℕ × ℕ) (groups groups' : List Group)
+    → AreRearranged moves groups groups' → ArePlaced n spot groups → ArePlaced n (λ number. moves (spot number)) groups'
+placed_rearranged n spot moves groups groups' re placed =
     record {
       below = each_rearranged (λ p. p.number < n) moves groups groups' re placed.below;
       here = λ m i q s.
@@ -113,7 +113,7 @@ placed_rearranged n place moves groups groups' re placed =
           ap moves (placed.here old.0 old.1 q old.2) ∙ old.3;
       all = λ number lt.
           let old = placed.all number lt in
-          (old.0, re.forth (place number).0 (place number).1 old.0 old.1, old.2);
+          (old.0, re.forth (spot number).0 (spot number).1 old.0 old.1, old.2);
     }
 
 -- What stands in a list of one.
@@ -226,14 +226,14 @@ cut groups j first ps at_j =
             | inr last ↦
                 let is : right ≡ s.group = at_last_one right s.group last.0 last.2 in
                 let n : last.0 ≡ 0 = at_last_zero right s.group last.0 last.2 in
-                let place : m ≡ end = omega (arith, last.1) in
+                let spot : m ≡ end = omega (arith, last.1) in
                 let inside : IsAt ps (first + i) q = at_drop_back first ps i q (subst (λ (x : Group). IsAt x.passes i q) (sym is) s.inside) in
                 let back_again : first + i - first ≡ i = omega arith in (
                   j,
                   first + i,
                   record { group = idle ps; at = at_j; inside = inside },
                   moved_out j first end j (first + i) refl (omega arith)
-                      ∙ (ap (λ (x : ℕ). let y : ℕ × ℕ = (end, x) in y) back_again ∙ ap (λ (x : ℕ). let y : ℕ × ℕ = (x, i) in y) (sym place)),
+                      ∙ (ap (λ (x : ℕ). let y : ℕ × ℕ = (end, x) in y) back_again ∙ ap (λ (x : ℕ). let y : ℕ × ℕ = (x, i) in y) (sym spot)),
                 )
           ];
       forth = λ a i p s.

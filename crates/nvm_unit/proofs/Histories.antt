@@ -7,21 +7,21 @@ use Rattle.nvm_unit.specs.Machine.{RestsAs}
 pub begins_itself : (history : List HistoryEntry) → Begins history history
 begins_itself history = ([], sym (append-nil history))
 
-pub begins_more : (seen history : List HistoryEntry) (line : HistoryEntry) → Begins seen history → Begins seen (history ++ line ∷ [])
-begins_more seen history line begins =
-    (begins.0 ++ line ∷ [], ap (λ (x : List HistoryEntry). x ++ line ∷ []) begins.1 ∙ append_assoc seen begins.0 (line ∷ []))
+pub begins_more : (seen history : List HistoryEntry) (entry : HistoryEntry) → Begins seen history → Begins seen (history ++ entry ∷ [])
+begins_more seen history entry begins =
+    (begins.0 ++ entry ∷ [], ap (λ (x : List HistoryEntry). x ++ entry ∷ []) begins.1 ∙ append_assoc seen begins.0 (entry ∷ []))
 
 pub begins_length : (seen history : List HistoryEntry) → Begins seen history → length seen ≤ length history
 begins_length seen history begins = omega (arith, ap length begins.1, length-append seen begins.0)
 
 -- One entry at a place, if it bears the number.
 abbrev kept_if : Bool → ℕ → HistoryEntry → List (ℕ × HistoryEntry) → List (ℕ × HistoryEntry)
-kept_if bears from line rest = if bears then (from, line) ∷ rest else rest
+kept_if bears from entry rest = if bears then (from, entry) ∷ rest else rest
 
-kept_if-append : (bears : Bool) (from : ℕ) (line : HistoryEntry) (rest more : List (ℕ × HistoryEntry))
-    → kept_if bears from line (rest ++ more) ≡ kept_if bears from line rest ++ more
-kept_if-append true from line rest more = refl
-kept_if-append false from line rest more = refl
+kept_if-append : (bears : Bool) (from : ℕ) (entry : HistoryEntry) (rest more : List (ℕ × HistoryEntry))
+    → kept_if bears from entry (rest ++ more) ≡ kept_if bears from entry rest ++ more
+kept_if-append true from entry rest more = refl
+kept_if-append false from entry rest more = refl
 
 -- The entries of two histories, one behind the other.
 entries-append : (from pass : ℕ) (history more : List HistoryEntry)
@@ -33,19 +33,19 @@ entries-append from pass (x ∷ xs) more =
     ∙ kept_if-append (x.pass == pass) from x (entries_by_from (suc from) pass xs) (entries_by_from (from + suc (length xs)) pass more)
 
 -- The entry is one more of the pass whose number it bears.
-pub entries_more : (pass : ℕ) (history : List HistoryEntry) (line : HistoryEntry) → line.pass ≡ pass
-    → entries_by pass (history ++ line ∷ []) ≡ entries_by pass history ++ (length history, line) ∷ []
-entries_more pass history line is =
+pub entries_more : (pass : ℕ) (history : List HistoryEntry) (entry : HistoryEntry) → entry.pass ≡ pass
+    → entries_by pass (history ++ entry ∷ []) ≡ entries_by pass history ++ (length history, entry) ∷ []
+entries_more pass history entry is =
     let n : 0 + length history ≡ length history = omega arith in
-    let one : entries_by_from (0 + length history) pass (line ∷ []) ≡ (length history, line) ∷ [] = rw (n, eq-eqb line.pass pass is) refl in
-    entries-append 0 pass history (line ∷ []) ∙ ap (λ (x : List (ℕ × HistoryEntry)). entries_by pass history ++ x) one
+    let one : entries_by_from (0 + length history) pass (entry ∷ []) ≡ (length history, entry) ∷ [] = rw (n, eq-eqb entry.pass pass is) refl in
+    entries-append 0 pass history (entry ∷ []) ∙ ap (λ (x : List (ℕ × HistoryEntry)). entries_by pass history ++ x) one
 
 -- It is none of another.
-pub entries_same : (pass : ℕ) (history : List HistoryEntry) (line : HistoryEntry) → line.pass ≢ pass
-    → entries_by pass (history ++ line ∷ []) ≡ entries_by pass history
-entries_same pass history line not =
-    let one : entries_by_from (0 + length history) pass (line ∷ []) ≡ [] = rw (ne_eqb line.pass pass not) refl in
-    entries-append 0 pass history (line ∷ []) ∙ (ap (λ (x : List (ℕ × HistoryEntry)). entries_by pass history ++ x) one ∙ append-nil (entries_by pass history))
+pub entries_same : (pass : ℕ) (history : List HistoryEntry) (entry : HistoryEntry) → entry.pass ≢ pass
+    → entries_by pass (history ++ entry ∷ []) ≡ entries_by pass history
+entries_same pass history entry not =
+    let one : entries_by_from (0 + length history) pass (entry ∷ []) ≡ [] = rw (ne_eqb entry.pass pass not) refl in
+    entries-append 0 pass history (entry ∷ []) ∙ (ap (λ (x : List (ℕ × HistoryEntry)). entries_by pass history ++ x) one ∙ append-nil (entries_by pass history))
 
 pub rise_up : (low : ℕ) (marks : List ℕ) (high n : ℕ) → RiseWithin low marks high → high ≤ n → RiseWithin low marks n
 rise_up low [] high n rises le = let h : low ≤ high = rises in omega arith

@@ -8,8 +8,8 @@ use Rattle.nvm_unit.specs.declared.bounds.Bounds.{Bounds}
 use Rattle.nvm_unit.specs.declared.views.PassView.{PassView}
 use Rattle.nvm_unit.specs.declared.views.Group.{Group}
 use Rattle.nvm_unit.specs.Events.{joins, splits, idle, after_join, after_split}
-use Rattle.nvm_unit.specs.Book.{Recorded}
-use Rattle.nvm_unit.specs.Rule.{table_of, IsRuled}
+use Rattle.nvm_unit.specs.Inside.Book.{Recorded}
+use Rattle.nvm_unit.specs.Inside.Rule.{table_of, IsRuled}
 use Rattle.nvm_unit.proofs.Reaching.{ruled_after}
 use Rattle.nvm_unit.proofs.Regrouping.{keeps_join, keeps_split}
 

@@ -55,7 +55,7 @@ module _ (b : Bounds) (s : UnitState) (kept : IsKnown b s) (j : ℕ) (g g' : Gro
         let old = kept.sound.marks in
         let n = number_found s in
         let now : n ≡ length s.history = found_is b s kept.sound.hold in
-        let placed : ArePlaced b.passes kept.place (set s.groups j g') = placed_moved b.passes kept.place s.groups j g g' f at is step.number kept.placed in
+        let placed : ArePlaced b.passes kept.spot (set s.groups j g') = placed_moved b.passes kept.spot s.groups j g g' f at is step.number kept.placed in
         record {
           marks = each_moved (λ p. RiseWithin 0 p.marks p.floor) (λ p. RiseWithin 0 p.marks p.floor) s.groups j g g' f at is old.marks
               (λ i p stands rises. let low : p.floor ≤ length s.history = old.floors j i p stands in rise_step decides n f p step rises (omega arith))
@@ -63,17 +63,17 @@ module _ (b : Bounds) (s : UnitState) (kept : IsKnown b s) (j : ℕ) (g g' : Gro
           floors = each_moved (λ p. p.floor ≤ length s.history) (λ p. p.floor ≤ length s.history) s.groups j g g' f at is old.floors
               (λ i p stands low. let e : (f p).floor ≡ n = step.floor p in omega arith)
               (λ k i p away stands low. low);
-          bears = λ k line line_at.
-              numbered b.passes kept.place (set s.groups j g') placed line.pass
-              (numbered_below b.passes kept.place s.groups kept.placed line.pass (old.bears k line line_at));
+          bears = λ k entry line_at.
+              numbered b.passes kept.spot (set s.groups j g') placed entry.pass
+              (numbered_below b.passes kept.spot s.groups kept.placed entry.pass (old.bears k entry line_at));
           mine = each_moved (λ p. entries_by p.number s.history ≡ p.mine) (λ p. entries_by p.number s.history ≡ p.mine) s.groups j g g' f at is old.mine
               (λ i p stands own. ap (λ (m : ℕ). entries_by m s.history) (step.number p) ∙ (own ∙ sym (step.mine p)))
               (λ k i p away stands own. own);
         }
 
     -- What goes beyond, after such a step.
-    same_placed : ArePlaced b.passes kept.place (set s.groups j g')
-    same_placed = placed_moved b.passes kept.place s.groups j g g' f at is step.number kept.placed
+    same_placed : ArePlaced b.passes kept.spot (set s.groups j g')
+    same_placed = placed_moved b.passes kept.spot s.groups j g g' f at is step.number kept.placed
 
     same_knows : ((i : ℕ) (p : PassView) → StandsAt s.groups j i p → entries_by p.number p.seen ≡ p.mine → entries_by (f p).number (f p).seen ≡ (f p).mine)
         → EachPass (Knows b) (set s.groups j g')
@@ -142,7 +142,7 @@ module _ (b : Bounds) (s : UnitState) (kept : IsKnown b s) where
           };
           marks = same_marks b s kept j g g' can.at decides (looked decides n) refl (looked_is decides n) s.word s.slot s.holder;
         };
-        place = kept.place;
+        spot = kept.spot;
         placed = same_placed b s kept j g g' can.at decides (looked decides n) refl (looked_is decides n);
         knows = same_knows b s kept j g g' can.at decides (looked decides n) refl (looked_is decides n) (λ i p stands own. own);
         hands = same_hands b s kept j g g' can.at (map_filled (looked decides n) g.passes can.some);
@@ -180,7 +180,7 @@ module _ (b : Bounds) (s : UnitState) (kept : IsKnown b s) where
           };
           marks = same_marks b s kept j g g' can.at false (looked false n) refl (looked_is false n) (2 * n + 1) None (Some j);
         };
-        place = kept.place;
+        spot = kept.spot;
         placed = same_placed b s kept j g g' can.at false (looked false n) refl (looked_is false n);
         knows = same_knows b s kept j g g' can.at false (looked false n) refl (looked_is false n) (λ i p stands own. own);
         hands = same_hands b s kept j g g' can.at (map_filled (looked false n) g.passes can.some);
@@ -215,81 +215,81 @@ module _ (b : Bounds) (s : UnitState) (kept : IsKnown b s) where
           };
           marks = same_marks b s kept j g g' can.at decides (shown decides n s.history) refl (shown_is decides n s.history) (2 * n) g.held None;
         };
-        place = kept.place;
+        spot = kept.spot;
         placed = same_placed b s kept j g g' can.at decides (shown decides n s.history) refl (shown_is decides n s.history);
         knows = same_knows b s kept j g g' can.at decides (shown decides n s.history) refl (shown_is decides n s.history) (λ i p stands own. kept.sound.marks.mine j i p stands);
         hands = same_hands b s kept j g g' can.at (map_filled (shown decides n s.history) g.passes can.some);
       }
 
   -- The pass that put the entry has it as its own.
-  put_mine : (j : ℕ) (p : PassView) (line : HistoryEntry) → line.pass ≡ p.number → (n : ℕ) → n ≡ length s.history → (i : ℕ) (q : PassView) → p ≡ q
-      → entries_by q.number s.history ≡ q.mine → entries_by q.number (s.history ++ line ∷ []) ≡ q.mine ++ (n, line) ∷ []
-  put_mine j p line number n now i q is own =
-      entries_more q.number s.history line (number ∙ ap (λ (x : PassView). x.number) is)
-      ∙ (ap (λ (x : List (ℕ × HistoryEntry)). x ++ (length s.history, line) ∷ []) own
-      ∙ ap (λ (m : ℕ). q.mine ++ (m, line) ∷ []) (sym now))
+  put_mine : (j : ℕ) (p : PassView) (entry : HistoryEntry) → entry.pass ≡ p.number → (n : ℕ) → n ≡ length s.history → (i : ℕ) (q : PassView) → p ≡ q
+      → entries_by q.number s.history ≡ q.mine → entries_by q.number (s.history ++ entry ∷ []) ≡ q.mine ++ (n, entry) ∷ []
+  put_mine j p entry number n now i q is own =
+      entries_more q.number s.history entry (number ∙ ap (λ (x : PassView). x.number) is)
+      ∙ (ap (λ (x : List (ℕ × HistoryEntry)). x ++ (length s.history, entry) ∷ []) own
+      ∙ ap (λ (m : ℕ). q.mine ++ (m, entry) ∷ []) (sym now))
 
   -- A put with one entry more.
-  pub keeps_put : (j : ℕ) (p : PassView) (held : List HistoryEntry) (line : HistoryEntry) → CanAdd b s j p held line
-      → IsLawfulHistory b.place (s.history ++ line ∷ []) → IsKnown b (after_put s j p held line)
-  keeps_put j p held line can lawful =
+  pub keeps_put : (j : ℕ) (p : PassView) (held : List HistoryEntry) (entry : HistoryEntry) → CanAdd b s j p held entry
+      → IsLawfulHistory b.place (s.history ++ entry ∷ []) → IsKnown b (after_put s j p held entry)
+  keeps_put j p held entry can lawful =
       let n = number_found s in
       let g : Group = record { passes = p ∷ []; held = Some held } in
-      let f : PassView → PassView = added n s.history line in
+      let f : PassView → PassView = added n s.history entry in
       let g' : Group = idle (f p ∷ []) in
       let hold = kept.sound.hold in
       let old = kept.sound.marks in
       let now : n ≡ length s.history = found_is b s hold in
       let room : n < b.limit = can.room in
-      let longer : length (s.history ++ line ∷ []) ≡ n + 1 = omega (arith, length-append s.history (line ∷ [])) in
+      let longer : length (s.history ++ entry ∷ []) ≡ n + 1 = omega (arith, length-append s.history (entry ∷ [])) in
       let same : Some held ≡ Some s.history = held_is j g can.at can.holds in
       let held_same : held ≡ s.history = cc in
       let mover : StandsAt s.groups j 0 p = record { group = g; at = can.at; inside = refl } in
-      let placed : ArePlaced b.passes kept.place (set s.groups j g') = placed_moved b.passes kept.place s.groups j g g' f can.at refl (λ q. refl) kept.placed in
+      let placed : ArePlaced b.passes kept.spot (set s.groups j g') = placed_moved b.passes kept.spot s.groups j g g' f can.at refl (λ q. refl) kept.placed in
       let is_mover : (i : ℕ) (q : PassView) → StandsAt s.groups j i q → p ≡ q = λ i q stands. at_single p q i (stands_one s.groups j i g q can.at stands) in
       record {
         sound = record {
           hold = record {
             lawful = lawful;
             within = omega arith;
-            rests = (omega arith, ap (λ (x : List HistoryEntry). Some (x ++ line ∷ [])) held_same);
+            rests = (omega arith, ap (λ (x : List HistoryEntry). Some (x ++ entry ∷ [])) held_same);
             holder = λ k is. absurd (cc);
             others = λ k x x_at.
                 elim (at_set s.groups j k g' x x_at) [
-                  | inl here ↦ hand_same (s.history ++ line ∷ []) None k None x.held (ap (λ (y : Group). y.held) here.1) tt
-                  | inr else_ ↦ hand_else s.history (s.history ++ line ∷ []) j k None x.held else_.0 (subst (λ (h : Option ℕ). IsHand h s.history k x.held) can.holds (hold.others k x else_.1))
+                  | inl here ↦ hand_same (s.history ++ entry ∷ []) None k None x.held (ap (λ (y : Group). y.held) here.1) tt
+                  | inr else_ ↦ hand_else s.history (s.history ++ entry ∷ []) j k None x.held else_.0 (subst (λ (h : Option ℕ). IsHand h s.history k x.held) can.holds (hold.others k x else_.1))
                 ];
-            seen = each_moved (λ q. Begins q.seen s.history) (λ q. Begins q.seen (s.history ++ line ∷ [])) s.groups j g g' f can.at refl hold.seen
-                (λ i q stands begins. begins_itself (s.history ++ line ∷ []))
-                (λ k i q away stands begins. begins_more q.seen s.history line begins);
+            seen = each_moved (λ q. Begins q.seen s.history) (λ q. Begins q.seen (s.history ++ entry ∷ [])) s.groups j g g' f can.at refl hold.seen
+                (λ i q stands begins. begins_itself (s.history ++ entry ∷ []))
+                (λ k i q away stands begins. begins_more q.seen s.history entry begins);
           };
           marks = record {
             marks = each_moved (λ q. RiseWithin 0 q.marks q.floor) (λ q. RiseWithin 0 q.marks q.floor) s.groups j g g' f can.at refl old.marks
                 (λ i q stands rises. let low : q.floor ≤ length s.history = old.floors j i q stands in rise_more 0 q.marks q.floor n rises (omega arith))
                 (λ k i q away stands rises. rises);
-            floors = each_moved (λ q. q.floor ≤ length s.history) (λ q. q.floor ≤ length (s.history ++ line ∷ [])) s.groups j g g' f can.at refl old.floors
+            floors = each_moved (λ q. q.floor ≤ length s.history) (λ q. q.floor ≤ length (s.history ++ entry ∷ [])) s.groups j g g' f can.at refl old.floors
                 (λ i q stands low. omega arith) (λ k i q away stands low. omega arith);
             bears = λ k x x_at.
-                elim (at_snoc s.history line x k x_at) [
+                elim (at_snoc s.history entry x k x_at) [
                   | inl before ↦
-                      numbered b.passes kept.place (set s.groups j g') placed x.pass
-                      (numbered_below b.passes kept.place s.groups kept.placed x.pass (old.bears k x before))
+                      numbered b.passes kept.spot (set s.groups j g') placed x.pass
+                      (numbered_below b.passes kept.spot s.groups kept.placed x.pass (old.bears k x before))
                   | inr last ↦
                       let lt : p.number < b.passes = kept.placed.below j 0 p mover in
                       let e : x.pass ≡ p.number = ap (λ (y : HistoryEntry). y.pass) (sym last) ∙ can.number in
-                      numbered b.passes kept.place (set s.groups j g') placed x.pass (omega arith)
+                      numbered b.passes kept.spot (set s.groups j g') placed x.pass (omega arith)
                 ];
-            mine = each_moved (λ q. entries_by q.number s.history ≡ q.mine) (λ q. entries_by q.number (s.history ++ line ∷ []) ≡ q.mine) s.groups j g g' f can.at refl old.mine
-                (λ i q stands own. put_mine j p line can.number n now i q (is_mover i q stands) own)
+            mine = each_moved (λ q. entries_by q.number s.history ≡ q.mine) (λ q. entries_by q.number (s.history ++ entry ∷ []) ≡ q.mine) s.groups j g g' f can.at refl old.mine
+                (λ i q stands own. put_mine j p entry can.number n now i q (is_mover i q stands) own)
                 (λ k i q away stands own.
-                let apart : q.number ≢ p.number = number_apart b.passes kept.place s.groups kept.placed j 0 k i p q mover stands away in
-                entries_same q.number s.history line (λ e. apart (sym e ∙ can.number)) ∙ own);
+                let apart : q.number ≢ p.number = number_apart b.passes kept.spot s.groups kept.placed j 0 k i p q mover stands away in
+                entries_same q.number s.history entry (λ e. apart (sym e ∙ can.number)) ∙ own);
           };
         };
-        place = kept.place;
+        spot = kept.spot;
         placed = placed;
         knows = each_moved (Knows b) (Knows b) s.groups j g g' f can.at refl kept.knows
-            (λ i q stands knows. record { bounds = knows.bounds; own = put_mine j p line can.number n now i q (is_mover i q stands) (old.mine j i q stands) })
+            (λ i q stands knows. record { bounds = knows.bounds; own = put_mine j p entry can.number n now i q (is_mover i q stands) (old.mine j i q stands) })
             (λ k i q away stands knows. knows);
         hands = same_hands b s kept j g g' can.at (omega arith);
       }

@@ -8,9 +8,9 @@ use Rattle.nvm_unit.specs.declared.replies.Observed.{Observed}
 use Rattle.nvm_unit.specs.declared.replies.ObserveFault.{ObserveFault}
 use Rattle.nvm_unit.specs.declared.replies.ObserveFault.TheVariants as observe_fault
 use Rattle.nvm_unit.specs.declared.views.PassView.{PassView}
-use Rattle.nvm_unit.specs.Marks.{point_of, entries_after, mine_after, point_of_look, HasMarked, HasKeptMarks}
+use Rattle.nvm_unit.specs.Marks.{entries_after, mine_after, point_of_look, HasMarked, HasKeptMarks}
 use Rattle.nvm_unit.specs.Passes.{Finds}
-use Rattle.nvm_unit.specs.Replies.{Makes, Observes, IsBroughtUp, Meet, entry_of_job}
+use Rattle.nvm_unit.specs.Replies.{point_of, Makes, Observes, IsBroughtUp, Meet, entry_of_job}
 use Rattle.nvm_unit.specs.Views.{Begins, shown, added}
 use Rattle.nvm_unit.proofs.Histories.{begins_more, begins_length}
 
@@ -26,21 +26,21 @@ shown_marks n p history finds is =
       within = omega arith;
     }
 
-added_marks : (n : ℕ) (p : PassView) (history : List HistoryEntry) (line : HistoryEntry) → Finds (length history) p history → n ≡ length history → HasMarked n p (added (length history) history line p)
-added_marks n p history line finds is =
+added_marks : (n : ℕ) (p : PassView) (history : List HistoryEntry) (entry : HistoryEntry) → Finds (length history) p history → n ≡ length history → HasMarked n p (added (length history) history entry p)
+added_marks n p history entry finds is =
     let floor : p.floor ≤ length history = finds.floor in
     let within : length p.seen ≤ length history = begins_length p.seen history finds.seen in
     record {
       marks = ap (λ (k : ℕ). p.marks ++ k ∷ []) (sym is);
       floor = sym is;
       above = omega arith;
-      seen = begins_more p.seen history line finds.seen;
+      seen = begins_more p.seen history entry finds.seen;
       within = omega arith;
     }
 
 pub change_marks : (changed : Changed) (p q : PassView) (job : ℕ) (op : Operation) → Makes changed p job op q → HasMarked (point_of changed) p q
-change_marks (Done place) p q job op makes =
-    subst (HasMarked place p) (sym makes.3) (added_marks place p makes.0 (entry_of_job p job op) makes.1 makes.2.0)
+change_marks (Done point) p q job op makes =
+    subst (HasMarked point p) (sym makes.3) (added_marks point p makes.0 (entry_of_job p job op) makes.1 makes.2.0)
 change_marks (Failed n statuses) p q job op makes = subst (HasMarked n p) (sym makes.3) (shown_marks n p makes.0 makes.1 makes.2.0)
 change_marks (NoMemory n) p q job op makes = subst (HasMarked n p) (sym makes.3) (shown_marks n p makes.0 makes.1 makes.2.0)
 change_marks (Full n) p q job op makes = subst (HasMarked n p) (sym makes.3) (shown_marks n p makes.0 makes.1 makes.2.0)
@@ -49,16 +49,16 @@ shown_length : (n : ℕ) (p q : PassView) (history : List HistoryEntry) → q �
 shown_length n p q history is same = ap (λ (x : PassView). length x.seen) is ∙ sym same
 
 pub change_entries : (changed : Changed) (p q : PassView) (job : ℕ) (op : Operation) → Makes changed p job op q → length q.seen ≡ entries_after changed
-change_entries (Done place) p q job op makes =
-    let same : place ≡ length makes.0 = makes.2.0 in
-    let one : length (makes.0 ++ entry_of_job p job op ∷ []) ≡ place + 1 = omega (arith, length-append makes.0 (entry_of_job p job op ∷ [])) in
+change_entries (Done point) p q job op makes =
+    let same : point ≡ length makes.0 = makes.2.0 in
+    let one : length (makes.0 ++ entry_of_job p job op ∷ []) ≡ point + 1 = omega (arith, length-append makes.0 (entry_of_job p job op ∷ [])) in
     ap (λ (x : PassView). length x.seen) makes.3 ∙ one
 change_entries (Failed n statuses) p q job op makes = shown_length n p q makes.0 makes.3 makes.2.0
 change_entries (NoMemory n) p q job op makes = shown_length n p q makes.0 makes.3 makes.2.0
 change_entries (Full n) p q job op makes = shown_length n p q makes.0 makes.3 makes.2.0
 
 pub change_mine : (changed : Changed) (p q : PassView) (job : ℕ) (op : Operation) → Makes changed p job op q → q.mine ≡ mine_after changed p job op
-change_mine (Done place) p q job op makes =
+change_mine (Done point) p q job op makes =
     ap (λ (x : PassView). x.mine) makes.3 ∙ ap (λ (k : ℕ). p.mine ++ (k, entry_of_job p job op) ∷ []) (sym makes.2.0)
 change_mine (Failed n statuses) p q job op makes = ap (λ (x : PassView). x.mine) makes.3
 change_mine (NoMemory n) p q job op makes = ap (λ (x : PassView). x.mine) makes.3

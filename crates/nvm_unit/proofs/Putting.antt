@@ -11,11 +11,11 @@ use Rattle.nvm_unit.specs.declared.views.Group.{Group}
 use Rattle.nvm_unit.specs.Views.{shown, added}
 use Rattle.nvm_unit.specs.Machine.{UnitState, RestsAs, IsHand}
 use Rattle.nvm_record.specs.Lists.{IsAt}
-use Rattle.nvm_unit.specs.Events.{IsAct, adds, returns, Happens, IsReached, number_found, idle, CanStep, CanAdd, after_put, after_return}
+use Rattle.nvm_unit.specs.Events.{adds, returns, Happens, IsReached, number_found, idle, CanStep, CanAdd, after_put, after_return}
 use Rattle.nvm_unit.specs.Knowledge.{IsKnown}
-use Rattle.nvm_unit.specs.Book.{recorded}
-use Rattle.nvm_unit.specs.Rule.{slots_of, IsRuled}
-use Rattle.nvm_unit.specs.Plays.{Sits, resting, holding, EachIn, puts, CanReturn, CanAppend}
+use Rattle.nvm_unit.specs.Inside.Book.{recorded}
+use Rattle.nvm_unit.specs.Inside.Rule.{slots_of, IsRuled}
+use Rattle.nvm_unit.specs.Inside.Plays.{Sits, resting, holding, EachIn, puts, CanReturn, CanAppend}
 use Rattle.nvm_unit.proofs.EventsKept.{FollowsLawfully}
 use Rattle.nvm_unit.proofs.Keeping.{found_is, keeps_return, keeps_put}
 use Rattle.atomic_table.proofs.Lists.{set_here}
@@ -95,7 +95,7 @@ return_goes decides st b b' id entries ps h first count filled bounds alone s ke
             let same_history : h ≡ history = ap held_history same in
             ap (λ (y : List HistoryEntry). resting (map (shown (decides (2 * length y + 1)) (length y) y) ps)) same_history
             ∙ ap (λ (y : List PassView). resting (map (shown (decides (2 * length history + 1)) (length history) history) y)) same_ps,
-        λ p history line same count'.
+        λ p history entry same count'.
             let same_length : length h ≡ length history = ap (λ (y : Sits). length (held_history y)) same in
             absurd (omega arith),
         (
@@ -124,12 +124,12 @@ return_allowed decides st b b' slots id entries m ps h first can =
     (return_goes decides st b b' id entries ps h first can.count can.filled can.bounds can.alone))
 
 -- A store that puts the unit back with one entry more.
-append_goes : FollowsLawfully → (decides : Deciding) (st : Step Slot) (b : Bounds) (id entries : ℕ) (p : PassView) (h : List HistoryEntry) (line : HistoryEntry) → st.first ≡ 2 * entries → entries ≡ length h + 1
-    → IsAct line.operation.deed → line.pass ≡ p.number → CanFollow p.bounds.place h line → length h < p.bounds.limit
+append_goes : FollowsLawfully → (decides : Deciding) (st : Step Slot) (b : Bounds) (id entries : ℕ) (p : PassView) (h : List HistoryEntry) (entry : HistoryEntry) → st.first ≡ 2 * entries → entries ≡ length h + 1
+    → entry.pass ≡ p.number → CanFollow p.bounds.place h entry → length h < p.bounds.limit
     → (s : UnitState) → IsKnown b s → IsReached b s → IsAt s.groups id (record { passes = p ∷ []; held = Some h })
-    → Goes b s id (holding (p ∷ []) h (Some (recorded p.bounds (h ++ line ∷ [])))) (λ word. puts decides st (holding (p ∷ []) h (Some (recorded p.bounds (h ++ line ∷ [])))) word) (2 * entries)
-append_goes law decides st b id entries p h line first count act number follows room s kept reached at =
-    let x : Slot = Some (recorded p.bounds (h ++ line ∷ [])) in
+    → Goes b s id (holding (p ∷ []) h (Some (recorded p.bounds (h ++ entry ∷ [])))) (λ word. puts decides st (holding (p ∷ []) h (Some (recorded p.bounds (h ++ entry ∷ [])))) word) (2 * entries)
+append_goes law decides st b id entries p h entry first count number follows room s kept reached at =
+    let x : Slot = Some (recorded p.bounds (h ++ entry ∷ [])) in
     let g : Group = record { passes = p ∷ []; held = Some h } in
     let n = number_found s in
     let is = holder_is b s kept id (p ∷ []) h at in
@@ -137,46 +137,46 @@ append_goes law decides st b id entries p h line first count act number follows 
     let here : h ≡ s.history = is.1 in
     let long : length h ≡ length s.history = ap length here in
     let of_unit : p.bounds ≡ b = (kept.knows id 0 p (record { group = g; at = at; inside = refl })).bounds in
-    let follows_here : CanFollow b.place s.history line =
-    subst (λ (y : List HistoryEntry). CanFollow b.place y line) here
-    (subst (λ (y : Bounds). CanFollow y.place h line) of_unit follows) in
+    let follows_here : CanFollow b.place s.history entry =
+    subst (λ (y : List HistoryEntry). CanFollow b.place y entry) here
+    (subst (λ (y : Bounds). CanFollow y.place h entry) of_unit follows) in
     let room_here : length h < b.limit = subst (λ (y : Bounds). length h < y.limit) of_unit room in
-    let can : CanAdd b s id p h line = record { at = at; holds = is.0; act = act; number = number; follows = follows_here; room = (omega arith) } in
-    let w : Group = idle (added (length h) h line p ∷ []) in
-    let t = after_put s id p h line in
+    let can : CanAdd b s id p h entry = record { at = at; holds = is.0; number = number; follows = follows_here; room = (omega arith) } in
+    let w : Group = idle (added (length h) h entry p ∷ []) in
+    let t = after_put s id p h entry in
     let home : s.slot ≡ None = is.3 in
-    let homes : set (slots_of b s.slot) 0 (some x) ≡ slots_of b (Some (h ++ line ∷ [])) =
+    let homes : set (slots_of b s.slot) 0 (some x) ≡ slots_of b (Some (h ++ entry ∷ [])) =
     ap (λ (o : Option (List HistoryEntry)). set (slots_of b o) 0 (some x)) home
-    ∙ ap (λ (y : Bounds). some (let z : Slot = Some (recorded y (h ++ line ∷ [])) in z) ∷ []) of_unit in
+    ∙ ap (λ (y : Bounds). some (let z : Slot = Some (recorded y (h ++ entry ∷ [])) in z) ∷ []) of_unit in
     let views : set s.groups id w ≡ t.groups =
-    ap (λ (k : ℕ). set s.groups id (idle (added k h line p ∷ []))) (long ∙ sym now)
-    ∙ ap (λ (y : List HistoryEntry). set s.groups id (idle (added n y line p ∷ []))) here in
+    ap (λ (k : ℕ). set s.groups id (idle (added k h entry p ∷ []))) (long ∙ sym now)
+    ∙ ap (λ (y : List HistoryEntry). set s.groups id (idle (added n y entry p ∷ []))) here in
     let twice : 2 * entries ≡ 2 * n + 2 = omega arith in (
       w,
       gives,
       tt,
-      ruled_after b s t (adds id line) _ reached (p, h, can, refl)
-          (same_table (2 * entries ∷ []) ((2 * n + 2) ∷ []) (set (slots_of b s.slot) 0 (some x)) (slots_of b (Some (h ++ line ∷ []))) (set s.groups id w) t.groups (ap (λ (y : ℕ). y ∷ []) twice) homes views)
-          (keeps_put b s kept id p h line can (law b.place s.history line kept.sound.hold.lawful follows_here)),
+      ruled_after b s t (adds id entry) _ reached (p, h, can, refl)
+          (same_table (2 * entries ∷ []) ((2 * n + 2) ∷ []) (set (slots_of b s.slot) 0 (some x)) (slots_of b (Some (h ++ entry ∷ []))) (set s.groups id w) t.groups (ap (λ (y : ℕ). y ∷ []) twice) homes views)
+          (keeps_put b s kept id p h entry can (law b.place s.history entry kept.sound.hold.lawful follows_here)),
       λ entries' first'. (
         λ ps' history book same count'.
             let same_length : length h ≡ length history = ap (λ (y : Sits). length (held_history y)) same in
             absurd (omega arith),
-        λ p' history line' same count'.
+        λ p' history entry' same count'.
             let same_p : p ∷ [] ≡ p' ∷ [] = ap held_passes same in
             let same_pass : p ≡ p' = cc in
             let same_history : h ≡ history = ap held_history same in
-            let pages : h ++ line ∷ [] ≡ history ++ line' ∷ [] = ap (λ (y : Sits). pages_or (book_or y.1)) same in
-            let pages_here : h ++ line ∷ [] ≡ h ++ line' ∷ [] = pages ∙ ap (λ (y : List HistoryEntry). y ++ line' ∷ []) (sym same_history) in
-            let same_line : line ≡ line' =
-            sym (get_or_push h line line (length h) refl) ∙ (ap (λ (y : List HistoryEntry). get_or y (length h) line) pages_here ∙ get_or_push h line' line (length h) refl) in
-            ap (λ (y : List HistoryEntry). resting (added (length y) y line p ∷ [])) same_history
+            let pages : h ++ entry ∷ [] ≡ history ++ entry' ∷ [] = ap (λ (y : Sits). pages_or (book_or y.1)) same in
+            let pages_here : h ++ entry ∷ [] ≡ h ++ entry' ∷ [] = pages ∙ ap (λ (y : List HistoryEntry). y ++ entry' ∷ []) (sym same_history) in
+            let same_line : entry ≡ entry' =
+            sym (get_or_push h entry entry (length h) refl) ∙ (ap (λ (y : List HistoryEntry). get_or y (length h) entry) pages_here ∙ get_or_push h entry' entry (length h) refl) in
+            ap (λ (y : List HistoryEntry). resting (added (length y) y entry p ∷ [])) same_history
             ∙ (ap (λ (y : HistoryEntry). resting (added (length history) history y p ∷ [])) same_line
-            ∙ ap (λ (y : PassView). resting (added (length history) history line' y ∷ [])) same_pass),
+            ∙ ap (λ (y : PassView). resting (added (length history) history entry' y ∷ [])) same_pass),
         (
           s.word,
           inr (
-            line,
+            entry,
             record {
               bounds = b;
               before = s;
@@ -193,10 +193,10 @@ append_goes law decides st b id entries p h line first count act number follows 
       ),
     )
 
-pub append_allowed : FollowsLawfully → (decides : Deciding) (st : Step Slot) (b : Bounds) (slots id entries : ℕ) (m : Sits) (p : PassView) (h : List HistoryEntry) (line : HistoryEntry) → st.first ≡ 2 * entries
-    → CanAppend entries m p h line → Allows (IsRuled b) slots id m 0 (λ _. 2 * entries) (λ _. puts decides st m (2 * entries))
-append_allowed law decides st b slots id entries m p h line first can =
-    let at : Sits = holding (p ∷ []) h (Some (recorded p.bounds (h ++ line ∷ []))) in
+pub append_allowed : FollowsLawfully → (decides : Deciding) (st : Step Slot) (b : Bounds) (slots id entries : ℕ) (m : Sits) (p : PassView) (h : List HistoryEntry) (entry : HistoryEntry) → st.first ≡ 2 * entries
+    → CanAppend entries m p h entry → Allows (IsRuled b) slots id m 0 (λ _. 2 * entries) (λ _. puts decides st m (2 * entries))
+append_allowed law decides st b slots id entries m p h entry first can =
+    let at : Sits = holding (p ∷ []) h (Some (recorded p.bounds (h ++ entry ∷ []))) in
     subst (λ (y : Sits). Allows (IsRuled b) slots id y 0 (λ _. 2 * entries) (λ _. puts decides st y (2 * entries))) (sym can.at)
     (allowed b slots id at (λ _. 2 * entries) (λ _. puts decides st at (2 * entries))
-    (append_goes law decides st b id entries p h line first can.count can.act can.number can.follows can.room))
+    (append_goes law decides st b id entries p h entry first can.count can.number can.follows can.room))

@@ -3,11 +3,11 @@ use Rattle.std.proofs.Common.{◌≡◌, List, [], ◌∷◌, ◌++◌, subst, r
 use Rattle.atomic_table.specs.Table.{State}
 use Rattle.nvm_unit.specs.declared.bounds.Bounds.{Bounds}
 use Rattle.nvm_unit.specs.declared.views.Group.{Group}
-use Rattle.nvm_unit.specs.Book.{Recorded}
+use Rattle.nvm_unit.specs.Inside.Book.{Recorded}
 use Rattle.nvm_unit.specs.Machine.{UnitState, opening_state}
 use Rattle.nvm_unit.specs.Events.{Event, Happens, Lead, IsReached}
 use Rattle.nvm_unit.specs.Knowledge.{IsKnown}
-use Rattle.nvm_unit.specs.Rule.{table_of, IsRuled}
+use Rattle.nvm_unit.specs.Inside.Rule.{table_of, IsRuled}
 
 -- One event more leads on.
 lead_more : (b : Bounds) (s : UnitState) (events : List Event) (t : UnitState) (event : Event) (u : UnitState) → Lead b s events t → Happens b t event u

@@ -33,7 +33,7 @@ module _ (b : Bounds) (s : UnitState) (kept : IsKnown b s) where
   keeps_rearranged moves groups re before after =
       let hold = kept.sound.hold in
       let old = kept.sound.marks in
-      let placed : ArePlaced b.passes (λ number. moves (kept.place number)) groups = placed_rearranged b.passes kept.place moves s.groups groups re kept.placed in
+      let placed : ArePlaced b.passes (λ number. moves (kept.spot number)) groups = placed_rearranged b.passes kept.spot moves s.groups groups re kept.placed in
       record {
         sound = record {
           hold = record {
@@ -47,13 +47,13 @@ module _ (b : Bounds) (s : UnitState) (kept : IsKnown b s) where
           marks = record {
             marks = each_rearranged (λ p. RiseWithin 0 p.marks p.floor) moves s.groups groups re old.marks;
             floors = each_rearranged (λ p. p.floor ≤ length s.history) moves s.groups groups re old.floors;
-            bears = λ k line line_at.
-                numbered b.passes (λ number. moves (kept.place number)) groups placed line.pass
-                (numbered_below b.passes kept.place s.groups kept.placed line.pass (old.bears k line line_at));
+            bears = λ k entry line_at.
+                numbered b.passes (λ number. moves (kept.spot number)) groups placed entry.pass
+                (numbered_below b.passes kept.spot s.groups kept.placed entry.pass (old.bears k entry line_at));
             mine = each_rearranged (λ p. entries_by p.number s.history ≡ p.mine) moves s.groups groups re old.mine;
           };
         };
-        place = λ number. moves (kept.place number);
+        spot = λ number. moves (kept.spot number);
         placed = placed;
         knows = each_rearranged (Knows b) moves s.groups groups re kept.knows;
         hands = λ m g held at is. kept.hands m g held (before m g held at is) is;

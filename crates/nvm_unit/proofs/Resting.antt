@@ -6,9 +6,7 @@ use Rattle.nvm_record.specs.declared.block.Block.{Block}
 use Rattle.nvm_record.specs.declared.status.Statuses.{Statuses}
 use Rattle.nvm_record.specs.Medium.{Medium}
 use Rattle.nvm_record.specs.Step.{Deed, writes, zeroes, uncorrectable, reads, compares, pairs, Operation, range_of, statuses_of, data_of, data_on}
-use Rattle.nvm_store.specs.declared.look.answer.Answer.{Answer}
-use Rattle.nvm_store.specs.declared.look.answer.Answer.TheVariants.{Payload, Status}
-use Rattle.nvm_store.specs.Answer.{IsAnswer}
+use Rattle.nvm_store.specs.Answer.{told_by, read_by}
 use Rattle.nvm_store.specs.History.{replay_of}
 use Rattle.nvm_store.specs.HistoryEntry.{HistoryEntry}
 use Rattle.nvm_record.specs.Deeds.{FailsOn}
@@ -19,7 +17,7 @@ use Rattle.nvm_unit.specs.declared.replies.Observed.{Observed}
 use Rattle.nvm_unit.specs.declared.replies.ObserveFault.{ObserveFault}
 use Rattle.nvm_unit.specs.declared.views.PassView.{PassView}
 use Rattle.nvm_record.specs.Lists.{IsAt}
-use Rattle.nvm_unit.specs.Replies.{AnswersChange, AnswersLook, Makes, Observes, pass_after, entry_of_job, told_by, read_by}
+use Rattle.nvm_unit.specs.Replies.{AnswersChange, AnswersLook, Makes, Observes, pass_after, entry_of_job}
 use Rattle.nvm_unit.specs.Views.{Begins}
 use Rattle.atomic_table.proofs.Lists.{at_longer, at_last}
 
@@ -35,13 +33,13 @@ begins_front : (begin more history : List HistoryEntry) → Begins (begin ++ mor
 begins_front begin more history begins = (more ++ begins.0, begins.1 ∙ append_assoc begin more begins.0)
 
 -- What a step found begins what its pass has seen then.
-found_begins : (changed : Changed) (found : List HistoryEntry) (line : HistoryEntry) (p q : PassView) (history : List HistoryEntry) → q ≡ pass_after changed found line p
+found_begins : (changed : Changed) (found : List HistoryEntry) (entry : HistoryEntry) (p q : PassView) (history : List HistoryEntry) → q ≡ pass_after changed found entry p
     → Begins q.seen history → Begins found history
-found_begins (Done place) found line p q history is begins =
-    begins_front found (line ∷ []) history (subst (λ (x : PassView). Begins x.seen history) is begins)
-found_begins (Failed n statuses) found line p q history is begins = subst (λ (x : PassView). Begins x.seen history) is begins
-found_begins (NoMemory n) found line p q history is begins = subst (λ (x : PassView). Begins x.seen history) is begins
-found_begins (Full n) found line p q history is begins = subst (λ (x : PassView). Begins x.seen history) is begins
+found_begins (Done n) found entry p q history is begins =
+    begins_front found (entry ∷ []) history (subst (λ (x : PassView). Begins x.seen history) is begins)
+found_begins (Failed n statuses) found entry p q history is begins = subst (λ (x : PassView). Begins x.seen history) is begins
+found_begins (NoMemory n) found entry p q history is begins = subst (λ (x : PassView). Begins x.seen history) is begins
+found_begins (Full n) found entry p q history is begins = subst (λ (x : PassView). Begins x.seen history) is begins
 
 pub change_rests : (changed : Changed) (p q : PassView) (job : ℕ) (op : Operation) (history : List HistoryEntry) → Makes changed p job op q → Begins q.seen history
     → (n : ℕ) × (n ≤ length history) × AnswersChange changed n p.bounds.limit op (point p.bounds.place.size history n)
@@ -53,14 +51,14 @@ change_rests changed p q job op history makes begins =
       subst (λ (x : Medium). AnswersChange changed (length found) p.bounds.limit op x) (sym (point_at p.bounds.place.size found history front)) makes.2,
     )
 
-pub done_stands : (place : ℕ) (p q : PassView) (job : ℕ) (op : Operation) (history : List HistoryEntry) → Makes (Done place) p job op q → Begins q.seen history
-    → IsAt history place (entry_of_job p job op)
-done_stands place p q job op history makes begins =
+pub done_stands : (n : ℕ) (p q : PassView) (job : ℕ) (op : Operation) (history : List HistoryEntry) → Makes (Done n) p job op q → Begins q.seen history
+    → IsAt history n (entry_of_job p job op)
+done_stands n p q job op history makes begins =
     let found = makes.0 in
-    let line = entry_of_job p job op in
-    let seen : Begins (found ++ line ∷ []) history = subst (λ (x : PassView). Begins x.seen history) makes.3 begins in
-    let last : IsAt (found ++ line ∷ []) place line = at_last found line place (sym makes.2.0) in
-    subst (λ (x : List HistoryEntry). IsAt x place line) (sym seen.1) (at_longer (found ++ line ∷ []) seen.0 place line last)
+    let entry = entry_of_job p job op in
+    let seen : Begins (found ++ entry ∷ []) history = subst (λ (x : PassView). Begins x.seen history) makes.3 begins in
+    let last : IsAt (found ++ entry ∷ []) n entry = at_last found entry n (sym makes.2.0) in
+    subst (λ (x : List HistoryEntry). IsAt x n entry) (sym seen.1) (at_longer (found ++ entry ∷ []) seen.0 n entry last)
 
 -- A pair reads nothing.
 fails_without_data : (blocks : List Block) (deed : Deed) → FailsOn blocks deed → data_on blocks deed ≡ None
@@ -95,10 +93,6 @@ look_rests answer p q op history observes begins =
       subst (λ (x : Medium). AnswersLook answer (length found) op x) (sym (point_at p.bounds.place.size found history front)) observes.2,
     )
 
-answer_told : (op : Operation) (m : Medium) (a : Answer) → IsAnswer op m a → (told_by a ≡ statuses_of op m) × (read_by a ≡ data_of op m)
-answer_told op m (Payload bytes) is = (sym is.0, sym is.1)
-answer_told op m (Status status) is = (sym is.0, sym is.1)
-
 pub observed_rests : (observed : Observed) (p q : PassView) (op : Operation) (history : List HistoryEntry) → Observes (Ok observed) p op q → Begins q.seen history
     → RestsOn p.bounds.place.size history observed.point op (told_by observed.answer) (read_by observed.answer)
 observed_rests observed p q op history observes begins =
@@ -106,7 +100,7 @@ observed_rests observed p q op history observes begins =
     let answers = rests.2 in
     let same : rests.0 ≡ observed.point = sym answers.0 in
     let within : rests.0 ≤ length history = rests.1 in
-    let told = answer_told op (point p.bounds.place.size history rests.0) observed.answer answers.1 in
+    let told = answers.1 in
     record {
       within = omega arith;
       statuses = told.0 ∙ ap (λ (k : ℕ). statuses_of op (point p.bounds.place.size history k)) same;

@@ -4,11 +4,11 @@ use Rattle.nvm_store.specs.Limit.{IsLimit}
 use Rattle.nvm_store.specs.HistoryEntry.{HistoryEntry}
 use Rattle.nvm_unit.specs.declared.bounds.Bounds.{Bounds}
 use Rattle.nvm_unit.specs.declared.views.PassView.{PassView}
-use Rattle.nvm_unit.specs.Book.{Recorded, recorded}
-use Rattle.nvm_unit.specs.Holding.{HasHeld, CanGiveBack, GivesBack}
+use Rattle.nvm_unit.specs.Inside.Book.{Recorded, recorded}
+use Rattle.nvm_unit.specs.Inside.Holding.{HasHeld, CanGiveBack, GivesBack}
 use Rattle.nvm_record.specs.Lists.{IsAt}
 use Rattle.nvm_unit.specs.Passes.{Finds}
-use Rattle.nvm_unit.specs.Plays.{Sits, resting, holding, Fits}
+use Rattle.nvm_unit.specs.Inside.Plays.{Sits, resting, holding, Fits}
 use Rattle.nvm_unit.specs.Views.{looked, shown}
 use Rattle.nvm_unit.proofs.Alone.{finds_of}
 use mathlib.Core.Option.{some-injective, some-ne-none}

@@ -6,9 +6,9 @@ use Rattle.nvm_store.specs.HistoryEntry.{HistoryEntry}
 use Rattle.nvm_unit.specs.declared.bounds.Bounds.{Bounds}
 use Rattle.nvm_unit.specs.declared.views.PassView.{PassView}
 use Rattle.nvm_unit.specs.Views.{looked}
-use Rattle.nvm_unit.specs.Book.{recorded}
-use Rattle.nvm_unit.specs.Plays.{Sits, holding, EachIn, IsNotAbove, HasLooked, HasTaken, Takes}
-use Rattle.nvm_unit.specs.Holding.{HasWaited}
+use Rattle.nvm_unit.specs.Inside.Book.{recorded}
+use Rattle.nvm_unit.specs.Inside.Plays.{Sits, holding, EachIn, IsNotAbove, HasLooked, HasTaken, Takes}
+use Rattle.nvm_unit.specs.Inside.Holding.{HasWaited}
 
 -- The last step says what was found.
 looked_twice : (n k : ℕ) (ps : List PassView) → map (looked false n) (map (looked false k) ps) ≡ map (looked false n) ps

@@ -34,11 +34,6 @@ pub record AreAllPassesOf (unit : UnitName) (passes : List PassState) : Type 0 w
   pub count : length passes ≡ unit.bounds.passes
   pub each : (i : ℕ) (pass : PassState) → IsAt passes i pass → IsPassOf unit pass × (pass.view.number ≡ i)
 
--- The views are those of all passes, each at the place of its number.
-pub record AreAllViews (n : ℕ) (views : List PassView) : Type 0 where
-  pub count : length views ≡ n
-  pub each : (i : ℕ) (view : PassView) → IsAt views i view → view.number ≡ i
-
 -- The unit's history at the end: lawful and within the limit, each entry by a pass, with just the passes' own
 -- entries under their numbers. It begins with what each pass had seen, and is no shorter than anything that
 -- one had found: a pass's marks never fall, none is above its floor, and the floor isn't above the number of

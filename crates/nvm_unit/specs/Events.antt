@@ -1,7 +1,6 @@
 -- What can happen to a shared unit. An event is one atomic step on its word, by one group of passes, or
 -- by two. Of all views it changes theirs alone. Joins and splits see no word, so they leave each floor.
 use Rattle.std.specs.Prelude.{◌≡◌, ◌≢◌, ℕ, ◌+◌, ◌*◌, ◌/◌, ◌<◌, List, [], ◌∷◌, ◌++◌, map, take, drop, length, slice_set, Bool, true, false, Some, None}
-use Rattle.nvm_record.specs.Step.{Deed, writes, zeroes, uncorrectable, reads, compares, pairs}
 use Rattle.nvm_store.specs.HistoryEntry.{HistoryEntry}
 use Rattle.nvm_store.specs.History.{CanFollow}
 use Rattle.nvm_unit.specs.declared.bounds.Bounds.{Bounds}
@@ -60,13 +59,13 @@ after_take s j g =
 
 -- the state after the group j put the unit back with what it held and one entry more
 abbrev pub after_put : UnitState → ℕ → PassView → List HistoryEntry → HistoryEntry → UnitState
-after_put s j p held line =
+after_put s j p held entry =
     record {
       word = 2 * number_found s + 2;
-      slot = Some (held ++ line ∷ []);
-      history = s.history ++ line ∷ [];
+      slot = Some (held ++ entry ∷ []);
+      history = s.history ++ entry ∷ [];
       holder = None;
-      groups = slice_set s.groups j (idle (added (number_found s) s.history line p ∷ []));
+      groups = slice_set s.groups j (idle (added (number_found s) s.history entry p ∷ []));
     }
 
 -- the state after the group j put the unit back as it was
@@ -90,23 +89,13 @@ abbrev pub after_split : UnitState → ℕ → ℕ → List PassView → UnitSta
 after_split s j i ps =
     record s { groups = slice_set s.groups j (idle (take i ps)) ++ idle (drop i ps) ∷ [] }
 
--- The deed is an act's: neither a Read nor a Compare by itself.
-abbrev pub IsAct : Deed → Type 0
-IsAct (writes payload) = Unit {0}
-IsAct zeroes = Unit {0}
-IsAct uncorrectable = Unit {0}
-IsAct reads = ⊥
-IsAct (compares payload) = ⊥
-IsAct (pairs compare write) = Unit {0}
-
--- The pass can add the entry: it holds the unit and is alone, the entry is an act's and bears its number,
--- lies in the unit and succeeds behind the history, and there is room.
-pub record CanAdd (b : Bounds) (s : UnitState) (j : ℕ) (p : PassView) (held : List HistoryEntry) (line : HistoryEntry) : Type 0 where
+-- The pass can add the entry: it holds the unit and is alone, the entry bears its number and can follow the
+-- history, and there is room.
+pub record CanAdd (b : Bounds) (s : UnitState) (j : ℕ) (p : PassView) (held : List HistoryEntry) (entry : HistoryEntry) : Type 0 where
   pub at : IsAt s.groups j (record { passes = p ∷ []; held = Some held })
   pub holds : s.holder ≡ Some j
-  pub act : IsAct line.operation.deed
-  pub number : line.pass ≡ p.number
-  pub follows : CanFollow b.place s.history line
+  pub number : entry.pass ≡ p.number
+  pub follows : CanFollow b.place s.history entry
   pub room : number_found s < b.limit
 
 -- The event can happen in the state s, and leads to the state t.
@@ -115,8 +104,8 @@ Happens b s (loads j decides) t = (g : Group) × CanStep s j g decides × (t ≡
 Happens b s (takes j) t =
     (g : Group) × CanStep s j g false × (s.word ≡ 2 * number_found s) × (t ≡ after_take s j g)
 Happens b s (misses j decides) t = (g : Group) × CanStep s j g decides × (t ≡ after_look s j g decides)
-Happens b s (adds j line) t =
-    (p : PassView) × (held : List HistoryEntry) × CanAdd b s j p held line × (t ≡ after_put s j p held line)
+Happens b s (adds j entry) t =
+    (p : PassView) × (held : List HistoryEntry) × CanAdd b s j p held entry × (t ≡ after_put s j p held entry)
 Happens b s (returns j decides) t =
     (g : Group) × CanStep s j g decides × (s.holder ≡ Some j) × (t ≡ after_return s j g decides)
 Happens b s (joins j k) t =

@@ -2,12 +2,8 @@ pub mod Views
 pub mod Machine
 pub mod Events
 pub mod Knowledge
-pub mod Book
-pub mod Rule
-pub mod Plays
-pub mod Holding
 pub mod Passes
 pub mod Replies
 pub mod Marks
-pub mod Alone
 pub mod Ends
+pub mod Inside

@@ -54,7 +54,7 @@ pub record IsHeld (b : Bounds) (s : UnitState) : Type 0 where
 pub record AreMarked (s : UnitState) : Type 0 where
   pub marks : EachPass (λ p. RiseWithin 0 p.marks p.floor) s.groups
   pub floors : EachPass (λ p. p.floor ≤ length s.history) s.groups
-  pub bears : (k : ℕ) (line : HistoryEntry) → IsAt s.history k line → IsNumbered s.groups line.pass
+  pub bears : (k : ℕ) (entry : HistoryEntry) → IsAt s.history k entry → IsNumbered s.groups entry.pass
   pub mine : EachPass (λ p. entries_by p.number s.history ≡ p.mine) s.groups
 
 pub record IsSound (b : Bounds) (s : UnitState) : Type 0 where

@@ -1,36 +1,23 @@
 -- What a call leaves in its pass: a mark where it decides, none where it doesn't.
-use Rattle.std.specs.Prelude.{◌≡◌, ℕ, ◌+◌, ◌≤◌, List, [], ◌∷◌, ◌++◌, length, Ok, Err, Result}
+use Rattle.std.specs.Prelude.{◌≡◌, ℕ, ◌+◌, ◌≤◌, List, [], ◌∷◌, ◌++◌, length, if◌then◌else◌, Ok, Err, Result}
 use Rattle.nvm_record.specs.Step.{Operation}
 use Rattle.nvm_store.specs.HistoryEntry.{HistoryEntry}
 use Rattle.nvm_unit.specs.declared.views.PassView.{PassView}
 use Rattle.nvm_unit.specs.declared.replies.Changed.{Changed}
-use Rattle.nvm_unit.specs.declared.replies.Changed.TheVariants.{Done, Failed, NoMemory, Full}
 use Rattle.nvm_unit.specs.declared.replies.Observed.{Observed}
 use Rattle.nvm_unit.specs.declared.replies.ObserveFault.{ObserveFault}
 use Rattle.nvm_unit.specs.declared.replies.ObserveFault.TheVariants as observe_fault
-use Rattle.nvm_unit.specs.Replies.{entry_of_job}
+use Rattle.nvm_unit.specs.Replies.{is_done, point_of, entry_of_job}
 use Rattle.nvm_unit.specs.Views.{Begins}
 
--- the point on which the answer to a change rests
-abbrev pub point_of : Changed → ℕ
-point_of (Done place) = place
-point_of (Failed point statuses) = point
-point_of (NoMemory point) = point
-point_of (Full point) = point
-
--- the number of entries that the pass has seen after it
+-- the number of entries that the pass has seen after the change
 abbrev pub entries_after : Changed → ℕ
-entries_after (Done place) = place + 1
-entries_after (Failed point statuses) = point
-entries_after (NoMemory point) = point
-entries_after (Full point) = point
+entries_after changed = if is_done changed then point_of changed + 1 else point_of changed
 
 -- the pass's own entries after it
 abbrev pub mine_after : Changed → PassView → ℕ → Operation → List (ℕ × HistoryEntry)
-mine_after (Done place) p job op = p.mine ++ (place, entry_of_job p job op) ∷ []
-mine_after (Failed point statuses) p job op = p.mine
-mine_after (NoMemory point) p job op = p.mine
-mine_after (Full point) p job op = p.mine
+mine_after changed p job op =
+    if is_done changed then p.mine ++ (point_of changed, entry_of_job p job op) ∷ [] else p.mine
 
 -- the point on which the answer to a look rests
 abbrev pub point_of_look : Result Observed ObserveFault → ℕ

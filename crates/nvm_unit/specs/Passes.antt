@@ -26,7 +26,7 @@ pub record IsPassOf (unit : UnitName) (pass : PassState) : Type 0 where
 
 -- Each entry bears the number of one of so many passes.
 abbrev pub BearsNumbers : ℕ → List HistoryEntry → Type 0
-BearsNumbers count history = (k : ℕ) (line : HistoryEntry) → IsAt history k line → line.pass < count
+BearsNumbers count history = (k : ℕ) (entry : HistoryEntry) → IsAt history k entry → entry.pass < count
 
 -- The history is lawful in the unit and not above its limit, and each entry is by one of its passes.
 pub record IsHistoryOf (b : Bounds) (history : List HistoryEntry) : Type 0 where

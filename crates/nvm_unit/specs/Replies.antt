@@ -1,13 +1,9 @@
 -- What a call answers, and what its pass has seen and done then. The call's deciding step finds a history, of
 -- as many entries as the answer's point: the answer is that of the step there.
-use Rattle.std.specs.Prelude.{◌≡◌, ℕ, ◌<◌, List, [], ◌∷◌, ◌++◌, length, true, false, Option, Some, None, Ok, Err, Result, IsSome}
+use Rattle.std.specs.Prelude.{◌≡◌, ℕ, ◌<◌, List, [], ◌∷◌, ◌++◌, length, if◌then◌else◌, Bool, true, false, Ok, Err, Result, IsSome}
 use Rattle.nvm_record.specs.Medium.{Medium}
-use Rattle.nvm_record.specs.declared.status.Statuses.{Statuses}
-use Rattle.nvm_record.specs.declared.status.Statuses.TheVariants.{One}
-use Rattle.nvm_record.specs.Status.{IsSuccess, successful_completion}
+use Rattle.nvm_record.specs.Status.{IsSuccess}
 use Rattle.nvm_record.specs.Step.{Operation, statuses_of, data_of}
-use Rattle.nvm_store.specs.declared.look.answer.Answer.{Answer}
-use Rattle.nvm_store.specs.declared.look.answer.Answer.TheVariants.{Payload, Status}
 use Rattle.nvm_store.specs.Answer.{IsAnswer}
 use Rattle.nvm_store.specs.History.{replay_of}
 use Rattle.nvm_store.specs.HistoryEntry.{HistoryEntry}
@@ -19,7 +15,6 @@ use Rattle.nvm_unit.specs.declared.replies.Changed.TheVariants.{Done, Failed, No
 use Rattle.nvm_unit.specs.declared.replies.Observed.{Observed}
 use Rattle.nvm_unit.specs.declared.replies.ObserveFault.{ObserveFault}
 use Rattle.nvm_unit.specs.declared.replies.ObserveFault.TheVariants as observe_fault
-use Rattle.nvm_unit.specs.Book.{Recorded}
 use Rattle.nvm_unit.specs.Views.{shown, added}
 use Rattle.nvm_unit.specs.Passes.{Finds}
 
@@ -31,10 +26,24 @@ medium_at b history = replay_of b.place.size history
 abbrev pub entry_of_job : PassView → ℕ → Operation → HistoryEntry
 entry_of_job p job op = record { pass = p.number; job = job; operation = op }
 
+-- whether the answer says that the act was done
+abbrev pub is_done : Changed → Bool
+is_done (Done point) = true
+is_done (Failed point statuses) = false
+is_done (NoMemory point) = false
+is_done (Full point) = false
+
+-- the point on which the answer to a change rests
+abbrev pub point_of : Changed → ℕ
+point_of (Done point) = point
+point_of (Failed point statuses) = point
+point_of (NoMemory point) = point
+point_of (Full point) = point
+
 -- What may be answered to a change, where a history of so many entries leads to this medium.
 abbrev pub AnswersChange : Changed → ℕ → ℕ → Operation → Medium → Type 0
-AnswersChange (Done place) entries limit op m =
-    (place ≡ entries) × (entries < limit) × IsSuccess (statuses_of op m)
+AnswersChange (Done point) entries limit op m =
+    (point ≡ entries) × (entries < limit) × IsSuccess (statuses_of op m)
 AnswersChange (Failed point statuses) entries limit op m =
     (point ≡ entries) × IsFailedPair op m × (statuses ≡ statuses_of op m)
 AnswersChange (NoMemory point) entries limit op m = (point ≡ entries) × (entries < limit) × (¬ IsFailedPair op m)
@@ -42,17 +51,12 @@ AnswersChange (Full point) entries limit op m = (point ≡ entries) × (entries 
 
 -- The history after a change that was answered so: `Done` alone adds the entry.
 abbrev pub history_after : Changed → List HistoryEntry → HistoryEntry → List HistoryEntry
-history_after (Done place) history line = history ++ line ∷ []
-history_after (Failed point statuses) history line = history
-history_after (NoMemory point) history line = history
-history_after (Full point) history line = history
+history_after changed history entry = if is_done changed then history ++ entry ∷ [] else history
 
 -- the pass after it
 abbrev pub pass_after : Changed → List HistoryEntry → HistoryEntry → PassView → PassView
-pass_after (Done place) history line p = added (length history) history line p
-pass_after (Failed point statuses) history line p = shown true (length history) history p
-pass_after (NoMemory point) history line p = shown true (length history) history p
-pass_after (Full point) history line p = shown true (length history) history p
+pass_after changed history entry p =
+    if is_done changed then added (length history) history entry p else shown true (length history) history p
 
 -- What `change` answers, and the pass after it.
 abbrev pub Makes : Changed → PassView → ℕ → Operation → PassView → Type 0
@@ -73,15 +77,6 @@ Observes answer p op q =
     × AnswersLook answer (length history) op (medium_at p.bounds history)
     × (q ≡ shown true (length history) history p)
 
--- the statuses that an answer to a look tells, and the data that it gives
-abbrev pub told_by : Answer → Statuses
-told_by (Payload bytes) = One successful_completion
-told_by (Status status) = One status
-
-abbrev pub read_by : Answer → Option (List ℕ)
-read_by (Payload bytes) = Some bytes
-read_by (Status status) = None
-
 -- The pass was brought to the history that a step found, with no mark.
 abbrev pub IsBroughtUp : PassView → PassView → Type 0
 IsBroughtUp p q = (history : List HistoryEntry) × Finds (length history) p history × (q ≡ shown false (length history) history p)
@@ -91,9 +86,3 @@ abbrev pub Meet : PassView → PassView → PassView → PassView → Type 0
 Meet p o q r =
     (history : List HistoryEntry) × Finds (length history) p history × Finds (length history) o history
     × (q ≡ shown false (length history) history p) × (r ≡ shown false (length history) history o)
-
--- What is answered of a book in hand, and what becomes of the book.
-abbrev pub Attempts : Changed → ℕ → HistoryEntry → Recorded → Recorded → Type 0
-Attempts changed limit line old new =
-    AnswersChange changed (length old.history) limit line.operation (replay_of old.place.size old.history)
-    × (new ≡ record { place = old.place; history = history_after changed old.history line })

@@ -12,9 +12,9 @@ Begins seen history = (rest : List HistoryEntry) × (history ≡ seen ++ rest)
 -- the entries that bear the pass's number, each with its place, where the first place is `from`
 abbrev pub entries_by_from : ℕ → ℕ → List HistoryEntry → List (ℕ × HistoryEntry)
 entries_by_from from pass [] = []
-entries_by_from from pass (line ∷ lines) =
-    if line.pass == pass then (from, line) ∷ entries_by_from (suc from) pass lines
-    else entries_by_from (suc from) pass lines
+entries_by_from from pass (entry ∷ entries) =
+    if entry.pass == pass then (from, entry) ∷ entries_by_from (suc from) pass entries
+    else entries_by_from (suc from) pass entries
 
 -- the entries of a history that bear the pass's number, each with its place
 abbrev pub entries_by : ℕ → List HistoryEntry → List (ℕ × HistoryEntry)
@@ -43,10 +43,10 @@ shown decides n history p = record p { seen = history; marks = marks_after decid
 
 -- after the step that adds the entry behind the history
 abbrev pub added : ℕ → List HistoryEntry → HistoryEntry → PassView → PassView
-added n history line p =
+added n history entry p =
     record p {
-      seen = history ++ line ∷ [];
-      mine = p.mine ++ (n, line) ∷ [];
+      seen = history ++ entry ∷ [];
+      mine = p.mine ++ (n, entry) ∷ [];
       marks = p.marks ++ n ∷ [];
       floor = n;
     }

@@ -3,11 +3,12 @@ ghost use Rattle.nvm_store.specs.ActRef.{lent_operation_of};
 ghost use Rattle.nvm_store.specs.Place.{IsCovered};
 ghost use Rattle.nvm_store.specs.History.{replay_of};
 ghost use Rattle.nvm_store.specs.Look.{look_operation_of};
-ghost use Rattle.nvm_unit.specs.Replies.{AnswersLook, Attempts};
+ghost use Rattle.nvm_unit.specs.Replies.{AnswersLook};
+ghost use Rattle.nvm_unit.specs.Inside.Attempt.{Attempts};
 
 use crate::book::Book;
 use crate::replies::{Changed, ObserveFault, Observed};
-use nvm_store::laws::act_succeeds_unless_failed_pair;
+use nvm_store::laws::{act_succeeds_unless_failed_pair, acts_and_looks};
 use nvm_store::{ActRef, Limit, Look};
 use std::alloc::Global;
 
@@ -25,6 +26,7 @@ pub(crate) fn attempt(
     requires within { length book.old.history ≤ limit }
     ensures { Attempts result limit (record { pass = pass; job = job; operation = lent_operation_of act.entry }) book.old book.new }
 {
+    acts_and_looks();
     act_succeeds_unless_failed_pair();
     let most = limit.entries();
     let point = book.entries() as u32;
@@ -36,7 +38,7 @@ pub(crate) fn attempt(
         return Changed::Full { point };
     }
     match book.add(alloc, pass, job, act) {
-        Ok(()) => Changed::Done { at: point },
+        Ok(()) => Changed::Done { point },
         Err(_) => Changed::NoMemory { point },
     }
 }

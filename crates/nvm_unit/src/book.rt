@@ -4,7 +4,7 @@ ghost use Rattle.nvm_record.specs.Status.{IsSuccess};
 ghost use Rattle.nvm_record.specs.Step.{statuses_of, data_of};
 ghost use Rattle.nvm_store.specs.ActRef.{lent_operation_of};
 ghost use Rattle.nvm_store.specs.Answer.{IsAnswer};
-ghost use Rattle.nvm_store.specs.Contents.{Holds, IsUnit};
+ghost use Rattle.nvm_store.specs.Contents.{Holds, LiesAt};
 ghost use Rattle.nvm_store.specs.Place.{IsCovered};
 ghost use Rattle.nvm_store.specs.History.{replay_of};
 ghost use Rattle.nvm_store.specs.Look.{look_operation_of};
@@ -25,19 +25,14 @@ pub struct Book {
 }
 
 impl Model for Book {
-    ghost use Rattle.std.specs.Prelude.{length};
-    ghost use Rattle.nvm_store.specs.Contents.{Holds};
+    ghost use Rattle.nvm_store.specs.Contents.{Holds, place_of};
     ghost use Rattle.nvm_store.specs.History.{replay_of};
-    ghost use Rattle.nvm_unit.specs.Book.{Recorded};
+    ghost use Rattle.nvm_unit.specs.Inside.Book.{Recorded};
 
     ghost Value = { Recorded };
 
     ghost view = { λ b. record {
-      place = record {
-        first = b.blocks.first;
-        blocks = length b.blocks.blocks;
-        size = b.blocks.size;
-      };
+      place = place_of b.blocks;
       history = b.history.items;
     } };
 
@@ -48,7 +43,7 @@ impl Book {
     /// The book of a unit whose blocks are all zero bytes. It has no entry, and takes no memory.
     pub fn new(alloc: Global, blocks: UnitBlocks) -> Book
         requires { Holds blocks (zero_medium blocks.size) }
-        ensures place { IsUnit result.place blocks }
+        ensures place { LiesAt result.place blocks }
         ensures history { result.history ≡ [] }
     {
         Book {
@@ -117,7 +112,7 @@ impl Book {
     {
         let mut copies = Vec::with_capacity(alloc, self.history.len())?;
         for entry in &self.history {
-            copies.push(copy_of(alloc, entry)?)?;
+            copies.push(entry.clone()?)?;
         }
         Ok(copies)
     }
@@ -129,16 +124,4 @@ impl Book {
         let Book { history, blocks: _ } = self;
         history
     }
-}
-
-/// A copy of the entry.
-fn copy_of(alloc: Global, entry: &Entry) -> Result<Entry, NoMemory>
-    ensures { IfOk result (λ copy. copy ≡ entry.now) }
-{
-    let act = entry.act.as_ref().to_act(alloc)?;
-    Ok(Entry {
-        pass: entry.pass,
-        job: entry.job,
-        act,
-    })
 }

@@ -1,7 +1,7 @@
 use nvm_store::{Limit, Place};
 
 /// What is settled of a unit when it is made.
-#[derive(Clone, Copy, Debug)]
+#[derive(Clone, Copy, Debug, PartialEq, Eq)]
 pub struct Bounds {
     /// Its LBAs and the size of its blocks.
     pub place: Place,

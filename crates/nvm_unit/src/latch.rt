@@ -1,11 +1,11 @@
 ghost use Rattle.std.specs.Prelude.{◌≡◌, ◌≢◌, ◌⊎◌, ℕ, ◌+◌, ◌*◌, ◌%◌, ◌^◌, ◌<◌, List, [], ◌∷◌, length, false};
 ghost use Rattle.nvm_store.specs.Limit.{IsLimit};
-ghost use Rattle.nvm_unit.specs.Alone.{only};
+ghost use Rattle.nvm_unit.specs.Inside.Seats.{only};
 ghost use Rattle.nvm_store.specs.HistoryEntry.{HistoryEntry};
 ghost use Rattle.nvm_unit.specs.declared.bounds.Bounds.{Bounds as UnitBounds};
 ghost use Rattle.nvm_unit.specs.declared.views.PassView.{PassView as View};
-ghost use Rattle.nvm_unit.specs.Plays.{resting, holding, Takes};
-ghost use Rattle.nvm_unit.specs.Holding.{HasWaited, HasHeld, HasMet, CanGiveBack, CanGiveMore, GivesBack, GivesMore};
+ghost use Rattle.nvm_unit.specs.Inside.Plays.{resting, holding, Takes};
+ghost use Rattle.nvm_unit.specs.Inside.Holding.{HasWaited, HasHeld, HasMet, CanGiveBack, CanGiveMore, GivesBack, GivesMore};
 
 use crate::book::Book;
 use crate::rule::{Decides, Never};
@@ -115,8 +115,8 @@ impl Latch {
         requires few { length book.history < 2 ^ 32 }
         requires ready { ((ps : List View) × (history : List HistoryEntry) × (b : UnitBounds)
             × CanGiveBack D.decides book token.old.seat.me ps history b)
-            ⊎ ((p : View) × (history : List HistoryEntry) × (line : HistoryEntry)
-            × CanGiveMore book token.old.seat.me p history line) }
+            ⊎ ((p : View) × (history : List HistoryEntry) × (entry : HistoryEntry)
+            × CanGiveMore book token.old.seat.me p history entry) }
         ensures at { token.new.seat.table_id ≡ token.old.seat.table_id }
         ensures back { GivesBack D.decides book token.old.seat.me token.new.seat.me }
         ensures more { GivesMore book token.old.seat.me token.new.seat.me }

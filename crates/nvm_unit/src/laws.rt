@@ -3,6 +3,7 @@
 ghost use Rattle.std.specs.Prelude.{◌≡◌, ◌≤◌, ℕ, List, length, true, Result, Ok, None};
 ghost use Rattle.nvm_record.specs.declared.status.Statuses.{Statuses};
 ghost use Rattle.nvm_record.specs.Step.{Operation};
+ghost use Rattle.nvm_store.specs.Answer.{told_by, read_by};
 ghost use Rattle.nvm_store.specs.HistoryEntry.{HistoryEntry};
 ghost use Rattle.nvm_store.specs.Point.{point, RestsOn};
 ghost use Rattle.nvm_unit.specs.declared.bounds.Bounds.{Bounds as UnitBounds};
@@ -21,7 +22,6 @@ ghost use Rattle.nvm_unit.specs.Marks.{
   HasMarked,
   entries_after,
   mine_after,
-  point_of,
   point_of_look,
 };
 ghost use Rattle.nvm_unit.specs.Passes.{Finds, IsProperPass, PassState, UnitName};
@@ -35,8 +35,7 @@ ghost use Rattle.nvm_unit.specs.Replies.{
   entry_of_job,
   medium_at,
   pass_after,
-  told_by,
-  read_by,
+  point_of,
 };
 ghost use Rattle.nvm_unit.specs.Views.{Begins, entries_by, newcomer, shown};
 
@@ -59,8 +58,8 @@ pub fn changes_rest_on_their_points()
         → Makes changed p job op q → Begins q.seen history
         → (n : ℕ) × (n ≤ length history)
         × AnswersChange changed n p.bounds.limit op (point p.bounds.place.size history n) }
-    ensures done { (place : ℕ) (p q : View) (job : ℕ) (op : Operation) (history : List HistoryEntry)
-        → Makes (Done place) p job op q → Begins q.seen history → IsAt history place (entry_of_job p job op) }
+    ensures done { (n : ℕ) (p q : View) (job : ℕ) (op : Operation) (history : List HistoryEntry)
+        → Makes (Done n) p job op q → Begins q.seen history → IsAt history n (entry_of_job p job op) }
     ensures failed { (n : ℕ) (statuses : Statuses) (p q : View) (job : ℕ) (op : Operation) (history : List HistoryEntry)
         → Makes (Failed n statuses) p job op q → Begins q.seen history
         → RestsOn p.bounds.place.size history n op statuses None }
@@ -130,10 +129,10 @@ pub fn new_passes_are_all()
 /// Each entry of a history stands, with its place, among those of the pass whose number it bears; and what
 /// stands among a pass's entries stands at that place of the history and bears its number.
 pub fn entries_are_their_passes_own()
-    ensures among { (history : List HistoryEntry) (k : ℕ) (line : HistoryEntry)
-        → IsAt history k line → (i : ℕ) × IsAt (entries_by line.pass history) i (k, line) }
-    ensures stands { (number : ℕ) (history : List HistoryEntry) (i k : ℕ) (line : HistoryEntry)
-        → IsAt (entries_by number history) i (k, line) → IsAt history k line × (line.pass ≡ number) }
+    ensures among { (history : List HistoryEntry) (k : ℕ) (entry : HistoryEntry)
+        → IsAt history k entry → (i : ℕ) × IsAt (entries_by entry.pass history) i (k, entry) }
+    ensures stands { (number : ℕ) (history : List HistoryEntry) (i k : ℕ) (entry : HistoryEntry)
+        → IsAt (entries_by number history) i (k, entry) → IsAt history k entry × (entry.pass ≡ number) }
 {}
 
 /// The pass of a unit that has one pass finds just what it had seen, so what it is answered, and what it has

@@ -31,5 +31,5 @@ pub use bounds::Bounds;
 pub use gate::{Gate, Open};
 pub use pass::Pass;
 pub use replies::{Changed, ObserveFault, Observed};
-pub use unit::Unit;
+pub use unit::{MOST_PASSES, Unit};
 pub use unit_fault::UnitFault;

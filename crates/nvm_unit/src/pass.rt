@@ -1,6 +1,6 @@
 ghost use Rattle.std.specs.Prelude.{◌≡◌, [], ◌∷◌};
 ghost use Rattle.nvm_unit.specs.Passes.{IsProperPass};
-ghost use Rattle.nvm_unit.specs.Plays.{resting};
+ghost use Rattle.nvm_unit.specs.Inside.Plays.{resting};
 
 use crate::steps::Token;
 use std::marker::Model;
@@ -19,9 +19,9 @@ pub struct Pass {
 
 impl Model for Pass {
     ghost use Rattle.std.specs.Prelude.{◌≡◌, [], ◌∷◌, length};
-    ghost use Rattle.nvm_unit.specs.Plays.{resting};
+    ghost use Rattle.nvm_unit.specs.Inside.Plays.{resting};
     ghost use Rattle.nvm_unit.specs.Passes.{PassState, IsProperPass};
-    ghost use Rattle.nvm_unit.specs.Alone.{only};
+    ghost use Rattle.nvm_unit.specs.Inside.Seats.{only};
 
     ghost Value = { PassState };
 

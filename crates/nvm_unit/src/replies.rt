@@ -1,27 +1,43 @@
+ghost use Rattle.std.specs.Prelude.{◌≡◌};
+
 use nvm_record::Statuses;
 use nvm_store::Answer;
+use std::alloc::AllocError;
 
-/// What [`Unit::change`](crate::Unit::change) answers. In all cases but `Done` the unit's history and
-/// blocks are unchanged.
+/// What [`Unit::change`](crate::Unit::change) answers. The point is the number of entries on whose replay
+/// the answer rests. In all cases but `Done` the unit's history and blocks are unchanged.
 #[derive(Clone, Copy, Debug, PartialEq, Eq)]
 pub enum Changed {
-    /// The act was done; its entry stands at place `at` of the history.
-    Done { at: u32 },
-    /// The act is a pair, and its comparison failed at this point.
+    /// The act was done. So many entries stand before its own.
+    Done { point: u32 },
+    /// The act is a pair whose comparison failed, with these statuses.
     Failed { point: u32, statuses: Statuses },
-    /// Memory was asked for and refused. The act would have been done at this point.
+    /// Memory was asked for and refused. The act would have been done.
     NoMemory { point: u32 },
     /// The history is at its limit, which is the point. The act isn't a pair whose comparison fails there.
     Full { point: u32 },
 }
 
 /// What [`Unit::observe`](crate::Unit::observe) answers.
-#[derive(Debug, Drop)]
+#[derive(Debug, PartialEq, Eq, Drop)]
 pub struct Observed {
     /// The number of entries on whose replay the answer rests.
     pub point: u32,
     /// The answer.
     pub answer: Answer,
+}
+
+/// A copy of it and of its data, which takes memory.
+impl Clone for Observed {
+    ghost is_clone = { λ observed copy. copy ≡ observed };
+
+    fn clone(&self) -> Result<Observed, AllocError> {
+        let answer = self.answer.clone()?;
+        Ok(Observed {
+            point: self.point,
+            answer,
+        })
+    }
 }
 
 /// Why [`Unit::observe`](crate::Unit::observe) has no answer.

@@ -1,7 +1,7 @@
 //! The rule of a unit's table, and what its steps tell.
 ghost use Rattle.std.specs.Prelude.{ℕ, Bool, true, false};
-ghost use Rattle.nvm_unit.specs.Rule.{IsRuled, all_newcomers};
-ghost use Rattle.nvm_unit.specs.Plays.{looks, tries, puts, first_of, others_of, together};
+ghost use Rattle.nvm_unit.specs.Inside.Rule.{IsRuled, all_newcomers};
+ghost use Rattle.nvm_unit.specs.Inside.Plays.{looks, tries, puts, first_of, others_of, together};
 ghost use Rattle.nvm_unit.specs.Events.{idle};
 ghost use Rattle.std.specs.Prelude.{[]};
 

@@ -4,7 +4,7 @@ ghost use Rattle.nvm_unit.specs.Ends.{pass_at, views_of};
 ghost use Rattle.nvm_unit.specs.Machine.{newcomers_from};
 ghost use Rattle.nvm_record.specs.Lists.{IsAt};
 ghost use Rattle.nvm_unit.specs.Passes.{PassState};
-ghost use Rattle.nvm_unit.specs.Plays.{resting};
+ghost use Rattle.nvm_unit.specs.Inside.Plays.{resting};
 
 use crate::pass::Pass;
 use crate::steps;

@@ -5,11 +5,12 @@ ghost use Rattle.nvm_store.specs.HistoryEntry.{HistoryEntry};
 ghost use Rattle.nvm_unit.specs.declared.bounds.Bounds.{Bounds as UnitBounds};
 ghost use Rattle.nvm_unit.specs.declared.views.PassView.{PassView as View};
 ghost use Rattle.nvm_unit.specs.declared.views.Group.{Group as Carried};
-ghost use Rattle.nvm_unit.specs.Book.{Recorded, recorded};
+ghost use Rattle.nvm_unit.specs.Inside.Book.{Recorded, recorded};
 ghost use Rattle.nvm_unit.specs.Events.{loads, takes, misses};
-ghost use Rattle.nvm_unit.specs.Ends.{AreAllViews, IsWholeHistory, HasCome};
+ghost use Rattle.nvm_unit.specs.Ends.{IsWholeHistory, HasCome};
+ghost use Rattle.nvm_unit.specs.Inside.Seats.{AreAllViews};
 ghost use Rattle.nvm_unit.specs.Machine.{newcomers};
-ghost use Rattle.nvm_unit.specs.Plays.{resting, holding, HasLooked, WasEvent, WasPut, Takes, ReturnsAs, AddsAs, CanReturn, CanAppend};
+ghost use Rattle.nvm_unit.specs.Inside.Plays.{resting, holding, HasLooked, WasEvent, WasPut, Takes, ReturnsAs, AddsAs, CanReturn, CanAppend};
 
 use crate::book::Book;
 use crate::bounds::Bounds;
@@ -72,8 +73,8 @@ pub fn put<D: Decides>(desk: &Desk, token: &mut Token, entries: u64)
     requires few { entries < 2 ^ 32 }
     requires ready { ((ps : List View) × (history : List HistoryEntry) × (b : UnitBounds)
         × CanReturn D.decides entries token.old.seat.me ps history b)
-        ⊎ ((p : View) × (history : List HistoryEntry) × (line : HistoryEntry)
-        × CanAppend entries token.old.seat.me p history line) }
+        ⊎ ((p : View) × (history : List HistoryEntry) × (entry : HistoryEntry)
+        × CanAppend entries token.old.seat.me p history entry) }
     ensures at { token.new.seat.table_id ≡ token.old.seat.table_id }
     ensures returned { ReturnsAs D.decides entries token.old.seat.me token.new.seat.me }
     ensures added { AddsAs entries token.old.seat.me token.new.seat.me }

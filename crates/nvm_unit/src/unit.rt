@@ -1,10 +1,14 @@
 ghost use Rattle.std.specs.Prelude.{◌≡◌, ◌↔◌, ◌+◌, ◌≤◌, ◌<◌, IfOk, IfErr, IsTrue, length};
 ghost use Rattle.nvm_unit.specs.Ends.{IsPassCount, IsUnitFault, new_passes, AreAllPassesOf, IsWholeHistory, HasCome, views_of};
 ghost use Rattle.nvm_store.specs.ActRef.{lent_operation_of};
+ghost use Rattle.nvm_record.specs.Medium.{zero_medium};
+ghost use Rattle.nvm_store.specs.Contents.{Holds, LiesAt};
 ghost use Rattle.nvm_store.specs.Place.{IsCovered};
 ghost use Rattle.nvm_store.specs.Look.{look_operation_of};
 ghost use Rattle.nvm_unit.specs.Passes.{IsPassOf, IsProperPass};
-ghost use Rattle.nvm_unit.specs.Replies.{Makes, Observes, IsBroughtUp, Meet};
+ghost use Rattle.nvm_store.specs.History.{replay_of};
+ghost use Rattle.nvm_unit.specs.Inside.Holding.{IsBookOf, Visits};
+ghost use Rattle.nvm_unit.specs.Replies.{AnswersLook, Makes, Observes, IsBroughtUp, Meet};
 
 use crate::attempt::{attempt, observed};
 use crate::book::Book;
@@ -13,12 +17,12 @@ use crate::gate::Gate;
 use crate::latch::Latch;
 use crate::pass::Pass;
 use crate::replies::{Changed, ObserveFault, Observed};
-use crate::rule::{Always, Never};
+use crate::rule::{Always, Decides, Never};
 use crate::seats::{deal, gather};
 use crate::steps;
 use crate::unit_fault::UnitFault;
-use nvm_record::{BlockSize, NoMemory};
-use nvm_store::laws::lawful_with_one_more;
+use nvm_record::NoMemory;
+use nvm_store::laws::{acts_and_looks, lawful_with_one_more};
 use nvm_store::{ActRef, History, Limit, Look, Place, UnitBlocks};
 use std::alloc::Global;
 use std::marker::Model;
@@ -56,44 +60,35 @@ impl Model for Unit {
 }
 
 impl Unit {
-    /// The unit of `blocks` blocks of this size from LBA `first`, all of them zero bytes, and its passes,
-    /// which are numbered from 0. The number of the unit is what a gate is told.
+    /// A new unit in this place, whose blocks are all zero bytes, and its passes, which are numbered from 0.
+    /// A gate is told the unit's number. `Passes` says that there can't be so many passes; a refusal of
+    /// memory leaves nothing.
     pub fn new(
         alloc: Global,
         number: u16,
-        first: u64,
-        blocks: u32,
-        size: BlockSize,
+        place: Place,
         passes: u16,
         limit: Limit,
     ) -> Result<(Unit, Vec<Pass>), UnitFault>
-        requires some { 0 < blocks }
-        requires low { first + blocks ≤ 65536 }
+        requires some { 0 < place.blocks }
+        requires low { place.first + place.blocks ≤ 65536 }
         ensures taken { IfOk result (λ u. IsPassCount passes) }
         ensures refused { IfErr result (IsUnitFault passes) }
-        ensures bounds { IfOk result (λ u. u.0.bounds ≡ record {
-          place = record { first = first; blocks = blocks; size = size };
-          passes = passes;
-          limit = limit;
-        }) }
+        ensures bounds { IfOk result (λ u. u.0.bounds ≡ record { place = place; passes = passes; limit = limit }) }
         ensures number { IfOk result (λ u. u.0.number ≡ number) }
         ensures passes { IfOk result (λ u. u.1.items ≡ new_passes u.0) }
     {
+        // For the proof alone: how large a limit can be.
         let _entries = limit.entries();
         if passes == 0 || passes > MOST_PASSES {
             return Err(UnitFault::Passes);
         }
-        let place = Place {
-            first,
-            blocks,
-            size,
-        };
         let bounds = Bounds {
             place,
             passes,
             limit,
         };
-        let book = Book::new(alloc, UnitBlocks::zeroed(alloc, first, blocks, size)?);
+        let book = Book::new(alloc, blocks_of(alloc, bounds)?);
         let (desk, token) = steps::open(alloc, bounds, book)?;
         let dealt = deal(alloc, &desk, token, passes)?;
         let latch = Latch::new(desk);
@@ -160,6 +155,7 @@ impl Unit {
         ensures proper { IsProperPass pass.new.view }
     {
         lawful_with_one_more();
+        acts_and_looks();
         let mut book = self.latch.hold(rt, &mut pass.token, pass.entries);
         let changed = attempt(alloc, &mut book, self.bounds.limit, pass.number, job, act);
         gate.before_put(self.number, job);
@@ -183,11 +179,17 @@ impl Unit {
         ensures observed { Observes result pass.old.view (look_operation_of look.entry) pass.new.view }
         ensures proper { IsProperPass pass.new.view }
     {
-        let current = self.latch.hold(rt, &mut pass.token, pass.entries);
-        let observed = observed(alloc, &current, look);
-        pass.entries = current.entries() as u32;
-        self.latch.release::<Always>(&mut pass.token, current);
-        observed
+        self.visit::<Always, R, Look<'_>, Result<Observed, ObserveFault>, _>(
+            rt,
+            pass,
+            look,
+            |book: &Book, look: Look<'_>| -> Result<Observed, ObserveFault>
+                requires covered { IsCovered book.now.place (look_operation_of look) }
+                requires within { length book.now.history ≤ 4194304 }
+                ensures { AnswersLook result (length book.now.history) (look_operation_of look.entry)
+                    (replay_of book.now.place.size book.now.history) }
+            { observed(alloc, book, look) },
+        )
     }
 
     /// Brings the pass to the history that it finds. It waits for the unit, and takes no memory.
@@ -198,9 +200,7 @@ impl Unit {
         ensures up { IsBroughtUp pass.old.view pass.new.view }
         ensures proper { IsProperPass pass.new.view }
     {
-        let found = self.latch.hold(rt, &mut pass.token, pass.entries);
-        pass.entries = found.entries() as u32;
-        self.latch.release::<Never>(&mut pass.token, found);
+        self.visit::<Never, R, (), (), _>(rt, pass, (), |_book: &Book, _asked: ()| {});
     }
 
     /// Brings the pass to the history that it finds, and gives a copy of it. It waits for the unit. Where
@@ -218,11 +218,36 @@ impl Unit {
         ensures proper { IsProperPass pass.new.view }
         ensures seen { IfOk result (λ v. v.items ≡ pass.new.view.seen) }
     {
+        self.visit::<Never, R, (), Result<History, NoMemory>, _>(
+            rt,
+            pass,
+            (),
+            |book: &Book, _asked: ()| book.copy_of_history(alloc),
+        )
+    }
+
+    /// Takes the unit, lets its book be read, and puts it back as it was. `D` says whether an answer rests on
+    /// what was read.
+    fn visit<D: Decides, R: Wait, A, T, F: FnOnce(&Book, A) -> T>(
+        &self,
+        rt: &R,
+        pass: &mut Pass,
+        asked: A,
+        read: F,
+    ) -> T
+        requires of { IsPassOf self.now pass.old }
+        requires ready { (book : _) → IsBookOf self.now.bounds book.now → F.pre read book asked }
+        ensures of { IsPassOf self.now pass.new }
+        ensures number { pass.new.view.number ≡ pass.old.view.number }
+        ensures visited { Visits D.decides self.now.bounds pass.old.view pass.new.view
+            (λ pages. (book : _) × F.post read book asked result × (book.now ≡ pages)) }
+        ensures proper { IsProperPass pass.new.view }
+    {
         let book = self.latch.hold(rt, &mut pass.token, pass.entries);
-        let history = book.copy_of_history(alloc);
+        let answer = read(&book, asked);
         pass.entries = book.entries() as u32;
-        self.latch.release::<Never>(&mut pass.token, book);
-        history
+        self.latch.release::<D>(&mut pass.token, book);
+        answer
     }
 
     /// Brings both passes to one history, so that what either had seen stands in it. It waits for the
@@ -244,4 +269,15 @@ impl Unit {
         one.entries = entries;
         other.entries = entries;
     }
+}
+
+/// The blocks of a new unit, all of them zero bytes.
+fn blocks_of(alloc: Global, bounds: Bounds) -> Result<UnitBlocks, NoMemory>
+    requires some { 0 < bounds.place.blocks }
+    requires low { bounds.place.first + bounds.place.blocks ≤ 65536 }
+    ensures place { IfOk result (LiesAt bounds.place) }
+    ensures zeroes { IfOk result (λ unit. Holds unit (zero_medium bounds.place.size)) }
+{
+    let place = bounds.place;
+    UnitBlocks::zeroed(alloc, place.first, place.blocks, place.size)
 }

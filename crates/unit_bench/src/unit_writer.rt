@@ -6,7 +6,7 @@ ghost use Rattle.nvm_unit.specs.Passes.{IsPassOf};
 use crate::fault::Fault;
 use crate::writer::{BLOCK, Writer};
 use nvm_record::BlockSize;
-use nvm_store::{ActRef, Limit, Look};
+use nvm_store::{ActRef, Limit, Look, Place};
 use nvm_unit::{Changed, ObserveFault, Open, Pass, Unit, UnitFault};
 use std::alloc::Global;
 use std::sync::{Arc, Wait};
@@ -54,7 +54,12 @@ impl Writer for UnitWriter {
     ) -> Result<(UnitWriter, Vec<UnitWriter>), Fault> {
         let size = BlockSize::new(BLOCK as u32).ok_or(Fault::Refused)?;
         let limit = Limit::new(changes).ok_or(Fault::Refused)?;
-        let (unit, passes) = match Unit::new(alloc, 0, 0, blocks, size, writers + 1, limit) {
+        let place = Place {
+            first: 0,
+            blocks,
+            size,
+        };
+        let (unit, passes) = match Unit::new(alloc, 0, place, writers + 1, limit) {
             Ok(made) => made,
             Err(UnitFault::NoMemory) => return Err(Fault::NoMemory),
             Err(UnitFault::Passes) => return Err(Fault::Refused),

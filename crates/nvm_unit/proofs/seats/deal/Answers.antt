@@ -1,8 +1,8 @@
 use Rattle.std.proofs.Common.{◌≡◌, ap, refl, ◌∙◌, [], ◌∷◌, ◌++◌, map}
-use Rattle.nvm_unit.specs.Alone.{only}
+use Rattle.nvm_unit.specs.Inside.Seats.{only}
 use Rattle.nvm_unit.specs.Ends.{pass_at}
 use Rattle.nvm_unit.specs.Passes.{PassState}
-use Rattle.nvm_unit.specs.Plays.{resting}
+use Rattle.nvm_unit.specs.Inside.Plays.{resting}
 use Rattle.nvm_unit.specs.Views.{newcomer}
 use Rattle.nvm_unit.proofs.Alone.{closed, only_is}
 use Rattle.nvm_unit.proofs.Dealing.{next_left, newcomer_proper, dealt_more, same_pass}

@@ -1,7 +1,7 @@
 use Rattle.std.proofs.Common.{◌≡◌, ◌-◌, ◌++◌, map}
 use Rattle.nvm_unit.specs.Ends.{pass_at}
 use Rattle.nvm_unit.specs.Machine.{newcomers_from}
-use Rattle.nvm_unit.specs.Plays.{resting}
+use Rattle.nvm_unit.specs.Inside.Plays.{resting}
 use Rattle.nvm_unit.proofs.seats.deal.Given as goal
 
 -- The passes that are left complete those that have a seat of their own.

@@ -1,7 +1,7 @@
 use Rattle.std.proofs.Common.{◌∙◌, ap, length, List, ◌++◌}
 use Rattle.nvm_unit.specs.declared.views.PassView.{PassView}
 use Rattle.nvm_unit.specs.Ends.{views_of}
-use Rattle.nvm_unit.specs.Plays.{resting}
+use Rattle.nvm_unit.specs.Inside.Plays.{resting}
 use Rattle.nvm_unit.proofs.Dealing.{gathered_more, first_gathered, left_before, last_before}
 use Rattle.nvm_unit.proofs.Together.{rests_as, passes_are}
 use Rattle.nvm_unit.proofs.seats.gather.Goals as goal

@@ -2,7 +2,7 @@ use Rattle.std.proofs.Common.{◌≡◌, ℕ, ◌++◌, vec_len}
 use Rattle.nvm_unit.specs.Ends.{views_of}
 use Rattle.nvm_record.specs.Lists.{IsAt}
 use Rattle.nvm_unit.specs.Passes.{PassState}
-use Rattle.nvm_unit.specs.Plays.{resting}
+use Rattle.nvm_unit.specs.Inside.Plays.{resting}
 use Rattle.nvm_unit.proofs.seats.gather.Given as goal
 
 -- The passes at the seat complete those that are left.

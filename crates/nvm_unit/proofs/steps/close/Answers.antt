@@ -3,10 +3,10 @@ use Rattle.std.specs.Slots.{slots_items}
 use Rattle.atomic_table.specs.Table.{Final, Seen}
 use Rattle.nvm_store.specs.HistoryEntry.{HistoryEntry}
 use Rattle.nvm_unit.specs.declared.views.Group.{Group}
-use Rattle.nvm_unit.specs.Book.{Recorded, recorded}
+use Rattle.nvm_unit.specs.Inside.Book.{Recorded, recorded}
 use Rattle.nvm_unit.specs.Ends.{HasCome, IsWholeHistory}
-use Rattle.nvm_unit.specs.Plays.{Sits}
-use Rattle.nvm_unit.specs.Rule.{IsRuled}
+use Rattle.nvm_unit.specs.Inside.Plays.{Sits}
+use Rattle.nvm_unit.specs.Inside.Rule.{IsRuled}
 use Rattle.nvm_unit.proofs.Closing.{closing}
 use Rattle.nvm_unit.proofs.Lists.{at_one}
 use Rattle.nvm_unit.proofs.steps.close.Goals as goal

@@ -2,8 +2,8 @@ use Rattle.std.proofs.Common.{◌≡◌, ap, arith, subst, sym, []}
 use Rattle.atomic_table.specs.Table.{Joins}
 use Rattle.nvm_unit.specs.declared.views.Group.{Group}
 use Rattle.nvm_unit.specs.Events.{idle}
-use Rattle.nvm_unit.specs.Rule.{IsRuled}
-use Rattle.nvm_unit.specs.Plays.{Sits, together}
+use Rattle.nvm_unit.specs.Inside.Rule.{IsRuled}
+use Rattle.nvm_unit.specs.Inside.Plays.{Sits, together}
 use Rattle.nvm_unit.proofs.Joining.{join_allowed}
 use Rattle.nvm_unit.proofs.steps.join.Goals as goal
 

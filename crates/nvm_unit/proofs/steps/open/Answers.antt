@@ -1,8 +1,8 @@
 use Rattle.std.proofs.Common.{◌≡◌, ap, ◌∙◌, List, [], ◌∷◌, ◌++◌, Option, Some}
 use Rattle.atomic_table.specs.Table.{opening}
-use Rattle.nvm_unit.specs.Book.{Recorded, recorded}
+use Rattle.nvm_unit.specs.Inside.Book.{Recorded, recorded}
 use Rattle.nvm_unit.specs.Machine.{opening_state}
-use Rattle.nvm_unit.specs.Rule.{all_newcomers}
+use Rattle.nvm_unit.specs.Inside.Rule.{all_newcomers}
 use Rattle.nvm_unit.proofs.EventsKept.{opening_kept}
 use Rattle.nvm_unit.proofs.Reaching.{opening_reached}
 use Rattle.nvm_unit.proofs.steps.open.Goals as goal

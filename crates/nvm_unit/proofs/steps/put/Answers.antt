@@ -10,7 +10,7 @@ store-requires g c =
     let desk = c.args.desk.now in
     let b = desk.table.shared.key in
     let st = step desk.table.shared.table_id.slots 0 (2 * c.args.entries) 0 none in
-    let law : FollowsLawfully = λ place history line lawful follows. (c.lawful_with_one_more.ensures place history line).1 (lawful, follows) in (
+    let law : FollowsLawfully = λ place history entry lawful follows. (c.lawful_with_one_more.ensures place history entry).1 (lawful, follows) in (
       c.requires.at,
       omega (arith, desk.sized),
       elim c.requires.ready [

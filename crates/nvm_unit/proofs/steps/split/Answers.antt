@@ -2,8 +2,8 @@ use Rattle.std.proofs.Common.{◌≡◌, ap, arith, subst, sym}
 use Rattle.atomic_table.specs.Table.{Splits}
 use Rattle.nvm_unit.specs.declared.views.Group.{Group}
 use Rattle.nvm_unit.specs.Events.{idle}
-use Rattle.nvm_unit.specs.Rule.{IsRuled}
-use Rattle.nvm_unit.specs.Plays.{Sits, first_of, others_of}
+use Rattle.nvm_unit.specs.Inside.Rule.{IsRuled}
+use Rattle.nvm_unit.specs.Inside.Plays.{Sits, first_of, others_of}
 use Rattle.nvm_unit.proofs.Joining.{split_allowed}
 use Rattle.nvm_unit.proofs.steps.split.Goals as goal
 

@@ -1,7 +1,7 @@
 use Rattle.std.proofs.Common.{◌≡◌, ℕ, List, [], ◌∷◌, ap, sym, ◌∙◌, Option, Some}
 use Rattle.atomic_table.specs.Table.{rest}
-use Rattle.nvm_unit.specs.Book.{Recorded}
-use Rattle.nvm_unit.specs.Plays.{Sits}
+use Rattle.nvm_unit.specs.Inside.Book.{Recorded}
+use Rattle.nvm_unit.specs.Inside.Plays.{Sits}
 use Rattle.nvm_unit.proofs.steps.take_book.Goals as goal
 
 pub exchange-requires : goal.exchange-requires

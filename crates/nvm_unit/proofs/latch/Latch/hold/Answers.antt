@@ -1,6 +1,6 @@
 use Rattle.std.proofs.Common.{length, map, false}
 use Rattle.nvm_unit.specs.Views.{looked}
-use Rattle.nvm_unit.specs.Book.{recorded}
+use Rattle.nvm_unit.specs.Inside.Book.{recorded}
 use Rattle.nvm_unit.proofs.latch.Latch.hold.Goals as goal
 
 pub returns-clause-held : goal.returns-clause-held

@@ -1,8 +1,8 @@
 use Rattle.std.proofs.Common.{◌≡◌, ◌≤◌, ap, ◌∙◌, length, arith, inl, [], ◌∷◌, false}
 use Rattle.nvm_unit.specs.declared.steps.Token.{Token}
-use Rattle.nvm_unit.specs.Alone.{only}
-use Rattle.nvm_unit.specs.Book.{Recorded}
-use Rattle.nvm_unit.specs.Plays.{Sits, resting}
+use Rattle.nvm_unit.specs.Inside.Seats.{only}
+use Rattle.nvm_unit.specs.Inside.Book.{Recorded}
+use Rattle.nvm_unit.specs.Inside.Plays.{Sits, resting}
 use Rattle.nvm_unit.specs.Views.{looked, shown}
 use Rattle.nvm_unit.proofs.Together.{rests_as, first_stays, others_go, both_join, together, both_back, both_shown, both_few}
 use Rattle.nvm_unit.proofs.latch.Latch.meet.Goals as goal

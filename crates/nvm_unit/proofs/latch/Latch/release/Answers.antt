@@ -1,7 +1,7 @@
 use Rattle.std.proofs.Common.{◌≡◌, ap, ◌∙◌, length, [], ◌∷◌, ◌++◌, arith, inl, inr, Some}
 use Rattle.std.proofs.lemmas.List.{length-append}
-use Rattle.nvm_unit.specs.Book.{Recorded}
-use Rattle.nvm_unit.specs.Plays.{holding}
+use Rattle.nvm_unit.specs.Inside.Book.{Recorded}
+use Rattle.nvm_unit.specs.Inside.Plays.{holding}
 use Rattle.nvm_unit.proofs.latch.Latch.release.Goals as goal
 
 pub put-requires-clause-ready : goal.put-requires-clause-ready
@@ -33,7 +33,6 @@ put-requires-clause-ready g c =
             record {
               at = c.lay_book.ensures.laid (a.0 ∷ []) a.1 can.at ∙ ap (λ (x : Recorded). holding (a.0 ∷ []) a.1 (Some x)) can.pages;
               count = omega (arith, length-append a.1 (a.2 ∷ []));
-              act = can.act;
               number = can.number;
               follows = can.follows;
               room = can.room;
@@ -46,9 +45,9 @@ returns-clause-back g c ps history b at pages =
     c.put.ensures.returned ps history (Some c.args.book) (c.lay_book.ensures.laid ps history at) (c.entries-entries.ensures ∙ ap (λ (x : Recorded). length x.history) pages)
 
 pub returns-clause-more : goal.returns-clause-more
-returns-clause-more g c p history line at pages =
-    let len : length c.args.book.history ≡ length (history ++ line ∷ []) = ap (λ (x : Recorded). length x.history) pages in
+returns-clause-more g c p history entry at pages =
+    let len : length c.args.book.history ≡ length (history ++ entry ∷ []) = ap (λ (x : Recorded). length x.history) pages in
     let same = c.entries-entries.ensures in
-    c.put.ensures.added p history line
+    c.put.ensures.added p history entry
     (c.lay_book.ensures.laid (p ∷ []) history at ∙ ap (λ (x : Recorded). holding (p ∷ []) history (Some x)) pages)
-    (omega (arith, length-append history (line ∷ [])))
+    (omega (arith, length-append history (entry ∷ [])))

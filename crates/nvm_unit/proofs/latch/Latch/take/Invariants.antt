@@ -1,5 +1,5 @@
 use Rattle.std.proofs.Common.{◌≡◌, ◌%◌}
-use Rattle.nvm_unit.specs.Holding.{HasWaited}
+use Rattle.nvm_unit.specs.Inside.Holding.{HasWaited}
 use Rattle.nvm_unit.proofs.latch.Latch.take.Given as goal
 
 abbrev pub invariant-loop : goal.invariant-loop

@@ -4,11 +4,11 @@ use Rattle.nvm_store.specs.ActRef.{lent_operation_of}
 use Rattle.nvm_store.specs.Place.{IsCovered}
 use Rattle.nvm_unit.specs.declared.bounds.Bounds.{Bounds}
 use Rattle.nvm_unit.specs.declared.views.PassView.{PassView}
-use Rattle.nvm_unit.specs.Alone.{only}
+use Rattle.nvm_unit.specs.Inside.Seats.{only}
 use Rattle.nvm_unit.specs.Passes.{PassState, UnitName, IsProperPass}
-use Rattle.nvm_unit.specs.Plays.{Sits}
+use Rattle.nvm_unit.specs.Inside.Plays.{Sits}
 use Rattle.nvm_unit.specs.Replies.{Makes}
-use Rattle.nvm_unit.proofs.Alone.{act_is, alone, covers_same, within_limit, attempt_as, attempt_within, attempt_ready, attempt_ends, closed, only_is}
+use Rattle.nvm_unit.proofs.Alone.{alone, covers_same, within_limit, attempt_as, attempt_within, attempt_ready, attempt_ends, closed, only_is}
 use Rattle.nvm_unit.proofs.EventsKept.{FollowsLawfully}
 use Rattle.nvm_unit.proofs.unit.Unit.change.Goals as goal
 
@@ -86,7 +86,7 @@ release-requires-clause-ready g c =
     (c.pass.invariant.1 ∙ ap (λ (x : PassState). x.view.number) c.pass.view_is) c.attempt-changed.ensures in
     let covered =
     subst (λ (b : Bounds). IsCovered b.place op) (sym c.requires.of.bounds) c.requires.covered in
-    attempt_ready c.attempt-changed.result held.0 held.1 book book' p c.args.job op _ a (act_is c.args.act) covered attempt
+    attempt_ready c.attempt-changed.result held.0 held.1 book book' p c.args.job op _ a (c.acts_and_looks.ensures.acts c.args.act) covered attempt
 
 pub invariant_of-pass : goal.invariant_of-pass
 invariant_of-pass g c =
@@ -102,9 +102,9 @@ invariant_of-pass g c =
     (c.pass.invariant.1 ∙ ap (λ (x : PassState). x.view.number) c.pass.view_is) c.attempt-changed.ensures in
     let covered =
     subst (λ (b : Bounds). IsCovered b.place op) (sym c.requires.of.bounds) c.requires.covered in
-    let law : FollowsLawfully = λ place history line lawful follows. (c.lawful_with_one_more.ensures place history line).1 (lawful, follows) in
+    let law : FollowsLawfully = λ place history entry lawful follows. (c.lawful_with_one_more.ensures place history entry).1 (lawful, follows) in
     let ends =
-    attempt_ends law c.attempt-changed.result held.0 held.1 book book' p c.args.job op _ _ a covered attempt
+    attempt_ends law c.attempt-changed.result held.0 held.1 book book' p c.args.job op _ _ a (c.acts_and_looks.ensures.acts c.args.act) covered attempt
     (subst IsProperPass (ap view_of c.pass.view_is) c.pass.invariant.3) c.release.ensures.back c.release.ensures.more in
     closed _ ends.view c.pass.inside.number c.entries.result ends.at
     (c.pass.invariant.1 ∙ (ap (λ (x : PassState). x.view.number) c.pass.view_is ∙ sym ends.number)) (c.entries.ensures ∙ ends.count) ends.proper
@@ -123,9 +123,9 @@ returns-clause-of g c =
     (c.pass.invariant.1 ∙ ap (λ (x : PassState). x.view.number) c.pass.view_is) c.attempt-changed.ensures in
     let covered =
     subst (λ (b : Bounds). IsCovered b.place op) (sym c.requires.of.bounds) c.requires.covered in
-    let law : FollowsLawfully = λ place history line lawful follows. (c.lawful_with_one_more.ensures place history line).1 (lawful, follows) in
+    let law : FollowsLawfully = λ place history entry lawful follows. (c.lawful_with_one_more.ensures place history entry).1 (lawful, follows) in
     let ends =
-    attempt_ends law c.attempt-changed.result held.0 held.1 book book' p c.args.job op _ _ a covered attempt
+    attempt_ends law c.attempt-changed.result held.0 held.1 book book' p c.args.job op _ _ a (c.acts_and_looks.ensures.acts c.args.act) covered attempt
     (subst IsProperPass (ap view_of c.pass.view_is) c.pass.invariant.3) c.release.ensures.back c.release.ensures.more in
     record {
       table = c.release.ensures.at ∙ (c.hold-book.ensures.at ∙ (ap table_of c.pass.view_is ∙ c.requires.of.table));
@@ -146,9 +146,9 @@ returns-clause-number g c =
     (c.pass.invariant.1 ∙ ap (λ (x : PassState). x.view.number) c.pass.view_is) c.attempt-changed.ensures in
     let covered =
     subst (λ (b : Bounds). IsCovered b.place op) (sym c.requires.of.bounds) c.requires.covered in
-    let law : FollowsLawfully = λ place history line lawful follows. (c.lawful_with_one_more.ensures place history line).1 (lawful, follows) in
+    let law : FollowsLawfully = λ place history entry lawful follows. (c.lawful_with_one_more.ensures place history entry).1 (lawful, follows) in
     let ends =
-    attempt_ends law c.attempt-changed.result held.0 held.1 book book' p c.args.job op _ _ a covered attempt
+    attempt_ends law c.attempt-changed.result held.0 held.1 book book' p c.args.job op _ _ a (c.acts_and_looks.ensures.acts c.args.act) covered attempt
     (subst IsProperPass (ap view_of c.pass.view_is) c.pass.invariant.3) c.release.ensures.back c.release.ensures.more in
     ap (λ (m : Sits). (only m.0.passes).number) ends.at ∙ ends.number
 
@@ -166,9 +166,9 @@ returns-clause-made g c =
     (c.pass.invariant.1 ∙ ap (λ (x : PassState). x.view.number) c.pass.view_is) c.attempt-changed.ensures in
     let covered =
     subst (λ (b : Bounds). IsCovered b.place op) (sym c.requires.of.bounds) c.requires.covered in
-    let law : FollowsLawfully = λ place history line lawful follows. (c.lawful_with_one_more.ensures place history line).1 (lawful, follows) in
+    let law : FollowsLawfully = λ place history entry lawful follows. (c.lawful_with_one_more.ensures place history entry).1 (lawful, follows) in
     let ends =
-    attempt_ends law c.attempt-changed.result held.0 held.1 book book' p c.args.job op _ _ a covered attempt
+    attempt_ends law c.attempt-changed.result held.0 held.1 book book' p c.args.job op _ _ a (c.acts_and_looks.ensures.acts c.args.act) covered attempt
     (subst IsProperPass (ap view_of c.pass.view_is) c.pass.invariant.3) c.release.ensures.back c.release.ensures.more in
     subst (λ (q : PassView). Makes c.attempt-changed.result p c.args.job op q) (sym (only_is _ ends.view ends.at)) ends.makes
 
@@ -186,8 +186,8 @@ returns-clause-proper g c =
     (c.pass.invariant.1 ∙ ap (λ (x : PassState). x.view.number) c.pass.view_is) c.attempt-changed.ensures in
     let covered =
     subst (λ (b : Bounds). IsCovered b.place op) (sym c.requires.of.bounds) c.requires.covered in
-    let law : FollowsLawfully = λ place history line lawful follows. (c.lawful_with_one_more.ensures place history line).1 (lawful, follows) in
+    let law : FollowsLawfully = λ place history entry lawful follows. (c.lawful_with_one_more.ensures place history entry).1 (lawful, follows) in
     let ends =
-    attempt_ends law c.attempt-changed.result held.0 held.1 book book' p c.args.job op _ _ a covered attempt
+    attempt_ends law c.attempt-changed.result held.0 held.1 book book' p c.args.job op _ _ a (c.acts_and_looks.ensures.acts c.args.act) covered attempt
     (subst IsProperPass (ap view_of c.pass.view_is) c.pass.invariant.3) c.release.ensures.back c.release.ensures.more in
     subst IsProperPass (sym (only_is _ ends.view ends.at)) ends.proper

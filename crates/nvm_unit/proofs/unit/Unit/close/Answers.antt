@@ -2,7 +2,8 @@ use Rattle.std.proofs.Common.{◌≡◌, ◌<◌, ap, sym, subst, ◌∙◌, len
 use Rattle.nvm_unit.specs.declared.bounds.Bounds.{Bounds}
 use Rattle.nvm_unit.specs.declared.steps.Desk.{Desk}
 use Rattle.nvm_unit.specs.declared.views.PassView.{PassView}
-use Rattle.nvm_unit.specs.Ends.{AreAllViews, views_of}
+use Rattle.nvm_unit.specs.Ends.{views_of}
+use Rattle.nvm_unit.specs.Inside.Seats.{AreAllViews}
 use Rattle.nvm_unit.specs.Passes.{UnitName}
 use Rattle.nvm_unit.proofs.Dealing.{all_views}
 use Rattle.nvm_unit.proofs.Together.{passes_are}

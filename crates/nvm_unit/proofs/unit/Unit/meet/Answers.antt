@@ -1,6 +1,6 @@
 use Rattle.std.proofs.Common.{ap, sym, subst, ◌∙◌, length, false}
 use Rattle.nvm_unit.specs.declared.views.PassView.{PassView}
-use Rattle.nvm_unit.specs.Alone.{only}
+use Rattle.nvm_unit.specs.Inside.Seats.{only}
 use Rattle.nvm_unit.specs.Passes.{PassState, Finds, IsProperPass}
 use Rattle.nvm_unit.specs.Views.{shown}
 use Rattle.nvm_unit.proofs.Alone.{proper_shown, closed, only_is}

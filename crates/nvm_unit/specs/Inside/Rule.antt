@@ -6,7 +6,7 @@ use Rattle.atomic_table.specs.Table.{State}
 use Rattle.nvm_store.specs.HistoryEntry.{HistoryEntry}
 use Rattle.nvm_unit.specs.declared.bounds.Bounds.{Bounds}
 use Rattle.nvm_unit.specs.declared.views.Group.{Group}
-use Rattle.nvm_unit.specs.Book.{Recorded, recorded}
+use Rattle.nvm_unit.specs.Inside.Book.{Recorded, recorded}
 use Rattle.nvm_unit.specs.Machine.{UnitState, newcomers}
 use Rattle.nvm_unit.specs.Events.{idle, IsReached}
 use Rattle.nvm_unit.specs.Knowledge.{IsKnown}

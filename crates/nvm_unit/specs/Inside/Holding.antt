@@ -1,14 +1,13 @@
 -- What a seat knows once it has waited for the unit, and once it holds it.
-use Rattle.std.specs.Prelude.{◌≡◌, ◌⊎◌, ℕ, ◌+◌, ◌*◌, ◌<◌, List, [], ◌∷◌, ◌++◌, map, length, Bool, true, false, None}
+use Rattle.std.specs.Prelude.{◌≡◌, ◌⊎◌, ℕ, ◌+◌, ◌*◌, ◌<◌, ◌≤◌, List, [], ◌∷◌, ◌++◌, map, length, Bool, true, false, None}
 use Rattle.nvm_store.specs.HistoryEntry.{HistoryEntry}
 use Rattle.nvm_store.specs.History.{CanFollow}
 use Rattle.nvm_unit.specs.declared.bounds.Bounds.{Bounds}
 use Rattle.nvm_unit.specs.declared.views.PassView.{PassView}
 use Rattle.nvm_unit.specs.Views.{looked, shown, added}
-use Rattle.nvm_unit.specs.Book.{Recorded, recorded}
-use Rattle.nvm_unit.specs.Events.{IsAct}
+use Rattle.nvm_unit.specs.Inside.Book.{Recorded, recorded}
 use Rattle.nvm_unit.specs.Passes.{IsHistoryOf, Finds}
-use Rattle.nvm_unit.specs.Plays.{Sits, resting, holding, EachIn, IsNotAbove, Fits}
+use Rattle.nvm_unit.specs.Inside.Plays.{Sits, resting, holding, EachIn, IsNotAbove, Fits}
 
 -- Its steps so far, if any, decided nothing.
 abbrev pub HasWaited : Sits → Sits → Type 0
@@ -32,12 +31,11 @@ pub record CanGiveBack (decides : ℕ → Bool) (book : Recorded) (m : Sits) (ps
   pub alone : decides (2 * length history + 1) ≡ true → length ps ≡ 1
 
 -- The seat can let go of the unit with a book that has one entry more.
-pub record CanGiveMore (book : Recorded) (m : Sits) (p : PassView) (history : List HistoryEntry) (line : HistoryEntry) : Type 0 where
+pub record CanGiveMore (book : Recorded) (m : Sits) (p : PassView) (history : List HistoryEntry) (entry : HistoryEntry) : Type 0 where
   pub at : m ≡ holding (p ∷ []) history None
-  pub pages : book ≡ recorded p.bounds (history ++ line ∷ [])
-  pub act : IsAct line.operation.deed
-  pub number : line.pass ≡ p.number
-  pub follows : CanFollow p.bounds.place history line
+  pub pages : book ≡ recorded p.bounds (history ++ entry ∷ [])
+  pub number : entry.pass ≡ p.number
+  pub follows : CanFollow p.bounds.place history entry
   pub room : length history < p.bounds.limit
 
 -- The unit was let go as it was.
@@ -49,9 +47,20 @@ GivesBack decides book m m' =
 -- The unit was let go with one entry more.
 abbrev pub GivesMore : Recorded → Sits → Sits → Type 0
 GivesMore book m m' =
-    (p : PassView) (history : List HistoryEntry) (line : HistoryEntry) → m ≡ holding (p ∷ []) history None
-    → book ≡ recorded p.bounds (history ++ line ∷ [])
-    → m' ≡ resting (added (length history) history line p ∷ [])
+    (p : PassView) (history : List HistoryEntry) (entry : HistoryEntry) → m ≡ holding (p ∷ []) history None
+    → book ≡ recorded p.bounds (history ++ entry ∷ [])
+    → m' ≡ resting (added (length history) history entry p ∷ [])
+
+-- A book that can be in hand of this unit.
+pub record IsBookOf (b : Bounds) (book : Recorded) : Type 0 where
+  pub place : book.place ≡ b.place
+  pub few : length book.history ≤ 4194304
+
+-- The pass found a history, whose book was read, and was brought to it.
+abbrev pub Visits : (ℕ → Bool) → Bounds → PassView → PassView → (Recorded → Type 0) → Type 0
+Visits decides b p q IsRead =
+    (history : List HistoryEntry) × Finds (length history) p history
+    × (q ≡ shown (decides (2 * length history + 1)) (length history) history p) × IsRead (recorded b history)
 
 -- Two passes were brought to one history, which has so many entries.
 abbrev pub HasMet : ℕ → PassView → PassView → Sits → Sits → Type 0

@@ -9,8 +9,8 @@ use Rattle.nvm_unit.specs.declared.views.Group.{Group}
 use Rattle.nvm_unit.specs.Views.{Begins, entries_by, looked, shown, added}
 use Rattle.nvm_unit.specs.Machine.{UnitState}
 use Rattle.nvm_record.specs.Lists.{IsAt}
-use Rattle.nvm_unit.specs.Book.{Recorded, recorded}
-use Rattle.nvm_unit.specs.Events.{Event, loads, takes, misses, adds, returns, IsAct, idle, Happens, IsReached}
+use Rattle.nvm_unit.specs.Inside.Book.{Recorded, recorded}
+use Rattle.nvm_unit.specs.Events.{Event, loads, takes, misses, adds, returns, idle, Happens, IsReached}
 use Rattle.nvm_unit.specs.Passes.{IsHistoryOf}
 
 -- what a seat carries, and the slot if it took it
@@ -74,7 +74,7 @@ pub record WasEvent (kind : ℕ → Event) (word : ℕ) (m m' : Sits) : Type 0 w
 -- The step was a put: with one entry more, or as it was.
 abbrev pub WasPut : (ℕ → Bool) → Sits → Sits → Type 0
 WasPut decides m m' =
-    (word : ℕ) × (WasEvent (λ j. returns j (decides word)) word m m' ⊎ ((line : HistoryEntry) × WasEvent (λ j. adds j line) word m m'))
+    (word : ℕ) × (WasEvent (λ j. returns j (decides word)) word m m' ⊎ ((entry : HistoryEntry) × WasEvent (λ j. adds j entry) word m m'))
 
 -- a load
 abbrev pub looks : (ℕ → Bool) → Step (Option Recorded) → Sits → ℕ → Sits → Type 0
@@ -96,9 +96,9 @@ ReturnsAs decides entries m m' =
 -- The unit is put back with one entry more, and then has so many.
 abbrev pub AddsAs : ℕ → Sits → Sits → Type 0
 AddsAs entries m m' =
-    (p : PassView) (history : List HistoryEntry) (line : HistoryEntry)
-    → m ≡ holding (p ∷ []) history (Some (recorded p.bounds (history ++ line ∷ []))) → entries ≡ length history + 1
-    → m' ≡ resting (added (length history) history line p ∷ [])
+    (p : PassView) (history : List HistoryEntry) (entry : HistoryEntry)
+    → m ≡ holding (p ∷ []) history (Some (recorded p.bounds (history ++ entry ∷ []))) → entries ≡ length history + 1
+    → m' ≡ resting (added (length history) history entry p ∷ [])
 
 -- a store that puts the unit back
 abbrev pub puts : (ℕ → Bool) → Step (Option Recorded) → Sits → ℕ → Sits → Type 0
@@ -114,12 +114,11 @@ pub record CanReturn (decides : ℕ → Bool) (entries : ℕ) (m : Sits) (ps : L
   pub alone : decides (2 * length history + 1) ≡ true → length ps ≡ 1
 
 -- The seat can put the unit back with one entry more: the slot has its book.
-pub record CanAppend (entries : ℕ) (m : Sits) (p : PassView) (history : List HistoryEntry) (line : HistoryEntry) : Type 0 where
-  pub at : m ≡ holding (p ∷ []) history (Some (recorded p.bounds (history ++ line ∷ [])))
+pub record CanAppend (entries : ℕ) (m : Sits) (p : PassView) (history : List HistoryEntry) (entry : HistoryEntry) : Type 0 where
+  pub at : m ≡ holding (p ∷ []) history (Some (recorded p.bounds (history ++ entry ∷ [])))
   pub count : entries ≡ length history + 1
-  pub act : IsAct line.operation.deed
-  pub number : line.pass ≡ p.number
-  pub follows : CanFollow p.bounds.place history line
+  pub number : entry.pass ≡ p.number
+  pub follows : CanFollow p.bounds.place history entry
   pub room : length history < p.bounds.limit
 
 -- how passes that meet are told apart again: the first stays

@@ -1,0 +1,7 @@
+-- What stands in Inside is cited by private functions and invariants alone: no public clause needs it.
+pub mod Book
+pub mod Attempt
+pub mod Seats
+pub mod Rule
+pub mod Plays
+pub mod Holding
