@@ -4,7 +4,7 @@ use Rattle.std.proofs.lemmas.List.{map-id}
 use Rattle.std.proofs.lemmas.Iterator.Adapters.{YieldsList-from_vec}
 use Rattle.std.proofs.lemmas.Iterator.Consumers.{YieldsList-from_enumerate, YieldsList-end}
 use Rattle.nvm_plan.proofs.WaitingHosts.{numbered_of, numbered_all}
-use Rattle.nvm_plan.proofs.order.numbered.Goals as goal
+use Rattle.nvm_plan.proofs.job_list.numbered.Goals as goal
 
 pub returns : goal.returns
 returns c =

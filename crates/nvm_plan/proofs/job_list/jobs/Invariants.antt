@@ -2,7 +2,7 @@ use Rattle.std.proofs.Common.{◌+◌, length, map}
 use Rattle.std.specs.List.{sum_by}
 use Rattle.nvm_plan.proofs.WaitingHosts.{queue_of}
 use Rattle.nvm_plan.proofs.Midway.{IsMidway}
-use Rattle.nvm_plan.proofs.order.jobs.Given as goal
+use Rattle.nvm_plan.proofs.job_list.jobs.Given as goal
 
 abbrev pub invariant-loop-next : goal.invariant-loop-next
 invariant-loop-next l = IsMidway (map (λ v. v.items) l.fn.hosts.items) (queue_of l.waiting.items) l.jobs.items

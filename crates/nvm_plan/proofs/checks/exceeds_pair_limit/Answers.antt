@@ -1,5 +1,5 @@
 use Rattle.nvm_plan.proofs.PairLimit.{limit_tested}
-use Rattle.nvm_plan.proofs.table.exceeds_pair_limit.Goals as goal
+use Rattle.nvm_plan.proofs.checks.exceeds_pair_limit.Goals as goal
 
 pub returns : goal.returns
 returns c =

@@ -2,7 +2,7 @@ use Rattle.std.proofs.Common.{◌≡◌, [], map, arith}
 use Rattle.std.proofs.lemmas.List.{nil_from_length}
 use Rattle.nvm_plan.proofs.WaitingHosts.{queue_of, queue_push}
 use Rattle.nvm_plan.proofs.Midway.{midway_first, midway_next, midway_done, midway_last}
-use Rattle.nvm_plan.proofs.order.jobs.Goals as goal
+use Rattle.nvm_plan.proofs.job_list.jobs.Goals as goal
 
 pub loop-next-init : goal.loop-next-init
 loop-next-init c = rw (c.in_ok-waiting.ensures, c.in_ok-jobs.ensures.items) (midway_first (map (λ v. v.items) c.args.hosts.items))
