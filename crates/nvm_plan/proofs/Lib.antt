@@ -1,3 +1,4 @@
+pub mod Standing
 pub mod OnePairing
 pub mod FrontJob
 pub mod TurnOrder

@@ -34,12 +34,7 @@ impl Completions {
 }
 
 /// What the host is told of its command.
-fn completion(
-    host: u16,
-    command: &Command,
-    status: Status,
-    payload: Option<Payload>,
-) -> Completion
+fn completion(host: u16, command: &Command, status: Status, payload: Option<Payload>) -> Completion
     ensures { result ≡ spec.completion host command.now status payload }
 {
     Completion {

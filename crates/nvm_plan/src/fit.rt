@@ -9,7 +9,7 @@ use nvm_geometry::Geometry;
 use nvm_record::{BlockSize, Command, Op};
 
 /// Hosts are numbered from 1 to this.
-const MOST_HOSTS: u16 = 64;
+pub const MOST_HOSTS: u16 = 64;
 
 /// Whether the job can be planned, done and recorded on a namespace of this geometry: its host is 1 to 64,
 /// each command has just the data that it calls for in the geometry's blocks and holds no opcode as

@@ -1,9 +1,10 @@
 //! What holds of plans and outcomes by their definitions alone. Each law is a call that does nothing and
 //! whose contract is the law.
 
-ghost use Rattle.std.specs.Prelude.{◌≡◌, ◌≢◌, ◌↔◌, ◌*◌, ◌+◌, ◌<◌, ◌≤◌, ℕ, List, [], ◌∷◌, ◌++◌, map, Option, None, Some, unwrap_or, IsSome, IsTrue, false};
+ghost use Rattle.std.specs.Prelude.{◌≡◌, ◌≢◌, ◌↔◌, ◌*◌, ◌+◌, ◌<◌, ◌≤◌, ℕ, List, [], ◌∷◌, ◌++◌, map, Option, None, Some, unwrap_or, IsSome, false};
 ghost use Rattle.nvm_record.specs.declared.status.Statuses.{Statuses};
 ghost use Rattle.nvm_record.specs.Medium.{Medium};
+ghost use Rattle.nvm_record.specs.Deeds.{IsLook, IsAct, IsPair};
 ghost use Rattle.nvm_record.specs.Status.{IsSuccess};
 ghost use Rattle.nvm_record.specs.Step.{Deed, HasData, Operation, statuses_of};
 ghost use Rattle.nvm_geometry.specs.Namespace.{Namespace};
@@ -18,7 +19,7 @@ ghost use Rattle.nvm_plan.specs.Fits.{FitsNamespace};
 ghost use Rattle.nvm_plan.specs.Operation.{job_operation_of};
 ghost use Rattle.nvm_plan.specs.Outcome.{answered, data_told, unstarted_of, AreDone, IsOutcomeOf, IsRefused, IsOutcome};
 ghost use Rattle.nvm_plan.specs.Ready.{IsReady};
-ghost use Rattle.nvm_plan.specs.Reply.{Reply, is_look, is_pair, success_of, reply_on, reply_of_stop, IsReplyTo, IsSuccessfulReply};
+ghost use Rattle.nvm_plan.specs.Reply.{Reply, success_of, reply_on, reply_of_stop, IsReplyTo, IsSuccessfulReply};
 ghost use Rattle.nvm_plan.specs.Shape.{HasShapeOf, HasShapeOfRefusal, HasOutcomeShape, IsForEach};
 
 use nvm_geometry::laws;
@@ -46,7 +47,7 @@ pub fn ready_jobs()
     ensures units { (ns : Namespace) (job : Job) (op : Operation) → refusal_of ns job ≡ None
         → job_operation_of job ≡ Some op → units_met ns op ≢ [] }
     ensures pair { (ns : Namespace) (job : Job) (op : Operation) → refusal_of ns job ≡ None
-        → job_operation_of job ≡ Some op → IsTrue (is_pair op.deed)
+        → job_operation_of job ≡ Some op → IsPair op.deed
         → units_met ns op ≡ unit_number ns op.first ∷ [] }
 {
     laws::sharing_is_one_number();
@@ -87,17 +88,17 @@ pub fn shapes_by_plan()
 /// What the step tells of a part is a reply to it, and so is what is told where memory was refused or the
 /// unit was full.
 pub fn answers_of_the_step_are_replies()
-    ensures looked { (ns : Namespace) (op : Operation) (m : Medium) (part : Part) → IsTrue (is_look op.deed)
+    ensures looked { (ns : Namespace) (op : Operation) (m : Medium) (part : Part) → IsLook op.deed
         → part.result ≡ Looked → IsReplyTo op.deed (reply_on ns op m part) }
-    ensures done { (ns : Namespace) (op : Operation) (m : Medium) (part : Part) → is_look op.deed ≡ false
+    ensures done { (ns : Namespace) (op : Operation) (m : Medium) (part : Part) → IsAct op.deed
         → part.result ≡ Done → IsSuccess (statuses_of (part_in ns op part.unit) m)
         → IsReplyTo op.deed (reply_on ns op m part) }
-    ensures failed { (ns : Namespace) (op : Operation) (m : Medium) (part : Part) → IsTrue (is_pair op.deed)
+    ensures failed { (ns : Namespace) (op : Operation) (m : Medium) (part : Part) → IsPair op.deed
         → part.result ≡ Failed → ¬ (IsSuccess (statuses_of (part_in ns op part.unit) m))
         → IsReplyTo op.deed (reply_on ns op m part) }
     ensures no_memory { (deed : Deed) (part : Part) → part.result ≡ NoMemory
         → IsReplyTo deed (reply_of_stop deed part) }
-    ensures full { (deed : Deed) (part : Part) → is_look deed ≡ false → part.result ≡ Full
+    ensures full { (deed : Deed) (part : Part) → IsAct deed → part.result ≡ Full
         → IsReplyTo deed (reply_of_stop deed part) }
 {}
 
