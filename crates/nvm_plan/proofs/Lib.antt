@@ -16,3 +16,4 @@ pub mod Endings
 pub mod OutcomeShape
 pub mod Arity
 pub mod JobsFit
+pub mod JobParts

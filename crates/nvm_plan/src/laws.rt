@@ -1,7 +1,7 @@
 //! What holds of plans and outcomes by their definitions alone. Each law is a call that does nothing and
 //! whose contract is the law.
 
-ghost use Rattle.std.specs.Prelude.{◌≡◌, ◌≢◌, ◌↔◌, ◌*◌, ◌+◌, ◌<◌, ◌≤◌, ℕ, List, [], ◌∷◌, ◌++◌, map, Option, None, Some, unwrap_or, IsSome, false};
+ghost use Rattle.std.specs.Prelude.{◌≡◌, ◌≢◌, ◌↔◌, ◌*◌, ◌+◌, ◌<◌, ◌≤◌, ℕ, List, [], ◌∷◌, ◌++◌, Contains, map, Option, None, Some, unwrap_or, IsSome, false};
 ghost use Rattle.nvm_record.specs.declared.status.Statuses.{Statuses};
 ghost use Rattle.nvm_record.specs.Medium.{Medium};
 ghost use Rattle.nvm_record.specs.Deeds.{IsLook, IsAct, IsPair};
@@ -11,11 +11,14 @@ ghost use Rattle.nvm_geometry.specs.Namespace.{Namespace};
 ghost use Rattle.nvm_geometry.specs.Boundaries.{unit_number};
 ghost use Rattle.nvm_geometry.specs.Limits.{IsWithinPairLimit};
 ghost use Rattle.nvm_geometry.specs.Parts.{part_in, units_met};
+ghost use Rattle.nvm_geometry.specs.Place.{IsPlaceOf};
+ghost use Rattle.nvm_store.specs.Contents.{IsCovered};
 ghost use Rattle.nvm_plan.specs.declared.job.Job.{Job};
 ghost use Rattle.nvm_plan.specs.declared.part.Part.{Part};
 ghost use Rattle.nvm_plan.specs.declared.part.PartResult.TheVariants.{Done, Failed, Looked, NoMemory, Full};
 ghost use Rattle.nvm_plan.specs.Checks.{exceeds_pair_limit, refusal_of};
 ghost use Rattle.nvm_plan.specs.Fits.{FitsNamespace};
+ghost use Rattle.nvm_plan.specs.JobPart.{job_units, part_here};
 ghost use Rattle.nvm_plan.specs.Operation.{job_operation_of};
 ghost use Rattle.nvm_plan.specs.Outcome.{answered, data_told, unstarted_of, AreDone, IsOutcomeOf, IsRefused, IsOutcome};
 ghost use Rattle.nvm_plan.specs.Ready.{IsReady};
@@ -62,6 +65,25 @@ pub fn jobs_that_fit_have_their_data()
         → HasData (op.blocks * ns.block_size) op.deed }
 {
     ready_jobs();
+}
+
+/// A job has a part in just the units that its operation meets, and no part where a check refuses it. The part of
+/// a job that fits lies in its unit, has a block, and has just its data.
+pub fn parts_of_jobs()
+    ensures part { (ns : Namespace) (job : Job) (op : Operation) (unit : ℕ) → refusal_of ns job ≡ None
+        → job_operation_of job ≡ Some op → Contains (units_met ns op) unit
+        → part_here ns job unit ≡ Some (part_in ns op unit) }
+    ensures units { (ns : Namespace) (job : Job) (op : Operation) → refusal_of ns job ≡ None
+        → job_operation_of job ≡ Some op → job_units ns job ≡ units_met ns op }
+    ensures met { (ns : Namespace) (job : Job) (unit : ℕ) (part : Operation) → part_here ns job unit ≡ Some part
+        → Contains (job_units ns job) unit }
+    ensures covered { (ns : Namespace) (job : Job) (unit first blocks : ℕ) (part : Operation) → FitsNamespace ns job
+        → part_here ns job unit ≡ Some part → IsPlaceOf ns unit first blocks
+        → IsCovered first blocks ns.block_size part }
+{
+    laws::parts_lie_in_their_units();
+    ready_jobs();
+    jobs_that_fit_have_their_data();
 }
 
 /// The outcome of a job that isn't refused is that of its operation. Nothing is done of a refused one.
