@@ -1,5 +1,5 @@
 -- A job's part in a unit is that of its operation, and lies in the unit.
-use Rattle.std.proofs.Common.{◌≡◌, ℕ, ◌+◌, ◌*◌, ◌<◌, ◌≤◌, Bool, true, false, if◌then◌else◌, nat_lt, List, Option, Some, None, IsTrue, refl, sym, ap, subst, ◌∙◌, arith}
+use Rattle.std.proofs.Common.{◌≡◌, ℕ, ◌+◌, ◌*◌, ◌<◌, ◌≤◌, Bool, true, false, if◌then◌else◌, nat_lt, List, Option, Some, None, MatchOption, IfSome, IsTrue, refl, sym, ap, subst, ◌∙◌, arith}
 use Rattle.std.specs.List.{Contains}
 use Rattle.std.proofs.lemmas.Bool.{lt-ltb, ltb-true}
 use Rattle.std.proofs.lemmas.Option.{same_Some, none-some}
@@ -10,9 +10,12 @@ use Rattle.nvm_record.specs.declared.status.Statuses.{Statuses}
 use Rattle.nvm_record.specs.Step.{HasData, Deed, Operation, writes, zeroes, uncorrectable, reads, compares, pairs}
 use Rattle.nvm_geometry.specs.Namespace.{Namespace}
 use Rattle.nvm_geometry.specs.Parts.{blocks_in, units_met, piece_in, part_in}
+use Rattle.nvm_geometry.specs.Place.{IsPlaceOf}
 use Rattle.nvm_geometry.specs.declared.piece.Piece.{Piece}
-use Rattle.nvm_store.specs.Contents.{IsCovered}
+use Rattle.nvm_store.specs.Place.{place_at, IsCovered}
 use Rattle.nvm_plan.specs.declared.job.Job.{Job}
+use Rattle.nvm_plan.specs.declared.lent_part.LentPart.{LentPart}
+use Rattle.nvm_plan.specs.LentPart.{part_operation_of}
 use Rattle.nvm_plan.specs.Checks.{refusal_of}
 use Rattle.nvm_plan.specs.JobPart.{unless_refused, units_served, part_served, job_units, part_here}
 use Rattle.nvm_plan.specs.Operation.{on_range, single_operation, operation_of_pair, job_operation_of}
@@ -108,6 +111,14 @@ unit_is_there ns job op unit free stands met =
 pub part_covered : (ns : Namespace) (op part : Operation) (unit first blocks : ℕ) → part_in ns op unit ≡ part → 0 < (part_in ns op unit).blocks
     → (first ≤ (part_in ns op unit).first) × ((part_in ns op unit).first + (part_in ns op unit).blocks ≤ first + blocks)
     → HasData ((part_in ns op unit).blocks * ns.block_size) (part_in ns op unit).deed
-    → IsCovered first blocks ns.block_size part
+    → IsCovered (place_at first blocks ns.block_size) part
 part_covered ns op part unit first blocks is some lies payload =
-    subst (IsCovered first blocks ns.block_size) is (record { range = record { some = some; above = lies.0; below = lies.1 }; payload = payload })
+    subst (IsCovered (place_at first blocks ns.block_size)) is (record { range = record { some = some; above = lies.0; below = lies.1 }; payload = payload })
+
+-- what is borrowed of the part lies there, too
+pub lent_covered : (ns : Namespace) (job : Job) (unit : ℕ) (same : Option Operation) (lent : Option LentPart)
+    → ((part : Operation) → part_here ns job unit ≡ Some part → (first blocks : ℕ) → IsPlaceOf ns unit first blocks → IsCovered (place_at first blocks ns.block_size) part)
+    → part_here ns job unit ≡ same → MatchOption lent (same ≡ None) (λ part. same ≡ Some (part_operation_of part))
+    → IfSome lent (λ part. (first blocks : ℕ) → IsPlaceOf ns unit first blocks → IsCovered (place_at first blocks ns.block_size) (part_operation_of part))
+lent_covered ns job unit same None all is h = tt
+lent_covered ns job unit same (Some part) all is h = all (part_operation_of part) (is ∙ h)

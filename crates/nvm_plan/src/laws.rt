@@ -12,7 +12,7 @@ ghost use Rattle.nvm_geometry.specs.Boundaries.{unit_number};
 ghost use Rattle.nvm_geometry.specs.Limits.{IsWithinPairLimit};
 ghost use Rattle.nvm_geometry.specs.Parts.{part_in, units_met};
 ghost use Rattle.nvm_geometry.specs.Place.{IsPlaceOf};
-ghost use Rattle.nvm_store.specs.Contents.{IsCovered};
+ghost use Rattle.nvm_store.specs.Place.{place_at, IsCovered};
 ghost use Rattle.nvm_plan.specs.declared.job.Job.{Job};
 ghost use Rattle.nvm_plan.specs.declared.part.Part.{Part};
 ghost use Rattle.nvm_plan.specs.declared.part.PartResult.TheVariants.{Done, Failed, Looked, NoMemory, Full};
@@ -79,7 +79,7 @@ pub fn parts_of_jobs()
         → Contains (job_units ns job) unit }
     ensures covered { (ns : Namespace) (job : Job) (unit first blocks : ℕ) (part : Operation) → FitsNamespace ns job
         → part_here ns job unit ≡ Some part → IsPlaceOf ns unit first blocks
-        → IsCovered first blocks ns.block_size part }
+        → IsCovered (place_at first blocks ns.block_size) part }
 {
     laws::parts_lie_in_their_units();
     ready_jobs();

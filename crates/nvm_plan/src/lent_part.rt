@@ -1,7 +1,9 @@
-ghost use Rattle.std.specs.Prelude.{◌≡◌, ◌+◌, ◌-◌, ◌*◌, ◌≤◌, length, IsTrue, MatchOption, None, Some};
+ghost use Rattle.std.specs.Prelude.{◌≡◌, ◌+◌, ◌-◌, ◌*◌, ◌≤◌, length, ℕ, IfSome, IsTrue, MatchOption, None, Some};
 ghost use Rattle.nvm_record.specs.Entry.{IsWhole};
 ghost use Rattle.nvm_record.specs.Step.{Operation};
 ghost use Rattle.nvm_geometry.specs.Parts.{data_part, part_in, piece_in};
+ghost use Rattle.nvm_geometry.specs.Place.{IsPlaceOf};
+ghost use Rattle.nvm_store.specs.Place.{place_at, IsCovered};
 ghost use Rattle.nvm_plan.specs.Fits.{FitsNamespace, IsWholeBody};
 ghost use Rattle.nvm_plan.specs.JobPart.{job_units, part_here, part_served};
 ghost use Rattle.nvm_plan.specs.LentPart.{part_operation_of};
@@ -12,7 +14,7 @@ ghost use Rattle.nvm_plan.specs.Ready.{IsReadyBody, IsReadyPair};
 use crate::checks::plan;
 use crate::decision::Plan;
 use crate::job::{Body, Job};
-use crate::laws::ready_jobs;
+use crate::laws::{parts_of_jobs, ready_jobs};
 use nvm_geometry::{Geometry, Piece};
 use nvm_record::{BlockSize, Command, Op};
 use nvm_store::{ActRef, Look};
@@ -31,9 +33,14 @@ pub enum LentPart<'a> {
 /// no unit has that number. It takes no memory and a constant number of steps.
 pub fn part_of<'a>(geometry: &Geometry, job: &'a Job, unit: u16) -> Option<LentPart<'a>>
     requires { FitsNamespace geometry.now job.now }
-    ensures { MatchOption result (part_here geometry.now job.now unit ≡ None)
+    ensures part { MatchOption result (part_here geometry.now job.now unit ≡ None)
         (λ part. part_here geometry.now job.now unit ≡ Some (part_operation_of part)) }
+
+    // The part lies in the unit's place, has a block, and has just its data.
+    ensures covered { IfSome result (λ part. (first blocks : ℕ) → IsPlaceOf geometry.now unit first blocks
+        → IsCovered (place_at first blocks geometry.now.block_size) (part_operation_of part)) }
 {
+    parts_of_jobs();
     match plan(geometry, job) {
         Plan::Refused(_) => None,
         Plan::Ready => body_part(*geometry, &job.body, unit),
