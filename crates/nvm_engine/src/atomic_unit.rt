@@ -31,7 +31,7 @@ pub enum Told {
 }
 
 impl AtomicUnit {
-    ghost use Rattle.nvm_engine.specs.AtomicUnit.{IsChanged, IsLookedAt, KeepsHistory, IsStepped};
+    ghost use Rattle.nvm_engine.specs.Inside.AtomicUnit.{IsChanged, IsLookedAt, KeepsHistory, IsStepped};
 
     /// Makes the act's change, unless it is a pair whose comparison fails, where the history has room for it
     /// below `limit`.

@@ -1,7 +1,7 @@
 ghost use Rattle.std.specs.Prelude.{◌≡◌, ◌++◌, Some, IfSome, IfNone, OnOk};
 ghost use Rattle.nvm_record.specs.Step.{Operation};
 ghost use Rattle.nvm_plan.specs.Operation.{operation_of_body};
-ghost use Rattle.nvm_engine.specs.Units.{GoesOn, EndsWith};
+ghost use Rattle.nvm_engine.specs.Inside.Units.{GoesOn, EndsWith};
 
 use crate::atomic_unit::Told;
 use crate::done_job::DoneJob;

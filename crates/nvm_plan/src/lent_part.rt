@@ -1,13 +1,14 @@
 ghost use Rattle.std.specs.Prelude.{◌≡◌, ◌+◌, ◌-◌, ◌*◌, ◌≤◌, length, ℕ, IfSome, IsTrue, MatchOption, None, Some};
 ghost use Rattle.nvm_record.specs.Entry.{IsWhole};
 ghost use Rattle.nvm_record.specs.Step.{Operation};
-ghost use Rattle.nvm_geometry.specs.Parts.{data_part, part_in, piece_in};
+ghost use Rattle.nvm_geometry.specs.Parts.{data_part, part_in, piece_in, pieces_of};
 ghost use Rattle.nvm_geometry.specs.Place.{IsPlaceOf};
 ghost use Rattle.nvm_store.specs.Place.{place_at, IsCovered};
+ghost use Rattle.nvm_plan.specs.Checks.{refusal_of};
 ghost use Rattle.nvm_plan.specs.Fits.{FitsNamespace, IsWholeBody};
 ghost use Rattle.nvm_plan.specs.JobPart.{job_units, part_here, part_served};
 ghost use Rattle.nvm_plan.specs.LentPart.{part_operation_of};
-ghost use Rattle.nvm_plan.specs.Operation.{single_operation, operation_of_pair, operation_of_body};
+ghost use Rattle.nvm_plan.specs.Operation.{single_operation, operation_of_pair, operation_of_body, job_operation_of};
 ghost use Rattle.nvm_plan.specs.Profile.{is_in_profile};
 ghost use Rattle.nvm_plan.specs.Ready.{IsReadyBody, IsReadyPair};
 
@@ -15,7 +16,7 @@ use crate::checks::plan;
 use crate::decision::Plan;
 use crate::job::{Body, Job};
 use crate::laws::{parts_of_jobs, ready_jobs};
-use nvm_geometry::{Geometry, Piece};
+use nvm_geometry::{Geometry, Parts, Piece};
 use nvm_record::{BlockSize, Command, Op};
 use nvm_store::{ActRef, Look};
 
@@ -45,6 +46,17 @@ pub fn part_of<'a>(geometry: &Geometry, job: &'a Job, unit: u16) -> Option<LentP
         Plan::Refused(_) => None,
         Plan::Ready => body_part(*geometry, &job.body, unit),
     }
+}
+
+/// The pieces of a job's range, ascending: one for each unit in which the job has a part.
+pub fn pieces_of_job(geometry: &Geometry, job: &Job) -> Parts
+    requires { refusal_of geometry.now job.now ≡ None }
+    ensures { (op : Operation) → job_operation_of job.now ≡ Some op
+        → result ≡ pieces_of geometry.now op.first op.blocks }
+{
+    ready_jobs();
+    let command = leader(&job.body);
+    geometry.parts(command.slba, u32::from(command.nlb) + 1)
 }
 
 /// In how many units a job has a part: 0 where a check refuses it. It takes no memory and a constant number

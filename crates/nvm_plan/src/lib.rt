@@ -28,5 +28,5 @@ pub use decision::Plan;
 pub use fit::{MOST_HOSTS, fits};
 pub use job::{Body, Job};
 pub use job_list::jobs;
-pub use lent_part::{LentPart, part_of, parts_count};
+pub use lent_part::{LentPart, part_of, parts_count, pieces_of_job};
 pub use part::{Part, PartResult};

@@ -1,37 +1,33 @@
 -- The whole namespace as its units, and jobs that are done there part by part.
-use Rattle.std.specs.Prelude.{◌≡◌, ◌≢◌, ℕ, ◌+◌, ◌<◌, ◌≤◌, List, ◌++◌, map, Option, Some, None, length, vec_len, slice_index_or, IsTrue, not}
+use Rattle.std.specs.Prelude.{◌≡◌, ◌≢◌, ℕ, ◌<◌, ◌≤◌, List, ◌++◌, map, Option, Some, None, length, vec_len, slice_index_or}
 use Rattle.nvm_record.specs.Medium.{Medium}
 use Rattle.nvm_record.specs.Status.{successful_completion}
-use Rattle.nvm_record.specs.Step.{Deed, Operation, reads}
-use Rattle.nvm_record.specs.declared.command.Command.{Command}
-use Rattle.nvm_record.specs.declared.op.Op.TheVariants.{Read}
+use Rattle.nvm_record.specs.Step.{Deed, Operation}
 use Rattle.nvm_record.specs.declared.status.Statuses.{Statuses}
 use Rattle.nvm_record.specs.declared.status.Statuses.TheVariants.{One}
 use Rattle.nvm_geometry.specs.Namespace.{Namespace}
-use Rattle.nvm_geometry.specs.Boundaries.{unit_number, units_of, Crosses}
-use Rattle.nvm_geometry.specs.Parts.{piece_in, pieces_of, part_in}
+use Rattle.nvm_geometry.specs.Boundaries.{units_of}
+use Rattle.nvm_geometry.specs.Parts.{part_in}
+use Rattle.nvm_geometry.specs.Place.{IsPlaceOf}
 use Rattle.nvm_geometry.specs.declared.piece.Piece.{Piece}
 use Rattle.nvm_plan.specs.Outcome.{data_told, AreDone, IsOutcomeOf}
-use Rattle.nvm_plan.specs.Reply.{Reply, is_look, is_pair, success_of, stop_of, AreOfFailedPair, CanEndLook}
-use Rattle.nvm_plan.specs.declared.job.Body.{Body}
-use Rattle.nvm_plan.specs.declared.job.Body.TheVariants.{Single, Pair}
+use Rattle.nvm_plan.specs.Reply.{Reply, success_of, stop_of, IsReplyTo}
 use Rattle.nvm_plan.specs.declared.job.Job.{Job}
 use Rattle.nvm_plan.specs.declared.part.PartResult.{PartResult}
 use Rattle.nvm_plan.specs.declared.part.PartResult.TheVariants as result
 use Rattle.nvm_store.specs.Contents.{Contents, Holds}
 use Rattle.nvm_store.specs.declared.look.answer.Answer.TheVariants.{Payload, Status}
-use Rattle.nvm_engine.specs.DoneJob.{told}
+use Rattle.nvm_engine.specs.Inside.DoneJob.{told}
 use Rattle.nvm_engine.specs.Run.{Setup, Counts, Rests, medium_left, counts_left, Does, IsBegun, RunsJob}
 use Rattle.nvm_engine.specs.declared.atomic_unit.AtomicUnit.{AtomicUnit}
 use Rattle.nvm_engine.specs.declared.atomic_unit.Told.{Told}
 use Rattle.nvm_engine.specs.declared.atomic_unit.Told.TheVariants.{Done, Failed, Looked, NoMemory, Full}
 use Rattle.nvm_engine.specs.declared.done_job.DoneJob.{DoneJob}
 
--- The contents are those of just the LBAs of unit `k`.
+-- The contents are those of unit `k`.
 pub record AreOfUnit (ns : Namespace) (k : ℕ) (u : Contents) : Type 0 where
   pub size : u.size ≡ ns.block_size
-  pub lies : (lba : ℕ) → u.first ≤ lba → lba < u.first + length u.blocks → unit_number ns lba ≡ k
-  pub whole : (lba : ℕ) → lba < ns.nsze → unit_number ns lba ≡ k → (u.first ≤ lba) × (lba < u.first + length u.blocks)
+  pub place : IsPlaceOf ns k u.first (length u.blocks)
 
 -- Unit k stands at place k, and its history is within the limit.
 abbrev pub AreUnits : Setup → List AtomicUnit → Type 0
@@ -49,43 +45,6 @@ abbrev pub AreAt : List AtomicUnit → Medium → Counts → Type 0
 AreAt units m counts =
     (d : AtomicUnit) (k : ℕ) → k < length units
     → Holds (slice_index_or units k d).blocks m × (counts k ≡ vec_len (slice_index_or units k d).history)
-
--- All LBAs of the piece lie in its unit.
-abbrev pub LiesIn : Namespace → Piece → Type 0
-LiesIn ns p = (lba : ℕ) → p.first ≤ lba → lba < p.first + p.blocks → unit_number ns lba ≡ p.unit
-
--- A piece of the range, inside its unit.
-pub record IsPiece (ns : Namespace) (first blocks : ℕ) (p : Piece) : Type 0 where
-  pub known : p.unit < units_of ns
-  pub is : p ≡ piece_in ns first blocks p.unit
-  pub some : 0 < p.blocks
-  pub low : first ≤ p.first
-  pub high : p.first + p.blocks ≤ first + blocks
-  pub lies : LiesIn ns p
-
--- the LBAs of the piece are some, and lie in its unit
-pub record IsInside (ns : Namespace) (p : Piece) : Type 0 where
-  pub known : p.unit < units_of ns
-  pub some : 0 < p.blocks
-  pub high : p.first + p.blocks ≤ ns.nsze
-  pub lies : LiesIn ns p
-
--- the command whose range is that of the job
-abbrev pub leader : Body → Command
-leader (Single c) = c
-leader (Pair c d) = c
-
--- the pieces of a job's range
-abbrev pub body_pieces : Namespace → Body → List Piece
-body_pieces ns body = pieces_of ns (leader body).slba ((leader body).nlb + 1)
-
-abbrev pub IsPieceOf : Namespace → Body → Piece → Type 0
-IsPieceOf ns body p = IsPiece ns (leader body).slba ((leader body).nlb + 1) p
-
--- The job is a Read whose range crosses a boundary.
-pub record IsReadBodyOverUnits (ns : Namespace) (body : Body) : Type 0 where
-  pub read : (leader body).op ≡ Read
-  pub over : Crosses ns (leader body).slba ((leader body).nlb + 1)
 
 -- how the part ended, the statuses that were told of it, and the data
 abbrev pub result_told : Told → PartResult
@@ -120,25 +79,15 @@ reply_of unit point deed told =
       payload = payload_told told;
     }
 
--- What may be told of a part of the deed.
-abbrev pub CanBeTold : Deed → Told → Type 0
-CanBeTold deed Done = IsTrue (not (is_look deed))
-CanBeTold deed (Failed statuses) = IsTrue (is_pair deed) × AreOfFailedPair statuses
-CanBeTold deed (Looked (Payload bytes)) = deed ≡ reads
-CanBeTold deed (Looked (Status status)) = CanEndLook deed status × (deed ≡ reads → status ≢ successful_completion)
-CanBeTold deed NoMemory = Unit {0}
-CanBeTold deed Full = IsTrue (not (is_look deed))
-
--- What was told of the operation's part in the unit rests on the units as they were, and the units are as
--- it leaves them.
+-- What was told of the operation's part in the unit is a reply to it and rests on the units as they were, and the
+-- units are as it leaves them.
 abbrev pub DoesPart : Setup → Operation → List AtomicUnit → List AtomicUnit → ℕ → Told → Type 0
 DoesPart s op old new unit told =
-    CanBeTold op.deed told
-    × ((m : Medium) (counts : Counts) → AreAt old m counts
+    (m : Medium) (counts : Counts) → AreAt old m counts
     → let reply : Reply = reply_of unit (counts unit) op.deed told in
     let part : Operation = part_in s.namespace op unit in
-    Rests s part m counts reply
-    × AreAt new (medium_left s.namespace.block_size part reply.part.result m) (counts_left unit reply.part.result counts))
+    IsReplyTo op.deed reply × Rests s part m counts reply
+    × AreAt new (medium_left s.namespace.block_size part reply.part.result m) (counts_left unit reply.part.result counts)
 
 -- The job goes on after this: what the part read is added to the bytes.
 abbrev pub GoesOn : Told → List ℕ → List ℕ → Type 0

@@ -1,8 +1,8 @@
 -- One unit of the namespace, and what a part does there.
-use Rattle.std.specs.Prelude.{◌≡◌, ◌+◌, ◌<◌, ℕ, vec_len, IsSome, IsTrue}
+use Rattle.std.specs.Prelude.{◌≡◌, ◌+◌, ◌<◌, ℕ, vec_len, IsSome}
 use Rattle.nvm_record.specs.Medium.{Medium}
+use Rattle.nvm_record.specs.Status.{IsSuccess}
 use Rattle.nvm_record.specs.Step.{Operation, statuses_of, data_of, medium_after}
-use Rattle.nvm_plan.specs.Reply.{is_pair, AreOfFailedPair}
 use Rattle.nvm_store.specs.Answer.{IsAnswer}
 use Rattle.nvm_store.specs.Contents.{Holds, StaysInPlace, Succeeds}
 use Rattle.nvm_engine.specs.declared.atomic_unit.AtomicUnit.{AtomicUnit}
@@ -23,7 +23,7 @@ pub record IsStepped (old new : AtomicUnit) (op : Operation) : Type 0 where
 abbrev pub IsChanged : ℕ → AtomicUnit → AtomicUnit → Operation → Told → Type 0
 IsChanged limit old new op Done = Succeeds old.blocks op × (vec_len old.history < limit) × IsStepped old new op
 IsChanged limit old new op (Failed statuses) =
-    ((m : Medium) → Holds old.blocks m → statuses ≡ statuses_of op m) × IsTrue (is_pair op.deed) × AreOfFailedPair statuses × KeepsHistory old new
+    ((m : Medium) → Holds old.blocks m → statuses ≡ statuses_of op m) × (¬ (IsSuccess statuses)) × KeepsHistory old new
 IsChanged limit old new op (Looked answer) = ⊥
 IsChanged limit old new op NoMemory = Succeeds old.blocks op × (vec_len old.history < limit) × KeepsHistory old new
 IsChanged limit old new op Full = Succeeds old.blocks op × (vec_len old.history ≡ limit) × KeepsHistory old new
