@@ -2,6 +2,7 @@ pub mod PartLemmas
 pub mod ToldLemmas
 pub mod JobOperations
 pub mod PartsLeft
+pub mod Rooms
 pub mod ReplyLemmas
 pub mod Progress
 pub mod RunLemmas

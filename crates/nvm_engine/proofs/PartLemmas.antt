@@ -79,3 +79,8 @@ with_one_more P units u all last d k below =
           let here : k ≡ length units = omega (arith, length-append units (u ∷ []), above, below) in
           subst (λ (i : ℕ). P i (get_or (units ++ u ∷ []) i d)) (sym here) (subst (P (length units)) (sym (get_or-append_seam units u [] d)) last)
     ]
+
+pub its_size : (s : Setup) (units : List AtomicUnit) (k : ℕ) (u : AtomicUnit) → IsLaidOut s units → k < units_of s.namespace → u ≡ get_or units k u → u.blocks.size ≡ s.namespace.block_size
+its_size s units k u laid known at =
+    let count : length units ≡ units_of s.namespace = laid.count in
+    subst (λ (v : AtomicUnit). v.blocks.size ≡ s.namespace.block_size) (sym at) (laid.each u k (omega arith)).0.size

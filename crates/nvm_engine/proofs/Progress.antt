@@ -1,18 +1,16 @@
 -- The parts of an operation, one after the other, are its outcome.
-use Rattle.std.proofs.Common.{◌≡◌, ◌≢◌, inl, inr, ℕ, List, [], ◌∷◌, ◌++◌, map, Option, None, unwrap_or, IsSome, refl, sym, ap, ◌∙◌, subst, append-nil, arith}
+use Rattle.std.proofs.Common.{◌≡◌, ◌≢◌, inl, inr, ℕ, List, [], ◌∷◌, ◌++◌, map, Option, None, unwrap_or, refl, sym, ap, ◌∙◌, subst, append-nil, arith}
 use Rattle.nvm_record.specs.declared.status.Status.{Status as Code}
 use Rattle.nvm_record.specs.declared.status.Statuses.{Statuses}
 use Rattle.nvm_record.specs.declared.status.Statuses.TheVariants.{One, Two}
 use Rattle.nvm_record.specs.Medium.{Medium}
 use Rattle.nvm_record.specs.Status.{IsSuccess, successful_completion}
-use Rattle.nvm_record.specs.Step.{Deed, Operation}
+use Rattle.nvm_record.specs.Step.{Operation}
 use Rattle.nvm_geometry.specs.Namespace.{Namespace}
 use Rattle.nvm_geometry.specs.Parts.{part_in, units_met}
 use Rattle.nvm_geometry.specs.declared.piece.Piece.{Piece}
 use Rattle.nvm_plan.specs.Outcome.{data_told, answered, unstarted_of, AreDone, IsOutcomeOf}
-use Rattle.nvm_plan.specs.declared.part.Part.{Part}
-use Rattle.nvm_plan.specs.declared.part.PartResult.TheVariants as result
-use Rattle.nvm_plan.specs.Reply.{Reply, reply_of_stop, success_of, IsFailedComparison, AreOfFailedPair, IsReplyTo, IsSuccessfulReply}
+use Rattle.nvm_plan.specs.Reply.{Reply, success_of, IsFailedComparison, AreOfFailedPair, IsReplyTo, IsSuccessfulReply}
 use Rattle.nvm_store.specs.declared.look.answer.Answer.TheVariants.{Payload, Status}
 use Rattle.nvm_engine.specs.Run.{Setup, Counts, Rests, medium_left, counts_left, part_told, Does, IsReadOverUnits, IsBegun}
 use Rattle.nvm_engine.specs.Inside.Units.{DoesPart, DoesParts, GoesOn, EndsWith, IsUnderWay, reply_of, statuses_told, payload_told}
@@ -107,28 +105,19 @@ module _ (s : Setup) (op : Operation) where
         last_begun s.namespace op now.replies reply,
       )
 
-  -- what was read, and then found no memory
-  no_room : ((deed : Deed) (part : Part) → part.result ≡ result.NoMemory → IsReplyTo deed (reply_of_stop deed part))
-      → (old new : List AtomicUnit) (unit : ℕ) (bytes : List ℕ) → DoesPart s op old new unit (Looked (Payload bytes)) → DoesPart s op old new unit NoMemory
-  no_room stopped old new unit bytes part m counts at =
-      let did = part m counts at in
-      (stopped op.deed _ refl, (refl, inl (subst (λ (o : Option (List ℕ)). IsSome o) did.1.1.payload refl)), did.2)
-
   -- So does each answer that ends it.
-  pub ends : ((deed : Deed) (part : Part) → part.result ≡ result.NoMemory → IsReplyTo deed (reply_of_stop deed part))
-      → ((replies : List Reply) (r : Reply) (left : List ℕ) → AreDone s.namespace op replies (r.part.unit ∷ left) → IsReplyTo op.deed r → (IsSuccess r.statuses → ⊥) → IsOutcomeOf s.namespace op (replies ++ r ∷ []) r.statuses None)
+  pub ends : ((replies : List Reply) (r : Reply) (left : List ℕ) → AreDone s.namespace op replies (r.part.unit ∷ left) → IsReplyTo op.deed r → (IsSuccess r.statuses → ⊥) → IsOutcomeOf s.namespace op (replies ++ r ∷ []) r.statuses None)
       → (start old new : List AtomicUnit) (p : Piece) (rest : List Piece) (told : Told) (bytes : List ℕ) (done : DoneJob)
       → IsUnderWay s op start old (p ∷ rest) bytes → DoesPart s op old new p.unit told → EndsWith op.deed told done → DoesParts s op start new done
-  ends stopped so start old new p rest Done bytes done under part end = absurd end
-  ends stopped so start old new p rest (Failed statuses) bytes done under part end =
+  ends so start old new p rest Done bytes done under part end = absurd end
+  ends so start old new p rest (Failed statuses) bytes done under part end =
       stops so start old new p rest (Failed statuses) bytes done under part (λ point reply. failed_fails statuses reply.told) (ap (λ (d : DoneJob). d.statuses) end) (ap (λ (d : DoneJob). d.payload) end)
-  ends stopped so start old new p rest (Looked (Payload read)) bytes done under part end =
-      stops so start old new p rest NoMemory bytes done under (no_room stopped old new p.unit read part) (λ point reply. stop_fails op.deed) (ap (λ (d : DoneJob). d.statuses) end) (ap (λ (d : DoneJob). d.payload) end)
-  ends stopped so start old new p rest (Looked (Status status)) bytes done under part end =
+  ends so start old new p rest (Looked (Payload read)) bytes done under part end = absurd end
+  ends so start old new p rest (Looked (Status status)) bytes done under part end =
       stops so start old new p rest (Looked (Status status)) bytes done under part (λ point reply. end.0) (ap (λ (d : DoneJob). d.statuses) end.1) (ap (λ (d : DoneJob). d.payload) end.1)
-  ends stopped so start old new p rest NoMemory bytes done under part end =
+  ends so start old new p rest NoMemory bytes done under part end =
       stops so start old new p rest NoMemory bytes done under part (λ point reply. stop_fails op.deed) (ap (λ (d : DoneJob). d.statuses) end) (ap (λ (d : DoneJob). d.payload) end)
-  ends stopped so start old new p rest Full bytes done under part end =
+  ends so start old new p rest Full bytes done under part end =
       stops so start old new p rest Full bytes done under part (λ point reply. stop_fails op.deed) (ap (λ (d : DoneJob). d.statuses) end) (ap (λ (d : DoneJob). d.payload) end)
 
   -- After the last part.

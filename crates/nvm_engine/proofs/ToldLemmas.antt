@@ -1,11 +1,12 @@
 -- What a unit told of its part is what the part did to the units.
-use Rattle.std.proofs.Common.{◌≡◌, ◌==◌, inl, inr, ℕ, ◌+◌, ◌<◌, List, length, vec_len, get_or, set, refl, sym, ap, ◌∙◌, subst, Bool, ◌&&◌, not, IsTrue, IsSome, Option, None, Some, arith}
+use Rattle.std.proofs.Common.{◌≡◌, ◌==◌, inl, inr, ℕ, ◌+◌, ◌*◌, ◌<◌, List, length, vec_len, get_or, set, refl, sym, ap, ◌∙◌, subst, Bool, ◌&&◌, not, IsTrue, IsSome, Option, None, Some, arith}
+use Rattle.nvm_record.specs.declared.block.Block.{Block}
 use Rattle.nvm_record.specs.declared.status.Statuses.{Statuses}
 use Rattle.nvm_record.specs.declared.status.Statuses.TheVariants.{One}
 use Rattle.nvm_record.specs.Deeds.{is_read, is_look, is_pair, IsAct, IsLook, IsPair, IsSingle}
 use Rattle.nvm_record.specs.Medium.{Medium}
 use Rattle.nvm_record.specs.Status.{IsSuccess, successful_completion}
-use Rattle.nvm_record.specs.Step.{Deed, writes, zeroes, uncorrectable, reads, compares, pairs, Operation, is_in_range, statuses_of, data_of, medium_after}
+use Rattle.nvm_record.specs.Step.{Deed, writes, zeroes, uncorrectable, reads, compares, pairs, Operation, is_in_range, range_of, statuses_of, data_of, data_on, medium_after}
 use Rattle.nvm_geometry.specs.Namespace.{Namespace}
 use Rattle.nvm_geometry.specs.Boundaries.{unit_number, units_of}
 use Rattle.nvm_geometry.specs.Parts.{deed_part, part_in, blocks_below, blocks_in}
@@ -13,10 +14,11 @@ use Rattle.nvm_plan.specs.Reply.{Reply, reply_on, reply_of_stop, IsReplyTo}
 use Rattle.nvm_plan.specs.declared.part.Part.{Part}
 use Rattle.nvm_plan.specs.declared.part.PartResult.{PartResult}
 use Rattle.nvm_plan.specs.declared.part.PartResult.TheVariants as result
-use Rattle.nvm_store.specs.Answer.{IsAnswer}
+use Rattle.nvm_store.specs.Answer.{IsAnswer, HasBytes}
+use Rattle.nvm_store.specs.declared.look.answer.Answer.{Answer}
+use Rattle.nvm_store.specs.declared.look.answer.Answer.TheVariants.{Payload, Status as Plain}
 use Rattle.nvm_store.specs.Contents.{Contents, Holds}
-use Rattle.nvm_store.specs.declared.look.answer.Answer.TheVariants as answers
-use Rattle.nvm_engine.specs.Inside.AtomicUnit.{IsChanged, IsLookedAt}
+use Rattle.nvm_engine.specs.Inside.AtomicUnit.{IsOfRead, IsChanged, IsLookedAt, TellsOfRead}
 use Rattle.nvm_engine.specs.Run.{Setup, Counts, recounted}
 use Rattle.nvm_engine.specs.Inside.Units.{IsLaidOut, AreAt, DoesPart}
 use Rattle.nvm_engine.specs.declared.atomic_unit.AtomicUnit.{AtomicUnit}
@@ -95,8 +97,8 @@ module _ (s : Setup) (op act : Operation) (k : ℕ) (units : List AtomicUnit) (o
   mine : (m : Medium) (counts : Counts) → AreAt units m counts → Holds old.blocks m × (counts k ≡ vec_len old.history)
   mine m counts all = subst (λ (u : AtomicUnit). Holds u.blocks m × (counts k ≡ vec_len u.history)) (sym at) (all old k inside)
 
-  size : old.blocks.size ≡ s.namespace.block_size
-  size = subst (λ (u : AtomicUnit). u.blocks.size ≡ s.namespace.block_size) (sym at) (laid.each old k inside).0.size
+  same_size : old.blocks.size ≡ s.namespace.block_size
+  same_size = subst (λ (u : AtomicUnit). u.blocks.size ≡ s.namespace.block_size) (sym at) (laid.each old k inside).0.size
 
   whole_acts : IsAct op.deed
   whole_acts = subst (λ (b : Bool). IsTrue (not b)) (look_of_part s.namespace op act k is) acts
@@ -121,7 +123,7 @@ module _ (s : Setup) (op act : Operation) (k : ℕ) (units : List AtomicUnit) (o
       let counted : counts k ≡ vec_len old.history = here.1 in
       let ok : IsSuccess (statuses_of (part_in s.namespace op k) m) = subst (λ (o : Operation). IsSuccess (statuses_of o m)) is (h.0 m here.0) in
       let stepped : Holds new.blocks (medium_after s.namespace.block_size (part_in s.namespace op k) m) =
-      subst (λ (o : Operation). Holds new.blocks (medium_after s.namespace.block_size o m)) is (subst (λ (n : ℕ). Holds new.blocks (medium_after n act m)) size (h.2.blocks m here.0)) in
+      subst (λ (o : Operation). Holds new.blocks (medium_after s.namespace.block_size o m)) is (subst (λ (n : ℕ). Holds new.blocks (medium_after n act m)) same_size (h.2.blocks m here.0)) in
       let reply = done_replies m (ended k (counts k) result.Done) whole_acts refl ok in
       let none = no_data m result.Done (done_replies m (ended k 0 result.Done) whole_acts refl ok) in (
         told_reply op.deed (ended k (counts k) result.Done) _ _ _ _ (sym reply.told) (sym none) reply,
@@ -179,16 +181,10 @@ module _ (s : Setup) (op act : Operation) (k : ℕ) (units : List AtomicUnit) (u
   pub looks_at_part : (told : Told) → IsLookedAt unit act told → DoesPart s op units units k told
   looks_at_part Done h m counts all = absurd h
   looks_at_part (Failed statuses) h m counts all = absurd h
-  looks_at_part (Looked (answers.Payload bytes)) h m counts all =
-      let told = subst (λ (o : Operation). IsAnswer o m (answers.Payload bytes)) is (h m (held m counts all)) in (
-        told_reply op.deed (ended k (counts k) result.Looked) _ _ _ _ (sym told.0) (sym told.1) (looked_replies m (ended k (counts k) result.Looked) whole_looks refl),
-        (refl, record { statuses = sym told.0; payload = sym told.1 }),
-        all,
-      )
-  looks_at_part (Looked (answers.Status status)) h m counts all =
-      let told = subst (λ (o : Operation). IsAnswer o m (answers.Status status)) is (h m (held m counts all)) in (
-        told_reply op.deed (ended k (counts k) result.Looked) _ _ _ _ (sym told.0) (sym told.1) (looked_replies m (ended k (counts k) result.Looked) whole_looks refl),
-        (refl, record { statuses = sym told.0; payload = sym told.1 }),
+  looks_at_part (Looked answer) h m counts all =
+      let told = subst (λ (o : Operation). IsAnswer o m answer) is (h.0 m (held m counts all)) in (
+        told_reply op.deed (ended k (counts k) result.Looked) _ _ _ _ told.0 told.1 (looked_replies m (ended k (counts k) result.Looked) whole_looks refl),
+        (refl, record { statuses = told.0; payload = told.1 }),
         all,
       )
   looks_at_part NoMemory h m counts all = (
@@ -197,3 +193,44 @@ module _ (s : Setup) (op act : Operation) (k : ℕ) (units : List AtomicUnit) (u
     all,
   )
   looks_at_part Full h m counts all = absurd h
+
+-- data is told of a Read alone
+read_alone : (d : Deed) (blocks : List Block) (bytes : List ℕ) → Some bytes ≡ data_on blocks d → IsTrue (is_read d)
+read_alone (writes payload) blocks bytes e = absurd (cc e)
+read_alone zeroes blocks bytes e = absurd (cc e)
+read_alone uncorrectable blocks bytes e = absurd (cc e)
+read_alone reads blocks bytes e = refl
+read_alone (compares payload) blocks bytes e = absurd (cc e)
+read_alone (pairs payload new) blocks bytes e = absurd (cc e)
+
+pub of_read : (op : Operation) (m : Medium) (size : ℕ) (answer : Answer) → IsAnswer op m answer → HasBytes (op.blocks * size) answer → IsOfRead size op answer
+of_read op m size (Payload bytes) is count = (read_alone op.deed (range_of op m) bytes is.1, count)
+of_read op m size (Plain status) is count = tt
+
+-- a change tells no data
+pub changes_tell : (limit size : ℕ) (old new : AtomicUnit) (op : Operation) (told : Told) → IsChanged limit old new op told → TellsOfRead size op told
+changes_tell limit size old new op Done h = tt
+changes_tell limit size old new op (Failed statuses) h = tt
+changes_tell limit size old new op (Looked answer) h = absurd h
+changes_tell limit size old new op NoMemory h = tt
+changes_tell limit size old new op Full h = tt
+
+pub looks_tell : (unit : AtomicUnit) (size : ℕ) (op : Operation) (told : Told) → unit.blocks.size ≡ size → IsLookedAt unit op told → TellsOfRead size op told
+looks_tell unit size op Done same h = tt
+looks_tell unit size op (Failed statuses) same h = tt
+looks_tell unit size op (Looked answer) same h = subst (λ (n : ℕ). IsOfRead n op answer) same h.1
+looks_tell unit size op NoMemory same h = tt
+looks_tell unit size op Full same h = tt
+
+part_read : (size skipped blocks : ℕ) (d : Deed) → is_read (deed_part size skipped blocks d) ≡ is_read d
+part_read size skipped blocks (writes payload) = refl
+part_read size skipped blocks zeroes = refl
+part_read size skipped blocks uncorrectable = refl
+part_read size skipped blocks reads = refl
+part_read size skipped blocks (compares payload) = refl
+part_read size skipped blocks (pairs payload new) = refl
+
+pub read_of_part : (ns : Namespace) (op part : Operation) (k : ℕ) → part ≡ part_in ns op k → IsTrue (is_read part.deed) → IsTrue (is_read op.deed)
+read_of_part ns op part k e h =
+    let same = ap (λ (o : Operation). is_read o.deed) e ∙ part_read ns.block_size (blocks_below ns op.first op.blocks k) (blocks_in ns op.first op.blocks k) op.deed in
+    subst (λ (b : Bool). IsTrue b) same h

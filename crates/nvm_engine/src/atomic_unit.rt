@@ -77,6 +77,7 @@ impl AtomicUnit {
         requires { Covers self.now.blocks (look_operation_of look) }
         ensures { IsLookedAt self.now (look_operation_of look.entry) result }
     {
+        some_medium_is_held();
         match answer(alloc, &self.blocks, look) {
             Ok(answer) => Told::Looked(answer),
             Err(_) => Told::NoMemory,

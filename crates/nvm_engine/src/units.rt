@@ -1,7 +1,9 @@
-ghost use Rattle.std.specs.Prelude.{◌≡◌, ℕ, [], ◌<◌, Some, None, IfOk, OnErr, vec_len};
+ghost use Rattle.std.specs.Prelude.{◌≡◌, ◌⊎◌, ℕ, ◌*◌, ◌<◌, ◌≤◌, [], Some, None, IfOk, IsTrue, OnErr, vec_len, vec_capacity};
+ghost use Rattle.nvm_record.specs.Deeds.{is_read};
 ghost use Rattle.nvm_record.specs.Medium.{zero_medium};
 ghost use Rattle.nvm_record.specs.Step.{Operation};
 ghost use Rattle.nvm_geometry.specs.Boundaries.{units_of};
+ghost use Rattle.nvm_geometry.specs.Limits.{LiesInUnit};
 ghost use Rattle.nvm_geometry.specs.Parts.{part_in};
 ghost use Rattle.nvm_geometry.specs.Place.{IsPlaceOf};
 ghost use Rattle.nvm_plan.specs.Checks.{refusal_of};
@@ -11,6 +13,7 @@ ghost use Rattle.nvm_plan.specs.Operation.{job_operation_of};
 ghost use Rattle.nvm_store.specs.Contents.{Holds};
 ghost use Rattle.nvm_store.specs.Place.{place_at, IsCovered};
 ghost use Rattle.nvm_engine.specs.Run.{no_changes, IsReadOverUnits};
+ghost use Rattle.nvm_engine.specs.Inside.AtomicUnit.{TellsOfRead};
 ghost use Rattle.nvm_engine.specs.Inside.Units.{AreOfUnit, IsLaidOut, AreAt, DoesPart, DoesParts, AnswersTo};
 
 use crate::atomic_unit::{AtomicUnit, Told};
@@ -82,10 +85,10 @@ impl Units {
             → DoesParts (setup_of_units self.old) op self.old.units.items self.new.units.items result }
     {
         laws::pieces_stand_in_line();
+        laws::one_unit_is_one_part();
         outcomes_are_made_part_by_part();
         ready_jobs();
         parts_of_jobs();
-        answers_of_the_step_are_replies();
         let geometry = self.geometry;
         let pieces = pieces_of_job(&geometry, job);
         let Ok(mut bytes) = room(alloc, &geometry, job) else {
@@ -113,6 +116,7 @@ impl Units {
         ensures setup { setup_of_units self.new ≡ setup_of_units self.old }
         ensures part { (op : Operation) → part_operation_of part.entry ≡ part_in self.old.geometry op unit
             → DoesPart (setup_of_units self.old) op self.old.units.items self.new.units.items unit result }
+        ensures read { TellsOfRead self.old.geometry.block_size (part_operation_of part.entry) result }
     {
         laws::part_has_its_blocks();
         acts_and_looks();
@@ -137,21 +141,25 @@ impl Units {
 fn room(alloc: Global, geometry: &Geometry, job: &Job) -> Result<Vec<u8>, NoMemory>
     requires { refusal_of geometry.now job.now ≡ None }
     ensures empty { IfOk result (λ bytes. bytes.items ≡ []) }
+    ensures room { IfOk result (λ bytes. (op : Operation) → job_operation_of job.now ≡ Some op → IsTrue (is_read op.deed)
+        → (op.blocks * geometry.now.block_size ≤ vec_capacity bytes) ⊎ LiesInUnit geometry.now op.first op.blocks) }
     ensures asked { OnErr result ((op : Operation) → job_operation_of job.now ≡ Some op → IsReadOverUnits geometry.now op) }
 {
     ready_jobs();
     let Body::Single(command) = &job.body else {
         return Ok(Vec::new(alloc));
     };
-    let blocks = u32::from(command.nlb) + 1;
-    if command.op == Op::Read && geometry.crosses(command.slba, blocks) {
-        Vec::with_capacity(
-            alloc,
-            blocks as usize * geometry.block_size().bytes() as usize,
-        )
-    } else {
-        Ok(Vec::new(alloc))
+    if command.op != Op::Read {
+        return Ok(Vec::new(alloc));
     }
+    let blocks = u32::from(command.nlb) + 1;
+    if !geometry.crosses(command.slba, blocks) {
+        return Ok(Vec::new(alloc));
+    }
+    Vec::with_capacity(
+        alloc,
+        blocks as usize * geometry.block_size().bytes() as usize,
+    )
 }
 
 /// A unit of zero bytes.

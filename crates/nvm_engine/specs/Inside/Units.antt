@@ -1,5 +1,5 @@
 -- The whole namespace as its units, and jobs that are done there part by part.
-use Rattle.std.specs.Prelude.{◌≡◌, ◌≢◌, ℕ, ◌<◌, ◌≤◌, List, ◌++◌, map, Option, Some, None, length, vec_len, slice_index_or}
+use Rattle.std.specs.Prelude.{◌≡◌, ◌≢◌, ◌⊎◌, ℕ, ◌+◌, ◌*◌, ◌<◌, ◌≤◌, List, [], ◌∷◌, ◌++◌, map, Option, None, length, vec_len, slice_index_or}
 use Rattle.nvm_record.specs.Medium.{Medium}
 use Rattle.nvm_record.specs.Status.{successful_completion}
 use Rattle.nvm_record.specs.Step.{Deed, Operation}
@@ -15,6 +15,7 @@ use Rattle.nvm_plan.specs.Reply.{Reply, success_of, stop_of, IsReplyTo}
 use Rattle.nvm_plan.specs.declared.job.Job.{Job}
 use Rattle.nvm_plan.specs.declared.part.PartResult.{PartResult}
 use Rattle.nvm_plan.specs.declared.part.PartResult.TheVariants as result
+use Rattle.nvm_store.specs.Answer.{told_by, read_by}
 use Rattle.nvm_store.specs.Contents.{Contents, Holds}
 use Rattle.nvm_store.specs.declared.look.answer.Answer.TheVariants.{Payload, Status}
 use Rattle.nvm_engine.specs.Inside.DoneJob.{told}
@@ -57,16 +58,14 @@ result_told Full = result.Full
 abbrev pub statuses_told : Deed → Told → Statuses
 statuses_told deed Done = success_of deed
 statuses_told deed (Failed statuses) = statuses
-statuses_told deed (Looked (Payload bytes)) = One successful_completion
-statuses_told deed (Looked (Status status)) = One status
+statuses_told deed (Looked answer) = told_by answer
 statuses_told deed NoMemory = stop_of deed
 statuses_told deed Full = stop_of deed
 
 abbrev pub payload_told : Told → Option (List ℕ)
 payload_told Done = None
 payload_told (Failed statuses) = None
-payload_told (Looked (Payload bytes)) = Some bytes
-payload_told (Looked (Status status)) = None
+payload_told (Looked answer) = read_by answer
 payload_told NoMemory = None
 payload_told Full = None
 
@@ -98,11 +97,30 @@ GoesOn (Looked (Status status)) old new = (status ≡ successful_completion) × 
 GoesOn NoMemory old new = ⊥
 GoesOn Full old new = ⊥
 
+-- There is room for the data that is told, or it is the first.
+abbrev pub HasRoom : Told → ℕ → ℕ → Type 0
+HasRoom Done count room = Unit {0}
+HasRoom (Failed statuses) count room = Unit {0}
+HasRoom (Looked (Payload bytes)) count room = (count + length bytes ≤ room) ⊎ (count ≡ 0)
+HasRoom (Looked (Status status)) count room = Unit {0}
+HasRoom NoMemory count room = Unit {0}
+HasRoom Full count room = Unit {0}
+
+-- how many blocks the pieces have
+abbrev pub blocks_left : List Piece → ℕ
+blocks_left [] = 0
+blocks_left (p ∷ ps) = p.blocks + blocks_left ps
+
+-- After so many bytes of so much room there is room for those of the pieces that are left, or no byte is there yet and
+-- at most one piece is left.
+abbrev pub HasRoomLeft : ℕ → List Piece → ℕ → ℕ → Type 0
+HasRoomLeft size rest count room = (count + blocks_left rest * size ≤ room) ⊎ ((count ≡ 0) × (length rest ≤ 1))
+
 -- A job of the deed ends with this.
 abbrev pub EndsWith : Deed → Told → DoneJob → Type 0
 EndsWith deed Done done = ⊥
 EndsWith deed (Failed statuses) done = done ≡ told statuses
-EndsWith deed (Looked (Payload bytes)) done = done ≡ told (stop_of deed)
+EndsWith deed (Looked (Payload bytes)) done = ⊥
 EndsWith deed (Looked (Status status)) done = (status ≢ successful_completion) × (done ≡ told (One status))
 EndsWith deed NoMemory done = done ≡ told (stop_of deed)
 EndsWith deed Full done = done ≡ told (stop_of deed)

@@ -1,4 +1,4 @@
-use Rattle.std.proofs.Common.{◌≡◌, get_or, subst}
+use Rattle.std.proofs.Common.{◌≡◌, get_or, sym, subst}
 use Rattle.nvm_geometry.specs.Parts.{part_in}
 use Rattle.nvm_store.specs.ActRef.{lent_operation_of}
 use Rattle.nvm_store.specs.Look.{look_operation_of}
@@ -6,8 +6,9 @@ use Rattle.nvm_store.specs.Place.{place_at, IsCovered}
 use Rattle.nvm_plan.specs.LentPart.{part_operation_of}
 use Rattle.nvm_plan.specs.declared.lent_part.LentPart.{LentPart}
 use Rattle.nvm_engine.specs.Inside.Setup.{setup_of_units}
-use Rattle.nvm_engine.proofs.PartLemmas.{lies_there}
-use Rattle.nvm_engine.proofs.ToldLemmas.{changes_part, looks_at_part}
+use Rattle.nvm_engine.specs.Inside.AtomicUnit.{TellsOfRead}
+use Rattle.nvm_engine.proofs.PartLemmas.{lies_there, its_size}
+use Rattle.nvm_engine.proofs.ToldLemmas.{changes_part, looks_at_part, changes_tell, looks_tell}
 use Rattle.nvm_engine.proofs.units.Units.do_part.Goals as goal
 
 pub change-requires-clause-covered : goal.change-requires-clause-covered
@@ -43,3 +44,14 @@ returns-in-Look-clause-part c = λ op is.
     (c.answers_of_the_step_are_replies.ensures.looked c.args.self.now.geometry op)
     (c.answers_of_the_step_are_replies.ensures.no_memory op.deed)
     c.look.result c.look.ensures
+
+pub returns-in-Act-clause-read : goal.returns-in-Act-clause-read
+returns-in-Act-clause-read c =
+    subst (λ (p : LentPart). TellsOfRead c.args.self.now.geometry.block_size (part_operation_of p) c.change.result) (sym c.in-Act.is)
+    (changes_tell c.args.self.now.limit c.args.self.now.geometry.block_size c.index_mut-unit.result.now c.change.new.self (lent_operation_of c.in-Act.act) c.change.result c.change.ensures)
+
+pub returns-in-Look-clause-read : goal.returns-in-Look-clause-read
+returns-in-Look-clause-read c =
+    subst (λ (p : LentPart). TellsOfRead c.args.self.now.geometry.block_size (part_operation_of p) c.look.result) (sym c.in-Look.is)
+    (looks_tell c.index-unit.result.now c.args.self.now.geometry.block_size (look_operation_of c.in-Look.look) c.look.result
+    (its_size (setup_of_units c.args.self.now) c.args.self.now.units.items c.args.unit c.index-unit.result.now c.requires.laid c.requires.known c.index-unit.ensures) c.look.ensures)
