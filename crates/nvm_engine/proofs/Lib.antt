@@ -1,9 +1,8 @@
-pub mod PieceLemmas
-pub mod PartOperations
 pub mod PartLemmas
-pub mod FailedPairs
 pub mod ToldLemmas
 pub mod JobOperations
+pub mod PartsLeft
+pub mod Rooms
 pub mod ReplyLemmas
 pub mod Progress
 pub mod RunLemmas

@@ -1,16 +1,25 @@
 -- A part of an operation changes its own unit, and no other one.
-use Rattle.std.proofs.Common.{◌≡◌, ◌≢◌, ◌==◌, ◌⊎◌, inl, inr, ℕ, ◌+◌, ◌-◌, ◌<◌, List, length, vec_len, get_or, set, refl, sym, ap, ◌∙◌, subst, Bool, true, false, ◌&&◌, if◌then◌else◌, eq-eqb, arith}
-use Rattle.std.proofs.lemmas.Bool.{ne_eqb, eqb-false, eqb-true}
-use Rattle.std.proofs.lemmas.List.{get_or-set_other, get_or-set_same, length-set}
+use Rattle.std.proofs.Common.{◌≡◌, ◌≢◌, ◌==◌, ◌⊎◌, inl, inr, ℕ, zero, suc, ◌+◌, ◌-◌, ◌<◌, List, [], ◌∷◌, ◌++◌, length, length-append, vec_len, get_or, set, refl, sym, ap, ◌∙◌, subst, Bool, true, false, ◌&&◌, if◌then◌else◌, eq-eqb, arith}
+use Rattle.std.proofs.Math.Seq.{get_or-append_seam}
+use Rattle.std.proofs.lemmas.Bool.{cases_lt, ne_eqb, eqb-false, eqb-true}
+use Rattle.std.proofs.lemmas.List.{get_or_append_left, get_or-set_other, get_or-set_same, length-set}
+use Rattle.nvm_record.specs.Lists.{IsAt}
 use Rattle.nvm_record.specs.Medium.{Medium}
 use Rattle.nvm_record.specs.Step.{Operation, is_in_range, block_after, range_of, medium_after}
 use Rattle.nvm_geometry.specs.Namespace.{Namespace}
-use Rattle.nvm_geometry.specs.Boundaries.{unit_number}
+use Rattle.nvm_geometry.specs.Boundaries.{unit_number, units_of}
+use Rattle.nvm_geometry.specs.Place.{IsPlaceOf}
 use Rattle.nvm_geometry.specs.Parts.{part_in}
-use Rattle.nvm_store.specs.Contents.{Contents, Holds}
-use Rattle.nvm_engine.specs.Run.{Counts, recounted}
-use Rattle.nvm_engine.specs.Units.{AreOfUnit, AreAt}
+use Rattle.nvm_store.specs.Contents.{Contents, Holds, Covers}
+use Rattle.nvm_store.specs.Place.{place_at, IsCovered}
+use Rattle.nvm_engine.specs.Run.{Setup, Counts, recounted}
+use Rattle.nvm_engine.specs.Inside.Units.{AreOfUnit, IsLaidOut, AreAt}
 use Rattle.nvm_engine.specs.declared.atomic_unit.AtomicUnit.{AtomicUnit}
+
+at_within : {A : Type 0} (xs : List A) (i : ℕ) (x : A) → IsAt xs i x → i < length xs
+at_within [] i x at = absurd (cc at)
+at_within (y ∷ ys) zero x at = omega arith
+at_within (y ∷ ys) (suc i) x at = omega (arith, at_within ys i x at)
 
 -- outside its range an operation leaves each block as it is
 outside : (size : ℕ) (op : Operation) (m : Medium) (lba : ℕ) → is_in_range op lba ≡ false → medium_after size op m lba ≡ m lba
@@ -24,10 +33,11 @@ and_false false b h = refl
 pub other_holds : (ns : Namespace) (op : Operation) (k j : ℕ) (u : Contents) (size : ℕ) (m : Medium)
     → ((lba : ℕ) → is_in_range (part_in ns op k) lba ≡ (is_in_range op lba && (unit_number ns lba == k)))
     → AreOfUnit ns j u → j ≢ k → Holds u m → Holds u (medium_after size (part_in ns op k) m)
-other_holds ns op k j u size m lbas of other holds d i below =
-    let mine : unit_number ns (u.first + i) ≡ j = of.lies (u.first + i) (omega arith) (omega arith) in
+other_holds ns op k j u size m lbas of other holds i block at =
+    let below : i < length u.blocks = at_within u.blocks i block at in
+    let mine : unit_number ns (u.first + i) ≡ j = of.place.lies (u.first + i) (omega arith) (omega arith) in
     let not_there : (unit_number ns (u.first + i) == k) ≡ false = ne_eqb (unit_number ns (u.first + i)) k (λ e. other (sym mine ∙ e)) in
-    holds d i below ∙ sym (outside size (part_in ns op k) m (u.first + i) (lbas (u.first + i) ∙ and_false (is_in_range op (u.first + i)) _ not_there))
+    outside size (part_in ns op k) m (u.first + i) (lbas (u.first + i) ∙ and_false (is_in_range op (u.first + i)) _ not_there) ∙ holds i block at
 
 pub recounted_same : (counts : Counts) (k n j : ℕ) → j ≡ k → recounted counts k n j ≡ n
 recounted_same counts k n j e = ap (λ (b : Bool). if b then n else counts j) (eq-eqb j k e)
@@ -50,3 +60,27 @@ set_at units k new m counts known here others d j below =
           (subst (λ (u : AtomicUnit). Holds u.blocks m × (counts k ≡ vec_len u.history)) (sym (get_or-set_same units k new d known)) here)
       | inr other ↦ subst (λ (u : AtomicUnit). Holds u.blocks m × (counts j ≡ vec_len u.history)) (sym (get_or-set_other units k j new d other)) (others d j inside other)
     ]
+
+-- what lies in each place of the unit lies in it
+pub lies_there : (s : Setup) (units : List AtomicUnit) (k : ℕ) (u : AtomicUnit) (op : Operation) → IsLaidOut s units → k < units_of s.namespace → u ≡ get_or units k u
+    → ((first blocks : ℕ) → IsPlaceOf s.namespace k first blocks → IsCovered (place_at first blocks s.namespace.block_size) op) → Covers u.blocks op
+lies_there s units k u op laid known at covered =
+    let count : length units ≡ units_of s.namespace = laid.count in
+    let of : AreOfUnit s.namespace k u.blocks = subst (λ (v : AtomicUnit). AreOfUnit s.namespace k v.blocks) (sym at) (laid.each u k (omega arith)).0 in
+    subst (λ (size : ℕ). IsCovered (place_at u.blocks.first (length u.blocks.blocks) size) op) (sym of.size) (covered u.blocks.first (length u.blocks.blocks) of.place)
+
+-- what holds of each unit, and of one more at the end, holds of all
+pub with_one_more : (P : ℕ → AtomicUnit → Type 0) (units : List AtomicUnit) (u : AtomicUnit) → ((d : AtomicUnit) (k : ℕ) → k < length units → P k (get_or units k d)) → P (length units) u
+    → (d : AtomicUnit) (k : ℕ) → k < length (units ++ u ∷ []) → P k (get_or (units ++ u ∷ []) k d)
+with_one_more P units u all last d k below =
+    elim (cases_lt k (length units)) [
+      | inl inside ↦ subst (P k) (sym (get_or_append_left units (u ∷ []) d k inside)) (all d k inside)
+      | inr above ↦
+          let here : k ≡ length units = omega (arith, length-append units (u ∷ []), above, below) in
+          subst (λ (i : ℕ). P i (get_or (units ++ u ∷ []) i d)) (sym here) (subst (P (length units)) (sym (get_or-append_seam units u [] d)) last)
+    ]
+
+pub its_size : (s : Setup) (units : List AtomicUnit) (k : ℕ) (u : AtomicUnit) → IsLaidOut s units → k < units_of s.namespace → u ≡ get_or units k u → u.blocks.size ≡ s.namespace.block_size
+its_size s units k u laid known at =
+    let count : length units ≡ units_of s.namespace = laid.count in
+    subst (λ (v : AtomicUnit). v.blocks.size ≡ s.namespace.block_size) (sym at) (laid.each u k (omega arith)).0.size

@@ -1,5 +1,5 @@
 -- The parts of an operation, one after the other, are its outcome.
-use Rattle.std.proofs.Common.{◌≡◌, ◌≢◌, inl, inr, ℕ, List, [], ◌∷◌, ◌++◌, map, Option, None, unwrap_or, IsSome, refl, sym, ap, ◌∙◌, subst, append-nil, arith}
+use Rattle.std.proofs.Common.{◌≡◌, ◌≢◌, inl, inr, ℕ, List, [], ◌∷◌, ◌++◌, map, Option, None, unwrap_or, refl, sym, ap, ◌∙◌, subst, append-nil, arith}
 use Rattle.nvm_record.specs.declared.status.Status.{Status as Code}
 use Rattle.nvm_record.specs.declared.status.Statuses.{Statuses}
 use Rattle.nvm_record.specs.declared.status.Statuses.TheVariants.{One, Two}
@@ -13,12 +13,12 @@ use Rattle.nvm_plan.specs.Outcome.{data_told, answered, unstarted_of, AreDone, I
 use Rattle.nvm_plan.specs.Reply.{Reply, success_of, IsFailedComparison, AreOfFailedPair, IsReplyTo, IsSuccessfulReply}
 use Rattle.nvm_store.specs.declared.look.answer.Answer.TheVariants.{Payload, Status}
 use Rattle.nvm_engine.specs.Run.{Setup, Counts, Rests, medium_left, counts_left, part_told, Does, IsReadOverUnits, IsBegun}
-use Rattle.nvm_engine.specs.Units.{DoesPart, DoesParts, GoesOn, EndsWith, IsUnderWay, reply_of, statuses_told, payload_told}
+use Rattle.nvm_engine.specs.Inside.Units.{DoesPart, DoesParts, GoesOn, EndsWith, IsUnderWay, reply_of, statuses_told, payload_told}
 use Rattle.nvm_engine.specs.declared.atomic_unit.AtomicUnit.{AtomicUnit}
 use Rattle.nvm_engine.specs.declared.atomic_unit.Told.{Told}
 use Rattle.nvm_engine.specs.declared.atomic_unit.Told.TheVariants.{Done, Failed, Looked, NoMemory, Full}
 use Rattle.nvm_engine.specs.declared.done_job.DoneJob.{DoneJob}
-use Rattle.nvm_engine.proofs.ReplyLemmas.{is_reply, goes_with_success, stop_fails}
+use Rattle.nvm_engine.proofs.ReplyLemmas.{goes_with_success, stop_fails}
 
 -- one reply more
 does_more : (s : Setup) (op : Operation) (m : Medium) (counts : Counts) (replies : List Reply) (after : Medium) (counted : Counts) (reply : Reply)
@@ -74,45 +74,36 @@ module _ (s : Setup) (op : Operation) where
   one_more more joined start old new p rest told bytes more_bytes under part go m counts at =
       let now = under m counts at in
       let reply : Reply = reply_of p.unit (now.counted p.unit) op.deed told in
-      let did = part.1 now.after now.counted now.at in
+      let did = part now.after now.counted now.at in
       record {
         replies = now.replies ++ reply ∷ [];
         after = medium_left s.namespace.block_size (part_in s.namespace op p.unit) reply.part.result now.after;
         counted = counts_left p.unit reply.part.result now.counted;
-        at = did.1;
-        does = does_more s op m counts now.replies now.after now.counted reply now.does did.0;
-        done = more now.replies reply (map (λ q. q.unit) rest) now.done (goes_with_success p.unit (now.counted p.unit) op.deed told bytes more_bytes part.0 go);
+        at = did.2;
+        does = does_more s op m counts now.replies now.after now.counted reply now.does did.1;
+        done = more now.replies reply (map (λ q. q.unit) rest) now.done (goes_with_success p.unit (now.counted p.unit) op.deed told bytes more_bytes did.0 go);
         bytes_are = joined now.replies reply ∙ ap (λ (xs : List ℕ). xs ++ unwrap_or (payload_told told) []) now.bytes_are ∙ bytes_more told bytes more_bytes go;
       }
 
   -- A part that doesn't succeed ends the job.
   pub stops : ((replies : List Reply) (r : Reply) (left : List ℕ) → AreDone s.namespace op replies (r.part.unit ∷ left) → IsReplyTo op.deed r → (IsSuccess r.statuses → ⊥) → IsOutcomeOf s.namespace op (replies ++ r ∷ []) r.statuses None)
       → (start old new : List AtomicUnit) (p : Piece) (rest : List Piece) (told : Told) (bytes : List ℕ) (done : DoneJob)
-      → IsUnderWay s op start old (p ∷ rest) bytes → DoesPart s op old new p.unit told → (IsSuccess (statuses_told op.deed told) → ⊥)
+      → IsUnderWay s op start old (p ∷ rest) bytes → DoesPart s op old new p.unit told → ((point : ℕ) → IsReplyTo op.deed (reply_of p.unit point op.deed told) → IsSuccess (statuses_told op.deed told) → ⊥)
       → done.statuses ≡ statuses_told op.deed told → done.payload ≡ None → DoesParts s op start new done
   stops stopped_so start old new p rest told bytes done under part fails is none m counts at =
       let now = under m counts at in
       let reply : Reply = reply_of p.unit (now.counted p.unit) op.deed told in
-      let did = part.1 now.after now.counted now.at in
-      let outcome : IsOutcomeOf s.namespace op (now.replies ++ reply ∷ []) (statuses_told op.deed told) None = stopped_so now.replies reply (map (λ q. q.unit) rest) now.done (is_reply p.unit (now.counted p.unit) op.deed told part.0) fails in (
+      let did = part now.after now.counted now.at in
+      let outcome : IsOutcomeOf s.namespace op (now.replies ++ reply ∷ []) (statuses_told op.deed told) None = stopped_so now.replies reply (map (λ q. q.unit) rest) now.done did.0 (fails (now.counted p.unit) did.0) in (
         now.replies ++ reply ∷ [],
         medium_left s.namespace.block_size (part_in s.namespace op p.unit) reply.part.result now.after,
         counts_left p.unit reply.part.result now.counted,
-        did.1,
-        does_more s op m counts now.replies now.after now.counted reply now.does did.0,
+        did.2,
+        does_more s op m counts now.replies now.after now.counted reply now.does did.1,
         subst (λ (x : Option (List ℕ)). IsOutcomeOf s.namespace op (now.replies ++ reply ∷ []) done.statuses x) (sym none)
             (subst (λ (x : Statuses). IsOutcomeOf s.namespace op (now.replies ++ reply ∷ []) x None) (sym is) outcome),
         last_begun s.namespace op now.replies reply,
       )
-
-  -- what was read, and then found no memory
-  no_room : (old new : List AtomicUnit) (unit : ℕ) (bytes : List ℕ) → DoesPart s op old new unit (Looked (Payload bytes)) → DoesPart s op old new unit NoMemory
-  no_room old new unit bytes part = (
-    tt,
-    λ m counts at.
-        let did = part.1 m counts at in
-        ((refl, inl (subst (λ (o : Option (List ℕ)). IsSome o) did.0.1.payload refl)), did.1),
-  )
 
   -- So does each answer that ends it.
   pub ends : ((replies : List Reply) (r : Reply) (left : List ℕ) → AreDone s.namespace op replies (r.part.unit ∷ left) → IsReplyTo op.deed r → (IsSuccess r.statuses → ⊥) → IsOutcomeOf s.namespace op (replies ++ r ∷ []) r.statuses None)
@@ -120,15 +111,14 @@ module _ (s : Setup) (op : Operation) where
       → IsUnderWay s op start old (p ∷ rest) bytes → DoesPart s op old new p.unit told → EndsWith op.deed told done → DoesParts s op start new done
   ends so start old new p rest Done bytes done under part end = absurd end
   ends so start old new p rest (Failed statuses) bytes done under part end =
-      stops so start old new p rest (Failed statuses) bytes done under part (failed_fails statuses part.0.1) (ap (λ (d : DoneJob). d.statuses) end) (ap (λ (d : DoneJob). d.payload) end)
-  ends so start old new p rest (Looked (Payload read)) bytes done under part end =
-      stops so start old new p rest NoMemory bytes done under (no_room old new p.unit read part) (stop_fails op.deed) (ap (λ (d : DoneJob). d.statuses) end) (ap (λ (d : DoneJob). d.payload) end)
+      stops so start old new p rest (Failed statuses) bytes done under part (λ point reply. failed_fails statuses reply.told) (ap (λ (d : DoneJob). d.statuses) end) (ap (λ (d : DoneJob). d.payload) end)
+  ends so start old new p rest (Looked (Payload read)) bytes done under part end = absurd end
   ends so start old new p rest (Looked (Status status)) bytes done under part end =
-      stops so start old new p rest (Looked (Status status)) bytes done under part end.0 (ap (λ (d : DoneJob). d.statuses) end.1) (ap (λ (d : DoneJob). d.payload) end.1)
+      stops so start old new p rest (Looked (Status status)) bytes done under part (λ point reply. end.0) (ap (λ (d : DoneJob). d.statuses) end.1) (ap (λ (d : DoneJob). d.payload) end.1)
   ends so start old new p rest NoMemory bytes done under part end =
-      stops so start old new p rest NoMemory bytes done under part (stop_fails op.deed) (ap (λ (d : DoneJob). d.statuses) end) (ap (λ (d : DoneJob). d.payload) end)
+      stops so start old new p rest NoMemory bytes done under part (λ point reply. stop_fails op.deed) (ap (λ (d : DoneJob). d.statuses) end) (ap (λ (d : DoneJob). d.payload) end)
   ends so start old new p rest Full bytes done under part end =
-      stops so start old new p rest Full bytes done under part (stop_fails op.deed) (ap (λ (d : DoneJob). d.statuses) end) (ap (λ (d : DoneJob). d.payload) end)
+      stops so start old new p rest Full bytes done under part (λ point reply. stop_fails op.deed) (ap (λ (d : DoneJob). d.statuses) end) (ap (λ (d : DoneJob). d.payload) end)
 
   -- After the last part.
   pub all_done : units_met s.namespace op ≢ [] → ((replies : List Reply) → AreDone s.namespace op replies [] → IsOutcomeOf s.namespace op replies (success_of op.deed) (answered op.deed (data_told replies)))

@@ -9,9 +9,9 @@ use Rattle.nvm_plan.specs.Operation.{job_operation_of}
 use Rattle.nvm_plan.specs.Outcome.{IsOutcome, IsOutcomeOf}
 use Rattle.nvm_plan.specs.Reply.{Reply}
 use Rattle.nvm_plan.specs.declared.job.Job.{Job}
-use Rattle.nvm_engine.specs.DoneJob.{told}
+use Rattle.nvm_engine.specs.Inside.DoneJob.{told}
 use Rattle.nvm_engine.specs.Run.{Setup, Counts, Does, IsBegun}
-use Rattle.nvm_engine.specs.Units.{DoesParts, AnswersTo}
+use Rattle.nvm_engine.specs.Inside.Units.{DoesParts, AnswersTo}
 use Rattle.nvm_engine.specs.declared.atomic_unit.AtomicUnit.{AtomicUnit}
 use Rattle.nvm_engine.specs.declared.done_job.DoneJob.{DoneJob}
 

@@ -3,7 +3,7 @@ use Rattle.std.proofs.Common.{List, [], ◌∷◌, ◌++◌, subst, append_assoc
 use Rattle.nvm_record.specs.Medium.{Medium, zero_medium}
 use Rattle.nvm_plan.specs.declared.job.Job.{Job}
 use Rattle.nvm_engine.specs.Run.{Setup, Counts, no_changes, IsRun}
-use Rattle.nvm_engine.specs.Units.{AreAt, AnswersTo}
+use Rattle.nvm_engine.specs.Inside.Units.{AreAt, AnswersTo}
 use Rattle.nvm_engine.specs.declared.atomic_unit.AtomicUnit.{AtomicUnit}
 use Rattle.nvm_engine.specs.declared.done_job.DoneJob.{DoneJob}
 

@@ -1,28 +1,26 @@
 -- What a unit told of its part is what the part did to the units.
-use Rattle.std.proofs.Common.{◌≡◌, ◌≢◌, ◌==◌, ◌⊎◌, inl, inr, ℕ, ◌+◌, ◌<◌, List, length, vec_len, get_or, set, refl, sym, ap, ◌∙◌, subst, Bool, true, false, ◌&&◌, if◌then◌else◌, not, IsTrue, IsSome, None, Some, arith}
-use Rattle.std.specs.Str.{bytes_eq}
+use Rattle.std.proofs.Common.{◌≡◌, ◌==◌, inl, inr, ℕ, ◌+◌, ◌*◌, ◌<◌, List, length, vec_len, get_or, set, refl, sym, ap, ◌∙◌, subst, Bool, ◌&&◌, not, IsTrue, IsSome, Option, None, Some, arith}
 use Rattle.nvm_record.specs.declared.block.Block.{Block}
-use Rattle.nvm_record.specs.declared.status.Status.{Status}
+use Rattle.nvm_record.specs.declared.status.Statuses.{Statuses}
 use Rattle.nvm_record.specs.declared.status.Statuses.TheVariants.{One}
-use Rattle.nvm_record.specs.Medium.{Medium, has_mark, joined}
-use Rattle.nvm_record.specs.Status.{IsSuccess, successful_completion, unrecovered_read_error, compare_failure}
-use Rattle.nvm_record.specs.Step.{Deed, writes, zeroes, uncorrectable, reads, compares, pairs, Operation, is_in_range, statuses_of, statuses_on, data_of, data_on, range_of, medium_after}
+use Rattle.nvm_record.specs.Deeds.{is_read, is_look, is_pair, IsAct, IsLook, IsPair, IsSingle}
+use Rattle.nvm_record.specs.Medium.{Medium}
+use Rattle.nvm_record.specs.Status.{IsSuccess, successful_completion}
+use Rattle.nvm_record.specs.Step.{Deed, writes, zeroes, uncorrectable, reads, compares, pairs, Operation, is_in_range, range_of, statuses_of, data_of, data_on, medium_after}
 use Rattle.nvm_geometry.specs.Namespace.{Namespace}
 use Rattle.nvm_geometry.specs.Boundaries.{unit_number, units_of}
 use Rattle.nvm_geometry.specs.Parts.{deed_part, part_in, blocks_below, blocks_in}
-use Rattle.nvm_plan.specs.Reply.{is_look, is_pair, success_of, IsFailedComparison, CanEndLook}
-use Rattle.nvm_store.specs.ActRef.{lent_operation_of}
-use Rattle.nvm_store.specs.Answer.{IsAnswer}
-use Rattle.nvm_store.specs.Look.{look_operation_of}
-use Rattle.nvm_store.specs.declared.act_ref.ActRef.{ActRef}
-use Rattle.nvm_store.specs.declared.act_ref.ActRef.TheVariants.{Write, Zeroes, Uncorrectable, Pair}
-use Rattle.nvm_store.specs.declared.look.Look.{Look}
-use Rattle.nvm_store.specs.declared.look.Look.TheVariants.{Read, Compare}
+use Rattle.nvm_plan.specs.Reply.{Reply, reply_on, reply_of_stop, IsReplyTo}
+use Rattle.nvm_plan.specs.declared.part.Part.{Part}
+use Rattle.nvm_plan.specs.declared.part.PartResult.{PartResult}
+use Rattle.nvm_plan.specs.declared.part.PartResult.TheVariants as result
+use Rattle.nvm_store.specs.Answer.{IsAnswer, HasBytes}
+use Rattle.nvm_store.specs.declared.look.answer.Answer.{Answer}
+use Rattle.nvm_store.specs.declared.look.answer.Answer.TheVariants.{Payload, Status as Plain}
 use Rattle.nvm_store.specs.Contents.{Contents, Holds}
-use Rattle.nvm_store.specs.declared.look.answer.Answer.TheVariants as answers
-use Rattle.nvm_engine.specs.AtomicUnit.{IsChanged, IsLookedAt}
+use Rattle.nvm_engine.specs.Inside.AtomicUnit.{IsOfRead, IsChanged, IsLookedAt, TellsOfRead}
 use Rattle.nvm_engine.specs.Run.{Setup, Counts, recounted}
-use Rattle.nvm_engine.specs.Units.{IsLaidOut, AreAt, DoesPart}
+use Rattle.nvm_engine.specs.Inside.Units.{IsLaidOut, AreAt, DoesPart}
 use Rattle.nvm_engine.specs.declared.atomic_unit.AtomicUnit.{AtomicUnit}
 use Rattle.nvm_engine.specs.declared.atomic_unit.Told.{Told}
 use Rattle.nvm_engine.specs.declared.atomic_unit.Told.TheVariants.{Done, Failed, Looked, NoMemory, Full}
@@ -51,220 +49,188 @@ look_of_part ns op act k e = ap (λ (o : Operation). is_look o.deed) e ∙ part_
 pair_of_part : (ns : Namespace) (op act : Operation) (k : ℕ) → act ≡ part_in ns op k → is_pair act.deed ≡ is_pair op.deed
 pair_of_part ns op act k e = ap (λ (o : Operation). is_pair o.deed) e ∙ part_pair ns.block_size (blocks_below ns op.first op.blocks k) (blocks_in ns op.first op.blocks k) op.deed
 
--- what succeeded told its success, and has data where it is a Read
-told_success : (d : Deed) (blocks : List Block) → IsTrue (not (is_look d)) → IsSuccess (statuses_on blocks d) → success_of d ≡ statuses_on blocks d
-told_success (writes payload) blocks act h = refl
-told_success zeroes blocks act h = refl
-told_success uncorrectable blocks act h = refl
-told_success reads blocks act h = absurd (cc act)
-told_success (compares payload) blocks act h = absurd (cc act)
-told_success (pairs payload new) blocks act h = rw (h.0, h.1) refl
+-- an act reads nothing
+act_reads_none : (d : Deed) → IsAct d → IsTrue (is_read d) → ⊥
+act_reads_none (writes payload) act h = cc h
+act_reads_none zeroes act h = cc h
+act_reads_none uncorrectable act h = cc h
+act_reads_none reads act h = cc act
+act_reads_none (compares payload) act h = cc h
+act_reads_none (pairs payload new) act h = cc h
 
-no_data : (d : Deed) (blocks : List Block) → IsTrue (not (is_look d)) → data_on blocks d ≡ None
-no_data (writes payload) blocks act = refl
-no_data zeroes blocks act = refl
-no_data uncorrectable blocks act = refl
-no_data reads blocks act = absurd (cc act)
-no_data (compares payload) blocks act = absurd (cc act)
-no_data (pairs payload new) blocks act = refl
+none_there : (o : Option (List ℕ)) → (IsSome o → ⊥) → o ≡ None
+none_there None h = refl
+none_there (Some bytes) h = absurd (h refl)
 
-part_success : (size skipped blocks : ℕ) (d : Deed) → success_of (deed_part size skipped blocks d) ≡ success_of d
-part_success size skipped blocks (writes payload) = refl
-part_success size skipped blocks zeroes = refl
-part_success size skipped blocks uncorrectable = refl
-part_success size skipped blocks reads = refl
-part_success size skipped blocks (compares payload) = refl
-part_success size skipped blocks (pairs payload new) = refl
+-- what fails is a pair
+failing_pair : (d : Deed) → (IsSingle d → ⊥) → IsPair d
+failing_pair (writes payload) h = absurd (h refl)
+failing_pair zeroes h = absurd (h refl)
+failing_pair uncorrectable h = absurd (h refl)
+failing_pair reads h = absurd (h refl)
+failing_pair (compares payload) h = absurd (h refl)
+failing_pair (pairs payload new) h = refl
+
+-- the part that ended so, at this point of its unit
+abbrev ended : ℕ → ℕ → PartResult → Part
+ended unit point how = record { unit = unit; point = point; result = how }
+
+-- a reply with the statuses and the data of the step is the step's
+told_reply : (deed : Deed) (part : Part) (told other : Statuses) (read also : Option (List ℕ)) → told ≡ other → read ≡ also
+    → IsReplyTo deed (let r : Reply = record { part = part; statuses = other; payload = also } in r)
+    → IsReplyTo deed (let r : Reply = record { part = part; statuses = told; payload = read } in r)
+told_reply deed part told other read also e f h = rw (e, f) h
 
 -- A change that was made, or not: what was told of it is what the part did.
 module _ (s : Setup) (op act : Operation) (k : ℕ) (units : List AtomicUnit) (old new : AtomicUnit)
     (laid : IsLaidOut s units) (known : k < units_of s.namespace) (at : old ≡ get_or units k old) (is : act ≡ part_in s.namespace op k)
-    (acts : IsTrue (not (is_look act.deed)))
-    (lbas : (lba : ℕ) → is_in_range (part_in s.namespace op k) lba ≡ (is_in_range op lba && (unit_number s.namespace lba == k))) where
+    (acts : IsAct act.deed)
+    (lbas : (lba : ℕ) → is_in_range (part_in s.namespace op k) lba ≡ (is_in_range op lba && (unit_number s.namespace lba == k)))
+    (done_replies : (m : Medium) (part : Part) → IsAct op.deed → part.result ≡ result.Done → IsSuccess (statuses_of (part_in s.namespace op part.unit) m) → IsReplyTo op.deed (reply_on s.namespace op m part))
+    (failed_replies : (m : Medium) (part : Part) → IsPair op.deed → part.result ≡ result.Failed → (IsSuccess (statuses_of (part_in s.namespace op part.unit) m) → ⊥) → IsReplyTo op.deed (reply_on s.namespace op m part))
+    (no_memory_replies : (part : Part) → part.result ≡ result.NoMemory → IsReplyTo op.deed (reply_of_stop op.deed part))
+    (full_replies : (part : Part) → IsAct op.deed → part.result ≡ result.Full → IsReplyTo op.deed (reply_of_stop op.deed part))
+    (single_succeeds : (m : Medium) → IsAct act.deed → IsSingle act.deed → statuses_of act m ≡ One successful_completion) where
   inside : k < length units
   inside = let count : length units ≡ units_of s.namespace = laid.count in omega arith
 
   mine : (m : Medium) (counts : Counts) → AreAt units m counts → Holds old.blocks m × (counts k ≡ vec_len old.history)
   mine m counts all = subst (λ (u : AtomicUnit). Holds u.blocks m × (counts k ≡ vec_len u.history)) (sym at) (all old k inside)
 
-  size : old.blocks.size ≡ s.namespace.block_size
-  size = subst (λ (u : AtomicUnit). u.blocks.size ≡ s.namespace.block_size) (sym at) (laid.each old k inside).0.size
+  same_size : old.blocks.size ≡ s.namespace.block_size
+  same_size = subst (λ (u : AtomicUnit). u.blocks.size ≡ s.namespace.block_size) (sym at) (laid.each old k inside).0.size
 
-  whole_acts : IsTrue (not (is_look op.deed))
+  whole_acts : IsAct op.deed
   whole_acts = subst (λ (b : Bool). IsTrue (not b)) (look_of_part s.namespace op act k is) acts
 
-  part_acts : IsTrue (not (is_look (part_in s.namespace op k).deed))
-  part_acts = subst (λ (o : Operation). IsTrue (not (is_look o.deed))) is acts
+  part_acts : IsAct (part_in s.namespace op k).deed
+  part_acts = subst (λ (o : Operation). IsAct o.deed) is acts
 
   -- nothing is changed
   kept : (m : Medium) (counts : Counts) → AreAt units m counts → new.blocks ≡ old.blocks → vec_len new.history ≡ vec_len old.history → AreAt (set units k new) m counts
   kept m counts all blocks history =
       set_at units k new m counts inside (subst (λ (u : Contents). Holds u m) (sym blocks) (mine m counts all).0, (mine m counts all).1 ∙ sym history) (λ d j there other. all d j there)
 
+  -- an act answers no data
+  no_data : (m : Medium) (how : PartResult) → IsReplyTo op.deed (reply_on s.namespace op m (ended k 0 how)) → data_of (part_in s.namespace op k) m ≡ None
+  no_data m how reply = none_there _ (λ some. act_reads_none op.deed whole_acts (reply.payload.0 some).0)
+
   pub changes_part : (told : Told) → IsChanged s.limit old new act told → DoesPart s op units (set units k new) k told
-  changes_part Done h = (
-    whole_acts,
-    λ m counts all.
-        let here = mine m counts all in
-        let below : vec_len old.history < s.limit = h.1 in
-        let more : vec_len new.history ≡ vec_len old.history + 1 = h.2.changes in
-        let counted : counts k ≡ vec_len old.history = here.1 in
-        let ok : IsSuccess (statuses_of (part_in s.namespace op k) m) = subst (λ (o : Operation). IsSuccess (statuses_of o m)) is (h.0 m here.0) in
-        let stepped : Holds new.blocks (medium_after s.namespace.block_size (part_in s.namespace op k) m) =
-        subst (λ (o : Operation). Holds new.blocks (medium_after s.namespace.block_size o m)) is (subst (λ (n : ℕ). Holds new.blocks (medium_after n act m)) size (h.2.blocks m here.0)) in (
-          (
-            refl,
-            (
-              record {
-                statuses = sym (part_success s.namespace.block_size (blocks_below s.namespace op.first op.blocks k) (blocks_in s.namespace op.first op.blocks k) op.deed)
-                    ∙ told_success (part_in s.namespace op k).deed (range_of (part_in s.namespace op k) m) part_acts ok;
-                payload = sym (no_data (part_in s.namespace op k).deed (range_of (part_in s.namespace op k) m) part_acts);
-              },
-              omega arith,
-            ),
-          ),
-          set_at units k new (medium_after s.namespace.block_size (part_in s.namespace op k) m) (recounted counts k (counts k + 1)) inside
-              (stepped, recounted_same counts k (counts k + 1) k refl ∙ omega arith)
-              (λ d j there other. (
-                other_holds s.namespace op k j (get_or units j d).blocks s.namespace.block_size m lbas (laid.each d j there).0 other (all d j there).0,
-                recounted_other counts k (counts k + 1) j other ∙ (all d j there).1,
-              )),
-        ),
-  )
-  changes_part (Failed statuses) h = (
-    (subst (λ (b : Bool). IsTrue b) (pair_of_part s.namespace op act k is) h.1, h.2),
-    λ m counts all. (
-      (
-        refl,
-        record {
-          statuses = h.0 m (mine m counts all).0 ∙ ap (λ (o : Operation). statuses_of o m) is;
-          payload = sym (no_data (part_in s.namespace op k).deed (range_of (part_in s.namespace op k) m) part_acts);
-        },
-      ),
-      kept m counts all h.3.0 h.3.1,
-    ),
-  )
-  changes_part (Looked answer) h = absurd h
-  changes_part NoMemory h = (
-    tt,
-    λ m counts all.
-        let here = mine m counts all in
-        let below : vec_len old.history < s.limit = h.1 in
-        let counted : counts k ≡ vec_len old.history = here.1 in (
-          (refl, inr (part_acts, subst (λ (o : Operation). IsSuccess (statuses_of o m)) is (h.0 m here.0), omega arith)),
-          kept m counts all h.2.0 h.2.1,
-        ),
-  )
-  changes_part Full h = (
-    whole_acts,
-    λ m counts all.
-        let here = mine m counts all in
-        let full : vec_len old.history ≡ s.limit = h.1 in
-        let counted : counts k ≡ vec_len old.history = here.1 in (
-          (refl, (subst (λ (o : Operation). IsSuccess (statuses_of o m)) is (h.0 m here.0), omega arith)),
-          kept m counts all h.2.0 h.2.1,
-        ),
-  )
-
--- the answer to a Read has data exactly where it succeeds
-read_status : (blocks : List Block) (status : Status) → statuses_on blocks reads ≡ One status → data_on blocks reads ≡ None → status ≢ successful_completion
-read_status blocks status told none =
-    elim (has_mark blocks) as (λ b. One (if b then unrecovered_read_error else successful_completion) ≡ One status → (if b then None else Some (joined blocks)) ≡ None → status ≢ successful_completion) [
-      | true ↦ (λ t e same. let told : unrecovered_read_error ≡ status = cc t in let bad : 2 ≡ 0 = ap (λ (s : Status). s.sct) (told ∙ same) in absurd (omega (arith, bad)))
-      | false ↦ (λ t e same. absurd (cc e))
-    ] told none
-
--- a look ends with one of its statuses
-comparison_ends : (marked equal : Bool) (status : Status)
-    → One (if marked then unrecovered_read_error else (if (if marked then false else equal) then successful_completion else compare_failure)) ≡ One status
-    → (status ≡ successful_completion) ⊎ IsFailedComparison status
-comparison_ends true equal status e = inr (inl (cc e))
-comparison_ends false true status e = inl (cc e)
-comparison_ends false false status e = inr (inr (cc e))
-
-read_ends : (marked : Bool) (status : Status) → One (if marked then unrecovered_read_error else successful_completion) ≡ One status
-    → (status ≡ successful_completion) ⊎ (status ≡ unrecovered_read_error)
-read_ends true status e = inr (cc e)
-read_ends false status e = inl (cc e)
-
-look_ends : (d : Deed) (blocks : List Block) (status : Status) → IsTrue (is_look d) → statuses_on blocks d ≡ One status → CanEndLook d status
-look_ends (writes payload) blocks status look e = absurd (cc look)
-look_ends zeroes blocks status look e = absurd (cc look)
-look_ends uncorrectable blocks status look e = absurd (cc look)
-look_ends reads blocks status look e = read_ends (has_mark blocks) status e
-look_ends (compares payload) blocks status look e = comparison_ends (has_mark blocks) (bytes_eq (joined blocks) payload) status e
-look_ends (pairs payload new) blocks status look e = absurd (cc look)
-
--- a part of a look ends as the look can
-part_ends : (size skipped blocks : ℕ) (d : Deed) (status : Status) → CanEndLook (deed_part size skipped blocks d) status → CanEndLook d status
-part_ends size skipped blocks (writes payload) status h = h
-part_ends size skipped blocks zeroes status h = h
-part_ends size skipped blocks uncorrectable status h = h
-part_ends size skipped blocks reads status h = h
-part_ends size skipped blocks (compares payload) status h = h
-part_ends size skipped blocks (pairs payload new) status h = h
-
-part_reads : (size skipped blocks : ℕ) (d : Deed) → deed_part size skipped blocks d ≡ reads → d ≡ reads
-part_reads size skipped blocks (writes payload) e = absurd (cc e)
-part_reads size skipped blocks zeroes e = absurd (cc e)
-part_reads size skipped blocks uncorrectable e = absurd (cc e)
-part_reads size skipped blocks reads e = refl
-part_reads size skipped blocks (compares payload) e = absurd (cc e)
-part_reads size skipped blocks (pairs payload new) e = absurd (cc e)
-
--- who answers data reads
-data_of_read : (d : Deed) (blocks : List Block) (bytes : List ℕ) → data_on blocks d ≡ Some bytes → d ≡ reads
-data_of_read (writes payload) blocks bytes e = absurd (cc e)
-data_of_read zeroes blocks bytes e = absurd (cc e)
-data_of_read uncorrectable blocks bytes e = absurd (cc e)
-data_of_read reads blocks bytes e = refl
-data_of_read (compares payload) blocks bytes e = absurd (cc e)
-data_of_read (pairs payload new) blocks bytes e = absurd (cc e)
-
--- an act is no look, and a look is one
-pub act_acts : (act : ActRef) → IsTrue (not (is_look (lent_operation_of act).deed))
-act_acts (Write first blocks payload) = refl
-act_acts (Zeroes first blocks) = refl
-act_acts (Uncorrectable first blocks) = refl
-act_acts (Pair first blocks compare write) = refl
-
-pub look_looks : (look : Look) → IsTrue (is_look (look_operation_of look).deed)
-look_looks (Read first blocks) = refl
-look_looks (Compare first blocks payload) = refl
+  changes_part Done h m counts all =
+      let here = mine m counts all in
+      let below : vec_len old.history < s.limit = h.1 in
+      let more : vec_len new.history ≡ vec_len old.history + 1 = h.2.changes in
+      let counted : counts k ≡ vec_len old.history = here.1 in
+      let ok : IsSuccess (statuses_of (part_in s.namespace op k) m) = subst (λ (o : Operation). IsSuccess (statuses_of o m)) is (h.0 m here.0) in
+      let stepped : Holds new.blocks (medium_after s.namespace.block_size (part_in s.namespace op k) m) =
+      subst (λ (o : Operation). Holds new.blocks (medium_after s.namespace.block_size o m)) is (subst (λ (n : ℕ). Holds new.blocks (medium_after n act m)) same_size (h.2.blocks m here.0)) in
+      let reply = done_replies m (ended k (counts k) result.Done) whole_acts refl ok in
+      let none = no_data m result.Done (done_replies m (ended k 0 result.Done) whole_acts refl ok) in (
+        told_reply op.deed (ended k (counts k) result.Done) _ _ _ _ (sym reply.told) (sym none) reply,
+        (refl, (record { statuses = sym reply.told; payload = sym none }, omega arith)),
+        set_at units k new (medium_after s.namespace.block_size (part_in s.namespace op k) m) (recounted counts k (counts k + 1)) inside
+            (stepped, recounted_same counts k (counts k + 1) k refl ∙ omega arith)
+            (λ d j there other. (
+              other_holds s.namespace op k j (get_or units j d).blocks s.namespace.block_size m lbas (laid.each d j there).0 other (all d j there).0,
+              recounted_other counts k (counts k + 1) j other ∙ (all d j there).1,
+            )),
+      )
+  changes_part (Failed statuses) h m counts all =
+      let here = mine m counts all in
+      let is_told : statuses ≡ statuses_of (part_in s.namespace op k) m = h.0 m here.0 ∙ ap (λ (o : Operation). statuses_of o m) is in
+      let fails : IsSuccess (statuses_of (part_in s.namespace op k) m) → ⊥ = λ ok. h.1 (subst IsSuccess (sym is_told) ok) in
+      let pair : IsPair act.deed = failing_pair act.deed (λ single. h.1 (subst IsSuccess (sym (h.0 m here.0 ∙ single_succeeds m acts single)) refl)) in
+      let whole_pair : IsPair op.deed = subst (λ (b : Bool). IsTrue b) (pair_of_part s.namespace op act k is) pair in
+      let none = no_data m result.Failed (failed_replies m (ended k 0 result.Failed) whole_pair refl fails) in (
+        told_reply op.deed (ended k (counts k) result.Failed) _ _ _ _ is_told (sym none) (failed_replies m (ended k (counts k) result.Failed) whole_pair refl fails),
+        (refl, record { statuses = is_told; payload = sym none }),
+        kept m counts all h.2.0 h.2.1,
+      )
+  changes_part (Looked answer) h m counts all = absurd h
+  changes_part NoMemory h m counts all =
+      let here = mine m counts all in
+      let below : vec_len old.history < s.limit = h.1 in
+      let counted : counts k ≡ vec_len old.history = here.1 in (
+        no_memory_replies (ended k (counts k) result.NoMemory) refl,
+        (refl, inr (part_acts, subst (λ (o : Operation). IsSuccess (statuses_of o m)) is (h.0 m here.0), omega arith)),
+        kept m counts all h.2.0 h.2.1,
+      )
+  changes_part Full h m counts all =
+      let here = mine m counts all in
+      let full : vec_len old.history ≡ s.limit = h.1 in
+      let counted : counts k ≡ vec_len old.history = here.1 in (
+        full_replies (ended k (counts k) result.Full) whole_acts refl,
+        (refl, (subst (λ (o : Operation). IsSuccess (statuses_of o m)) is (h.0 m here.0), omega arith)),
+        kept m counts all h.2.0 h.2.1,
+      )
 
 -- What was told of a look is what the part did, which changes nothing.
 module _ (s : Setup) (op act : Operation) (k : ℕ) (units : List AtomicUnit) (unit : AtomicUnit)
     (laid : IsLaidOut s units) (known : k < units_of s.namespace) (at : unit ≡ get_or units k unit) (is : act ≡ part_in s.namespace op k)
-    (looks : IsTrue (is_look act.deed)) where
+    (looks : IsLook act.deed)
+    (looked_replies : (m : Medium) (part : Part) → IsLook op.deed → part.result ≡ result.Looked → IsReplyTo op.deed (reply_on s.namespace op m part))
+    (no_memory_replies : (part : Part) → part.result ≡ result.NoMemory → IsReplyTo op.deed (reply_of_stop op.deed part)) where
   held : (m : Medium) (counts : Counts) → AreAt units m counts → Holds unit.blocks m
-  held m counts all = let inside : k < length units = (let count : length units ≡ units_of s.namespace = laid.count in omega arith) in
+  held m counts all =
+      let inside : k < length units = (let count : length units ≡ units_of s.namespace = laid.count in omega arith) in
       subst (λ (u : AtomicUnit). Holds u.blocks m) (sym at) (all unit k inside).0
 
-  pub looks_at_part : (m : Medium) × Holds unit.blocks m → (told : Told) → IsLookedAt unit act told → DoesPart s op units units k told
-  looks_at_part some Done h = absurd h
-  looks_at_part some (Failed statuses) h = absurd h
-  looks_at_part some (Looked (answers.Payload bytes)) h = (
-    part_reads s.namespace.block_size (blocks_below s.namespace op.first op.blocks k) (blocks_in s.namespace op.first op.blocks k) op.deed
-        (ap (λ (o : Operation). o.deed) (sym is) ∙ data_of_read act.deed (range_of act some.0) bytes (h some.0 some.1).1),
-    λ m counts all.
-        let told = subst (λ (o : Operation). IsAnswer o m (answers.Payload bytes)) is (h m (held m counts all)) in
-        ((refl, record { statuses = sym told.0; payload = sym told.1 }), all),
+  whole_looks : IsLook op.deed
+  whole_looks = subst (λ (b : Bool). IsTrue b) (look_of_part s.namespace op act k is) looks
+
+  pub looks_at_part : (told : Told) → IsLookedAt unit act told → DoesPart s op units units k told
+  looks_at_part Done h m counts all = absurd h
+  looks_at_part (Failed statuses) h m counts all = absurd h
+  looks_at_part (Looked answer) h m counts all =
+      let told = subst (λ (o : Operation). IsAnswer o m answer) is (h.0 m (held m counts all)) in (
+        told_reply op.deed (ended k (counts k) result.Looked) _ _ _ _ told.0 told.1 (looked_replies m (ended k (counts k) result.Looked) whole_looks refl),
+        (refl, record { statuses = told.0; payload = told.1 }),
+        all,
+      )
+  looks_at_part NoMemory h m counts all = (
+    no_memory_replies (ended k (counts k) result.NoMemory) refl,
+    (refl, inl (subst (λ (o : Operation). IsSome (data_of o m)) is (h m (held m counts all)))),
+    all,
   )
-  looks_at_part some (Looked (answers.Status status)) h = (
-    (
-      part_ends s.namespace.block_size (blocks_below s.namespace op.first op.blocks k) (blocks_in s.namespace op.first op.blocks k) op.deed status
-          (subst (λ (o : Operation). CanEndLook o.deed status) is (look_ends act.deed (range_of act some.0) status looks (h some.0 some.1).0)),
-      λ reading.
-          let there : act.deed ≡ reads = ap (λ (o : Operation). o.deed) is ∙ ap (λ (d : Deed). deed_part s.namespace.block_size (blocks_below s.namespace op.first op.blocks k) (blocks_in s.namespace op.first op.blocks k) d) reading in
-          let told = h some.0 some.1 in
-          read_status (range_of act some.0) status (subst (λ (d : Deed). statuses_on (range_of act some.0) d ≡ One status) there told.0) (subst (λ (d : Deed). data_on (range_of act some.0) d ≡ None) there told.1),
-    ),
-    λ m counts all.
-        let told = subst (λ (o : Operation). IsAnswer o m (answers.Status status)) is (h m (held m counts all)) in
-        ((refl, record { statuses = sym told.0; payload = sym told.1 }), all),
-  )
-  looks_at_part some NoMemory h = (
-    tt,
-    λ m counts all. ((refl, inl (subst (λ (o : Operation). IsSome (data_of o m)) is (h m (held m counts all)))), all),
-  )
-  looks_at_part some Full h = absurd h
+  looks_at_part Full h m counts all = absurd h
+
+-- data is told of a Read alone
+read_alone : (d : Deed) (blocks : List Block) (bytes : List ℕ) → Some bytes ≡ data_on blocks d → IsTrue (is_read d)
+read_alone (writes payload) blocks bytes e = absurd (cc e)
+read_alone zeroes blocks bytes e = absurd (cc e)
+read_alone uncorrectable blocks bytes e = absurd (cc e)
+read_alone reads blocks bytes e = refl
+read_alone (compares payload) blocks bytes e = absurd (cc e)
+read_alone (pairs payload new) blocks bytes e = absurd (cc e)
+
+pub of_read : (op : Operation) (m : Medium) (size : ℕ) (answer : Answer) → IsAnswer op m answer → HasBytes (op.blocks * size) answer → IsOfRead size op answer
+of_read op m size (Payload bytes) is count = (read_alone op.deed (range_of op m) bytes is.1, count)
+of_read op m size (Plain status) is count = tt
+
+-- a change tells no data
+pub changes_tell : (limit size : ℕ) (old new : AtomicUnit) (op : Operation) (told : Told) → IsChanged limit old new op told → TellsOfRead size op told
+changes_tell limit size old new op Done h = tt
+changes_tell limit size old new op (Failed statuses) h = tt
+changes_tell limit size old new op (Looked answer) h = absurd h
+changes_tell limit size old new op NoMemory h = tt
+changes_tell limit size old new op Full h = tt
+
+pub looks_tell : (unit : AtomicUnit) (size : ℕ) (op : Operation) (told : Told) → unit.blocks.size ≡ size → IsLookedAt unit op told → TellsOfRead size op told
+looks_tell unit size op Done same h = tt
+looks_tell unit size op (Failed statuses) same h = tt
+looks_tell unit size op (Looked answer) same h = subst (λ (n : ℕ). IsOfRead n op answer) same h.1
+looks_tell unit size op NoMemory same h = tt
+looks_tell unit size op Full same h = tt
+
+part_read : (size skipped blocks : ℕ) (d : Deed) → is_read (deed_part size skipped blocks d) ≡ is_read d
+part_read size skipped blocks (writes payload) = refl
+part_read size skipped blocks zeroes = refl
+part_read size skipped blocks uncorrectable = refl
+part_read size skipped blocks reads = refl
+part_read size skipped blocks (compares payload) = refl
+part_read size skipped blocks (pairs payload new) = refl
+
+pub read_of_part : (ns : Namespace) (op part : Operation) (k : ℕ) → part ≡ part_in ns op k → IsTrue (is_read part.deed) → IsTrue (is_read op.deed)
+read_of_part ns op part k e h =
+    let same = ap (λ (o : Operation). is_read o.deed) e ∙ part_read ns.block_size (blocks_below ns op.first op.blocks k) (blocks_in ns op.first op.blocks k) op.deed in
+    subst (λ (b : Bool). IsTrue b) same h

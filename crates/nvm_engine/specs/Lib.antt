@@ -1,9 +1,6 @@
 pub mod Settings
 pub mod Fault
-pub mod DoneJob
 pub mod Run
 pub mod Lines
 pub mod Shown
-pub mod AtomicUnit
-pub mod Units
-pub mod Setup
+pub mod Inside

@@ -1,16 +1,17 @@
 -- A run: jobs that are done one after the other, from a medium and the number of changes of each unit. All
 -- of it is this project's own.
-use Rattle.std.specs.Prelude.{◌≡◌, ◌⊎◌, ◌==◌, ℕ, ◌+◌, ◌<◌, if◌then◌else◌, List, [], ◌∷◌, MatchOption, Some, None, IsTrue, IsSome, not}
+use Rattle.std.specs.Prelude.{◌≡◌, ◌⊎◌, ◌==◌, ℕ, ◌+◌, ◌<◌, if◌then◌else◌, List, [], ◌∷◌, MatchOption, Some, None, IsTrue, IsSome}
+use Rattle.nvm_record.specs.Deeds.{is_read, IsAct}
 use Rattle.nvm_record.specs.Medium.{Medium}
 use Rattle.nvm_record.specs.Status.{IsSuccess}
-use Rattle.nvm_record.specs.Step.{Operation, reads, statuses_of, data_of, medium_after}
+use Rattle.nvm_record.specs.Step.{Operation, statuses_of, data_of, medium_after}
 use Rattle.nvm_geometry.specs.Namespace.{Namespace}
 use Rattle.nvm_geometry.specs.Boundaries.{Crosses}
 use Rattle.nvm_geometry.specs.Parts.{part_in}
 use Rattle.nvm_plan.specs.Checks.{refusal_of}
 use Rattle.nvm_plan.specs.Operation.{job_operation_of}
 use Rattle.nvm_plan.specs.Outcome.{IsOutcome}
-use Rattle.nvm_plan.specs.Reply.{Reply, is_look}
+use Rattle.nvm_plan.specs.Reply.{Reply}
 use Rattle.nvm_plan.specs.declared.job.Job.{Job}
 use Rattle.nvm_plan.specs.declared.part.PartResult.{PartResult}
 use Rattle.nvm_plan.specs.declared.part.PartResult.TheVariants.{Done, Failed, Looked, NoMemory, Full}
@@ -41,7 +42,7 @@ pub record IsAnswered (part : Operation) (m : Medium) (reply : Reply) : Type 0 w
 abbrev pub WantsMemory : Setup → Operation → Medium → ℕ → Type 0
 WantsMemory s part m count =
     IsSome (data_of part m)
-    ⊎ (IsTrue (not (is_look part.deed)) × IsSuccess (statuses_of part m) × (count < s.limit))
+    ⊎ (IsAct part.deed × IsSuccess (statuses_of part m) × (count < s.limit))
 
 -- How a part may end where its unit had `count` changes: a change is made only below the limit, and the
 -- history is full only at it, for a change that would be made. Which of these a deed can have at all, and
@@ -90,7 +91,7 @@ Does s op m counts (reply ∷ replies) after counted =
 
 -- A Read whose range crosses a boundary: room for its data is asked for before its first part.
 pub record IsReadOverUnits (ns : Namespace) (op : Operation) : Type 0 where
-  pub read : op.deed ≡ reads
+  pub read : IsTrue (is_read op.deed)
   pub over : Crosses ns op.first op.blocks
 
 -- Some part was done, unless memory was refused before the first, which only such a Read asks for.

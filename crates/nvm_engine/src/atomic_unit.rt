@@ -31,7 +31,7 @@ pub enum Told {
 }
 
 impl AtomicUnit {
-    ghost use Rattle.nvm_engine.specs.AtomicUnit.{IsChanged, IsLookedAt, KeepsHistory, IsStepped};
+    ghost use Rattle.nvm_engine.specs.Inside.AtomicUnit.{IsChanged, IsLookedAt, KeepsHistory, IsStepped};
 
     /// Makes the act's change, unless it is a pair whose comparison fails, where the history has room for it
     /// below `limit`.
@@ -77,6 +77,7 @@ impl AtomicUnit {
         requires { Covers self.now.blocks (look_operation_of look) }
         ensures { IsLookedAt self.now (look_operation_of look.entry) result }
     {
+        some_medium_is_held();
         match answer(alloc, &self.blocks, look) {
             Ok(answer) => Told::Looked(answer),
             Err(_) => Told::NoMemory,

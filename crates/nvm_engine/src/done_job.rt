@@ -3,7 +3,7 @@ ghost use Rattle.nvm_record.specs.Step.{Operation};
 ghost use Rattle.nvm_plan.specs.Operation.{operation_of_body};
 ghost use Rattle.nvm_plan.specs.Outcome.{unstarted_of};
 ghost use Rattle.nvm_plan.specs.Reply.{stop_of};
-ghost use Rattle.nvm_engine.specs.DoneJob.{told, succeeded};
+ghost use Rattle.nvm_engine.specs.Inside.DoneJob.{told, succeeded};
 
 use nvm_plan::Body;
 use nvm_record::{Op, Payload, Status, Statuses};

@@ -19,12 +19,9 @@ use crate::shown::Shown;
 use crate::units::Units;
 use nvm_geometry::Geometry;
 use nvm_plan::job_laws::{jobs_fit, no_more_jobs_than_commands};
-use nvm_plan::{Job, jobs};
+use nvm_plan::{Job, MOST_HOSTS, jobs};
 use nvm_record::{BlockSize, Command, NoMemory, read_host};
 use std::alloc::Global;
-
-/// A namespace has at most so many hosts.
-const MOST_HOSTS: usize = 64;
 
 /// Does the commands of the hosts' files, of which the first is host 1's, on a namespace of zero bytes,
 /// and says what to show: for each command the line of its completion, in the order of the jobs. One thread
@@ -37,7 +34,7 @@ pub fn execute(alloc: Global, settings: &Settings, files: &[Vec<u8>]) -> Result<
     ensures shown { IfOk result (IsShown settings.now (map (λ file. file.items) files.now)) }
     ensures fault { IfErr result (IsFirstRunFault settings.now (map (λ file. file.items) files.now)) }
 {
-    if files.len() > MOST_HOSTS {
+    if files.len() > usize::from(MOST_HOSTS) {
         return Err(Fault::TooManyHosts);
     }
     let geometry = geometry_of(settings)?;

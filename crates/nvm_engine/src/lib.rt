@@ -19,7 +19,6 @@ mod host_tests;
 mod lines;
 #[cfg(test)]
 mod pair_tests;
-mod pieces;
 #[cfg(test)]
 mod run_tests;
 mod settings;

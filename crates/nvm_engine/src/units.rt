@@ -1,27 +1,33 @@
-ghost use Rattle.std.specs.Prelude.{◌≡◌, ◌+◌, ◌*◌, ◌≤◌, ◌<◌, Some, IfOk, length, vec_len};
+ghost use Rattle.std.specs.Prelude.{◌≡◌, ◌⊎◌, ℕ, ◌*◌, ◌<◌, ◌≤◌, [], Some, None, IfOk, IsTrue, OnErr, vec_len, vec_capacity};
+ghost use Rattle.nvm_record.specs.Deeds.{is_read};
 ghost use Rattle.nvm_record.specs.Medium.{zero_medium};
-ghost use Rattle.nvm_record.specs.Step.{Operation, HasData, writes, zeroes, uncorrectable, reads, compares, pairs};
+ghost use Rattle.nvm_record.specs.Step.{Operation};
 ghost use Rattle.nvm_geometry.specs.Boundaries.{units_of};
+ghost use Rattle.nvm_geometry.specs.Limits.{LiesInUnit};
 ghost use Rattle.nvm_geometry.specs.Parts.{part_in};
-ghost use Rattle.nvm_plan.specs.Fits.{FitsNamespace, IsWholeBody};
-ghost use Rattle.nvm_plan.specs.Operation.{on_range, operation_of_body};
-ghost use Rattle.nvm_plan.specs.Ready.{IsReadyBody};
-ghost use Rattle.nvm_store.specs.ActRef.{lent_operation_of};
+ghost use Rattle.nvm_geometry.specs.Place.{IsPlaceOf};
+ghost use Rattle.nvm_plan.specs.Checks.{refusal_of};
+ghost use Rattle.nvm_plan.specs.Fits.{FitsNamespace};
+ghost use Rattle.nvm_plan.specs.LentPart.{part_operation_of};
+ghost use Rattle.nvm_plan.specs.Operation.{job_operation_of};
 ghost use Rattle.nvm_store.specs.Contents.{Holds};
-ghost use Rattle.nvm_store.specs.Look.{look_operation_of};
-ghost use Rattle.nvm_engine.specs.Run.{no_changes};
-ghost use Rattle.nvm_engine.specs.Units.{AreOfUnit, IsPiece, IsPieceOf, IsInside, IsLaidOut, AreAt, DoesPart, DoesParts, AnswersTo};
+ghost use Rattle.nvm_store.specs.Place.{place_at, IsCovered};
+ghost use Rattle.nvm_engine.specs.Run.{no_changes, IsReadOverUnits};
+ghost use Rattle.nvm_engine.specs.Inside.AtomicUnit.{TellsOfRead};
+ghost use Rattle.nvm_engine.specs.Inside.Units.{AreOfUnit, IsLaidOut, AreAt, DoesPart, DoesParts, AnswersTo};
 
 use crate::atomic_unit::{AtomicUnit, Told};
 use crate::done_job::DoneJob;
 use crate::ending::ended;
-use crate::pieces::{part_of, pieces, room};
-use nvm_geometry::{Geometry, Piece, laws};
-use nvm_plan::laws::{outcomes_are_made_part_by_part, outcomes_by_plan, ready_jobs};
-use nvm_plan::{Body, Job, Plan, plan};
-use nvm_record::{Command, NoMemory, Op};
-use nvm_store::laws::some_medium_is_held;
-use nvm_store::{ActRef, Look, UnitBlocks};
+use nvm_geometry::{Geometry, laws};
+use nvm_plan::laws::{
+    answers_of_the_step_are_replies, outcomes_are_made_part_by_part, outcomes_by_plan,
+    parts_of_jobs, ready_jobs,
+};
+use nvm_plan::{Body, Job, LentPart, Plan, part_of, pieces_of_job, plan};
+use nvm_record::{NoMemory, Op};
+use nvm_store::UnitBlocks;
+use nvm_store::laws::{acts_and_looks, single_act_succeeds};
 use std::alloc::Global;
 
 /// A whole namespace: its units, unit k at place k.
@@ -33,7 +39,7 @@ pub struct Units {
 }
 
 impl Units {
-    ghost use Rattle.nvm_engine.specs.Setup.{setup_of_units};
+    ghost use Rattle.nvm_engine.specs.Inside.Setup.{setup_of_units};
 
     /// The units of a namespace of zero bytes, each of which may have `limit` changes.
     pub fn new(alloc: Global, geometry: Geometry, limit: u32) -> Result<Units, NoMemory>
@@ -64,208 +70,96 @@ impl Units {
         ready_jobs();
         match plan(&self.geometry, job) {
             Plan::Refused(statuses) => DoneJob::of(statuses),
-            Plan::Ready => self.do_parts(alloc, number, &job.body),
+            Plan::Ready => self.do_parts(alloc, number, job),
         }
     }
 
     /// Does the parts of a job, up to the first that isn't successful.
-    fn do_parts(&mut self, alloc: Global, number: u32, body: &Body) -> DoneJob
+    fn do_parts(&mut self, alloc: Global, number: u32, job: &Job) -> DoneJob
         requires laid { IsLaidOut (setup_of_units self.old) self.old.units.items }
-        requires ready { IsReadyBody self.old.geometry body.now }
-        requires whole { IsWholeBody self.old.geometry.block_size body.now }
+        requires fits { FitsNamespace self.old.geometry job.now }
+        requires free { refusal_of self.old.geometry job.now ≡ None }
         ensures laid { IsLaidOut (setup_of_units self.new) self.new.units.items }
         ensures setup { setup_of_units self.new ≡ setup_of_units self.old }
-        ensures parts { (op : Operation) → operation_of_body body.now ≡ Some op
+        ensures parts { (op : Operation) → job_operation_of job.now ≡ Some op
             → DoesParts (setup_of_units self.old) op self.old.units.items self.new.units.items result }
     {
         laws::pieces_stand_in_line();
+        laws::one_unit_is_one_part();
         outcomes_are_made_part_by_part();
-        let pieces = pieces(self.geometry, body);
-        let Ok(mut bytes) = room(alloc, self.geometry, body) else {
-            return DoneJob::of_no_part(body);
+        ready_jobs();
+        parts_of_jobs();
+        let geometry = self.geometry;
+        let pieces = pieces_of_job(&geometry, job);
+        let Ok(mut bytes) = room(alloc, &geometry, job) else {
+            return DoneJob::of_no_part(&job.body);
         };
         for piece in pieces {
-            let told = self.do_part(alloc, number, body, piece);
-            if let Some(done) = ended(body, told, &mut bytes) {
+            let Some(part) = part_of(&geometry, job, piece.unit) else {
+                unreachable!("each piece is a part")
+            };
+            let told = self.do_part(alloc, number, piece.unit, part);
+            if let Some(done) = ended(&job.body, told, &mut bytes) {
                 return done;
             }
         }
-        DoneJob::of_success(body, bytes)
+        DoneJob::of_success(&job.body, bytes)
     }
 
-    /// Does the part of a job in the unit of a piece of its range.
-    fn do_part(&mut self, alloc: Global, number: u32, body: &Body, piece: Piece) -> Told
+    /// Does the part of a job in a unit.
+    fn do_part(&mut self, alloc: Global, number: u32, unit: u16, part: LentPart<'_>) -> Told
         requires laid { IsLaidOut (setup_of_units self.old) self.old.units.items }
-        requires ready { IsReadyBody self.old.geometry body.now }
-        requires whole { IsWholeBody self.old.geometry.block_size body.now }
-        requires piece { IsPieceOf self.old.geometry body.now piece }
+        requires known { unit < units_of self.old.geometry }
+        requires covered { (first blocks : ℕ) → IsPlaceOf self.old.geometry unit first blocks
+            → IsCovered (place_at first blocks self.old.geometry.block_size) (part_operation_of part) }
         ensures laid { IsLaidOut (setup_of_units self.new) self.new.units.items }
         ensures setup { setup_of_units self.new ≡ setup_of_units self.old }
-        ensures part { (op : Operation) → operation_of_body body.now ≡ Some op
-            → DoesPart (setup_of_units self.old) op self.old.units.items self.new.units.items piece.unit result }
+        ensures part { (op : Operation) → part_operation_of part.entry ≡ part_in self.old.geometry op unit
+            → DoesPart (setup_of_units self.old) op self.old.units.items self.new.units.items unit result }
+        ensures read { TellsOfRead self.old.geometry.block_size (part_operation_of part.entry) result }
     {
-        match body {
-            Body::Single(command) => match command.op {
-                Op::Read => self.read(alloc, command, piece),
-                Op::Compare => self.compare(alloc, command, piece),
-                Op::Write => self.write(alloc, number, command, piece),
-                Op::WriteZeroes => self.zero(alloc, number, command, piece),
-                _ => self.mark(alloc, number, command, piece),
-            },
-            Body::Pair(compare, write) => {
-                self.compare_and_write(alloc, number, compare, write, piece)
+        laws::part_has_its_blocks();
+        acts_and_looks();
+        single_act_succeeds();
+        answers_of_the_step_are_replies();
+        let limit = self.limit;
+        match part {
+            LentPart::Act(act) => {
+                let unit = &mut self.units[unit as usize];
+                unit.change(alloc, number, act, limit)
+            }
+            LentPart::Look(look) => {
+                let unit = &self.units[unit as usize];
+                unit.look(alloc, look)
             }
         }
     }
+}
 
-    /// Does the part of a Read.
-    fn read(&self, alloc: Global, command: &Command, piece: Piece) -> Told
-        requires laid { IsLaidOut (setup_of_units self.now) self.now.units.items }
-        requires range { command.now.slba + (command.now.nlb + 1) ≤ self.now.geometry.nsze }
-        requires piece { IsPiece self.now.geometry command.now.slba (command.now.nlb + 1) piece }
-        ensures { DoesPart (setup_of_units self.now) (on_range command.now reads) self.now.units.items
-            self.now.units.items piece.unit result }
-    {
-        let look = Look::Read {
-            first: piece.first,
-            blocks: piece.blocks,
-        };
-        self.look_in(alloc, piece, look)
+/// Room for the data of a Read over several units. In one unit, the data of its one part is taken as it
+/// is.
+fn room(alloc: Global, geometry: &Geometry, job: &Job) -> Result<Vec<u8>, NoMemory>
+    requires { refusal_of geometry.now job.now ≡ None }
+    ensures empty { IfOk result (λ bytes. bytes.items ≡ []) }
+    ensures room { IfOk result (λ bytes. (op : Operation) → job_operation_of job.now ≡ Some op → IsTrue (is_read op.deed)
+        → (op.blocks * geometry.now.block_size ≤ vec_capacity bytes) ⊎ LiesInUnit geometry.now op.first op.blocks) }
+    ensures asked { OnErr result ((op : Operation) → job_operation_of job.now ≡ Some op → IsReadOverUnits geometry.now op) }
+{
+    ready_jobs();
+    let Body::Single(command) = &job.body else {
+        return Ok(Vec::new(alloc));
+    };
+    if command.op != Op::Read {
+        return Ok(Vec::new(alloc));
     }
-
-    /// Does the part of a Compare.
-    fn compare(&self, alloc: Global, command: &Command, piece: Piece) -> Told
-        requires laid { IsLaidOut (setup_of_units self.now) self.now.units.items }
-        requires payload { length command.now.payload ≡ (command.now.nlb + 1) * self.now.geometry.block_size }
-        requires range { command.now.slba + (command.now.nlb + 1) ≤ self.now.geometry.nsze }
-        requires piece { IsPiece self.now.geometry command.now.slba (command.now.nlb + 1) piece }
-        ensures { DoesPart (setup_of_units self.now) (on_range command.now (compares command.now.payload))
-            self.now.units.items self.now.units.items piece.unit result }
-    {
-        let look = Look::Compare {
-            first: piece.first,
-            blocks: piece.blocks,
-            payload: part_of(command, piece, self.geometry.block_size()),
-        };
-        self.look_in(alloc, piece, look)
+    let blocks = u32::from(command.nlb) + 1;
+    if !geometry.crosses(command.slba, blocks) {
+        return Ok(Vec::new(alloc));
     }
-
-    /// Does the part of a Write.
-    fn write(&mut self, alloc: Global, number: u32, command: &Command, piece: Piece) -> Told
-        requires laid { IsLaidOut (setup_of_units self.old) self.old.units.items }
-        requires payload { length command.now.payload ≡ (command.now.nlb + 1) * self.old.geometry.block_size }
-        requires range { command.now.slba + (command.now.nlb + 1) ≤ self.old.geometry.nsze }
-        requires piece { IsPiece self.old.geometry command.now.slba (command.now.nlb + 1) piece }
-        ensures laid { IsLaidOut (setup_of_units self.new) self.new.units.items }
-        ensures setup { setup_of_units self.new ≡ setup_of_units self.old }
-        ensures part { DoesPart (setup_of_units self.old) (on_range command.now (writes command.now.payload))
-            self.old.units.items self.new.units.items piece.unit result }
-    {
-        let act = ActRef::Write {
-            first: piece.first,
-            blocks: piece.blocks,
-            payload: part_of(command, piece, self.geometry.block_size()),
-        };
-        self.change_in(alloc, number, piece, act)
-    }
-
-    /// Does the part of a Write Zeroes.
-    fn zero(&mut self, alloc: Global, number: u32, command: &Command, piece: Piece) -> Told
-        requires laid { IsLaidOut (setup_of_units self.old) self.old.units.items }
-        requires range { command.now.slba + (command.now.nlb + 1) ≤ self.old.geometry.nsze }
-        requires piece { IsPiece self.old.geometry command.now.slba (command.now.nlb + 1) piece }
-        ensures laid { IsLaidOut (setup_of_units self.new) self.new.units.items }
-        ensures setup { setup_of_units self.new ≡ setup_of_units self.old }
-        ensures part { DoesPart (setup_of_units self.old) (on_range command.now zeroes) self.old.units.items
-            self.new.units.items piece.unit result }
-    {
-        let act = ActRef::Zeroes {
-            first: piece.first,
-            blocks: piece.blocks,
-        };
-        self.change_in(alloc, number, piece, act)
-    }
-
-    /// Does the part of a Write Uncorrectable.
-    fn mark(&mut self, alloc: Global, number: u32, command: &Command, piece: Piece) -> Told
-        requires laid { IsLaidOut (setup_of_units self.old) self.old.units.items }
-        requires range { command.now.slba + (command.now.nlb + 1) ≤ self.old.geometry.nsze }
-        requires piece { IsPiece self.old.geometry command.now.slba (command.now.nlb + 1) piece }
-        ensures laid { IsLaidOut (setup_of_units self.new) self.new.units.items }
-        ensures setup { setup_of_units self.new ≡ setup_of_units self.old }
-        ensures part { DoesPart (setup_of_units self.old) (on_range command.now uncorrectable) self.old.units.items
-            self.new.units.items piece.unit result }
-    {
-        let act = ActRef::Uncorrectable {
-            first: piece.first,
-            blocks: piece.blocks,
-        };
-        self.change_in(alloc, number, piece, act)
-    }
-
-    /// Does the part of a fused pair, whose second command has the range of the first.
-    fn compare_and_write(
-        &mut self,
-        alloc: Global,
-        number: u32,
-        compare: &Command,
-        write: &Command,
-        piece: Piece,
-    ) -> Told
-        requires laid { IsLaidOut (setup_of_units self.old) self.old.units.items }
-        requires slba { write.now.slba ≡ compare.now.slba }
-        requires nlb { write.now.nlb ≡ compare.now.nlb }
-        requires compared { length compare.now.payload ≡ (compare.now.nlb + 1) * self.old.geometry.block_size }
-        requires written { length write.now.payload ≡ (compare.now.nlb + 1) * self.old.geometry.block_size }
-        requires range { compare.now.slba + (compare.now.nlb + 1) ≤ self.old.geometry.nsze }
-        requires piece { IsPiece self.old.geometry compare.now.slba (compare.now.nlb + 1) piece }
-        ensures laid { IsLaidOut (setup_of_units self.new) self.new.units.items }
-        ensures setup { setup_of_units self.new ≡ setup_of_units self.old }
-        ensures part { DoesPart (setup_of_units self.old) (on_range compare.now (pairs compare.now.payload write.now.payload))
-            self.old.units.items self.new.units.items piece.unit result }
-    {
-        let size = self.geometry.block_size();
-        let act = ActRef::Pair {
-            first: piece.first,
-            blocks: piece.blocks,
-            compare: part_of(compare, piece, size),
-            write: part_of(write, piece, size),
-        };
-        self.change_in(alloc, number, piece, act)
-    }
-
-    /// Makes a change in the unit of a piece.
-    fn change_in(&mut self, alloc: Global, number: u32, piece: Piece, act: ActRef<'_>) -> Told
-        requires laid { IsLaidOut (setup_of_units self.old) self.old.units.items }
-        requires piece { IsInside self.old.geometry piece }
-        requires first { (lent_operation_of act).first ≡ piece.first }
-        requires blocks { (lent_operation_of act).blocks ≡ piece.blocks }
-        requires payload { HasData (piece.blocks * self.old.geometry.block_size) (lent_operation_of act).deed }
-        ensures laid { IsLaidOut (setup_of_units self.new) self.new.units.items }
-        ensures setup { setup_of_units self.new ≡ setup_of_units self.old }
-        ensures part { (op : Operation) → lent_operation_of act.entry ≡ part_in self.old.geometry op piece.unit
-            → DoesPart (setup_of_units self.old) op self.old.units.items self.new.units.items piece.unit result }
-    {
-        laws::part_has_its_blocks();
-        let limit = self.limit;
-        let unit = &mut self.units[piece.unit as usize];
-        unit.change(alloc, number, act, limit)
-    }
-
-    /// Looks at the unit of a piece.
-    fn look_in(&self, alloc: Global, piece: Piece, look: Look<'_>) -> Told
-        requires laid { IsLaidOut (setup_of_units self.now) self.now.units.items }
-        requires piece { IsInside self.now.geometry piece }
-        requires first { (look_operation_of look).first ≡ piece.first }
-        requires blocks { (look_operation_of look).blocks ≡ piece.blocks }
-        requires payload { HasData (piece.blocks * self.now.geometry.block_size) (look_operation_of look).deed }
-        ensures { (op : Operation) → look_operation_of look.entry ≡ part_in self.now.geometry op piece.unit
-            → DoesPart (setup_of_units self.now) op self.now.units.items self.now.units.items piece.unit result }
-    {
-        some_medium_is_held();
-        let unit = &self.units[piece.unit as usize];
-        unit.look(alloc, look)
-    }
+    Vec::with_capacity(
+        alloc,
+        blocks as usize * geometry.block_size().bytes() as usize,
+    )
 }
 
 /// A unit of zero bytes.

@@ -14,7 +14,8 @@ use Rattle.nvm_plan.specs.declared.job.Job.{Job}
 use Rattle.nvm_plan.specs.declared.part.Part.{Part}
 use Rattle.nvm_plan.specs.Checks.{Check, checks, single_checks, pair_checks, first_answer, refusal_of}
 use Rattle.nvm_plan.specs.Operation.{operation_of_body, job_operation_of}
-use Rattle.nvm_plan.specs.Reply.{is_pair, can_have, IsOneStatus}
+use Rattle.nvm_record.specs.Deeds.{is_pair}
+use Rattle.nvm_plan.specs.Reply.{can_have, IsOneStatus}
 use Rattle.nvm_plan.specs.Shape.{IsTwoStatuses, EndsAtLast, HasEnding, HasShapeOf, HasShapeOfRefusal, HasOutcomeShape, IsForEach}
 use Rattle.nvm_plan.proofs.Endings.{one_shown, two_shown, one_unstarted, two_unstarted}
 
@@ -43,11 +44,11 @@ can_last ns op parts told e =
     last_part P e.before e.last (subst (AllByRecursion P) e.are e.results)
 
 one_ending : (ns : Namespace) (op : Operation) (parts : List Part) (told : Statuses) → is_pair op.deed ≡ false → HasEnding ns op parts told → IsOneStatus told
-one_ending ns op parts told pair (inl h) = subst IsOneStatus (sym h.1) (one_unstarted op.deed pair)
+one_ending ns op parts told pair (inl h) = subst IsOneStatus (sym h.statuses) (one_unstarted op.deed pair)
 one_ending ns op parts told pair (inr e) = one_shown op.deed e.last.result told pair (can_last ns op parts told e) e.statuses
 
 two_ending : (ns : Namespace) (op : Operation) (parts : List Part) (told : Statuses) → is_pair op.deed ≡ true → HasEnding ns op parts told → IsTwoStatuses told
-two_ending ns op parts told pair (inl h) = subst IsTwoStatuses (sym h.1) (two_unstarted op.deed pair)
+two_ending ns op parts told pair (inl h) = subst IsTwoStatuses (sym h.statuses) (two_unstarted op.deed pair)
 two_ending ns op parts told pair (inr e) = two_shown op.deed e.last.result told pair (can_last ns op parts told e) e.statuses
 
 single_deed : (c : Command) (op : Operation) → operation_of_body (Single c) ≡ Some op → is_pair op.deed ≡ false

@@ -4,7 +4,8 @@ use Rattle.nvm_record.specs.declared.status.Statuses.{Statuses}
 use Rattle.nvm_record.specs.Status.{IsSuccess}
 use Rattle.nvm_record.specs.Step.{Deed}
 use Rattle.nvm_plan.specs.declared.part.PartResult.{PartResult}
-use Rattle.nvm_plan.specs.Reply.{is_pair, can_have, success_of, IsOneStatus, MayTell, GivesData}
+use Rattle.nvm_record.specs.Deeds.{is_pair}
+use Rattle.nvm_plan.specs.Reply.{can_have, success_of, IsOneStatus, MayTell, GivesData}
 use Rattle.nvm_plan.specs.Outcome.{answered, unstarted_of}
 use Rattle.nvm_plan.specs.Shape.{goes_on, IsTwoStatuses, MayShow}
 

@@ -1,15 +1,16 @@
 -- Where a job stands, and whose commands it has.
-use Rattle.std.proofs.Common.{◌≡◌, inl, inr, ℕ, zero, suc, ◌+◌, ◌-◌, ◌<◌, List, [], ◌∷◌, length, get_or, take, Some, refl, ap, sym, ◌∙◌, subst, arith}
-use Rattle.std.specs.Prelude.{slice_get}
+use Rattle.std.proofs.Common.{◌≡◌, inl, inr, ℕ, zero, suc, ◌+◌, ◌-◌, ◌<◌, List, [], ◌∷◌, length, get_or, take, refl, ap, sym, ◌∙◌, subst, arith}
+use mathlib.Core.Option.{some}
 use Rattle.std.specs.List.{All, Contains, flat_map}
 use Rattle.std.proofs.lemmas.Bool.{cases_lt, cases_eq}
 use Rattle.std.proofs.lemmas.List.Elements.{All-weaker, All-contains, All-contains_itself, Contains-append_left, Contains-append_right}
-use Rattle.std.proofs.lemmas.Option.{slice_get-get_or, slice_get_within, get_or_from_slice_get}
 use Rattle.nvm_record.specs.Entry.{IsWhole}
+use Rattle.nvm_record.specs.Lists.{IsAt}
 use Rattle.nvm_record.specs.declared.command.Command.{Command}
 use Rattle.nvm_plan.specs.declared.job.Body.{Body}
 use Rattle.nvm_plan.specs.declared.job.Job.{Job}
 use Rattle.nvm_plan.specs.Jobs.{commands_of, IsPairing, bodies_of, IsJobOf, StandsBefore, IsJobList, IsOfHosts}
+use Rattle.nvm_plan.proofs.Standing.{at_within, at_value, at_read}
 use Rattle.nvm_plan.proofs.OnePairing.{one_pairing_alone}
 use Rattle.nvm_plan.proofs.TurnOrder.{before_not_after}
 use Rattle.nvm_plan.proofs.OneOrder.{bodies_this, bodies_other}
@@ -18,7 +19,7 @@ use Rattle.nvm_plan.proofs.OneOrder.{bodies_this, bodies_other}
 pub record HasPlace (h number : ℕ) (body : Body) (jobs : List Job) : Type 0 where
   pub place : ℕ
   pub stands : IsJobOf h number jobs place
-  pub job : slice_get jobs place ≡ Some (record { host = h; body = body })
+  pub job : IsAt jobs place (record { host = h; body = body })
 
 one_further : (h number more : ℕ) (body : Body) (j : Job) (js : List Job) → (p : HasPlace h number body js)
     → length (bodies_of h (j ∷ take p.place js)) ≡ more → HasPlace h more body (j ∷ js)
@@ -29,7 +30,7 @@ one_further h number more body j js p counted =
       job = p.job;
     }
 
-pub place_of : (h : ℕ) (body : Body) (jobs : List Job) (number : ℕ) → slice_get (bodies_of h jobs) number ≡ Some body → HasPlace h number body jobs
+pub place_of : (h : ℕ) (body : Body) (jobs : List Job) (number : ℕ) → IsAt (bodies_of h jobs) number body → HasPlace h number body jobs
 place_of h body [] number is = absurd (cc)
 place_of h body (j ∷ js) number is =
     elim (cases_eq j.host h) [
@@ -39,13 +40,13 @@ place_of h body (j ∷ js) number is =
           one_further h number number body j js p (ap length (bodies_other h j (take p.place js) other) ∙ p.stands.before)
     ]
   where
-    this : ((n : ℕ) → slice_get (bodies_of h js) n ≡ Some body → HasPlace h n body js) → (number : ℕ) → j.host ≡ h → slice_get (j.body ∷ bodies_of h js) number ≡ Some body → HasPlace h number body (j ∷ js)
+    this : ((n : ℕ) → IsAt (bodies_of h js) n body → HasPlace h n body js) → (number : ℕ) → j.host ≡ h → IsAt (j.body ∷ bodies_of h js) number body → HasPlace h number body (j ∷ js)
     this later zero mine is =
         let same : j.body ≡ body = cc in
         record {
           place = zero;
-          stands = record { there = ap (λ x. Some x) mine; before = refl };
-          job = λ i. Some (record { host = mine i; body = same i });
+          stands = record { there = ap (λ x. some x) mine; before = refl };
+          job = λ i. some (record { host = mine i; body = same i });
         }
     this later (suc n) mine is =
         let p = later n is in
@@ -53,8 +54,8 @@ place_of h body (j ∷ js) number is =
 
 -- each of a host's jobs stands somewhere
 pub stands_somewhere : (hosts : List (List Command)) (jobs : List Job) (place : ℕ) (commands : List Command) (bodies : List Body) (number : ℕ) (body : Body)
-    → IsJobList hosts jobs → slice_get hosts place ≡ Some commands → IsPairing commands bodies → slice_get bodies number ≡ Some body
-    → (there : ℕ) × IsJobOf (place + 1) number jobs there × (slice_get jobs there ≡ Some (record { host = place + 1; body = body }))
+    → IsJobList hosts jobs → IsAt hosts place commands → IsPairing commands bodies → IsAt bodies number body
+    → (there : ℕ) × IsJobOf (place + 1) number jobs there × IsAt jobs there (record { host = place + 1; body = body })
 stands_somewhere hosts jobs place commands bodies number body all is pairing at =
     let same = one_pairing_alone commands bodies (bodies_of (place + 1) jobs) pairing (all.each place commands is) in
     let p = place_of (place + 1) body jobs number (rw same at at) in
@@ -105,7 +106,7 @@ all_of_hosts hosts jobs all p d inside =
     let known = all.known p d inside in
     let place = j.host - 1 in
     let number : j.host ≡ place + 1 = omega (arith, known.0) in
-    let listed = slice_get-get_or hosts place [] (omega (arith, known.0, known.1)) in
+    let listed = at_read hosts place [] (omega (arith, known.0, known.1)) in
     let theirs = get_or hosts place [] in
     let pairing = subst (λ h. IsPairing theirs (bodies_of h jobs)) (sym number) (all.each place theirs listed) in
     let among = body_among jobs p d inside in
@@ -128,7 +129,7 @@ all_whole size hosts jobs whole all =
   where
     each : (j : Job) → IsOfHosts hosts j → All (IsWhole size) (commands_of j.body)
     each j made =
-        let inside = slice_get_within hosts made.place made.theirs made.listed in
-        let same = get_or_from_slice_get hosts made.place made.theirs made.theirs made.listed in
+        let inside = at_within hosts made.place made.theirs made.listed in
+        let same = at_value hosts made.place made.theirs made.theirs made.listed in
         let theirs = rw same at (whole made.place made.theirs inside) in
         All-weaker (Contains made.theirs) (IsWhole size) (λ c h. All-contains (IsWhole size) made.theirs c theirs h) (commands_of j.body) made.commands

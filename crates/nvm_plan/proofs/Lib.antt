@@ -1,3 +1,4 @@
+pub mod Standing
 pub mod OnePairing
 pub mod FrontJob
 pub mod TurnOrder
@@ -15,3 +16,4 @@ pub mod Endings
 pub mod OutcomeShape
 pub mod Arity
 pub mod JobsFit
+pub mod JobParts

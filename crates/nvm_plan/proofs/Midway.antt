@@ -1,10 +1,11 @@
 -- Midway: the jobs so far, with the jobs of what is left to the waiting hosts, are those of all commands.
-use Rattle.std.proofs.Common.{◌≡◌, ◌≢◌, inl, inr, ℕ, zero, suc, ◌+◌, ◌<◌, ◌≤◌, true, false, cond, List, [], ◌∷◌, ◌++◌, length, map, Some, refl, ap, sym, ◌∙◌, subst, arith, append_assoc}
-use Rattle.std.specs.Prelude.{◌==◌, slice_get}
+use Rattle.std.proofs.Common.{◌≡◌, ◌≢◌, inl, inr, ℕ, zero, suc, ◌+◌, ◌<◌, ◌≤◌, true, false, cond, List, [], ◌∷◌, ◌++◌, length, map, refl, ap, sym, ◌∙◌, subst, arith, append_assoc}
+use Rattle.std.specs.Prelude.{◌==◌}
 use Rattle.std.specs.List.{All, AllByRecursion, filter, enumerate_from, range_with_len}
 use Rattle.std.proofs.lemmas.Bool.{cases_eq, eq-eqb, ne_eqb}
 use Rattle.std.proofs.lemmas.List.{append-nil, map_push, map-append}
 use Rattle.std.proofs.lemmas.List.Elements.{All-nil, All-push, filter-append}
+use Rattle.nvm_record.specs.Lists.{IsAt}
 use Rattle.nvm_record.specs.declared.command.Command.{Command}
 use Rattle.nvm_plan.specs.declared.job.Body.{Body}
 use Rattle.nvm_plan.specs.declared.job.Job.{Job}
@@ -28,7 +29,7 @@ abbrev pub IsKnown : ℕ → ℕ → Type 0
 IsKnown hosts h = (0 < h) × (h ≤ hosts)
 
 pub record IsMidway (all : List (List Command)) (queue : Queue) (jobs : List Job) : Type 0 where
-  pub left : (place : ℕ) (commands : List Command) → slice_get all place ≡ Some commands → (rest : List Body)
+  pub left : (place : ℕ) (commands : List Command) → IsAt all place commands → (rest : List Body)
       → IsPairing (left_of (place + 1) queue) rest → IsPairing commands (bodies_of (place + 1) jobs ++ rest)
   pub known : All (λ job. IsKnown (length all) job.host) jobs
   pub waiting_known : AllByRecursion (λ w. IsKnown (length all) w.0) queue
@@ -169,7 +170,7 @@ midway_first all =
       turns = rw (numbers 1 all) (waiting_first 1 (length all));
     }
   where
-    first_left : (a place : ℕ) (hosts : List (List Command)) (commands : List Command) → slice_get hosts place ≡ Some commands
+    first_left : (a place : ℕ) (hosts : List (List Command)) (commands : List Command) → IsAt hosts place commands
         → left_of (a + place) (enumerate_from a hosts) ≡ commands
     first_left a place [] commands is = cc
     first_left a zero (cs ∷ hosts) commands is =

@@ -5,11 +5,11 @@ use Rattle.std.specs.List.{All}
 use Rattle.std.proofs.lemmas.Bool.{cases_lt, cases_eq, eq-eqb, ne_eqb}
 use Rattle.std.proofs.lemmas.List.Elements.{All-head, All-tail}
 use Rattle.std.proofs.lemmas.List.Sums.{length-filter}
-use Rattle.std.proofs.lemmas.Option.{slice_get-get_or}
 use Rattle.nvm_record.specs.declared.command.Command.{Command}
 use Rattle.nvm_plan.specs.declared.job.Job.{Job}
 use Rattle.nvm_plan.specs.Jobs.{bodies_of, IsJobList, StandsBefore}
 use Rattle.nvm_plan.proofs.OnePairing.{one_pairing_alone}
+use Rattle.nvm_plan.proofs.Standing.{at_read}
 use Rattle.nvm_plan.proofs.TurnOrder.{times, times_other, before_not_after, IsInTurn, in_turn_pair}
 use Rattle.nvm_plan.proofs.PlacesInTurn.{hosts_of, turns_of_order, length_of_bodies}
 
@@ -96,7 +96,7 @@ same_bodies hosts xs ys a b zero =
 same_bodies hosts xs ys a b (suc place) =
     elim (cases_lt place (length hosts)) [
       | inl inside ↦
-          let is = slice_get-get_or hosts place [] inside in
+          let is = at_read hosts place [] inside in
           let next : place + 1 ≡ suc place = omega arith in
           rw next at (one_pairing_alone (get_or hosts place []) (bodies_of (place + 1) xs) (bodies_of (place + 1) ys) (a.each place (get_or hosts place []) is) (b.each place (get_or hosts place []) is))
       | inr above ↦

@@ -133,7 +133,7 @@ shape_of ns op replies told read some (inr (inl s)) = record {
   payload = no_data op.deed told read s.payload (λ h. s.failure (subst IsSuccess s.statuses h));
 }
 shape_of ns op replies told read some (inr (inr u)) = record {
-  ending = inl (ap parts_of u.none_done, u.statuses);
+  ending = inl (record { some = some; none_done = ap parts_of u.none_done; statuses = u.statuses });
   payload = no_data op.deed told read u.payload (λ h. unstarted_fails op.deed (subst IsSuccess u.statuses h));
 }
 

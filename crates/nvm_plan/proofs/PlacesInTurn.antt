@@ -5,9 +5,9 @@ use Rattle.std.specs.List.{filter}
 use Rattle.std.proofs.lemmas.Bool.{cases_lt, cases_eq, cases_Bool}
 use Rattle.std.proofs.lemmas.List.{length-map, take-map}
 use Rattle.std.proofs.lemmas.List.Sums.{length-filter}
-use Rattle.std.proofs.lemmas.Option.{slice_get_within, slice_get-get_or, get_or_from_slice_get}
 use Rattle.nvm_plan.specs.declared.job.Job.{Job}
 use Rattle.nvm_plan.specs.Jobs.{bodies_of, IsJobOf, StandsBefore}
+use Rattle.nvm_plan.proofs.Standing.{at_within, at_value, at_read}
 use Rattle.nvm_plan.proofs.TurnOrder.{times, round, IsInTurn, before_not_after}
 
 -- the host of each job
@@ -35,8 +35,8 @@ bodies_before h jobs p = length_of_bodies h (take p jobs) ∙ ap (times h) (sym 
 number_is : (h k : ℕ) (jobs : List Job) (p : ℕ) → IsJobOf h k jobs p
     → (p < length (hosts_of jobs)) × (get_or (hosts_of jobs) p 0 ≡ h) × (round (hosts_of jobs) p ≡ k)
 number_is h k jobs p j =
-    let here : get_or (hosts_of jobs) p 0 ≡ h = get_or_from_slice_get (hosts_of jobs) p h 0 j.there in
-    (slice_get_within (hosts_of jobs) p h j.there, here, rw here (sym (bodies_before h jobs p) ∙ j.before))
+    let here : get_or (hosts_of jobs) p 0 ≡ h = at_value (hosts_of jobs) p h 0 j.there in
+    (at_within (hosts_of jobs) p h j.there, here, rw here (sym (bodies_before h jobs p) ∙ j.before))
 
 -- jobs in turn stand in the order of their numbers and hosts
 pub order_of_turns : (jobs : List Job) → IsInTurn (hosts_of jobs)
@@ -73,5 +73,5 @@ pub turns_of_order : (jobs : List Job)
 turns_of_order jobs order p q lower inside =
     let hs = hosts_of jobs in
     let at : (r : ℕ) → r < length hs → IsJobOf (get_or hs r 0) (round hs r) jobs r = λ r within.
-    record { there = slice_get-get_or hs r 0 within; before = bodies_before (get_or hs r 0) jobs r } in
+    record { there = at_read hs r 0 within; before = bodies_before (get_or hs r 0) jobs r } in
     (order (get_or hs p 0) (round hs p) (get_or hs q 0) (round hs q) p q (at p (omega arith)) (at q inside)).0 lower

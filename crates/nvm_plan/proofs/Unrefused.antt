@@ -1,7 +1,8 @@
 -- What is known of a job to which no check applies, and that none applies to such a job.
-use Rattle.std.proofs.Common.{◌≡◌, ◌+◌, ◌≤◌, ◌<◌, nat_lt, false, Some, None, IsTrue, refl, sym, arith, rules}
+use Rattle.std.proofs.Common.{◌≡◌, ◌+◌, ◌≤◌, ◌<◌, nat_lt, false, Some, None, refl, sym, arith, rules}
 use Rattle.std.proofs.lemmas.Bool.{eq-eqb, le-ltb}
 use Rattle.std.proofs.lemmas.Grind.{common_steps}
+use Rattle.nvm_record.specs.Deeds.{IsPair}
 use Rattle.nvm_record.specs.Step.{Operation}
 use Rattle.nvm_geometry.specs.Namespace.{Namespace}
 use Rattle.nvm_geometry.specs.Limits.{LiesInUnit}
@@ -11,7 +12,6 @@ use Rattle.nvm_plan.specs.declared.job.Job.{Job}
 use Rattle.nvm_plan.specs.Checks.{namespace_identifier, checks, first_answer, refusal_of}
 use Rattle.nvm_plan.specs.Operation.{operation_of_body, job_operation_of}
 use Rattle.nvm_plan.specs.Ready.{IsReadyBody, IsReady}
-use Rattle.nvm_plan.specs.Reply.{is_pair}
 use Rattle.nvm_plan.proofs.PairLimit.{SharesByNumber, NumberByUnit, kept, within_limit}
 
 ready_body : SharesByNumber → (ns : Namespace) (body : Body) → first_answer (checks ns body) ≡ None → IsReadyBody ns body
@@ -43,11 +43,11 @@ pub unrefused_job : NumberByUnit → (ns : Namespace) (job : Job) → IsReady ns
 unfolding refusal_of
 unrefused_job number ns job r = unrefused_body number ns job.body r
 
-body_in_unit : (ns : Namespace) (body : Body) (op : Operation) → IsReadyBody ns body → operation_of_body body ≡ Some op → IsTrue (is_pair op.deed)
+body_in_unit : (ns : Namespace) (body : Body) (op : Operation) → IsReadyBody ns body → operation_of_body body ≡ Some op → IsPair op.deed
     → (0 < op.blocks) × (op.first + op.blocks ≤ ns.nsze) × LiesInUnit ns op.first op.blocks
 body_in_unit ns body op ready stands pair = grind (arith, common_steps)
 
 -- the operation of a pair lies in one unit of the namespace
-pub pair_in_unit : (ns : Namespace) (job : Job) (op : Operation) → IsReady ns job → job_operation_of job ≡ Some op → IsTrue (is_pair op.deed)
+pub pair_in_unit : (ns : Namespace) (job : Job) (op : Operation) → IsReady ns job → job_operation_of job ≡ Some op → IsPair op.deed
     → (0 < op.blocks) × (op.first + op.blocks ≤ ns.nsze) × LiesInUnit ns op.first op.blocks
 pair_in_unit ns job op = body_in_unit ns job.body op

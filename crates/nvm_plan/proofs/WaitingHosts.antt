@@ -3,7 +3,7 @@ use Rattle.std.proofs.Common.{◌≡◌, ℕ, ◌+◌, List, [], ◌∷◌, ◌+
 use Rattle.std.specs.List.{enumerate_from}
 use Rattle.std.proofs.lemmas.List.{map_push}
 use Rattle.nvm_record.specs.declared.command.Command.{Command}
-use Rattle.nvm_plan.specs.declared.order.Waiting.{Waiting}
+use Rattle.nvm_plan.specs.declared.job_list.Waiting.{Waiting}
 
 abbrev pub Queue : Type 0
 Queue = List (ℕ × List Command)

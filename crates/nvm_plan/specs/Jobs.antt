@@ -1,7 +1,8 @@
 -- Which jobs the hosts' commands are, and their order, which is that in which one worker does them: Base
 -- Specification, "Fused Operation"; that the hosts take turns is this project's own.
-use Rattle.std.specs.Prelude.{◌≡◌, ◌⊎◌, ◌↔◌, ◌==◌, ℕ, ◌+◌, ◌<◌, ◌≤◌, List, [], ◌∷◌, ◌++◌, length, take, map, Some, slice_get}
+use Rattle.std.specs.Prelude.{◌≡◌, ◌⊎◌, ◌↔◌, ◌==◌, ℕ, ◌+◌, ◌<◌, ◌≤◌, List, [], ◌∷◌, ◌++◌, length, take, map}
 use Rattle.std.specs.List.{All, Contains, filter, flat_map}
+use Rattle.nvm_record.specs.Lists.{IsAt}
 use Rattle.nvm_record.specs.declared.command.Command.{Command}
 use Rattle.nvm_plan.specs.Profile.{IsFusedPair}
 use Rattle.nvm_plan.specs.declared.job.Body.{Body}
@@ -34,7 +35,7 @@ bodies_of host jobs = map (λ job. job.body) (filter (λ job. job.host == host) 
 
 -- At this place of the list stands the host's job of this number, counted from 0.
 pub record IsJobOf (host number : ℕ) (jobs : List Job) (place : ℕ) : Type 0 where
-  pub there : slice_get (map (λ job. job.host) jobs) place ≡ Some host
+  pub there : IsAt (map (λ job. job.host) jobs) place host
   pub before : length (bodies_of host (take place jobs)) ≡ number
 
 -- Job k of host h comes before job l of host i: the hosts take turns, in their order.
@@ -44,7 +45,7 @@ StandsBefore k h l i = (k < l) ⊎ ((k ≡ l) × (h < i))
 -- These are the jobs of the hosts' commands, in their order.
 pub record IsJobList (hosts : List (List Command)) (jobs : List Job) : Type 0 where
   -- each host's jobs are those of its commands; the first host's number is 1
-  pub each : (place : ℕ) (commands : List Command) → slice_get hosts place ≡ Some commands
+  pub each : (place : ℕ) (commands : List Command) → IsAt hosts place commands
       → IsPairing commands (bodies_of (place + 1) jobs)
   -- and there is no other host
   pub known : All (λ job. (0 < job.host) × (job.host ≤ length hosts)) jobs
@@ -56,6 +57,6 @@ pub record IsOfHosts (hosts : List (List Command)) (job : Job) : Type 0 where
   pub place : ℕ
   pub number : job.host ≡ place + 1
   pub theirs : List Command
-  pub listed : slice_get hosts place ≡ Some theirs
+  pub listed : IsAt hosts place theirs
   pub commands : All (Contains theirs) (commands_of job.body)
   pub body : IsBody job.body

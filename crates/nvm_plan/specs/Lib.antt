@@ -4,6 +4,9 @@ pub mod Operation
 pub mod Checks
 pub mod Ready
 pub mod Fits
+pub mod JobPart
+pub mod LentPart
 pub mod Reply
 pub mod Outcome
 pub mod Shape
+pub mod Completions

@@ -2,12 +2,13 @@
 -- its host is told after them. That parts stop at the first without success, and what is told for want of
 -- memory or at a full history, are this project's own. Which status a comparison or a Read has rests on the
 -- medium, and isn't said here.
-use Rattle.std.specs.Prelude.{◌≡◌, ◌≢◌, ◌⊎◌, ℕ, List, [], ◌∷◌, ◌++◌, map, Option, Some, None, MatchOption, IsSomeAnd, unwrap_or}
+use Rattle.std.specs.Prelude.{◌≡◌, ◌≢◌, ◌⊎◌, ℕ, if◌then◌else◌, List, [], ◌∷◌, ◌++◌, map, Option, Some, None, MatchOption, IsSomeAnd, unwrap_or}
 use Rattle.std.specs.List.{AllByRecursion, flat_map}
 use Rattle.nvm_record.specs.declared.status.Statuses.{Statuses}
 use Rattle.nvm_record.specs.declared.status.Statuses.TheVariants.{One, Two}
 use Rattle.nvm_record.specs.Status.{IsSuccess, internal_error, aborted_due_to_failed_fused_command}
-use Rattle.nvm_record.specs.Step.{Deed, Operation, writes, zeroes, uncorrectable, reads, compares, pairs}
+use Rattle.nvm_record.specs.Deeds.{is_read}
+use Rattle.nvm_record.specs.Step.{Deed, Operation}
 use Rattle.nvm_geometry.specs.Namespace.{Namespace}
 use Rattle.nvm_geometry.specs.Parts.{units_met}
 use Rattle.nvm_plan.specs.declared.job.Job.{Job}
@@ -25,12 +26,7 @@ data_told replies = flat_map (λ reply. unwrap_or reply.payload []) replies
 
 -- a Read by itself is answered with these bytes, everything else without data
 abbrev pub answered : Deed → List ℕ → Option (List ℕ)
-answered (writes payload) bytes = None
-answered zeroes bytes = None
-answered uncorrectable bytes = None
-answered reads bytes = Some bytes
-answered (compares payload) bytes = None
-answered (pairs payload new) bytes = None
+answered deed bytes = if is_read deed then Some bytes else None
 
 -- what is told where memory was refused before the first part
 abbrev pub unstarted_of : Deed → Statuses

@@ -1,9 +1,10 @@
 -- What a unit tells of the part of an operation that it did.
-use Rattle.std.specs.Prelude.{◌≡◌, ◌⊎◌, ◌↔◌, ℕ, List, Bool, true, false, not, Option, None, IsTrue, IsSome}
+use Rattle.std.specs.Prelude.{◌≡◌, ◌⊎◌, ◌↔◌, ℕ, if◌then◌else◌, List, Bool, true, not, Option, None, IsTrue, IsSome}
 use Rattle.nvm_record.specs.declared.status.Status.{Status}
 use Rattle.nvm_record.specs.declared.status.Statuses.{Statuses}
 use Rattle.nvm_record.specs.declared.status.Statuses.TheVariants.{One, Two}
 use Rattle.nvm_record.specs.Status.{IsSuccess, successful_completion, internal_error, aborted_due_to_failed_fused_command, unrecovered_read_error, compare_failure}
+use Rattle.nvm_record.specs.Deeds.{is_read, is_look, is_pair}
 use Rattle.nvm_record.specs.Medium.{Medium}
 use Rattle.nvm_record.specs.Step.{Deed, Operation, writes, zeroes, uncorrectable, reads, compares, pairs, statuses_of, data_of}
 use Rattle.nvm_geometry.specs.Namespace.{Namespace}
@@ -18,24 +19,6 @@ pub record Reply : Type 0 where
   pub statuses : Statuses
   pub payload : Option (List ℕ)
 
--- the deed changes nothing
-abbrev pub is_look : Deed → Bool
-is_look (writes payload) = false
-is_look zeroes = false
-is_look uncorrectable = false
-is_look reads = true
-is_look (compares payload) = true
-is_look (pairs payload new) = false
-
--- the deed is a fused pair's
-abbrev pub is_pair : Deed → Bool
-is_pair (writes payload) = false
-is_pair zeroes = false
-is_pair uncorrectable = false
-is_pair reads = false
-is_pair (compares payload) = false
-is_pair (pairs payload new) = true
-
 -- which results a part of the deed can have
 abbrev pub can_have : Deed → PartResult → Bool
 can_have deed Done = not (is_look deed)
@@ -46,12 +29,7 @@ can_have deed Full = not (is_look deed)
 
 -- one status for a command by itself, two for a pair
 abbrev pub for_deed : Deed → Statuses → Statuses → Statuses
-for_deed (writes payload) one two = one
-for_deed zeroes one two = one
-for_deed uncorrectable one two = one
-for_deed reads one two = one
-for_deed (compares payload) one two = one
-for_deed (pairs payload new) one two = two
+for_deed deed one two = if is_pair deed then two else one
 
 -- what is told of success
 abbrev pub success_of : Deed → Statuses
@@ -99,7 +77,7 @@ MayTell deed Full told = told ≡ stop_of deed
 
 -- It was a Read by itself, and succeeded: data is told just of this.
 abbrev pub GivesData : Deed → Statuses → Type 0
-GivesData deed told = (deed ≡ reads) × IsSuccess told
+GivesData deed told = IsTrue (is_read deed) × IsSuccess told
 
 -- The reply is one to a part of the deed.
 pub record IsReplyTo (deed : Deed) (r : Reply) : Type 0 where

@@ -1,6 +1,6 @@
 -- What a record of a job shows of its outcome: the parts, the statuses, and whether there is data. It
 -- doesn't show what each unit told, so that is judged elsewhere, the statuses of a failed comparison too.
-use Rattle.std.specs.Prelude.{◌≡◌, ◌⊎◌, ◌↔◌, ℕ, List, [], ◌∷◌, ◌++◌, map, Bool, true, false, Option, None, IsTrue, IsSome, MatchOption, IsSomeAnd}
+use Rattle.std.specs.Prelude.{◌≡◌, ◌≢◌, ◌⊎◌, ◌↔◌, ℕ, List, [], ◌∷◌, ◌++◌, map, Bool, true, false, Option, None, IsTrue, IsSome, MatchOption, IsSomeAnd}
 use Rattle.std.specs.List.{AllByRecursion}
 use Rattle.nvm_record.specs.declared.status.Statuses.{Statuses}
 use Rattle.nvm_record.specs.declared.status.Statuses.TheVariants.{One, Two}
@@ -53,9 +53,15 @@ pub record EndsAtLast (ns : Namespace) (op : Operation) (parts : List Part) (tol
   pub statuses : MayShow op.deed last.result told
   pub whole : IsSuccess told → left ≡ []
 
+-- Nothing was done of an operation that has a part, for want of memory before the first.
+pub record HasNoneDone (ns : Namespace) (op : Operation) (parts : List Part) (told : Statuses) : Type 0 where
+  pub some : units_met ns op ≢ []
+  pub none_done : parts ≡ []
+  pub statuses : told ≡ unstarted_of op.deed
+
 -- The parts and the statuses are those of an operation that isn't refused.
 abbrev pub HasEnding : Namespace → Operation → List Part → Statuses → Type 0
-HasEnding ns op parts told = ((parts ≡ []) × (told ≡ unstarted_of op.deed)) ⊎ EndsAtLast ns op parts told
+HasEnding ns op parts told = HasNoneDone ns op parts told ⊎ EndsAtLast ns op parts told
 
 pub record HasShapeOf (ns : Namespace) (op : Operation) (parts : List Part) (told : Statuses) (read : Option (List ℕ)) : Type 0 where
   pub ending : HasEnding ns op parts told

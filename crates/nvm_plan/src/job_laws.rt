@@ -1,9 +1,10 @@
 //! What holds of jobs and their order by the definitions alone. Each law is a call that does nothing and
 //! whose contract is the law.
 
-ghost use Rattle.std.specs.Prelude.{◌≡◌, ℕ, ◌+◌, ◌*◌, ◌≤◌, List, length, Some, slice_get};
+ghost use Rattle.std.specs.Prelude.{◌≡◌, ℕ, ◌+◌, ◌*◌, ◌≤◌, List, length};
 ghost use Rattle.std.specs.List.{All, sum_by};
 ghost use Rattle.nvm_record.specs.Entry.{IsWhole};
+ghost use Rattle.nvm_record.specs.Lists.{IsAt};
 ghost use Rattle.nvm_record.specs.declared.command.Command.{Command};
 ghost use Rattle.nvm_plan.specs.declared.job.Body.{Body};
 ghost use Rattle.nvm_plan.specs.declared.job.Job.{Job};
@@ -37,10 +38,10 @@ pub fn no_more_jobs_than_commands()
 pub fn each_job_stands_once()
     ensures somewhere { (hosts : List (List Command)) (jobs : List Job) (place : ℕ) (commands : List Command)
         (bodies : List Body) (number : ℕ) (body : Body)
-        → IsJobList hosts jobs → slice_get hosts place ≡ Some commands → IsPairing commands bodies
-        → slice_get bodies number ≡ Some body
+        → IsJobList hosts jobs → IsAt hosts place commands → IsPairing commands bodies
+        → IsAt bodies number body
         → (there : ℕ) × IsJobOf (place + 1) number jobs there
-        × (slice_get jobs there ≡ Some (record { host = place + 1; body = body })) }
+        × IsAt jobs there (record { host = place + 1; body = body }) }
     ensures once { (hosts : List (List Command)) (jobs : List Job) (host number here there : ℕ)
         → IsJobList hosts jobs → IsJobOf host number jobs here → IsJobOf host number jobs there → here ≡ there }
 {}

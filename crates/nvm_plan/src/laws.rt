@@ -1,24 +1,28 @@
 //! What holds of plans and outcomes by their definitions alone. Each law is a call that does nothing and
 //! whose contract is the law.
 
-ghost use Rattle.std.specs.Prelude.{◌≡◌, ◌≢◌, ◌↔◌, ◌*◌, ◌+◌, ◌<◌, ◌≤◌, ℕ, List, [], ◌∷◌, ◌++◌, map, Option, None, Some, unwrap_or, IsSome, IsTrue, false};
+ghost use Rattle.std.specs.Prelude.{◌≡◌, ◌≢◌, ◌↔◌, ◌*◌, ◌+◌, ◌<◌, ◌≤◌, ℕ, List, [], ◌∷◌, ◌++◌, Contains, map, Option, None, Some, unwrap_or, IsSome, false};
 ghost use Rattle.nvm_record.specs.declared.status.Statuses.{Statuses};
 ghost use Rattle.nvm_record.specs.Medium.{Medium};
+ghost use Rattle.nvm_record.specs.Deeds.{IsLook, IsAct, IsPair};
 ghost use Rattle.nvm_record.specs.Status.{IsSuccess};
 ghost use Rattle.nvm_record.specs.Step.{Deed, HasData, Operation, statuses_of};
 ghost use Rattle.nvm_geometry.specs.Namespace.{Namespace};
 ghost use Rattle.nvm_geometry.specs.Boundaries.{unit_number};
 ghost use Rattle.nvm_geometry.specs.Limits.{IsWithinPairLimit};
 ghost use Rattle.nvm_geometry.specs.Parts.{part_in, units_met};
+ghost use Rattle.nvm_geometry.specs.Place.{IsPlaceOf};
+ghost use Rattle.nvm_store.specs.Place.{place_at, IsCovered};
 ghost use Rattle.nvm_plan.specs.declared.job.Job.{Job};
 ghost use Rattle.nvm_plan.specs.declared.part.Part.{Part};
 ghost use Rattle.nvm_plan.specs.declared.part.PartResult.TheVariants.{Done, Failed, Looked, NoMemory, Full};
 ghost use Rattle.nvm_plan.specs.Checks.{exceeds_pair_limit, refusal_of};
 ghost use Rattle.nvm_plan.specs.Fits.{FitsNamespace};
+ghost use Rattle.nvm_plan.specs.JobPart.{job_units, part_here};
 ghost use Rattle.nvm_plan.specs.Operation.{job_operation_of};
 ghost use Rattle.nvm_plan.specs.Outcome.{answered, data_told, unstarted_of, AreDone, IsOutcomeOf, IsRefused, IsOutcome};
 ghost use Rattle.nvm_plan.specs.Ready.{IsReady};
-ghost use Rattle.nvm_plan.specs.Reply.{Reply, is_look, is_pair, success_of, reply_on, reply_of_stop, IsReplyTo, IsSuccessfulReply};
+ghost use Rattle.nvm_plan.specs.Reply.{Reply, success_of, reply_on, reply_of_stop, IsReplyTo, IsSuccessfulReply};
 ghost use Rattle.nvm_plan.specs.Shape.{HasShapeOf, HasShapeOfRefusal, HasOutcomeShape, IsForEach};
 
 use nvm_geometry::laws;
@@ -46,7 +50,7 @@ pub fn ready_jobs()
     ensures units { (ns : Namespace) (job : Job) (op : Operation) → refusal_of ns job ≡ None
         → job_operation_of job ≡ Some op → units_met ns op ≢ [] }
     ensures pair { (ns : Namespace) (job : Job) (op : Operation) → refusal_of ns job ≡ None
-        → job_operation_of job ≡ Some op → IsTrue (is_pair op.deed)
+        → job_operation_of job ≡ Some op → IsPair op.deed
         → units_met ns op ≡ unit_number ns op.first ∷ [] }
 {
     laws::sharing_is_one_number();
@@ -61,6 +65,25 @@ pub fn jobs_that_fit_have_their_data()
         → HasData (op.blocks * ns.block_size) op.deed }
 {
     ready_jobs();
+}
+
+/// A job has a part in just the units that its operation meets, and no part where a check refuses it. The part of
+/// a job that fits lies in its unit, has a block, and has just its data.
+pub fn parts_of_jobs()
+    ensures part { (ns : Namespace) (job : Job) (op : Operation) (unit : ℕ) → refusal_of ns job ≡ None
+        → job_operation_of job ≡ Some op → Contains (units_met ns op) unit
+        → part_here ns job unit ≡ Some (part_in ns op unit) }
+    ensures units { (ns : Namespace) (job : Job) (op : Operation) → refusal_of ns job ≡ None
+        → job_operation_of job ≡ Some op → job_units ns job ≡ units_met ns op }
+    ensures met { (ns : Namespace) (job : Job) (unit : ℕ) (part : Operation) → part_here ns job unit ≡ Some part
+        → Contains (job_units ns job) unit }
+    ensures covered { (ns : Namespace) (job : Job) (unit first blocks : ℕ) (part : Operation) → FitsNamespace ns job
+        → part_here ns job unit ≡ Some part → IsPlaceOf ns unit first blocks
+        → IsCovered (place_at first blocks ns.block_size) part }
+{
+    laws::parts_lie_in_their_units();
+    ready_jobs();
+    jobs_that_fit_have_their_data();
 }
 
 /// The outcome of a job that isn't refused is that of its operation. Nothing is done of a refused one.
@@ -87,17 +110,17 @@ pub fn shapes_by_plan()
 /// What the step tells of a part is a reply to it, and so is what is told where memory was refused or the
 /// unit was full.
 pub fn answers_of_the_step_are_replies()
-    ensures looked { (ns : Namespace) (op : Operation) (m : Medium) (part : Part) → IsTrue (is_look op.deed)
+    ensures looked { (ns : Namespace) (op : Operation) (m : Medium) (part : Part) → IsLook op.deed
         → part.result ≡ Looked → IsReplyTo op.deed (reply_on ns op m part) }
-    ensures done { (ns : Namespace) (op : Operation) (m : Medium) (part : Part) → is_look op.deed ≡ false
+    ensures done { (ns : Namespace) (op : Operation) (m : Medium) (part : Part) → IsAct op.deed
         → part.result ≡ Done → IsSuccess (statuses_of (part_in ns op part.unit) m)
         → IsReplyTo op.deed (reply_on ns op m part) }
-    ensures failed { (ns : Namespace) (op : Operation) (m : Medium) (part : Part) → IsTrue (is_pair op.deed)
+    ensures failed { (ns : Namespace) (op : Operation) (m : Medium) (part : Part) → IsPair op.deed
         → part.result ≡ Failed → ¬ (IsSuccess (statuses_of (part_in ns op part.unit) m))
         → IsReplyTo op.deed (reply_on ns op m part) }
     ensures no_memory { (deed : Deed) (part : Part) → part.result ≡ NoMemory
         → IsReplyTo deed (reply_of_stop deed part) }
-    ensures full { (deed : Deed) (part : Part) → is_look deed ≡ false → part.result ≡ Full
+    ensures full { (deed : Deed) (part : Part) → IsAct deed → part.result ≡ Full
         → IsReplyTo deed (reply_of_stop deed part) }
 {}
 

@@ -1,32 +1,32 @@
-//! Which jobs the hosts' commands are, in which order they are done, and which of them are refused
-//! before anything is done.
+//! Which jobs the hosts' commands are, in which order they are done, which of them are refused before
+//! anything is done, and what each of them asks of a unit.
 //!
 //! [`jobs`] pairs the hosts' commands and puts them in order, [`plan`] is the table of checks, and [`fits`]
-//! tests what a job must be before it. What a job does to the medium and what its outcome is stands in specs
-//! alone; [`laws`] and [`job_laws`] have what holds of these.
+//! tests what a job must be before it. [`part_of`] is a job's act or look in one unit, and [`Completions`]
+//! are what its host is told. What a job does to the medium and what its outcome is stands in specs alone;
+//! [`laws`] and [`job_laws`] have what holds of these.
 #![tactic(auto)]
 
-mod condition;
+mod checks;
+mod completions;
 mod decision;
+mod fit;
 mod job;
 pub mod job_laws;
+mod job_list;
 pub mod laws;
-mod order;
+mod lent_part;
 mod pairing;
 mod part;
 mod profile;
-mod table;
+#[cfg(test)]
+mod tests;
 
-pub use condition::fits;
+pub use checks::plan;
+pub use completions::Completions;
 pub use decision::Plan;
+pub use fit::{MOST_HOSTS, fits};
 pub use job::{Body, Job};
-pub use order::jobs;
+pub use job_list::jobs;
+pub use lent_part::{LentPart, part_of, parts_count, pieces_of_job};
 pub use part::{Part, PartResult};
-pub use table::plan;
-
-#[cfg(test)]
-mod fit_tests;
-#[cfg(test)]
-mod order_tests;
-#[cfg(test)]
-mod plan_tests;

@@ -5,9 +5,9 @@ use Rattle.nvm_record.specs.Medium.{zero_medium}
 use Rattle.nvm_geometry.specs.Namespace.{Namespace}
 use Rattle.nvm_plan.specs.declared.job.Job.{Job}
 use Rattle.nvm_engine.specs.Run.{Setup, no_changes}
-use Rattle.nvm_engine.specs.Setup as units
+use Rattle.nvm_engine.specs.Inside.Setup as units
 use Rattle.nvm_engine.specs.Shown.{setup_of_settings}
-use Rattle.nvm_engine.specs.Units.{IsLaidOut, AreAt, AnswersTo}
+use Rattle.nvm_engine.specs.Inside.Units.{IsLaidOut, AreAt, AnswersTo}
 use Rattle.nvm_engine.proofs.Serving.{IsServing, none_served, one_served, all_served}
 use Rattle.nvm_engine.proofs.engine.done_jobs.Goals as goal
 

@@ -1,9 +1,9 @@
 use Rattle.std.proofs.Common.{◌≡◌, length, drop}
 use Rattle.nvm_record.specs.Medium.{Medium}
 use Rattle.nvm_engine.specs.Run.{Counts}
-use Rattle.nvm_engine.specs.Setup as units
+use Rattle.nvm_engine.specs.Inside.Setup as units
 use Rattle.nvm_engine.specs.Shown.{setup_of_settings}
-use Rattle.nvm_engine.specs.Units.{IsLaidOut}
+use Rattle.nvm_engine.specs.Inside.Units.{IsLaidOut}
 use Rattle.nvm_engine.proofs.Serving.{IsServing}
 use Rattle.nvm_engine.proofs.engine.done_jobs.Given as goal
 

@@ -1,43 +1,57 @@
-use Rattle.std.proofs.Common.{◌≡◌, Some, subst}
-use Rattle.nvm_record.specs.Step.{Operation}
-use Rattle.nvm_plan.specs.Operation.{operation_of_body}
-use Rattle.nvm_plan.specs.declared.job.Body.{Body}
-use Rattle.nvm_plan.specs.Ready.{IsReadyBody}
-use Rattle.nvm_engine.specs.Setup.{setup_of_units}
-use Rattle.nvm_engine.specs.Units.{DoesPart}
-use Rattle.nvm_engine.proofs.JobOperations.{read_op, compare_op, write_op, zeroes_op, mark_op, pair_op}
+use Rattle.std.proofs.Common.{◌≡◌, get_or, sym, subst}
+use Rattle.nvm_geometry.specs.Parts.{part_in}
+use Rattle.nvm_store.specs.ActRef.{lent_operation_of}
+use Rattle.nvm_store.specs.Look.{look_operation_of}
+use Rattle.nvm_store.specs.Place.{place_at, IsCovered}
+use Rattle.nvm_plan.specs.LentPart.{part_operation_of}
+use Rattle.nvm_plan.specs.declared.lent_part.LentPart.{LentPart}
+use Rattle.nvm_engine.specs.Inside.Setup.{setup_of_units}
+use Rattle.nvm_engine.specs.Inside.AtomicUnit.{TellsOfRead}
+use Rattle.nvm_engine.proofs.PartLemmas.{lies_there, its_size}
+use Rattle.nvm_engine.proofs.ToldLemmas.{changes_part, looks_at_part, changes_tell, looks_tell}
 use Rattle.nvm_engine.proofs.units.Units.do_part.Goals as goal
 
-pub returns-in-Read-clause-part : goal.returns-in-Read-clause-part
-returns-in-Read-clause-part c = λ op stands.
-    let h = subst (λ (b : Body). operation_of_body b ≡ Some op) c.in-Single.is stands in
-    subst (λ (o : Operation). DoesPart (setup_of_units c.args.self.now) o c.args.self.now.units.items c.args.self.now.units.items c.args.piece.unit c.read.result) (read_op c.in-Single.command op c.in-Read.is h) c.read.ensures
+pub change-requires-clause-covered : goal.change-requires-clause-covered
+change-requires-clause-covered c =
+    lies_there (setup_of_units c.args.self.now) c.args.self.now.units.items c.args.unit c.index_mut-unit.result.now (lent_operation_of c.in-Act.act) c.requires.laid c.requires.known c.index_mut-unit.ensures.value
+    (λ first blocks place. subst (λ (p : LentPart). IsCovered (place_at first blocks c.args.self.now.geometry.block_size) (part_operation_of p)) c.in-Act.is (c.requires.covered first blocks place))
 
-pub returns-in-Compare-clause-part : goal.returns-in-Compare-clause-part
-returns-in-Compare-clause-part c = λ op stands.
-    let h = subst (λ (b : Body). operation_of_body b ≡ Some op) c.in-Single.is stands in
-    subst (λ (o : Operation). DoesPart (setup_of_units c.args.self.now) o c.args.self.now.units.items c.args.self.now.units.items c.args.piece.unit c.compare.result) (compare_op c.in-Single.command op c.in-Compare.is h) c.compare.ensures
+pub look-requires : goal.look-requires
+look-requires c =
+    lies_there (setup_of_units c.args.self.now) c.args.self.now.units.items c.args.unit c.index-unit.result.now (look_operation_of c.in-Look.look) c.requires.laid c.requires.known c.index-unit.ensures
+    (λ first blocks place. subst (λ (p : LentPart). IsCovered (place_at first blocks c.args.self.now.geometry.block_size) (part_operation_of p)) c.in-Look.is (c.requires.covered first blocks place))
 
-pub returns-in-Write-clause-part : goal.returns-in-Write-clause-part
-returns-in-Write-clause-part c = λ op stands.
-    let h = subst (λ (b : Body). operation_of_body b ≡ Some op) c.in-Single.is stands in
-    subst (λ (o : Operation). DoesPart (setup_of_units c.args.self.now) o c.args.self.now.units.items c.write.new.self.units.items c.args.piece.unit c.write.result) (write_op c.in-Single.command op c.in-Write.is h) c.write.ensures.part
+pub returns-in-Act-clause-part : goal.returns-in-Act-clause-part
+returns-in-Act-clause-part c = λ op is.
+    let at : c.index_mut-unit.result.now ≡ get_or c.args.self.now.units.items c.args.unit c.index_mut-unit.result.now = c.index_mut-unit.ensures.value in
+    let same = subst (λ (p : LentPart). part_operation_of p ≡ part_in c.args.self.now.geometry op c.args.unit) c.in-Act.is is in
+    changes_part (setup_of_units c.args.self.now) op (lent_operation_of c.in-Act.act) c.args.unit c.args.self.now.units.items c.index_mut-unit.result.now c.change.new.self
+    c.requires.laid c.requires.known at same (c.acts_and_looks.ensures.acts c.in-Act.act)
+    (λ lba. c.part_has_its_blocks.ensures.lbas c.args.self.now.geometry op c.args.unit lba)
+    (c.answers_of_the_step_are_replies.ensures.done c.args.self.now.geometry op)
+    (c.answers_of_the_step_are_replies.ensures.failed c.args.self.now.geometry op)
+    (c.answers_of_the_step_are_replies.ensures.no_memory op.deed)
+    (c.answers_of_the_step_are_replies.ensures.full op.deed)
+    (c.single_act_succeeds.ensures (lent_operation_of c.in-Act.act))
+    c.change.result c.change.ensures
 
-pub returns-in-WriteZeroes-clause-part : goal.returns-in-WriteZeroes-clause-part
-returns-in-WriteZeroes-clause-part c = λ op stands.
-    let h = subst (λ (b : Body). operation_of_body b ≡ Some op) c.in-Single.is stands in
-    subst (λ (o : Operation). DoesPart (setup_of_units c.args.self.now) o c.args.self.now.units.items c.zero.new.self.units.items c.args.piece.unit c.zero.result) (zeroes_op c.in-Single.command op c.in-WriteZeroes.is h) c.zero.ensures.part
+pub returns-in-Look-clause-part : goal.returns-in-Look-clause-part
+returns-in-Look-clause-part c = λ op is.
+    let at : c.index-unit.result.now ≡ get_or c.args.self.now.units.items c.args.unit c.index-unit.result.now = c.index-unit.ensures in
+    let same = subst (λ (p : LentPart). part_operation_of p ≡ part_in c.args.self.now.geometry op c.args.unit) c.in-Look.is is in
+    looks_at_part (setup_of_units c.args.self.now) op (look_operation_of c.in-Look.look) c.args.unit c.args.self.now.units.items c.index-unit.result.now
+    c.requires.laid c.requires.known at same (c.acts_and_looks.ensures.looks c.in-Look.look)
+    (c.answers_of_the_step_are_replies.ensures.looked c.args.self.now.geometry op)
+    (c.answers_of_the_step_are_replies.ensures.no_memory op.deed)
+    c.look.result c.look.ensures
 
-pub returns-in_default-clause-part : goal.returns-in_default-clause-part
-returns-in_default-clause-part c = λ op stands.
-    let h = subst (λ (b : Body). operation_of_body b ≡ Some op) c.in-Single.is stands in
-    let ready = subst (λ (b : Body). IsReadyBody c.args.self.now.geometry b) c.in-Single.is c.requires.ready in
-    subst (λ (o : Operation). DoesPart (setup_of_units c.args.self.now) o c.args.self.now.units.items c.mark.new.self.units.items c.args.piece.unit c.mark.result)
-    (mark_op c.in-Single.command.op c.in-Single.command op ready.op c.in_default.not-Write c.in_default.not-Read c.in_default.not-Compare c.in_default.not-WriteZeroes h) c.mark.ensures.part
+pub returns-in-Act-clause-read : goal.returns-in-Act-clause-read
+returns-in-Act-clause-read c =
+    subst (λ (p : LentPart). TellsOfRead c.args.self.now.geometry.block_size (part_operation_of p) c.change.result) (sym c.in-Act.is)
+    (changes_tell c.args.self.now.limit c.args.self.now.geometry.block_size c.index_mut-unit.result.now c.change.new.self (lent_operation_of c.in-Act.act) c.change.result c.change.ensures)
 
-pub returns-in-Pair-clause-part : goal.returns-in-Pair-clause-part
-returns-in-Pair-clause-part c = λ op stands.
-    let h = subst (λ (b : Body). operation_of_body b ≡ Some op) c.in-Pair.is stands in
-    let ready = subst (λ (b : Body). IsReadyBody c.args.self.now.geometry b) c.in-Pair.is c.requires.ready in
-    subst (λ (o : Operation). DoesPart (setup_of_units c.args.self.now) o c.args.self.now.units.items c.compare_and_write.new.self.units.items c.args.piece.unit c.compare_and_write.result)
-    (pair_op c.in-Pair.compare c.in-Pair.write op ready.compare ready.write h) c.compare_and_write.ensures.part
+pub returns-in-Look-clause-read : goal.returns-in-Look-clause-read
+returns-in-Look-clause-read c =
+    subst (λ (p : LentPart). TellsOfRead c.args.self.now.geometry.block_size (part_operation_of p) c.look.result) (sym c.in-Look.is)
+    (looks_tell c.index-unit.result.now c.args.self.now.geometry.block_size (look_operation_of c.in-Look.look) c.look.result
+    (its_size (setup_of_units c.args.self.now) c.args.self.now.units.items c.args.unit c.index-unit.result.now c.requires.laid c.requires.known c.index-unit.ensures) c.look.ensures)

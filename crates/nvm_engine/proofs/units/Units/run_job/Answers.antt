@@ -1,6 +1,6 @@
 use Rattle.std.proofs.Common.{[], None, refl}
 use Rattle.nvm_plan.specs.Operation.{job_operation_of}
-use Rattle.nvm_engine.specs.Setup.{setup_of_units}
+use Rattle.nvm_engine.specs.Inside.Setup.{setup_of_units}
 use Rattle.nvm_engine.proofs.RunLemmas.{refused_job, ready_job, the_operation}
 use Rattle.nvm_engine.proofs.units.Units.run_job.Goals as goal
 

@@ -1,7 +1,0 @@
-use Rattle.nvm_record.specs.Step.{uncorrectable}
-use Rattle.nvm_plan.specs.Operation.{on_range}
-use Rattle.nvm_engine.proofs.PartOperations.{mark_is}
-use Rattle.nvm_engine.proofs.units.Units.mark.Goals as goal
-
-pub returns-clause-part : goal.returns-clause-part
-returns-clause-part c = c.change_in.ensures.part (on_range c.args.command.now uncorrectable) (mark_is c.args.self.now.geometry c.args.command.now c.args.piece c.requires.piece.is)

@@ -1,0 +1,5 @@
+-- What is said of private functions alone.
+pub mod DoneJob
+pub mod AtomicUnit
+pub mod Units
+pub mod Setup

@@ -1,0 +1,29 @@
+use crate::tests::command;
+use crate::{Body, Job, fits};
+use nvm_geometry::Geometry;
+use nvm_record::{Fuse, Op};
+use std::test::Fail;
+
+#[test]
+fn jobs_that_fit_and_others(rt: HostRuntime) -> Result<(), Fail> {
+    let geometry = Geometry::new(32, 512, 7, 0, 7, 3).expect(&rt, "a geometry");
+    let cases = [
+        (1, Op::Write, 1024, true),
+        (64, Op::Read, 0, true),
+        (0, Op::Read, 0, false),
+        (65, Op::Read, 0, false),
+        (1, Op::Write, 1023, false),
+        (1, Op::Read, 1024, false),
+        (1, Op::Other(0x7f), 0, true),
+        (1, Op::Other(0x01), 0, false),
+    ];
+    for (host, op, bytes, fitting) in cases {
+        let single = command(rt.alloc(), 1, (op, Fuse::Normal), (1, 0, 1), bytes)?;
+        let job = Job {
+            host,
+            body: Body::Single(single),
+        };
+        assert_eq!(rt; fits(&geometry, &job), fitting, "{host} {op:?} {bytes}");
+    }
+    Ok(())
+}
