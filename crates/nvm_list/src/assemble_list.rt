@@ -3,7 +3,7 @@ ghost use Rattle.nvm_record.specs.Entry.{IsWhole};
 ghost use Rattle.nvm_record.specs.HostFile.{IsHostFile, most_commands};
 ghost use Rattle.nvm_record.specs.declared.command.Command.{Command as Listed};
 ghost use Rattle.nvm_list.specs.Words.{words, words_in};
-ghost use Rattle.nvm_list.specs.Expecting.{Gives};
+ghost use Rattle.nvm_list.specs.Inside.Answers.{Gives};
 ghost use Rattle.nvm_list.specs.Lists as spec;
 ghost use Rattle.nvm_list.specs.Files.{assembled};
 ghost use Rattle.nvm_list.specs.declared.fault.ListFault.TheVariants.{NoMemory};

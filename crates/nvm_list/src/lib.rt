@@ -5,7 +5,8 @@
 //! once and in any order: `first`, `second` or `reserved`, `cid=N` and `nsid=N`. `#` starts a comment, and
 //! a line without words is passed over.
 //!
-//! [`assemble`] makes a list into the bytes of a host file, and [`list_file`] lists those.
+//! [`assemble`] makes a list into the bytes of a host file, and [`list_file`] lists those. Lists that were written by
+//! hand, with their commands and faults, stand in `examples/programs.py`, which holds the built `nvq` to them.
 #![tactic(auto)]
 
 mod assemble_list;
@@ -27,6 +28,3 @@ pub use expected::Expected;
 pub use fault::ListFault;
 pub use file_bytes::host_file;
 pub use listing::{list, list_file};
-
-#[cfg(test)]
-mod tests;

@@ -8,7 +8,7 @@ ghost use Rattle.nvm_record.specs.declared.host_fault.HostFault.TheVariants as o
 ghost use Rattle.nvm_list.specs.Lists as lists;
 ghost use Rattle.nvm_list.specs.Lists.{commands};
 ghost use Rattle.nvm_list.specs.Files.{file_of, assembled};
-ghost use Rattle.nvm_list.specs.Ranges.{HasValuesInRange};
+ghost use Rattle.nvm_list.specs.Inside.Ranges.{HasValuesInRange};
 ghost use Rattle.nvm_list.specs.Listing as spec;
 ghost use Rattle.nvm_list.specs.Listing.{listing, behind_spaces};
 
