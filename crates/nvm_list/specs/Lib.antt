@@ -7,6 +7,5 @@ pub mod Options
 pub mod Lines
 pub mod Lists
 pub mod Listing
-pub mod Files
 pub mod FirstFault
 pub mod Inside
