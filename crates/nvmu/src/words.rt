@@ -9,7 +9,7 @@ use nvm_front::{WordFault, missing};
 use std::alloc::{AllocError, Global};
 
 /// What the words of the command line ask for.
-#[derive(Debug, Drop)]
+#[derive(Drop)]
 pub enum Asked {
     /// `nvmu run`: do the commands of the host files, host 1 first.
     Run {

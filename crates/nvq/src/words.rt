@@ -5,7 +5,7 @@ use nvm_record::BlockSize;
 use std::alloc::Global;
 
 /// What the words of the command line ask for.
-#[derive(Debug, Drop)]
+#[derive(Drop)]
 pub enum Asked {
     /// `nvq assemble`: make a list into a host file.
     Assemble {
