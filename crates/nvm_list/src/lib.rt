@@ -9,7 +9,6 @@
 //! hand, with their commands and faults, stand in `examples/programs.py`, which holds the built `nvq` to them.
 #![tactic(auto)]
 
-mod assemble_list;
 mod command_line;
 mod data_word;
 mod expected;
@@ -17,12 +16,13 @@ mod fault;
 pub mod laws;
 mod line_cut;
 mod listing;
+mod lists;
 mod name_word;
 mod number_word;
 mod option_words;
 mod run;
 
-pub use assemble_list::{assemble, read_list};
 pub use expected::Expected;
 pub use fault::ListFault;
 pub use listing::{list, list_file};
+pub use lists::{assemble, read_list};
