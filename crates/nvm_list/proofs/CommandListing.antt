@@ -19,7 +19,7 @@ use Rattle.nvm_list.specs.Names.{unnamed, of_opcode, operation}
 use Rattle.nvm_list.specs.Data.{payload}
 use Rattle.nvm_list.specs.Options.{Options, options}
 use Rattle.nvm_list.specs.Lines.{lba, nlb_of, nlb, carried, command_of, command}
-use Rattle.nvm_list.specs.Ranges.{HasValuesInRange}
+use Rattle.nvm_list.specs.Inside.Ranges.{HasValuesInRange}
 use Rattle.nvm_list.specs.Listing.{range_words, data_words, option_words}
 use Rattle.nvm_list.specs.declared.expected.Expected.{Expected}
 use Rattle.nvm_list.specs.declared.expected.Expected.TheVariants as expecting

@@ -4,7 +4,6 @@ pub mod RunReading
 pub mod OptionReading
 pub mod ListReading
 pub mod ReadWhole
-pub mod WholeFiles
 pub mod LineListing
 pub mod PlainText
 pub mod NumberListing

@@ -12,7 +12,7 @@ use Rattle.nvm_text.specs.Lines.{name_of}
 use Rattle.nvm_list.specs.Words.{text_lines, words}
 use Rattle.nvm_list.specs.Lines.{command}
 use Rattle.nvm_list.specs.Lists.{at_line, on_line, in_front, followed_by, commands_from, commands}
-use Rattle.nvm_list.specs.Ranges.{HasValuesInRange}
+use Rattle.nvm_list.specs.Inside.Ranges.{HasValuesInRange}
 use Rattle.nvm_list.specs.Listing.{behind_spaces, listing_from, listing}
 use Rattle.nvm_list.specs.declared.expected.Expected.TheVariants.{NoMoreCommands}
 use Rattle.nvm_list.specs.declared.fault.ListFault.{ListFault}

@@ -7,7 +7,5 @@ pub mod Options
 pub mod Lines
 pub mod Lists
 pub mod Listing
-pub mod Files
-pub mod Rest
-pub mod Ranges
 pub mod FirstFault
+pub mod Inside

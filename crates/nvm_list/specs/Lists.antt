@@ -1,5 +1,6 @@
 -- A list: a command a line, where lines without words are passed over.
 use Rattle.std.specs.Prelude.{ℕ, ◌+◌, nat_le, if◌then◌else◌, List, [], ◌∷◌, Option, Some, None, Result, Ok, Err}
+use Rattle.nvm_record.specs.HostFile.{file_of}
 use Rattle.nvm_record.specs.declared.command.Command.{Command}
 use Rattle.nvm_list.specs.Words.{text_lines, words}
 use Rattle.nvm_list.specs.Lines.{command}
@@ -41,3 +42,11 @@ commands_from size line place (text ∷ texts) =
 -- the commands of a list
 abbrev pub commands : ℕ → List ℕ → Result (List Command) ListFault
 commands size text = commands_from size 1 1 (text_lines text)
+
+abbrev pub file_from : Result (List Command) ListFault → Result (List ℕ) ListFault
+file_from (Ok cs) = Ok (file_of cs)
+file_from (Err fault) = Err fault
+
+-- the host file of a list, every unnamed bit being 0
+abbrev pub assembled : ℕ → List ℕ → Result (List ℕ) ListFault
+assembled size text = file_from (commands size text)

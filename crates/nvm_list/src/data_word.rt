@@ -4,7 +4,7 @@ ghost use Rattle.nvm_text.specs.Runs.{written_out};
 ghost use Rattle.nvm_list.specs.Words.{is};
 ghost use Rattle.nvm_list.specs.Data as spec;
 ghost use Rattle.nvm_list.specs.Data.{read_runs};
-ghost use Rattle.nvm_list.specs.Expecting.{Gives};
+ghost use Rattle.nvm_list.specs.Inside.Answers.{Gives};
 
 use crate::expected::Expected;
 use crate::fault::LineFault;

@@ -18,7 +18,7 @@ pub enum ListFault {
 }
 
 /// Why a line gives no command.
-#[derive(Clone, Copy, Debug, PartialEq, Eq)]
+#[derive(Clone, Copy)]
 pub enum LineFault {
     Expected(Expected),
     NoMemory,

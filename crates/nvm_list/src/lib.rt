@@ -5,28 +5,24 @@
 //! once and in any order: `first`, `second` or `reserved`, `cid=N` and `nsid=N`. `#` starts a comment, and
 //! a line without words is passed over.
 //!
-//! [`assemble`] makes a list into the bytes of a host file, and [`list_file`] lists those.
+//! [`assemble`] makes a list into the bytes of a host file, and [`list_file`] lists those. Lists that were written by
+//! hand, with their commands and faults, stand in `examples/programs.py`, which holds the built `nvq` to them.
 #![tactic(auto)]
 
-mod assemble_list;
 mod command_line;
 mod data_word;
 mod expected;
 mod fault;
-mod file_bytes;
 pub mod laws;
 mod line_cut;
 mod listing;
+mod lists;
 mod name_word;
 mod number_word;
 mod option_words;
 mod run;
 
-pub use assemble_list::{assemble, read_list};
 pub use expected::Expected;
 pub use fault::ListFault;
-pub use file_bytes::host_file;
 pub use listing::{list, list_file};
-
-#[cfg(test)]
-mod tests;
+pub use lists::{assemble, read_list};

@@ -7,8 +7,9 @@ ghost use Rattle.nvm_record.specs.declared.host_fault.HostFault.{HostFault as Fa
 ghost use Rattle.nvm_record.specs.declared.host_fault.HostFault.TheVariants as of_file;
 ghost use Rattle.nvm_list.specs.Lists as lists;
 ghost use Rattle.nvm_list.specs.Lists.{commands};
-ghost use Rattle.nvm_list.specs.Files.{file_of, assembled};
-ghost use Rattle.nvm_list.specs.Ranges.{HasValuesInRange};
+ghost use Rattle.nvm_list.specs.Lists.{assembled};
+ghost use Rattle.nvm_record.specs.HostFile.{file_of};
+ghost use Rattle.nvm_list.specs.Inside.Ranges.{HasValuesInRange};
 ghost use Rattle.nvm_list.specs.Listing as spec;
 ghost use Rattle.nvm_list.specs.Listing.{listing, behind_spaces};
 

@@ -10,7 +10,7 @@ use nvm_record::Fuse;
 use std::marker::Model;
 
 /// The options of a command, each where it is given.
-#[derive(Clone, Copy, Debug, PartialEq, Eq)]
+#[derive(Clone, Copy)]
 pub struct Options {
     pub fuse: Option<Fuse>,
     pub cid: Option<u16>,

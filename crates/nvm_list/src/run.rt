@@ -6,7 +6,7 @@ use crate::number_word::{hex_byte, number};
 use std::marker::Model;
 
 /// So many times the same byte.
-#[derive(Clone, Copy, Debug, PartialEq, Eq)]
+#[derive(Clone, Copy)]
 pub struct Run {
     count: u64,
     byte: u8,

@@ -3,7 +3,6 @@ use Rattle.std.specs.Prelude.{ℕ, ◌+◌, ◌/◌, ◌%◌, nat_lt, if◌then�
 use Rattle.nvm_record.specs.declared.op.Op.{Op}
 use Rattle.nvm_record.specs.declared.op.Op.TheVariants.{Write, Read, WriteUncorrectable, Compare, WriteZeroes, Other}
 use Rattle.nvm_record.specs.declared.status.Status.{Status}
-use Rattle.nvm_record.specs.declared.command.Command.{Command}
 use Rattle.nvm_record.specs.declared.completion.Completion.{Completion}
 use Rattle.nvm_text.specs.Runs.{Run, runs}
 
@@ -47,17 +46,14 @@ abbrev pub payload_text : Option (List ℕ) → List ℕ
 payload_text None = []
 payload_text (Some bytes) = codes " " ++ runs_text (runs bytes)
 
+-- the host's number and the command identifier
+abbrev pub identifiers : Completion → List ℕ
+identifiers completion = decimal completion.host ++ (codes " " ++ (decimal completion.cid ++ codes " "))
+
 -- Host, command identifier, name, status and data of a command, and the end of the line.
 abbrev pub line : Op → Completion → List ℕ
 line op completion =
-    decimal completion.host ++ (codes " "
-    ++ (decimal completion.cid ++ (codes " "
+    identifiers completion
     ++ (name_of op ++ (codes " "
     ++ (status_text completion.status
-    ++ (payload_text completion.payload ++ codes "\n")))))))
-
--- a line for each command and its completion
-abbrev pub printed_lines : List Command → List Completion → List ℕ
-printed_lines [] completions = []
-printed_lines (command ∷ commands) [] = []
-printed_lines (command ∷ commands) (completion ∷ completions) = line command.op completion ++ printed_lines commands completions
+    ++ (payload_text completion.payload ++ codes "\n"))))

@@ -3,6 +3,8 @@
 //!
 //! Each function appends to a text. Where memory is refused, what the text held still stands at its
 //! front, and nothing is promised of what may follow it.
+//!
+//! Texts that were written by hand stand in `examples/programs.py`, which holds the built programs to them.
 #![tactic(auto)]
 
 pub mod laws;
@@ -10,9 +12,6 @@ mod line;
 mod number;
 mod run;
 
-pub use line::{push_line, push_lines, push_name, push_status};
+pub use line::{push_line, push_name, push_status};
 pub use number::push_decimal;
 pub use run::push_runs;
-
-#[cfg(test)]
-mod tests;

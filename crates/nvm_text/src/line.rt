@@ -1,28 +1,11 @@
-ghost use Rattle.std.specs.Prelude.{◌≡◌, ◌++◌, OnOk, OnErr, length, string_bytes};
+ghost use Rattle.std.specs.Prelude.{◌≡◌, ◌++◌, OnOk, OnErr, string_bytes};
 ghost use Rattle.nvm_text.specs.Kept.{KeepsText};
 ghost use Rattle.nvm_text.specs.Lines as spec;
-ghost use Rattle.nvm_text.specs.Lines.{name_of, status_text, payload_text};
+ghost use Rattle.nvm_text.specs.Lines.{identifiers, name_of, status_text, payload_text};
 
 use crate::number::{push_decimal, push_hex2};
 use crate::run::push_runs;
-use nvm_record::{Command, Completion, NoMemory, Op, Payload, Status};
-
-/// Appends the lines of commands, each with the completion at its place.
-pub fn push_lines(
-    text: &mut String,
-    commands: &[Command],
-    completions: &[Completion],
-) -> Result<(), NoMemory>
-    requires { length commands.now ≡ length completions.now }
-    ensures ok { OnOk result
-        (string_bytes text.new ≡ string_bytes text.old ++ spec.printed_lines commands.now completions.now) }
-    ensures err { OnErr result (KeepsText (string_bytes text.old) (string_bytes text.new)) }
-{
-    for (command, completion) in commands.iter().zip(completions) {
-        push_line(text, command.op, completion)?;
-    }
-    Ok(())
-}
+use nvm_record::{Completion, NoMemory, Op, Payload, Status};
 
 /// Appends the line of a command that asked for `op`: `<host> <cid> <name> <type>/<code>`, and where
 /// the completion has data, a space and the data as runs.
@@ -31,15 +14,25 @@ pub fn push_line(text: &mut String, op: Op, completion: &Completion) -> Result<(
         (string_bytes text.new ≡ string_bytes text.old ++ spec.line op completion.now) }
     ensures err { OnErr result (KeepsText (string_bytes text.old) (string_bytes text.new)) }
 {
-    push_decimal(text, u64::from(completion.host))?;
-    text.push_str(" ")?;
-    push_decimal(text, u64::from(completion.cid))?;
-    text.push_str(" ")?;
+    push_identifiers(text, completion)?;
     push_name(text, op)?;
     text.push_str(" ")?;
     push_status(text, completion.status)?;
     push_payload(text, &completion.payload)?;
     text.push_str("\n")?;
+    Ok(())
+}
+
+/// Appends the host's number and the command identifier, with a space behind each.
+fn push_identifiers(text: &mut String, completion: &Completion) -> Result<(), NoMemory>
+    ensures ok { OnOk result
+        (string_bytes text.new ≡ string_bytes text.old ++ identifiers completion.now) }
+    ensures err { OnErr result (KeepsText (string_bytes text.old) (string_bytes text.new)) }
+{
+    push_decimal(text, u64::from(completion.host))?;
+    text.push_str(" ")?;
+    push_decimal(text, u64::from(completion.cid))?;
+    text.push_str(" ")?;
     Ok(())
 }
 

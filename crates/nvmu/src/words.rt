@@ -3,13 +3,13 @@ ghost use Rattle.nvm_engine.specs.Settings.{AreInRange};
 ghost use Rattle.nvmu.specs.Words.{IsAsked};
 
 use clap::builder::ValueParser;
-use clap::error::ErrorKind;
 use clap::{Arg, ArgAction, ArgMatches, Command, Error, value_parser};
 use nvm_engine::Settings;
-use std::alloc::{AllocError, AllocFailed, Global};
+use nvm_front::{WordFault, missing};
+use std::alloc::{AllocError, Global};
 
 /// What the words of the command line ask for.
-#[derive(Debug, Drop)]
+#[derive(Drop)]
 pub enum Asked {
     /// `nvmu run`: do the commands of the host files, host 1 first.
     Run {
@@ -21,35 +21,49 @@ pub enum Asked {
     },
 }
 
-/// Why the words of the command line ask for nothing that can be done.
-#[derive(Debug, Drop)]
-pub enum WordFault {
-    /// What `clap` says of them. A call for help is one, too.
-    Words(Error),
-    /// Memory was asked for and refused.
-    NoMemory,
+/// Which numbers an option takes.
+#[derive(Clone, Copy)]
+enum Number {
+    Of64Bits,
+    Of32Bits,
+    Of16Bits,
+    /// 1 to 64.
+    OfWorkers,
+    /// 1 to 65,536.
+    OfChanges,
 }
 
-impl From<Error> for WordFault {
-    fn from(error: Error) -> WordFault {
-        match error.kind() {
-            ErrorKind::OutOfMemory => WordFault::NoMemory,
-            _ => WordFault::Words(error),
-        }
-    }
-}
-
-impl From<AllocError> for WordFault {
-    fn from(_e: AllocError) -> WordFault {
-        WordFault::NoMemory
-    }
-}
-
-impl<T: Drop> From<AllocFailed<T>> for WordFault {
-    fn from(_e: AllocFailed<T>) -> WordFault {
-        WordFault::NoMemory
-    }
-}
+/// The options that are numbers: name, numbers and help of each.
+const NUMBERS: [(&str, Number, &str); 8] = [
+    (
+        "nsze",
+        Number::Of64Bits,
+        "Size of the namespace in logical blocks",
+    ),
+    (
+        "block",
+        Number::Of32Bits,
+        "Size of a logical block in bytes: 512 or 4096",
+    ),
+    (
+        "nabsn",
+        Number::Of16Bits,
+        "Atomic boundary size, zeroes-based: 0 is none",
+    ),
+    ("nabo", Number::Of16Bits, "Atomic boundary offset"),
+    ("nawun", Number::Of16Bits, "Atomic write unit, zeroes-based"),
+    (
+        "nacwu",
+        Number::Of16Bits,
+        "Atomic compare and write unit, zeroes-based",
+    ),
+    ("workers", Number::OfWorkers, "Number of workers, 1 to 64"),
+    (
+        "limit",
+        Number::OfChanges,
+        "Most changes of a unit, 1 to 65536",
+    ),
+];
 
 /// Reads the words after the program's name.
 ///
@@ -73,14 +87,6 @@ fn asked_of(alloc: Global, matches: &ArgMatches<'_>) -> Result<Option<Asked>, Wo
     match matches.subcommand() {
         Some(("run", run)) => run_asked(alloc, run),
         _ => Ok(None),
-    }
-}
-
-/// The fault of words that `clap` took although something is missing in them.
-fn missing(command: &mut Command<'_>) -> WordFault {
-    match command.error(ErrorKind::MissingRequiredArgument, "a value is missing") {
-        Ok(error) => WordFault::from(error),
-        Err(_) => WordFault::NoMemory,
     }
 }
 
@@ -154,78 +160,18 @@ fn program<'a>(alloc: Global) -> Result<Command<'a>, Error> {
 
 /// `nvmu run`.
 fn run_command<'a>(alloc: Global) -> Result<Command<'a>, Error> {
-    let command = Command::new(alloc, "run").about(
+    let mut command = Command::new(alloc, "run").about(
         "Does the commands of the hosts' files and prints a line for each",
     );
-    let command = with_size(alloc, command)?;
-    let command = with_boundaries(alloc, command)?;
-    let command = with_units(alloc, command)?;
-    let command = with_limits(alloc, command)?;
-    with_files(alloc, command)
-}
-
-/// The options that say how large the namespace is.
-fn with_size<'a>(alloc: Global, command: Command<'a>) -> Result<Command<'a>, Error> {
-    let nsze = number(
+    for (name, number, help) in &NUMBERS {
+        command = command.arg(number_option(alloc, name, *number, help))?;
+    }
+    let out = option(
         alloc,
-        "nsze",
-        value_parser!(u64),
-        "Size of the namespace in logical blocks",
+        "out",
+        "REC",
+        "Where the record goes: not written yet",
     );
-    let block = number(
-        alloc,
-        "block",
-        value_parser!(u32),
-        "Size of a logical block in bytes: 512 or 4096",
-    );
-    Ok(command.arg(nsze)?.arg(block)?)
-}
-
-/// The options that say where its boundaries are.
-fn with_boundaries<'a>(alloc: Global, command: Command<'a>) -> Result<Command<'a>, Error> {
-    let nabsn = number(
-        alloc,
-        "nabsn",
-        value_parser!(u16),
-        "Atomic boundary size, zeroes-based: 0 is none",
-    );
-    let nabo = number(alloc, "nabo", value_parser!(u16), "Atomic boundary offset");
-    Ok(command.arg(nabsn)?.arg(nabo)?)
-}
-
-/// The options that say what it keeps atomic.
-fn with_units<'a>(alloc: Global, command: Command<'a>) -> Result<Command<'a>, Error> {
-    let nawun = number(
-        alloc,
-        "nawun",
-        value_parser!(u16),
-        "Atomic write unit, zeroes-based",
-    );
-    let nacwu = number(
-        alloc,
-        "nacwu",
-        value_parser!(u16),
-        "Atomic compare and write unit, zeroes-based",
-    );
-    Ok(command.arg(nawun)?.arg(nacwu)?)
-}
-
-/// The options that say how the run goes.
-fn with_limits<'a>(alloc: Global, command: Command<'a>) -> Result<Command<'a>, Error> {
-    let workers = value_parser!(u16).range(1..=64);
-    let workers = number(alloc, "workers", workers, "Number of workers, 1 to 64");
-    let limit = value_parser!(u32).range(1..=65_536);
-    let limit = number(alloc, "limit", limit, "Most changes of a unit, 1 to 65536");
-    Ok(command.arg(workers)?.arg(limit)?)
-}
-
-/// The files.
-fn with_files<'a>(alloc: Global, command: Command<'a>) -> Result<Command<'a>, Error> {
-    let out = Arg::new(alloc, "out")
-        .long("out")
-        .required(true)
-        .value_name("REC")
-        .help("Where the record goes: not written yet");
     let file = Arg::new(alloc, "file")
         .required(true)
         .num_args(1..)
@@ -235,12 +181,23 @@ fn with_files<'a>(alloc: Global, command: Command<'a>) -> Result<Command<'a>, Er
     Ok(command.arg(out)?.arg(file)?)
 }
 
-/// A required option that takes a number.
-fn number<'a>(alloc: Global, name: &'a str, parser: ValueParser<'a>, help: &'a str) -> Arg<'a> {
+/// A required option.
+fn option<'a>(alloc: Global, name: &'a str, value: &'a str, help: &'a str) -> Arg<'a> {
     Arg::new(alloc, name)
         .long(name)
         .required(true)
-        .value_name("N")
-        .value_parser(parser)
+        .value_name(value)
         .help(help)
+}
+
+/// A required option that takes a number.
+fn number_option<'a>(alloc: Global, name: &'a str, number: Number, help: &'a str) -> Arg<'a> {
+    let parser: ValueParser<'a> = match number {
+        Number::Of64Bits => value_parser!(u64),
+        Number::Of32Bits => value_parser!(u32),
+        Number::Of16Bits => value_parser!(u16),
+        Number::OfWorkers => ValueParser::from(value_parser!(u16).range(1..=64)),
+        Number::OfChanges => ValueParser::from(value_parser!(u32).range(1..=65_536)),
+    };
+    option(alloc, name, "N", help).value_parser(parser)
 }

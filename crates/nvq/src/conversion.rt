@@ -1,7 +1,7 @@
 ghost use Rattle.std.specs.Prelude.{◌≡◌, List, Ok, IfOk, IfErr, string_bytes};
 ghost use Rattle.nvm_record.specs.HostFile.{IsHostFile};
 ghost use Rattle.nvm_record.specs.declared.command.Command.{Command};
-ghost use Rattle.nvm_list.specs.Files.{assembled};
+ghost use Rattle.nvm_list.specs.Lists.{assembled};
 ghost use Rattle.nvm_list.specs.Listing.{listing};
 ghost use Rattle.nvq.specs.Fault.{IsFaultOfList, IsFaultOfFile};
 

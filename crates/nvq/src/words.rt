@@ -1,11 +1,11 @@
 use clap::builder::ValueParser;
-use clap::error::ErrorKind;
 use clap::{Arg, ArgMatches, Command, Error};
+use nvm_front::{WordFault, missing};
 use nvm_record::BlockSize;
-use std::alloc::{AllocError, AllocFailed, Global};
+use std::alloc::Global;
 
 /// What the words of the command line ask for.
-#[derive(Debug, Drop)]
+#[derive(Drop)]
 pub enum Asked {
     /// `nvq assemble`: make a list into a host file.
     Assemble {
@@ -18,36 +18,6 @@ pub enum Asked {
         size: BlockSize,
         file: String,
     },
-}
-
-/// Why the words of the command line ask for nothing that can be done.
-#[derive(Debug, Drop)]
-pub enum WordFault {
-    /// What `clap` says of them. A call for help is one, too.
-    Words(Error),
-    /// Memory was asked for and refused.
-    NoMemory,
-}
-
-impl From<Error> for WordFault {
-    fn from(error: Error) -> WordFault {
-        match error.kind() {
-            ErrorKind::OutOfMemory => WordFault::NoMemory,
-            _ => WordFault::Words(error),
-        }
-    }
-}
-
-impl From<AllocError> for WordFault {
-    fn from(_e: AllocError) -> WordFault {
-        WordFault::NoMemory
-    }
-}
-
-impl<T: Drop> From<AllocFailed<T>> for WordFault {
-    fn from(_e: AllocFailed<T>) -> WordFault {
-        WordFault::NoMemory
-    }
 }
 
 /// The sizes that a block can have, as words.
@@ -69,14 +39,6 @@ fn asked_of(alloc: Global, matches: &ArgMatches<'_>) -> Result<Option<Asked>, Wo
         Some(("assemble", words)) => assemble_asked(alloc, words),
         Some(("list", words)) => list_asked(alloc, words),
         _ => Ok(None),
-    }
-}
-
-/// The fault of words that `clap` took although something is missing in them.
-fn missing(command: &mut Command<'_>) -> WordFault {
-    match command.error(ErrorKind::MissingRequiredArgument, "a value is missing") {
-        Ok(error) => WordFault::from(error),
-        Err(_) => WordFault::NoMemory,
     }
 }
 

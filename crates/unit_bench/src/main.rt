@@ -6,8 +6,6 @@ mod fault;
 mod measuring;
 mod mutex_writer;
 mod share;
-#[cfg(test)]
-mod tests;
 mod unit_writer;
 mod words;
 mod writer;

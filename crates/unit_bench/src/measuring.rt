@@ -1,5 +1,5 @@
 ghost use Rattle.std.specs.Prelude.{◌≡◌, IfOk, length};
-ghost use Rattle.unit_bench.specs.Words.{IsAllowed};
+ghost use Rattle.unit_bench.specs.Inside.Words.{IsAllowed};
 
 use crate::fault::Fault;
 use crate::share::{Share, shares_of};
@@ -16,7 +16,7 @@ use std::time::{CpuClock, Duration, Instant};
 const STRIDE: u64 = 40_503;
 
 /// What the changes were, and what they took.
-#[derive(Clone, Copy, Debug)]
+#[derive(Clone, Copy)]
 pub struct Measured {
     /// The number of changes that the units have.
     pub changes: u64,
@@ -85,8 +85,11 @@ fn writers_of<W: Writer>(alloc: Global, asked: &Asked) -> Result<(Vec<W>, Vec<Ve
 
 /// Gives each list one of the writers, as far as they go.
 fn hand_out<W: Drop>(all: &mut [Vec<W>], writers: Vec<W>) -> Result<(), AllocError> {
-    for (own, writer) in all.iter_mut().zip(writers) {
-        own.push(writer)?;
+    let mut left = writers;
+    for own in all {
+        if let Some(writer) = left.pop() {
+            own.push(writer)?;
+        }
     }
     Ok(())
 }

@@ -1,7 +1,3 @@
-ghost use Rattle.std.specs.Prelude.{◌≡◌, [], ◌∷◌, ◌++◌, IfOk, OnOk, OnErr, length};
-ghost use Rattle.std.specs.List.{HoldsAt};
-ghost use Rattle.nvm_store.specs.Operation.{write_operation};
-
 use crate::fault::Fault;
 use crate::writer::{BLOCK, Writer};
 use nvm_store::{ActRef, Entry, History};
@@ -17,10 +13,7 @@ struct LockedUnit {
 
 impl LockedUnit {
     /// So many blocks of zero bytes.
-    fn zeroed(alloc: Global, blocks: u32) -> Result<LockedUnit, Fault>
-        ensures blocks { IfOk result (λ p. length p.blocks.items ≡ blocks) }
-        ensures history { IfOk result (λ p. p.history.items ≡ []) }
-    {
+    fn zeroed(alloc: Global, blocks: u32) -> Result<LockedUnit, Fault> {
         let mut zeroed = Vec::with_capacity(alloc, blocks as usize)?;
         for _ in 0..blocks {
             zeroed.push(vec![in alloc; 0; BLOCK]?)?;
@@ -39,13 +32,7 @@ impl LockedUnit {
         job: u32,
         lba: u64,
         payload: &[u8],
-    ) -> Result<(), Fault>
-        ensures history { OnOk result (self.new.history.items
-            ≡ self.old.history.items ++ record { pass = pass; job = job; operation = write_operation lba 1 payload.now } ∷ []) }
-        ensures block { OnOk result (HoldsAt (λ b. b.items ≡ payload.now) self.new.blocks.items lba) }
-        ensures same_history { OnErr result (self.new.history.items ≡ self.old.history.items) }
-        ensures same_blocks { OnErr result (self.new.blocks.items ≡ self.old.blocks.items) }
-    {
+    ) -> Result<(), Fault> {
         let Some(block) = self.blocks.get_mut(lba as usize) else {
             return Err(Fault::Refused);
         };

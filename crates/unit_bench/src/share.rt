@@ -1,5 +1,5 @@
 ghost use Rattle.std.specs.Prelude.{◌≡◌, ◌<◌, sum, map, length, IfOk};
-ghost use Rattle.unit_bench.specs.Words.{IsAllowed};
+ghost use Rattle.unit_bench.specs.Inside.Words.{IsAllowed};
 
 use crate::words::Asked;
 use crate::writer::Writer;
@@ -38,8 +38,8 @@ impl<W: Writer> Share<W> {
     }
 }
 
-/// The shares of all threads, with the writers of each. All together have the changes that are asked for, and
-/// no two have numbers of changes that differ by more than one.
+/// The shares of all threads, with the writers of each. All together have the changes that are asked for: each thread
+/// takes its part of those that are left, rounded down.
 pub fn shares_of<W: Writer>(
     alloc: Global,
     asked: &Asked,

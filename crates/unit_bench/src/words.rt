@@ -1,10 +1,10 @@
 ghost use Rattle.std.specs.Prelude.{◌≤◌, IfOk};
-ghost use Rattle.unit_bench.specs.Words.{IsAllowed};
+ghost use Rattle.unit_bench.specs.Inside.Words.{IsAllowed};
 
 use crate::fault::Fault;
 
 /// What shares the blocks and their history among threads.
-#[derive(Clone, Copy, Debug, PartialEq, Eq)]
+#[derive(Clone, Copy)]
 pub enum Target {
     /// A shared unit.
     Unit,
@@ -13,7 +13,7 @@ pub enum Target {
 }
 
 /// What is measured.
-#[derive(Clone, Copy, Debug, PartialEq, Eq)]
+#[derive(Clone, Copy)]
 pub struct Asked {
     pub target: Target,
     /// The number of units.

@@ -3,18 +3,17 @@ ghost use Rattle.nvm_record.specs.Entry.{IsWhole};
 ghost use Rattle.nvm_record.specs.HostFile.{IsHostFile, most_commands};
 ghost use Rattle.nvm_record.specs.declared.command.Command.{Command as Listed};
 ghost use Rattle.nvm_list.specs.Words.{words, words_in};
-ghost use Rattle.nvm_list.specs.Expecting.{Gives};
+ghost use Rattle.nvm_list.specs.Inside.Answers.{Gives};
 ghost use Rattle.nvm_list.specs.Lists as spec;
-ghost use Rattle.nvm_list.specs.Files.{assembled};
+ghost use Rattle.nvm_list.specs.Lists.{assembled};
 ghost use Rattle.nvm_list.specs.declared.fault.ListFault.TheVariants.{NoMemory};
 
 use crate::command_line::command;
 use crate::expected::Expected;
 use crate::fault::{LineFault, ListFault};
-use crate::file_bytes::host_file;
 use crate::line_cut::{cut, first_word, without_comment};
 use nvm_record::laws::opcodes_are_proper;
-use nvm_record::{BlockSize, Command, MOST_COMMANDS};
+use nvm_record::{BlockSize, Command, MOST_COMMANDS, host_bytes};
 use std::alloc::Global;
 
 /// The bytes of the host file that holds the commands of a list, every unnamed bit being 0.
@@ -29,7 +28,7 @@ pub fn assemble(alloc: Global, text: &[u8], size: BlockSize) -> Result<Vec<u8>, 
     ensures fault { IfErr result (λ e. (spec.commands size text.now ≡ Err e) ⊎ (e ≡ NoMemory)) }
 {
     let commands = read_list(alloc, text, size)?;
-    Ok(host_file(alloc, &commands)?)
+    Ok(host_bytes(alloc, &commands)?)
 }
 
 /// The commands of a list.

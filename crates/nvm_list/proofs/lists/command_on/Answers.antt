@@ -1,7 +1,7 @@
 use Rattle.std.proofs.Common.{◌≡◌, ◌+◌, ap, ◌∙◌, sym, arith, length}
 use Rattle.nvm_list.specs.Words.{words_in}
 use Rattle.nvm_list.specs.Lists.{on_line}
-use Rattle.nvm_list.proofs.assemble_list.command_on.Goals as goal
+use Rattle.nvm_list.proofs.lists.command_on.Goals as goal
 
 pub returns-then-is_empty-clause-command : goal.returns-then-is_empty-clause-command
 returns-then-is_empty-clause-command c =

@@ -1,0 +1,92 @@
+use clap::error::ErrorKind;
+use clap::{Command, Error};
+use std::alloc::{AllocError, AllocFailed, Global};
+use std::rt::Env;
+use std::{env, io};
+
+/// Why the words of the command line ask for nothing that can be done.
+#[derive(Debug, Drop)]
+pub enum WordFault {
+    /// What `clap` says of them. A call for help is one, too.
+    Words(Error),
+    /// One of them isn't UTF-8, or they couldn't be had.
+    NotText,
+    /// Memory was asked for and refused.
+    NoMemory,
+}
+
+impl From<Error> for WordFault {
+    fn from(error: Error) -> WordFault {
+        match error.kind() {
+            ErrorKind::OutOfMemory => WordFault::NoMemory,
+            _ => WordFault::Words(error),
+        }
+    }
+}
+
+impl From<io::Error> for WordFault {
+    fn from(error: io::Error) -> WordFault {
+        match error.kind() {
+            io::ErrorKind::OutOfMemory => WordFault::NoMemory,
+            _ => WordFault::NotText,
+        }
+    }
+}
+
+impl From<AllocError> for WordFault {
+    fn from(_e: AllocError) -> WordFault {
+        WordFault::NoMemory
+    }
+}
+
+impl<T: Drop> From<AllocFailed<T>> for WordFault {
+    fn from(_e: AllocFailed<T>) -> WordFault {
+        WordFault::NoMemory
+    }
+}
+
+/// The words after the program's name.
+pub fn words_given<R: AllocGlobal + Env>(rt: &R) -> Result<Vec<String>, WordFault> {
+    let mut words = Vec::new(rt.alloc());
+    for word in env::args(rt)?.skip(1) {
+        words.push(word)?;
+    }
+    Ok(words)
+}
+
+/// The words as borrowed texts, which `clap` takes.
+pub fn texts_of(alloc: Global, words: &[String]) -> Result<Vec<&str>, AllocError> {
+    let mut texts = Vec::with_capacity(alloc, words.len())?;
+    for word in words {
+        texts.push(word.as_str())?;
+    }
+    Ok(texts)
+}
+
+/// The fault of words that `clap` took although something is missing in them.
+pub fn missing(command: &mut Command<'_>) -> WordFault {
+    match command.error(ErrorKind::MissingRequiredArgument, "a value is missing") {
+        Ok(error) => WordFault::from(error),
+        Err(_) => WordFault::NoMemory,
+    }
+}
+
+/// Says what is wrong with the words on standard error, or gives help on standard output where they ask for it. Gives the
+/// exit status, 0 after help and 1 else, or `None` for want of memory, of which nothing is said yet.
+pub fn tell<R: AllocGlobal + Print + Eprint>(rt: &R, fault: WordFault) -> Option<u8> {
+    match fault {
+        WordFault::Words(error) => {
+            let is_help = !error.use_stderr();
+            if error.print(rt).is_ok() && is_help {
+                Some(0)
+            } else {
+                Some(1)
+            }
+        }
+        WordFault::NotText => {
+            let _ = rt.eprintln("error: invalid UTF-8 was detected in one or more arguments");
+            Some(1)
+        }
+        WordFault::NoMemory => None,
+    }
+}

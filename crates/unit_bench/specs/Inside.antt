@@ -1,0 +1,2 @@
+-- What only the program itself cites.
+pub mod Words

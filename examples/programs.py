@@ -1,0 +1,308 @@
+"""What the built programs must answer: tables of words, lists and files, and of what is said of each.
+
+What stands here is written by hand. Host files are made by sweep/host_files.py, which knows nothing of the programs.
+"""
+
+import os
+import subprocess
+import sys
+import tempfile
+
+HERE = os.path.dirname(os.path.realpath(__file__))
+TOP = os.path.dirname(HERE)
+
+sys.dont_write_bytecode = True
+sys.path.insert(0, os.path.join(TOP, "sweep"))
+
+from host_files import Asked, compare, file_of, pair, read, uncorrectable, unknown, write, zeroes
+
+# Stands for a text that isn't empty: clap words its own.
+SOME = object()
+LAST = 2**64 - 1
+
+# What is expected in a line of a list, by what was found there.
+NAME = "expected write, read, compare, zeroes, uncorrectable, or op- and another opcode in two hexadecimal digits"
+LBA = "expected an LBA from 0 to 18446744073709551615"
+BLOCKS = "expected a number of blocks from 1 to 65536"
+DATA = "expected data as runs, as in 511*41,1*42, or as two hexadecimal digits"
+SHORT = "expected data of 512 bytes and not of 511"
+LONG = "expected data of 1024 bytes and not of 36893488147419103230"
+OPTION = "expected first, second, reserved, cid= or nsid="
+ONCE = "expected at most one of first, second and reserved, one cid= and one nsid="
+CID = "expected a number from 0 to 65535 behind cid="
+NSID = "expected a number from 0 to 4294967295 behind nsid="
+REFUSED_LINES = {
+    NAME: ["walk 0 1", "Write 0 1 41", "op-01 0 1", "op-7 0 1", "op-7g 0 1", "op-", "\u00e9"],
+    LBA: ["read", "read x 1", "read -1 1", "read +1 1", "read 0x10 1", "read 18446744073709551616 1"],
+    BLOCKS: ["read 0", "read 0 0", "read 0 65537", "read 0 1x"],
+    DATA: [
+        "write 0 1",
+        "write 0 1 # 41",
+        "write 0 1 4",
+        "write 0 1 411",
+        "write 0 1 first",
+        "write 0 1 512*4",
+        "write 0 1 512*41,",
+        "write 0 1 ,512*41",
+        "write 0 1 0*41,512*41",
+        "write 0 1 512*41*42",
+        "write 0 1 *41",
+        "write 0 1 18446744073709551616*41",
+    ],
+    SHORT: ["write 0 1 511*41", "compare 0 1 500*41,11*42 bogus"],
+    LONG: ["write 0 2 18446744073709551615*41,18446744073709551615*42"],
+    OPTION: ["read 0 1 41", "read 0 1 normal", "read 0 1 cid"],
+    ONCE: ["read 0 1 first first", "read 0 1 first second", "read 0 1 cid=1 nsid=1 cid=x", "read 0 1 nsid=1 nsid=1"],
+    CID: ["read 0 1 cid=", "read 0 1 cid=65536"],
+    NSID: ["read 0 1 nsid=4294967296", "read 0 1 nsid=1,"],
+}
+
+# Lists, and the commands that they say. A comment, a blank line and other spellings of numbers say nothing more.
+LISTS = {
+    "": [],
+    "\n\n \t\n\r\n# write 0 1 41\n": [],
+    "write 0 1 41\nread 5 2\nuncorrectable 6 65536\n": [write(0, 0x41), read(5, 2), uncorrectable(6, 65_536)],
+    "compare 18446744073709551615 1 511*41,1*42\nzeroes 007 08\n": [compare(LAST, 0x41, end=b"\x42"), zeroes(7, 8)],
+    "op-7f 9 10\nop-09 0 1\nop-FF 0 1": [unknown(9, 10), Asked(0x09, 0, 1), Asked(0xFF, 0, 1)],
+    "read 0 1 first cid=7 nsid=2\nread 0 1 nsid=4294967295 cid=65535 second\n": [
+        read(0, 1, fuse=1, cid=7, nsid=2),
+        read(0, 1, fuse=2, cid=65_535, nsid=2**32 - 1),
+    ],
+    "read 0 1 cid=0 reserved nsid=0\nread 0 1 cid=001\n": [read(0, 1, fuse=3, cid=0, nsid=0), read(0, 1, cid=1)],
+    "read 0 1\r\n\tread  0\t1 \n\n# a comment\nread 1 1# and one behind a command\nread 2 1 # first # cid=1\n#": [
+        read(0, 1),
+        read(0, 1),
+        read(1, 1),
+        read(2, 1),
+    ],
+    "write 3 1 fF\nwrite 3 1 512*41\nwrite 3 1 1*0a,510*B0,1*c9\nwrite 3 1 1*41,0511*41\n": [
+        write(3, 0xFF),
+        write(3, 0x41),
+        write(3, 0xC9, end=b"\x0a" + b"\xb0" * 510 + b"\xc9"),
+        write(3, 0x41),
+    ],
+}
+
+# Lists as they are printed: each is the listing of its own host file.
+LISTED = """write 0 1 511*41,1*42
+read 18446744073709551615 65536
+compare 4 1 512*00 first cid=258
+write 4 1 512*ff second
+op-7f 0 1 reserved cid=4 nsid=2
+zeroes 0 8 nsid=0
+uncorrectable 1 1 cid=0
+compare 0 2 63*01,64*02,65*03,128*07,129*08,1*09,574*0a
+"""
+
+# Each option of nvmu at a value that no other has, but for --workers and --out, of which nothing is printed.
+OPTIONS = {"nsze": 33, "block": 512, "nabsn": 9, "nabo": 4, "nawun": 7, "nacwu": 5, "workers": 2, "limit": 3}
+# Boundaries at 4, 14 and 24.
+COMMANDS = [
+    write(32, 0x41),
+    read(33, 1),
+    *pair(compare(4, *[0] * 6), write(4, *[0x42] * 6)),
+    *pair(compare(4, *[0x42] * 7), write(4, *[0x43] * 7)),
+    *pair(compare(3, 0, 0x42), write(3, 0x44, 0x44)),
+    *pair(compare(13, 0, 0), write(13, 0x44, 0x44)),
+    *pair(compare(32, 0x42), write(32, 0x45)),
+    *pair(compare(32, 0x41, nsid=2), write(32, 0x45)),
+    write(24, 0x46),
+    zeroes(25, 2),
+    write(24, 0x47),
+    uncorrectable(14, 1),
+    read(14, 1),
+    read(24, 2),
+    unknown(0, 1, cid=65_535),
+    read(0, 1, fuse=1),
+    read(0, 1, fuse=3, cid=0),
+]
+LINES = """1 1 write 0/00
+1 2 read 0/80
+1 3 compare 0/00
+1 4 write 0/00
+1 5 compare 0/14
+1 6 write 0/09
+1 7 compare 0/14
+1 8 write 0/09
+1 9 compare 0/14
+1 10 write 0/09
+1 11 compare 2/85
+1 12 write 0/09
+1 13 compare 0/0b
+1 14 write 0/09
+1 15 write 0/00
+1 16 zeroes 0/00
+1 17 write 0/06
+1 18 uncorrectable 0/00
+1 19 read 2/81
+1 20 read 0/00 512*46,512*00
+1 65535 op-7f 0/01
+1 22 read 0/0a
+1 0 read 0/02
+"""
+# Numbers that nvmu takes, and some that it refuses as words.
+TAKEN = {"workers": [1, 64], "limit": [1, 65_536], "nawun": [0, 9], "nacwu": [0, 9], "nabo": [0, 9], "nsze": [1, 40_954]}
+NOT_TAKEN = {
+    "workers": [0, 65, "x"],
+    "limit": [0, 65_537],
+    "nsze": [-1, "x", 2**64, ""],
+    "block": [2**32],
+    "nabsn": [65_536],
+    "nabo": [65_536],
+    "nawun": [65_536],
+    "nacwu": [65_536],
+}
+# Numbers that make no geometry.
+NO_GEOMETRY = [
+    ("Size", {"nsze": 0}),
+    ("Size", {"nsze": LAST}),
+    ("Size", {"nsze": 65_537}),
+    ("BlockSize", {"block": 1000}),
+    ("OffsetWithoutBoundary", {"nabsn": 0}),
+    ("OffsetAboveBoundary", {"nabo": 10}),
+    ("OffsetAboveBoundary", {"nabo": 65_535}),
+    ("WriteUnitAboveBoundary", {"nawun": 10}),
+    ("PairUnitAboveBoundary", {"nacwu": 10}),
+    ("TooManyUnits", {"nsze": 40_955}),
+    ("TooManyUnits", {"nsze": 65_536, "nabsn": 1, "nabo": 0, "nawun": 1, "nacwu": 1}),
+]
+
+BENCH = "unit_bench: expected unit or mutex, 1 to 1024 units, 1 to 63 threads, 1 to 4194304 changes, 1 to 65536 blocks\n"
+NO_BENCH = ["", "unit 1 1 1", "unit 1 1 1 1 1", "lock 1 1 1 1", "unit 0 1 1 1", "unit 1025 1 1 1", "unit 1 64 1 1"]
+NO_BENCH += ["unit 1 1 4194305 1", "unit 1 1 1 65537", "unit 1 1 1 x", "unit 1 1 0 1", "mutex 1 0 1 1", "mutex 1 1 1 0"]
+BENCHES = ["unit 2 3 101 5", "mutex 2 3 101 5", "unit 1 1 1 1", "mutex 1024 63 1 1", "mutex 1 1 1 65536"]
+
+
+class Programs:
+    """Runs the built programs in a folder of its own, and counts the runs that ended as they must."""
+
+    def __init__(self, folder):
+        self.folder = folder
+        self.passed, self.failed = 0, 0
+
+    def keep(self, name, content):
+        with open(os.path.join(self.folder, name), "wb") as file:
+            file.write(content if isinstance(content, bytes) else content.encode())
+
+    def expect(self, words, status=0, out=b"", err=b"", given=b"", files=None):
+        """Holds a run to its status, to what it writes on both streams, and to the files that it writes."""
+        program = os.path.join(TOP, "crates", words[0], "out", words[0])
+        done = subprocess.run([program, *words[1:]], input=given, capture_output=True, cwd=self.folder, timeout=60)
+        found = [done.returncode, done.stdout, done.stderr]
+        wanted = [status, *(text if text is SOME or isinstance(text, bytes) else text.encode() for text in (out, err))]
+        right = all(it and b"panic" not in it if want is SOME else it == want for it, want in zip(found, wanted))
+        for name, content in (files or {}).items():
+            with open(os.path.join(self.folder, name), "rb") as file:
+                found.append(file.read())
+            right = right and found[-1] == content
+        self.passed, self.failed = self.passed + right, self.failed + (not right)
+        if not right:
+            print(f"{words} ended with {[it if isinstance(it, int) else it[:300] for it in found]}")
+
+    def refuse(self, words):
+        """Holds words that clap refuses to its fault, on standard error alone."""
+        self.expect(words, 1, err=SOME)
+
+
+def lists(run):
+    def assembled(text, **told):
+        run.expect(["nvq", "assemble", "-", "-"], given=text.encode(), **told)
+
+    for text, asked in LISTS.items():
+        assembled(text, out=file_of(asked))
+    for expected, texts in REFUSED_LINES.items():
+        for text in texts:
+            assembled(f"# a list\n\nread 0 1\n{text}\nwalk\n", status=1, err=f"nvq: line 4: {expected}\n")
+    run.keep("listed", LISTED)
+    run.expect(["nvq", "assemble", "listed", "listed.nvq"])
+    run.expect(["nvq", "list", "listed.nvq"], out=LISTED)
+    # The identifier goes round after 65,535, and no more than 65,536 commands are taken.
+    many = "# many\n" + "read 0 1\n" * 65_536
+    assembled(many, out=file_of([read(0, 1, cid=place % 65_536) for place in range(1, 65_537)]))
+    assembled(f"{many}# no command\n\nwalk\n", status=1, err="nvq: line 65540: expected no more than 65536 commands\n")
+
+
+def words_of_nvq(run):
+    large = file_of([write(0, 0x41), read(0, 1)], 4096)
+    run.keep("a.txt", "write 0 1 41\nread 0 1\n")
+    run.expect(["nvq", "assemble", "--block", "4096", "a.txt", "a.nvq"], files={"a.nvq": large})
+    run.expect(["nvq", "assemble", "a.txt", "-", "--block=4096"], out=large)
+    run.expect(["nvq", "list", "--block", "4096", "-"], given=large, out="write 0 1 4096*41\nread 0 1\n")
+    run.expect(["nvq", "list", "-"], given=b"NVQ1")
+    for given, fault in ((b"NVQ", "bad name"), (b"NVQ1.", "truncated at 4")):
+        run.keep("wrong.nvq", given)
+        run.expect(["nvq", "list", "wrong.nvq"], 1, err=f"nvq: wrong.nvq: {fault}\n")
+    many = file_of([unknown(0, 1, cid=0)] * 65_536)
+    run.expect(["nvq", "list", "-"], 1, given=many + b"0", err="nvq: -: too many commands\n")
+    run.expect(["nvq", "list", "missing"], 1, err="nvq: cannot read missing\n")
+    run.expect(["nvq", "assemble", "a.txt", "missing/a.nvq"], 1, err="nvq: cannot write missing/a.nvq\n")
+    for words in ("", "assemble", "assemble a", "assemble a b c", "walk a b", "list", "list a b", "list --block 1024 a"):
+        run.refuse(["nvq", *words.split()])
+    for words in ("list --bogus 1 a", "list --block 512 --block 512 a", "list --block"):
+        run.refuse(["nvq", *words.split()])
+    for words in ("--help", "assemble --help", "list --help"):
+        run.expect(["nvq", *words.split()], out=SOME)
+
+
+def words_of_nvmu(run):
+    def words(*files, left_out=None, **changed):
+        options = {**OPTIONS, "out": "record", **changed}
+        return ["nvmu", "run", *(f"--{name}={options[name]}" for name in options if name != left_out), *files]
+
+    run.keep("host.nvq", file_of(COMMANDS))
+    run.keep("none.nvq", file_of([]))
+    run.keep("cut.nvq", file_of(COMMANDS)[:700])
+    run.expect(words("host.nvq"), out=LINES)
+    apart = [word for option in words()[2:] for word in option.split("=")]
+    run.expect(["nvmu", "run", "host.nvq", *apart], out=LINES)
+    run.keep("large.nvq", file_of([write(0, 0x41), read(0, 2)], 4096))
+    run.expect(words("large.nvq", block=4096), out="1 1 write 0/00\n1 2 read 0/00 4096*41,4096*00\n")
+    # Files in their order, before and after options, and one of them twice.
+    for host, filler in (("a", 0x41), ("b", 0x42)):
+        run.keep(host, file_of([write(0, filler), read(0, 1)]))
+    turns = "1 1 write 0/00\n2 1 write 0/00\n1 2 read 0/00 512*42\n2 2 read 0/00 512*42\n"
+    run.expect(words("a", "b"), out=turns)
+    run.expect([*words("a")[:2], "a", *words("b")[2:]], out=turns)
+    run.expect(words("a", "a"), out=turns.replace("42", "41"))
+    for name, values in TAKEN.items():
+        for value in values:
+            run.expect(words("none.nvq", **{name: value}))
+    run.expect(words("none.nvq", nsze=65_536, nabsn=65_535, nabo=65_535, nawun=65_535, nacwu=65_535))
+    for fault, changed in NO_GEOMETRY:
+        run.expect(words("none.nvq", **changed), 1, err=f"nvmu: geometry: {fault}\n")
+    for files, fault in (
+        (["missing"], "cannot read missing"),
+        (["a", "missing"], "cannot read missing"),
+        (["a", "a.txt"], "host 2: bad name"),
+        (["cut.nvq", "a.txt"], "host 1: truncated at 644"),
+        (["none.nvq"] * 65, "too many hosts"),
+    ):
+        run.expect(words(*files), 1, err=f"nvmu: {fault}\n")
+    run.expect(words(*["none.nvq"] * 64))
+    for name, values in NOT_TAKEN.items():
+        for value in values:
+            run.refuse(words("none.nvq", **{name: value}))
+    for name in [*OPTIONS, "out"]:
+        run.refuse(words("none.nvq", left_out=name))
+    run.refuse(words())
+    run.refuse([*words("none.nvq"), "--nsze", "33"])
+    for given in ([], ["walk"], ["run", "--bogus"], [b"\xff"]):
+        run.refuse(["nvmu", *given])
+    for given in (["--help"], ["run", "--help"]):
+        run.expect(["nvmu", *given], out=SOME)
+
+
+def words_of_unit_bench(run):
+    for given in NO_BENCH:
+        run.expect(["unit_bench", *given.split()], 1, err=BENCH)
+    for given in BENCHES:
+        run.expect(["unit_bench", *given.split()], out=f"changes {given.split()[3]}\n", err=SOME)
+
+
+def tried():
+    """How many runs ended as they must, and how many didn't."""
+    with tempfile.TemporaryDirectory(prefix="examples-") as folder:
+        run = Programs(folder)
+        for table in (lists, words_of_nvq, words_of_nvmu, words_of_unit_bench):
+            table(run)
+        return run.passed, run.failed
