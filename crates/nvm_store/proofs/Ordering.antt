@@ -8,7 +8,8 @@ use mathlib.Core.Option.{some-injective, some-ne-none}
 use Rattle.nvm_record.specs.Lists.{IsAt}
 use Rattle.nvm_store.specs.Call.{Call}
 use Rattle.nvm_store.specs.HistoryEntry.{HistoryEntry}
-use Rattle.nvm_store.specs.PlacedRun.{RunStep, changes, answers, entries_in, entries_by, calls_in, calls_by, steps_by, StandAtPoints, StepsNeverGoBack, IsPlacedRun}
+use Rattle.nvm_store.specs.PassOrder.{entries_by, steps_by, StepsNeverGoBack}
+use Rattle.nvm_store.specs.PlacedRun.{RunStep, changes, answers, entries_in, calls_in, calls_by, StandAtPoints, IsPlacedRun}
 use Rattle.nvm_store.proofs.AtLemmas.{at_end}
 
 -- Entries by this pass.

@@ -5,7 +5,8 @@ use Rattle.std.proofs.lemmas.Bool.Decides.{eqb_tells}
 use Rattle.std.proofs.lemmas.List.Elements.{filter-append}
 use Rattle.nvm_store.specs.Call.{Call}
 use Rattle.nvm_store.specs.HistoryEntry.{HistoryEntry}
-use Rattle.nvm_store.specs.PlacedRun.{RunStep, changes, answers, entries_in, calls_in, StandAtPoints, calls_by, calls_at, placed_from, placed_run, NeverGoBack, IsPlacedRun}
+use Rattle.nvm_store.specs.PassOrder.{NeverGoBack}
+use Rattle.nvm_store.specs.PlacedRun.{RunStep, changes, answers, entries_in, calls_in, StandAtPoints, calls_by, calls_at, placed_from, placed_run, IsPlacedRun}
 
 -- Calls before other steps add no entry, and are themselves the first calls.
 entries_behind : (calls : List Call) (steps : List RunStep) → entries_in (map answers calls ++ steps) ≡ entries_in steps

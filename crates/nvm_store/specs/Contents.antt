@@ -30,8 +30,7 @@ LiesAt place u = place_of u ≡ place
 abbrev pub StaysInPlace : Contents → Contents → Type 0
 StaysInPlace old new = LiesAt (place_of old) new
 
--- The unit covers the operation: it lies there, with its data.
-
+-- The operation's range has a block and lies in the unit, and its data has just the range's blocks.
 abbrev pub Covers : Contents → Operation → Type 0
 Covers u op = IsCovered (place_of u) op
 

@@ -11,4 +11,5 @@ pub mod History
 pub mod Point
 pub mod Call
 pub mod PlacedRun
+pub mod PassOrder
 pub mod Inside

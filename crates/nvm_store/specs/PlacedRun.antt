@@ -1,7 +1,6 @@
 -- The placed run of a unit: its entries in order, and each call between them at its point. And when a list of such steps
 -- is a run of one medium: each has its answer where it stands (own).
-use Rattle.std.specs.Prelude.{◌≡◌, ℕ, ◌+◌, ◌≤◌, nat_eq, List, [], ◌∷◌, ◌++◌, length, map, filter}
-use Rattle.nvm_record.specs.Lists.{IsAt}
+use Rattle.std.specs.Prelude.{◌≡◌, ℕ, ◌+◌, nat_eq, List, [], ◌∷◌, ◌++◌, map, filter}
 use Rattle.nvm_record.specs.Medium.{Medium}
 use Rattle.nvm_record.specs.Status.{IsSuccess}
 use Rattle.nvm_record.specs.Step.{Operation, statuses_of, data_of, medium_after}
@@ -72,31 +71,3 @@ placed_from n (entry ∷ entries) calls =
 -- the placed run in which calls at one point keep the order that they are given in
 abbrev pub placed_run : List HistoryEntry → List Call → List RunStep
 placed_run history calls = placed_from 0 history calls
-
--- The points of calls, from `low` on and none past `high`, never go back.
-abbrev pub NeverGoBack : ℕ → ℕ → List Call → Type 0
-NeverGoBack low high [] = Unit {0}
-NeverGoBack low high (call ∷ calls) =
-    (low ≤ call.point) × (call.point ≤ high) × NeverGoBack call.point high calls
-
--- the entries of one pass, in order
-abbrev pub entries_by : ℕ → List HistoryEntry → List HistoryEntry
-entries_by pass entries = filter (λ entry. nat_eq entry.pass pass) entries
-
--- whose step it is
-abbrev pub pass_of_step : RunStep → ℕ
-pass_of_step (changes entry) = entry.pass
-pass_of_step (answers call) = call.pass
-
--- the steps of one pass, in order
-abbrev pub steps_by : ℕ → List RunStep → List RunStep
-steps_by pass steps = filter (λ step. nat_eq (pass_of_step step) pass) steps
-
--- Steps that one pass made on a unit with this history, one after the other, never go back: an entry stands at its place,
--- a call at its point, none before `low`, and what follows an entry stands behind it.
-abbrev pub StepsNeverGoBack : List HistoryEntry → ℕ → List RunStep → Type 0
-StepsNeverGoBack history low [] = Unit {0}
-StepsNeverGoBack history low (changes entry ∷ steps) =
-    (place : ℕ) × (low ≤ place) × IsAt history place entry × StepsNeverGoBack history (place + 1) steps
-StepsNeverGoBack history low (answers call ∷ steps) =
-    (low ≤ call.point) × (call.point ≤ length history) × StepsNeverGoBack history call.point steps

@@ -19,7 +19,8 @@ ghost use Rattle.nvm_store.specs.History.{replay_of, CanFollow, IsLawfulHistory}
 ghost use Rattle.nvm_store.specs.HistoryEntry.{HistoryEntry};
 ghost use Rattle.nvm_store.specs.Look.{look_operation_of};
 ghost use Rattle.nvm_store.specs.Operation.{write_operation, pair_operation};
-ghost use Rattle.nvm_store.specs.PlacedRun.{RunStep, IsRunFrom, IsPlacedRun, NeverGoBack, StepsNeverGoBack, entries_in, entries_by, calls_in, calls_by, steps_by, placed_run};
+ghost use Rattle.nvm_store.specs.PassOrder.{NeverGoBack, StepsNeverGoBack, entries_by, steps_by};
+ghost use Rattle.nvm_store.specs.PlacedRun.{RunStep, IsRunFrom, IsPlacedRun, entries_in, calls_in, calls_by, placed_run};
 ghost use Rattle.nvm_store.specs.Point.{point, RestsOn};
 
 use nvm_record::laws::{looks_change_nothing, steps_are_local, steps_keep_block_sizes};
