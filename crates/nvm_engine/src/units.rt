@@ -24,7 +24,7 @@ use nvm_plan::laws::{
     answers_of_the_step_are_replies, outcomes_are_made_part_by_part, outcomes_by_plan,
     parts_of_jobs, ready_jobs,
 };
-use nvm_plan::{Body, Job, LentPart, Plan, part_of, pieces_of_job, plan};
+use nvm_plan::{Body, Job, LentPart, Plan, job_part_in, job_pieces, plan};
 use nvm_record::{NoMemory, Op};
 use nvm_store::UnitBlocks;
 use nvm_store::laws::{acts_and_looks, single_act_succeeds};
@@ -90,12 +90,12 @@ impl Units {
         ready_jobs();
         parts_of_jobs();
         let geometry = self.geometry;
-        let pieces = pieces_of_job(&geometry, job);
+        let pieces = job_pieces(&geometry, job);
         let Ok(mut bytes) = room(alloc, &geometry, job) else {
             return DoneJob::of_no_part(&job.body);
         };
         for piece in pieces {
-            let Some(part) = part_of(&geometry, job, piece.unit) else {
+            let Some(part) = job_part_in(&geometry, job, piece.unit) else {
                 unreachable!("each piece is a part")
             };
             let told = self.do_part(alloc, number, piece.unit, part);

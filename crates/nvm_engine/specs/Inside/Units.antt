@@ -11,7 +11,8 @@ use Rattle.nvm_geometry.specs.Parts.{part_in}
 use Rattle.nvm_geometry.specs.Place.{IsPlaceOf}
 use Rattle.nvm_geometry.specs.declared.piece.Piece.{Piece}
 use Rattle.nvm_plan.specs.Outcome.{data_told, AreDone, IsOutcomeOf}
-use Rattle.nvm_plan.specs.Reply.{Reply, success_of, stop_of, IsReplyTo}
+use Rattle.nvm_record.specs.Deeds.{success_of}
+use Rattle.nvm_plan.specs.Reply.{Reply, stop_of, IsReplyTo}
 use Rattle.nvm_plan.specs.declared.job.Job.{Job}
 use Rattle.nvm_plan.specs.declared.part.PartResult.{PartResult}
 use Rattle.nvm_plan.specs.declared.part.PartResult.TheVariants as result

@@ -34,7 +34,7 @@ pub loop-piece-init : goal.loop-piece-init
 loop-piece-init c =
     let op = the_operation (job_operation_of c.args.job.now) (c.ready_jobs.ensures.operation c.args.self.now.geometry c.args.job.now c.requires.free) in
     let range = c.ready_jobs.ensures.range c.args.self.now.geometry c.args.job.now op.0 c.requires.free op.1 in
-    let same : c.into_iter-piece-iterator.result ≡ pieces_of c.args.self.now.geometry op.0.first op.0.blocks = c.into_iter-piece-iterator.ensures.into_iter_gives ∙ c.pieces_of_job-pieces.ensures op.0 op.1 in
+    let same : c.into_iter-piece-iterator.result ≡ pieces_of c.args.self.now.geometry op.0.first op.0.blocks = c.into_iter-piece-iterator.ensures.into_iter_gives ∙ c.job_pieces-pieces.ensures op.0 op.1 in
     let units : map (λ p. p.unit) c.into_iter-piece-iterator.result ≡ units_met c.args.self.now.geometry op.0 =
     ap (λ (ps : List Piece). map (λ p. p.unit) ps) same ∙ c.pieces_stand_in_line.ensures.units c.args.self.now.geometry op.0.first op.0.blocks in
     let none : c.in-Ok.bytes.items ≡ [] = c.in-Ok.ensures.empty in (
@@ -45,7 +45,7 @@ loop-piece-init c =
       all_units (map (λ p. p.unit) c.into_iter-piece-iterator.result) (job_units c.args.self.now.geometry c.args.job.now)
           (units ∙ sym (c.parts_of_jobs.ensures.units c.args.self.now.geometry c.args.job.now op.0 c.requires.free op.1)),
       λ other stands.
-          let its : c.into_iter-piece-iterator.result ≡ pieces_of c.args.self.now.geometry other.first other.blocks = c.into_iter-piece-iterator.ensures.into_iter_gives ∙ c.pieces_of_job-pieces.ensures other stands in
+          let its : c.into_iter-piece-iterator.result ≡ pieces_of c.args.self.now.geometry other.first other.blocks = c.into_iter-piece-iterator.ensures.into_iter_gives ∙ c.job_pieces-pieces.ensures other stands in
           let met : units_met c.args.self.now.geometry other ≡ map (λ p. p.unit) c.into_iter-piece-iterator.result =
           sym (ap (λ (ps : List Piece). map (λ p. p.unit) ps) its ∙ c.pieces_stand_in_line.ensures.units c.args.self.now.geometry other.first other.blocks) in
           let begun : AreDone c.args.self.now.geometry other [] (map (λ p. p.unit) c.into_iter-piece-iterator.result) =
@@ -53,7 +53,7 @@ loop-piece-init c =
           subst (λ (bytes : List ℕ). IsUnderWay (setup_of_units c.args.self.now) other c.args.self.now.units.items c.args.self.now.units.items c.into_iter-piece-iterator.result bytes) (sym none)
           (not_begun (setup_of_units c.args.self.now) other c.args.self.now.units.items c.into_iter-piece-iterator.result begun),
       λ other stands.
-          let its : c.into_iter-piece-iterator.result ≡ pieces_of c.args.self.now.geometry other.first other.blocks = c.into_iter-piece-iterator.ensures.into_iter_gives ∙ c.pieces_of_job-pieces.ensures other stands in
+          let its : c.into_iter-piece-iterator.result ≡ pieces_of c.args.self.now.geometry other.first other.blocks = c.into_iter-piece-iterator.ensures.into_iter_gives ∙ c.job_pieces-pieces.ensures other stands in
           let inside = c.ready_jobs.ensures.range c.args.self.now.geometry c.args.job.now other c.requires.free stands in
           let line = c.pieces_stand_in_line.ensures.in_line c.args.self.now.geometry other.first other.blocks inside.1 in
           let each = recursion_from_All (λ (p : Piece). p ≡ piece_in c.args.self.now.geometry other.first other.blocks p.unit) _ (c.pieces_stand_in_line.ensures.each c.args.self.now.geometry other.first other.blocks) in (
