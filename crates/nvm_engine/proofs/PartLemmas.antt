@@ -8,10 +8,11 @@ use Rattle.nvm_record.specs.Medium.{Medium}
 use Rattle.nvm_record.specs.Step.{Operation, is_in_range, block_after, range_of, medium_after}
 use Rattle.nvm_geometry.specs.Namespace.{Namespace}
 use Rattle.nvm_geometry.specs.Boundaries.{unit_number, units_of}
-use Rattle.nvm_geometry.specs.Place.{IsPlaceOf}
 use Rattle.nvm_geometry.specs.Parts.{part_in}
-use Rattle.nvm_store.specs.Contents.{Contents, Holds, Covers}
-use Rattle.nvm_store.specs.Place.{place_at, IsCovered}
+use Rattle.nvm_store.specs.declared.place.Place.{Place}
+use Rattle.nvm_store.specs.Contents.{Contents, Holds, Covers, place_of}
+use Rattle.nvm_store.specs.Place.{IsCovered}
+use Rattle.nvm_plan.specs.UnitPlace.{IsUnitPlace}
 use Rattle.nvm_engine.specs.Run.{Setup, Counts, recounted}
 use Rattle.nvm_engine.specs.Inside.Units.{AreOfUnit, IsLaidOut, AreAt}
 use Rattle.nvm_engine.specs.declared.atomic_unit.AtomicUnit.{AtomicUnit}
@@ -35,7 +36,7 @@ pub other_holds : (ns : Namespace) (op : Operation) (k j : ℕ) (u : Contents) (
     → AreOfUnit ns j u → j ≢ k → Holds u m → Holds u (medium_after size (part_in ns op k) m)
 other_holds ns op k j u size m lbas of other holds i block at =
     let below : i < length u.blocks = at_within u.blocks i block at in
-    let mine : unit_number ns (u.first + i) ≡ j = of.place.lies (u.first + i) (omega arith) (omega arith) in
+    let mine : unit_number ns (u.first + i) ≡ j = of.lbas.lies (u.first + i) (omega arith) (omega arith) in
     let not_there : (unit_number ns (u.first + i) == k) ≡ false = ne_eqb (unit_number ns (u.first + i)) k (λ e. other (sym mine ∙ e)) in
     outside size (part_in ns op k) m (u.first + i) (lbas (u.first + i) ∙ and_false (is_in_range op (u.first + i)) _ not_there) ∙ holds i block at
 
@@ -63,11 +64,11 @@ set_at units k new m counts known here others d j below =
 
 -- what lies in each place of the unit lies in it
 pub lies_there : (s : Setup) (units : List AtomicUnit) (k : ℕ) (u : AtomicUnit) (op : Operation) → IsLaidOut s units → k < units_of s.namespace → u ≡ get_or units k u
-    → ((first blocks : ℕ) → IsPlaceOf s.namespace k first blocks → IsCovered (place_at first blocks s.namespace.block_size) op) → Covers u.blocks op
+    → ((place : Place) → IsUnitPlace s.namespace k place → IsCovered place op) → Covers u.blocks op
 lies_there s units k u op laid known at covered =
     let count : length units ≡ units_of s.namespace = laid.count in
     let of : AreOfUnit s.namespace k u.blocks = subst (λ (v : AtomicUnit). AreOfUnit s.namespace k v.blocks) (sym at) (laid.each u k (omega arith)).0 in
-    subst (λ (size : ℕ). IsCovered (place_at u.blocks.first (length u.blocks.blocks) size) op) (sym of.size) (covered u.blocks.first (length u.blocks.blocks) of.place)
+    covered (place_of u.blocks) of
 
 -- what holds of each unit, and of one more at the end, holds of all
 pub with_one_more : (P : ℕ → AtomicUnit → Type 0) (units : List AtomicUnit) (u : AtomicUnit) → ((d : AtomicUnit) (k : ℕ) → k < length units → P k (get_or units k d)) → P (length units) u

@@ -10,7 +10,8 @@ use Rattle.nvm_geometry.specs.Namespace.{Namespace}
 use Rattle.nvm_geometry.specs.Parts.{part_in, units_met}
 use Rattle.nvm_geometry.specs.declared.piece.Piece.{Piece}
 use Rattle.nvm_plan.specs.Outcome.{data_told, answered, unstarted_of, AreDone, IsOutcomeOf}
-use Rattle.nvm_plan.specs.Reply.{Reply, success_of, IsFailedComparison, AreOfFailedPair, IsReplyTo, IsSuccessfulReply}
+use Rattle.nvm_record.specs.Deeds.{success_of}
+use Rattle.nvm_plan.specs.Reply.{Reply, IsFailedComparison, AreOfFailedPair, IsReplyTo, IsSuccessfulReply}
 use Rattle.nvm_store.specs.declared.look.answer.Answer.TheVariants.{Payload, Status}
 use Rattle.nvm_engine.specs.Run.{Setup, Counts, Rests, medium_left, counts_left, part_told, Does, IsReadOverUnits, IsBegun}
 use Rattle.nvm_engine.specs.Inside.Units.{DoesPart, DoesParts, GoesOn, EndsWith, IsUnderWay, reply_of, statuses_told, payload_told}

@@ -9,7 +9,7 @@ use Rattle.nvm_record.specs.Status.{IsSuccess, successful_completion}
 use Rattle.nvm_record.specs.Step.{Deed, writes, zeroes, uncorrectable, reads, compares, pairs, Operation, is_in_range, range_of, statuses_of, data_of, data_on, medium_after}
 use Rattle.nvm_geometry.specs.Namespace.{Namespace}
 use Rattle.nvm_geometry.specs.Boundaries.{unit_number, units_of}
-use Rattle.nvm_geometry.specs.Parts.{deed_part, part_in, blocks_below, blocks_in}
+use Rattle.nvm_geometry.specs.Parts.{part_in}
 use Rattle.nvm_plan.specs.Reply.{Reply, reply_on, reply_of_stop, IsReplyTo}
 use Rattle.nvm_plan.specs.declared.part.Part.{Part}
 use Rattle.nvm_plan.specs.declared.part.PartResult.{PartResult}
@@ -25,29 +25,6 @@ use Rattle.nvm_engine.specs.declared.atomic_unit.AtomicUnit.{AtomicUnit}
 use Rattle.nvm_engine.specs.declared.atomic_unit.Told.{Told}
 use Rattle.nvm_engine.specs.declared.atomic_unit.Told.TheVariants.{Done, Failed, Looked, NoMemory, Full}
 use Rattle.nvm_engine.proofs.PartLemmas.{other_holds, recounted_same, recounted_other, set_at}
-
--- a part is of the operation's kind
-part_look : (size skipped blocks : ℕ) (d : Deed) → is_look (deed_part size skipped blocks d) ≡ is_look d
-part_look size skipped blocks (writes payload) = refl
-part_look size skipped blocks zeroes = refl
-part_look size skipped blocks uncorrectable = refl
-part_look size skipped blocks reads = refl
-part_look size skipped blocks (compares payload) = refl
-part_look size skipped blocks (pairs payload new) = refl
-
-part_pair : (size skipped blocks : ℕ) (d : Deed) → is_pair (deed_part size skipped blocks d) ≡ is_pair d
-part_pair size skipped blocks (writes payload) = refl
-part_pair size skipped blocks zeroes = refl
-part_pair size skipped blocks uncorrectable = refl
-part_pair size skipped blocks reads = refl
-part_pair size skipped blocks (compares payload) = refl
-part_pair size skipped blocks (pairs payload new) = refl
-
-look_of_part : (ns : Namespace) (op act : Operation) (k : ℕ) → act ≡ part_in ns op k → is_look act.deed ≡ is_look op.deed
-look_of_part ns op act k e = ap (λ (o : Operation). is_look o.deed) e ∙ part_look ns.block_size (blocks_below ns op.first op.blocks k) (blocks_in ns op.first op.blocks k) op.deed
-
-pair_of_part : (ns : Namespace) (op act : Operation) (k : ℕ) → act ≡ part_in ns op k → is_pair act.deed ≡ is_pair op.deed
-pair_of_part ns op act k e = ap (λ (o : Operation). is_pair o.deed) e ∙ part_pair ns.block_size (blocks_below ns op.first op.blocks k) (blocks_in ns op.first op.blocks k) op.deed
 
 -- an act reads nothing
 act_reads_none : (d : Deed) → IsAct d → IsTrue (is_read d) → ⊥
@@ -85,6 +62,7 @@ told_reply deed part told other read also e f h = rw (e, f) h
 module _ (s : Setup) (op act : Operation) (k : ℕ) (units : List AtomicUnit) (old new : AtomicUnit)
     (laid : IsLaidOut s units) (known : k < units_of s.namespace) (at : old ≡ get_or units k old) (is : act ≡ part_in s.namespace op k)
     (acts : IsAct act.deed)
+    (look_kept : is_look (part_in s.namespace op k).deed ≡ is_look op.deed) (pair_kept : is_pair (part_in s.namespace op k).deed ≡ is_pair op.deed)
     (lbas : (lba : ℕ) → is_in_range (part_in s.namespace op k) lba ≡ (is_in_range op lba && (unit_number s.namespace lba == k)))
     (done_replies : (m : Medium) (part : Part) → IsAct op.deed → part.result ≡ result.Done → IsSuccess (statuses_of (part_in s.namespace op part.unit) m) → IsReplyTo op.deed (reply_on s.namespace op m part))
     (failed_replies : (m : Medium) (part : Part) → IsPair op.deed → part.result ≡ result.Failed → (IsSuccess (statuses_of (part_in s.namespace op part.unit) m) → ⊥) → IsReplyTo op.deed (reply_on s.namespace op m part))
@@ -101,7 +79,7 @@ module _ (s : Setup) (op act : Operation) (k : ℕ) (units : List AtomicUnit) (o
   same_size = subst (λ (u : AtomicUnit). u.blocks.size ≡ s.namespace.block_size) (sym at) (laid.each old k inside).0.size
 
   whole_acts : IsAct op.deed
-  whole_acts = subst (λ (b : Bool). IsTrue (not b)) (look_of_part s.namespace op act k is) acts
+  whole_acts = subst (λ (b : Bool). IsTrue (not b)) (ap (λ (o : Operation). is_look o.deed) is ∙ look_kept) acts
 
   part_acts : IsAct (part_in s.namespace op k).deed
   part_acts = subst (λ (o : Operation). IsAct o.deed) is acts
@@ -140,7 +118,7 @@ module _ (s : Setup) (op act : Operation) (k : ℕ) (units : List AtomicUnit) (o
       let is_told : statuses ≡ statuses_of (part_in s.namespace op k) m = h.0 m here.0 ∙ ap (λ (o : Operation). statuses_of o m) is in
       let fails : IsSuccess (statuses_of (part_in s.namespace op k) m) → ⊥ = λ ok. h.1 (subst IsSuccess (sym is_told) ok) in
       let pair : IsPair act.deed = failing_pair act.deed (λ single. h.1 (subst IsSuccess (sym (h.0 m here.0 ∙ single_succeeds m acts single)) refl)) in
-      let whole_pair : IsPair op.deed = subst (λ (b : Bool). IsTrue b) (pair_of_part s.namespace op act k is) pair in
+      let whole_pair : IsPair op.deed = subst (λ (b : Bool). IsTrue b) (ap (λ (o : Operation). is_pair o.deed) is ∙ pair_kept) pair in
       let none = no_data m result.Failed (failed_replies m (ended k 0 result.Failed) whole_pair refl fails) in (
         told_reply op.deed (ended k (counts k) result.Failed) _ _ _ _ is_told (sym none) (failed_replies m (ended k (counts k) result.Failed) whole_pair refl fails),
         (refl, record { statuses = is_told; payload = sym none }),
@@ -168,6 +146,7 @@ module _ (s : Setup) (op act : Operation) (k : ℕ) (units : List AtomicUnit) (o
 module _ (s : Setup) (op act : Operation) (k : ℕ) (units : List AtomicUnit) (unit : AtomicUnit)
     (laid : IsLaidOut s units) (known : k < units_of s.namespace) (at : unit ≡ get_or units k unit) (is : act ≡ part_in s.namespace op k)
     (looks : IsLook act.deed)
+    (look_kept : is_look (part_in s.namespace op k).deed ≡ is_look op.deed)
     (looked_replies : (m : Medium) (part : Part) → IsLook op.deed → part.result ≡ result.Looked → IsReplyTo op.deed (reply_on s.namespace op m part))
     (no_memory_replies : (part : Part) → part.result ≡ result.NoMemory → IsReplyTo op.deed (reply_of_stop op.deed part)) where
   held : (m : Medium) (counts : Counts) → AreAt units m counts → Holds unit.blocks m
@@ -176,7 +155,7 @@ module _ (s : Setup) (op act : Operation) (k : ℕ) (units : List AtomicUnit) (u
       subst (λ (u : AtomicUnit). Holds u.blocks m) (sym at) (all unit k inside).0
 
   whole_looks : IsLook op.deed
-  whole_looks = subst (λ (b : Bool). IsTrue b) (look_of_part s.namespace op act k is) looks
+  whole_looks = subst (λ (b : Bool). IsTrue b) (ap (λ (o : Operation). is_look o.deed) is ∙ look_kept) looks
 
   pub looks_at_part : (told : Told) → IsLookedAt unit act told → DoesPart s op units units k told
   looks_at_part Done h m counts all = absurd h
@@ -222,15 +201,5 @@ looks_tell unit size op (Looked answer) same h = subst (λ (n : ℕ). IsOfRead n
 looks_tell unit size op NoMemory same h = tt
 looks_tell unit size op Full same h = tt
 
-part_read : (size skipped blocks : ℕ) (d : Deed) → is_read (deed_part size skipped blocks d) ≡ is_read d
-part_read size skipped blocks (writes payload) = refl
-part_read size skipped blocks zeroes = refl
-part_read size skipped blocks uncorrectable = refl
-part_read size skipped blocks reads = refl
-part_read size skipped blocks (compares payload) = refl
-part_read size skipped blocks (pairs payload new) = refl
-
-pub read_of_part : (ns : Namespace) (op part : Operation) (k : ℕ) → part ≡ part_in ns op k → IsTrue (is_read part.deed) → IsTrue (is_read op.deed)
-read_of_part ns op part k e h =
-    let same = ap (λ (o : Operation). is_read o.deed) e ∙ part_read ns.block_size (blocks_below ns op.first op.blocks k) (blocks_in ns op.first op.blocks k) op.deed in
-    subst (λ (b : Bool). IsTrue b) same h
+pub read_of_part : (ns : Namespace) (op part : Operation) (k : ℕ) → part ≡ part_in ns op k → is_read (part_in ns op k).deed ≡ is_read op.deed → IsTrue (is_read part.deed) → IsTrue (is_read op.deed)
+read_of_part ns op part k e kept h = subst (λ (b : Bool). IsTrue b) (ap (λ (o : Operation). is_read o.deed) e ∙ kept) h

@@ -5,13 +5,14 @@ ghost use Rattle.nvm_record.specs.Step.{Operation};
 ghost use Rattle.nvm_geometry.specs.Boundaries.{units_of};
 ghost use Rattle.nvm_geometry.specs.Limits.{LiesInUnit};
 ghost use Rattle.nvm_geometry.specs.Parts.{part_in};
-ghost use Rattle.nvm_geometry.specs.Place.{IsPlaceOf};
 ghost use Rattle.nvm_plan.specs.Checks.{refusal_of};
 ghost use Rattle.nvm_plan.specs.Fits.{FitsNamespace};
 ghost use Rattle.nvm_plan.specs.LentPart.{part_operation_of};
 ghost use Rattle.nvm_plan.specs.Operation.{job_operation_of};
 ghost use Rattle.nvm_store.specs.Contents.{Holds};
-ghost use Rattle.nvm_store.specs.Place.{place_at, IsCovered};
+ghost use Rattle.nvm_store.specs.declared.place.Place.{Place as UnitPlace};
+ghost use Rattle.nvm_store.specs.Place.{IsCovered};
+ghost use Rattle.nvm_plan.specs.UnitPlace.{IsUnitPlace};
 ghost use Rattle.nvm_engine.specs.Run.{no_changes, IsReadOverUnits};
 ghost use Rattle.nvm_engine.specs.Inside.AtomicUnit.{TellsOfRead};
 ghost use Rattle.nvm_engine.specs.Inside.Units.{AreOfUnit, IsLaidOut, AreAt, DoesPart, DoesParts, AnswersTo};
@@ -24,7 +25,7 @@ use nvm_plan::laws::{
     answers_of_the_step_are_replies, outcomes_are_made_part_by_part, outcomes_by_plan,
     parts_of_jobs, ready_jobs,
 };
-use nvm_plan::{Body, Job, LentPart, Plan, part_of, pieces_of_job, plan};
+use nvm_plan::{Body, Job, LentPart, Plan, job_part_in, job_pieces, plan};
 use nvm_record::{NoMemory, Op};
 use nvm_store::UnitBlocks;
 use nvm_store::laws::{acts_and_looks, single_act_succeeds};
@@ -89,13 +90,14 @@ impl Units {
         outcomes_are_made_part_by_part();
         ready_jobs();
         parts_of_jobs();
+        laws::parts_keep_their_kind();
         let geometry = self.geometry;
-        let pieces = pieces_of_job(&geometry, job);
+        let pieces = job_pieces(&geometry, job);
         let Ok(mut bytes) = room(alloc, &geometry, job) else {
             return DoneJob::of_no_part(&job.body);
         };
         for piece in pieces {
-            let Some(part) = part_of(&geometry, job, piece.unit) else {
+            let Some(part) = job_part_in(&geometry, job, piece.unit) else {
                 unreachable!("each piece is a part")
             };
             let told = self.do_part(alloc, number, piece.unit, part);
@@ -110,8 +112,8 @@ impl Units {
     fn do_part(&mut self, alloc: Global, number: u32, unit: u16, part: LentPart<'_>) -> Told
         requires laid { IsLaidOut (setup_of_units self.old) self.old.units.items }
         requires known { unit < units_of self.old.geometry }
-        requires covered { (first blocks : ℕ) → IsPlaceOf self.old.geometry unit first blocks
-            → IsCovered (place_at first blocks self.old.geometry.block_size) (part_operation_of part) }
+        requires covered { (place : UnitPlace) → IsUnitPlace self.old.geometry unit place
+            → IsCovered place (part_operation_of part) }
         ensures laid { IsLaidOut (setup_of_units self.new) self.new.units.items }
         ensures setup { setup_of_units self.new ≡ setup_of_units self.old }
         ensures part { (op : Operation) → part_operation_of part.entry ≡ part_in self.old.geometry op unit
@@ -119,6 +121,7 @@ impl Units {
         ensures read { TellsOfRead self.old.geometry.block_size (part_operation_of part.entry) result }
     {
         laws::part_has_its_blocks();
+        laws::parts_keep_their_kind();
         acts_and_looks();
         single_act_succeeds();
         answers_of_the_step_are_replies();

@@ -17,7 +17,7 @@ use Rattle.nvm_plan.specs.Operation.{operation_of_body, job_operation_of}
 use Rattle.nvm_record.specs.Deeds.{is_pair}
 use Rattle.nvm_plan.specs.Reply.{can_have, IsOneStatus}
 use Rattle.nvm_plan.specs.Shape.{IsTwoStatuses, EndsAtLast, HasEnding, HasShapeOf, HasShapeOfRefusal, HasOutcomeShape, IsForEach}
-use Rattle.nvm_plan.proofs.Endings.{one_shown, two_shown, one_unstarted, two_unstarted}
+use Rattle.nvm_plan.proofs.Endings.{one_shown, two_shown, one_success, two_success, one_unstarted, two_unstarted}
 
 -- what holds of each row's answer holds of the first that applies
 row_answer : (P : Statuses → Type 0) (b : Bool) (answer told : Statuses) (rest : Option Statuses) → P answer → (rest ≡ Some told → P told)
@@ -44,12 +44,14 @@ can_last ns op parts told e =
     last_part P e.before e.last (subst (AllByRecursion P) e.are e.results)
 
 one_ending : (ns : Namespace) (op : Operation) (parts : List Part) (told : Statuses) → is_pair op.deed ≡ false → HasEnding ns op parts told → IsOneStatus told
-one_ending ns op parts told pair (inl h) = subst IsOneStatus (sym h.statuses) (one_unstarted op.deed pair)
-one_ending ns op parts told pair (inr e) = one_shown op.deed e.last.result told pair (can_last ns op parts told e) e.statuses
+one_ending ns op parts told pair (inl h) = subst IsOneStatus (sym h.statuses) (one_success op.deed pair)
+one_ending ns op parts told pair (inr (inl h)) = subst IsOneStatus (sym h.statuses) (one_unstarted op.deed pair)
+one_ending ns op parts told pair (inr (inr e)) = one_shown op.deed e.last.result told pair (can_last ns op parts told e) e.statuses
 
 two_ending : (ns : Namespace) (op : Operation) (parts : List Part) (told : Statuses) → is_pair op.deed ≡ true → HasEnding ns op parts told → IsTwoStatuses told
-two_ending ns op parts told pair (inl h) = subst IsTwoStatuses (sym h.statuses) (two_unstarted op.deed pair)
-two_ending ns op parts told pair (inr e) = two_shown op.deed e.last.result told pair (can_last ns op parts told e) e.statuses
+two_ending ns op parts told pair (inl h) = subst IsTwoStatuses (sym h.statuses) (two_success op.deed pair)
+two_ending ns op parts told pair (inr (inl h)) = subst IsTwoStatuses (sym h.statuses) (two_unstarted op.deed pair)
+two_ending ns op parts told pair (inr (inr e)) = two_shown op.deed e.last.result told pair (can_last ns op parts told e) e.statuses
 
 single_deed : (c : Command) (op : Operation) → operation_of_body (Single c) ≡ Some op → is_pair op.deed ≡ false
 single_deed c op stands = grind (arith, common_steps)

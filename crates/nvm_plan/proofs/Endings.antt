@@ -4,8 +4,8 @@ use Rattle.nvm_record.specs.declared.status.Statuses.{Statuses}
 use Rattle.nvm_record.specs.Status.{IsSuccess}
 use Rattle.nvm_record.specs.Step.{Deed}
 use Rattle.nvm_plan.specs.declared.part.PartResult.{PartResult}
-use Rattle.nvm_record.specs.Deeds.{is_pair}
-use Rattle.nvm_plan.specs.Reply.{can_have, success_of, IsOneStatus, MayTell, GivesData}
+use Rattle.nvm_record.specs.Deeds.{is_pair, success_of}
+use Rattle.nvm_plan.specs.Reply.{can_have, IsOneStatus, MayTell, GivesData}
 use Rattle.nvm_plan.specs.Outcome.{answered, unstarted_of}
 use Rattle.nvm_plan.specs.Shape.{goes_on, IsTwoStatuses, MayShow}
 
@@ -43,3 +43,9 @@ one_unstarted deed pair = search rules
 
 pub two_unstarted : (deed : Deed) → is_pair deed ≡ true → IsTwoStatuses (unstarted_of deed)
 two_unstarted deed pair = search rules
+
+pub one_success : (deed : Deed) → is_pair deed ≡ false → IsOneStatus (success_of deed)
+one_success deed pair = search rules
+
+pub two_success : (deed : Deed) → is_pair deed ≡ true → IsTwoStatuses (success_of deed)
+two_success deed pair = search rules

@@ -1,5 +1,5 @@
 -- An outcome has the shape that a record shows.
-use Rattle.std.proofs.Common.{◌≡◌, ◌≢◌, ℕ, List, [], ◌∷◌, ◌++◌, map, Option, Some, None, MatchOption, IsTrue, refl, sym, ap, subst, ◌∙◌, inl, inr}
+use Rattle.std.proofs.Common.{◌≡◌, ℕ, List, [], ◌∷◌, ◌++◌, map, Option, Some, None, MatchOption, IsTrue, refl, sym, ap, subst, ◌∙◌, inl, inr}
 use Rattle.std.specs.List.{AllByRecursion}
 use Rattle.std.specs.Option.{IsSomeAnd}
 use Rattle.std.proofs.lemmas.List.{map_push, append_assoc}
@@ -14,7 +14,7 @@ use Rattle.nvm_plan.specs.Checks.{refusal_of}
 use Rattle.nvm_plan.specs.Operation.{job_operation_of}
 use Rattle.nvm_plan.specs.Reply.{Reply, can_have, IsReplyTo, IsSuccessfulReply}
 use Rattle.nvm_plan.specs.Outcome.{units_told, data_told, AllSucceed, StopsAtLast, IsOutcomeOf, IsOutcome}
-use Rattle.nvm_plan.specs.Shape.{goes_on, EndsAtLast, HasShapeOf, HasShapeOfRefusal, HasOutcomeShape}
+use Rattle.nvm_plan.specs.Shape.{goes_on, EndsAtLast, HasEnding, HasShapeOf, HasShapeOfRefusal, HasOutcomeShape}
 use Rattle.nvm_plan.proofs.Endings.{unstarted_fails, success_goes_on, told_shown, success_shown, answer_gives, no_data}
 use Rattle.nvm_plan.proofs.OneOutcome.{By}
 
@@ -113,27 +113,24 @@ succeed_shape ns op replies told read a e =
       whole = λ h. refl;
     }
 
--- Some unit is met.
-abbrev MeetsSome : Namespace → Operation → Type 0
-MeetsSome ns op = units_met ns op ≢ []
-
+-- All parts succeeded, or there was none.
 succeed_ends : (ns : Namespace) (op : Operation) (replies : List Reply) (told : Statuses) (read : Option (List ℕ))
-    → MeetsSome ns op → AllSucceed ns op replies told read → Ends replies
-succeed_ends ns op [] told read some a = absurd (some (sym a.done.units))
-succeed_ends ns op (r ∷ rs) told read some a = ends_after r rs
+    → AllSucceed ns op replies told read → HasEnding ns op (parts_of replies) told
+succeed_ends ns op [] told read a = inl (record { none_met = sym a.done.units; none_done = refl; statuses = a.statuses })
+succeed_ends ns op (r ∷ rs) told read a = inr (inr (succeed_shape ns op (r ∷ rs) told read a (ends_after r rs)))
 
 shape_of : (ns : Namespace) (op : Operation) (replies : List Reply) (told : Statuses) (read : Option (List ℕ))
-    → MeetsSome ns op → IsOutcomeOf ns op replies told read → HasShapeOf ns op (parts_of replies) told read
-shape_of ns op replies told read some (inl a) = record {
-  ending = inr (succeed_shape ns op replies told read a (succeed_ends ns op replies told read some a));
+    → IsOutcomeOf ns op replies told read → HasShapeOf ns op (parts_of replies) told read
+shape_of ns op replies told read (inl a) = record {
+  ending = succeed_ends ns op replies told read a;
   payload = rw (a.statuses, a.payload) (answer_gives op.deed (data_told replies));
 }
-shape_of ns op replies told read some (inr (inl s)) = record {
-  ending = inr (stop_shape ns op replies told read s);
+shape_of ns op replies told read (inr (inl s)) = record {
+  ending = inr (inr (stop_shape ns op replies told read s));
   payload = no_data op.deed told read s.payload (λ h. s.failure (subst IsSuccess s.statuses h));
 }
-shape_of ns op replies told read some (inr (inr u)) = record {
-  ending = inl (record { some = some; none_done = ap parts_of u.none_done; statuses = u.statuses });
+shape_of ns op replies told read (inr (inr u)) = record {
+  ending = inr (inl (record { some = u.some; none_done = ap parts_of u.none_done; statuses = u.statuses }));
   payload = no_data op.deed told read u.payload (λ h. unstarted_fails op.deed (subst IsSuccess u.statuses h));
 }
 
@@ -143,14 +140,12 @@ ShapeBy ns refused stands parts told read =
     MatchOption refused (IsSomeAnd stands (λ op. HasShapeOf ns op parts told read)) (λ refusal. HasShapeOfRefusal refusal parts told read)
 
 shape_by : (ns : Namespace) (refused : Option Statuses) (stands : Option Operation) (replies : List Reply) (told : Statuses) (read : Option (List ℕ))
-    → ((op : Operation) → refused ≡ None → stands ≡ Some op → MeetsSome ns op)
     → By ns refused stands replies told read → ShapeBy ns refused stands (parts_of replies) told read
-shape_by ns (Some refusal) stands replies told read some h =
+shape_by ns (Some refusal) stands replies told read h =
     record { none_done = ap parts_of h.none_done; statuses = h.statuses; payload = h.payload }
-shape_by ns None (Some op) replies told read some h = shape_of ns op replies told read (some op refl refl) h
-shape_by ns None None replies told read some h = h
+shape_by ns None (Some op) replies told read h = shape_of ns op replies told read h
+shape_by ns None None replies told read h = h
 
-pub outcome_shape : ((ns : Namespace) (job : Job) (op : Operation) → refusal_of ns job ≡ None → job_operation_of job ≡ Some op → MeetsSome ns op)
-    → (ns : Namespace) (job : Job) (replies : List Reply) (told : Statuses) (read : Option (List ℕ))
+pub outcome_shape : (ns : Namespace) (job : Job) (replies : List Reply) (told : Statuses) (read : Option (List ℕ))
     → IsOutcome ns job replies told read → HasOutcomeShape ns job (parts_of replies) told read
-outcome_shape some ns job replies told read h = shape_by ns (refusal_of ns job) (job_operation_of job) replies told read (some ns job) h
+outcome_shape ns job replies told read h = shape_by ns (refusal_of ns job) (job_operation_of job) replies told read h

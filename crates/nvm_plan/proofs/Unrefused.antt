@@ -51,3 +51,10 @@ body_in_unit ns body op ready stands pair = grind (arith, common_steps)
 pub pair_in_unit : (ns : Namespace) (job : Job) (op : Operation) → IsReady ns job → job_operation_of job ≡ Some op → IsPair op.deed
     → (0 < op.blocks) × (op.first + op.blocks ≤ ns.nsze) × LiesInUnit ns op.first op.blocks
 pair_in_unit ns job op = body_in_unit ns job.body op
+
+body_range : (ns : Namespace) (body : Body) (op : Operation) → IsReadyBody ns body → operation_of_body body ≡ Some op → (0 < op.blocks) × (op.first + op.blocks ≤ ns.nsze)
+body_range ns body op ready stands = grind (arith, common_steps)
+
+-- the operation of a job that is ready has a block, and lies in the namespace
+pub range_inside : (ns : Namespace) (job : Job) (op : Operation) → IsReady ns job → job_operation_of job ≡ Some op → (0 < op.blocks) × (op.first + op.blocks ≤ ns.nsze)
+range_inside ns job op = body_range ns job.body op

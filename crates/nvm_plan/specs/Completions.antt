@@ -6,7 +6,7 @@ use Rattle.nvm_record.specs.declared.status.Status.{Status}
 use Rattle.nvm_record.specs.declared.status.Statuses.{Statuses}
 use Rattle.nvm_record.specs.declared.status.Statuses.TheVariants.{One, Two}
 use Rattle.nvm_plan.specs.declared.completions.Completions.{Completions}
-use Rattle.nvm_plan.specs.declared.completions.Completions.TheVariants as told
+use Rattle.nvm_plan.specs.declared.completions.Completions.TheVariants as completions
 use Rattle.nvm_plan.specs.declared.job.Body.{Body}
 use Rattle.nvm_plan.specs.declared.job.Body.TheVariants.{Single, Pair}
 use Rattle.nvm_plan.specs.declared.job.Job.{Job}
@@ -15,7 +15,7 @@ use Rattle.nvm_plan.specs.declared.job.Job.{Job}
 abbrev pub completion : ℕ → Command → Status → Option (List ℕ) → Completion
 completion host c status payload = record { host = host; cid = c.cid; status = status; payload = payload }
 
--- the status of the first command, and of the second; where there is but one status, it is that of both
+-- the status of the first command, and of the second; what stands there where there is one status alone, is never asked for
 abbrev pub first_status : Statuses → Status
 first_status (One s) = s
 first_status (Two s t) = s
@@ -26,9 +26,9 @@ second_status (Two s t) = t
 
 -- A command by itself has the job's data, and the commands of a pair have none.
 abbrev pub body_completions : ℕ → Body → Statuses → Option (List ℕ) → Completions
-body_completions host (Single c) statuses payload = told.One (completion host c (first_status statuses) payload)
+body_completions host (Single c) statuses payload = completions.One (completion host c (first_status statuses) payload)
 body_completions host (Pair c d) statuses payload =
-    told.Two (completion host c (first_status statuses) None) (completion host d (second_status statuses) None)
+    completions.Two (completion host c (first_status statuses) None) (completion host d (second_status statuses) None)
 
 -- the completions of a job with these statuses and this data
 abbrev pub completions_of : Job → Statuses → Option (List ℕ) → Completions

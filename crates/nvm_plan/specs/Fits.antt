@@ -1,4 +1,4 @@
--- What a job must be before it is planned, done or recorded.
+-- What a job must be before it is done or recorded (own).
 use Rattle.std.specs.Prelude.{ℕ, ◌≤◌}
 use Rattle.nvm_record.specs.Entry.{IsWhole}
 use Rattle.nvm_geometry.specs.Namespace.{Namespace}
@@ -7,7 +7,7 @@ use Rattle.nvm_plan.specs.declared.job.Body.TheVariants.{Single, Pair}
 use Rattle.nvm_plan.specs.declared.job.Job.{Job}
 use Rattle.nvm_plan.specs.Profile.{IsFusedPair}
 
--- a namespace has at most 64 hosts, numbered from 1
+-- a run has at most 64 hosts, numbered from 1
 abbrev pub most_hosts : ℕ
 most_hosts = 64
 

@@ -4,9 +4,11 @@ pub mod Operation
 pub mod Checks
 pub mod Ready
 pub mod Fits
+pub mod UnitPlace
 pub mod JobPart
 pub mod LentPart
 pub mod Reply
+pub mod CallOf
 pub mod Outcome
 pub mod Shape
 pub mod Completions

@@ -22,13 +22,13 @@ single_operation WriteZeroes c = Some (on_range c zeroes)
 single_operation (Other opcode) c = None
 
 -- what a fused pair does: Compare and Write, and no other
-abbrev pub operation_of_pair : Op → Op → Command → Command → Option Operation
-operation_of_pair Compare Write c d = Some (on_range c (pairs c.payload d.payload))
-operation_of_pair _ _ c d = None
+abbrev pub fused_operation : Op → Op → Command → Command → Option Operation
+fused_operation Compare Write c d = Some (on_range c (pairs c.payload d.payload))
+fused_operation _ _ c d = None
 
 abbrev pub operation_of_body : Body → Option Operation
 operation_of_body (Single c) = single_operation c.op c
-operation_of_body (Pair c d) = operation_of_pair c.op d.op c d
+operation_of_body (Pair c d) = fused_operation c.op d.op c d
 
 -- The operation that a job stands for. Each job that isn't refused has one.
 abbrev pub job_operation_of : Job → Option Operation

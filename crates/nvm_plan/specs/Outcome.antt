@@ -7,14 +7,14 @@ use Rattle.std.specs.List.{AllByRecursion, flat_map}
 use Rattle.nvm_record.specs.declared.status.Statuses.{Statuses}
 use Rattle.nvm_record.specs.declared.status.Statuses.TheVariants.{One, Two}
 use Rattle.nvm_record.specs.Status.{IsSuccess, internal_error, aborted_due_to_failed_fused_command}
-use Rattle.nvm_record.specs.Deeds.{is_read}
+use Rattle.nvm_record.specs.Deeds.{is_read, for_deed, success_of}
 use Rattle.nvm_record.specs.Step.{Deed, Operation}
 use Rattle.nvm_geometry.specs.Namespace.{Namespace}
 use Rattle.nvm_geometry.specs.Parts.{units_met}
 use Rattle.nvm_plan.specs.declared.job.Job.{Job}
 use Rattle.nvm_plan.specs.Checks.{refusal_of}
 use Rattle.nvm_plan.specs.Operation.{job_operation_of}
-use Rattle.nvm_plan.specs.Reply.{Reply, for_deed, success_of, IsReplyTo, IsSuccessfulReply}
+use Rattle.nvm_plan.specs.Reply.{Reply, IsReplyTo, IsSuccessfulReply}
 
 -- the units in which these parts were done, in their order
 abbrev pub units_told : List Reply → List ℕ

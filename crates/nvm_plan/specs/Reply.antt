@@ -1,10 +1,10 @@
 -- What a unit tells of the part of an operation that it did.
-use Rattle.std.specs.Prelude.{◌≡◌, ◌⊎◌, ◌↔◌, ℕ, if◌then◌else◌, List, Bool, true, not, Option, None, IsTrue, IsSome}
+use Rattle.std.specs.Prelude.{◌≡◌, ◌⊎◌, ◌↔◌, ℕ, List, Bool, true, not, Option, None, IsTrue, IsSome}
 use Rattle.nvm_record.specs.declared.status.Status.{Status}
 use Rattle.nvm_record.specs.declared.status.Statuses.{Statuses}
 use Rattle.nvm_record.specs.declared.status.Statuses.TheVariants.{One, Two}
 use Rattle.nvm_record.specs.Status.{IsSuccess, successful_completion, internal_error, aborted_due_to_failed_fused_command, unrecovered_read_error, compare_failure}
-use Rattle.nvm_record.specs.Deeds.{is_read, is_look, is_pair}
+use Rattle.nvm_record.specs.Deeds.{is_read, is_look, is_pair, for_deed, success_of}
 use Rattle.nvm_record.specs.Medium.{Medium}
 use Rattle.nvm_record.specs.Step.{Deed, Operation, writes, zeroes, uncorrectable, reads, compares, pairs, statuses_of, data_of}
 use Rattle.nvm_geometry.specs.Namespace.{Namespace}
@@ -27,15 +27,7 @@ can_have deed Looked = is_look deed
 can_have deed NoMemory = true
 can_have deed Full = not (is_look deed)
 
--- one status for a command by itself, two for a pair
-abbrev pub for_deed : Deed → Statuses → Statuses → Statuses
-for_deed deed one two = if is_pair deed then two else one
-
--- what is told of success
-abbrev pub success_of : Deed → Statuses
-success_of deed = for_deed deed (One successful_completion) (Two successful_completion successful_completion)
-
--- What is told where memory was refused in a unit, or its history is full. A pair's comparison came
+-- What is told of a stop: memory was refused in a unit, or its history is full. A pair's comparison came
 -- before that, and held.
 abbrev pub stop_of : Deed → Statuses
 stop_of deed = for_deed deed (One internal_error) (Two successful_completion internal_error)

@@ -4,6 +4,7 @@ use Rattle.std.specs.Prelude.{◌≡◌, ◌≢◌, ◌⊎◌, ◌↔◌, ℕ, L
 use Rattle.std.specs.List.{AllByRecursion}
 use Rattle.nvm_record.specs.declared.status.Statuses.{Statuses}
 use Rattle.nvm_record.specs.declared.status.Statuses.TheVariants.{One, Two}
+use Rattle.nvm_record.specs.Deeds.{success_of}
 use Rattle.nvm_record.specs.Status.{IsSuccess}
 use Rattle.nvm_record.specs.Step.{Deed, Operation}
 use Rattle.nvm_geometry.specs.Namespace.{Namespace}
@@ -16,7 +17,7 @@ use Rattle.nvm_plan.specs.declared.part.PartResult.{PartResult}
 use Rattle.nvm_plan.specs.declared.part.PartResult.TheVariants.{Done, Failed, Looked, NoMemory, Full}
 use Rattle.nvm_plan.specs.Checks.{refusal_of}
 use Rattle.nvm_plan.specs.Operation.{job_operation_of}
-use Rattle.nvm_plan.specs.Reply.{can_have, success_of, stop_of, IsOneStatus, GivesData}
+use Rattle.nvm_plan.specs.Reply.{can_have, stop_of, IsOneStatus, GivesData}
 use Rattle.nvm_plan.specs.Outcome.{unstarted_of}
 
 -- a part that ended so may have others after it
@@ -53,6 +54,12 @@ pub record EndsAtLast (ns : Namespace) (op : Operation) (parts : List Part) (tol
   pub statuses : MayShow op.deed last.result told
   pub whole : IsSuccess told → left ≡ []
 
+-- The operation meets no unit: nothing is done, and that is success.
+pub record MeetsNoUnit (ns : Namespace) (op : Operation) (parts : List Part) (told : Statuses) : Type 0 where
+  pub none_met : units_met ns op ≡ []
+  pub none_done : parts ≡ []
+  pub statuses : told ≡ success_of op.deed
+
 -- Nothing was done of an operation that has a part, for want of memory before the first.
 pub record HasNoneDone (ns : Namespace) (op : Operation) (parts : List Part) (told : Statuses) : Type 0 where
   pub some : units_met ns op ≢ []
@@ -61,7 +68,7 @@ pub record HasNoneDone (ns : Namespace) (op : Operation) (parts : List Part) (to
 
 -- The parts and the statuses are those of an operation that isn't refused.
 abbrev pub HasEnding : Namespace → Operation → List Part → Statuses → Type 0
-HasEnding ns op parts told = HasNoneDone ns op parts told ⊎ EndsAtLast ns op parts told
+HasEnding ns op parts told = MeetsNoUnit ns op parts told ⊎ (HasNoneDone ns op parts told ⊎ EndsAtLast ns op parts told)
 
 pub record HasShapeOf (ns : Namespace) (op : Operation) (parts : List Part) (told : Statuses) (read : Option (List ℕ)) : Type 0 where
   pub ending : HasEnding ns op parts told

@@ -5,7 +5,7 @@ use crate::job::{Body, Job};
 use nvm_record::{Command, Completion, Payload, Status, Statuses};
 
 /// What a host is told of a job: a completion for each of its commands.
-#[derive(Debug, Drop)]
+#[derive(Debug, PartialEq, Eq, Drop)]
 pub enum Completions {
     One(Completion),
     /// The first command's, then the second's.

@@ -4,25 +4,26 @@
 ghost use Rattle.std.specs.Prelude.{◌≡◌, ◌≢◌, ◌↔◌, ◌*◌, ◌+◌, ◌<◌, ◌≤◌, ℕ, List, [], ◌∷◌, ◌++◌, Contains, map, Option, None, Some, unwrap_or, IsSome, false};
 ghost use Rattle.nvm_record.specs.declared.status.Statuses.{Statuses};
 ghost use Rattle.nvm_record.specs.Medium.{Medium};
-ghost use Rattle.nvm_record.specs.Deeds.{IsLook, IsAct, IsPair};
+ghost use Rattle.nvm_record.specs.Deeds.{IsLook, IsAct, IsPair, success_of};
 ghost use Rattle.nvm_record.specs.Status.{IsSuccess};
 ghost use Rattle.nvm_record.specs.Step.{Deed, HasData, Operation, statuses_of};
 ghost use Rattle.nvm_geometry.specs.Namespace.{Namespace};
 ghost use Rattle.nvm_geometry.specs.Boundaries.{unit_number};
 ghost use Rattle.nvm_geometry.specs.Limits.{IsWithinPairLimit};
 ghost use Rattle.nvm_geometry.specs.Parts.{part_in, units_met};
-ghost use Rattle.nvm_geometry.specs.Place.{IsPlaceOf};
-ghost use Rattle.nvm_store.specs.Place.{place_at, IsCovered};
+ghost use Rattle.nvm_store.specs.declared.place.Place.{Place as UnitPlace};
+ghost use Rattle.nvm_store.specs.Place.{IsCovered};
+ghost use Rattle.nvm_plan.specs.UnitPlace.{IsUnitPlace};
 ghost use Rattle.nvm_plan.specs.declared.job.Job.{Job};
 ghost use Rattle.nvm_plan.specs.declared.part.Part.{Part};
 ghost use Rattle.nvm_plan.specs.declared.part.PartResult.TheVariants.{Done, Failed, Looked, NoMemory, Full};
 ghost use Rattle.nvm_plan.specs.Checks.{exceeds_pair_limit, refusal_of};
 ghost use Rattle.nvm_plan.specs.Fits.{FitsNamespace};
-ghost use Rattle.nvm_plan.specs.JobPart.{job_units, part_here};
+ghost use Rattle.nvm_plan.specs.JobPart.{job_units, job_part_in};
 ghost use Rattle.nvm_plan.specs.Operation.{job_operation_of};
 ghost use Rattle.nvm_plan.specs.Outcome.{answered, data_told, unstarted_of, AreDone, IsOutcomeOf, IsRefused, IsOutcome};
 ghost use Rattle.nvm_plan.specs.Ready.{IsReady};
-ghost use Rattle.nvm_plan.specs.Reply.{Reply, success_of, reply_on, reply_of_stop, IsReplyTo, IsSuccessfulReply};
+ghost use Rattle.nvm_plan.specs.Reply.{Reply, reply_on, reply_of_stop, IsReplyTo, IsSuccessfulReply};
 ghost use Rattle.nvm_plan.specs.Shape.{HasShapeOf, HasShapeOfRefusal, HasOutcomeShape, IsForEach};
 
 use nvm_geometry::laws;
@@ -54,7 +55,7 @@ pub fn ready_jobs()
         → units_met ns op ≡ unit_number ns op.first ∷ [] }
 {
     laws::sharing_is_one_number();
-    laws::pieces_stand_in_line();
+    laws::parts_lie_in_their_units();
     laws::one_unit_is_one_part();
 }
 
@@ -67,19 +68,22 @@ pub fn jobs_that_fit_have_their_data()
     ready_jobs();
 }
 
-/// A job has a part in just the units that its operation meets, and no part where a check refuses it. The part of
-/// a job that fits lies in its unit, has a block, and has just its data.
+/// A job has a part in just the units that its operation meets, and that part is its operation's. One that a
+/// check refuses has none. The part of a job that fits lies in its unit, has a block, and has just its data.
 pub fn parts_of_jobs()
     ensures part { (ns : Namespace) (job : Job) (op : Operation) (unit : ℕ) → refusal_of ns job ≡ None
         → job_operation_of job ≡ Some op → Contains (units_met ns op) unit
-        → part_here ns job unit ≡ Some (part_in ns op unit) }
+        → job_part_in ns job unit ≡ Some (part_in ns op unit) }
+    ensures known { (ns : Namespace) (job : Job) (unit : ℕ) (part : Operation) → job_part_in ns job unit ≡ Some part
+        → (refusal_of ns job ≡ None) × (op : Operation) × (job_operation_of job ≡ Some op)
+        × Contains (units_met ns op) unit × (part ≡ part_in ns op unit) }
     ensures units { (ns : Namespace) (job : Job) (op : Operation) → refusal_of ns job ≡ None
         → job_operation_of job ≡ Some op → job_units ns job ≡ units_met ns op }
-    ensures met { (ns : Namespace) (job : Job) (unit : ℕ) (part : Operation) → part_here ns job unit ≡ Some part
-        → Contains (job_units ns job) unit }
-    ensures covered { (ns : Namespace) (job : Job) (unit first blocks : ℕ) (part : Operation) → FitsNamespace ns job
-        → part_here ns job unit ≡ Some part → IsPlaceOf ns unit first blocks
-        → IsCovered (place_at first blocks ns.block_size) part }
+    ensures refused { (ns : Namespace) (job : Job) (refusal : Statuses) (unit : ℕ) → refusal_of ns job ≡ Some refusal
+        → (job_units ns job ≡ []) × (job_part_in ns job unit ≡ None) }
+    ensures covered { (ns : Namespace) (job : Job) (unit : ℕ) (place : UnitPlace) (part : Operation)
+        → FitsNamespace ns job → job_part_in ns job unit ≡ Some part → IsUnitPlace ns unit place
+        → IsCovered place part }
 {
     laws::parts_lie_in_their_units();
     ready_jobs();
@@ -157,9 +161,7 @@ pub fn outcomes_have_their_shape()
     ensures { (ns : Namespace) (job : Job) (replies : List Reply) (told : Statuses) (read : Option (List ℕ))
         → IsOutcome ns job replies told read
         → HasOutcomeShape ns job (map (λ reply. reply.part) replies) told read }
-{
-    ready_jobs();
-}
+{}
 
 /// An outcome has a status for each command of its job, and so has its shape.
 pub fn each_command_has_a_status()

@@ -1,14 +1,17 @@
-ghost use Rattle.std.specs.Prelude.{◌≡◌, ◌+◌, ◌-◌, ◌*◌, ◌≤◌, length, ℕ, IfSome, IsTrue, MatchOption, None, Some};
+ghost use Rattle.std.specs.Prelude.{◌≡◌, ◌+◌, ◌-◌, ◌*◌, ◌≤◌, length, map, IfSome, IsTrue, MatchOption, None, Some};
 ghost use Rattle.nvm_record.specs.Entry.{IsWhole};
 ghost use Rattle.nvm_record.specs.Step.{Operation};
 ghost use Rattle.nvm_geometry.specs.Parts.{data_part, part_in, piece_in, pieces_of};
-ghost use Rattle.nvm_geometry.specs.Place.{IsPlaceOf};
-ghost use Rattle.nvm_store.specs.Place.{place_at, IsCovered};
+ghost use Rattle.nvm_geometry.specs.Boundaries.{units_of};
+ghost use Rattle.nvm_store.specs.declared.place.Place.{Place as UnitPlace};
+ghost use Rattle.nvm_store.specs.Place.{IsCovered};
+ghost use Rattle.nvm_plan.specs.UnitPlace.{IsUnitPlace};
 ghost use Rattle.nvm_plan.specs.Checks.{refusal_of};
 ghost use Rattle.nvm_plan.specs.Fits.{FitsNamespace, IsWholeBody};
-ghost use Rattle.nvm_plan.specs.JobPart.{job_units, part_here, part_served};
+ghost use Rattle.nvm_plan.specs.JobPart as spec;
+ghost use Rattle.nvm_plan.specs.JobPart.{job_units, part_of_ready};
 ghost use Rattle.nvm_plan.specs.LentPart.{part_operation_of};
-ghost use Rattle.nvm_plan.specs.Operation.{single_operation, operation_of_pair, operation_of_body, job_operation_of};
+ghost use Rattle.nvm_plan.specs.Operation.{single_operation, fused_operation, operation_of_body, job_operation_of};
 ghost use Rattle.nvm_plan.specs.Profile.{is_in_profile};
 ghost use Rattle.nvm_plan.specs.Ready.{IsReadyBody, IsReadyPair};
 
@@ -16,7 +19,7 @@ use crate::checks::plan;
 use crate::decision::Plan;
 use crate::job::{Body, Job};
 use crate::laws::{parts_of_jobs, ready_jobs};
-use nvm_geometry::{Geometry, Parts, Piece};
+use nvm_geometry::{Geometry, Parts, Piece, laws};
 use nvm_record::{BlockSize, Command, Op};
 use nvm_store::{ActRef, Look};
 
@@ -32,14 +35,14 @@ pub enum LentPart<'a> {
 /// A job's part in a unit: what is done there, on just those of its blocks that lie in the unit and with just
 /// their data. It is `None` where a check refuses the job, where none of its blocks lies in the unit, and where
 /// no unit has that number. It takes no memory and a constant number of steps.
-pub fn part_of<'a>(geometry: &Geometry, job: &'a Job, unit: u16) -> Option<LentPart<'a>>
+pub fn job_part_in<'a>(geometry: &Geometry, job: &'a Job, unit: u16) -> Option<LentPart<'a>>
     requires { FitsNamespace geometry.now job.now }
-    ensures part { MatchOption result (part_here geometry.now job.now unit ≡ None)
-        (λ part. part_here geometry.now job.now unit ≡ Some (part_operation_of part)) }
+    ensures part { MatchOption result (spec.job_part_in geometry.now job.now unit ≡ None)
+        (λ part. spec.job_part_in geometry.now job.now unit ≡ Some (part_operation_of part)) }
 
     // The part lies in the unit's place, has a block, and has just its data.
-    ensures covered { IfSome result (λ part. (first blocks : ℕ) → IsPlaceOf geometry.now unit first blocks
-        → IsCovered (place_at first blocks geometry.now.block_size) (part_operation_of part)) }
+    ensures covered { IfSome result (λ part. (place : UnitPlace) → IsUnitPlace geometry.now unit place
+        → IsCovered place (part_operation_of part)) }
 {
     parts_of_jobs();
     match plan(geometry, job) {
@@ -49,27 +52,31 @@ pub fn part_of<'a>(geometry: &Geometry, job: &'a Job, unit: u16) -> Option<LentP
 }
 
 /// The pieces of a job's range, ascending: one for each unit in which the job has a part.
-pub fn pieces_of_job(geometry: &Geometry, job: &Job) -> Parts
+pub fn job_pieces(geometry: &Geometry, job: &Job) -> Parts
     requires { refusal_of geometry.now job.now ≡ None }
-    ensures { (op : Operation) → job_operation_of job.now ≡ Some op
+    ensures pieces { (op : Operation) → job_operation_of job.now ≡ Some op
         → result ≡ pieces_of geometry.now op.first op.blocks }
+    ensures units { map (λ p. p.unit) result ≡ job_units geometry.now job.now }
 {
+    laws::pieces_stand_in_line();
     ready_jobs();
+    parts_of_jobs();
     let command = leader(&job.body);
     geometry.parts(command.slba, u32::from(command.nlb) + 1)
 }
 
 /// In how many units a job has a part: 0 where a check refuses it. It takes no memory and a constant number
 /// of steps.
-pub fn parts_count(geometry: &Geometry, job: &Job) -> u16
-    ensures { result ≡ length (job_units geometry.now job.now) }
+pub fn job_part_count(geometry: &Geometry, job: &Job) -> u16
+    ensures value { result ≡ length (job_units geometry.now job.now) }
+    ensures valid { result ≤ units_of geometry.now }
 {
     ready_jobs();
     match plan(geometry, job) {
         Plan::Refused(_) => 0,
         Plan::Ready => {
             let command = leader(&job.body);
-            geometry.part_count(command.slba, u32::from(command.nlb) + 1)
+            geometry.piece_count(command.slba, u32::from(command.nlb) + 1)
         }
     }
 }
@@ -89,16 +96,16 @@ fn leader(body: &Body) -> &Command
 fn body_part<'a>(geometry: Geometry, body: &'a Body, unit: u16) -> Option<LentPart<'a>>
     requires ready { IsReadyBody geometry body.now }
     requires whole { IsWholeBody geometry.block_size body.now }
-    ensures { MatchOption result (part_served geometry (operation_of_body body.now) unit ≡ None)
-        (λ part. part_served geometry (operation_of_body body.now) unit ≡ Some (part_operation_of part)) }
+    ensures { MatchOption result (part_of_ready geometry (operation_of_body body.now) unit ≡ None)
+        (λ part. part_of_ready geometry (operation_of_body body.now) unit ≡ Some (part_operation_of part)) }
 {
     match body {
         Body::Single(command) => {
-            let piece = geometry.part_in(unit, command.slba, u32::from(command.nlb) + 1)?;
+            let piece = geometry.piece_in(unit, command.slba, u32::from(command.nlb) + 1)?;
             Some(single_part(geometry, command, piece))
         }
         Body::Pair(compare, write) => {
-            let piece = geometry.part_in(unit, compare.slba, u32::from(compare.nlb) + 1)?;
+            let piece = geometry.piece_in(unit, compare.slba, u32::from(compare.nlb) + 1)?;
             Some(pair_part(geometry, compare, write, piece))
         }
     }
@@ -120,14 +127,14 @@ fn single_part<'a>(geometry: Geometry, command: &'a Command, piece: Piece) -> Le
         Op::Write => LentPart::Act(ActRef::Write {
             first,
             blocks,
-            payload: data_of(command, piece, size),
+            payload: piece_data(command, piece, size),
         }),
         Op::Read => LentPart::Look(Look::Read { first, blocks }),
         Op::WriteUncorrectable => LentPart::Act(ActRef::Uncorrectable { first, blocks }),
         Op::Compare => LentPart::Look(Look::Compare {
             first,
             blocks,
-            payload: data_of(command, piece, size),
+            payload: piece_data(command, piece, size),
         }),
         Op::WriteZeroes => LentPart::Act(ActRef::Zeroes { first, blocks }),
         Op::Other(_) => unreachable!("it isn't of the profile"),
@@ -147,20 +154,20 @@ fn pair_part<'a>(
     requires piece { piece ≡ piece_in geometry compare.now.slba (compare.now.nlb + 1) piece.unit }
     requires within { piece.first + piece.blocks ≤ compare.now.slba + (compare.now.nlb + 1) }
     ensures { (op : Operation)
-        → operation_of_pair compare.now.op write.now.op compare.now write.now ≡ Some op
+        → fused_operation compare.now.op write.now.op compare.now write.now ≡ Some op
         → part_operation_of result ≡ part_in geometry op piece.unit }
 {
     let size = geometry.block_size();
     LentPart::Act(ActRef::Pair {
         first: piece.first,
         blocks: piece.blocks,
-        compare: data_of(compare, piece, size),
-        write: data_of(write, piece, size),
+        compare: piece_data(compare, piece, size),
+        write: piece_data(write, piece, size),
     })
 }
 
 /// The data of a command that belongs to a piece of its range.
-fn data_of(command: &Command, piece: Piece, size: BlockSize) -> &[u8]
+fn piece_data(command: &Command, piece: Piece, size: BlockSize) -> &[u8]
     requires payload { length command.now.payload ≡ (command.now.nlb + 1) * size }
     requires low { command.now.slba ≤ piece.first }
     requires high { piece.first + piece.blocks ≤ command.now.slba + (command.now.nlb + 1) }

@@ -2,7 +2,7 @@
 //! anything is done, and what each of them asks of a unit.
 //!
 //! [`jobs`] pairs the hosts' commands and puts them in order, [`plan`] is the table of checks, and [`fits`]
-//! tests what a job must be before it. [`part_of`] is a job's act or look in one unit, and [`Completions`]
+//! tests what a job must be before it. [`job_part_in`] is a job's act or look in one unit, and [`Completions`]
 //! are what its host is told. What a job does to the medium and what its outcome is stands in specs alone;
 //! [`laws`] and [`job_laws`] have what holds of these.
 #![tactic(auto)]
@@ -18,6 +18,7 @@ pub mod laws;
 mod lent_part;
 mod pairing;
 mod part;
+mod place;
 mod profile;
 #[cfg(test)]
 mod tests;
@@ -28,5 +29,6 @@ pub use decision::Plan;
 pub use fit::{MOST_HOSTS, fits};
 pub use job::{Body, Job};
 pub use job_list::jobs;
-pub use lent_part::{LentPart, part_of, parts_count, pieces_of_job};
+pub use lent_part::{LentPart, job_part_count, job_part_in, job_pieces};
 pub use part::{Part, PartResult};
+pub use place::unit_place;

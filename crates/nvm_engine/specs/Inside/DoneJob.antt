@@ -3,7 +3,7 @@ use Rattle.std.specs.Prelude.{ℕ, List, None}
 use Rattle.nvm_record.specs.declared.status.Statuses.{Statuses}
 use Rattle.nvm_record.specs.Step.{Deed}
 use Rattle.nvm_plan.specs.Outcome.{answered}
-use Rattle.nvm_plan.specs.Reply.{success_of}
+use Rattle.nvm_record.specs.Deeds.{success_of}
 use Rattle.nvm_engine.specs.declared.done_job.DoneJob.{DoneJob}
 
 -- statuses, and no data

@@ -8,15 +8,16 @@ use Rattle.nvm_record.specs.declared.status.Statuses.TheVariants.{One}
 use Rattle.nvm_geometry.specs.Namespace.{Namespace}
 use Rattle.nvm_geometry.specs.Boundaries.{units_of}
 use Rattle.nvm_geometry.specs.Parts.{part_in}
-use Rattle.nvm_geometry.specs.Place.{IsPlaceOf}
 use Rattle.nvm_geometry.specs.declared.piece.Piece.{Piece}
+use Rattle.nvm_plan.specs.UnitPlace.{IsUnitPlace}
 use Rattle.nvm_plan.specs.Outcome.{data_told, AreDone, IsOutcomeOf}
-use Rattle.nvm_plan.specs.Reply.{Reply, success_of, stop_of, IsReplyTo}
+use Rattle.nvm_record.specs.Deeds.{success_of}
+use Rattle.nvm_plan.specs.Reply.{Reply, stop_of, IsReplyTo}
 use Rattle.nvm_plan.specs.declared.job.Job.{Job}
 use Rattle.nvm_plan.specs.declared.part.PartResult.{PartResult}
 use Rattle.nvm_plan.specs.declared.part.PartResult.TheVariants as result
 use Rattle.nvm_store.specs.Answer.{told_by, read_by}
-use Rattle.nvm_store.specs.Contents.{Contents, Holds}
+use Rattle.nvm_store.specs.Contents.{Contents, Holds, place_of}
 use Rattle.nvm_store.specs.declared.look.answer.Answer.TheVariants.{Payload, Status}
 use Rattle.nvm_engine.specs.Inside.DoneJob.{told}
 use Rattle.nvm_engine.specs.Run.{Setup, Counts, Rests, medium_left, counts_left, Does, IsBegun, RunsJob}
@@ -26,9 +27,8 @@ use Rattle.nvm_engine.specs.declared.atomic_unit.Told.TheVariants.{Done, Failed,
 use Rattle.nvm_engine.specs.declared.done_job.DoneJob.{DoneJob}
 
 -- The contents are those of unit `k`.
-pub record AreOfUnit (ns : Namespace) (k : ℕ) (u : Contents) : Type 0 where
-  pub size : u.size ≡ ns.block_size
-  pub place : IsPlaceOf ns k u.first (length u.blocks)
+abbrev pub AreOfUnit : Namespace → ℕ → Contents → Type 0
+AreOfUnit ns k u = IsUnitPlace ns k (place_of u)
 
 -- Unit k stands at place k, and its history is within the limit.
 abbrev pub AreUnits : Setup → List AtomicUnit → Type 0

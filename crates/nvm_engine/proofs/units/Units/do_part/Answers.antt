@@ -2,7 +2,7 @@ use Rattle.std.proofs.Common.{◌≡◌, get_or, sym, subst}
 use Rattle.nvm_geometry.specs.Parts.{part_in}
 use Rattle.nvm_store.specs.ActRef.{lent_operation_of}
 use Rattle.nvm_store.specs.Look.{look_operation_of}
-use Rattle.nvm_store.specs.Place.{place_at, IsCovered}
+use Rattle.nvm_store.specs.Place.{IsCovered}
 use Rattle.nvm_plan.specs.LentPart.{part_operation_of}
 use Rattle.nvm_plan.specs.declared.lent_part.LentPart.{LentPart}
 use Rattle.nvm_engine.specs.Inside.Setup.{setup_of_units}
@@ -14,12 +14,12 @@ use Rattle.nvm_engine.proofs.units.Units.do_part.Goals as goal
 pub change-requires-clause-covered : goal.change-requires-clause-covered
 change-requires-clause-covered c =
     lies_there (setup_of_units c.args.self.now) c.args.self.now.units.items c.args.unit c.index_mut-unit.result.now (lent_operation_of c.in-Act.act) c.requires.laid c.requires.known c.index_mut-unit.ensures.value
-    (λ first blocks place. subst (λ (p : LentPart). IsCovered (place_at first blocks c.args.self.now.geometry.block_size) (part_operation_of p)) c.in-Act.is (c.requires.covered first blocks place))
+    (λ place lies. subst (λ (p : LentPart). IsCovered place (part_operation_of p)) c.in-Act.is (c.requires.covered place lies))
 
 pub look-requires : goal.look-requires
 look-requires c =
     lies_there (setup_of_units c.args.self.now) c.args.self.now.units.items c.args.unit c.index-unit.result.now (look_operation_of c.in-Look.look) c.requires.laid c.requires.known c.index-unit.ensures
-    (λ first blocks place. subst (λ (p : LentPart). IsCovered (place_at first blocks c.args.self.now.geometry.block_size) (part_operation_of p)) c.in-Look.is (c.requires.covered first blocks place))
+    (λ place lies. subst (λ (p : LentPart). IsCovered place (part_operation_of p)) c.in-Look.is (c.requires.covered place lies))
 
 pub returns-in-Act-clause-part : goal.returns-in-Act-clause-part
 returns-in-Act-clause-part c = λ op is.
@@ -27,6 +27,7 @@ returns-in-Act-clause-part c = λ op is.
     let same = subst (λ (p : LentPart). part_operation_of p ≡ part_in c.args.self.now.geometry op c.args.unit) c.in-Act.is is in
     changes_part (setup_of_units c.args.self.now) op (lent_operation_of c.in-Act.act) c.args.unit c.args.self.now.units.items c.index_mut-unit.result.now c.change.new.self
     c.requires.laid c.requires.known at same (c.acts_and_looks.ensures.acts c.in-Act.act)
+    (c.parts_keep_their_kind.ensures.look c.args.self.now.geometry op c.args.unit) (c.parts_keep_their_kind.ensures.pair c.args.self.now.geometry op c.args.unit)
     (λ lba. c.part_has_its_blocks.ensures.lbas c.args.self.now.geometry op c.args.unit lba)
     (c.answers_of_the_step_are_replies.ensures.done c.args.self.now.geometry op)
     (c.answers_of_the_step_are_replies.ensures.failed c.args.self.now.geometry op)
@@ -41,6 +42,7 @@ returns-in-Look-clause-part c = λ op is.
     let same = subst (λ (p : LentPart). part_operation_of p ≡ part_in c.args.self.now.geometry op c.args.unit) c.in-Look.is is in
     looks_at_part (setup_of_units c.args.self.now) op (look_operation_of c.in-Look.look) c.args.unit c.args.self.now.units.items c.index-unit.result.now
     c.requires.laid c.requires.known at same (c.acts_and_looks.ensures.looks c.in-Look.look)
+    (c.parts_keep_their_kind.ensures.look c.args.self.now.geometry op c.args.unit)
     (c.answers_of_the_step_are_replies.ensures.looked c.args.self.now.geometry op)
     (c.answers_of_the_step_are_replies.ensures.no_memory op.deed)
     c.look.result c.look.ensures
