@@ -1,6 +1,5 @@
 pub mod PartLemmas
 pub mod ToldLemmas
-pub mod JobOperations
 pub mod PartsLeft
 pub mod Rooms
 pub mod ReplyLemmas
