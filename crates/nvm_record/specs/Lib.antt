@@ -8,3 +8,4 @@ pub mod Step
 pub mod Deeds
 pub mod Completion
 pub mod Lists
+pub mod SharedBytes

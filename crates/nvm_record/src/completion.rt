@@ -19,7 +19,7 @@ pub struct Completion {
     pub payload: Option<Payload>,
 }
 
-/// A copy of the completion and of its data, which takes memory.
+/// A copy of the completion, which shares its data.
 impl Clone for Completion {
     ghost is_clone = { λ completion copy. copy ≡ completion };
 
