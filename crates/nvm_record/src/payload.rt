@@ -125,12 +125,15 @@ impl Payload {
     }
 
     /// The bytes from place `from` up to place `to`, shared. It takes no memory, and is refused only
-    /// where 2^63 - 1 payloads share them already.
+    /// where 2^63 - 1 payloads share them already. A part of no bytes shares nothing.
     pub fn part(&self, from: usize, to: usize) -> Result<Payload, NoMemory>
         requires ordered { from ≤ to }
         requires within { to ≤ length self.now }
         ensures { IfOk result (λ p. p ≡ slice_range self.now from to) }
     {
+        if from == to {
+            return Ok(Payload::empty());
+        }
         let whole = one_more_owner(&self.whole)?;
         Ok(Payload {
             whole,
