@@ -17,6 +17,7 @@ mod host_file;
 pub mod laws;
 mod op;
 mod payload;
+mod payload_ref;
 mod spelling;
 mod status;
 
@@ -30,6 +31,7 @@ pub use host_fault::HostFault;
 pub use host_file::{MOST_COMMANDS, host_bytes, read_host};
 pub use op::{Fuse, Op};
 pub use payload::Payload;
+pub use payload_ref::PayloadRef;
 pub use spelling::{push_spelling, read_command};
 pub use status::{Status, Statuses};
 

@@ -35,7 +35,7 @@ pub fn judge(unit: &UnitBlocks, act: ActRef<'_>) -> Statuses
             blocks,
             compare,
             write: _,
-        } => pair_statuses(unit, first, blocks, compare),
+        } => pair_statuses(unit, first, blocks, compare.as_slice()),
     }
 }
 
@@ -112,5 +112,6 @@ fn read(alloc: Global, unit: &UnitBlocks, first: u64, blocks: u32) -> Result<Ans
         return Ok(Answer::Status(Status::UNRECOVERED_READ_ERROR));
     }
     let bytes = joined(alloc, range, unit.place().size.bytes() as usize)?;
-    Ok(Answer::Payload(Payload::new(bytes)))
+    let payload = Payload::new(alloc, bytes)?;
+    Ok(Answer::Payload(payload))
 }

@@ -117,7 +117,7 @@ impl UnitBlocks {
                 first,
                 blocks,
                 payload,
-            } => self.write(first, blocks, payload),
+            } => self.write(first, blocks, payload.as_slice()),
             ActRef::Zeroes { first, blocks } => self.zero(first, blocks),
             ActRef::Uncorrectable { first, blocks } => self.mark(first, blocks),
             // Its comparison holds, so it is its Write.
@@ -126,7 +126,7 @@ impl UnitBlocks {
                 blocks,
                 compare: _,
                 write,
-            } => self.write(first, blocks, write),
+            } => self.write(first, blocks, write.as_slice()),
         }
     }
 
