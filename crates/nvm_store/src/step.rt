@@ -15,7 +15,7 @@ use crate::comparison::{compare_range, pair_statuses};
 use crate::look::{Answer, Look};
 use crate::stored_blocks::{has_mark, joined};
 use crate::unit_blocks::UnitBlocks;
-use nvm_record::{NoMemory, Payload, Status, Statuses};
+use nvm_record::{NoMemory, ReadData, Status, Statuses};
 use std::alloc::Global;
 
 /// The statuses that the act's command, or its two commands, complete with on these blocks: 0/00 for a
@@ -112,6 +112,5 @@ fn read(alloc: Global, unit: &UnitBlocks, first: u64, blocks: u32) -> Result<Ans
         return Ok(Answer::Status(Status::UNRECOVERED_READ_ERROR));
     }
     let bytes = joined(alloc, range, unit.place().size.bytes() as usize)?;
-    let payload = Payload::new(alloc, bytes)?;
-    Ok(Answer::Payload(payload))
+    Ok(Answer::Payload(ReadData::new(bytes)))
 }

@@ -9,7 +9,7 @@ returns-clause-length c =
     let blocks = c.range-range.result.now in
     let size = c.args.unit.now.size in
     let none : medium.has_mark (blocks_of blocks) ≡ false = sym c.has_mark.ensures ∙ c.if-has_mark.false in
-    ap length c.in_ok-payload.ensures
+    ap length c.new.ensures
     ∙ ap length c.in_ok-bytes.ensures
     ∙ length-joined size blocks c.range-range.ensures.sized none
     ∙ ap (λ (n : ℕ). n * size) c.range-range.ensures.len
