@@ -98,7 +98,7 @@ impl Book {
         let entry = Entry {
             pass,
             job,
-            act: act.to_act(alloc)?,
+            act: act.to_act()?,
         };
         self.history.reserve(1)?;
         self.blocks.change(act);
