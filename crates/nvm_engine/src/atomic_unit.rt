@@ -65,7 +65,7 @@ impl AtomicUnit {
         let entry = Entry {
             pass: 0,
             job,
-            act: act.to_act(alloc)?,
+            act: act.to_act()?,
         };
         self.history.push(entry)?;
         self.blocks.change(act);

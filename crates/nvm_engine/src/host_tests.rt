@@ -3,6 +3,7 @@ use crate::engine::execute;
 use crate::host_file::*;
 use crate::run_tests::expect_of;
 use crate::unit_tests::FOUR_UNITS;
+use nvm_record::Payload;
 use std::alloc::{AllocError, Global};
 use std::test::Fail;
 
@@ -60,7 +61,7 @@ fn sixty_four_hosts_and_no_more(rt: HostRuntime) -> Result<(), Fail> {
 
 #[test]
 fn no_host_shows_nothing(rt: HostRuntime) -> Result<(), Fail> {
-    let files: [Vec<u8>; 0] = [];
+    let files: [Payload; 0] = [];
     let shown = execute(rt.alloc(), &FOUR_UNITS, files.as_slice())?;
     assert!(rt; shown.text.is_empty());
     Ok(())

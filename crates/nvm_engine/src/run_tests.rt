@@ -4,6 +4,7 @@ use crate::fault::Fault;
 use crate::host_file::*;
 use crate::settings::Settings;
 use nvm_geometry::GeometryFault;
+use nvm_record::Payload;
 use std::alloc::Global;
 use std::process::Abort;
 use std::test::Fail;
@@ -39,7 +40,11 @@ pub fn expect_of(
     files: &[Vec<u8>],
     wanted: &str,
 ) -> Result<(), Fail> {
-    match execute(rt.alloc(), settings, files) {
+    let mut payloads = Vec::with_capacity(rt.alloc(), files.len())?;
+    for file in files {
+        payloads.push(Payload::copy_of(rt.alloc(), file)?)?;
+    }
+    match execute(rt.alloc(), settings, payloads.as_slice()) {
         Ok(shown) => {
             assert_eq!(rt; shown.text.as_slice(), wanted.as_bytes());
             assert_eq!(rt; shown.status, 0);
