@@ -1,12 +1,13 @@
 -- What a unit told of its part is what the part did to the units.
-use Rattle.std.proofs.Common.{◌≡◌, ◌==◌, inl, inr, ℕ, ◌+◌, ◌*◌, ◌<◌, List, length, vec_len, get_or, set, refl, sym, ap, ◌∙◌, subst, Bool, ◌&&◌, not, IsTrue, IsSome, Option, None, Some, arith}
+use Rattle.std.proofs.Common.{◌≡◌, ◌==◌, inl, inr, ℕ, ◌+◌, ◌*◌, ◌<◌, List, length, vec_len, get_or, set, refl, sym, ap, ◌∙◌, subst, Bool, true, false, ◌&&◌, not, IsTrue, IsSome, Option, None, Some, if◌then◌else◌, arith}
+use Rattle.std.specs.Str.{bytes_eq}
 use Rattle.nvm_record.specs.declared.block.Block.{Block}
 use Rattle.nvm_record.specs.declared.status.Statuses.{Statuses}
-use Rattle.nvm_record.specs.declared.status.Statuses.TheVariants.{One}
-use Rattle.nvm_record.specs.Deeds.{is_read, is_look, is_pair, IsAct, IsLook, IsPair, IsSingle}
-use Rattle.nvm_record.specs.Medium.{Medium}
-use Rattle.nvm_record.specs.Status.{IsSuccess, successful_completion}
-use Rattle.nvm_record.specs.Step.{Deed, writes, zeroes, uncorrectable, reads, compares, pairs, Operation, is_in_range, range_of, statuses_of, data_of, data_on, medium_after}
+use Rattle.nvm_record.specs.declared.status.Statuses.TheVariants.{Two}
+use Rattle.nvm_record.specs.Deeds.{is_read, is_look, IsAct, IsLook, FailsOn, IsFailedPair}
+use Rattle.nvm_record.specs.Medium.{Medium, has_mark, joined}
+use Rattle.nvm_record.specs.Status.{IsSuccess, successful_completion, unrecovered_read_error, compare_failure, aborted_due_to_failed_fused_command}
+use Rattle.nvm_record.specs.Step.{Deed, writes, zeroes, uncorrectable, reads, compares, pairs, Operation, is_in_range, range_of, statuses_on, statuses_of, data_of, data_on, medium_after}
 use Rattle.nvm_geometry.specs.Namespace.{Namespace}
 use Rattle.nvm_geometry.specs.Boundaries.{unit_number, units_of}
 use Rattle.nvm_geometry.specs.Parts.{part_in}
@@ -39,14 +40,21 @@ none_there : (o : Option (List ℕ)) → (IsSome o → ⊥) → o ≡ None
 none_there None h = refl
 none_there (Some bytes) h = absurd (h refl)
 
--- what fails is a pair
-failing_pair : (d : Deed) → (IsSingle d → ⊥) → IsPair d
-failing_pair (writes payload) h = absurd (h refl)
-failing_pair zeroes h = absurd (h refl)
-failing_pair uncorrectable h = absurd (h refl)
-failing_pair reads h = absurd (h refl)
-failing_pair (compares payload) h = absurd (h refl)
-failing_pair (pairs payload new) h = refl
+-- an act that fails is a pair whose comparison fails
+not_equal : (marked equal : Bool)
+    → (IsSuccess (Two (if marked then unrecovered_read_error else (if (if marked then false else equal) then successful_completion else compare_failure)) (if (if marked then false else equal) then successful_completion else aborted_due_to_failed_fused_command)) → ⊥)
+    → (if marked then false else equal) ≡ false
+not_equal true equal h = refl
+not_equal false true h = absurd (h (refl, refl))
+not_equal false false h = refl
+
+fails_on : (d : Deed) (blocks : List Block) → IsAct d → (IsSuccess (statuses_on blocks d) → ⊥) → FailsOn blocks d
+fails_on (writes payload) blocks act h = absurd (h refl)
+fails_on zeroes blocks act h = absurd (h refl)
+fails_on uncorrectable blocks act h = absurd (h refl)
+fails_on reads blocks act h = absurd (cc act)
+fails_on (compares payload) blocks act h = absurd (cc act)
+fails_on (pairs payload new) blocks act h = not_equal (has_mark blocks) (bytes_eq (joined blocks) payload) h
 
 -- the part that ended so, at this point of its unit
 abbrev ended : ℕ → ℕ → PartResult → Part
@@ -62,13 +70,12 @@ told_reply deed part told other read also e f h = rw (e, f) h
 module _ (s : Setup) (op act : Operation) (k : ℕ) (units : List AtomicUnit) (old new : AtomicUnit)
     (laid : IsLaidOut s units) (known : k < units_of s.namespace) (at : old ≡ get_or units k old) (is : act ≡ part_in s.namespace op k)
     (acts : IsAct act.deed)
-    (look_kept : is_look (part_in s.namespace op k).deed ≡ is_look op.deed) (pair_kept : is_pair (part_in s.namespace op k).deed ≡ is_pair op.deed)
+    (look_kept : is_look (part_in s.namespace op k).deed ≡ is_look op.deed)
     (lbas : (lba : ℕ) → is_in_range (part_in s.namespace op k) lba ≡ (is_in_range op lba && (unit_number s.namespace lba == k)))
     (done_replies : (m : Medium) (part : Part) → IsAct op.deed → part.result ≡ result.Done → IsSuccess (statuses_of (part_in s.namespace op part.unit) m) → IsReplyTo op.deed (reply_on s.namespace op m part))
-    (failed_replies : (m : Medium) (part : Part) → IsPair op.deed → part.result ≡ result.Failed → (IsSuccess (statuses_of (part_in s.namespace op part.unit) m) → ⊥) → IsReplyTo op.deed (reply_on s.namespace op m part))
+    (failed_replies : (m : Medium) (part : Part) → part.result ≡ result.Failed → IsFailedPair (part_in s.namespace op part.unit) m → IsReplyTo op.deed (reply_on s.namespace op m part))
     (no_memory_replies : (part : Part) → part.result ≡ result.NoMemory → IsReplyTo op.deed (reply_of_stop op.deed part))
-    (full_replies : (part : Part) → IsAct op.deed → part.result ≡ result.Full → IsReplyTo op.deed (reply_of_stop op.deed part))
-    (single_succeeds : (m : Medium) → IsAct act.deed → IsSingle act.deed → statuses_of act m ≡ One successful_completion) where
+    (full_replies : (part : Part) → IsAct op.deed → part.result ≡ result.Full → IsReplyTo op.deed (reply_of_stop op.deed part)) where
   inside : k < length units
   inside = let count : length units ≡ units_of s.namespace = laid.count in omega arith
 
@@ -117,10 +124,9 @@ module _ (s : Setup) (op act : Operation) (k : ℕ) (units : List AtomicUnit) (o
       let here = mine m counts all in
       let is_told : statuses ≡ statuses_of (part_in s.namespace op k) m = h.0 m here.0 ∙ ap (λ (o : Operation). statuses_of o m) is in
       let fails : IsSuccess (statuses_of (part_in s.namespace op k) m) → ⊥ = λ ok. h.1 (subst IsSuccess (sym is_told) ok) in
-      let pair : IsPair act.deed = failing_pair act.deed (λ single. h.1 (subst IsSuccess (sym (h.0 m here.0 ∙ single_succeeds m acts single)) refl)) in
-      let whole_pair : IsPair op.deed = subst (λ (b : Bool). IsTrue b) (ap (λ (o : Operation). is_pair o.deed) is ∙ pair_kept) pair in
-      let none = no_data m result.Failed (failed_replies m (ended k 0 result.Failed) whole_pair refl fails) in (
-        told_reply op.deed (ended k (counts k) result.Failed) _ _ _ _ is_told (sym none) (failed_replies m (ended k (counts k) result.Failed) whole_pair refl fails),
+      let failed : IsFailedPair (part_in s.namespace op k) m = fails_on (part_in s.namespace op k).deed (range_of (part_in s.namespace op k) m) part_acts fails in
+      let none = no_data m result.Failed (failed_replies m (ended k 0 result.Failed) refl failed) in (
+        told_reply op.deed (ended k (counts k) result.Failed) _ _ _ _ is_told (sym none) (failed_replies m (ended k (counts k) result.Failed) refl failed),
         (refl, record { statuses = is_told; payload = sym none }),
         kept m counts all h.2.0 h.2.1,
       )

@@ -6,25 +6,15 @@
 #![tactic(auto)]
 
 mod atomic_unit;
-#[cfg(test)]
-mod command_tests;
 mod done_job;
 mod ending;
 mod engine;
 mod fault;
-#[cfg(test)]
-mod host_file;
-#[cfg(test)]
-mod host_tests;
 mod lines;
-#[cfg(test)]
-mod pair_tests;
-#[cfg(test)]
-mod run_tests;
 mod settings;
 mod shown;
 #[cfg(test)]
-mod unit_tests;
+mod tests;
 mod units;
 
 pub use engine::execute;

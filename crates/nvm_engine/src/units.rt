@@ -28,7 +28,7 @@ use nvm_plan::laws::{
 use nvm_plan::{Body, Job, LentPart, Plan, job_part_in, job_pieces, plan};
 use nvm_record::{NoMemory, Op};
 use nvm_store::UnitBlocks;
-use nvm_store::laws::{acts_and_looks, single_act_succeeds};
+use nvm_store::laws::acts_and_looks;
 use std::alloc::Global;
 
 /// A whole namespace: its units, unit k at place k.
@@ -123,7 +123,6 @@ impl Units {
         laws::part_has_its_blocks();
         laws::parts_keep_their_kind();
         acts_and_looks();
-        single_act_succeeds();
         answers_of_the_step_are_replies();
         let limit = self.limit;
         match part {

@@ -4,7 +4,7 @@
 ghost use Rattle.std.specs.Prelude.{◌≡◌, ◌≢◌, ◌↔◌, ◌*◌, ◌+◌, ◌<◌, ◌≤◌, ℕ, List, [], ◌∷◌, ◌++◌, Contains, map, Option, None, Some, unwrap_or, IsSome, false};
 ghost use Rattle.nvm_record.specs.declared.status.Statuses.{Statuses};
 ghost use Rattle.nvm_record.specs.Medium.{Medium};
-ghost use Rattle.nvm_record.specs.Deeds.{IsLook, IsAct, IsPair, success_of};
+ghost use Rattle.nvm_record.specs.Deeds.{IsLook, IsAct, IsPair, IsFailedPair, success_of};
 ghost use Rattle.nvm_record.specs.Status.{IsSuccess};
 ghost use Rattle.nvm_record.specs.Step.{Deed, HasData, Operation, statuses_of};
 ghost use Rattle.nvm_geometry.specs.Namespace.{Namespace};
@@ -119,9 +119,8 @@ pub fn answers_of_the_step_are_replies()
     ensures done { (ns : Namespace) (op : Operation) (m : Medium) (part : Part) → IsAct op.deed
         → part.result ≡ Done → IsSuccess (statuses_of (part_in ns op part.unit) m)
         → IsReplyTo op.deed (reply_on ns op m part) }
-    ensures failed { (ns : Namespace) (op : Operation) (m : Medium) (part : Part) → IsPair op.deed
-        → part.result ≡ Failed → ¬ (IsSuccess (statuses_of (part_in ns op part.unit) m))
-        → IsReplyTo op.deed (reply_on ns op m part) }
+    ensures failed { (ns : Namespace) (op : Operation) (m : Medium) (part : Part) → part.result ≡ Failed
+        → IsFailedPair (part_in ns op part.unit) m → IsReplyTo op.deed (reply_on ns op m part) }
     ensures no_memory { (deed : Deed) (part : Part) → part.result ≡ NoMemory
         → IsReplyTo deed (reply_of_stop deed part) }
     ensures full { (deed : Deed) (part : Part) → IsAct deed → part.result ≡ Full

@@ -2,6 +2,7 @@
 mod checks;
 mod fit;
 mod job_list;
+mod parts;
 
 use nvm_record::{Command, Fuse, Op, Payload};
 use std::alloc::{AllocError, Global};

@@ -27,13 +27,12 @@ returns-in-Act-clause-part c = λ op is.
     let same = subst (λ (p : LentPart). part_operation_of p ≡ part_in c.args.self.now.geometry op c.args.unit) c.in-Act.is is in
     changes_part (setup_of_units c.args.self.now) op (lent_operation_of c.in-Act.act) c.args.unit c.args.self.now.units.items c.index_mut-unit.result.now c.change.new.self
     c.requires.laid c.requires.known at same (c.acts_and_looks.ensures.acts c.in-Act.act)
-    (c.parts_keep_their_kind.ensures.look c.args.self.now.geometry op c.args.unit) (c.parts_keep_their_kind.ensures.pair c.args.self.now.geometry op c.args.unit)
+    (c.parts_keep_their_kind.ensures.look c.args.self.now.geometry op c.args.unit)
     (λ lba. c.part_has_its_blocks.ensures.lbas c.args.self.now.geometry op c.args.unit lba)
     (c.answers_of_the_step_are_replies.ensures.done c.args.self.now.geometry op)
     (c.answers_of_the_step_are_replies.ensures.failed c.args.self.now.geometry op)
     (c.answers_of_the_step_are_replies.ensures.no_memory op.deed)
     (c.answers_of_the_step_are_replies.ensures.full op.deed)
-    (c.single_act_succeeds.ensures (lent_operation_of c.in-Act.act))
     c.change.result c.change.ensures
 
 pub returns-in-Look-clause-part : goal.returns-in-Look-clause-part

@@ -1,0 +1,38 @@
+//! A job's parts in the units that it meets, and what its host is told.
+use crate::tests::command;
+use crate::{Body, Completions, Job, LentPart, job_part_count, job_part_in};
+use nvm_geometry::Geometry;
+use nvm_record::{Fuse, Op, ReadData, Status, Statuses};
+use nvm_store::Look;
+use std::test::Fail;
+
+#[test]
+fn read_over_two_units(rt: HostRuntime) -> Result<(), Fail> {
+    let geometry = Geometry::new(32, 512, 7, 0, 7, 3).expect(&rt, "a geometry");
+    let job = Job {
+        host: 3,
+        body: Body::Single(command(rt.alloc(), 7, (Op::Read, Fuse::Normal), (1, 6, 3), 0)?),
+    };
+    let read = Some(ReadData::new(Vec::from_slice(rt.alloc(), b"data")?));
+    let told = Completions::of(&job, Statuses::One(Status::SUCCESSFUL_COMPLETION), read);
+    match told {
+        Completions::One(completion) => {
+            assert_eq!(rt; (completion.host, completion.cid), (3, 7));
+            assert!(rt; completion.payload.is_some());
+        }
+        Completions::Two(_, _) => return Err(Fail::new("one completion")),
+    }
+    if !crate::fits(&geometry, &job) {
+        return Err(Fail::new("the job fits"));
+    }
+    assert_eq!(rt; job_part_count(&geometry, &job), 2);
+    for (unit, wanted) in [(0, Some((6, 2))), (1, Some((8, 2))), (2, None)] {
+        let part = match job_part_in(&geometry, &job, unit) {
+            Some(LentPart::Look(Look::Read { first, blocks })) => Some((first, blocks)),
+            Some(_) => return Err(Fail::new("the part is a Read")),
+            None => None,
+        };
+        assert_eq!(rt; part, wanted);
+    }
+    Ok(())
+}
