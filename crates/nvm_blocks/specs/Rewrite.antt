@@ -1,0 +1,24 @@
+-- What a change of a range of blocks does to their list.
+use Rattle.std.specs.Prelude.{◌≡◌, ◌⊎◌, ℕ, ◌+◌, ◌*◌, ◌<◌, ◌≤◌, List, length, replicate, take, drop}
+use lib.ListN.{get_elem?}
+use Rattle.nvm_record.specs.declared.block.Block.{Block}
+use Rattle.nvm_record.specs.declared.block.Block.TheVariants.{Bytes}
+use Rattle.nvm_record.specs.Lists.{IsAt}
+
+-- The `count` blocks from place `at` are new ones, given by their places from there, and the others stay.
+pub record IsRewritten (at count : ℕ) (news : ℕ → Block) (old new : List Block) : Type 0 where
+  pub len : length new ≡ length old
+  pub rewritten : (i : ℕ) → i < count → IsAt new (at + i) (news i)
+  pub others : (i : ℕ) → (i < at) ⊎ (at + count ≤ i) → get_elem? new i ≡ get_elem? old i
+
+-- the i-th block of data, in blocks of this size in bytes
+abbrev pub data_block : ℕ → List ℕ → ℕ → Block
+data_block size payload i = Bytes (take size (drop (i * size) payload))
+
+-- a block of so many zero bytes
+abbrev pub zero_block : ℕ → Block
+zero_block size = Bytes (replicate size 0)
+
+-- the `count` blocks from place `at`
+abbrev pub blocks_in : ℕ → ℕ → List Block → List Block
+blocks_in at count blocks = take count (drop at blocks)

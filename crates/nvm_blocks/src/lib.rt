@@ -1,0 +1,8 @@
+//! The blocks of one unit as a tree of nodes that copies share.
+#![tactic(auto)]
+
+mod content;
+mod fork;
+mod leaf;
+mod stored_block;
+mod tree;
