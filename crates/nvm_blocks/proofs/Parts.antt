@@ -3,7 +3,7 @@ use Rattle.std.proofs.Common.{◌≡◌, ℕ, zero, suc, ◌+◌, ◌-◌, ◌*�
 use Rattle.std.proofs.Math.ListN.{set, length-take}
 use Rattle.std.proofs.Math.Nat.{div-add-mod}
 use Rattle.std.proofs.Math.Seq.{drop-append-add, map-set_same}
-use Rattle.std.proofs.lemmas.List.{drop-append-le, take-append-le, set-append_left, set-append_right, length-append, length-map, get_or-map, map-set, map-append, length-set, take_more}
+use Rattle.std.proofs.lemmas.List.{drop-append-le, take-append-le, set-append_left, set-append_right, length-append, length-map, get_or-map, map-set, map-append, length-set, take_more, replicate-append-replicate}
 use Rattle.std.proofs.lemmas.Nat.{div_below, mod_below}
 use Rattle.std.specs.Prelude.{Result, Ok, Err, OnOk, OnErr}
 use Rattle.std.specs.Arc.{arc_value}
@@ -179,3 +179,11 @@ pub keeps_length : {T E : Type 0} (r : Result T E) (old new : List Block) (i : �
     → OnOk r (new ≡ set old i x) → OnErr r (new ≡ old) → length new ≡ length old
 keeps_length (Ok y) old new i x ok err = ap length ok ∙ length-set old i x
 keeps_length (Err y) old new i x ok err = ap length err
+
+-- Forks of one block alone.
+pub joined_parts-replicate : (n span : ℕ) (block : Block) → joined_parts (replicate n (replicate span block)) ≡ replicate (n * span) block
+joined_parts-replicate zero span block = let none : 0 * span ≡ 0 = omega arith in rw none refl
+joined_parts-replicate (suc n) span block =
+    let more : suc n * span ≡ span + n * span = grind arith in
+    rw more (ap (λ (bs : List Block). replicate span block ++ bs) (joined_parts-replicate n span block)
+    ∙ replicate-append-replicate span (n * span) block)

@@ -1,6 +1,6 @@
-ghost use Rattle.std.specs.Prelude.{◌≡◌, ◌<◌, IfOk, length, replicate};
+ghost use Rattle.std.specs.Prelude.{◌≡◌, ◌*◌, ◌<◌, IfOk, length, replicate};
 ghost use Rattle.std.specs.Arc.{arc_value};
-ghost use Rattle.nvm_blocks.specs.Inside.Tree.{joined_parts};
+ghost use Rattle.nvm_record.specs.declared.block.Block.{Block};
 
 use crate::stored_block::StoredBlock;
 use crate::tree::{Tree, set_in};
@@ -30,16 +30,22 @@ impl<T: Tree> Model for Fork<T> {
 
 impl<T: Tree> Fork<T> {
     /// A fork of so many children, all of them this one node, which has `span` blocks.
-    pub fn of(alloc: Global, node: Arc<T>, span: usize, count: usize) -> Result<Fork<T>, NoMemory>
+    pub fn of(
+        alloc: Global,
+        node: Arc<T>,
+        span: usize,
+        count: usize,
+    ) -> Result<Arc<Fork<T>>, NoMemory>
         requires some { 0 < span }
         requires span { length (T.blocks (arc_value node)) ≡ span }
-        ensures { IfOk result (λ f. f ≡ joined_parts (replicate count (T.blocks (arc_value node)))) }
+        ensures { IfOk result (λ f. (block : Block) → T.blocks (arc_value node) ≡ replicate span block
+            → arc_value f ≡ replicate (count * span) block) }
     {
         let mut kids = Vec::with_capacity(alloc, count)?;
         for _ in 0..count {
             kids.push(Arc::try_clone(&node)?)?;
         }
-        Ok(Fork { kids, span })
+        Ok(Arc::new(alloc, Fork { kids, span })?)
     }
 }
 

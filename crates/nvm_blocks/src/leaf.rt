@@ -1,4 +1,5 @@
 ghost use Rattle.std.specs.Prelude.{◌≡◌, IfOk, replicate};
+ghost use Rattle.std.specs.Arc.{arc_value};
 ghost use Rattle.nvm_blocks.specs.Rewrite.{zero_block};
 
 use crate::stored_block::StoredBlock;
@@ -6,6 +7,7 @@ use crate::tree::Tree;
 use nvm_record::NoMemory;
 use std::alloc::Global;
 use std::marker::Model;
+use std::sync::Arc;
 
 /// The lowest node: stored blocks.
 #[derive(Drop)]
@@ -24,14 +26,14 @@ impl Model for Leaf {
 
 impl Leaf {
     /// So many blocks of `size` zero bytes.
-    pub fn zeroed(alloc: Global, count: usize, size: usize) -> Result<Leaf, NoMemory>
-        ensures { IfOk result (λ l. l ≡ replicate count (zero_block size)) }
+    pub fn zeroed(alloc: Global, count: usize, size: usize) -> Result<Arc<Leaf>, NoMemory>
+        ensures { IfOk result (λ l. arc_value l ≡ replicate count (zero_block size)) }
     {
         let mut kept = Vec::with_capacity(alloc, count)?;
         for _ in 0..count {
             kept.push(StoredBlock::zero(size))?;
         }
-        Ok(Leaf { kept })
+        Ok(Arc::new(alloc, Leaf { kept })?)
     }
 }
 

@@ -4,5 +4,8 @@
 mod content;
 mod fork;
 mod leaf;
+mod levels;
+mod runs;
+mod source;
 mod stored_block;
 mod tree;

@@ -1,4 +1,11 @@
+use Rattle.std.proofs.Common.{List, ℕ, ap, sym, ◌∙◌, ◌≡◌}
+use denote.Ref.{Bor}
+use Rattle.nvm_record.specs.Medium.{bytes_of}
+use Rattle.nvm_blocks.specs.Inside.Stored.{block_of}
+use Rattle.nvm_blocks.proofs.Data.{stripped}
 use Rattle.nvm_blocks.proofs.stored_block.StoredBlock.behind.Goals as goal
 
 pub returns-in-Data : goal.returns-in-Data
-returns-in-Data c = let e = c.strip_prefix.ensures.cases in let f = c.as_slice.ensures in let k = c.in-Data.is in ?
+returns-in-Data c =
+    let cases = rw c.as_slice.ensures at c.strip_prefix.ensures.cases in
+    rw (← c.self.view_is, c.in-Data.is) (stripped (λ (x : Bor (List ℕ)). x.now) c.strip_prefix.result c.in-Data.own c.args.payload.now cases)
