@@ -1,10 +1,11 @@
 -- Data that begins with the bytes of blocks, and zero bytes.
-use Rattle.std.proofs.Common.{◌≡◌, ℕ, zero, suc, ◌+◌, ◌-◌, ◌<◌, ◌≤◌, List, [], ◌∷◌, ◌++◌, length, take, drop, replicate, Bool, true, false, get_or, add-one, drop-cons, append_assoc, refl, sym, ap, ◌∙◌, arith}
+use Rattle.std.proofs.Common.{◌≡◌, ℕ, zero, suc, ◌+◌, ◌-◌, ◌<◌, List, [], ◌∷◌, ◌++◌, length, take, drop, replicate, Bool, true, false, get_or, add-one, drop-cons, append_assoc, refl, sym, ap, ◌∙◌, arith}
 use Rattle.std.specs.Str.{bytes_eq}
 use Rattle.nvm_record.specs.declared.block.Block.{Block}
 use Rattle.nvm_record.specs.Medium.{bytes_of, joined}
-use Rattle.std.specs.Bool.{Decides}
+use Rattle.std.specs.Bool.{Decides, ◌==◌}
 use Rattle.std.proofs.lemmas.Bool.{true≢false}
+use Rattle.std.proofs.lemmas.Bool.Decides.{Decides-eqb}
 use Rattle.std.proofs.lemmas.List.{take-append-drop}
 use Rattle.std.proofs.lemmas.Slice.Eq.{bytes_eq-Decides}
 use Rattle.std.proofs.Math.Seq.{take-append_seam, take-length}
@@ -55,3 +56,21 @@ pub next_begins : (blocks : List Block) (i : ℕ) (b : Block) → i < length blo
 next_begins blocks i b lt is r =
     let next : drop i blocks ≡ b ∷ drop (i + 1) blocks = drop-cons blocks i b lt ∙ (rw (is, add-one) refl) in
     rw next (append_assoc (bytes_of b) (joined (drop (i + 1) blocks)) r)
+
+is_false : (b : Bool) → (b ≡ true → ⊥) → b ≡ false
+is_false true not = absurd (not refl)
+is_false false not = refl
+
+-- Bytes that aren't the same compare so.
+pub tells_other : (xs ys : List ℕ) → (xs ≡ ys → ⊥) → false ≡ bytes_eq xs ys
+tells_other xs ys differ = sym (is_false (bytes_eq xs ys) (λ same. differ ((bytes_eq-Decides xs ys).0 same)))
+
+none_left : (xs : List ℕ) → length xs ≡ 0 → [] ≡ xs
+none_left [] e = refl
+none_left (x ∷ xs) e = absurd (omega arith)
+
+-- No byte is left exactly where the length is zero.
+pub empty_tells : (b : Bool) (xs : List ℕ) → b ≡ (length xs == 0) → Decides b ([] ≡ xs)
+empty_tells b xs is =
+    let tells = Decides-eqb (length xs) 0 in
+    (λ yes. none_left xs (tells.0 (sym is ∙ yes)), λ none. is ∙ tells.1 (sym (ap length none)))

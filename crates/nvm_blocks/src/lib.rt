@@ -1,6 +1,7 @@
 //! The blocks of one unit as a tree of nodes that copies share.
 #![tactic(auto)]
 
+mod blocks;
 mod content;
 mod fork;
 mod leaf;
@@ -9,3 +10,5 @@ mod runs;
 mod source;
 mod stored_block;
 mod tree;
+
+pub use blocks::Blocks;

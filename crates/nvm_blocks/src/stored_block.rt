@@ -5,8 +5,7 @@ ghost use Rattle.nvm_record.specs.Medium.{bytes_of};
 ghost use Rattle.nvm_blocks.specs.Rewrite.{zero_block};
 
 use crate::content::Content;
-use nvm_record::Payload;
-use nvm_record::NoMemory;
+use nvm_record::{NoMemory, Payload};
 use std::alloc::AllocError;
 use std::marker::Model;
 

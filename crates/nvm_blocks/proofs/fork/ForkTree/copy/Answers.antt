@@ -1,4 +1,4 @@
-use Rattle.std.proofs.Common.{◌<◌, arith, length}
+use Rattle.std.proofs.Common.{◌<◌, length}
 use Rattle.nvm_blocks.proofs.Parts.{copied_more}
 use Rattle.nvm_blocks.proofs.fork.ForkTree.copy.Goals as goal
 

@@ -1,6 +1,5 @@
-use Rattle.std.proofs.Common.{◌≡◌, ◌+◌, ◌*◌, ◌/◌, ◌≤◌, ap, ◌∙◌, arith, length, replicate}
+use Rattle.std.proofs.Common.{◌+◌, ◌*◌, ◌/◌, ap, ◌∙◌, arith, length}
 use Rattle.std.proofs.lemmas.List.{length-replicate}
-use Rattle.nvm_record.specs.declared.block.Block.{Block}
 use Rattle.nvm_blocks.specs.Rewrite.{zero_block}
 use Rattle.nvm_blocks.proofs.levels.Levels.zeroed.Goals as goal
 

@@ -1,4 +1,4 @@
-use Rattle.std.proofs.Common.{◌≡◌, ◌≤◌, ◌+◌, ◌*◌, length, arith}
+use Rattle.std.proofs.Common.{◌≤◌, ◌+◌, ◌*◌, length, arith}
 use Rattle.nvm_blocks.proofs.source.Source.block.Goals as goal
 
 pub overflow_mul-from : goal.overflow_mul-from

@@ -1,7 +1,5 @@
-use Rattle.std.proofs.Common.{List, ℕ, ap, sym, ◌∙◌, ◌≡◌}
+use Rattle.std.proofs.Common.{List, ℕ}
 use denote.Ref.{Bor}
-use Rattle.nvm_record.specs.Medium.{bytes_of}
-use Rattle.nvm_blocks.specs.Inside.Stored.{block_of}
 use Rattle.nvm_blocks.proofs.Data.{stripped}
 use Rattle.nvm_blocks.proofs.stored_block.StoredBlock.behind.Goals as goal
 
