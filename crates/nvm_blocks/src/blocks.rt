@@ -81,15 +81,13 @@ impl Blocks {
         at: usize,
         count: usize,
         size: usize,
-        payload: &Payload,
+        payload: Payload,
     ) -> Result<(), NoMemory>
         requires range { at + count ≤ length self.old }
-        requires payload { length payload.now ≡ count * size }
-        ensures ok { OnOk result
-            (IsRewritten at count (data_block size payload.now) self.old self.new) }
+        requires payload { length payload ≡ count * size }
+        ensures ok { OnOk result (IsRewritten at count (data_block size payload) self.old self.new) }
         ensures err { OnErr result (self.new ≡ self.old) }
     {
-        let payload = payload.share()?;
         self.fill(alloc, at, count, &Source::Data { size, payload })
     }
 

@@ -9,6 +9,8 @@ mod levels;
 mod runs;
 mod source;
 mod stored_block;
+#[cfg(test)]
+mod tests;
 mod tree;
 
 pub use blocks::Blocks;
