@@ -1,5 +1,5 @@
 -- What a change of a range of blocks does to their list.
-use Rattle.std.specs.Prelude.{◌≡◌, ◌⊎◌, ℕ, ◌+◌, ◌*◌, ◌<◌, ◌≤◌, List, length, replicate, take, drop}
+use Rattle.std.specs.Prelude.{◌≡◌, ◌⊎◌, ℕ, ◌+◌, ◌<◌, ◌≤◌, List, length, replicate, take, drop}
 use Rattle.nvm_record.specs.declared.block.Block.{Block}
 use Rattle.nvm_record.specs.declared.block.Block.TheVariants.{Bytes}
 use Rattle.nvm_record.specs.Lists.{IsAt}
@@ -9,10 +9,6 @@ pub record IsRewritten (at count : ℕ) (news : ℕ → Block) (old new : List B
   pub len : length new ≡ length old
   pub rewritten : (i : ℕ) → i < count → IsAt new (at + i) (news i)
   pub others : (i : ℕ) (block : Block) → (i < at) ⊎ (at + count ≤ i) → IsAt old i block → IsAt new i block
-
--- the i-th block of data, in blocks of this size in bytes
-abbrev pub data_block : ℕ → List ℕ → ℕ → Block
-data_block size payload i = Bytes (take size (drop (i * size) payload))
 
 -- a block of so many zero bytes
 abbrev pub zero_block : ℕ → Block

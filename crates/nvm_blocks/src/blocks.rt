@@ -2,8 +2,9 @@ ghost use Rattle.std.specs.Prelude.{◌≡◌, ◌+◌, ◌*◌, ◌++◌, ◌<�
 ghost use Rattle.std.specs.Str.{bytes_eq};
 ghost use Rattle.nvm_record.specs.declared.block.Block.TheVariants.{Uncorrectable};
 ghost use Rattle.nvm_record.specs.Medium as medium;
-ghost use Rattle.nvm_blocks.specs.Rewrite.{blocks_in, data_block, IsRewritten, zero_block};
-ghost use Rattle.nvm_blocks.specs.Inside.Source.{block_at, HasBlocks};
+ghost use Rattle.nvm_record.specs.Step.{block_at};
+ghost use Rattle.nvm_blocks.specs.Rewrite.{blocks_in, IsRewritten, zero_block};
+ghost use Rattle.nvm_blocks.specs.Inside.Source.{source_block, HasBlocks};
 
 use crate::levels::Levels;
 use crate::runs;
@@ -85,7 +86,7 @@ impl Blocks {
     ) -> Result<(), NoMemory>
         requires range { at + count ≤ length self.old }
         requires payload { length payload ≡ count * size }
-        ensures ok { OnOk result (IsRewritten at count (data_block size payload) self.old self.new) }
+        ensures ok { OnOk result (IsRewritten at count (block_at size payload) self.old self.new) }
         ensures err { OnErr result (self.new ≡ self.old) }
     {
         self.fill(alloc, at, count, &Source::Data { size, payload })
@@ -215,7 +216,7 @@ impl Blocks {
     ) -> Result<(), NoMemory>
         requires range { at + count ≤ length self.old }
         requires source { HasBlocks source.now count }
-        ensures ok { OnOk result (IsRewritten at count (block_at source.now) self.old self.new) }
+        ensures ok { OnOk result (IsRewritten at count (source_block source.now) self.old self.new) }
         ensures err { OnErr result (self.new ≡ self.old) }
     {
         if count == 1 {
@@ -236,7 +237,7 @@ impl Blocks {
     ) -> Result<Blocks, NoMemory>
         requires range { at + count ≤ length self.now }
         requires source { HasBlocks source.now count }
-        ensures { IfOk result (IsRewritten at count (block_at source.now) self.now) }
+        ensures { IfOk result (IsRewritten at count (source_block source.now) self.now) }
     {
         let mut after = self.share()?;
         for i in 0..count {

@@ -1,5 +1,5 @@
 ghost use Rattle.std.specs.Prelude.{◌≡◌, ◌+◌, IfOk};
-ghost use Rattle.nvm_blocks.specs.Inside.Source.{block_at, HasBlocks};
+ghost use Rattle.nvm_blocks.specs.Inside.Source.{source_block, HasBlocks};
 
 use crate::stored_block::StoredBlock;
 use nvm_record::{NoMemory, Payload};
@@ -17,7 +17,7 @@ impl Source {
     /// The block for place `i` of the range. It takes no memory.
     pub fn block(&self, i: usize) -> Result<StoredBlock, NoMemory>
         requires { HasBlocks self.now (i + 1) }
-        ensures { IfOk result (λ block. block ≡ block_at self.now i) }
+        ensures { IfOk result (λ block. block ≡ source_block self.now i) }
     {
         match self {
             Source::Data { size, payload } => {

@@ -1,12 +1,12 @@
 use Rattle.std.proofs.Common.{arith}
 use Rattle.std.proofs.lemmas.Result.{on_ok_weaker}
-use Rattle.nvm_blocks.specs.Inside.Source.{block_at}
+use Rattle.nvm_blocks.specs.Inside.Source.{source_block}
 use Rattle.nvm_blocks.proofs.Rewrites.{rewritten_more, rewritten_none}
 use Rattle.nvm_blocks.proofs.blocks.Blocks.fill.Goals as goal
 
 pub returns-then-count-eq1-clause-ok : goal.returns-then-count-eq1-clause-ok
 returns-then-count-eq1-clause-ok c =
-    let news = block_at c.args.source.now in
+    let news = source_block c.args.source.now in
     let old = c.args.self.now in
     on_ok_weaker c.set.result
     (λ put. rw c.if-count-eq1.true
