@@ -129,7 +129,7 @@ fn acts_change_what_looks_see(rt: HostRuntime) -> Result<(), Fail> {
         let told = judge(&unit, act);
         assert_eq!(rt; told, statuses);
         if told.is_success() {
-            unit.change(act);
+            unit.change(rt.alloc(), act)?;
         }
     }
     for (look, status) in LOOKS {

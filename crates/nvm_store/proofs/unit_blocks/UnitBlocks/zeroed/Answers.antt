@@ -1,4 +1,4 @@
-use Rattle.nvm_store.proofs.Ranges.{zeroes_held}
+use Rattle.nvm_store.proofs.Ranges.{zeroes_held, zeroes_sized}
 use Rattle.nvm_store.proofs.unit_blocks.UnitBlocks.zeroed.Goals as goal
 
 pub returns-clause-zeroes : goal.returns-clause-zeroes
