@@ -1,6 +1,7 @@
 -- A range of a medium, and the blocks of a unit that hold it.
 use Rattle.std.proofs.Common.{◌≡◌, ◌⊎◌, ℕ, suc, ◌+◌, ◌-◌, ◌*◌, ◌<◌, ◌≤◌, List, [], ◌∷◌, length, get_or, take, drop, replicate, false, refl, sym, ap, subst, ◌∙◌, arith, inl, inr}
 use Rattle.std.specs.Prelude.{Result, Ok, Err, OnOk, OnErr}
+use Rattle.std.proofs.Math.ListN.{length-take}
 use Rattle.std.proofs.Math.Nat.{mul-le-mul_right}
 use Rattle.std.proofs.lemmas.Bool.Decides.{nat_tests, leb_tells}
 use Rattle.std.proofs.lemmas.List.{get_or-take, get_or-drop, get_or-replicate, length-take-le, length-drop, length-replicate}
@@ -61,6 +62,24 @@ range-held m unit first n holds within =
     get_or-take n (drop at items) i e lt' ∙ get_or-drop at items i e ∙ held e (at + i) (omega arith) ∙ ap m place
     in
     rw len at (range-is m some first are)
+
+pub part_length : (unit : Contents) (first n : ℕ) → IsWithin (place_of unit) first n → length (blocks_at unit first n) ≡ n
+part_length unit first n within =
+    let at = first - unit.first in
+    let above : unit.first ≤ first = within.above in
+    let below : first + n ≤ unit.first + length unit.blocks = within.below in
+    length-take-le n (drop at unit.blocks) (omega (arith, length-drop at unit.blocks))
+
+-- Part of blocks of one size is of that size.
+pub part_sized : (size : ℕ) (blocks : List Block) (at n : ℕ) → AreOfSize size blocks → AreOfSize size (take n (drop at blocks))
+part_sized size blocks at n sized i block there =
+    let some = take n (drop at blocks) in
+    let lt : i < length some = at_below some i block there in
+    let low : i < n = omega (arith, length-take n (drop at blocks)) in
+    let inside : at + i < length blocks = omega (arith, length-take n (drop at blocks), length-drop at blocks) in
+    let same : get_or blocks (at + i) block ≡ block =
+    sym (get_or-drop at blocks i block) ∙ sym (get_or-take n (drop at blocks) i block low) ∙ get_or_at_place some i block block there in
+    subst (λ (b : Block). IsOfSize size b) same (sized (at + i) (get_or blocks (at + i) block) (at_read blocks (at + i) block inside))
 
 -- A unit of zero blocks holds the zero medium.
 pub zeroes_held : (n first size : ℕ) → Holds (unit_with first size (replicate n (Bytes (replicate size 0)))) (zero_medium size)
