@@ -54,8 +54,8 @@ impl AtomicUnit {
         }
     }
 
-    /// Keeps the entry, for which memory may be refused, and then changes the blocks, for which none is
-    /// asked.
+    /// Makes the entry, then its room, and then changes the blocks. Where memory is refused, all is as it
+    /// was.
     fn put(&mut self, alloc: Global, job: u32, act: ActRef<'_>) -> Result<(), NoMemory>
         requires covered { Covers self.old.blocks (lent_operation_of act) }
         requires success { Succeeds self.old.blocks (lent_operation_of act) }
@@ -65,10 +65,11 @@ impl AtomicUnit {
         let entry = Entry {
             pass: 0,
             job,
-            act: act.to_act(alloc)?,
+            act: act.to_act()?,
         };
-        self.history.push(entry)?;
-        self.blocks.change(act);
+        self.history.reserve(1)?;
+        self.blocks.change(alloc, act)?;
+        self.history.push_reserved(entry);
         Ok(())
     }
 

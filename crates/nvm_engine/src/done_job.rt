@@ -6,7 +6,7 @@ ghost use Rattle.nvm_plan.specs.Reply.{stop_of};
 ghost use Rattle.nvm_engine.specs.Inside.DoneJob.{told, succeeded};
 
 use nvm_plan::Body;
-use nvm_record::{Op, Payload, Status, Statuses};
+use nvm_record::{Op, ReadData, Status, Statuses};
 
 /// What the host is told of a job.
 #[derive(Debug, Drop)]
@@ -14,7 +14,7 @@ pub struct DoneJob {
     /// The status of each of its commands.
     pub statuses: Statuses,
     /// The data of a Read of status 0/00.
-    pub payload: Option<Payload>,
+    pub payload: Option<ReadData>,
 }
 
 impl DoneJob {
@@ -36,7 +36,7 @@ impl DoneJob {
             Body::Single(command) => DoneJob {
                 statuses: Statuses::One(Status::SUCCESSFUL_COMPLETION),
                 payload: if command.op == Op::Read {
-                    Some(Payload::new(bytes))
+                    Some(ReadData::new(bytes))
                 } else {
                     None
                 },

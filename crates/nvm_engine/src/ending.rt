@@ -6,7 +6,7 @@ ghost use Rattle.nvm_engine.specs.Inside.Units.{GoesOn, EndsWith, HasRoom};
 use crate::atomic_unit::Told;
 use crate::done_job::DoneJob;
 use nvm_plan::Body;
-use nvm_record::{Payload, Status, Statuses};
+use nvm_record::{ReadData, Status, Statuses};
 use nvm_store::Answer;
 
 /// What the host is told where a job ends with this part, or `None` where it goes on. What a part read is
@@ -37,7 +37,7 @@ pub fn ended(body: &Body, told: Told, bytes: &mut Vec<u8>) -> Option<DoneJob>
 }
 
 /// Adds what a part read. Where no room was made, it is all that is read, and isn't copied.
-fn add(bytes: &mut Vec<u8>, payload: Payload)
+fn add(bytes: &mut Vec<u8>, payload: ReadData)
     requires { (vec_len bytes.old + length payload ≤ vec_capacity bytes.old) ⊎ (vec_len bytes.old ≡ 0) }
     ensures items { bytes.new.items ≡ bytes.old.items ++ payload }
     ensures capacity { vec_capacity bytes.old ≤ vec_capacity bytes.new }

@@ -20,7 +20,7 @@ use crate::units::Units;
 use nvm_geometry::Geometry;
 use nvm_plan::job_laws::{jobs_fit, no_more_jobs_than_commands};
 use nvm_plan::{Job, MOST_HOSTS, jobs};
-use nvm_record::{BlockSize, Command, NoMemory, read_host};
+use nvm_record::{BlockSize, Command, NoMemory, Payload, read_host};
 use std::alloc::Global;
 
 /// Does the commands of the hosts' files, of which the first is host 1's, on a namespace of zero bytes,
@@ -29,10 +29,10 @@ use std::alloc::Global;
 ///
 /// The first fault is answered: more than 64 files, then one of the settings, then one of a file, or
 /// `NoMemory` where a growth outside a command was refused. Nothing is shown then.
-pub fn execute(alloc: Global, settings: &Settings, files: &[Vec<u8>]) -> Result<Shown, Fault>
+pub fn execute(alloc: Global, settings: &Settings, files: &[Payload]) -> Result<Shown, Fault>
     // What is shown is the text of a run of the files' commands, with status 0.
-    ensures shown { IfOk result (IsShown settings.now (map (λ file. file.items) files.now)) }
-    ensures fault { IfErr result (IsFirstRunFault settings.now (map (λ file. file.items) files.now)) }
+    ensures shown { IfOk result (IsShown settings.now files.now) }
+    ensures fault { IfErr result (IsFirstRunFault settings.now files.now) }
 {
     if files.len() > usize::from(MOST_HOSTS) {
         return Err(Fault::TooManyHosts);
@@ -72,18 +72,18 @@ fn geometry_of(settings: &Settings) -> Result<Geometry, Fault>
 }
 
 /// The commands of each host's file, in the order of the files.
-fn hosts_of(alloc: Global, size: BlockSize, files: &[Vec<u8>]) -> Result<Vec<Vec<Command>>, Fault>
+fn hosts_of(alloc: Global, size: BlockSize, files: &[Payload]) -> Result<Vec<Vec<Command>>, Fault>
     requires few { length files.now ≤ 64 }
-    ensures commands { IfOk result (λ hosts. AreHostFiles size (map (λ file. file.items) files.now)
+    ensures commands { IfOk result (λ hosts. AreHostFiles size files.now
         (map (λ host. host.items) hosts.items)) }
     ensures whole { IfOk result (λ hosts. All (λ host. All (IsWhole size) host.items) hosts.items) }
     ensures count { IfOk result (λ hosts. length hosts.items ≡ length files.now) }
-    ensures fault { IfErr result (λ fault. IsFilesFault size 1 (map (λ file. file.items) files.now) fault
+    ensures fault { IfErr result (λ fault. IsFilesFault size 1 files.now fault
         ⊎ (fault ≡ NoMemory)) }
 {
     let mut hosts = Vec::with_capacity(alloc, files.len())?;
     for (place, file) in files.iter().enumerate() {
-        hosts.push(commands_of(alloc, size, place as u16 + 1, file.as_slice())?)?;
+        hosts.push(commands_of(alloc, size, place as u16 + 1, file)?)?;
     }
     Ok(hosts)
 }
@@ -93,7 +93,7 @@ fn commands_of(
     alloc: Global,
     size: BlockSize,
     host: u16,
-    file: &[u8],
+    file: &Payload,
 ) -> Result<Vec<Command>, Fault>
     ensures commands { IfOk result (λ commands. IsHostFile size file.now commands.items) }
     ensures whole { IfOk result (λ commands. All (IsWhole size) commands.items) }

@@ -42,7 +42,7 @@ fn file_of(alloc: Global, asked: &[Asked]) -> Result<Vec<u8>, AllocError> {
             op: *op,
             slba: *slba,
             nlb: blocks.saturating_sub(1),
-            payload: Payload::new(vec![in alloc; *byte; bytes]?),
+            payload: Payload::new(alloc, vec![in alloc; *byte; bytes]?)?,
         })?;
     }
     host_bytes(alloc, commands.as_slice())
@@ -56,7 +56,11 @@ fn expect(
     files: &[Vec<u8>],
     wanted: &str,
 ) -> Result<(), Fail> {
-    match execute(rt.alloc(), settings, files) {
+    let mut payloads = Vec::with_capacity(rt.alloc(), files.len())?;
+    for file in files {
+        payloads.push(Payload::copy_of(rt.alloc(), file)?)?;
+    }
+    match execute(rt.alloc(), settings, payloads.as_slice()) {
         Ok(shown) => assert_eq!(rt; shown.text.as_slice(), wanted.as_bytes()),
         Err(fault) => {
             let line = format!(in rt.alloc(); "{fault}")?;

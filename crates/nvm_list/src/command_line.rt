@@ -66,7 +66,7 @@ fn carried(
         (spec.carried size op nlb (words_in words.now)) }
 {
     if !op.carries_data() {
-        return Ok((Payload::empty(alloc), words));
+        return Ok((Payload::empty(), words));
     }
     let (word, rest) = first_word(words);
     let wanted = (u64::from(nlb) + 1) * u64::from(size.bytes());

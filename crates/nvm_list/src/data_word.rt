@@ -31,7 +31,7 @@ fn filled(alloc: Global, wanted: u64, byte: u8) -> Result<Payload, NoMemory>
 {
     let mut bytes = Vec::new(alloc);
     bytes.resize(wanted as usize, byte)?;
-    Ok(Payload::new(bytes))
+    Payload::new(alloc, bytes)
 }
 
 /// The bytes of runs, which add up to `wanted`.
@@ -87,5 +87,5 @@ fn written(alloc: Global, runs: &[Run], bytes: u64) -> Result<Payload, NoMemory>
     for run in runs {
         payload.resize(payload.len() + run.count() as usize, run.byte())?;
     }
-    Ok(Payload::new(payload))
+    Payload::new(alloc, payload)
 }

@@ -13,7 +13,7 @@ ghost use Rattle.nvm_list.specs.Inside.Ranges.{HasValuesInRange};
 ghost use Rattle.nvm_list.specs.Listing as spec;
 ghost use Rattle.nvm_list.specs.Listing.{listing, behind_spaces};
 
-use nvm_record::{BlockSize, Command, Fuse, HostFault, NoMemory, read_host};
+use nvm_record::{BlockSize, Command, Fuse, HostFault, NoMemory, Payload, read_host};
 use nvm_text::laws::runs_are_longest;
 use nvm_text::{push_decimal, push_name, push_runs};
 use std::alloc::Global;
@@ -22,7 +22,7 @@ use std::alloc::Global;
 ///
 /// The list is read as just these commands, so it is assembled into the same file where that has every
 /// unnamed bit 0. A fault is that of the file.
-pub fn list_file(alloc: Global, bytes: &[u8], size: BlockSize) -> Result<String, HostFault>
+pub fn list_file(alloc: Global, bytes: &Payload, size: BlockSize) -> Result<String, HostFault>
     ensures text { IfOk result (λ text. (cs : List Listed) × IsHostFile size bytes.now cs
         × (string_bytes text ≡ listing cs) × (commands size (string_bytes text) ≡ Ok cs)) }
     // Where every unnamed bit of the file is 0, the list is assembled into this very file.

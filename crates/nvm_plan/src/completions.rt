@@ -2,7 +2,7 @@ ghost use Rattle.std.specs.Prelude.{◌≡◌};
 ghost use Rattle.nvm_plan.specs.Completions as spec;
 
 use crate::job::{Body, Job};
-use nvm_record::{Command, Completion, Payload, Status, Statuses};
+use nvm_record::{Command, Completion, ReadData, Status, Statuses};
 
 /// What a host is told of a job: a completion for each of its commands.
 #[derive(Debug, PartialEq, Eq, Drop)]
@@ -17,7 +17,7 @@ impl Completions {
 
     /// The completions of a job that ended with these statuses and this data. A command by itself has the data,
     /// the commands of a pair have none. It takes no memory.
-    pub fn of(job: &Job, statuses: Statuses, payload: Option<Payload>) -> Completions
+    pub fn of(job: &Job, statuses: Statuses, payload: Option<ReadData>) -> Completions
         ensures { result ≡ completions_of job.now statuses payload }
     {
         let first = first_status(statuses);
@@ -34,7 +34,7 @@ impl Completions {
 }
 
 /// What the host is told of its command.
-fn completion(host: u16, command: &Command, status: Status, payload: Option<Payload>) -> Completion
+fn completion(host: u16, command: &Command, status: Status, payload: Option<ReadData>) -> Completion
     ensures { result ≡ spec.completion host command.now status payload }
 {
     Completion {

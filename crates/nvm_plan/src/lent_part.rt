@@ -1,5 +1,6 @@
 ghost use Rattle.std.specs.Prelude.{◌≡◌, ◌+◌, ◌-◌, ◌*◌, ◌≤◌, length, map, IfSome, IsTrue, MatchOption, None, Some};
 ghost use Rattle.nvm_record.specs.Entry.{IsWhole};
+ghost use Rattle.nvm_record.specs.PayloadRef.{lent_bytes};
 ghost use Rattle.nvm_record.specs.Step.{Operation};
 ghost use Rattle.nvm_geometry.specs.Parts.{data_part, part_in, piece_in, pieces_of};
 ghost use Rattle.nvm_geometry.specs.Boundaries.{units_of};
@@ -20,10 +21,10 @@ use crate::decision::Plan;
 use crate::job::{Body, Job};
 use crate::laws::{parts_of_jobs, ready_jobs};
 use nvm_geometry::{Geometry, Parts, Piece, laws};
-use nvm_record::{BlockSize, Command, Op};
+use nvm_record::{BlockSize, Command, Op, PayloadRef};
 use nvm_store::{ActRef, Look};
 
-/// A job's part in one unit, with its data borrowed from the job's commands.
+/// A job's part in one unit, with its data lent by the job's commands.
 #[derive(Clone, Copy, Debug)]
 pub enum LentPart<'a> {
     /// A Write, a Write Zeroes, a Write Uncorrectable or a fused pair.
@@ -134,7 +135,7 @@ fn single_part<'a>(geometry: Geometry, command: &'a Command, piece: Piece) -> Le
         Op::Compare => LentPart::Look(Look::Compare {
             first,
             blocks,
-            payload: piece_data(command, piece, size),
+            payload: piece_data(command, piece, size).as_slice(),
         }),
         Op::WriteZeroes => LentPart::Act(ActRef::Zeroes { first, blocks }),
         Op::Other(_) => unreachable!("it isn't of the profile"),
@@ -167,13 +168,16 @@ fn pair_part<'a>(
 }
 
 /// The data of a command that belongs to a piece of its range.
-fn piece_data(command: &Command, piece: Piece, size: BlockSize) -> &[u8]
+fn piece_data(command: &Command, piece: Piece, size: BlockSize) -> PayloadRef<'_>
     requires payload { length command.now.payload ≡ (command.now.nlb + 1) * size }
     requires low { command.now.slba ≤ piece.first }
     requires high { piece.first + piece.blocks ≤ command.now.slba + (command.now.nlb + 1) }
-    ensures { result.now ≡ data_part size (piece.first - command.now.slba) piece.blocks command.now.payload }
+    ensures { lent_bytes result ≡ data_part size (piece.first - command.now.slba) piece.blocks command.now.payload }
 {
     let size = size.bytes() as usize;
     let skipped = (piece.first - command.slba) as usize;
-    &command.payload.as_slice()[skipped * size..(skipped + piece.blocks as usize) * size]
+    let _length = command.payload.len();
+    command
+        .payload
+        .lend_part(skipped * size, (skipped + piece.blocks as usize) * size)
 }

@@ -25,6 +25,6 @@ fn command(
         op: kind.0,
         slba: place.1,
         nlb: place.2,
-        payload: Payload::new(vec![in alloc; 0; bytes]?),
+        payload: Payload::new(alloc, vec![in alloc; 0; bytes]?)?,
     })
 }

@@ -64,3 +64,8 @@ reading_fault size bytes cs rest offset BadName few h place k = absurd k
 reading_fault size bytes cs rest offset (Truncated found) few h place (inside, cut, e) = inl (cs, rest, inside, record { name = h.name; commands = h.commands; few = few; cut = cut; place = omega arith })
 reading_fault size bytes cs rest offset TooMany few h place k = absurd k
 reading_fault size bytes cs rest offset NoMemory few h place k = inr refl
+
+-- Bytes are left after as many commands as a file may have.
+pub reading_too_many : (size : ℕ) (bytes : List ℕ) (cs : List Command) (rest : List ℕ) → length cs ≡ 65536 → (rest ≡ [] → ⊥) → IsReading size bytes cs rest → IsAnsweredFault size bytes TooMany
+reading_too_many size bytes cs [] many left h = absurd (left refl)
+reading_too_many size bytes cs (byte ∷ rest) many left h = inl (cs, byte ∷ rest, record { name = h.name; commands = h.commands; many = many; left = omega arith })

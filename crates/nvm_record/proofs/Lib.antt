@@ -4,5 +4,6 @@ pub mod EntryLemmas
 pub mod HostFileLemmas
 pub mod Locality
 pub mod OneReading
+pub mod PartsOfParts
 pub mod WholeCommands
 pub mod WrittenFiles

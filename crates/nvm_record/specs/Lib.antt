@@ -8,3 +8,5 @@ pub mod Step
 pub mod Deeds
 pub mod Completion
 pub mod Lists
+pub mod PayloadRef
+pub mod SharedBytes

@@ -10,7 +10,7 @@ pub enum Block {
     Uncorrectable,
 }
 
-/// A copy of the block and of its bytes, which take memory.
+/// A copy of the block, which shares its bytes.
 impl Clone for Block {
     ghost is_clone = { λ block copy. copy ≡ block };
 

@@ -34,7 +34,7 @@ impl Command {
     }
 }
 
-/// A copy of the command and of its data, which takes memory.
+/// A copy of the command, which shares its data.
 impl Clone for Command {
     ghost is_clone = { λ command copy. copy ≡ command };
 

@@ -1,7 +1,7 @@
 ghost use Rattle.std.specs.Prelude.{◌≡◌, ◌≤◌};
 ghost use Rattle.nvm_record.specs.Completion.{posted};
 
-use crate::payload::Payload;
+use crate::read_data::ReadData;
 use crate::status::Status;
 use byteorder::{ByteOrder, LittleEndian};
 use std::alloc::AllocError;
@@ -16,7 +16,7 @@ pub struct Completion {
     /// How the command ended.
     pub status: Status,
     /// The data of a Read of status 0/00.
-    pub payload: Option<Payload>,
+    pub payload: Option<ReadData>,
 }
 
 /// A copy of the completion and of its data, which takes memory.

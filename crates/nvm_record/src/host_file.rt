@@ -11,6 +11,7 @@ use crate::command::Command;
 use crate::command_fault::CommandFault;
 use crate::entry::ENTRY_BYTES;
 use crate::host_fault::HostFault;
+use crate::payload::Payload;
 use crate::spelling::{push_spelling, read_command};
 use std::alloc::Global;
 
@@ -24,8 +25,12 @@ pub const MOST_COMMANDS: usize = 65_536;
 /// submission entry of 64 bytes and, after that of a Write or a Compare, its data of `nlb + 1` blocks
 /// of `size`.
 ///
-/// The first fault from the front is answered, or `NoMemory` where a growth was refused before it.
-pub fn read_host(alloc: Global, bytes: &[u8], size: BlockSize) -> Result<Vec<Command>, HostFault>
+/// The commands' data are parts of the bytes: nothing is copied, and memory is taken for the list of the
+/// commands alone.
+///
+/// The first fault from the front is answered, or `NoMemory` where a growth was refused before it, or
+/// 2^63 - 1 payloads shared the bytes.
+pub fn read_host(alloc: Global, bytes: &Payload, size: BlockSize) -> Result<Vec<Command>, HostFault>
     // What is answered is what the file reads as.
     ensures commands { IfOk result (λ v. IsHostFile size bytes.now v.items) }
     ensures fault { IfErr result (IsAnsweredFault size bytes.now) }
@@ -42,20 +47,21 @@ pub fn read_host(alloc: Global, bytes: &[u8], size: BlockSize) -> Result<Vec<Com
 }
 
 /// What the file reads as.
-fn commands_of(alloc: Global, bytes: &[u8], size: BlockSize) -> Result<Vec<Command>, HostFault>
+fn commands_of(alloc: Global, bytes: &Payload, size: BlockSize) -> Result<Vec<Command>, HostFault>
     ensures commands { IfOk result (λ v. IsHostFile size bytes.now v.items) }
     ensures fault { IfErr result (IsAnsweredFault size bytes.now) }
 {
-    let Some(mut rest) = bytes.strip_prefix(NAME) else {
+    if !bytes.as_slice().starts_with(NAME) {
         return Err(HostFault::BadName);
-    };
+    }
     let length = bytes.len();
+    let mut rest = bytes.part(NAME.len(), length)?;
     let mut commands = Vec::new(alloc);
     while !rest.is_empty() {
         if commands.len() == MOST_COMMANDS {
             return Err(HostFault::TooMany);
         }
-        let (command, after) = next_command(alloc, rest, size, length - rest.len())?;
+        let (command, after) = next_command(&rest, size, length - rest.len())?;
         commands.push(command)?;
         rest = after;
     }
@@ -65,17 +71,16 @@ fn commands_of(alloc: Global, bytes: &[u8], size: BlockSize) -> Result<Vec<Comma
 /// Reads the command at the front of `rest`, which stands at `offset` of its file, and gives what
 /// follows it.
 fn next_command(
-    alloc: Global,
-    rest: &[u8],
+    rest: &Payload,
     size: BlockSize,
     offset: usize,
-) -> Result<(Command, &[u8]), HostFault>
+) -> Result<(Command, Payload), HostFault>
     requires some { 0 < length rest.now }
     requires in_file { offset + length rest.now < 2 ^ 64 }
-    ensures command { IfOk result (λ read. BeginsWith size rest.now read.0 read.1.now) }
+    ensures command { IfOk result (λ read. BeginsWith size rest.now read.0 read.1) }
     ensures fault { IfErr result (IsCutFault size rest.now offset) }
 {
-    match read_command(alloc, rest, size) {
+    match read_command(rest, size) {
         Ok(read) => Ok(read),
         Err(CommandFault::CutEntry) => Err(HostFault::Truncated { at: offset as u64 }),
         Err(CommandFault::CutData) => Err(HostFault::Truncated {

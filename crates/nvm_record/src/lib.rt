@@ -17,6 +17,8 @@ mod host_file;
 pub mod laws;
 mod op;
 mod payload;
+mod payload_ref;
+mod read_data;
 mod spelling;
 mod status;
 
@@ -30,6 +32,8 @@ pub use host_fault::HostFault;
 pub use host_file::{MOST_COMMANDS, host_bytes, read_host};
 pub use op::{Fuse, Op};
 pub use payload::Payload;
+pub use payload_ref::PayloadRef;
+pub use read_data::ReadData;
 pub use spelling::{push_spelling, read_command};
 pub use status::{Status, Statuses};
 

@@ -1,26 +1,37 @@
-ghost use Rattle.std.specs.Prelude.{◌≡◌, ◌↔◌, [], IsTrue, IfOk, length};
+ghost use Rattle.std.specs.Prelude.{◌≡◌, ◌↔◌, ◌≤◌, [], IsTrue, IfOk, length, slice_range};
+ghost use Rattle.nvm_record.specs.SharedBytes.{shared_bytes};
 
-use std::alloc::{AllocError, Global};
-use std::cmp::PartialEq;
+use crate::NoMemory;
+use std::alloc::Global;
+use std::cmp::{Eq, PartialEq};
+use std::fmt;
+use std::fmt::{Debug, Formatter, Write};
 use std::marker::Model;
+use std::sync::Arc;
 
 /// Data of a command or of blocks: bytes, which contracts see as their list.
 ///
-/// It is made of a `Vec` and gives it back, both without memory.
-#[derive(Debug, Drop)]
+/// Payloads share their bytes: a share, or a part of a payload, takes no memory and copies nothing. The
+/// bytes are freed with the last payload that shares them.
+#[derive(Drop)]
 pub struct Payload {
-    bytes: Vec<u8>,
+    whole: Option<Arc<Vec<u8>>>,
+    from: usize,
+    to: usize,
 }
 
 impl Model for Payload {
-    ghost use Rattle.std.specs.Prelude.{List, ℕ};
+    ghost use Rattle.std.specs.Prelude.{List, ℕ, ◌≤◌, length, slice_range};
+    ghost use Rattle.nvm_record.specs.SharedBytes.{shared_bytes};
 
     ghost Value = { List ℕ };
 
-    ghost view = { λ p. p.bytes.items };
+    ghost view = { λ p. slice_range (shared_bytes p.whole) p.from p.to };
+
+    ghost invariant = { λ p. (p.from ≤ p.to) × (p.to ≤ length (shared_bytes p.whole)) };
 }
 
-/// Two are equal where their bytes are.
+/// Two are equal where their bytes are, shared or not.
 impl PartialEq for Payload {
     ghost use Rattle.std.specs.Prelude.{nat_eq};
     ghost use Rattle.std.specs.Cmp.{partial_equiv_from_equiv};
@@ -31,7 +42,7 @@ impl PartialEq for Payload {
     ghost laws = { partial_equiv_from_equiv nat_list_eq_equiv };
 
     fn eq(&self, other: &Payload) -> bool {
-        self.bytes == other.bytes
+        self.as_slice() == other.as_slice()
     }
 }
 
@@ -41,67 +52,135 @@ impl Eq for Payload {
     ghost laws = { nat_list_eq_equiv };
 }
 
-/// A copy of the bytes, which takes memory.
+/// A copy shares the bytes, as [`Payload::share`] does.
 impl Clone for Payload {
     ghost is_clone = { λ payload copy. copy ≡ payload };
 
-    fn clone(&self) -> Result<Payload, AllocError> {
-        let bytes = self.bytes.clone()?;
-        Ok(Payload { bytes })
+    fn clone(&self) -> Result<Payload, NoMemory> {
+        self.share()
+    }
+}
+
+impl Debug for Payload {
+    fn fmt<W: Write>(&self, f: &mut Formatter<W>) -> fmt::Result {
+        Debug::fmt(self.as_slice(), f)
     }
 }
 
 impl Payload {
     /// No bytes. It takes no memory.
-    pub fn empty(alloc: Global) -> Payload
+    pub fn empty() -> Payload
         ensures { result ≡ [] }
     {
         Payload {
-            bytes: Vec::new(alloc),
+            whole: None,
+            from: 0,
+            to: 0,
         }
     }
 
-    /// The bytes of `bytes`, which aren't copied.
-    pub fn new(bytes: Vec<u8>) -> Payload
-        ensures { result ≡ bytes.items }
+    /// The bytes of `bytes`, which aren't copied. It takes one small block of memory; where that is
+    /// refused, the bytes are let go of.
+    pub fn new(alloc: Global, bytes: Vec<u8>) -> Result<Payload, NoMemory>
+        ensures { IfOk result (λ p. p ≡ bytes.items) }
     {
-        Payload { bytes }
+        let to = bytes.len();
+        let whole = Arc::new(alloc, bytes)?;
+        Ok(Payload {
+            whole: Some(whole),
+            from: 0,
+            to,
+        })
     }
 
     /// A copy of `bytes`.
-    pub fn copy_of(alloc: Global, bytes: &[u8]) -> Result<Payload, AllocError>
+    pub fn copy_of(alloc: Global, bytes: &[u8]) -> Result<Payload, NoMemory>
         ensures { IfOk result (λ p. p ≡ bytes.now) }
     {
         let bytes = Vec::from_slice(alloc, bytes)?;
-        Ok(Payload { bytes })
+        Payload::new(alloc, bytes)
     }
 
     /// The bytes.
     pub fn as_slice(&self) -> &[u8]
         ensures { result.now ≡ self.now }
     {
-        self.bytes.as_slice()
+        match &self.whole {
+            Some(whole) => &whole[self.from..self.to],
+            None => &[],
+        }
     }
 
-    /// The bytes as the `Vec` that holds them, which isn't copied.
-    pub fn into_vec(self) -> Vec<u8>
-        ensures { result.items ≡ self }
+    /// The same bytes, shared. It takes no memory, and is refused only where 2^63 - 1 payloads share
+    /// them already.
+    pub fn share(&self) -> Result<Payload, NoMemory>
+        ensures { IfOk result (λ p. p ≡ self.now) }
     {
-        let Payload { bytes } = self;
-        bytes
+        let whole = one_more_owner(&self.whole)?;
+        Ok(Payload {
+            whole,
+            from: self.from,
+            to: self.to,
+        })
+    }
+
+    /// The bytes from place `from` up to place `to`, shared. It takes no memory, and is refused only
+    /// where 2^63 - 1 payloads share them already. A part of no bytes shares nothing.
+    pub fn part(&self, from: usize, to: usize) -> Result<Payload, NoMemory>
+        requires ordered { from ≤ to }
+        requires within { to ≤ length self.now }
+        ensures { IfOk result (λ p. p ≡ slice_range self.now from to) }
+    {
+        if from == to {
+            return Ok(Payload::empty());
+        }
+        let whole = one_more_owner(&self.whole)?;
+        Ok(Payload {
+            whole,
+            from: self.from + from,
+            to: self.from + to,
+        })
+    }
+
+    /// The bytes as a `Vec`: the one that holds them, where nobody shares it and they are all of it, and
+    /// else a copy.
+    pub fn into_vec(self, alloc: Global) -> Result<Vec<u8>, NoMemory>
+        ensures { IfOk result (λ v. v.items ≡ self) }
+    {
+        let Payload { whole, from, to } = self;
+        let Some(whole) = whole else {
+            return Ok(Vec::new(alloc));
+        };
+        if from > 0 || to < whole.len() {
+            return Vec::from_slice(alloc, &whole[from..to]);
+        }
+        match Arc::try_unwrap(whole) {
+            Ok(bytes) => Ok(bytes),
+            Err(shared) => Vec::from_slice(alloc, shared.as_slice()),
+        }
     }
 
     /// How many bytes there are.
     pub fn len(&self) -> usize
         ensures { result ≡ length self.now }
     {
-        self.bytes.len()
+        self.to - self.from
     }
 
     /// Whether there are none.
     pub fn is_empty(&self) -> bool
         ensures { IsTrue result ↔ (self.now ≡ []) }
     {
-        self.bytes.is_empty()
+        self.as_slice().is_empty()
+    }
+}
+
+/// One more owner of what is shared.
+fn one_more_owner(whole: &Option<Arc<Vec<u8>>>) -> Result<Option<Arc<Vec<u8>>>, NoMemory>
+    ensures { IfOk result (λ w. shared_bytes w ≡ shared_bytes whole.now) }
+{
+    match whole {
+        Some(whole) => Ok(Some(Arc::try_clone(whole)?)),
+        None => Ok(None),
     }
 }

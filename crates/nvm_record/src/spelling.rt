@@ -7,32 +7,29 @@ use crate::command::Command;
 use crate::command_fault::CommandFault;
 use crate::entry::{ENTRY_BYTES, command_bytes, entry_fields};
 use crate::payload::Payload;
-use std::alloc::Global;
 
 /// Reads the command at the front of the bytes: its submission entry of 64 bytes and, after that of a
-/// Write or a Compare, its data of `nlb + 1` blocks of `size`. What follows is given back.
+/// Write or a Compare, its data of `nlb + 1` blocks of `size`. What follows is given back. The data and
+/// what follows are parts of the bytes, so nothing is copied and no memory is taken.
 ///
-/// The first fault is answered, or `NoMemory` where memory for the data was refused.
-pub fn read_command(
-    alloc: Global,
-    bytes: &[u8],
-    size: BlockSize,
-) -> Result<(Command, &[u8]), CommandFault>
-    ensures command { IfOk result (λ read. BeginsWith size bytes.now read.0 read.1.now) }
+/// The first fault is answered, or `NoMemory` where 2^63 - 1 payloads share the bytes already.
+pub fn read_command(bytes: &Payload, size: BlockSize) -> Result<(Command, Payload), CommandFault>
+    ensures command { IfOk result (λ read. BeginsWith size bytes.now read.0 read.1) }
     ensures whole { IfOk result (λ read. IsWhole size read.0) }
     ensures fault { IfErr result (IsCommandFault size bytes.now) }
 {
     if bytes.len() < ENTRY_BYTES {
         return Err(CommandFault::CutEntry);
     }
-    let (entry, after) = bytes.split_at(ENTRY_BYTES);
+    let (entry, after) = bytes.as_slice().split_at(ENTRY_BYTES);
     let fields = entry_fields(entry);
     let wanted = fields.op.data_length(fields.nlb, size);
     if after.len() < wanted {
         return Err(CommandFault::CutData);
     }
-    let (payload, after) = after.split_at(wanted);
-    let payload = Payload::copy_of(alloc, payload)?;
+    let end = ENTRY_BYTES + wanted;
+    let payload = bytes.part(ENTRY_BYTES, end)?;
+    let rest = bytes.part(end, bytes.len())?;
     let command = Command {
         cid: fields.cid,
         nsid: fields.nsid,
@@ -42,7 +39,7 @@ pub fn read_command(
         nlb: fields.nlb,
         payload,
     };
-    Ok((command, after))
+    Ok((command, rest))
 }
 
 /// Appends the command's submission entry, every unnamed bit being 0, and its data. Where memory is

@@ -4,3 +4,4 @@ mod copies;
 mod entries;
 mod host_faults;
 mod host_files;
+mod payloads;

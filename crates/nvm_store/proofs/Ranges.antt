@@ -1,16 +1,20 @@
--- A range of a medium, and the stored blocks of a unit that hold it.
-use Rattle.std.proofs.Common.{◌≡◌, ◌⊎◌, ℕ, suc, ◌+◌, ◌-◌, ◌<◌, ◌≤◌, List, [], ◌∷◌, length, get_or, take, drop, replicate, false, refl, sym, ap, ◌∙◌, arith, inl, inr}
+-- A range of a medium, and the blocks of a unit that hold it.
+use Rattle.std.proofs.Common.{◌≡◌, ◌⊎◌, ℕ, suc, ◌+◌, ◌-◌, ◌*◌, ◌<◌, ◌≤◌, List, [], ◌∷◌, length, get_or, take, drop, replicate, false, refl, sym, ap, subst, ◌∙◌, arith, inl, inr}
+use Rattle.std.specs.Prelude.{Result, Ok, Err, OnOk, OnErr}
+use Rattle.std.proofs.Math.ListN.{length-take}
+use Rattle.std.proofs.Math.Nat.{mul-le-mul_right}
 use Rattle.std.proofs.lemmas.Bool.Decides.{nat_tests, leb_tells}
-use Rattle.std.proofs.lemmas.List.{get_or-map, get_or-take, get_or-drop, get_or-replicate, length-map, length-take-le, length-drop, length-replicate}
+use Rattle.std.proofs.lemmas.List.{get_or-take, get_or-drop, get_or-replicate, length-take-le, length-drop, length-replicate}
 use Rattle.nvm_record.specs.declared.block.Block.{Block}
 use Rattle.nvm_record.specs.declared.block.Block.TheVariants.{Bytes, Uncorrectable}
 use Rattle.nvm_record.specs.Lists.{IsAt}
-use Rattle.nvm_record.specs.Medium.{Medium, zero_medium, range}
-use Rattle.nvm_record.specs.Step.{Operation, range_of, is_in_range, block_after, medium_after}
-use Rattle.nvm_store.specs.Contents.{Contents, Holds}
-use Rattle.nvm_store.specs.Operation.{write_operation, zeroes_operation, uncorrectable_operation}
+use Rattle.nvm_record.specs.Medium.{Medium, IsOfSize, zero_medium, range}
+use Rattle.nvm_record.specs.Step.{Operation, range_of, is_in_range, block_after, block_at, medium_after}
+use Rattle.nvm_store.specs.Contents.{Contents, Holds, place_of}
 use Rattle.nvm_store.proofs.AtLemmas.{at_below, at_read, get_or_at_place}
-use Rattle.nvm_store.specs.Inside.Stored.{Stored, AreSized, block_of, blocks_of, zero_block, KeepsAllBut, written, marked}
+use Rattle.nvm_store.specs.Inside.Sound.{AreOfSize, AreSound, blocks_at}
+use Rattle.nvm_store.specs.Place.{IsWithin}
+use Rattle.nvm_blocks.specs.Rewrite.{IsRewritten}
 
 -- These blocks are the medium's, from this LBA.
 abbrev pub AreAt : List Block → ℕ → Medium → Type 0
@@ -24,9 +28,9 @@ pub held_where_at : (u : Contents) (m : Medium) → AreAt u.blocks u.first m →
 held_where_at u m are i block at =
     sym (are block i (at_below u.blocks i block at)) ∙ get_or_at_place u.blocks i block block at
 
--- the unit of these stored blocks
-abbrev pub unit_with : ℕ → ℕ → List Stored → Contents
-unit_with first size blocks = record { first = first; size = size; blocks = blocks_of blocks }
+-- the unit of these blocks
+abbrev pub unit_with : ℕ → ℕ → List Block → Contents
+unit_with first size blocks = record { first = first; size = size; blocks = blocks }
 
 -- Blocks that are the medium's are its range.
 pub range-is : (m : Medium) (blocks : List Block) (first : ℕ) → AreAt blocks first m → range m first (length blocks) ≡ blocks
@@ -39,49 +43,59 @@ range-is m (b ∷ bs) first at =
     (λ d i lt. let next : suc first + i ≡ first + suc i = omega arith in rw next (at d (suc i) (omega arith))) in
     cc
 
--- What is read of stored blocks as blocks.
-pub get_or-blocks_of : (items : List Stored) (d : Stored) (e : Block) (i : ℕ) → i < length items → get_or (blocks_of items) i e ≡ block_of (get_or items i d)
-get_or-blocks_of items d e i lt = get_or-map block_of items i d e lt
-
--- The stored blocks of some of the LBAs are the medium's range there.
-pub range-held : (m : Medium) (items : List Stored) (d : Stored) (start size first n at : ℕ)
-    → Holds (unit_with start size items) m → start + at ≡ first → at + n ≤ length items
-    → range m first n ≡ blocks_of (take n (drop at items))
-range-held m items d start size first n at holds place fits =
-    let held : AreAt (blocks_of items) start m = held_are_at (unit_with start size items) m holds in
+-- The unit's blocks of some of its LBAs are the medium's range there.
+pub range-held : (m : Medium) (unit : Contents) (first n : ℕ) → Holds unit m → IsWithin (place_of unit) first n
+    → range m first n ≡ blocks_at unit first n
+range-held m unit first n holds within =
+    let items = unit.blocks in
+    let at = first - unit.first in
+    let held : AreAt items unit.first m = held_are_at unit m holds in
+    let above : unit.first ≤ first = within.above in
+    let below : first + n ≤ unit.first + length items = within.below in
     let some = take n (drop at items) in
-    let len : length some ≡ n = grind (arith, length-take-le {A = Stored}, length-drop {A = Stored}) in
-    let len' : length (blocks_of some) ≡ n = grind (arith, length-map some block_of, len) in
-    let are : AreAt (blocks_of some) first m =
+    let room : n ≤ length (drop at items) = omega (arith, length-drop at items) in
+    let len : length some ≡ n = length-take-le n (drop at items) room in
+    let are : AreAt some first m =
     λ e i lt.
     let lt' : i < n = omega arith in
-    let a : get_or (blocks_of some) i e ≡ block_of (get_or some i d) = get_or-blocks_of some d e i (omega arith) in
-    let b : get_or some i d ≡ get_or (drop at items) i d = get_or-take n (drop at items) i d lt' in
-    let c : get_or (drop at items) i d ≡ get_or items (at + i) d = get_or-drop at items i d in
-    let f : get_or (blocks_of items) (at + i) e ≡ block_of (get_or items (at + i) d) =
-    get_or-blocks_of items d e (at + i) (omega arith) in
-    let h : get_or (blocks_of items) (at + i) e ≡ m (start + (at + i)) =
-    held e (at + i) (omega (arith, length-map items block_of)) in
-    let g : start + (at + i) ≡ first + i = omega arith in
-    cc
+    let place : unit.first + (at + i) ≡ first + i = omega arith in
+    get_or-take n (drop at items) i e lt' ∙ get_or-drop at items i e ∙ held e (at + i) (omega arith) ∙ ap m place
     in
-    rw len' at (range-is m (blocks_of some) first are)
+    rw len at (range-is m some first are)
 
--- Zero blocks are those of the medium that holds zeroes.
-zero_blocks : (n size : ℕ) (e : Block) (i : ℕ) → i < length (blocks_of (replicate n (zero_block size)))
-    → get_or (blocks_of (replicate n (zero_block size))) i e ≡ Bytes (replicate size 0)
-zero_blocks n size e i lt =
-    let zeroes = replicate n (zero_block size) in
-    let len : length zeroes ≡ n = length-replicate n (zero_block size) in
-    let lt' : i < n = omega (arith, length-map zeroes block_of) in
-    let a : get_or (blocks_of zeroes) i e ≡ block_of (get_or zeroes i (zero_block size)) =
-    get_or-blocks_of zeroes (zero_block size) e i (omega arith) in
-    a ∙ ap block_of (get_or-replicate n i (zero_block size) (zero_block size) lt')
+pub part_length : (unit : Contents) (first n : ℕ) → IsWithin (place_of unit) first n → length (blocks_at unit first n) ≡ n
+part_length unit first n within =
+    let at = first - unit.first in
+    let above : unit.first ≤ first = within.above in
+    let below : first + n ≤ unit.first + length unit.blocks = within.below in
+    length-take-le n (drop at unit.blocks) (omega (arith, length-drop at unit.blocks))
+
+-- Part of blocks of one size is of that size.
+pub part_sized : (size : ℕ) (blocks : List Block) (at n : ℕ) → AreOfSize size blocks → AreOfSize size (take n (drop at blocks))
+part_sized size blocks at n sized i block there =
+    let some = take n (drop at blocks) in
+    let lt : i < length some = at_below some i block there in
+    let low : i < n = omega (arith, length-take n (drop at blocks)) in
+    let inside : at + i < length blocks = omega (arith, length-take n (drop at blocks), length-drop at blocks) in
+    let same : get_or blocks (at + i) block ≡ block =
+    sym (get_or-drop at blocks i block) ∙ sym (get_or-take n (drop at blocks) i block low) ∙ get_or_at_place some i block block there in
+    subst (λ (b : Block). IsOfSize size b) same (sized (at + i) (get_or blocks (at + i) block) (at_read blocks (at + i) block inside))
 
 -- A unit of zero blocks holds the zero medium.
-pub zeroes_held : (n first size : ℕ) → Holds (unit_with first size (replicate n (zero_block size))) (zero_medium size)
+pub zeroes_held : (n first size : ℕ) → Holds (unit_with first size (replicate n (Bytes (replicate size 0)))) (zero_medium size)
 zeroes_held n first size =
-    held_where_at (unit_with first size (replicate n (zero_block size))) (zero_medium size) (λ e i lt. zero_blocks n size e i lt)
+    let block = Bytes (replicate size 0) in
+    held_where_at (unit_with first size (replicate n block)) (zero_medium size)
+    (λ e i lt. get_or-replicate n i block e (rw length-replicate at lt))
+
+-- Zero blocks are of their size.
+pub zeroes_sized : (n size : ℕ) → AreOfSize size (replicate n (Bytes (replicate size 0)))
+zeroes_sized n size i block at =
+    let zero = Bytes (replicate size 0) in
+    let zeroes = replicate n zero in
+    let lt : i < n = rw (length-replicate n zero) at (at_below zeroes i block at) in
+    let is : zero ≡ block = sym (get_or-replicate n i zero block lt) ∙ get_or_at_place zeroes i block block at in
+    subst (λ (b : Block). IsOfSize size b) is (length-replicate size 0)
 
 -- An LBA of the operation's range takes the block that the deed leaves there.
 medium_after-inside : (m : Medium) (size : ℕ) (op : Operation) (lba : ℕ) → op.first ≤ lba → lba < op.first + op.blocks
@@ -96,81 +110,92 @@ StepsStayInside =
 is_outside : (op : Operation) (lba : ℕ) → (lba < op.first) ⊎ (op.first + op.blocks ≤ lba) → is_in_range op lba ≡ false
 is_outside op lba out = grind (arith, nat_tests)
 
--- Stored blocks of which the operation's range was changed are those of the medium after it.
-held_at-changed : StepsStayInside → (m : Medium) (old new : List Stored) (d : Stored) (start size at : ℕ) (op : Operation)
-    → AreAt (blocks_of old) start m → start + at ≡ op.first → length new ≡ length old
-    → ((i : ℕ) → i < op.blocks → block_of (get_or new (at + i) d) ≡ block_after size (range_of op m) op.deed i (m (op.first + i)))
-    → KeepsAllBut at op.blocks old new
-    → AreAt (blocks_of new) start (medium_after size op m)
-held_at-changed law m old new d start size at op held place len put others e i lt =
-    let lt' : i < length new = omega (arith, length-map new block_of) in
-    let a : get_or (blocks_of new) i e ≡ block_of (get_or new i d) = get_or-blocks_of new d e i lt' in
-    let outside : (i < at) ⊎ (at + op.blocks ≤ i) → get_or (blocks_of new) i e ≡ medium_after size op m (start + i) =
+-- A block of a list of which a range was rewritten is new, or was there before.
+module _ (at count : ℕ) (news : ℕ → Block) (old new : List Block) (is : IsRewritten at count news old new) where
+  kept_at : (i : ℕ) (block : Block) → (i < at) ⊎ (at + count ≤ i) → IsAt new i block → IsAt old i block
+  kept_at i block out there =
+      let below : i < length new = at_below new i block there in
+      let len : length new ≡ length old = is.len in
+      let before = get_or old i block in
+      let was : IsAt old i before = at_read old i block (omega arith) in
+      let same : before ≡ block =
+      sym (get_or_at_place new i before block (is.others i before out was)) ∙ get_or_at_place new i block block there in
+      rw (← same) was
+
+  new_at : (i : ℕ) (block : Block) → at ≤ i → i < at + count → IsAt new i block → news (i - at) ≡ block
+  new_at i block above below there =
+      let place : at + (i - at) ≡ i = omega arith in
+      let put : IsAt new (at + (i - at)) (news (i - at)) = is.rewritten (i - at) (omega arith) in
+      sym (get_or_at_place new i (news (i - at)) block (rw place at put)) ∙ get_or_at_place new i block block there
+
+  -- Its blocks are of their size where the old and the new ones are.
+  pub sized-rewritten : (size : ℕ) → AreOfSize size old → ((i : ℕ) → i < count → IsOfSize size (news i)) → AreOfSize size new
+  sized-rewritten size sized fit i block there =
+      let outside : (i < at) ⊎ (at + count ≤ i) → IsOfSize size block = λ out. sized i block (kept_at i block out there) in
+      elim (leb_tells at i) [
+        | inl above ↦
+            elim (leb_tells (at + count) i) [
+              | inl past ↦ outside (inr past.1)
+              | inr before ↦ subst (λ (b : Block). IsOfSize size b) (new_at i block above.1 before.1 there) (fit (i - at) (omega arith))
+            ]
+        | inr below ↦ outside (inl below.1)
+      ]
+
+-- The unit of which the operation's range was rewritten holds the medium after it.
+pub held-rewritten : StepsStayInside → (m : Medium) (first size at : ℕ) (op : Operation) (news : ℕ → Block) (old new : List Block)
+    → Holds (unit_with first size old) m → first + at ≡ op.first → IsRewritten at op.blocks news old new
+    → ((i : ℕ) → i < op.blocks → news i ≡ block_after size (range_of op m) op.deed i (m (op.first + i)))
+    → Holds (unit_with first size new) (medium_after size op m)
+held-rewritten law m first size at op news old new held place is does i block there =
+    let outside : (i < at) ⊎ (at + op.blocks ≤ i) → medium_after size op m (first + i) ≡ block =
     λ out.
-    let b : get_or new i d ≡ get_or old i d = others d i out in
-    let f : get_or (blocks_of old) i e ≡ block_of (get_or old i d) = get_or-blocks_of old d e i (omega arith) in
-    let h : get_or (blocks_of old) i e ≡ m (start + i) = held e i (omega (arith, length-map old block_of)) in
-    let out' : (start + i < op.first) ⊎ (op.first + op.blocks ≤ start + i) = grind arith in
-    let g = law size op m (start + i) (is_outside op (start + i) out') in
-    cc
+    let out' : (first + i < op.first) ⊎ (op.first + op.blocks ≤ first + i) = grind arith in
+    law size op m (first + i) (is_outside op (first + i) out')
+    ∙ held i block (kept_at at op.blocks news old new is i block out there)
     in
     elim (leb_tells at i) [
       | inl above ↦
           elim (leb_tells (at + op.blocks) i) [
             | inl past ↦ outside (inr past.1)
             | inr before ↦
-                let k : at + (i - at) ≡ i = omega arith in
-                let l : op.first + (i - at) ≡ start + i = omega arith in
-                let b : block_of (get_or new (at + (i - at)) d) ≡ block_after size (range_of op m) op.deed (i - at) (m (op.first + (i - at))) =
-                put (i - at) (omega arith) in
-                let b' : block_of (get_or new i d) ≡ block_after size (range_of op m) op.deed (i - at) (m (start + i)) = rw (k, l) at b in
-                let g = medium_after-inside m size op (start + i) (omega arith) (omega arith) in
-                let same : start + i - op.first ≡ i - at = omega arith in
-                let same' = ap (λ (n : ℕ). block_after size (range_of op m) op.deed n (m (start + i))) same in
-                a ∙ b' ∙ sym (g ∙ same')
+                let lba : op.first + (i - at) ≡ first + i = omega arith in
+                let same : first + i - op.first ≡ i - at = omega arith in
+                let put : news (i - at) ≡ block_after size (range_of op m) op.deed (i - at) (m (op.first + (i - at))) =
+                does (i - at) (omega arith) in
+                medium_after-inside m size op (first + i) (omega arith) (omega arith)
+                ∙ ap (λ (n : ℕ). block_after size (range_of op m) op.deed n (m (first + i))) same
+                ∙ sym (rw lba at put)
+                ∙ new_at at op.blocks news old new is i block above.1 before.1 there
           ]
       | inr below ↦ outside (inl below.1)
     ]
 
--- The unit of such blocks holds the medium after the operation.
-held-changed : StepsStayInside → (m : Medium) (old new : List Stored) (d : Stored) (start size at : ℕ) (op : Operation)
-    → Holds (unit_with start size old) m → start + at ≡ op.first → length new ≡ length old
-    → ((i : ℕ) → i < op.blocks → block_of (get_or new (at + i) d) ≡ block_after size (range_of op m) op.deed i (m (op.first + i)))
-    → KeepsAllBut at op.blocks old new
-    → Holds (unit_with start size new) (medium_after size op m)
-held-changed law m old new d start size at op held place len put others =
-    held_where_at (unit_with start size new) (medium_after size op m)
-    (held_at-changed law m old new d start size at op (held_are_at (unit_with start size old) m held) place len put others)
+-- A change leaves the blocks sound, whether it is made or refused.
+pub sound_after : {T E : Type 0} (r : Result T E) (first size at count : ℕ) (news : ℕ → Block) (old new : List Block)
+    → OnOk r (IsRewritten at count news old new) → OnErr r (new ≡ old) → AreSound first size old
+    → ((i : ℕ) → i < count → IsOfSize size (news i)) → AreSound first size new
+sound_after (Ok y) first size at count news old new ok err sound fit =
+    let len : length new ≡ length old = ok.len in
+    record {
+      some = rw len sound.some;
+      low = rw len sound.low;
+      sized = sized-rewritten at count news old new ok size sound.sized fit;
+    }
+sound_after (Err y) first size at count news old new ok err sound fit = rw err sound
 
--- Stored blocks of which a range was written are those of the medium after the Write.
-pub held-written : StepsStayInside → (m : Medium) (old new : List Stored) (d : Stored) (start size first count at : ℕ) (payload : List ℕ)
-    → Holds (unit_with start size old) m → start + at ≡ first → length new ≡ length old
-    → ((i : ℕ) → i < count → get_or new (at + i) d ≡ written size payload i)
-    → KeepsAllBut at count old new
-    → Holds (unit_with start size new) (medium_after size (write_operation first count payload) m)
-held-written law m old new d start size first count at payload held place len put others =
-    held-changed law m old new d start size at (write_operation first count payload) held place len
-    (λ i lt. ap block_of (put i lt)) others
+-- It leaves as many blocks.
+pub count_after : {T E : Type 0} (r : Result T E) (at count : ℕ) (news : ℕ → Block) (old new : List Block)
+    → OnOk r (IsRewritten at count news old new) → OnErr r (new ≡ old) → length new ≡ length old
+count_after (Ok y) at count news old new ok err = ok.len
+count_after (Err y) at count news old new ok err = ap length err
 
--- Stored blocks of which a range was zeroed are those of the medium after the Write Zeroes.
-pub held-zeroed : StepsStayInside → (m : Medium) (old new : List Stored) (d : Stored) (start size first count at : ℕ)
-    → Holds (unit_with start size old) m → start + at ≡ first → at + count ≤ length old → AreSized size old → length new ≡ length old
-    → ((i : ℕ) → i < count → get_or new (at + i) d ≡ zero_block (length (get_or old (at + i) d).bytes))
-    → KeepsAllBut at count old new
-    → Holds (unit_with start size new) (medium_after size (zeroes_operation first count) m)
-held-zeroed law m old new d start size first count at held place fits sized len put others =
-    held-changed law m old new d start size at (zeroes_operation first count) held place len
-    (λ i lt. ap block_of (put i lt) ∙ ap (λ (n : ℕ). Bytes (replicate n 0)) (sized d (at + i) (omega arith))) others
-
--- Stored blocks of which a range was marked are those of the medium after the Write Uncorrectable.
-pub held-marked : StepsStayInside → (m : Medium) (old new : List Stored) (d : Stored) (start size first count at : ℕ)
-    → Holds (unit_with start size old) m → start + at ≡ first → length new ≡ length old
-    → ((i : ℕ) → i < count → get_or new (at + i) d ≡ marked (get_or old (at + i) d))
-    → KeepsAllBut at count old new
-    → Holds (unit_with start size new) (medium_after size (uncorrectable_operation first count) m)
-held-marked law m old new d start size first count at held place len put others =
-    held-changed law m old new d start size at (uncorrectable_operation first count) held place len
-    (λ i lt. ap block_of (put i lt)) others
+-- A block of data is of its size.
+pub data_sized : (size count : ℕ) (payload : List ℕ) (i : ℕ) → length payload ≡ count * size → i < count
+    → IsOfSize size (block_at size payload i)
+data_sized size count payload i len lt =
+    let front : suc i * size ≤ count * size = mul-le-mul_right size lt in
+    let more : suc i * size ≡ i * size + size = grind arith in
+    length-take-le size (drop (i * size) payload) (omega (arith, length-drop (i * size) payload))
 
 -- Two media that a unit holds have the same block at each of its LBAs.
 pub same_on_held : (unit : Contents) (m n : Medium) (lba : ℕ) → unit.first ≤ lba → lba < unit.first + length unit.blocks

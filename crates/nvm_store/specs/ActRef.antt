@@ -1,4 +1,5 @@
--- Which operation an act with borrowed data stands for.
+-- Which operation an act with lent data stands for.
+use Rattle.nvm_record.specs.PayloadRef.{lent_bytes}
 use Rattle.nvm_record.specs.Step.{Operation}
 use Rattle.nvm_store.specs.Operation.{write_operation, zeroes_operation, uncorrectable_operation, pair_operation}
 use Rattle.nvm_store.specs.declared.act_ref.ActRef.{ActRef}
@@ -6,7 +7,7 @@ use Rattle.nvm_store.specs.declared.act_ref.ActRef.TheVariants.{Write, Zeroes, U
 
 -- the operation that the act stands for
 abbrev pub lent_operation_of : ActRef → Operation
-lent_operation_of (Write first blocks payload) = write_operation first blocks payload.now
+lent_operation_of (Write first blocks payload) = write_operation first blocks (lent_bytes payload)
 lent_operation_of (Zeroes first blocks) = zeroes_operation first blocks
 lent_operation_of (Uncorrectable first blocks) = uncorrectable_operation first blocks
-lent_operation_of (Pair first blocks compare write) = pair_operation first blocks compare.now write.now
+lent_operation_of (Pair first blocks compare write) = pair_operation first blocks (lent_bytes compare) (lent_bytes write)

@@ -1,3 +1,3 @@
 -- What private functions' contracts say of the blocks as a unit keeps them, and what `==` of entries computes.
 pub mod SameEntries
-pub mod Stored
+pub mod Sound

@@ -41,7 +41,7 @@ pub enum Act {
     },
 }
 
-/// A copy of the act and of its data, which takes memory.
+/// A copy of the act, which shares its data.
 impl Clone for Act {
     ghost is_clone = { λ act copy. copy ≡ act };
 
@@ -87,7 +87,7 @@ impl Clone for Act {
 }
 
 impl Act {
-    /// The same act with its data borrowed. It takes no memory.
+    /// The same act with its data lent. It takes no memory.
     pub fn as_ref(&self) -> ActRef<'_>
         ensures { lent_operation_of result ≡ operation_of self.now }
     {
@@ -99,7 +99,7 @@ impl Act {
             } => ActRef::Write {
                 first: *first,
                 blocks: *blocks,
-                payload: payload.as_slice(),
+                payload: payload.lend(),
             },
             Act::Zeroes { first, blocks } => ActRef::Zeroes {
                 first: *first,
@@ -117,8 +117,8 @@ impl Act {
             } => ActRef::Pair {
                 first: *first,
                 blocks: *blocks,
-                compare: compare.as_slice(),
-                write: write.as_slice(),
+                compare: compare.lend(),
+                write: write.lend(),
             },
         }
     }

@@ -3,17 +3,16 @@ ghost use Rattle.nvm_store.specs.Act.{operation_of};
 ghost use Rattle.nvm_store.specs.ActRef.{lent_operation_of};
 
 use crate::act::Act;
-use nvm_record::{NoMemory, Payload};
-use std::alloc::Global;
+use nvm_record::{NoMemory, PayloadRef};
 
-/// An [`Act`] whose data is borrowed.
+/// An [`Act`] whose data is lent: parts of payloads, which nothing shares yet.
 #[derive(Clone, Copy, Debug, PartialEq, Eq)]
 pub enum ActRef<'a> {
     /// See [`Act::Write`].
     Write {
         first: u64,
         blocks: u32,
-        payload: &'a [u8],
+        payload: PayloadRef<'a>,
     },
     /// See [`Act::Zeroes`].
     Zeroes {
@@ -29,8 +28,8 @@ pub enum ActRef<'a> {
     Pair {
         first: u64,
         blocks: u32,
-        compare: &'a [u8],
-        write: &'a [u8],
+        compare: PayloadRef<'a>,
+        write: PayloadRef<'a>,
     },
 }
 
@@ -44,7 +43,7 @@ impl<'a> ActRef<'a> {
                 first,
                 blocks,
                 payload,
-            } => act.is_this_write(first, blocks, payload),
+            } => act.is_this_write(first, blocks, payload.as_slice()),
             ActRef::Zeroes { first, blocks } => act.are_these_zeroes(first, blocks),
             ActRef::Uncorrectable { first, blocks } => act.is_this_mark(first, blocks),
             ActRef::Pair {
@@ -52,12 +51,13 @@ impl<'a> ActRef<'a> {
                 blocks,
                 compare,
                 write,
-            } => act.is_this_pair(first, blocks, compare, write),
+            } => act.is_this_pair(first, blocks, compare.as_slice(), write.as_slice()),
         }
     }
 
-    /// The same act with a copy of the data.
-    pub fn to_act(self, alloc: Global) -> Result<Act, NoMemory>
+    /// The same act, which shares the data. It takes no memory, and is refused only where 2^63 - 1 payloads
+    /// share the data already.
+    pub fn to_act(self) -> Result<Act, NoMemory>
         ensures { IfOk result (λ act. operation_of act ≡ lent_operation_of self.entry) }
     {
         match self {
@@ -66,7 +66,7 @@ impl<'a> ActRef<'a> {
                 blocks,
                 payload,
             } => {
-                let payload = Payload::copy_of(alloc, payload)?;
+                let payload = payload.share()?;
                 Ok(Act::Write {
                     first,
                     blocks,
@@ -81,8 +81,8 @@ impl<'a> ActRef<'a> {
                 compare,
                 write,
             } => {
-                let compare = Payload::copy_of(alloc, compare)?;
-                let write = Payload::copy_of(alloc, write)?;
+                let compare = compare.share()?;
+                let write = write.share()?;
                 Ok(Act::Pair {
                     first,
                     blocks,

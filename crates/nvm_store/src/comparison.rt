@@ -6,7 +6,6 @@ ghost use Rattle.nvm_store.specs.Contents.{Holds, place_of};
 ghost use Rattle.nvm_store.specs.Operation.{pair_operation};
 ghost use Rattle.nvm_store.specs.Place.{IsWithin};
 
-use crate::stored_blocks::{are_equal, has_mark};
 use crate::unit_blocks::UnitBlocks;
 use nvm_record::{Status, Statuses};
 
@@ -18,11 +17,10 @@ pub fn compare_range(unit: &UnitBlocks, first: u64, blocks: u32, payload: &[u8])
     ensures { (m : Medium) → Holds unit.now m
         → result ≡ step.comparison (range m first blocks) payload.now }
 {
-    let range = unit.range(first, blocks);
-    if has_mark(range) {
+    if unit.has_mark(first, blocks) {
         return Status::UNRECOVERED_READ_ERROR;
     }
-    if !are_equal(range, unit.place().size.bytes() as usize, payload) {
+    if !unit.is_equal(first, blocks, payload) {
         return Status::COMPARE_FAILURE;
     }
     Status::SUCCESSFUL_COMPLETION

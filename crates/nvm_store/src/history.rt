@@ -15,7 +15,7 @@ pub type History = Vec<Entry>;
 /// The unit of `blocks` blocks from LBA `first` after all entries of its history, in order. Without
 /// an entry all its blocks are zero bytes.
 ///
-/// Each entry costs what its own blocks cost. Once the zero blocks are made, no memory is taken.
+/// Each entry costs what its own blocks and their ways in the tree cost, and shares its data.
 pub fn replay(
     alloc: Global,
     first: u64,
@@ -32,7 +32,7 @@ pub fn replay(
     success_on_held();
     let mut unit = UnitBlocks::zeroed(alloc, first, blocks, size)?;
     for entry in history {
-        unit.change(entry.act.as_ref());
+        unit.change(alloc, entry.act.as_ref())?;
     }
     Ok(unit)
 }

@@ -17,8 +17,6 @@ mod limit;
 mod look;
 mod place;
 mod step;
-mod stored_block;
-mod stored_blocks;
 #[cfg(test)]
 mod tests;
 mod unit_blocks;

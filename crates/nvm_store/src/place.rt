@@ -29,7 +29,7 @@ impl Place {
                 first,
                 blocks,
                 payload,
-            } => self.has_range(first, blocks) && self.is_data_of(blocks, payload),
+            } => self.has_range(first, blocks) && self.is_data_of(blocks, payload.as_slice()),
             ActRef::Zeroes { first, blocks } | ActRef::Uncorrectable { first, blocks } => {
                 self.has_range(first, blocks)
             }
@@ -40,8 +40,8 @@ impl Place {
                 write,
             } => {
                 self.has_range(first, blocks)
-                    && self.is_data_of(blocks, compare)
-                    && self.is_data_of(blocks, write)
+                    && self.is_data_of(blocks, compare.as_slice())
+                    && self.is_data_of(blocks, write.as_slice())
             }
         }
     }

@@ -13,9 +13,8 @@ ghost use Rattle.nvm_store.specs.Place.{IsWithin};
 use crate::act_ref::ActRef;
 use crate::comparison::{compare_range, pair_statuses};
 use crate::look::{Answer, Look};
-use crate::stored_blocks::{has_mark, joined};
 use crate::unit_blocks::UnitBlocks;
-use nvm_record::{NoMemory, Payload, Status, Statuses};
+use nvm_record::{NoMemory, ReadData, Status, Statuses};
 use std::alloc::Global;
 
 /// The statuses that the act's command, or its two commands, complete with on these blocks: 0/00 for a
@@ -35,7 +34,7 @@ pub fn judge(unit: &UnitBlocks, act: ActRef<'_>) -> Statuses
             blocks,
             compare,
             write: _,
-        } => pair_statuses(unit, first, blocks, compare),
+        } => pair_statuses(unit, first, blocks, compare.as_slice()),
     }
 }
 
@@ -48,7 +47,7 @@ pub fn judge_look(unit: &UnitBlocks, look: Look<'_>) -> Status
 {
     match look {
         Look::Read { first, blocks } => {
-            if has_mark(unit.range(first, blocks)) {
+            if unit.has_mark(first, blocks) {
                 Status::UNRECOVERED_READ_ERROR
             } else {
                 Status::SUCCESSFUL_COMPLETION
@@ -62,7 +61,7 @@ pub fn judge_look(unit: &UnitBlocks, look: Look<'_>) -> Status
     }
 }
 
-/// The unit after the act's step. The unit that is lent stays as it is.
+/// The unit after the act's step, which shares all other blocks. The unit that is lent stays as it is.
 pub fn apply(alloc: Global, unit: &UnitBlocks, act: ActRef<'_>) -> Result<UnitBlocks, NoMemory>
     requires covered { Covers unit.now (lent_operation_of act) }
     requires success { Succeeds unit.now (lent_operation_of act) }
@@ -70,8 +69,8 @@ pub fn apply(alloc: Global, unit: &UnitBlocks, act: ActRef<'_>) -> Result<UnitBl
         → Holds after (medium_after unit.now.size (lent_operation_of act.entry) m)) }
     ensures place { IfOk result (StaysInPlace unit.now) }
 {
-    let mut after = unit.copy_of(alloc)?;
-    after.change(act);
+    let mut after = unit.share()?;
+    after.change(alloc, act)?;
     Ok(after)
 }
 
@@ -107,10 +106,9 @@ fn read(alloc: Global, unit: &UnitBlocks, first: u64, blocks: u32) -> Result<Ans
     ensures memory { OnErr result ((m : Medium) → Holds unit.now m
         → IsSome (data_of (read_operation first blocks) m)) }
 {
-    let range = unit.range(first, blocks);
-    if has_mark(range) {
+    if unit.has_mark(first, blocks) {
         return Ok(Answer::Status(Status::UNRECOVERED_READ_ERROR));
     }
-    let bytes = joined(alloc, range, unit.place().size.bytes() as usize)?;
-    Ok(Answer::Payload(Payload::new(bytes)))
+    let bytes = unit.bytes(alloc, first, blocks)?;
+    Ok(Answer::Payload(ReadData::new(bytes)))
 }

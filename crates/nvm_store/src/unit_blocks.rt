@@ -1,4 +1,6 @@
-ghost use Rattle.std.specs.Prelude.{◌≡◌, ◌↔◌, ◌+◌, ◌*◌, ◌<◌, ◌≤◌, IfOk, IsTrue, length};
+ghost use Rattle.std.specs.Prelude.{◌≡◌, ◌↔◌, ◌+◌, ◌*◌, ◌<◌, ◌≤◌, IfOk, IsTrue, OnErr, OnOk, false, length};
+ghost use Rattle.std.specs.Str.{bytes_eq};
+ghost use Rattle.nvm_record.specs.Medium as medium;
 ghost use Rattle.nvm_record.specs.Medium.{Medium, zero_medium, range};
 ghost use Rattle.nvm_record.specs.Step.{medium_after};
 ghost use Rattle.nvm_store.specs.Operation.{write_operation, zeroes_operation, uncorrectable_operation};
@@ -6,41 +8,41 @@ ghost use Rattle.nvm_store.specs.ActRef.{lent_operation_of};
 ghost use Rattle.nvm_store.specs.Look.{look_operation_of};
 ghost use Rattle.nvm_store.specs.Contents.{Holds, LiesAt, Covers, Succeeds, StaysInPlace, place_of};
 ghost use Rattle.nvm_store.specs.Place.{IsWithin, place_at};
-ghost use Rattle.nvm_store.specs.Inside.Stored.{AreSized, blocks_of};
+ghost use Rattle.nvm_store.specs.Inside.Sound.{blocks_at};
 
 use crate::act_ref::ActRef;
 use crate::look::Look;
 use crate::place::Place;
-use crate::stored_block::StoredBlock;
-use crate::stored_blocks::{copies_of, mark_range, write_range, zero_range, zeroed_blocks};
+use nvm_blocks::Blocks;
 use nvm_record::laws::steps_are_local;
-use nvm_record::{BlockSize, NoMemory};
+use nvm_record::{BlockSize, NoMemory, Payload};
 use std::alloc::Global;
 use std::marker::Model;
 
 /// The blocks of one unit, which lie on neighbouring LBAs of the namespace.
 ///
-/// Contracts see the first LBA, the block size in bytes, and the list of the blocks.
+/// Contracts see the first LBA, the block size in bytes, and the list of the blocks. A block's data is a
+/// part of the payload that was written, and copies of the unit share all blocks.
 #[derive(Debug, Drop)]
 pub struct UnitBlocks {
     first: u64,
     size: BlockSize,
-    blocks: Vec<StoredBlock>,
+    blocks: Blocks,
 }
 
 impl Model for UnitBlocks {
     ghost use Rattle.nvm_store.specs.Contents.{Contents};
-    ghost use Rattle.nvm_store.specs.Inside.Stored.{blocks_of, AreSound};
+    ghost use Rattle.nvm_store.specs.Inside.Sound.{AreSound};
 
     ghost Value = { Contents };
 
     ghost view = { λ u. record {
       first = u.first;
       size = u.size;
-      blocks = blocks_of u.blocks.items;
+      blocks = u.blocks;
     } };
 
-    ghost invariant = { λ u. AreSound u.first u.size u.blocks.items };
+    ghost invariant = { λ u. AreSound u.first u.size u.blocks };
 }
 
 impl UnitBlocks {
@@ -56,7 +58,7 @@ impl UnitBlocks {
         ensures place { IfOk result (LiesAt (place_at first blocks size)) }
         ensures zeroes { IfOk result (λ unit. Holds unit (zero_medium size)) }
     {
-        let blocks = zeroed_blocks(alloc, blocks as usize, size.bytes() as usize)?;
+        let blocks = Blocks::zeroed(alloc, blocks as usize, size.bytes() as usize)?;
         Ok(UnitBlocks {
             first,
             size,
@@ -64,11 +66,12 @@ impl UnitBlocks {
         })
     }
 
-    /// A copy, which holds the same and shares nothing with this unit.
-    pub(crate) fn copy_of(&self, alloc: Global) -> Result<UnitBlocks, NoMemory>
+    /// The same unit, which shares all blocks. It takes no memory, and is refused only where 2^63 - 1
+    /// units share them already.
+    pub fn share(&self) -> Result<UnitBlocks, NoMemory>
         ensures { IfOk result (λ unit. unit ≡ self.now) }
     {
-        let blocks = copies_of(alloc, self.blocks.as_slice())?;
+        let blocks = self.blocks.share()?;
         Ok(UnitBlocks {
             first: self.first,
             size: self.size,
@@ -103,81 +106,122 @@ impl UnitBlocks {
         self.place().covers_look(look)
     }
 
-    /// Makes the act's step in place, at the cost of its own blocks, whatever else the unit holds. It
-    /// takes no memory, and nothing can fail once it has begun.
-    pub fn change(&mut self, act: ActRef<'_>)
+    /// Makes the act's step, at the cost of its own blocks and of their ways in the tree, whatever else the
+    /// unit holds. One block is changed in place where no other unit shares it. Where memory is refused,
+    /// the unit is as it was.
+    pub fn change(&mut self, alloc: Global, act: ActRef<'_>) -> Result<(), NoMemory>
         requires covered { Covers self.old (lent_operation_of act) }
         requires success { Succeeds self.old (lent_operation_of act) }
-        ensures step { (m : Medium) → Holds self.old m
-            → Holds self.new (medium_after self.old.size (lent_operation_of act.entry) m) }
+        ensures step { OnOk result ((m : Medium) → Holds self.old m
+            → Holds self.new (medium_after self.old.size (lent_operation_of act.entry) m)) }
         ensures place { StaysInPlace self.old self.new }
+        ensures err { OnErr result (self.new ≡ self.old) }
     {
         match act {
             ActRef::Write {
                 first,
                 blocks,
                 payload,
-            } => self.write(first, blocks, payload),
-            ActRef::Zeroes { first, blocks } => self.zero(first, blocks),
-            ActRef::Uncorrectable { first, blocks } => self.mark(first, blocks),
+            } => {
+                let payload = payload.share()?;
+                self.write(alloc, first, blocks, payload)
+            }
+            ActRef::Zeroes { first, blocks } => self.zero(alloc, first, blocks),
+            ActRef::Uncorrectable { first, blocks } => self.mark(alloc, first, blocks),
             // Its comparison holds, so it is its Write.
             ActRef::Pair {
                 first,
                 blocks,
                 compare: _,
                 write,
-            } => self.write(first, blocks, write),
+            } => {
+                let payload = write.share()?;
+                self.write(alloc, first, blocks, payload)
+            }
         }
     }
 
     /// The `blocks` LBAs from `first` take the data.
-    fn write(&mut self, first: u64, blocks: u32, payload: &[u8])
+    fn write(
+        &mut self,
+        alloc: Global,
+        first: u64,
+        blocks: u32,
+        payload: Payload,
+    ) -> Result<(), NoMemory>
         requires range { IsWithin (place_of self.old) first blocks }
-        requires payload { length payload.now ≡ blocks * self.old.size }
-        ensures step { (m : Medium) → Holds self.old m
-            → Holds self.new
-            (medium_after self.old.size (write_operation first blocks payload.now) m) }
+        requires payload { length payload ≡ blocks * self.old.size }
+        ensures step { OnOk result ((m : Medium) → Holds self.old m
+            → Holds self.new (medium_after self.old.size (write_operation first blocks payload) m)) }
         ensures place { StaysInPlace self.old self.new }
+        ensures err { OnErr result (self.new ≡ self.old) }
     {
         let at = (first - self.first) as usize;
         let size = self.size.bytes() as usize;
         steps_are_local();
-        write_range(&mut self.blocks, at, blocks as usize, size, payload);
+        self.blocks.write(alloc, at, blocks as usize, size, payload)
     }
 
     /// The `blocks` LBAs from `first` become zero bytes.
-    fn zero(&mut self, first: u64, blocks: u32)
+    fn zero(&mut self, alloc: Global, first: u64, blocks: u32) -> Result<(), NoMemory>
         requires { IsWithin (place_of self.old) first blocks }
-        ensures step { (m : Medium) → Holds self.old m
-            → Holds self.new (medium_after self.old.size (zeroes_operation first blocks) m) }
+        ensures step { OnOk result ((m : Medium) → Holds self.old m
+            → Holds self.new (medium_after self.old.size (zeroes_operation first blocks) m)) }
         ensures place { StaysInPlace self.old self.new }
+        ensures err { OnErr result (self.new ≡ self.old) }
     {
         let at = (first - self.first) as usize;
+        let size = self.size.bytes() as usize;
         steps_are_local();
-        zero_range(&mut self.blocks, at, blocks as usize);
+        self.blocks.zero(alloc, at, blocks as usize, size)
     }
 
     /// The `blocks` LBAs from `first` are marked.
-    fn mark(&mut self, first: u64, blocks: u32)
+    fn mark(&mut self, alloc: Global, first: u64, blocks: u32) -> Result<(), NoMemory>
         requires { IsWithin (place_of self.old) first blocks }
-        ensures step { (m : Medium) → Holds self.old m
-            → Holds self.new (medium_after self.old.size (uncorrectable_operation first blocks) m) }
+        ensures step { OnOk result ((m : Medium) → Holds self.old m
+            → Holds self.new (medium_after self.old.size (uncorrectable_operation first blocks) m)) }
         ensures place { StaysInPlace self.old self.new }
+        ensures err { OnErr result (self.new ≡ self.old) }
     {
         let at = (first - self.first) as usize;
         steps_are_local();
-        mark_range(&mut self.blocks, at, blocks as usize);
+        self.blocks.mark(alloc, at, blocks as usize)
     }
 
-    /// The stored blocks of the `blocks` LBAs from `first`.
-    pub(crate) fn range(&self, first: u64, blocks: u32) -> &[StoredBlock]
+    /// Whether one of the `blocks` LBAs from `first` is marked. It takes no memory.
+    pub(crate) fn has_mark(&self, first: u64, blocks: u32) -> bool
         requires { IsWithin (place_of self.now) first blocks }
-        ensures blocks { (m : Medium) → Holds self.now m
-            → range m first blocks ≡ blocks_of result.now }
-        ensures len { length result.now ≡ blocks }
-        ensures sized { AreSized self.now.size result.now }
+        ensures here { result ≡ medium.has_mark (blocks_at self.now first blocks) }
+        ensures held { (m : Medium) → Holds self.now m → result ≡ medium.has_mark (range m first blocks) }
     {
         let at = (first - self.first) as usize;
-        &self.blocks[at..at + blocks as usize]
+        self.blocks.has_mark(at, blocks as usize)
+    }
+
+    /// Whether the bytes of the `blocks` LBAs from `first` are just the data. It takes no memory, and looks
+    /// at nothing behind the first block that differs.
+    pub(crate) fn is_equal(&self, first: u64, blocks: u32, payload: &[u8]) -> bool
+        requires { IsWithin (place_of self.now) first blocks }
+        ensures { (m : Medium) → Holds self.now m
+            → result ≡ bytes_eq (medium.joined (range m first blocks)) payload.now }
+    {
+        let at = (first - self.first) as usize;
+        self.blocks.is_equal(at, blocks as usize, payload)
+    }
+
+    /// The bytes of the `blocks` LBAs from `first`. Their room is reserved once.
+    pub(crate) fn bytes(&self, alloc: Global, first: u64, blocks: u32) -> Result<Vec<u8>, NoMemory>
+        requires range { IsWithin (place_of self.now) first blocks }
+        requires unmarked { medium.has_mark (blocks_at self.now first blocks) ≡ false }
+        ensures held { IfOk result (λ bytes. (m : Medium) → Holds self.now m
+            → bytes.items ≡ medium.joined (range m first blocks)) }
+        ensures len { IfOk result (λ bytes. length bytes.items ≡ blocks * self.now.size) }
+    {
+        let at = (first - self.first) as usize;
+        let blocks = blocks as usize;
+        let mut bytes = Vec::with_capacity(alloc, blocks * self.size.bytes() as usize)?;
+        self.blocks.push_bytes(at, blocks, &mut bytes)?;
+        Ok(bytes)
     }
 }

@@ -5,7 +5,7 @@ ghost use Rattle.nvm_text.specs.Lines.{identifiers, name_of, status_text, payloa
 
 use crate::number::{push_decimal, push_hex2};
 use crate::run::push_runs;
-use nvm_record::{Completion, NoMemory, Op, Payload, Status};
+use nvm_record::{Completion, NoMemory, Op, ReadData, Status};
 
 /// Appends the line of a command that asked for `op`: `<host> <cid> <name> <type>/<code>`, and where
 /// the completion has data, a space and the data as runs.
@@ -76,7 +76,7 @@ pub fn push_status(text: &mut String, status: Status) -> Result<(), NoMemory>
 }
 
 /// Appends the data of a completion, if it has any.
-fn push_payload(text: &mut String, payload: &Option<Payload>) -> Result<(), NoMemory>
+fn push_payload(text: &mut String, payload: &Option<ReadData>) -> Result<(), NoMemory>
     ensures ok { OnOk result (string_bytes text.new ≡ string_bytes text.old ++ payload_text payload.now) }
     ensures err { OnErr result (KeepsText (string_bytes text.old) (string_bytes text.new)) }
 {

@@ -77,7 +77,8 @@ impl Book {
         answer(alloc, &self.blocks, look)
     }
 
-    /// Makes the act's step, and keeps its entry. An error leaves all as it was.
+    /// Makes the act's step, and keeps its entry: the entry first, then its room and the blocks, which may be
+    /// refused, and then nothing that may. An error leaves all as it was.
     pub fn add(
         &mut self,
         alloc: Global,
@@ -98,10 +99,10 @@ impl Book {
         let entry = Entry {
             pass,
             job,
-            act: act.to_act(alloc)?,
+            act: act.to_act()?,
         };
         self.history.reserve(1)?;
-        self.blocks.change(act);
+        self.blocks.change(alloc, act)?;
         self.history.push_reserved(entry);
         Ok(())
     }

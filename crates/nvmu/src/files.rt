@@ -3,16 +3,18 @@ ghost use Rattle.nvmu.specs.Files.{IsReadFault, IsReadingFault};
 
 use nvm_engine::Fault;
 use nvm_front::{FileFault, read_file};
+use nvm_record::Payload;
 use std::rt::Files;
 
 /// The bytes of each file, in the files' order. The first that can't be read is the fault.
-pub fn read_files<R: Files + AllocGlobal>(rt: &R, paths: &[String]) -> Result<Vec<Vec<u8>>, Fault>
+pub fn read_files<R: Files + AllocGlobal>(rt: &R, paths: &[String]) -> Result<Vec<Payload>, Fault>
     ensures count { IfOk result (λ files. length files.items ≡ length paths.now) }
     ensures fault { IfErr result (IsReadingFault (map (λ path. string_bytes path) paths.now)) }
 {
     let mut files = Vec::with_capacity(rt.alloc(), paths.len())?;
     for path in paths {
-        files.push(bytes_of(rt, path.as_str())?)?;
+        let bytes = bytes_of(rt, path.as_str())?;
+        files.push(Payload::new(rt.alloc(), bytes)?)?;
     }
     Ok(files)
 }

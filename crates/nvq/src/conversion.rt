@@ -7,7 +7,7 @@ ghost use Rattle.nvq.specs.Fault.{IsFaultOfList, IsFaultOfFile};
 
 use crate::fault::Fault;
 use nvm_list::{assemble, list_file};
-use nvm_record::BlockSize;
+use nvm_record::{BlockSize, Payload};
 use std::alloc::Global;
 
 /// The host file of a list, or the list's fault.
@@ -19,7 +19,12 @@ pub fn file_of(alloc: Global, list: &[u8], size: BlockSize) -> Result<Vec<u8>, F
 }
 
 /// The list of the host file at a path, or the file's fault.
-pub fn list_of(alloc: Global, path: String, file: &[u8], size: BlockSize) -> Result<String, Fault>
+pub fn list_of(
+    alloc: Global,
+    path: String,
+    file: &Payload,
+    size: BlockSize,
+) -> Result<String, Fault>
     ensures list { IfOk result (λ list. (cs : List Command) × IsHostFile size file.now cs
         × (string_bytes list ≡ listing cs)) }
     ensures fault { IfErr result (IsFaultOfFile path size file.now) }

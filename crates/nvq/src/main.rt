@@ -11,7 +11,7 @@ use crate::fault::Fault;
 use crate::files::{bytes_of, write_bytes};
 use crate::words::{Asked, read_words};
 use nvm_front::{WordFault, tell, texts_of, words_given};
-use nvm_record::BlockSize;
+use nvm_record::{BlockSize, Payload};
 use std::process::ExitCode;
 use std::rt::{Env, Files};
 
@@ -66,7 +66,7 @@ fn run_list<R: AllocGlobal + Files + Input + Print>(
     size: BlockSize,
     file: String,
 ) -> Result<(), Fault> {
-    let bytes = bytes_of(rt, file.as_str())?;
+    let bytes = Payload::new(rt.alloc(), bytes_of(rt, file.as_str())?)?;
     let text = list_of(rt.alloc(), file, &bytes, size)?;
     write_bytes(rt, "-", text.as_bytes())
 }

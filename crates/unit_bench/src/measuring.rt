@@ -5,6 +5,7 @@ use crate::fault::Fault;
 use crate::share::{Share, shares_of};
 use crate::words::Asked;
 use crate::writer::{BLOCK, Writer};
+use nvm_record::Payload;
 use std::alloc::{AllocError, Global};
 use std::rt::Clock;
 use std::sync::Wait;
@@ -14,6 +15,9 @@ use std::time::{CpuClock, Duration, Instant};
 /// Two neighbouring changes of a thread on one unit lie so many blocks apart, modulo the unit's blocks. It is
 /// odd, and so they meet each block of a unit that has a power of two of them.
 const STRIDE: u64 = 40_503;
+
+/// So many changes of a thread have data of their own, and then it comes again.
+const BLOCKS_OF_DATA: u32 = 256;
 
 /// What the changes were, and what they took.
 #[derive(Clone, Copy)]
@@ -94,6 +98,15 @@ fn hand_out<W: Drop>(all: &mut [Vec<W>], writers: Vec<W>) -> Result<(), AllocErr
     Ok(())
 }
 
+/// The data of so many changes, a block of equal bytes each.
+fn data_of_blocks(alloc: Global) -> Result<Payload, AllocError> {
+    let mut bytes = Vec::new(alloc);
+    for number in 0..BLOCKS_OF_DATA {
+        bytes.resize((number as usize + 1) * BLOCK, number as u8)?;
+    }
+    Payload::new(alloc, bytes)
+}
+
 /// Makes the changes of one thread, each on the next of its units. Gives their number.
 fn write_all<W: Writer, R: Wait>(rt: &R, alloc: Global, share: Share<W>) -> Result<u32, Fault>
     ensures { IfOk result (λ done. done ≡ share.changes) }
@@ -104,7 +117,7 @@ fn write_all<W: Writer, R: Wait>(rt: &R, alloc: Global, share: Share<W>) -> Resu
         changes,
         from,
     } = share;
-    let mut data = vec![in alloc; 0; BLOCK]?;
+    let data = data_of_blocks(alloc)?;
     let mut done = 0;
     let units = writers.len();
     if units == 0 {
@@ -113,14 +126,15 @@ fn write_all<W: Writer, R: Wait>(rt: &R, alloc: Global, share: Share<W>) -> Resu
     let mut unit = from as usize % units;
     let mut turn = u64::from(from);
     for job in 0..changes {
-        if let Some(byte) = data.first_mut() {
-            *byte = (job % 256) as u8;
+        let at = (job % BLOCKS_OF_DATA) as usize * BLOCK;
+        if data.len() < at + BLOCK {
+            return Err(Fault::Refused);
         }
         let lba = turn.wrapping_mul(STRIDE) % u64::from(blocks);
         let Some(writer) = writers.get_mut(unit) else {
             return Err(Fault::Refused);
         };
-        writer.write(rt, alloc, job, lba, &data)?;
+        writer.write(rt, alloc, job, lba, data.lend_part(at, at + BLOCK))?;
         done += 1;
         unit += 1;
         if unit == units {

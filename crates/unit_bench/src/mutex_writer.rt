@@ -1,5 +1,6 @@
 use crate::fault::Fault;
 use crate::writer::{BLOCK, Writer};
+use nvm_record::PayloadRef;
 use nvm_store::{ActRef, Entry, History};
 use std::alloc::Global;
 use std::sync::{Arc, Mutex, Wait};
@@ -24,14 +25,13 @@ impl LockedUnit {
         })
     }
 
-    /// Writes the data into the block, and keeps an entry with a copy of it.
+    /// Writes the data into the block, and keeps an entry that shares it.
     fn write(
         &mut self,
-        alloc: Global,
         pass: u16,
         job: u32,
         lba: u64,
-        payload: &[u8],
+        payload: PayloadRef<'_>,
     ) -> Result<(), Fault> {
         let Some(block) = self.blocks.get_mut(lba as usize) else {
             return Err(Fault::Refused);
@@ -47,10 +47,10 @@ impl LockedUnit {
         let entry = Entry {
             pass,
             job,
-            act: act.to_act(alloc)?,
+            act: act.to_act()?,
         };
         self.history.push(entry)?;
-        block.copy_from_slice(payload);
+        block.copy_from_slice(payload.as_slice());
         Ok(())
     }
 }
@@ -90,11 +90,9 @@ impl Writer for MutexWriter {
         alloc: Global,
         job: u32,
         lba: u64,
-        payload: &[u8],
+        payload: PayloadRef<'_>,
     ) -> Result<(), Fault> {
-        self.shared
-            .lock(rt)
-            .write(alloc, self.number, job, lba, payload)?;
+        self.shared.lock(rt).write(self.number, job, lba, payload)?;
         Ok(())
     }
 

@@ -1,11 +1,12 @@
 ghost use Rattle.std.specs.Prelude.{◌≡◌, ℕ, [], ◌∷◌, ◌++◌, All, IfOk, OnOk, OnErr, length};
 ghost use Rattle.std.specs.Arc.{arc_value};
+ghost use Rattle.nvm_record.specs.PayloadRef.{lent_bytes};
 ghost use Rattle.nvm_store.specs.Operation.{write_operation};
 ghost use Rattle.nvm_unit.specs.Passes.{IsPassOf};
 
 use crate::fault::Fault;
 use crate::writer::{BLOCK, Writer};
-use nvm_record::BlockSize;
+use nvm_record::{BlockSize, PayloadRef};
 use nvm_store::{ActRef, Limit, Look, Place};
 use nvm_unit::{Changed, ObserveFault, Open, Pass, Unit, UnitFault};
 use std::alloc::Global;
@@ -78,7 +79,7 @@ impl Writer for UnitWriter {
         alloc: Global,
         job: u32,
         lba: u64,
-        payload: &[u8],
+        payload: PayloadRef<'_>,
     ) -> Result<(), Fault>
         ensures made { OnOk result ((place : ℕ) × (self.new.pass.view.mine ≡ self.old.pass.view.mine
             ++ (
@@ -86,7 +87,7 @@ impl Writer for UnitWriter {
               record {
                 pass = self.old.pass.view.number;
                 job = job;
-                operation = write_operation lba 1 payload.now;
+                operation = write_operation lba 1 (lent_bytes payload.entry);
               },
             ) ∷ [])) }
         ensures same { OnErr result (self.new.pass.view.mine ≡ self.old.pass.view.mine) }

@@ -1,6 +1,7 @@
 ghost use Rattle.std.specs.Prelude.{◌≡◌, ◌<◌, ◌≤◌, IfOk, length};
 
 use crate::fault::Fault;
+use nvm_record::PayloadRef;
 use std::alloc::Global;
 use std::sync::Wait;
 
@@ -22,14 +23,14 @@ pub trait Writer: Drop {
         requires low { blocks ≤ 65536 }
         ensures { IfOk result (λ all. length all.1.items ≡ writers) };
 
-    /// Writes the data into the block, and keeps an entry with a copy of it. It waits for the unit.
+    /// Writes the data into the block, and keeps an entry that shares it. It waits for the unit.
     fn write<R: Wait>(
         &mut self,
         rt: &R,
         alloc: Global,
         job: u32,
         lba: u64,
-        payload: &[u8],
+        payload: PayloadRef<'_>,
     ) -> Result<(), Fault>;
 
     /// The number of changes that the unit has, whoever made them. It waits for the unit.

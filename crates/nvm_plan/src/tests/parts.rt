@@ -2,7 +2,7 @@
 use crate::tests::command;
 use crate::{Body, Completions, Job, LentPart, job_part_count, job_part_in};
 use nvm_geometry::Geometry;
-use nvm_record::{Fuse, Op, Payload, Status, Statuses};
+use nvm_record::{Fuse, Op, ReadData, Status, Statuses};
 use nvm_store::Look;
 use std::test::Fail;
 
@@ -13,7 +13,7 @@ fn read_over_two_units(rt: HostRuntime) -> Result<(), Fail> {
         host: 3,
         body: Body::Single(command(rt.alloc(), 7, (Op::Read, Fuse::Normal), (1, 6, 3), 0)?),
     };
-    let read = Some(Payload::copy_of(rt.alloc(), b"data")?);
+    let read = Some(ReadData::new(Vec::from_slice(rt.alloc(), b"data")?));
     let told = Completions::of(&job, Statuses::One(Status::SUCCESSFUL_COMPLETION), read);
     match told {
         Completions::One(completion) => {

@@ -1,4 +1,4 @@
-use crate::{Block, Command, Completion, Fuse, Op, Payload, Status};
+use crate::{Block, Command, Completion, Fuse, Op, Payload, ReadData, Status};
 use std::test::Fail;
 
 #[test]
@@ -10,7 +10,7 @@ fn copies_are_equal(rt: HostRuntime) -> Result<(), Fail> {
         host: 1,
         cid: 2,
         status: Status::SUCCESSFUL_COMPLETION,
-        payload: Some(payload.clone()?),
+        payload: Some(ReadData::new(Vec::from_slice(rt.alloc(), &[0x41; 512])?)),
     };
     assert_eq!(rt; completion.clone()?, completion);
     let command = Command {

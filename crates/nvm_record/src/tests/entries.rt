@@ -27,7 +27,7 @@ fn an_entry_has_its_fields_in_place(rt: HostRuntime) {
         op: wanted.op,
         slba: wanted.slba,
         nlb: wanted.nlb,
-        payload: Payload::empty(rt.alloc()),
+        payload: Payload::empty(),
     };
     assert_eq!(rt; command_bytes(&command), compare_entry(0));
 }

@@ -24,6 +24,7 @@ fn a_write_and_a_read_go_round(rt: HostRuntime) -> Result<(), Fail> {
     let file = host_bytes(alloc, &commands)?;
     assert_eq!(rt; file.len(), 644);
     assert_eq!(rt; &file[..5], b"NVQ1\x01".as_slice());
+    let file = Payload::new(alloc, file)?;
     assert_eq!(rt; read_host(alloc, &file, BlockSize::BYTES_512)?, commands);
     Ok(())
 }

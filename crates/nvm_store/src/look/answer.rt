@@ -1,13 +1,13 @@
 ghost use Rattle.std.specs.Prelude.{◌≡◌};
 
-use nvm_record::{Payload, Status};
+use nvm_record::{ReadData, Status};
 use std::alloc::AllocError;
 
 /// What a [`Look`](crate::Look) is answered.
 #[derive(Debug, PartialEq, Eq, Drop)]
 pub enum Answer {
     /// The data of a Read whose status is 0/00.
-    Payload(Payload),
+    Payload(ReadData),
     /// The status of a Compare: 2/81, Unrecovered Read Error, where a block is marked, else 2/85, Compare
     /// Failure, where a byte differs, else 0/00. Or the status of a Read that failed: 2/81.
     Status(Status),

@@ -1,6 +1,6 @@
 use super::{BLOCK, size};
 use crate::{ActRef, Answer, Look, UnitBlocks, answer, apply, judge, judge_look};
-use nvm_record::{Status, Statuses};
+use nvm_record::{Payload, PayloadRef, Status, Statuses};
 use std::test::Fail;
 
 const DONE: Status = Status::SUCCESSFUL_COMPLETION;
@@ -16,57 +16,59 @@ const ONES: [u8; BLOCK] = [1; BLOCK];
 const TWOS: [u8; BLOCK] = [2; BLOCK];
 
 /// What is done to the unit of the 4 blocks from LBA 8, and what each command is told.
-const ACTS: [(ActRef<'static>, Statuses); 6] = [
-    (
-        ActRef::Write {
-            first: 9,
-            blocks: 1,
-            payload: &ONES,
-        },
-        Statuses::One(DONE),
-    ),
-    (
-        ActRef::Pair {
-            first: 9,
-            blocks: 1,
-            compare: &ONES,
-            write: &TWOS,
-        },
-        Statuses::Two(DONE, DONE),
-    ),
-    (
-        ActRef::Pair {
-            first: 9,
-            blocks: 1,
-            compare: &ONES,
-            write: &ONES,
-        },
-        Statuses::Two(DIFFERS, ABORTED),
-    ),
-    (
-        ActRef::Uncorrectable {
-            first: 10,
-            blocks: 2,
-        },
-        Statuses::One(DONE),
-    ),
-    (
-        ActRef::Pair {
-            first: 10,
-            blocks: 1,
-            compare: &ONES,
-            write: &ONES,
-        },
-        Statuses::Two(MARKED, ABORTED),
-    ),
-    (
-        ActRef::Zeroes {
-            first: 11,
-            blocks: 1,
-        },
-        Statuses::One(DONE),
-    ),
-];
+fn acts<'a>(ones: PayloadRef<'a>, twos: PayloadRef<'a>) -> [(ActRef<'a>, Statuses); 6] {
+    [
+        (
+            ActRef::Write {
+                first: 9,
+                blocks: 1,
+                payload: ones,
+            },
+            Statuses::One(DONE),
+        ),
+        (
+            ActRef::Pair {
+                first: 9,
+                blocks: 1,
+                compare: ones,
+                write: twos,
+            },
+            Statuses::Two(DONE, DONE),
+        ),
+        (
+            ActRef::Pair {
+                first: 9,
+                blocks: 1,
+                compare: ones,
+                write: ones,
+            },
+            Statuses::Two(DIFFERS, ABORTED),
+        ),
+        (
+            ActRef::Uncorrectable {
+                first: 10,
+                blocks: 2,
+            },
+            Statuses::One(DONE),
+        ),
+        (
+            ActRef::Pair {
+                first: 10,
+                blocks: 1,
+                compare: ones,
+                write: ones,
+            },
+            Statuses::Two(MARKED, ABORTED),
+        ),
+        (
+            ActRef::Zeroes {
+                first: 11,
+                blocks: 1,
+            },
+            Statuses::One(DONE),
+        ),
+    ]
+}
 
 /// What the unit is asked then, and the status.
 const LOOKS: [(Look<'static>, Status); 6] = [
@@ -119,13 +121,15 @@ const LOOKS: [(Look<'static>, Status); 6] = [
 
 #[test]
 fn acts_change_what_looks_see(rt: HostRuntime) -> Result<(), Fail> {
+    let ones = Payload::copy_of(rt.alloc(), &ONES)?;
+    let twos = Payload::copy_of(rt.alloc(), &TWOS)?;
     let mut unit = UnitBlocks::zeroed(rt.alloc(), 8, 4, size()?)?;
-    for (act, statuses) in ACTS {
+    for (act, statuses) in acts(ones.lend(), twos.lend()) {
         assert!(rt; unit.covers(act));
         let told = judge(&unit, act);
         assert_eq!(rt; told, statuses);
         if told.is_success() {
-            unit.change(act);
+            unit.change(rt.alloc(), act)?;
         }
     }
     for (look, status) in LOOKS {
@@ -151,12 +155,13 @@ fn acts_change_what_looks_see(rt: HostRuntime) -> Result<(), Fail> {
 #[test]
 fn an_act_and_its_copy_are_the_same(rt: HostRuntime) -> Result<(), Fail> {
     let unit = UnitBlocks::zeroed(rt.alloc(), 8, 4, size()?)?;
+    let ones = Payload::copy_of(rt.alloc(), &ONES)?;
     let act = ActRef::Write {
         first: 8,
         blocks: 1,
-        payload: &ONES,
+        payload: ones.lend(),
     };
-    let owned = act.to_act(rt.alloc())?;
+    let owned = act.to_act()?;
     assert!(rt; act.is(&owned));
     assert!(rt; unit.covers(owned.as_ref()));
     assert!(rt; judge(&unit, owned.as_ref()).is_success());

@@ -5,7 +5,7 @@ ghost use Rattle.nvm_store.specs.Place.{place_at};
 use super::{BLOCK, size};
 use crate::laws::{acts_and_looks, lawful_with_one_more};
 use crate::{ActRef, Entry, History, Look, judge, judge_look, replay};
-use nvm_record::{BlockSize, Status};
+use nvm_record::{BlockSize, Payload, Status};
 use std::alloc::Global;
 use std::test::Fail;
 
@@ -23,7 +23,7 @@ fn push(alloc: Global, size: BlockSize, history: &mut History, act: ActRef<'_>) 
     if !judge(&unit, act).is_success() {
         return Err(Fail::new("the act fails"));
     }
-    let act = act.to_act(alloc)?;
+    let act = act.to_act()?;
     history.push(Entry {
         pass: 0,
         job: 0,
@@ -33,11 +33,11 @@ fn push(alloc: Global, size: BlockSize, history: &mut History, act: ActRef<'_>) 
 }
 
 /// A Write of two blocks.
-fn write_at(first: u64, payload: &[u8]) -> ActRef<'_> {
+fn write_at(first: u64, payload: &Payload) -> ActRef<'_> {
     ActRef::Write {
         first,
         blocks: 2,
-        payload,
+        payload: payload.lend(),
     }
 }
 
@@ -45,8 +45,10 @@ fn write_at(first: u64, payload: &[u8]) -> ActRef<'_> {
 fn replay_does_the_entries_in_order(rt: HostRuntime) -> Result<(), Fail> {
     let size = size()?;
     let mut history = Vec::new(rt.alloc());
-    push(rt.alloc(), size, &mut history, write_at(8, &[1; 2 * BLOCK]))?;
-    push(rt.alloc(), size, &mut history, write_at(9, &[2; 2 * BLOCK]))?;
+    for (first, byte) in [(8, 1), (9, 2)] {
+        let payload = Payload::copy_of(rt.alloc(), &[byte; 2 * BLOCK])?;
+        push(rt.alloc(), size, &mut history, write_at(first, &payload))?;
+    }
     let unit = replay(rt.alloc(), 8, 4, size, &history)?;
     for (first, byte) in [(8, 1), (9, 2), (10, 2), (11, 0)] {
         let look = Look::Compare {

@@ -1,6 +1,7 @@
 //! Each public call once.
 use super::{BLOCK, change, two_passes};
 use crate::{Changed, Open};
+use nvm_record::Payload;
 use nvm_store::{ActRef, Answer, Look};
 use std::test::Fail;
 
@@ -9,11 +10,11 @@ fn each_call_once(rt: HostRuntime) -> Result<(), Fail> {
     let alloc = rt.alloc();
     let (unit, mut first, mut second) = two_passes(alloc, 2)?;
     assert_eq!(rt; (first.number(), second.number()), (0, 1));
-    let payload = [0x41; BLOCK];
+    let payload = Payload::copy_of(alloc, &[0x41; BLOCK])?;
     let act = ActRef::Write {
         first: 2,
         blocks: 1,
-        payload: &payload,
+        payload: payload.lend(),
     };
     let changed = change(alloc, &rt, &unit, &mut first, act, &Open)?;
     assert_eq!(rt; changed, Changed::Done { point: 0 });

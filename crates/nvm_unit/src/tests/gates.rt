@@ -1,6 +1,7 @@
 //! What a gate is told, and when.
 use super::{change, two_passes};
 use crate::{Changed, Gate, Unit};
+use nvm_record::Payload;
 use nvm_store::ActRef;
 use std::sync::atomic::{AtomicU64, Ordering};
 use std::test::Fail;
@@ -39,11 +40,12 @@ fn the_gate_is_called_once_and_under_the_hold(rt: HostRuntime) -> Result<(), Fai
         first: 0,
         blocks: 8,
     };
+    let ones = Payload::copy_of(rt.alloc(), &[1; 512])?;
     let failing = ActRef::Pair {
         first: 0,
         blocks: 1,
-        compare: &[1; 512],
-        write: &[2; 512],
+        compare: ones.lend(),
+        write: ones.lend(),
     };
     let done = change(rt.alloc(), &rt, &unit, &mut first, zeroes, &gate)?;
     assert_eq!(rt; done, Changed::Done { point: 0 });

@@ -10,4 +10,4 @@ returns-in_err-files-clause-fault g c =
 
 pub returns-clause-fault : goal.returns-clause-fault
 returns-clause-fault g c =
-    IfErr-weaker c.execute.result _ _ (λ fault first. inr (_, length-map _ _ ∙ ap length c.as_slice.ensures.value ∙ c.in_ok-files.ensures.count ∙ sym (length-map _ _), first)) c.execute.ensures.fault
+    IfErr-weaker c.execute.result _ _ (λ fault first. inr (_, ap length c.as_slice.ensures.value ∙ c.in_ok-files.ensures.count ∙ sym (length-map _ _), first)) c.execute.ensures.fault

@@ -7,4 +7,4 @@ abbrev pub invariant-loop-place : goal.invariant-loop-place
 invariant-loop-place l =
     (length l.hosts.items ≡ l.place)
     × All (λ host. All (IsWhole l.size) host.items) l.hosts.items
-    × IsReading l.size (map (λ file. file.items) l.files) (map (λ file. file.items) (drop l.place l.files)) (map (λ host. host.items) l.hosts.items) (l.place + 1)
+    × IsReading l.size l.files (drop l.place l.files) (map (λ host. host.items) l.hosts.items) (l.place + 1)

@@ -51,7 +51,7 @@ loop-entry-preserved c =
     let at : IsAt entries n entry = rw is at (at_read entries n entry here) in
     let does : lent_operation_of c.as_ref.result ≡ entry.operation =
     c.as_ref.ensures ∙ ap (λ (e : HistoryEntry). e.operation) c.entry.view_is in
-    let stepped = c.change.ensures.step (point c.args.size entries n) c.loop-entry.invariant.replayed in
+    let stepped = c.in_ok-change.ensures.step (point c.args.size entries n) c.loop-entry.invariant.replayed in
     record {
       place = search rules;
       replayed =

@@ -4,4 +4,4 @@ use Rattle.nvm_store.proofs.step.apply.Goals as goal
 pub returns-clause-step : goal.returns-clause-step
 returns-clause-step c m held =
     let same : c.in_ok-after.after ≡ c.args.unit.now = c.in_ok-after.ensures in
-    rw same at (c.change.ensures.step m (rw same held))
+    rw same at (c.in_ok-change.ensures.step m (rw same held))

@@ -1,15 +1,23 @@
-use Rattle.std.proofs.Common.{◌≡◌, ℕ, rules}
-use Rattle.nvm_record.specs.Step.{medium_after}
-use Rattle.nvm_store.specs.Operation.{write_operation, pair_operation}
+use Rattle.std.proofs.Common.{◌+◌, ◌∙◌}
+use Rattle.std.proofs.lemmas.Result.{on_ok_weaker}
+use Rattle.nvm_record.specs.PayloadRef.{lent_bytes}
 use Rattle.nvm_store.proofs.Comparisons.{pair_is_write}
 use Rattle.nvm_store.proofs.unit_blocks.UnitBlocks.change.Goals as goal
 
-pub returns-in-Pair-clause-step : goal.returns-in-Pair-clause-step
-returns-in-Pair-clause-step c m held d i lt =
-    let size = c.args.self.now.size in
+pub returns-in_ok-payload-in-Write-clause-step : goal.returns-in_ok-payload-in-Write-clause-step
+returns-in_ok-payload-in-Write-clause-step c =
+    on_ok_weaker c.write.result
+    (λ step m held. rw c.in-Write.is (rw c.in_ok-payload-in-Write.ensures at (step m held)))
+    c.write.ensures.step
+
+pub returns-in_ok-payload-in-Pair-clause-step : goal.returns-in_ok-payload-in-Pair-clause-step
+returns-in_ok-payload-in-Pair-clause-step c =
     let pair = c.in-Pair in
+    on_ok_weaker c.write-in-Pair.result
+    (λ step m held i block at.
     let success = rw pair.is at (c.requires.success m held) in
-    let same : (lba : ℕ) → medium_after size (pair_operation pair.first pair.blocks pair.compare.now pair.write.now) m lba
-    ≡ medium_after size (write_operation pair.first pair.blocks pair.write.now) m lba =
-    λ lba. pair_is_write size pair.first pair.blocks pair.compare.now pair.write.now m lba success in
-    rw pair.is (rw same (search rules))
+    let lba = c.write-in-Pair.new.self.first + i in
+    rw pair.is
+    (pair_is_write c.args.self.now.size pair.first pair.blocks (lent_bytes pair.compare) (lent_bytes pair.write) m lba success
+    ∙ rw c.in_ok-payload-in-Pair.ensures at (step m held i block at)))
+    c.write-in-Pair.ensures.step

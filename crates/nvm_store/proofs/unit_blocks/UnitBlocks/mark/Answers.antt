@@ -1,18 +1,27 @@
-use Rattle.std.proofs.Common.{◌≡◌, ◌+◌, ◌-◌, arith, rules, length}
-use Rattle.std.proofs.lemmas.List.{with_items_is}
-use Rattle.nvm_store.specs.Inside.Stored.{zero_block}
-use Rattle.nvm_store.proofs.Ranges.{held-marked}
+use Rattle.std.proofs.Common.{◌≡◌, ℕ, ◌+◌, ◌-◌, refl, sym, ap, ◌∙◌, arith}
+use Rattle.std.proofs.lemmas.List.{length-replicate}
+use Rattle.std.proofs.lemmas.Result.{on_ok_weaker}
+use Rattle.nvm_record.specs.Step.{block_at}
+use Rattle.nvm_blocks.specs.Rewrite.{zero_block}
+use Rattle.nvm_record.specs.declared.block.Block.TheVariants.{Uncorrectable}
+use Rattle.nvm_store.specs.Operation.{write_operation, zeroes_operation, uncorrectable_operation}
+use Rattle.nvm_store.proofs.Ranges.{sound_after, held-rewritten, data_sized}
 use Rattle.nvm_store.proofs.unit_blocks.UnitBlocks.mark.Goals as goal
 
-pub returns-clause-step : goal.returns-clause-step
-returns-clause-step c m held =
+pub invariant_of-self : goal.invariant_of-self
+invariant_of-self c =
     let at = c.args.first - c.self.inside.first in
-    let held' = rw (← c.self.view_is) at held in
+    sound_after c.mark.result c.self.inside.first c.self.inside.size at c.args.blocks (λ _. Uncorrectable) c.self.inside.blocks c.mark.new.self
+    c.mark.ensures.ok c.mark.ensures.err c.self.invariant (λ i lt. tt)
+
+pub returns-clause-step : goal.returns-clause-step
+returns-clause-step c =
+    let at = c.args.first - c.self.inside.first in
     let within = rw (← c.self.view_is) at c.requires in
     let place : c.self.inside.first + at ≡ c.args.first = omega (arith, within.above) in
-    let put = rw c.deref_mut.ensures.value at c.mark_range.ensures in
-    let len : length c.mark_range.new.blocks ≡ c.self.inside.blocks.len = search rules in
-    rw (with_items_is c.self.inside.blocks c.mark_range.new.blocks len)
-    (held-marked c.steps_are_local.ensures.outside m c.self.inside.blocks.items c.mark_range.new.blocks (zero_block 0) c.self.inside.first
-    c.self.inside.size c.args.first c.args.blocks at held' place put.len
-    (put.marked (zero_block 0)) put.others)
+    on_ok_weaker c.mark.result
+    (λ is m held.
+    let held' = rw (← c.self.view_is) at held in
+    held-rewritten c.steps_are_local.ensures.outside m c.self.inside.first c.self.inside.size at (uncorrectable_operation c.args.first c.args.blocks)
+    (λ _. Uncorrectable) c.self.inside.blocks c.mark.new.self held' place is (λ i lt. refl))
+    c.mark.ensures.ok

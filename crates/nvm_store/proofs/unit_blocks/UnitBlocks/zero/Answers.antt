@@ -1,20 +1,28 @@
-use Rattle.std.proofs.Common.{◌≡◌, ◌+◌, ◌-◌, ◌≤◌, arith, rules, length}
-use Rattle.std.proofs.lemmas.List.{with_items_is, length-map}
-use Rattle.nvm_store.specs.Inside.Stored.{zero_block, block_of}
-use Rattle.nvm_store.proofs.Ranges.{held-zeroed}
+use Rattle.std.proofs.Common.{◌≡◌, ℕ, ◌+◌, ◌-◌, refl, sym, ap, ◌∙◌, arith}
+use Rattle.std.proofs.lemmas.List.{length-replicate}
+use Rattle.std.proofs.lemmas.Result.{on_ok_weaker}
+use Rattle.nvm_record.specs.Step.{block_at}
+use Rattle.nvm_blocks.specs.Rewrite.{zero_block}
+use Rattle.nvm_record.specs.declared.block.Block.TheVariants.{Uncorrectable}
+use Rattle.nvm_store.specs.Operation.{write_operation, zeroes_operation, uncorrectable_operation}
+use Rattle.nvm_store.proofs.Ranges.{sound_after, held-rewritten, data_sized}
 use Rattle.nvm_store.proofs.unit_blocks.UnitBlocks.zero.Goals as goal
 
-pub returns-clause-step : goal.returns-clause-step
-returns-clause-step c m held =
+pub invariant_of-self : goal.invariant_of-self
+invariant_of-self c =
     let at = c.args.first - c.self.inside.first in
-    let items = c.self.inside.blocks.items in
-    let held' = rw (← c.self.view_is) at held in
+    sound_after c.zero.result c.self.inside.first c.self.inside.size at c.args.blocks (λ _. zero_block c.bytes-size.result) c.self.inside.blocks c.zero.new.self
+    c.zero.ensures.ok c.zero.ensures.err c.self.invariant (λ i lt. length-replicate c.bytes-size.result 0 ∙ c.bytes-size.ensures.value)
+
+pub returns-clause-step : goal.returns-clause-step
+returns-clause-step c =
+    let at = c.args.first - c.self.inside.first in
     let within = rw (← c.self.view_is) at c.requires in
     let place : c.self.inside.first + at ≡ c.args.first = omega (arith, within.above) in
-    let fits : at + c.args.blocks ≤ length items = omega (arith, within.above, within.below, length-map items block_of) in
-    let put = rw c.deref_mut.ensures.value at c.zero_range.ensures in
-    let len : length c.zero_range.new.blocks ≡ c.self.inside.blocks.len = search rules in
-    rw (with_items_is c.self.inside.blocks c.zero_range.new.blocks len, ← c.self.view_is)
-    (held-zeroed c.steps_are_local.ensures.outside m items c.zero_range.new.blocks (zero_block 0) c.self.inside.first
-    c.self.inside.size c.args.first c.args.blocks at held' place fits c.self.invariant.sized put.len
-    (put.zeroed (zero_block 0)) put.others)
+    on_ok_weaker c.zero.result
+    (λ is m held.
+    let held' = rw (← c.self.view_is) at held in
+    rw (← c.self.view_is)
+    (held-rewritten c.steps_are_local.ensures.outside m c.self.inside.first c.self.inside.size at (zeroes_operation c.args.first c.args.blocks)
+    (λ _. zero_block c.bytes-size.result) c.self.inside.blocks c.zero.new.self held' place is (λ i lt. ap zero_block c.bytes-size.ensures.value)))
+    c.zero.ensures.ok

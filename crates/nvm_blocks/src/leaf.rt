@@ -1,0 +1,59 @@
+ghost use Rattle.std.specs.Prelude.{◌≡◌, IfOk, replicate};
+ghost use Rattle.std.specs.Arc.{arc_value};
+ghost use Rattle.nvm_blocks.specs.Rewrite.{zero_block};
+
+use crate::stored_block::StoredBlock;
+use crate::tree::Tree;
+use nvm_record::NoMemory;
+use std::alloc::Global;
+use std::marker::Model;
+use std::sync::Arc;
+
+/// The lowest node: stored blocks.
+#[derive(Drop)]
+pub struct Leaf {
+    kept: Vec<StoredBlock>,
+}
+
+impl Model for Leaf {
+    ghost use Rattle.std.specs.Prelude.{List};
+    ghost use Rattle.nvm_record.specs.declared.block.Block.{Block};
+
+    ghost Value = { List Block };
+
+    ghost view = { λ l. l.kept.items };
+}
+
+impl Leaf {
+    /// So many blocks of `size` zero bytes.
+    pub fn zeroed(alloc: Global, count: usize, size: usize) -> Result<Arc<Leaf>, NoMemory>
+        ensures { IfOk result (λ l. arc_value l ≡ replicate count (zero_block size)) }
+    {
+        let mut kept = Vec::with_capacity(alloc, count)?;
+        for _ in 0..count {
+            kept.push(StoredBlock::zero(size))?;
+        }
+        Ok(Arc::new(alloc, Leaf { kept })?)
+    }
+}
+
+impl Tree for Leaf {
+    ghost blocks = { λ l. l };
+
+    fn run(&self, at: usize) -> &[StoredBlock] {
+        &self.kept[at..]
+    }
+
+    fn set(&mut self, _alloc: Global, at: usize, block: StoredBlock) -> Result<(), NoMemory> {
+        self.kept[at] = block;
+        Ok(())
+    }
+
+    fn copy(&self, alloc: Global) -> Result<Leaf, NoMemory> {
+        let mut copies = Vec::with_capacity(alloc, self.kept.len())?;
+        for block in &self.kept {
+            copies.push(block.share()?)?;
+        }
+        Ok(Leaf { kept: copies })
+    }
+}

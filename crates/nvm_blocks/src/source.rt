@@ -1,0 +1,34 @@
+ghost use Rattle.std.specs.Prelude.{◌≡◌, ◌+◌, IfOk};
+ghost use Rattle.nvm_blocks.specs.Inside.Source.{source_block, HasBlocks};
+
+use crate::stored_block::StoredBlock;
+use nvm_record::{NoMemory, Payload};
+
+/// The new blocks of a range, by their places in it: parts of a payload of this block size in bytes, zero
+/// bytes, or marks.
+#[derive(Drop)]
+pub enum Source {
+    Data { size: usize, payload: Payload },
+    Zeroes { size: usize },
+    Marks,
+}
+
+impl Source {
+    /// The block for place `i` of the range. It takes no memory.
+    pub fn block(&self, i: usize) -> Result<StoredBlock, NoMemory>
+        requires { HasBlocks self.now (i + 1) }
+        ensures { IfOk result (λ block. block ≡ source_block self.now i) }
+    {
+        match self {
+            Source::Data { size, payload } => {
+                // A length fits, so each place up to it does.
+                let _len = payload.len();
+                let from = i * *size;
+                let part = payload.part(from, from + *size)?;
+                Ok(StoredBlock::of_data(part))
+            }
+            Source::Zeroes { size } => Ok(StoredBlock::zero(*size)),
+            Source::Marks => Ok(StoredBlock::marked()),
+        }
+    }
+}

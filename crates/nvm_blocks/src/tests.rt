@@ -1,0 +1,2 @@
+//! Trees of each number of levels, and copies that share them.
+mod blocks;
