@@ -20,7 +20,7 @@ pub enum Body {
     Pair(Command, Command),
 }
 
-/// A copy of the job and of its commands, which takes memory.
+/// A copy of the job, which shares its commands' data.
 impl Clone for Job {
     ghost is_clone = { λ job copy. copy ≡ job };
 
@@ -33,7 +33,7 @@ impl Clone for Job {
     }
 }
 
-/// A copy of the commands and of their data, which takes memory.
+/// A copy of the commands, which shares their data.
 impl Clone for Body {
     ghost is_clone = { λ body copy. copy ≡ body };
 

@@ -52,7 +52,7 @@ impl Eq for Entry {
     ghost laws = { Prim.search (comparing, rules) depth 12 };
 }
 
-/// A copy of the entry and of its data, which takes memory.
+/// A copy of the entry, which shares its data.
 impl Clone for Entry {
     ghost is_clone = { λ entry copy. copy ≡ entry };
 

@@ -107,7 +107,7 @@ impl Book {
         Ok(())
     }
 
-    /// A copy of the history, whose room is reserved once.
+    /// A copy of the history, which shares its data, and whose room is reserved once.
     pub fn copy_of_history(&self, alloc: Global) -> Result<History, NoMemory>
         ensures { IfOk result (λ v. v.items ≡ self.now.history) }
     {
