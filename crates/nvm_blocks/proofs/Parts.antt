@@ -9,7 +9,7 @@ use Rattle.std.specs.Prelude.{Result, Ok, Err, OnOk, OnErr}
 use Rattle.std.specs.Arc.{arc_value}
 use Rattle.std.specs.declared.sync.Arc.{Arc}
 use Rattle.nvm_record.specs.declared.block.Block.{Block}
-use Rattle.nvm_blocks.specs.Inside.Tree.{AreOfSpan, IsFork, IsRun, joined_parts, parts_of}
+use Rattle.nvm_blocks.specs.Inside.Tree.{AreOfSpan, IsFork, IsStretch, joined_parts, parts_of}
 
 pub length-joined_parts : (span : ℕ) (parts : List (List Block)) → AreOfSpan span parts → length (joined_parts parts) ≡ length parts * span
 length-joined_parts span [] spans = let none : 0 ≡ 0 * span = omega arith in none
@@ -65,17 +65,17 @@ set-joined_parts span (p ∷ ps) (suc k) r at x spans lt rt e =
     ∙ ap (λ (n : ℕ). p ++ set (joined_parts ps) n x) rest
     ∙ ap (λ (bs : List Block). p ++ bs) (set-joined_parts span ps k r (k * span + r) x spans.1 (omega arith) rt refl)
 
--- A run of a part is one of the whole.
-pub run_of_part : (span : ℕ) (parts : List (List Block)) (k r at : ℕ) (run : List Block) → AreOfSpan span parts → k < length parts → r < span
-    → at ≡ k * span + r → IsRun (get_or parts k []) r run → IsRun (joined_parts parts) at run
-run_of_part span parts k r at run spans lt rt e is =
+-- A stretch of a part is one of the whole.
+pub stretch_of_part : (span : ℕ) (parts : List (List Block)) (k r at : ℕ) (stretch : List Block) → AreOfSpan span parts → k < length parts → r < span
+    → at ≡ k * span + r → IsStretch (get_or parts k []) r stretch → IsStretch (joined_parts parts) at stretch
+stretch_of_part span parts k r at stretch spans lt rt e is =
     let part = drop r (get_or parts k []) in
-    let len : length (take (length run) part) ≡ length run = ap length is.is in
-    let within : length run ≤ length part = omega (arith, len, length-take (length run) part) in
+    let len : length (take (length stretch) part) ≡ length stretch = ap length is.is in
+    let within : length stretch ≤ length part = omega (arith, len, length-take (length stretch) part) in
     record {
       some = is.some;
       is = rw (drop-joined_parts span parts k r at spans lt rt e)
-          (take-append-le (length run) part (joined_parts (drop (suc k) parts)) within ∙ is.is);
+          (take-append-le (length stretch) part (joined_parts (drop (suc k) parts)) within ∙ is.is);
     }
 
 -- Where a place of parts of one span lies: in which, and where there.

@@ -15,5 +15,5 @@ abbrev pub zero_block : ℕ → Block
 zero_block size = Bytes (replicate size 0)
 
 -- the `count` blocks from place `at`
-abbrev pub blocks_in : ℕ → ℕ → List Block → List Block
-blocks_in at count blocks = take count (drop at blocks)
+abbrev pub stretch_of : ℕ → ℕ → List Block → List Block
+stretch_of at count blocks = take count (drop at blocks)

@@ -3,13 +3,13 @@ ghost use Rattle.std.specs.Str.{bytes_eq};
 ghost use Rattle.nvm_record.specs.declared.block.Block.TheVariants.{Uncorrectable};
 ghost use Rattle.nvm_record.specs.Medium as medium;
 ghost use Rattle.nvm_record.specs.Step.{block_at};
-ghost use Rattle.nvm_blocks.specs.Rewrite.{blocks_in, IsRewritten, zero_block};
+ghost use Rattle.nvm_blocks.specs.Rewrite.{stretch_of, IsRewritten, zero_block};
 ghost use Rattle.nvm_blocks.specs.Inside.Source.{source_block, HasBlocks};
 
 use crate::levels::Levels;
-use crate::runs;
 use crate::source::Source;
 use crate::stored_block::StoredBlock;
+use crate::stretches;
 use nvm_record::{NoMemory, Payload};
 use std::alloc::Global;
 use std::fmt;
@@ -120,19 +120,19 @@ impl Blocks {
     /// Whether one of the `count` blocks from place `at` is marked.
     pub fn has_mark(&self, at: usize, count: usize) -> bool
         requires { at + count ≤ length self.now }
-        ensures { result ≡ medium.has_mark (blocks_in at count self.now) }
+        ensures { result ≡ medium.has_mark (stretch_of at count self.now) }
     {
         // The number of blocks fits, so each place up to it does.
         let _len = self.len();
         let mut from = at;
         let mut left = count;
         while left > 0 {
-            let run = self.run(from, left);
-            if runs::has_mark(run) {
+            let stretch = self.stretch(from, left);
+            if stretches::has_mark(stretch) {
                 return true;
             }
-            from += run.len();
-            left -= run.len();
+            from += stretch.len();
+            left -= stretch.len();
         }
         false
     }
@@ -142,7 +142,7 @@ impl Blocks {
     /// has no bytes.
     pub fn is_equal(&self, at: usize, count: usize, payload: &[u8]) -> bool
         requires { at + count ≤ length self.now }
-        ensures { result ≡ bytes_eq (medium.joined (blocks_in at count self.now)) payload.now }
+        ensures { result ≡ bytes_eq (medium.joined (stretch_of at count self.now)) payload.now }
     {
         // The number of blocks fits, so each place up to it does.
         let _len = self.len();
@@ -150,13 +150,13 @@ impl Blocks {
         let mut left = count;
         let mut rest = payload;
         while left > 0 {
-            let run = self.run(from, left);
-            let Some(behind) = runs::behind(run, rest) else {
+            let stretch = self.stretch(from, left);
+            let Some(behind) = stretches::behind(stretch, rest) else {
                 return false;
             };
             rest = behind;
-            from += run.len();
-            left -= run.len();
+            from += stretch.len();
+            left -= stretch.len();
         }
         rest.is_empty()
     }
@@ -166,32 +166,32 @@ impl Blocks {
     pub fn push_bytes(&self, at: usize, count: usize, bytes: &mut Vec<u8>) -> Result<(), NoMemory>
         requires { at + count ≤ length self.now }
         ensures { OnOk result
-            (bytes.new.items ≡ bytes.old.items ++ medium.joined (blocks_in at count self.now)) }
+            (bytes.new.items ≡ bytes.old.items ++ medium.joined (stretch_of at count self.now)) }
     {
         // The number of blocks fits, so each place up to it does.
         let _len = self.len();
         let mut from = at;
         let mut left = count;
         while left > 0 {
-            let run = self.run(from, left);
-            runs::push_bytes(run, bytes)?;
-            from += run.len();
-            left -= run.len();
+            let stretch = self.stretch(from, left);
+            stretches::push_bytes(stretch, bytes)?;
+            from += stretch.len();
+            left -= stretch.len();
         }
         Ok(())
     }
 
     /// The stored blocks from place `from`, as far as they stand in one leaf, and at most `most`.
-    fn run(&self, from: usize, most: usize) -> &[StoredBlock]
+    fn stretch(&self, from: usize, most: usize) -> &[StoredBlock]
         requires some { 0 < most }
         requires range { from + most ≤ length self.now }
         ensures some { 0 < length result.now }
         ensures few { length result.now ≤ most }
-        ensures is { blocks_in from (length result.now) self.now ≡ result.now }
+        ensures is { stretch_of from (length result.now) self.now ≡ result.now }
     {
-        let run = self.levels.run(from);
-        let len = run.len().min(most);
-        &run[..len]
+        let stretch = self.levels.stretch(from);
+        let len = stretch.len().min(most);
+        &stretch[..len]
     }
 
     /// Puts a block at place `at`.

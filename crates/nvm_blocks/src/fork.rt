@@ -52,9 +52,9 @@ impl<T: Tree> Fork<T> {
 impl<T: Tree> Tree for Fork<T> {
     ghost blocks = { λ f. f };
 
-    fn run(&self, at: usize) -> &[StoredBlock] {
+    fn stretch(&self, at: usize) -> &[StoredBlock] {
         let kid = &self.kids[at / self.span];
-        kid.run(at % self.span)
+        kid.stretch(at % self.span)
     }
 
     fn set(&mut self, alloc: Global, at: usize, block: StoredBlock) -> Result<(), NoMemory> {

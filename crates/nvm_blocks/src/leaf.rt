@@ -40,7 +40,7 @@ impl Leaf {
 impl Tree for Leaf {
     ghost blocks = { λ l. l };
 
-    fn run(&self, at: usize) -> &[StoredBlock] {
+    fn stretch(&self, at: usize) -> &[StoredBlock] {
         &self.kept[at..]
     }
 

@@ -1,7 +1,7 @@
 ghost use Rattle.std.specs.Prelude.{◌≡◌, ◌<◌, IfOk, OnErr, OnOk, length, slice_set};
 ghost use Rattle.nvm_blocks.specs.Rewrite.{zero_block};
 ghost use Rattle.nvm_blocks.specs.Inside.Levels.{AreAll, blocks_of};
-ghost use Rattle.nvm_blocks.specs.Inside.Tree.{IsRun};
+ghost use Rattle.nvm_blocks.specs.Inside.Tree.{IsStretch};
 
 use crate::fork::Fork;
 use crate::leaf::Leaf;
@@ -64,15 +64,15 @@ impl Levels {
     }
 
     /// The stored blocks from place `at` to the end of their leaf.
-    pub fn run(&self, at: usize) -> &[StoredBlock]
+    pub fn stretch(&self, at: usize) -> &[StoredBlock]
         requires { at < length (blocks_of self.now) }
-        ensures { IsRun (blocks_of self.now) at result.now }
+        ensures { IsStretch (blocks_of self.now) at result.now }
     {
         match self {
-            Levels::One(node) => node.run(at),
-            Levels::Two(node) => node.run(at),
-            Levels::Three(node) => node.run(at),
-            Levels::Four(node) => node.run(at),
+            Levels::One(node) => node.stretch(at),
+            Levels::Two(node) => node.stretch(at),
+            Levels::Three(node) => node.stretch(at),
+            Levels::Four(node) => node.stretch(at),
         }
     }
 

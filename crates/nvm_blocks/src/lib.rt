@@ -6,9 +6,9 @@ mod content;
 mod fork;
 mod leaf;
 mod levels;
-mod runs;
 mod source;
 mod stored_block;
+mod stretches;
 #[cfg(test)]
 mod tests;
 mod tree;

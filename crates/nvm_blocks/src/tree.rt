@@ -1,7 +1,7 @@
 ghost use Rattle.std.specs.Prelude.{◌≡◌, ◌<◌, List, length, IfOk, OnOk, OnErr, slice_set};
 ghost use Rattle.std.specs.Arc.{arc_value};
 ghost use Rattle.nvm_record.specs.declared.block.Block.{Block};
-ghost use Rattle.nvm_blocks.specs.Inside.Tree.{IsRun};
+ghost use Rattle.nvm_blocks.specs.Inside.Tree.{IsStretch};
 
 use crate::stored_block::StoredBlock;
 use nvm_record::NoMemory;
@@ -14,9 +14,9 @@ pub trait Tree: Drop {
     ghost blocks: { Self → List Block };
 
     /// The stored blocks from place `at` to the end of their leaf.
-    fn run(&self, at: usize) -> &[StoredBlock]
+    fn stretch(&self, at: usize) -> &[StoredBlock]
         requires { at < length (blocks self.now) }
-        ensures { IsRun (blocks self.now) at result.now };
+        ensures { IsStretch (blocks self.now) at result.now };
 
     /// Puts a block at place `at`, in place where nobody shares a node on its path. A node that somebody
     /// shares is copied first. Where memory is refused, all blocks are as they were.

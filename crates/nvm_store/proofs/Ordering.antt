@@ -8,7 +8,7 @@ use mathlib.Core.Option.{some-injective, some-ne-none}
 use Rattle.nvm_record.specs.Lists.{IsAt}
 use Rattle.nvm_store.specs.Call.{Call}
 use Rattle.nvm_store.specs.HistoryEntry.{HistoryEntry}
-use Rattle.nvm_store.specs.PassOrder.{entries_by, steps_by, StepsNeverGoBack}
+use Rattle.nvm_store.specs.PassOrder.{entries_of_pass, steps_by, StepsNeverGoBack}
 use Rattle.nvm_store.specs.PlacedRun.{RunStep, changes, answers, entries_in, calls_in, calls_by, StandAtPoints, IsPlacedRun}
 use Rattle.nvm_store.proofs.AtLemmas.{at_end}
 
@@ -17,7 +17,7 @@ abbrev AreBy : ℕ → List HistoryEntry → Type 0
 AreBy pass entries = All (λ entry. eqb entry.pass pass ≡ true) entries
 
 -- From a place on there are no more entries by a pass than from one before it.
-fewer_by_one : (pass n : ℕ) (entries : List HistoryEntry) → length (entries_by pass (drop (suc n) entries)) ≤ length (entries_by pass (drop n entries))
+fewer_by_one : (pass n : ℕ) (entries : List HistoryEntry) → length (entries_of_pass pass (drop (suc n) entries)) ≤ length (entries_of_pass pass (drop n entries))
 fewer_by_one pass zero [] = omega arith
 fewer_by_one pass (suc n) [] = omega arith
 fewer_by_one pass zero (entry ∷ entries) =
@@ -25,7 +25,7 @@ fewer_by_one pass zero (entry ∷ entries) =
 fewer_by_one pass (suc n) (entry ∷ entries) = fewer_by_one pass n entries
 
 fewer_later : (pass low more : ℕ) (entries : List HistoryEntry)
-    → length (entries_by pass (drop (low + more) entries)) ≤ length (entries_by pass (drop low entries))
+    → length (entries_of_pass pass (drop (low + more) entries)) ≤ length (entries_of_pass pass (drop low entries))
 fewer_later pass low zero entries = let same : low + 0 ≡ low = omega arith in rw same (omega arith)
 fewer_later pass low (suc more) entries =
     let next : low + suc more ≡ suc (low + more) = omega arith in
@@ -34,7 +34,7 @@ fewer_later pass low (suc more) entries =
     rw next (omega (arith, one, rest))
 
 fewer : (pass low high : ℕ) (entries : List HistoryEntry) → low ≤ high
-    → length (entries_by pass (drop high entries)) ≤ length (entries_by pass (drop low entries))
+    → length (entries_of_pass pass (drop high entries)) ≤ length (entries_of_pass pass (drop low entries))
 fewer pass low high entries le =
     let is : low + (high - low) ≡ high = omega arith in
     rw is at (fewer_later pass low (high - low) entries)
@@ -47,7 +47,7 @@ drop_from (e ∷ es) (suc n) entry at = drop_from es n entry at
 
 -- Steps that never go back have no more entries than their pass has from there on.
 no_more : (pass low : ℕ) (history : List HistoryEntry) (own : List RunStep) → StepsNeverGoBack history low own → AreBy pass (entries_in own)
-    → length (entries_in own) ≤ length (entries_by pass (drop low history))
+    → length (entries_in own) ≤ length (entries_of_pass pass (drop low history))
 no_more pass low history [] rise by = omega arith
 no_more pass low history (answers call ∷ own) rise by =
     let rest = no_more pass call.point history own rise.2 by in
@@ -55,14 +55,14 @@ no_more pass low history (answers call ∷ own) rise by =
     omega (arith, rest, less)
 no_more pass low history (changes entry ∷ own) rise by =
     let place = rise.0 in
-    let rest : length (entries_in own) ≤ length (entries_by pass (drop (place + 1) history)) =
+    let rest : length (entries_in own) ≤ length (entries_of_pass pass (drop (place + 1) history)) =
     no_more pass (place + 1) history own rise.3 (All-tail (λ e. eqb e.pass pass ≡ true) entry (entries_in own) by) in
     let less = fewer pass low place history rise.1 in
     let here : eqb entry.pass pass ≡ true = All-head (λ e. eqb e.pass pass ≡ true) entry (entries_in own) by in
     let next : place + 1 ≡ suc place = omega arith in
-    let from : entries_by pass (drop place history) ≡ entry ∷ entries_by pass (drop (place + 1) history) =
+    let from : entries_of_pass pass (drop place history) ≡ entry ∷ entries_of_pass pass (drop (place + 1) history) =
     rw (drop_from history place entry rise.2, here, next) refl in
-    let long : length (entries_by pass (drop place history)) ≡ suc (length (entries_by pass (drop (place + 1) history))) = ap length from in
+    let long : length (entries_of_pass pass (drop place history)) ≡ suc (length (entries_of_pass pass (drop (place + 1) history))) = ap length from in
     omega (arith, rest, less, long)
 
 -- The first call of steps that never go back isn't before them.
@@ -99,7 +99,7 @@ first_standing pass n (answers c ∷ steps) call calls stand is =
 -- Where a pass's entry stands at place n and is the first of its own, it is the first of its steps.
 entry_first : (pass n low : ℕ) (history rest : List HistoryEntry) (entry : HistoryEntry) (own : List RunStep) → IsAt history n entry
     → drop (suc n) history ≡ rest → n ≤ low → StepsNeverGoBack history low own → AreBy pass (entries_in own)
-    → entries_in own ≡ entry ∷ entries_by pass rest
+    → entries_in own ≡ entry ∷ entries_of_pass pass rest
     → ((call : Call) (calls : List Call) → calls_in own ≡ call ∷ calls → suc n ≤ call.point)
     → (after : List RunStep) × (own ≡ changes entry ∷ after) × StepsNeverGoBack history (suc n) after
 entry_first pass n low history rest entry [] at behind from rise by is late = absurd (cc)
@@ -107,9 +107,9 @@ entry_first pass n low history rest entry (answers call ∷ own) at behind from 
     let past : suc n ≤ call.point = late call (calls_in own) refl in
     let some = no_more pass call.point history own rise.2 by in
     let less = fewer pass (suc n) call.point history past in
-    let same : length (entries_by pass (drop (suc n) history)) ≡ length (entries_by pass rest) =
-    ap (λ (es : List HistoryEntry). length (entries_by pass es)) behind in
-    let long : length (entries_in own) ≡ suc (length (entries_by pass rest)) = ap length is in
+    let same : length (entries_of_pass pass (drop (suc n) history)) ≡ length (entries_of_pass pass rest) =
+    ap (λ (es : List HistoryEntry). length (entries_of_pass pass es)) behind in
+    let long : length (entries_in own) ≡ suc (length (entries_of_pass pass rest)) = ap length is in
     absurd (omega (arith, some, less, same, long))
 entry_first pass n low history rest entry (changes e ∷ own) at behind from rise by is late =
     let place = rise.0 in
@@ -128,9 +128,9 @@ entry_first pass n low history rest entry (changes e ∷ own) at behind from ris
           let past : suc n ≤ place = omega arith in
           let some = no_more pass place history (changes e ∷ own) (place, omega arith, rise.2, rise.3) by in
           let less = fewer pass (suc n) place history past in
-          let same : length (entries_by pass (drop (suc n) history)) ≡ length (entries_by pass rest) =
-          ap (λ (es : List HistoryEntry). length (entries_by pass es)) behind in
-          let long : suc (length (entries_in own)) ≡ suc (length (entries_by pass rest)) = ap length is in
+          let same : length (entries_of_pass pass (drop (suc n) history)) ≡ length (entries_of_pass pass rest) =
+          ap (λ (es : List HistoryEntry). length (entries_of_pass pass es)) behind in
+          let long : suc (length (entries_in own)) ≡ suc (length (entries_of_pass pass rest)) = ap length is in
           absurd (omega (arith, some, less, same, long))
     ]
 
@@ -174,7 +174,7 @@ past_other pass n low history entry (changes e ∷ own) at other from rise by la
 -- From the entries before, the steps of a pass in the rest of a placed run are its own.
 in_order_from : (pass low : ℕ) (history before : List HistoryEntry) (run own : List RunStep) → before ++ entries_in run ≡ history
     → length before ≤ low → StandAtPoints (length before) run → StepsNeverGoBack history low own
-    → entries_in own ≡ entries_by pass (entries_in run) → calls_in own ≡ calls_by pass (calls_in run) → steps_by pass run ≡ own
+    → entries_in own ≡ entries_of_pass pass (entries_in run) → calls_in own ≡ calls_by pass (calls_in run) → steps_by pass run ≡ own
 in_order_from pass low history before [] [] whole from stand rise entries calls = refl
 in_order_from pass low history before [] (changes e ∷ own) whole from stand rise entries calls = absurd (cc)
 in_order_from pass low history before [] (answers c ∷ own) whole from stand rise entries calls = absurd (cc)
@@ -185,7 +185,7 @@ in_order_from pass low history before (answers call ∷ steps) own whole from st
           let first : calls_in own ≡ call ∷ calls_by pass (calls_in steps) = rw mine.0 at calls in
           let split = call_first n low history call (calls_by pass (calls_in steps)) own from stand.0 rise first in
           let is : own ≡ answers call ∷ split.0 = split.1 in
-          let entries' : entries_in split.0 ≡ entries_by pass (entries_in steps) = sym (ap entries_in is) ∙ entries in
+          let entries' : entries_in split.0 ≡ entries_of_pass pass (entries_in steps) = sym (ap entries_in is) ∙ entries in
           let both : call ∷ calls_in split.0 ≡ call ∷ calls_by pass (calls_in steps) = sym (ap calls_in is) ∙ first in
           let calls' : calls_in split.0 ≡ calls_by pass (calls_in steps) = cc in
           rw mine.0
@@ -204,7 +204,7 @@ in_order_from pass low history before (changes entry ∷ steps) own whole from s
     let standing : StandAtPoints (length (before ++ entry ∷ [])) steps = rw more stand in
     let behind : drop (suc n) history ≡ entries_in steps = rw joined at (drop_at (before ++ entry ∷ []) (entries_in steps) (suc n) next) in
     let by : AreBy pass (entries_in own) =
-    All-same (λ (x : HistoryEntry). eqb x.pass pass ≡ true) (entries_in own) (entries_by pass (entry ∷ entries_in steps)) entries
+    All-same (λ (x : HistoryEntry). eqb x.pass pass ≡ true) (entries_in own) (entries_of_pass pass (entry ∷ entries_in steps)) entries
     (filter_passes (λ (x : HistoryEntry). eqb x.pass pass) (entry ∷ entries_in steps)) in
     let late : (call : Call) (cs : List Call) → calls_in own ≡ call ∷ cs → suc n ≤ call.point =
     λ call cs is.
@@ -213,11 +213,11 @@ in_order_from pass low history before (changes entry ∷ steps) own whole from s
     in
     elim (eqb_tells entry.pass pass) [
       | inl mine ↦
-          let first : entries_in own ≡ entry ∷ entries_by pass (entries_in steps) = rw mine.0 at entries in
+          let first : entries_in own ≡ entry ∷ entries_of_pass pass (entries_in steps) = rw mine.0 at entries in
           let split = entry_first pass n low history (entries_in steps) entry own at behind from rise by first late in
           let is : own ≡ changes entry ∷ split.0 = split.1 in
-          let both : entry ∷ entries_in split.0 ≡ entry ∷ entries_by pass (entries_in steps) = sym (ap entries_in is) ∙ first in
-          let entries' : entries_in split.0 ≡ entries_by pass (entries_in steps) = cc in
+          let both : entry ∷ entries_in split.0 ≡ entry ∷ entries_of_pass pass (entries_in steps) = sym (ap entries_in is) ∙ first in
+          let entries' : entries_in split.0 ≡ entries_of_pass pass (entries_in steps) = cc in
           let calls' : calls_in split.0 ≡ calls_by pass (calls_in steps) = sym (ap calls_in is) ∙ calls in
           rw mine.0
           (ap (λ (ss : List RunStep). changes entry ∷ ss)
@@ -230,8 +230,8 @@ in_order_from pass low history before (changes entry ∷ steps) own whole from s
     ]
 
 pub steps_in_order : (history : List HistoryEntry) (calls : List Call) (run own : List RunStep) (pass : ℕ) → IsPlacedRun history calls run
-    → StepsNeverGoBack history 0 own → entries_in own ≡ entries_by pass history → calls_in own ≡ calls_by pass calls
+    → StepsNeverGoBack history 0 own → entries_in own ≡ entries_of_pass pass history → calls_in own ≡ calls_by pass calls
     → steps_by pass run ≡ own
 steps_in_order history calls run own pass placed rise entries asked =
     in_order_from pass 0 history [] run own placed.whole (omega arith) placed.at_points rise
-    (entries ∙ sym (ap (entries_by pass) placed.whole)) (asked ∙ sym (placed.in_order pass))
+    (entries ∙ sym (ap (entries_of_pass pass) placed.whole)) (asked ∙ sym (placed.in_order pass))

@@ -12,8 +12,8 @@ NeverGoBack low high (call ∷ calls) =
     (low ≤ call.point) × (call.point ≤ high) × NeverGoBack call.point high calls
 
 -- the entries of one pass, in order
-abbrev pub entries_by : ℕ → List HistoryEntry → List HistoryEntry
-entries_by pass entries = filter (λ entry. nat_eq entry.pass pass) entries
+abbrev pub entries_of_pass : ℕ → List HistoryEntry → List HistoryEntry
+entries_of_pass pass entries = filter (λ entry. nat_eq entry.pass pass) entries
 
 -- whose step it is
 abbrev pub pass_of_step : RunStep → ℕ

@@ -19,7 +19,7 @@ ghost use Rattle.nvm_store.specs.History.{replay_of, CanFollow, IsLawfulHistory}
 ghost use Rattle.nvm_store.specs.HistoryEntry.{HistoryEntry};
 ghost use Rattle.nvm_store.specs.Look.{look_operation_of};
 ghost use Rattle.nvm_store.specs.Operation.{write_operation, pair_operation};
-ghost use Rattle.nvm_store.specs.PassOrder.{NeverGoBack, StepsNeverGoBack, entries_by, steps_by};
+ghost use Rattle.nvm_store.specs.PassOrder.{NeverGoBack, StepsNeverGoBack, entries_of_pass, steps_by};
 ghost use Rattle.nvm_store.specs.PlacedRun.{RunStep, IsRunFrom, IsPlacedRun, entries_in, calls_in, calls_by, placed_run};
 ghost use Rattle.nvm_store.specs.Point.{point, RestsOn};
 
@@ -172,6 +172,6 @@ pub fn there_is_a_placed_run()
 pub fn placed_runs_keep_order()
     ensures { (history : List HistoryEntry) (calls : List Call) (run own : List RunStep) (pass : ℕ)
         → IsPlacedRun history calls run → StepsNeverGoBack history 0 own
-        → entries_in own ≡ entries_by pass history → calls_in own ≡ calls_by pass calls
+        → entries_in own ≡ entries_of_pass pass history → calls_in own ≡ calls_by pass calls
         → steps_by pass run ≡ own }
 {}

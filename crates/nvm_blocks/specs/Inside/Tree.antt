@@ -1,4 +1,4 @@
--- The blocks of a node as those of its children, and of a leaf as runs.
+-- The blocks of a node as those of its children, and of a leaf as stretches.
 use Rattle.std.specs.Prelude.{◌≡◌, ℕ, ◌<◌, List, [], ◌∷◌, ◌++◌, length, map, take, drop}
 use Rattle.std.specs.Arc.{arc_value}
 use Rattle.std.specs.declared.sync.Arc.{Arc}
@@ -23,7 +23,7 @@ pub record IsFork (span : ℕ) (parts : List (List Block)) : Type 0 where
   pub some : 0 < span
   pub spans : AreOfSpan span parts
 
--- The run is the blocks from place `at` on, at least one and maybe not all.
-pub record IsRun (blocks : List Block) (at : ℕ) (run : List Block) : Type 0 where
-  pub some : 0 < length run
-  pub is : take (length run) (drop at blocks) ≡ run
+-- The stretch is the blocks from place `at` on, at least one and maybe not all.
+pub record IsStretch (blocks : List Block) (at : ℕ) (stretch : List Block) : Type 0 where
+  pub some : 0 < length stretch
+  pub is : take (length stretch) (drop at blocks) ≡ stretch

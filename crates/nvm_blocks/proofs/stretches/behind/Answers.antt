@@ -2,7 +2,7 @@ use Rattle.std.proofs.Common.{◌+◌, ◌++◌, List, ℕ, drop, sym, ap, ◌�
 use Rattle.std.proofs.lemmas.List.{append_cancel_left}
 use Rattle.nvm_record.specs.Medium.{bytes_of, joined}
 use Rattle.nvm_blocks.proofs.Data.{next_begins}
-use Rattle.nvm_blocks.proofs.runs.behind.Goals as goal
+use Rattle.nvm_blocks.proofs.stretches.behind.Goals as goal
 
 pub loop-block-preserved : goal.loop-block-preserved
 loop-block-preserved c =

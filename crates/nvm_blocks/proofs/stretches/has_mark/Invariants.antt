@@ -1,6 +1,6 @@
 use Rattle.std.proofs.Common.{◌≡◌, drop}
 use Rattle.nvm_record.specs.Medium as medium
-use Rattle.nvm_blocks.proofs.runs.has_mark.Given as goal
+use Rattle.nvm_blocks.proofs.stretches.has_mark.Given as goal
 
 -- No block so far is marked, so what is left decides.
 abbrev pub invariant-loop-block : goal.invariant-loop-block

@@ -1,6 +1,6 @@
 use Rattle.std.proofs.Common.{◌≡◌, ◌++◌, drop}
 use Rattle.nvm_record.specs.Medium as medium
-use Rattle.nvm_blocks.proofs.runs.push_bytes.Given as goal
+use Rattle.nvm_blocks.proofs.stretches.push_bytes.Given as goal
 
 -- The bytes of the blocks that are left complete the whole.
 abbrev pub invariant-loop-block : goal.invariant-loop-block

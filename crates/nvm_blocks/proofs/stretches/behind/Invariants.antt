@@ -1,6 +1,6 @@
 use Rattle.std.proofs.Common.{◌≡◌, ◌++◌, ℕ, List, drop}
 use Rattle.nvm_record.specs.Medium as medium
-use Rattle.nvm_blocks.proofs.runs.behind.Given as goal
+use Rattle.nvm_blocks.proofs.stretches.behind.Given as goal
 
 -- The data began with the bytes so far, so what is left of both decides.
 abbrev pub invariant-loop-block : goal.invariant-loop-block
