@@ -14,25 +14,29 @@ TOP = os.path.dirname(HERE)
 sys.dont_write_bytecode = True
 sys.path.insert(0, os.path.join(TOP, "sweep"))
 
-from host_files import Asked, compare, file_of, pair, read, uncorrectable, unknown, write, zeroes
+from host_files import Asked, compare, dataset, file_of, pair, read, uncorrectable, unknown, write, zeroes
+from runs import runs
 
 # Stands for a text that isn't empty: clap words its own.
 SOME = object()
 LAST = 2**64 - 1
 
 # What is expected in a line of a list, by what was found there.
-NAME = "expected write, read, compare, zeroes, uncorrectable, or op- and another opcode in two hexadecimal digits"
+NAME = "expected write, read, compare, zeroes, uncorrectable, dataset, or op- and another opcode in two hexadecimal digits"
 LBA = "expected an LBA from 0 to 18446744073709551615"
 BLOCKS = "expected a number of blocks from 1 to 65536"
 DATA = "expected data as runs, as in 511*41,1*42, or as two hexadecimal digits"
 SHORT = "expected data of 512 bytes and not of 511"
 LONG = "expected data of 1024 bytes and not of 36893488147419103230"
+RANGES = "expected ranges, as in 7+2,0+1: LBAs from 0 to 18446744073709551615, and from 0 to 4294967295 blocks"
+MANY_RANGES = "expected at most 256 ranges and not 257"
 OPTION = "expected first, second, reserved, cid= or nsid="
-ONCE = "expected at most one of first, second and reserved, one cid= and one nsid="
+RANGE_OPTION = "expected deallocate, first, second, reserved, cid= or nsid="
+ONCE = "expected each option at most once, and at most one of first, second and reserved"
 CID = "expected a number from 0 to 65535 behind cid="
 NSID = "expected a number from 0 to 4294967295 behind nsid="
 REFUSED_LINES = {
-    NAME: ["walk 0 1", "Write 0 1 41", "op-01 0 1", "op-7 0 1", "op-7g 0 1", "op-", "\u00e9"],
+    NAME: ["walk 0 1", "Write 0 1 41", "op-01 0 1", "op-09 0 1", "op-7 0 1", "op-7g 0 1", "op-", "\u00e9"],
     LBA: ["read", "read x 1", "read -1 1", "read +1 1", "read 0x10 1", "read 18446744073709551616 1"],
     BLOCKS: ["read 0", "read 0 0", "read 0 65537", "read 0 1x"],
     DATA: [
@@ -51,8 +55,32 @@ REFUSED_LINES = {
     ],
     SHORT: ["write 0 1 511*41", "compare 0 1 500*41,11*42 bogus"],
     LONG: ["write 0 2 18446744073709551615*41,18446744073709551615*42"],
-    OPTION: ["read 0 1 41", "read 0 1 normal", "read 0 1 cid"],
-    ONCE: ["read 0 1 first first", "read 0 1 first second", "read 0 1 cid=1 nsid=1 cid=x", "read 0 1 nsid=1 nsid=1"],
+    RANGES: [
+        "dataset",
+        "dataset 7",
+        "dataset 7 2",
+        "dataset 7+",
+        "dataset +2",
+        "dataset 7+2+1",
+        "dataset 7+2,",
+        "dataset ,7+2",
+        "dataset 7+2, 0+1",
+        "dataset 7-2",
+        "dataset deallocate 7+2",
+        "dataset 18446744073709551616+1",
+        "dataset 0+4294967296",
+        f"dataset {'0+1,' * 257}x",
+    ],
+    MANY_RANGES: [f"dataset 0+1{',0+1' * 256} bogus"],
+    OPTION: ["read 0 1 41", "read 0 1 normal", "read 0 1 cid", "zeroes 0 1 deallocate"],
+    RANGE_OPTION: ["dataset 7+2 0+1", "dataset 7+2 Deallocate"],
+    ONCE: [
+        "read 0 1 first first",
+        "read 0 1 first second",
+        "read 0 1 cid=1 nsid=1 cid=x",
+        "read 0 1 nsid=1 nsid=1",
+        "dataset 7+2 deallocate first deallocate",
+    ],
     CID: ["read 0 1 cid=", "read 0 1 cid=65536"],
     NSID: ["read 0 1 nsid=4294967296", "read 0 1 nsid=1,"],
 }
@@ -63,7 +91,17 @@ LISTS = {
     "\n\n \t\n\r\n# write 0 1 41\n": [],
     "write 0 1 41\nread 5 2\nuncorrectable 6 65536\n": [write(0, 0x41), read(5, 2), uncorrectable(6, 65_536)],
     "compare 18446744073709551615 1 511*41,1*42\nzeroes 007 08\n": [compare(LAST, 0x41, end=b"\x42"), zeroes(7, 8)],
-    "op-7f 9 10\nop-09 0 1\nop-FF 0 1": [unknown(9, 10), Asked(0x09, 0, 1), Asked(0xFF, 0, 1)],
+    "op-7f 9 10\nop-0a 0 1\nop-FF 0 1": [unknown(9, 10), Asked(0x0A, 0, 1), Asked(0xFF, 0, 1)],
+    "dataset 7+2 deallocate\ndataset 007+02\ndataset 18446744073709551615+4294967295,0+0,7+2\n": [
+        dataset((7, 2)),
+        dataset((7, 2), deallocate=False),
+        dataset((LAST, 2**32 - 1), (0, 0), (7, 2), deallocate=False),
+    ],
+    "dataset 1+1 nsid=2 deallocate first\ndataset 1+1 second cid=7 deallocate\ndataset 1+1 reserved\n": [
+        dataset((1, 1), nsid=2, fuse=1),
+        dataset((1, 1), cid=7, fuse=2),
+        dataset((1, 1), fuse=3, deallocate=False),
+    ],
     "read 0 1 first cid=7 nsid=2\nread 0 1 nsid=4294967295 cid=65535 second\n": [
         read(0, 1, fuse=1, cid=7, nsid=2),
         read(0, 1, fuse=2, cid=65_535, nsid=2**32 - 1),
@@ -91,6 +129,8 @@ write 4 1 512*ff second
 op-7f 0 1 reserved cid=4 nsid=2
 zeroes 0 8 nsid=0
 uncorrectable 1 1 cid=0
+dataset 7+2,18446744073709551615+4294967295,0+0 deallocate second cid=9 nsid=0
+dataset 7+2
 compare 0 2 63*01,64*02,65*03,128*07,129*08,1*09,574*0a
 """
 
@@ -216,6 +256,11 @@ def lists(run):
     run.keep("listed", LISTED)
     run.expect(["nvq", "assemble", "listed", "listed.nvq"])
     run.expect(["nvq", "list", "listed.nvq"], out=LISTED)
+    # A command has up to 256 ranges. What isn't read of a range isn't listed.
+    ranges = [(place * 16, 255 - place) for place in range(256)]
+    words = ",".join(f"{first}+{blocks}" for first, blocks in ranges)
+    assembled(f"dataset {words} deallocate\n", out=file_of([dataset(*ranges)]))
+    run.expect(["nvq", "list", "-"], given=file_of([dataset(*ranges, attributes=7)]), out=f"dataset {words} deallocate\n")
     # The identifier goes round after 65,535, and no more than 65,536 commands are taken.
     many = "# many\n" + "read 0 1\n" * 65_536
     assembled(many, out=file_of([read(0, 1, cid=place % 65_536) for place in range(1, 65_537)]))
@@ -303,6 +348,6 @@ def tried():
     """How many runs ended as they must, and how many didn't."""
     with tempfile.TemporaryDirectory(prefix="examples-") as folder:
         run = Programs(folder)
-        for table in (lists, words_of_nvq, words_of_nvmu, words_of_unit_bench):
+        for table in (lists, words_of_nvq, words_of_nvmu, runs, words_of_unit_bench):
             table(run)
         return run.passed, run.failed

@@ -131,7 +131,7 @@ def is_first_difference_for_memory(left, right):
     left, right = left.decode().split("\n"), right.decode().split("\n")
     place, got, wanted = next(((i, a, b) for i, (a, b) in enumerate(zip(left, right)) if a != b), (0, "", ""))
     # A Read may want memory before it comes to a mark. A Compare never does, nor does that of a pair.
-    may_be = {"write": ["0/00"], "zeroes": ["0/00"], "uncorrectable": ["0/00"], "read": ["0/00", "2/81"]}
+    may_be = {"write": ["0/00"], "zeroes": ["0/00"], "uncorrectable": ["0/00"], "dataset": ["0/00"], "read": ["0/00", "2/81"]}
     told = wanted.split()
     is_answer = got == " ".join([*told[:3], "0/06"]) and told[3] in may_be.get(told[2], [])
     # A command that is 0/06 in both, for a full unit, may have been stopped in an earlier one by want of

@@ -4,7 +4,7 @@ import random
 import struct
 from dataclasses import dataclass, replace
 
-from model import COMPARE, FIRST, READ, RESERVED, SECOND, UNCORRECTABLE, WRITE, ZEROES
+from model import COMPARE, DATASET, FIRST, READ, RESERVED, SECOND, UNCORRECTABLE, WRITE, ZEROES
 
 
 @dataclass(frozen=True)
@@ -19,6 +19,9 @@ class Asked:
     nsid: int = 1
     cid: int = None  # or its place in the file, from 1
     end: bytes = b""  # in place of the last bytes of its data
+    ranges: tuple = ()  # of a Dataset Management: first and blocks of each
+    deallocate: bool = False
+    attributes: int = 0  # the context attributes of each range
 
 
 def write(first, *fillers, **more):
@@ -41,6 +44,10 @@ def uncorrectable(first, blocks, **more):
     return Asked(UNCORRECTABLE, first, blocks, **more)
 
 
+def dataset(*ranges, deallocate=True, **more):
+    return Asked(DATASET, 0, 1, ranges=ranges, deallocate=deallocate, **more)
+
+
 def unknown(first, blocks, **more):
     return Asked(0x7F, first, blocks, **more)
 
@@ -56,7 +63,9 @@ def file_of(asked, block=512):
     for place, it in enumerate(asked, 1):
         cid = place if it.cid is None else it.cid
         data = b"".join(bytes([filler]) * block for filler in it.fillers)
-        file.append(struct.pack("<BBHI32xQH14x", it.opcode, it.fuse, cid, it.nsid, it.first, it.blocks - 1))
+        place = len(it.ranges) - 1 + (it.deallocate << 34) if it.ranges else it.first
+        data += b"".join(struct.pack("<IIQ", it.attributes, blocks, first) for first, blocks in it.ranges)
+        file.append(struct.pack("<BBHI32xQH14x", it.opcode, it.fuse, cid, it.nsid, place, it.blocks - 1))
         file.append(data[: len(data) - len(it.end)] + it.end)
     return b"".join(file)
 
@@ -71,13 +80,17 @@ def mixed(seed, count, nsze, block=512):
         fillers = (dice.choice([0, 0, 0x41, 0x42]),) * blocks if opcode in (WRITE, COMPARE) else ()
         return Asked(opcode, first, blocks, fillers)
 
+    def some(first):
+        more = [(dice.randrange(nsze), dice.choice([0, 1, 2])) for _ in range(dice.randrange(4))]
+        return dataset((first, 1), *more, deallocate=dice.randrange(5) > 0)
+
     def flawed(command):
-        flaw = dice.choice([{"nsid": 2}, {"fuse": FIRST}, {"fuse": SECOND}, {"fuse": RESERVED}, {"opcode": 9}])
-        return replace(command, **flaw, fillers=() if "opcode" in flaw else command.fillers)
+        flaw = dice.choice([{"nsid": 2}, {"fuse": FIRST}, {"fuse": SECOND}, {"fuse": RESERVED}, {"opcode": 0x7F}])
+        return replace(command, **flaw, **({"fillers": (), "ranges": ()} if "opcode" in flaw else {}))
 
     asked = []
     while len(asked) < count:
-        opcode = dice.choice([WRITE] * 4 + [READ] * 4 + [ZEROES, UNCORRECTABLE, COMPARE, COMPARE] + ["pair"] * 3)
+        opcode = dice.choice([WRITE] * 4 + [READ] * 4 + [ZEROES, UNCORRECTABLE, COMPARE, COMPARE, DATASET] + ["pair"] * 3)
         first, blocks = dice.randrange(nsze), dice.choice([1, 1, 2, 3, 4, 7])
         if opcode == "pair":
             blocks = min(blocks, dice.choice([1, 2, 4, 7]))
@@ -88,6 +101,6 @@ def mixed(seed, count, nsze, block=512):
                 two[at] = dice.choice([replace(two[at], nsid=2), moved, other])
             asked += two
         else:
-            command = one(opcode, first, blocks)
+            command = some(first) if opcode == DATASET else one(opcode, first, blocks)
             asked.append(flawed(command) if dice.randrange(10) == 0 else command)
     return file_of(asked + [read(lba, 1) for lba in range(nsze)], block)

@@ -13,9 +13,16 @@ from dataclasses import dataclass, replace
 from functools import lru_cache
 from itertools import groupby, zip_longest
 
-WRITE, READ, UNCORRECTABLE, COMPARE, ZEROES = 1, 2, 4, 5, 8
-NAMES = {WRITE: "write", READ: "read", UNCORRECTABLE: "uncorrectable", COMPARE: "compare", ZEROES: "zeroes"}
-CHANGES = {WRITE, UNCORRECTABLE, ZEROES}
+WRITE, READ, UNCORRECTABLE, COMPARE, ZEROES, DATASET = 1, 2, 4, 5, 8, 9
+NAMES = {
+    WRITE: "write",
+    READ: "read",
+    UNCORRECTABLE: "uncorrectable",
+    COMPARE: "compare",
+    ZEROES: "zeroes",
+    DATASET: "dataset",
+}
+CHANGES = {WRITE, UNCORRECTABLE, ZEROES, DATASET}
 NORMAL, FIRST, SECOND, RESERVED = range(4)
 # Stands for the bytes of a block that is marked uncorrectable.
 MARK = None
@@ -49,6 +56,8 @@ class Command:
     first: int
     blocks: int
     data: tuple  # block by block
+    ranges: tuple = ()  # of a Dataset Management: first and blocks of each
+    deallocate: bool = False
 
     def name(self):
         return NAMES.get(self.opcode, f"op-{self.opcode:02x}")
@@ -60,6 +69,13 @@ def commands(file, block):
     while at < len(file):
         opcode, fuse, cid, nsid = struct.unpack_from("<BBHI", file, at)
         first, blocks = struct.unpack_from("<QH", file, at + 40)
+        if opcode == DATASET:
+            count, deallocate = file[at + 40] + 1, bool(file[at + 44] & 4)
+            at += 64
+            ranges = tuple(struct.unpack_from("<4xIQ", file, at + 16 * place)[::-1] for place in range(count))
+            yield Command(opcode, fuse & 3, cid, nsid, 0, 1, (), ranges, deallocate)
+            at += 16 * count
+            continue
         at, blocks = at + 64, blocks + 1
         end = at + (blocks * block if opcode in (WRITE, COMPARE) else 0)
         data = tuple(file[i : i + block] for i in range(at, end, block))
@@ -90,7 +106,7 @@ def jobs(files, block):
 def refusal(namespace, body):
     """The statuses of the first check that applies, or None."""
     lead, last = body[0], body[-1]
-    end = lead.first + lead.blocks
+    end = max([first + blocks for first, blocks in lead.ranges], default=lead.first + lead.blocks)
     if len(body) == 1:
         table = [
             (lead.opcode not in NAMES, ["0/01"]),
@@ -131,7 +147,14 @@ class World:
 
 
 def parts(namespace, command):
-    """Each unit that the command's range meets, with the first and the number of the blocks in it."""
+    """Each unit that the command's range meets, or one of its ranges that are to be deallocated, with the first and the
+    number of the blocks in it."""
+    if command.opcode == DATASET:
+        lbas = {lba for first, blocks in command.ranges for lba in range(first, first + blocks) if command.deallocate}
+        for unit in sorted(set(map(namespace.unit, lbas))):
+            whole = [lba for lba in range(namespace.nsze) if namespace.unit(lba) == unit]
+            yield unit, whole[0], len(whole)
+        return
     for unit, lbas in groupby(range(command.first, command.first + command.blocks), namespace.unit):
         lbas = list(lbas)
         yield unit, lbas[0], len(lbas)
@@ -170,7 +193,10 @@ def ends(namespace, body, world):
             yield wants_memory, world.refused()
         if last.opcode in CHANGES:
             zeroes, marks = (bytes(namespace.block),) * count, (MARK,) * count
-            new = {WRITE: last.data[at : at + count], ZEROES: zeroes, UNCORRECTABLE: marks}[last.opcode]
+            new = {WRITE: last.data[at : at + count], ZEROES: zeroes, UNCORRECTABLE: marks}.get(last.opcode)
+            if last.opcode == DATASET:
+                cleared = [any(0 <= lba - first < n for first, n in last.ranges) for lba in range(begin, begin + count)]
+                new = tuple(zeroes[0] if clear else it for clear, it in zip(cleared, old))
             world = world.changed(unit, begin, new)
     read = " " + runs(world.blocks[lead.first : lead.first + lead.blocks]) if lead.opcode == READ else ""
     yield ["0/00" + read, "0/00"][: len(body)], world

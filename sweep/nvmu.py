@@ -4,7 +4,7 @@ import os
 import random
 
 from cases import Run
-from host_files import compare, file_of, mixed, pair, read, uncorrectable, unknown, write, zeroes
+from host_files import compare, dataset, file_of, mixed, pair, read, uncorrectable, unknown, write, zeroes
 from model import Model, Namespace
 
 # Units of 8 blocks, the first of which has 3.
@@ -124,6 +124,30 @@ def wide_commands():
     ])
 
 
+def ranges():
+    """Dataset Managements: overlapping ranges in any order, empty ones, without the bit, past the end, and in a pair."""
+    return file_of([
+        write(0, *range(1, 33)),
+        uncorrectable(9, 3),
+        dataset((6, 4), (30, 2), (0, 1), (7, 2)),
+        read(0, 10),
+        read(12, 20),
+        dataset((12, 20), deallocate=False),
+        dataset((10, 2), (3, 0), attributes=0xABCD),
+        read(0, 32),
+        dataset((32, 0), (5, 0)),
+        dataset((33, 0)),
+        dataset((0, 1), (31, 2), deallocate=False),
+        dataset((LAST, 2**32 - 1)),
+        dataset((0, 1), nsid=2),
+        dataset((0, 1), fuse=3),
+        *pair(compare(1, 2), dataset((1, 1))),
+        *pair(dataset((1, 1)), write(1, 3)),
+        dataset(*[(lba, 1) for lba in range(31, -1, -1)] * 8),
+        read(0, 32),
+    ])
+
+
 def two_hosts():
     """Two hosts' files, of different lengths, with a pair for a turn."""
     one = [write(0, 0x41), read(0, 2), *pair(compare(0, 0x42), write(0, 0x43)), read(0, 2), uncorrectable(8, 2)]
@@ -190,6 +214,9 @@ def runs(folder):
         lines("changes over units", [wide_commands()], **EIGHTS),
         lines("changes over full units", [wide_commands()], **EIGHTS, limit=1),
         lines("changes over units of two", [wide_commands()], nabsn=1, nabo=1, nawun=1, nacwu=1, limit=3),
+        lines("ranges", [ranges()]),
+        lines("ranges over units", [ranges()], **EIGHTS),
+        lines("ranges over units at the limit", [ranges()], **EIGHTS, limit=3),
         lines("a large Read", [file_of([write(60, *range(200)), read(0, 256), read(10, 100)])], nsze=256, nabsn=63),
         lines("two hosts", two_hosts(), nabsn=7),
         lines("two hosts at the limit", two_hosts(), nabsn=7, limit=1),

@@ -4,8 +4,8 @@ import os
 import re
 
 from cases import Run
-from host_files import compare, file_of, pair, read, uncorrectable, unknown, write, zeroes
-from model import COMPARE, WRITE, commands
+from host_files import compare, dataset, file_of, pair, read, uncorrectable, unknown, write, zeroes
+from model import COMPARE, DATASET, WRITE, commands
 
 FUSES = ["", " first", " second", " reserved"]
 
@@ -18,7 +18,9 @@ def listing(file, block):
         data = " " + ",".join(f"{len(run[0])}*{run[1].hex()}" for run in runs) if it.opcode in (WRITE, COMPARE) else ""
         cid = "" if it.cid == place % 65_536 else f" cid={it.cid}"
         nsid = "" if it.nsid == 1 else f" nsid={it.nsid}"
-        return f"{it.name()} {it.first} {it.blocks}{data}{FUSES[it.fuse]}{cid}{nsid}\n"
+        ranges = ",".join(f"{first}+{blocks}" for first, blocks in it.ranges) + " deallocate" * it.deallocate
+        place = ranges if it.opcode == DATASET else f"{it.first} {it.blocks}{data}"
+        return f"{it.name()} {place}{FUSES[it.fuse]}{cid}{nsid}\n"
 
     return "".join(line(place, it) for place, it in enumerate(commands(file, block), 1))
 
@@ -31,6 +33,8 @@ def asked():
         unknown(0, 1, fuse=3, cid=258, nsid=0),
         zeroes(7, 18, nsid=2**32 - 1),
         uncorrectable(9, 4, cid=0),
+        dataset((7, 2), (0, 0), (2**64 - 1, 2**32 - 1), fuse=1, nsid=7),
+        dataset((7, 2), deallocate=False),
         write(0, *range(40)),
     ]
 

@@ -1,14 +1,18 @@
 -- The blocks of parts of one span, joined: where a place lies, and what a change there does.
-use Rattle.std.proofs.Common.{◌≡◌, ℕ, zero, suc, ◌+◌, ◌-◌, ◌*◌, ◌/◌, ◌%◌, ◌<◌, ◌≤◌, List, [], ◌∷◌, ◌++◌, length, get_or, take, drop, replicate, refl, sym, ap, ◌∙◌, arith}
+use Rattle.std.proofs.Common.{◌≡◌, ℕ, zero, suc, ◌+◌, ◌-◌, ◌*◌, ◌/◌, ◌%◌, ◌<◌, ◌≤◌, List, [], ◌∷◌, ◌++◌, length, get_or, take, drop, replicate, refl, sym, ap, ◌∙◌, arith, inl, inr}
 use Rattle.std.proofs.Math.ListN.{set, length-take}
 use Rattle.std.proofs.Math.Nat.{div-add-mod}
 use Rattle.std.proofs.Math.Seq.{drop-append-add, map-set_same}
 use Rattle.std.proofs.lemmas.List.{drop-append-le, take-append-le, set-append_left, set-append_right, length-append, length-map, get_or-map, map-set, map-append, length-set, take_more, replicate-append-replicate}
 use Rattle.std.proofs.lemmas.Nat.{div_below, mod_below}
-use Rattle.std.specs.Prelude.{Result, Ok, Err, OnOk, OnErr}
+use Rattle.std.specs.Prelude.{Result, Ok, Err, IfOk, OnOk, OnErr}
 use Rattle.std.specs.Arc.{arc_value}
 use Rattle.std.specs.declared.sync.Arc.{Arc}
 use Rattle.nvm_record.specs.declared.block.Block.{Block}
+use Rattle.nvm_blocks.specs.Rewrite.{IsRewritten}
+use Rattle.nvm_blocks.specs.Inside.Source.{source_block, IsFilled}
+use Rattle.nvm_blocks.proofs.Rewrites.{rewritten_before, rewritten_behind}
+use Rattle.nvm_blocks.specs.declared.source.Source.{Source}
 use Rattle.nvm_blocks.specs.Inside.Tree.{AreOfSpan, IsFork, IsStretch, joined_parts, parts_of}
 
 pub length-joined_parts : (span : ℕ) (parts : List (List Block)) → AreOfSpan span parts → length (joined_parts parts) ≡ length parts * span
@@ -64,6 +68,20 @@ set-joined_parts span (p ∷ ps) (suc k) r at x spans lt rt e =
     set-append_right p (joined_parts ps) span at x len (omega arith)
     ∙ ap (λ (n : ℕ). p ++ set (joined_parts ps) n x) rest
     ∙ ap (λ (bs : List Block). p ++ bs) (set-joined_parts span ps k r (k * span + r) x spans.1 (omega arith) rt refl)
+
+-- A range of the k-th part is rewritten.
+pub rewritten-joined_parts : (span : ℕ) (parts : List (List Block)) (k r at n : ℕ) (news : ℕ → Block) (part : List Block) → AreOfSpan span parts
+    → k < length parts → at ≡ k * span + r → IsRewritten r n news (get_or parts k []) part
+    → IsRewritten at n news (joined_parts parts) (joined_parts (set parts k part))
+rewritten-joined_parts span [] k r at n news part spans lt e put = absurd (omega arith)
+rewritten-joined_parts span (p ∷ ps) zero r at n news part spans lt e put =
+    let here : at ≡ r = omega arith in
+    rw here (rewritten_before (joined_parts ps) r n news p part put)
+rewritten-joined_parts span (p ∷ ps) (suc k) r at n news part spans lt e put =
+    let len : length p ≡ span = spans.0 in
+    let there : at ≡ length p + (k * span + r) = grind (arith, len, e) in
+    rewritten_behind p (k * span + r) n at news (joined_parts ps) (joined_parts (set ps k part)) there
+    (rewritten-joined_parts span ps k r (k * span + r) n news part spans.1 (omega arith) refl put)
 
 -- A stretch of a part is one of the whole.
 pub stretch_of_part : (span : ℕ) (parts : List (List Block)) (k r at : ℕ) (stretch : List Block) → AreOfSpan span parts → k < length parts → r < span
@@ -145,6 +163,31 @@ module _ {X Z : Type 0} where
   same_in_kids blocks kids k kid other lt is same =
       map-set_same (λ (a : Arc X Z). blocks (arc_value a)) kids k other kid (same ∙ ap (λ (a : Arc X Z). blocks (arc_value a)) (sym is))
 
+  -- A child that was filled takes the place of the one before.
+  pub filled_in_kids : (blocks : X → List Block) (kids : List (Arc X Z)) (span at from to least n : ℕ) (source : Source) (kid other : Arc X Z)
+      → IsFork span (parts_of blocks kids) → LiesIn span at (length kids) → get_or kids (at / span) kid ≡ kid
+      → IsFilled source (at % span) from to least n (blocks (arc_value kid)) (blocks (arc_value other))
+      → IsFilled source at from to least n (joined_parts (parts_of blocks kids)) (joined_parts (parts_of blocks (set kids (at / span) other)))
+  filled_in_kids blocks kids span at from to least n source kid other fork lies is filled =
+      let k = at / span in
+      let r = at % span in
+      let parts = parts_of blocks kids in
+      let count : k < length parts = rw (parts_count blocks kids) lies.part in
+      let part : get_or parts k [] ≡ blocks (arc_value kid) = part_is blocks kids k kid kid lies.part is in
+      let news = λ (i : ℕ). source_block source (from + i) in
+      let now : IsRewritten r n news (get_or parts k []) (blocks (arc_value other)) = rw part filled.is in
+      let moved : parts_of blocks (set kids k other) ≡ set parts k (blocks (arc_value other)) =
+      map-set (λ (a : Arc X Z). blocks (arc_value a)) kids k other in
+      record {
+        enough =
+            elim filled.enough [
+              | inl all ↦ inl all
+              | inr none ↦ inr (none.0, none.1, ap joined_parts (same_in_kids blocks kids k kid other lies.part is none.2))
+            ];
+        few = filled.few;
+        is = rw moved (rewritten-joined_parts span parts k r at n news (blocks (arc_value other)) fork.spans count lies.is now);
+      }
+
   -- A child of the span's length keeps the fork one.
   pub fork-set : (blocks : X → List Block) (kids : List (Arc X Z)) (span at : ℕ) (kid other : Arc X Z) → IsFork span (parts_of blocks kids)
       → LiesIn span at (length kids) → get_or kids (at / span) kid ≡ kid → length (blocks (arc_value other)) ≡ length (blocks (arc_value kid))
@@ -179,6 +222,11 @@ pub keeps_length : {T E : Type 0} (r : Result T E) (old new : List Block) (i : �
     → OnOk r (new ≡ set old i x) → OnErr r (new ≡ old) → length new ≡ length old
 keeps_length (Ok y) old new i x ok err = ap length ok ∙ length-set old i x
 keeps_length (Err y) old new i x ok err = ap length err
+
+pub filling_keeps_length : {E : Type 0} (r : Result ℕ E) (source : Source) (at from to least : ℕ) (old new : List Block)
+    → IfOk r (λ n. IsFilled source at from to least n old new) → OnErr r (new ≡ old) → length new ≡ length old
+filling_keeps_length (Ok n) source at from to least old new ok err = ok.is.len
+filling_keeps_length (Err y) source at from to least old new ok err = ap length err
 
 -- Forks of one block alone.
 pub joined_parts-replicate : (n span : ℕ) (block : Block) → joined_parts (replicate n (replicate span block)) ≡ replicate (n * span) block

@@ -1,12 +1,12 @@
-ghost use Rattle.std.specs.Prelude.{◌≡◌, ◌+◌, ◌*◌, ◌++◌, ◌<◌, ◌≤◌, IfOk, OnErr, OnOk, length, replicate, slice_set};
+ghost use Rattle.std.specs.Prelude.{◌≡◌, ◌+◌, ◌*◌, ◌++◌, ◌-◌, ◌<◌, ◌≤◌, IfOk, OnErr, OnOk, length, replicate, slice_set};
 ghost use Rattle.std.specs.Str.{bytes_eq};
 ghost use Rattle.nvm_record.specs.declared.block.Block.TheVariants.{Uncorrectable};
 ghost use Rattle.nvm_record.specs.Medium as medium;
 ghost use Rattle.nvm_record.specs.Step.{block_at};
 ghost use Rattle.nvm_blocks.specs.Rewrite.{stretch_of, IsRewritten, zero_block};
-ghost use Rattle.nvm_blocks.specs.Inside.Source.{source_block, HasBlocks};
+ghost use Rattle.nvm_blocks.specs.Inside.Source.{source_block, HasBlocks, IsFilled};
 
-use crate::levels::Levels;
+use crate::levels::{LEAF, Levels};
 use crate::source::Source;
 use crate::stored_block::StoredBlock;
 use crate::stretches;
@@ -203,10 +203,32 @@ impl Blocks {
         self.levels.set(alloc, at, block)
     }
 
+    /// Puts the source's blocks from place `from` up to place `to` at the places from `at` on, as far as
+    /// these stand in one leaf, and answers how many. Where fewer than `least` do, it answers 0 and does
+    /// nothing.
+    fn fill_stretch(
+        &mut self,
+        alloc: Global,
+        at: usize,
+        from: usize,
+        to: usize,
+        least: usize,
+        source: &Source,
+    ) -> Result<usize, NoMemory>
+        requires range { at + (to - from) ≤ length self.old }
+        requires some { from < to }
+        requires least { 0 < least }
+        requires source { HasBlocks source.now to }
+        ensures ok { IfOk result (λ n. IsFilled source.now at from to least n self.old self.new) }
+        ensures err { OnErr result (self.new ≡ self.old) }
+    {
+        self.levels.fill(alloc, at, from, to, least, source)
+    }
+
     /// The `count` blocks from place `at` become the source's.
     ///
-    /// One block is put in place. Several are put into a shared copy, which copies each node of their ways
-    /// once, and takes this one's place where nothing was refused.
+    /// One block is put in place, and so are several of one leaf. Those of several leaves are put into a shared
+    /// copy, which copies each node of their ways once, and takes this one's place where nothing was refused.
     fn fill(
         &mut self,
         alloc: Global,
@@ -222,6 +244,12 @@ impl Blocks {
         if count == 1 {
             let block = source.block(0)?;
             return self.set(alloc, at, block);
+        }
+        if count > 0 && count <= LEAF - at % LEAF {
+            let done = self.fill_stretch(alloc, at, 0, count, count, source)?;
+            if done > 0 {
+                return Ok(());
+            }
         }
         *self = self.filled(alloc, at, count, source)?;
         Ok(())
@@ -240,9 +268,9 @@ impl Blocks {
         ensures { IfOk result (IsRewritten at count (source_block source.now) self.now) }
     {
         let mut after = self.share()?;
-        for i in 0..count {
-            let block = source.block(i)?;
-            after.set(alloc, at + i, block)?;
+        let mut done = 0;
+        while done < count {
+            done += after.fill_stretch(alloc, at + done, done, count, 1, source)?;
         }
         Ok(after)
     }

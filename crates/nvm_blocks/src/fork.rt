@@ -2,8 +2,9 @@ ghost use Rattle.std.specs.Prelude.{◌≡◌, ◌*◌, ◌<◌, IfOk, length, r
 ghost use Rattle.std.specs.Arc.{arc_value};
 ghost use Rattle.nvm_record.specs.declared.block.Block.{Block};
 
+use crate::source::Source;
 use crate::stored_block::StoredBlock;
-use crate::tree::{Tree, set_in};
+use crate::tree::{Tree, fill_in, set_in};
 use nvm_record::NoMemory;
 use std::alloc::Global;
 use std::marker::Model;
@@ -63,6 +64,28 @@ impl<T: Tree> Tree for Fork<T> {
         set_in(&mut self.kids[place], alloc, within, block)
     }
 
+    fn fill(
+        &mut self,
+        alloc: Global,
+        at: usize,
+        from: usize,
+        to: usize,
+        least: usize,
+        source: &Source,
+    ) -> Result<usize, NoMemory> {
+        let place = at / self.span;
+        let within = at % self.span;
+        fill_in(
+            &mut self.kids[place],
+            alloc,
+            within,
+            from,
+            to,
+            least,
+            source,
+        )
+    }
+
     fn copy(&self, alloc: Global) -> Result<Fork<T>, NoMemory> {
         let mut copies = Vec::with_capacity(alloc, self.kids.len())?;
         for kid in &self.kids {
@@ -72,5 +95,19 @@ impl<T: Tree> Tree for Fork<T> {
             kids: copies,
             span: self.span,
         })
+    }
+
+    fn filled(
+        &self,
+        alloc: Global,
+        at: usize,
+        from: usize,
+        to: usize,
+        least: usize,
+        source: &Source,
+    ) -> Result<(Fork<T>, usize), NoMemory> {
+        let mut other = self.copy(alloc)?;
+        let count = other.fill(alloc, at, from, to, least, source)?;
+        Ok((other, count))
     }
 }

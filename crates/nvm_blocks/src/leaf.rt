@@ -2,6 +2,7 @@ ghost use Rattle.std.specs.Prelude.{◌≡◌, IfOk, replicate};
 ghost use Rattle.std.specs.Arc.{arc_value};
 ghost use Rattle.nvm_blocks.specs.Rewrite.{zero_block};
 
+use crate::source::Source;
 use crate::stored_block::StoredBlock;
 use crate::tree::Tree;
 use nvm_record::NoMemory;
@@ -49,11 +50,50 @@ impl Tree for Leaf {
         Ok(())
     }
 
+    fn fill(
+        &mut self,
+        alloc: Global,
+        at: usize,
+        from: usize,
+        to: usize,
+        least: usize,
+        source: &Source,
+    ) -> Result<usize, NoMemory> {
+        let (other, count) = self.filled(alloc, at, from, to, least, source)?;
+        *self = other;
+        Ok(count)
+    }
+
     fn copy(&self, alloc: Global) -> Result<Leaf, NoMemory> {
         let mut copies = Vec::with_capacity(alloc, self.kept.len())?;
         for block in &self.kept {
             copies.push(block.share()?)?;
         }
         Ok(Leaf { kept: copies })
+    }
+
+    fn filled(
+        &self,
+        alloc: Global,
+        at: usize,
+        from: usize,
+        to: usize,
+        least: usize,
+        source: &Source,
+    ) -> Result<(Leaf, usize), NoMemory> {
+        let count = (self.kept.len() - at).min(to - from);
+        if count < least {
+            return Ok((self.copy(alloc)?, 0));
+        }
+        let mut copies = Vec::with_capacity(alloc, self.kept.len())?;
+        for (place, block) in self.kept.iter().enumerate() {
+            let next = if place >= at && place - at < count {
+                source.block(from + (place - at))?
+            } else {
+                block.share()?
+            };
+            copies.push(next)?;
+        }
+        Ok((Leaf { kept: copies }, count))
     }
 }

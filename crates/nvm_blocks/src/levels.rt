@@ -1,18 +1,20 @@
 ghost use Rattle.std.specs.Prelude.{◌≡◌, ◌<◌, IfOk, OnErr, OnOk, length, slice_set};
 ghost use Rattle.nvm_blocks.specs.Rewrite.{zero_block};
 ghost use Rattle.nvm_blocks.specs.Inside.Levels.{AreAll, blocks_of};
+ghost use Rattle.nvm_blocks.specs.Inside.Source.{HasBlocks, IsFilled};
 ghost use Rattle.nvm_blocks.specs.Inside.Tree.{IsStretch};
 
 use crate::fork::Fork;
 use crate::leaf::Leaf;
+use crate::source::Source;
 use crate::stored_block::StoredBlock;
-use crate::tree::{Tree, set_in};
+use crate::tree::{Tree, fill_in, set_in};
 use nvm_record::NoMemory;
 use std::alloc::Global;
 use std::sync::Arc;
 
 /// The most blocks of a leaf.
-const LEAF: usize = 8;
+pub const LEAF: usize = 8;
 /// The most children of a fork that isn't the top.
 const CHILDREN: usize = 16;
 /// The most blocks of a tree of two levels, and of a fork over leaves.
@@ -87,6 +89,34 @@ impl Levels {
             Levels::Two(node) => set_in(node, alloc, at, block),
             Levels::Three(node) => set_in(node, alloc, at, block),
             Levels::Four(node) => set_in(node, alloc, at, block),
+        }
+    }
+
+    /// Puts the source's blocks from place `from` up to place `to` at the places from `at` on, as far as
+    /// these stand in one leaf, and answers how many. Where fewer than `least` do, it answers 0 and
+    /// does nothing. Where memory is refused, all blocks are as they were.
+    pub fn fill(
+        &mut self,
+        alloc: Global,
+        at: usize,
+        from: usize,
+        to: usize,
+        least: usize,
+        source: &Source,
+    ) -> Result<usize, NoMemory>
+        requires range { at < length (blocks_of self.old) }
+        requires some { from < to }
+        requires least { 0 < least }
+        requires source { HasBlocks source.now to }
+        ensures ok { IfOk result
+            (λ n. IsFilled source.now at from to least n (blocks_of self.old) (blocks_of self.new)) }
+        ensures err { OnErr result (blocks_of self.new ≡ blocks_of self.old) }
+    {
+        match self {
+            Levels::One(node) => fill_in(node, alloc, at, from, to, least, source),
+            Levels::Two(node) => fill_in(node, alloc, at, from, to, least, source),
+            Levels::Three(node) => fill_in(node, alloc, at, from, to, least, source),
+            Levels::Four(node) => fill_in(node, alloc, at, from, to, least, source),
         }
     }
 }

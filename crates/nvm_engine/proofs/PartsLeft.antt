@@ -14,7 +14,7 @@ use Rattle.nvm_plan.specs.declared.job.Job.{Job}
 pub all_units : (units whole : List ℕ) → units ≡ whole → AllByRecursion (λ unit. Contains whole unit) units
 all_units units whole e = subst (λ (xs : List ℕ). AllByRecursion (λ unit. Contains whole unit) xs) (sym e) (recursion_from_All (λ unit. Contains whole unit) whole (All-contains_itself whole))
 
-module _ (ns : Namespace) (job : Job) (op : Operation) (unit : ℕ) (stands : job_operation_of job ≡ Some op) (free : refusal_of ns job ≡ None)
+module _ (ns : Namespace) (job : Job) (op : Operation) (unit : ℕ) (stands : job_operation_of ns job ≡ Some op) (free : refusal_of ns job ≡ None)
     (parts : Contains (units_met ns op) unit → job_part_in ns job unit ≡ Some (part_in ns op unit)) (units : job_units ns job ≡ units_met ns op)
     (there : Contains (job_units ns job) unit) where
   here : job_part_in ns job unit ≡ Some (part_in ns op unit)

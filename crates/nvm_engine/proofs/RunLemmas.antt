@@ -27,14 +27,14 @@ refused_job s job units statuses done refused outcome is m counts at = (
   record {
     replies = [];
     outcome = subst (λ (d : DoneJob). IsOutcome s.namespace job [] d.statuses d.payload) (sym is) outcome;
-    parts = nothing_done s m counts (job_operation_of job);
+    parts = nothing_done s m counts (job_operation_of s.namespace job);
     begun = λ op free stands. absurd (none-some statuses (sym free ∙ refused));
   },
   at,
 )
 
 -- A job that isn't refused does its parts.
-pub ready_job : (s : Setup) (job : Job) (op : Operation) (old new : List AtomicUnit) (done : DoneJob) → job_operation_of job ≡ Some op
+pub ready_job : (s : Setup) (job : Job) (op : Operation) (old new : List AtomicUnit) (done : DoneJob) → job_operation_of s.namespace job ≡ Some op
     → ((replies : List Reply) → IsOutcomeOf s.namespace op replies done.statuses done.payload → IsOutcome s.namespace job replies done.statuses done.payload)
     → DoesParts s op old new done → AnswersTo s old new job done
 ready_job s job op old new done stands made does m counts at =

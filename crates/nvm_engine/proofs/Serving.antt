@@ -1,8 +1,14 @@
 -- Doing jobs in their order makes a run of them.
-use Rattle.std.proofs.Common.{List, [], ◌∷◌, ◌++◌, subst, append_assoc, append-nil}
+use Rattle.std.proofs.Common.{ℕ, List, [], ◌∷◌, ◌++◌, Option, subst, append_assoc, append-nil}
+use Rattle.nvm_record.specs.declared.status.Statuses.{Statuses}
+use Rattle.nvm_geometry.specs.Namespace.{Namespace}
 use Rattle.nvm_record.specs.Medium.{Medium, zero_medium}
 use Rattle.nvm_plan.specs.declared.job.Job.{Job}
+use Rattle.nvm_plan.specs.Outcome.{IsOutcome}
+use Rattle.nvm_plan.specs.Reply.{Reply}
+use Rattle.nvm_plan.specs.Shape.{IsForEach}
 use Rattle.nvm_engine.specs.Run.{Setup, Counts, no_changes, IsRun}
+use Rattle.nvm_engine.specs.Inside.Statuses.{HaveStatuses}
 use Rattle.nvm_engine.specs.Inside.Units.{AreAt, AnswersTo}
 use Rattle.nvm_engine.specs.declared.atomic_unit.AtomicUnit.{AtomicUnit}
 use Rattle.nvm_engine.specs.declared.done_job.DoneJob.{DoneJob}
@@ -32,3 +38,12 @@ none_served s units all at = (zero_medium s.namespace.block_size, no_changes, re
 -- After the last job.
 pub all_served : (s : Setup) (units : List AtomicUnit) (all : List Job) (done : List DoneJob) (m : Medium) (counts : Counts) → IsServing s units all done [] m counts → IsRun s (zero_medium s.namespace.block_size) no_changes all done
 all_served s units all done m counts h = subst (λ (ps : List DoneJob). IsRun s (zero_medium s.namespace.block_size) no_changes all ps) (append-nil done) (h.completes [] tt)
+
+-- In a run each job has a status for each of its commands.
+pub run_has_statuses : ((ns : Namespace) (job : Job) (replies : List Reply) (told : Statuses) (read : Option (List ℕ)) → IsOutcome ns job replies told read → IsForEach job.body told)
+    → (s : Setup) (jobs : List Job) (done : List DoneJob) (m : Medium) (counts : Counts) → IsRun s m counts jobs done → HaveStatuses jobs done
+run_has_statuses each s [] [] m counts run = tt
+run_has_statuses each s [] (p ∷ ps) m counts run = absurd run
+run_has_statuses each s (job ∷ jobs) [] m counts run = absurd run
+run_has_statuses each s (job ∷ jobs) (p ∷ ps) m counts run =
+    (each s.namespace job run.2.replies p.statuses p.payload run.2.outcome, run_has_statuses each s jobs ps run.0 run.1 run.3)

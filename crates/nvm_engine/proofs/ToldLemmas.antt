@@ -5,9 +5,10 @@ use Rattle.nvm_record.specs.declared.block.Block.{Block}
 use Rattle.nvm_record.specs.declared.status.Statuses.{Statuses}
 use Rattle.nvm_record.specs.declared.status.Statuses.TheVariants.{Two}
 use Rattle.nvm_record.specs.Deeds.{is_read, is_look, IsAct, IsLook, FailsOn, IsFailedPair}
+use Rattle.nvm_record.specs.Lists.{IsAt}
 use Rattle.nvm_record.specs.Medium.{Medium, has_mark, joined}
 use Rattle.nvm_record.specs.Status.{IsSuccess, successful_completion, unrecovered_read_error, compare_failure, aborted_due_to_failed_fused_command}
-use Rattle.nvm_record.specs.Step.{Deed, writes, zeroes, uncorrectable, reads, compares, pairs, Operation, is_in_range, range_of, statuses_on, statuses_of, data_of, data_on, medium_after}
+use Rattle.nvm_record.specs.Step.{Deed, writes, zeroes, uncorrectable, reads, compares, pairs, deallocates, Operation, reaches, range_of, statuses_on, statuses_of, data_of, data_on, medium_after}
 use Rattle.nvm_geometry.specs.Namespace.{Namespace}
 use Rattle.nvm_geometry.specs.Boundaries.{unit_number, units_of}
 use Rattle.nvm_geometry.specs.Parts.{part_in}
@@ -25,7 +26,7 @@ use Rattle.nvm_engine.specs.Inside.Units.{IsLaidOut, AreAt, DoesPart}
 use Rattle.nvm_engine.specs.declared.atomic_unit.AtomicUnit.{AtomicUnit}
 use Rattle.nvm_engine.specs.declared.atomic_unit.Told.{Told}
 use Rattle.nvm_engine.specs.declared.atomic_unit.Told.TheVariants.{Done, Failed, Looked, NoMemory, Full}
-use Rattle.nvm_engine.proofs.PartLemmas.{other_holds, recounted_same, recounted_other, set_at}
+use Rattle.nvm_engine.proofs.PartLemmas.{is_at, other_holds, recounted_same, recounted_other, set_at}
 
 -- an act reads nothing
 act_reads_none : (d : Deed) → IsAct d → IsTrue (is_read d) → ⊥
@@ -35,6 +36,7 @@ act_reads_none uncorrectable act h = cc h
 act_reads_none reads act h = cc act
 act_reads_none (compares payload) act h = cc h
 act_reads_none (pairs payload new) act h = cc h
+act_reads_none (deallocates ranges) act h = cc h
 
 none_there : (o : Option (List ℕ)) → (IsSome o → ⊥) → o ≡ None
 none_there None h = refl
@@ -54,6 +56,7 @@ fails_on zeroes blocks act h = absurd (h refl)
 fails_on uncorrectable blocks act h = absurd (h refl)
 fails_on reads blocks act h = absurd (cc act)
 fails_on (compares payload) blocks act h = absurd (cc act)
+fails_on (deallocates ranges) blocks act h = absurd (h refl)
 fails_on (pairs payload new) blocks act h = not_equal (has_mark blocks) (bytes_eq (joined blocks) payload) h
 
 -- the part that ended so, at this point of its unit
@@ -71,7 +74,7 @@ module _ (s : Setup) (op act : Operation) (k : ℕ) (units : List AtomicUnit) (o
     (laid : IsLaidOut s units) (known : k < units_of s.namespace) (at : old ≡ get_or units k old) (is : act ≡ part_in s.namespace op k)
     (acts : IsAct act.deed)
     (look_kept : is_look (part_in s.namespace op k).deed ≡ is_look op.deed)
-    (lbas : (lba : ℕ) → is_in_range (part_in s.namespace op k) lba ≡ (is_in_range op lba && (unit_number s.namespace lba == k)))
+    (lbas : (lba : ℕ) → reaches (part_in s.namespace op k) lba ≡ (reaches op lba && (unit_number s.namespace lba == k)))
     (done_replies : (m : Medium) (part : Part) → IsAct op.deed → part.result ≡ result.Done → IsSuccess (statuses_of (part_in s.namespace op part.unit) m) → IsReplyTo op.deed (reply_on s.namespace op m part))
     (failed_replies : (m : Medium) (part : Part) → part.result ≡ result.Failed → IsFailedPair (part_in s.namespace op part.unit) m → IsReplyTo op.deed (reply_on s.namespace op m part))
     (no_memory_replies : (part : Part) → part.result ≡ result.NoMemory → IsReplyTo op.deed (reply_of_stop op.deed part))
@@ -79,11 +82,14 @@ module _ (s : Setup) (op act : Operation) (k : ℕ) (units : List AtomicUnit) (o
   inside : k < length units
   inside = let count : length units ≡ units_of s.namespace = laid.count in omega arith
 
+  there : IsAt units k old
+  there = is_at units k old inside at
+
   mine : (m : Medium) (counts : Counts) → AreAt units m counts → Holds old.blocks m × (counts k ≡ vec_len old.history)
-  mine m counts all = subst (λ (u : AtomicUnit). Holds u.blocks m × (counts k ≡ vec_len u.history)) (sym at) (all old k inside)
+  mine m counts all = all k old there
 
   same_size : old.blocks.size ≡ s.namespace.block_size
-  same_size = subst (λ (u : AtomicUnit). u.blocks.size ≡ s.namespace.block_size) (sym at) (laid.each old k inside).0.size
+  same_size = (laid.each k old there).0.size
 
   whole_acts : IsAct op.deed
   whole_acts = subst (λ (b : Bool). IsTrue (not b)) (ap (λ (o : Operation). is_look o.deed) is ∙ look_kept) acts
@@ -94,7 +100,7 @@ module _ (s : Setup) (op act : Operation) (k : ℕ) (units : List AtomicUnit) (o
   -- nothing is changed
   kept : (m : Medium) (counts : Counts) → AreAt units m counts → new.blocks ≡ old.blocks → vec_len new.history ≡ vec_len old.history → AreAt (set units k new) m counts
   kept m counts all blocks history =
-      set_at units k new m counts inside (subst (λ (u : Contents). Holds u m) (sym blocks) (mine m counts all).0, (mine m counts all).1 ∙ sym history) (λ d j there other. all d j there)
+      set_at units k new m counts inside (subst (λ (u : Contents). Holds u m) (sym blocks) (mine m counts all).0, (mine m counts all).1 ∙ sym history) (λ j u there other. all j u there)
 
   -- an act answers no data
   no_data : (m : Medium) (how : PartResult) → IsReplyTo op.deed (reply_on s.namespace op m (ended k 0 how)) → data_of (part_in s.namespace op k) m ≡ None
@@ -115,9 +121,9 @@ module _ (s : Setup) (op act : Operation) (k : ℕ) (units : List AtomicUnit) (o
         (refl, (record { statuses = sym reply.told; payload = sym none }, omega arith)),
         set_at units k new (medium_after s.namespace.block_size (part_in s.namespace op k) m) (recounted counts k (counts k + 1)) inside
             (stepped, recounted_same counts k (counts k + 1) k refl ∙ omega arith)
-            (λ d j there other. (
-              other_holds s.namespace op k j (get_or units j d).blocks s.namespace.block_size m lbas (laid.each d j there).0 other (all d j there).0,
-              recounted_other counts k (counts k + 1) j other ∙ (all d j there).1,
+            (λ j u there other. (
+              other_holds s.namespace op k j u.blocks s.namespace.block_size m lbas (laid.each j u there).0 other (all j u there).0,
+              recounted_other counts k (counts k + 1) j other ∙ (all j u there).1,
             )),
       )
   changes_part (Failed statuses) h m counts all =
@@ -158,7 +164,7 @@ module _ (s : Setup) (op act : Operation) (k : ℕ) (units : List AtomicUnit) (u
   held : (m : Medium) (counts : Counts) → AreAt units m counts → Holds unit.blocks m
   held m counts all =
       let inside : k < length units = (let count : length units ≡ units_of s.namespace = laid.count in omega arith) in
-      subst (λ (u : AtomicUnit). Holds u.blocks m) (sym at) (all unit k inside).0
+      (all k unit (is_at units k unit inside at)).0
 
   whole_looks : IsLook op.deed
   whole_looks = subst (λ (b : Bool). IsTrue b) (ap (λ (o : Operation). is_look o.deed) is ∙ look_kept) looks
@@ -187,6 +193,7 @@ read_alone uncorrectable blocks bytes e = absurd (cc e)
 read_alone reads blocks bytes e = refl
 read_alone (compares payload) blocks bytes e = absurd (cc e)
 read_alone (pairs payload new) blocks bytes e = absurd (cc e)
+read_alone (deallocates ranges) blocks bytes e = absurd (cc e)
 
 pub of_read : (op : Operation) (m : Medium) (size : ℕ) (answer : Answer) → IsAnswer op m answer → HasBytes (op.blocks * size) answer → IsOfRead size op answer
 of_read op m size (Payload bytes) is count = (read_alone op.deed (range_of op m) bytes is.1, count)

@@ -7,7 +7,7 @@ use Rattle.nvm_record.specs.Status.{IsSuccess}
 use Rattle.nvm_record.specs.Step.{Operation, statuses_of, data_of, medium_after}
 use Rattle.nvm_geometry.specs.Namespace.{Namespace}
 use Rattle.nvm_geometry.specs.Boundaries.{Crosses}
-use Rattle.nvm_geometry.specs.Parts.{part_in}
+use Rattle.nvm_geometry.specs.Parts.{units_met, part_in}
 use Rattle.nvm_plan.specs.Checks.{refusal_of}
 use Rattle.nvm_plan.specs.Operation.{job_operation_of}
 use Rattle.nvm_plan.specs.Outcome.{IsOutcome}
@@ -94,17 +94,18 @@ pub record IsReadOverUnits (ns : Namespace) (op : Operation) : Type 0 where
   pub read : IsTrue (is_read op.deed)
   pub over : Crosses ns op.first op.blocks
 
--- Some part was done, unless memory was refused before the first, which only such a Read asks for.
+-- Some part was done, unless there is none, or memory was refused before the first, which only such a Read asks for.
 abbrev pub IsBegun : Namespace → Operation → List Reply → Type 0
-IsBegun ns op [] = IsReadOverUnits ns op
+IsBegun ns op [] = (units_met ns op ≡ []) ⊎ IsReadOverUnits ns op
 IsBegun ns op (reply ∷ replies) = Unit {0}
 
 -- A job: its outcome is that of the replies to its parts, and these are what the parts did.
 pub record RunsJob (s : Setup) (m : Medium) (counts : Counts) (job : Job) (done : DoneJob) (after : Medium) (counted : Counts) : Type 0 where
   pub replies : List Reply
   pub outcome : IsOutcome s.namespace job replies done.statuses done.payload
-  pub parts : MatchOption (job_operation_of job) ((after ≡ m) × (counted ≡ counts)) (λ op. Does s op m counts replies after counted)
-  pub begun : (op : Operation) → refusal_of s.namespace job ≡ None → job_operation_of job ≡ Some op → IsBegun s.namespace op replies
+  pub parts : MatchOption (job_operation_of s.namespace job) ((after ≡ m) × (counted ≡ counts)) (λ op. Does s op m counts replies after counted)
+  pub begun : (op : Operation) → refusal_of s.namespace job ≡ None → job_operation_of s.namespace job ≡ Some op
+      → IsBegun s.namespace op replies
 
 -- These are what the jobs' hosts are told, where the jobs are done one after the other.
 abbrev pub IsRun : Setup → Medium → Counts → List Job → List DoneJob → Type 0

@@ -65,7 +65,7 @@ impl AtomicUnit {
         let entry = Entry {
             pass: 0,
             job,
-            act: act.to_act()?,
+            act: act.to_act(alloc)?,
         };
         self.history.reserve(1)?;
         self.blocks.change(alloc, act)?;

@@ -1,5 +1,6 @@
 ghost use Rattle.std.specs.Prelude.{◌≡◌, Some};
 ghost use Rattle.nvm_record.specs.Step.{Operation};
+ghost use Rattle.nvm_geometry.specs.Namespace.{Namespace};
 ghost use Rattle.nvm_plan.specs.Operation.{operation_of_body};
 ghost use Rattle.nvm_plan.specs.Outcome.{unstarted_of};
 ghost use Rattle.nvm_plan.specs.Reply.{stop_of};
@@ -30,7 +31,8 @@ impl DoneJob {
 
     /// A job whose parts were all done with success, where `bytes` are what they read.
     pub fn of_success(body: &Body, bytes: Vec<u8>) -> DoneJob
-        ensures { (op : Operation) → operation_of_body body.now ≡ Some op → result ≡ succeeded op.deed bytes.items }
+        ensures { (ns : Namespace) (op : Operation) → operation_of_body ns body.now ≡ Some op
+            → result ≡ succeeded op.deed bytes.items }
     {
         match body {
             Body::Single(command) => DoneJob {
@@ -50,7 +52,8 @@ impl DoneJob {
 
     /// A job whose last part found no memory, or a history at its limit.
     pub fn of_refused_part(body: &Body) -> DoneJob
-        ensures { (op : Operation) → operation_of_body body.now ≡ Some op → result ≡ told (stop_of op.deed) }
+        ensures { (ns : Namespace) (op : Operation) → operation_of_body ns body.now ≡ Some op
+            → result ≡ told (stop_of op.deed) }
     {
         match body {
             Body::Single(_) => DoneJob::of(Statuses::One(Status::INTERNAL_ERROR)),
@@ -63,7 +66,8 @@ impl DoneJob {
 
     /// A job that found no memory before its first part.
     pub fn of_no_part(body: &Body) -> DoneJob
-        ensures { (op : Operation) → operation_of_body body.now ≡ Some op → result ≡ told (unstarted_of op.deed) }
+        ensures { (ns : Namespace) (op : Operation) → operation_of_body ns body.now ≡ Some op
+            → result ≡ told (unstarted_of op.deed) }
     {
         match body {
             Body::Single(_) => DoneJob::of(Statuses::One(Status::INTERNAL_ERROR)),

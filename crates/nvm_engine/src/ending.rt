@@ -1,5 +1,6 @@
 ghost use Rattle.std.specs.Prelude.{◌≡◌, ◌⊎◌, ◌+◌, ◌++◌, ◌≤◌, Some, IfSome, IfNone, length, vec_len, vec_capacity};
 ghost use Rattle.nvm_record.specs.Step.{Operation};
+ghost use Rattle.nvm_geometry.specs.Namespace.{Namespace};
 ghost use Rattle.nvm_plan.specs.Operation.{operation_of_body};
 ghost use Rattle.nvm_engine.specs.Inside.Units.{GoesOn, EndsWith, HasRoom};
 
@@ -14,7 +15,7 @@ use nvm_store::Answer;
 pub fn ended(body: &Body, told: Told, bytes: &mut Vec<u8>) -> Option<DoneJob>
     requires { HasRoom told (vec_len bytes.old) (vec_capacity bytes.old) }
     ensures goes_on { IfNone result (GoesOn told bytes.old.items bytes.new.items) }
-    ensures ends { IfSome result (λ done. (op : Operation) → operation_of_body body.now ≡ Some op
+    ensures ends { IfSome result (λ done. (ns : Namespace) (op : Operation) → operation_of_body ns body.now ≡ Some op
         → EndsWith op.deed told done) }
     ensures capacity { vec_capacity bytes.old ≤ vec_capacity bytes.new }
 {

@@ -7,6 +7,7 @@ ghost use Rattle.nvm_plan.specs.Fits.{FitsNamespace};
 ghost use Rattle.nvm_plan.specs.Jobs.{IsJobList};
 ghost use Rattle.nvm_engine.specs.declared.fault.Fault.TheVariants.{NoMemory};
 ghost use Rattle.nvm_engine.specs.Fault.{IsFirstRunFault, IsGeometryFault, IsFileFault, IsFilesFault};
+ghost use Rattle.nvm_engine.specs.Inside.Statuses.{HaveStatuses};
 ghost use Rattle.nvm_engine.specs.Run.{no_changes, IsRun};
 ghost use Rattle.nvm_engine.specs.Settings.{IsNamespace, advertised};
 ghost use Rattle.nvm_engine.specs.Shown.{setup_of_settings, AreHostFiles, IsShown};
@@ -19,6 +20,7 @@ use crate::shown::Shown;
 use crate::units::Units;
 use nvm_geometry::Geometry;
 use nvm_plan::job_laws::{jobs_fit, no_more_jobs_than_commands};
+use nvm_plan::laws::each_command_has_a_status;
 use nvm_plan::{Job, MOST_HOSTS, jobs};
 use nvm_record::{BlockSize, Command, NoMemory, Payload, read_host};
 use std::alloc::Global;
@@ -134,7 +136,9 @@ fn done_jobs(
     ensures run { IfOk result (λ done. IsRun (setup_of_settings settings.now) (zero_medium settings.now.block) no_changes
         jobs.now done.items) }
     ensures length { IfOk result (λ done. length done.items ≡ length jobs.now) }
+    ensures statuses { IfOk result (λ done. HaveStatuses jobs.now done.items) }
 {
+    each_command_has_a_status();
     let mut units = Units::new(alloc, geometry, settings.limit)?;
     let mut done = Vec::with_capacity(alloc, jobs.len())?;
     for (number, job) in jobs.iter().enumerate() {

@@ -13,8 +13,6 @@ mod fault;
 mod lines;
 mod settings;
 mod shown;
-#[cfg(test)]
-mod tests;
 mod units;
 
 pub use engine::execute;

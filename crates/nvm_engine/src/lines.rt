@@ -1,4 +1,6 @@
 ghost use Rattle.std.specs.Prelude.{◌≡◌, ◌++◌, OnOk, length, string_bytes};
+ghost use Rattle.nvm_plan.specs.Shape.{IsForEach};
+ghost use Rattle.nvm_engine.specs.Inside.Statuses.{HaveStatuses};
 ghost use Rattle.nvm_engine.specs.Lines.{body_lines, job_lines};
 
 use crate::done_job::DoneJob;
@@ -8,7 +10,8 @@ use nvm_text::push_line;
 
 /// Appends the lines of jobs, each with what its host is told at its place.
 pub fn push_jobs(text: &mut String, jobs: &[Job], done: Vec<DoneJob>) -> Result<(), NoMemory>
-    requires { length jobs.now ≡ length done.items }
+    requires count { length jobs.now ≡ length done.items }
+    requires statuses { HaveStatuses jobs.now done.items }
     ensures { OnOk result (string_bytes text.new ≡ string_bytes text.old ++ job_lines jobs.now done.items) }
 {
     for (job, done) in jobs.iter().zip(done) {
@@ -19,6 +22,7 @@ pub fn push_jobs(text: &mut String, jobs: &[Job], done: Vec<DoneJob>) -> Result<
 
 /// Appends a line for each command of a job.
 fn push_job(text: &mut String, job: &Job, done: DoneJob) -> Result<(), NoMemory>
+    requires { IsForEach job.now.body done.statuses }
     ensures { OnOk result (string_bytes text.new ≡ string_bytes text.old ++ body_lines job.now.host job.now.body done) }
 {
     let completions = Completions::of(job, done.statuses, done.payload);

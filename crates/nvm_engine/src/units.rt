@@ -25,7 +25,7 @@ use nvm_plan::laws::{
     answers_of_the_step_are_replies, outcomes_are_made_part_by_part, outcomes_by_plan,
     parts_of_jobs, ready_jobs,
 };
-use nvm_plan::{Body, Job, LentPart, Plan, job_part_in, job_pieces, plan};
+use nvm_plan::{Body, Job, LentPart, Plan, job_part_in, job_units, plan};
 use nvm_record::{NoMemory, Op};
 use nvm_store::UnitBlocks;
 use nvm_store::laws::acts_and_looks;
@@ -75,32 +75,32 @@ impl Units {
         }
     }
 
-    /// Does the parts of a job, up to the first that isn't successful.
+    /// Does the parts of a job, up to the first that isn't successful. One without parts succeeds.
     fn do_parts(&mut self, alloc: Global, number: u32, job: &Job) -> DoneJob
         requires laid { IsLaidOut (setup_of_units self.old) self.old.units.items }
         requires fits { FitsNamespace self.old.geometry job.now }
         requires free { refusal_of self.old.geometry job.now ≡ None }
         ensures laid { IsLaidOut (setup_of_units self.new) self.new.units.items }
         ensures setup { setup_of_units self.new ≡ setup_of_units self.old }
-        ensures parts { (op : Operation) → job_operation_of job.now ≡ Some op
+        ensures parts { (op : Operation) → job_operation_of self.old.geometry job.now ≡ Some op
             → DoesParts (setup_of_units self.old) op self.old.units.items self.new.units.items result }
     {
         laws::pieces_stand_in_line();
+        laws::whole_ranges_are_reached();
         laws::one_unit_is_one_part();
+        laws::parts_keep_their_kind();
         outcomes_are_made_part_by_part();
         ready_jobs();
         parts_of_jobs();
-        laws::parts_keep_their_kind();
         let geometry = self.geometry;
-        let pieces = job_pieces(&geometry, job);
         let Ok(mut bytes) = room(alloc, &geometry, job) else {
             return DoneJob::of_no_part(&job.body);
         };
-        for piece in pieces {
-            let Some(part) = job_part_in(&geometry, job, piece.unit) else {
-                unreachable!("each piece is a part")
+        for unit in job_units(&geometry, job) {
+            let Some(part) = job_part_in(&geometry, job, unit) else {
+                unreachable!("the job has a part in the unit")
             };
-            let told = self.do_part(alloc, number, piece.unit, part);
+            let told = self.do_part(alloc, number, unit, part);
             if let Some(done) = ended(&job.body, told, &mut bytes) {
                 return done;
             }
@@ -143,9 +143,11 @@ impl Units {
 fn room(alloc: Global, geometry: &Geometry, job: &Job) -> Result<Vec<u8>, NoMemory>
     requires { refusal_of geometry.now job.now ≡ None }
     ensures empty { IfOk result (λ bytes. bytes.items ≡ []) }
-    ensures room { IfOk result (λ bytes. (op : Operation) → job_operation_of job.now ≡ Some op → IsTrue (is_read op.deed)
+    ensures room { IfOk result (λ bytes. (op : Operation) → job_operation_of geometry.now job.now ≡ Some op
+        → IsTrue (is_read op.deed)
         → (op.blocks * geometry.now.block_size ≤ vec_capacity bytes) ⊎ LiesInUnit geometry.now op.first op.blocks) }
-    ensures asked { OnErr result ((op : Operation) → job_operation_of job.now ≡ Some op → IsReadOverUnits geometry.now op) }
+    ensures asked { OnErr result ((op : Operation) → job_operation_of geometry.now job.now ≡ Some op
+        → IsReadOverUnits geometry.now op) }
 {
     ready_jobs();
     let Body::Single(command) = &job.body else {

@@ -6,6 +6,9 @@ use std::{fs, io};
 /// The path that stands for standard input, or for standard output.
 const STANDARD: &str = "-";
 
+/// A file is read in chunks of so many bytes.
+const CHUNK: usize = 65_536;
+
 /// Why a file or a standard stream wasn't read, or wasn't written.
 #[derive(Clone, Copy, Debug, PartialEq, Eq)]
 pub enum FileFault {
@@ -48,8 +51,31 @@ fn bytes_of<R: Files + AllocGlobal>(rt: &R, path: &str) -> io::Result<Vec<u8>> {
     let mut file = fs::open(rt, path)?;
     let length = file.metadata()?.len() as usize;
     let mut bytes = Vec::with_capacity(rt.alloc(), length.saturating_add(1))?;
+    push_chunks(rt, &mut file, length, &mut bytes)?;
     file.read_to_end(&mut bytes)?;
     Ok(bytes)
+}
+
+/// Appends what the file gives in as many reads as its length calls for. Each goes through one chunk, since
+/// a read into the room of `bytes` would have it filled with zeroes first. What is left, if the file gives
+/// less in a read or has grown, is left to the caller.
+fn push_chunks<R: AllocGlobal, F: Read>(
+    rt: &R,
+    file: &mut F,
+    length: usize,
+    bytes: &mut Vec<u8>,
+) -> io::Result<()> {
+    let mut chunk = Vec::new(rt.alloc());
+    chunk.resize(length.min(CHUNK), 0)?;
+    for _ in 0..length.div_ceil(CHUNK) {
+        match file.read(&mut chunk) {
+            Ok(0) => return Ok(()),
+            Ok(count) => bytes.extend_from_slice(&chunk[..count])?,
+            Err(error) if error.kind() == ErrorKind::Interrupted => return Ok(()),
+            Err(error) => return Err(error),
+        }
+    }
+    Ok(())
 }
 
 /// Writes bytes to the file at a path, or to standard output where the path is `-`.

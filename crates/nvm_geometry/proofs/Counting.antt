@@ -34,6 +34,32 @@ count_none_pass p a (suc n) fails =
       count_none_pass p (a + 1) n (λ x low high. fails x (omega (arith, low)) (omega (arith, high))),
     )
 
+-- a number that passes is counted
+pub passing_counted : (p : ℕ → Bool) (a n x : ℕ) → p x ≡ true → a ≤ x → x < a + n → 0 < count_by p (range_with_len a n)
+passing_counted p a zero x passes low high = absurd (omega arith)
+passing_counted p a (suc n) x passes low high =
+    elim (cases_eq a x) [
+      | inl e ↦ omega (arith, count_yes p a (range_with_len (a + 1) n) (rw e passes))
+      | inr o ↦
+          let rest = passing_counted p (a + 1) n x passes (omega (arith, o, low)) (omega (arith, high)) in
+          elim (cases_Bool (p a)) [
+            | inl t ↦ omega (arith, count_yes p a (range_with_len (a + 1) n) t)
+            | inr f ↦ omega (arith, rest, count_no p a (range_with_len (a + 1) n) f)
+          ]
+    ]
+
+-- where some are counted, one passes
+pub counted_passes : (p : ℕ → Bool) (a n : ℕ) → 0 < count_by p (range_with_len a n)
+    → (x : ℕ) × (a ≤ x) × (x < a + n) × (p x ≡ true)
+counted_passes p a zero some = absurd (omega (arith, some))
+counted_passes p a (suc n) some =
+    elim (cases_Bool (p a)) [
+      | inl t ↦ (a, omega arith, omega arith, t)
+      | inr f ↦
+          let rest = counted_passes p (a + 1) n (omega (arith, some, count_no p a (range_with_len (a + 1) n) f)) in
+          (rest.0, omega (arith, rest.1), omega (arith, rest.2), rest.3)
+    ]
+
 -- the first n of m numbers pass, and the others are counted
 pub count_front_passes : (p : ℕ → Bool) (a n m b k : ℕ) → m ≡ n + k → b ≡ a + n → ((x : ℕ) → a ≤ x → x < a + n → p x ≡ true)
     → count_by p (range_with_len a m) ≡ n + count_by p (range_with_len b k)

@@ -3,6 +3,7 @@ pub mod UnitOrder
 pub mod Counting
 pub mod Pieces
 pub mod Places
+pub mod Reached
 pub mod OneUnit
 pub mod PartsMedium
 pub mod Success
@@ -10,3 +11,4 @@ pub mod PartsSuccess
 pub mod PartsData
 pub mod InLine
 pub mod UnitPlaces
+pub mod Deallocations

@@ -7,13 +7,14 @@ use Rattle.nvm_record.specs.declared.block.Block.{Block}
 use Rattle.nvm_record.specs.declared.block.Block.TheVariants.{Bytes, Uncorrectable}
 use Rattle.nvm_record.specs.Medium.{Medium, range, has_mark, bytes_of, joined}
 use Rattle.nvm_record.specs.Step.{Operation, reads, data_on, data_of}
-use Rattle.nvm_record.specs.Deeds.{IsLook}
+use Rattle.nvm_record.specs.Deeds.{IsLook, IsOnRange}
 use Rattle.nvm_geometry.specs.Namespace.{Namespace}
 use Rattle.nvm_geometry.specs.Boundaries.{units_of}
-use Rattle.nvm_geometry.specs.Parts.{blocks_below, blocks_in, units_of_range, units_where, part_in}
+use Rattle.nvm_geometry.specs.Parts.{blocks_below, blocks_in, reached_in, units_met, units_where, part_in}
 use Rattle.nvm_geometry.specs.Turns.{IsOrderOf, data_of_part, both_data, joined_data}
 use Rattle.nvm_geometry.proofs.Counting.{count_no}
 use Rattle.nvm_geometry.proofs.Places.{blocks_below_next, blocks_below_first, blocks_below_all}
+use Rattle.nvm_geometry.proofs.Reached.{reached_all}
 use Rattle.nvm_geometry.proofs.PartsMedium.{met_among}
 use Rattle.nvm_geometry.proofs.PartsSuccess.{part_unchanged}
 
@@ -107,15 +108,21 @@ answer_is ns op (u ∷ units) m unit look some =
     ]
 
 pub parts_data : (ns : Namespace) (op : Operation) (units : List ℕ) (m : Medium) → op.deed ≡ reads → op.first + op.blocks ≤ ns.nsze → IsOrderOf ns op units
-    → joined_data (data_of_part ns op units m) (units_of_range ns op.first op.blocks) ≡ data_of op m
+    → joined_data (data_of_part ns op units m) (units_met ns op) ≡ data_of op m
 unfolding units_where
 parts_data ns op units m is_read fits order =
     let look : IsLook op.deed = rw is_read refl in
-    joined_kept (λ u. nat_lt 0 (blocks_in ns op.first op.blocks u)) (data_of_part ns op units m) (read_part ns m op.first op.blocks) 0 (units_of ns)
+    let all : IsOnRange op.deed = rw is_read refl in
+    joined_kept (λ u. nat_lt 0 (reached_in ns op u)) (data_of_part ns op units m) (read_part ns m op.first op.blocks) 0
+    (units_of ns)
     (λ u below t.
-    answer_is ns op units m u look (met_among ns op units u order (ltb-true 0 (blocks_in ns op.first op.blocks u) t) (omega (arith, below)))
+    answer_is ns op units m u look
+    (met_among ns op units u order (ltb-true 0 (reached_in ns op u) t) (omega (arith, below)))
     ∙ rw is_read refl)
-    (λ u f. let none : blocks_in ns op.first op.blocks u ≡ 0 = omega (arith, ltb-false 0 (blocks_in ns op.first op.blocks u) f) in rw none refl)
+    (λ u f.
+    let none : blocks_in ns op.first op.blocks u ≡ 0 =
+    omega (arith, ltb-false 0 (reached_in ns op u) f, reached_all ns op u all) in
+    rw none refl)
     ∙ joined_run ns m op.first op.blocks 0 (units_of ns) (units_of ns) op.blocks (omega arith)
     (omega (arith, blocks_below_first ns op.first op.blocks, blocks_below_all ns op.first op.blocks fits))
     ∙ rw (blocks_below_first ns op.first op.blocks, add-zero op.first, is_read) refl

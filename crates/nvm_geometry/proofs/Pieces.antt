@@ -1,6 +1,6 @@
 -- The pieces of a range: none of an empty one, and else the LBAs up to the end of the first unit,
 -- and then the pieces of the rest.
-use Rattle.std.proofs.Common.{◌≡◌, ℕ, zero, suc, ◌+◌, ◌-◌, ◌<◌, ◌≤◌, min, false, inl, inr, List, [], ◌∷◌, map, refl, sym, ap, ◌∙◌, add-zero, add_assoc, arith}
+use Rattle.std.proofs.Common.{◌≡◌, ℕ, zero, suc, ◌+◌, ◌-◌, ◌<◌, ◌≤◌, min, Bool, true, false, inl, inr, List, [], ◌∷◌, map, refl, sym, ap, ◌∙◌, add-zero, add_assoc, arith}
 use Rattle.std.specs.Prelude.{filter, nat_lt, ◌==◌}
 use Rattle.std.specs.List.{range_with_len}
 use Rattle.std.proofs.lemmas.Bool.{lt-ltb, le-ltb, eq-eqb, ne_eqb, cases_eq}
@@ -140,6 +140,29 @@ units_front ns at left n unit front known =
     (λ v above. refl)
     (omega arith) (omega (arith, known))
     ∙ rw (map_same (filter (λ v. nat_lt 0 (blocks_in ns (at + n) (left - n) v)) (range_with_len 0 (units_of ns)))) refl
+
+-- the first number that passes, and then what another test keeps that agrees above it
+pub kept_first : (p q : ℕ → Bool) (n u : ℕ) → ((x : ℕ) → x < u → p x ≡ false) → p u ≡ true
+    → ((x : ℕ) → x ≤ u → q x ≡ false)
+    → ((x : ℕ) → u < x → p x ≡ q x) → u < n
+    → filter p (range_with_len 0 n) ≡ u ∷ filter q (range_with_len 0 n)
+kept_first p q n u fails passes none same below =
+    sym (map_same (filter p (range_with_len 0 n)))
+    ∙ kept_from p q (λ v. v) (λ v. v) 0 n u fails passes none same (λ v above. refl) (omega arith)
+    (omega (arith, below))
+    ∙ ap (λ vs. u ∷ vs) (map_same (filter q (range_with_len 0 n)))
+
+pub filter_none : (xs : List ℕ) → filter (λ _. false) xs ≡ []
+filter_none [] = refl
+filter_none (x ∷ xs) = filter_none xs
+
+-- where one number alone passes, it alone is kept
+pub kept_one : (p : ℕ → Bool) (n u : ℕ) → p u ≡ true → u < n → ((v : ℕ) → (v ≡ u → ⊥) → p v ≡ false)
+    → filter p (range_with_len 0 n) ≡ u ∷ []
+kept_one p n u passes below fails =
+    kept_first p (λ _. false) n u (λ v low. fails v (λ e. omega (arith, low, e))) passes (λ v low. refl)
+    (λ v above. fails v (λ e. omega (arith, above, e))) below
+    ∙ ap (λ vs. u ∷ vs) (filter_none (range_with_len 0 n))
 
 -- the units of an empty range
 pub units_none : (ns : Namespace) (at : ℕ) → units_of_range ns at 0 ≡ []

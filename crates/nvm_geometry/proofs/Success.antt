@@ -9,7 +9,7 @@ use Rattle.nvm_record.specs.declared.block.Block.TheVariants.{Bytes, Uncorrectab
 use Rattle.nvm_record.specs.declared.status.Status.{Status}
 use Rattle.nvm_record.specs.Status.{IsSuccess, successful_completion, unrecovered_read_error, compare_failure}
 use Rattle.nvm_record.specs.Medium.{Medium, range, is_marked, has_mark, bytes_of, joined, IsOfSize, HasBlockSize}
-use Rattle.nvm_record.specs.Step.{HasData, Deed, writes, zeroes, uncorrectable, reads, compares, pairs, statuses_on}
+use Rattle.nvm_record.specs.Step.{HasData, Deed, writes, zeroes, uncorrectable, reads, compares, pairs, deallocates, statuses_on}
 use Rattle.nvm_record.specs.Deeds.{IsSingle}
 
 -- The block at place i of the range lets the command succeed.
@@ -20,6 +20,7 @@ IsGood size uncorrectable i b = Unit {0}
 IsGood size reads i b = is_marked b ≡ false
 IsGood size (compares payload) i b = (is_marked b ≡ false) × (bytes_of b ≡ take size (drop (i * size) payload))
 IsGood size (pairs payload new) i b = ⊥
+IsGood size (deallocates ranges) i b = Unit {0}
 
 -- each block of the n from `first` is unmarked
 unmarked_at : (m : Medium) (first n i : ℕ) → has_mark (range m first n) ≡ false → i < n → is_marked (m (first + i)) ≡ false
@@ -107,6 +108,7 @@ good_from_success size m first n (compares payload) single holds success i insid
           ]
     ]
 good_from_success size m first n (pairs payload new) single holds success i inside = absurd (cc single)
+good_from_success size m first n (deallocates ranges) single holds success i inside = tt
 
 -- and where each is, the command succeeds
 pub success_from_good : (size : ℕ) (m : Medium) (first n : ℕ) (deed : Deed) → IsSingle deed → HasData (n * size) deed
@@ -119,3 +121,4 @@ success_from_good size m first n (compares payload) single has good =
     let same = joined_from size m first n payload has (λ i inside. (good i inside).1) in
     rw (unmarked_from m first n (λ i inside. (good i inside).0), (bytes_eq-Decides (joined (range m first n)) payload).1 same) refl
 success_from_good size m first n (pairs payload new) single has good = absurd (cc single)
+success_from_good size m first n (deallocates ranges) single has good = refl

@@ -1,21 +1,25 @@
 -- Where units lie, and where an operation's parts lie in them.
-use Rattle.std.proofs.Common.{◌≡◌, ◌↔◌, ℕ, zero, suc, ◌+◌, ◌*◌, ◌-◌, ◌<◌, ◌≤◌, min, max, Bool, true, false, List, [], ◌∷◌, length, drop, inl, inr, arith}
-use Rattle.std.specs.Prelude.{Contains, filter, nat_lt}
+use Rattle.std.proofs.Common.{◌≡◌, ◌↔◌, ℕ, zero, suc, ◌+◌, ◌*◌, ◌-◌, ◌<◌, ◌≤◌, min, max, Bool, true, false, List, [], ◌∷◌, length, drop, inl, inr, refl, sym, ap, ◌∙◌, IsTrue, arith}
+use Rattle.std.specs.Prelude.{◌≢◌, All, Contains, filter, nat_lt}
 use Rattle.std.specs.List.{range_with_len}
-use Rattle.std.proofs.lemmas.Bool.{cases_Bool, cases_lt, cases_eq, le-ltb, lt-ltb, ltb-true}
+use Rattle.std.proofs.Math.Path.{fun_ext}
+use Rattle.std.proofs.lemmas.Bool.{cases_Bool, cases_lt, cases_eq, le-ltb, lt-ltb, ltb-true, false≢true}
 use Rattle.std.proofs.lemmas.List.{length-drop, length-take-le}
-use Rattle.std.proofs.lemmas.List.Elements.{All-contains, filter_passes, Contains-append_left, Contains-append_right, Contains-push}
+use Rattle.std.proofs.lemmas.List.Elements.{All-nil, All-cons, All-contains, All-filter, filter_passes, Contains-append_left, Contains-append_right, Contains-push}
 use Rattle.std.proofs.lemmas.List.FromFn.{length-range_with_len}
 use Rattle.std.proofs.lemmas.List.Sums.{count_by-le-length, length-filter}
 use Rattle.std.proofs.Math.Nat.{mul-le-mul_right}
-use Rattle.nvm_record.specs.Step.{HasData, Deed, Operation, writes, zeroes, uncorrectable, reads, compares, pairs}
+use Rattle.nvm_record.specs.Deeds.{IsOnRange}
+use Rattle.nvm_record.specs.Step.{HasData, Deed, Operation, writes, zeroes, uncorrectable, reads, compares, pairs, deallocates, HasRangesWithin, reaches}
 use Rattle.nvm_geometry.specs.Namespace.{Namespace}
 use Rattle.nvm_geometry.specs.Boundaries.{unit_number, units_of}
-use Rattle.nvm_geometry.specs.Parts.{blocks_below, blocks_in, units_of_range, units_where, units_met, piece_in, data_part, deed_part, part_in}
+use Rattle.nvm_geometry.specs.Parts.{blocks_below, blocks_in, reached_in, units_of_range, units_where, meets, units_met, piece_in, data_part, deed_part, part_in}
 use Rattle.nvm_geometry.specs.Place.{IsPlaceOf}
 use Rattle.nvm_geometry.proofs.UnitOrder.{count_none, count_rises, number_reached, range_some, unit_below}
 use Rattle.nvm_geometry.proofs.Counting.{count_none_pass, count_front_passes, count_front_fails}
+use Rattle.nvm_geometry.proofs.Pieces.{filter_none}
 use Rattle.nvm_geometry.proofs.Places.{part_inside, place_in, place_here}
+use Rattle.nvm_geometry.proofs.Reached.{lba_reached, reached_all, reached_block, reached_known, reached_some, some_reached}
 
 -- the place of a unit between the first LBA of its own and the first of the next
 pub place_from_starts : (ns : Namespace) (unit first next : ℕ) → 0 < ns.nsze → unit < units_of ns
@@ -155,19 +159,28 @@ contains_kept p a (suc n) u passes low high =
           ]
     ]
 
--- a range meets the units in which it has a block
-pub unit_is_met : (ns : Namespace) (first blocks unit : ℕ) → first + blocks ≤ ns.nsze
-    → Contains (units_of_range ns first blocks) unit ↔ (0 < blocks_in ns first blocks unit)
+-- and each that is kept is a number of the range
+kept_below : (p : ℕ → Bool) (n u : ℕ) → Contains (filter p (range_with_len 0 n)) u → u < n
+kept_below p n u kept =
+    All-contains (λ v. v < n) (filter p (range_with_len 0 n)) u
+    (All-filter p (λ v. v < n) (range_with_len 0 n) (numbers_below 0 n n (omega arith))) kept
+  where
+    numbers_below : (a n end : ℕ) → a + n ≤ end → All (λ v. v < end) (range_with_len a n)
+    numbers_below a zero end few = All-nil (λ v. v < end)
+    numbers_below a (suc n) end few =
+        All-cons (λ v. v < end) a (range_with_len (a + 1) n) (omega (arith, few))
+        (numbers_below (a + 1) n end (omega (arith, few)))
+
+-- an operation meets the units in which it reaches an LBA
+pub unit_is_met : (ns : Namespace) (op : Operation) (unit : ℕ) → op.first + op.blocks ≤ ns.nsze
+    → Contains (units_met ns op) unit ↔ (0 < reached_in ns op unit)
 unfolding units_where
-unit_is_met ns first blocks unit inside = (
-  (λ h. ltb-true 0 (blocks_in ns first blocks unit)
-      (All-contains (λ v. nat_lt 0 (blocks_in ns first blocks v) ≡ true) _ unit
-      (filter_passes (λ v. nat_lt 0 (blocks_in ns first blocks v)) (range_with_len 0 (units_of ns))) h)),
-  (λ some. contains_kept (λ v. nat_lt 0 (blocks_in ns first blocks v)) 0 (units_of ns) unit (lt-ltb _ _ some) (omega arith)
-      (elim (cases_lt unit (units_of ns)) [
-        | inl l ↦ omega (arith, l)
-        | inr h ↦ absurd (omega (arith, some, no_unit ns first blocks unit inside h))
-      ])),
+unit_is_met ns op unit inside = (
+  (λ h. ltb-true 0 (reached_in ns op unit)
+      (All-contains (λ v. nat_lt 0 (reached_in ns op v) ≡ true) _ unit
+      (filter_passes (λ v. nat_lt 0 (reached_in ns op v)) (range_with_len 0 (units_of ns))) h)),
+  (λ some. contains_kept (λ v. nat_lt 0 (reached_in ns op v)) 0 (units_of ns) unit (lt-ltb _ _ some) (omega arith)
+      (omega (arith, reached_known ns op unit inside some))),
 )
 
 -- data of so many blocks has that of each part
@@ -178,28 +191,83 @@ data_part_length size n skipped blocks payload long few =
     let split : (skipped + blocks) * size ≡ skipped * size + blocks * size = omega arith in
     length-take-le (blocks * size) (drop (skipped * size) payload) (omega (arith, length-drop (skipped * size) payload))
 
-part_data : (size n skipped blocks : ℕ) (deed : Deed) → HasData (n * size) deed → skipped + blocks ≤ n
-    → HasData (blocks * size) (deed_part size skipped blocks deed)
-part_data size n skipped blocks (writes payload) has few = data_part_length size n skipped blocks payload has few
-part_data size n skipped blocks zeroes has few = tt
-part_data size n skipped blocks uncorrectable has few = tt
-part_data size n skipped blocks reads has few = tt
-part_data size n skipped blocks (compares payload) has few = data_part_length size n skipped blocks payload has few
-part_data size n skipped blocks (pairs payload new) has few =
+part_data : (size n first skipped blocks : ℕ) (deed : Deed) → HasData (n * size) deed → skipped + blocks ≤ n
+    → HasData (blocks * size) (deed_part size first skipped blocks deed)
+part_data size n first skipped blocks (writes payload) has few = data_part_length size n skipped blocks payload has few
+part_data size n first skipped blocks zeroes has few = tt
+part_data size n first skipped blocks uncorrectable has few = tt
+part_data size n first skipped blocks reads has few = tt
+part_data size n first skipped blocks (compares payload) has few =
+    data_part_length size n skipped blocks payload has few
+part_data size n first skipped blocks (pairs payload new) has few =
     (data_part_length size n skipped blocks payload has.0 few, data_part_length size n skipped blocks new has.1 few)
+part_data size n first skipped blocks (deallocates ranges) has few = tt
 
 pub part_has_data : (ns : Namespace) (op : Operation) (unit : ℕ) → HasData (op.blocks * ns.block_size) op.deed
     → HasData ((part_in ns op unit).blocks * ns.block_size) (part_in ns op unit).deed
 part_has_data ns op unit has =
-    part_data ns.block_size op.blocks (blocks_below ns op.first op.blocks unit) (blocks_in ns op.first op.blocks unit) op.deed has
+    part_data ns.block_size op.blocks op.first (blocks_below ns op.first op.blocks unit)
+    (blocks_in ns op.first op.blocks unit) op.deed has
     (part_inside ns op.first op.blocks unit)
 
-pub op_is_met : (ns : Namespace) (op : Operation) (unit : ℕ) → op.first + op.blocks ≤ ns.nsze
+pub lba_is_met : (ns : Namespace) (op : Operation) (unit : ℕ) → op.first + op.blocks ≤ ns.nsze
+    → Contains (units_met ns op) unit ↔ ((lba : ℕ) × (reaches op lba ≡ true) × (unit_number ns lba ≡ unit))
+lba_is_met ns op unit inside = (
+  (λ met. some_reached ns op unit ((unit_is_met ns op unit inside).0 met)),
+  (λ found. (unit_is_met ns op unit inside).1 (reached_some ns op unit found.0 found.1 found.2)),
+)
+
+pub test_is_met : (ns : Namespace) (op : Operation) (unit : ℕ) → op.first + op.blocks ≤ ns.nsze
+    → Contains (units_met ns op) unit ↔ IsTrue (meets ns op unit)
+test_is_met ns op unit inside = (
+  (λ met. lt-ltb 0 (reached_in ns op unit) ((unit_is_met ns op unit inside).0 met)),
+  (λ test. (unit_is_met ns op unit inside).1 (ltb-true 0 (reached_in ns op unit) test)),
+)
+
+-- the units met are units of the namespace
+pub met_known : (ns : Namespace) (op : Operation) (unit : ℕ) → Contains (units_met ns op) unit → unit < units_of ns
+unfolding units_where
+met_known ns op unit met = kept_below (λ v. nat_lt 0 (reached_in ns op v)) (units_of ns) unit met
+
+-- there is one where an LBA is reached
+pub units_some : (ns : Namespace) (op : Operation) → 0 < op.blocks → op.first + op.blocks ≤ ns.nsze
+    → HasRangesWithin op.first op.blocks op.deed → units_met ns op ≢ []
+units_some ns op some inside within none =
+    let found = lba_reached op some within in
+    let met : Contains (units_met ns op) (unit_number ns found.0) =
+    (lba_is_met ns op (unit_number ns found.0) inside).1 (found.0, found.1, refl) in
+    omega (arith, met.1, ap length none)
+
+-- and none where none is
+pub units_unmet : (ns : Namespace) (op : Operation) → ((lba : ℕ) → reaches op lba ≡ false) → units_met ns op ≡ []
+unfolding units_where
+units_unmet ns op unreached =
+    ap (λ test. units_where ns test) (fun_ext (λ unit. le-ltb 0 (reached_in ns op unit)
+    (elim (cases_lt 0 (reached_in ns op unit)) [
+      | inl l ↦ let found = some_reached ns op unit l in absurd (false≢true (sym (unreached found.0) ∙ found.1))
+      | inr h ↦ h
+    ])))
+    ∙ filter_none (range_with_len 0 (units_of ns))
+
+-- in a unit that isn't met nothing is reached
+pub lba_unmet : (ns : Namespace) (op : Operation) (lba : ℕ) → op.first + op.blocks ≤ ns.nsze
+    → ¬ (Contains (units_met ns op) (unit_number ns lba)) → reaches op lba ≡ false
+lba_unmet ns op lba inside unmet =
+    elim (cases_Bool (reaches op lba)) [
+      | inl t ↦ absurd (unmet ((lba_is_met ns op (unit_number ns lba) inside).1 (lba, t, refl)))
+      | inr f ↦ f
+    ]
+
+-- a deed on its range meets those in which its part has a block
+pub block_is_met : (ns : Namespace) (op : Operation) (unit : ℕ) → IsOnRange op.deed → op.first + op.blocks ≤ ns.nsze
     → Contains (units_met ns op) unit ↔ (0 < (part_in ns op unit).blocks)
-op_is_met ns op unit inside = unit_is_met ns op.first op.blocks unit inside
+block_is_met ns op unit all inside = (
+  (λ met. reached_block ns op unit ((unit_is_met ns op unit inside).0 met)),
+  (λ some. (unit_is_met ns op unit inside).1 (omega (arith, some, reached_all ns op unit all))),
+)
 
 -- a unit in which the range has a block lies between those of its first and its last LBA
-between_units : (ns : Namespace) (first blocks unit : ℕ) → 0 < blocks_in ns first blocks unit
+pub between_units : (ns : Namespace) (first blocks unit : ℕ) → 0 < blocks_in ns first blocks unit
     → (unit_number ns first ≤ unit) × (unit ≤ unit_number ns (first + blocks - 1))
 between_units ns first blocks unit some =
     let lba = first + (blocks_below ns first blocks unit + 0) in
@@ -210,7 +278,7 @@ between_units ns first blocks unit some =
     )
 
 -- a unit between them has one
-unit_between : (ns : Namespace) (first blocks unit : ℕ) → 0 < blocks → unit_number ns first ≤ unit
+pub unit_between : (ns : Namespace) (first blocks unit : ℕ) → 0 < blocks → unit_number ns first ≤ unit
     → unit ≤ unit_number ns (first + blocks - 1) → 0 < blocks_in ns first blocks unit
 unit_between ns first blocks unit some low high =
     let r = number_reached ns unit (first + blocks - 1) high in
@@ -256,10 +324,10 @@ units_counted ns first blocks some inside =
       known,
     )
 
-pub units_few : (ns : Namespace) (first blocks : ℕ) → length (units_of_range ns first blocks) ≤ units_of ns
+pub units_few : (ns : Namespace) (op : Operation) → length (units_met ns op) ≤ units_of ns
 unfolding units_where
-units_few ns first blocks =
-    let meets : ℕ → Bool = λ v. nat_lt 0 (blocks_in ns first blocks v) in
+units_few ns op =
+    let meets : ℕ → Bool = λ v. nat_lt 0 (reached_in ns op v) in
     omega (
       arith,
       length-filter meets (range_with_len 0 (units_of ns)),

@@ -5,3 +5,5 @@ pub mod Limits
 pub mod Place
 pub mod Parts
 pub mod Turns
+pub mod Lowest
+pub mod Deallocation

@@ -3,6 +3,7 @@
 #![tactic(auto)]
 
 mod boundaries;
+mod deallocation;
 mod geometry;
 mod geometry_fault;
 pub mod laws;

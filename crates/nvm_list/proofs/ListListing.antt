@@ -1,22 +1,25 @@
 -- Commands that are listed are read again, line by line.
-use Rattle.std.proofs.Common.{◌≡◌, ℕ, ◌+◌, ◌≤◌, nat_le, List, [], ◌∷◌, ◌++◌, length, drop, All, Option, Some, Result, Ok, Err, refl, sym, ap, ◌∙◌, subst, arith}
+use Rattle.std.proofs.Common.{◌≡◌, ℕ, ◌+◌, ◌<◌, ◌≤◌, nat_le, List, [], ◌∷◌, ◌++◌, length, drop, All, Option, Some, Result, Ok, Err, refl, sym, ap, ◌∙◌, subst, arith}
 use Rattle.std.specs.List.{AllByRecursion}
 use Rattle.std.proofs.lemmas.Bool.{le-leb, cond-true}
 use Rattle.std.proofs.lemmas.List.{append-nil, drop_all}
-use Rattle.std.proofs.lemmas.List.Elements.{recursion_from_All}
+use Rattle.std.proofs.lemmas.List.Elements.{All-from_recursion, recursion_from_All}
 use Rattle.nvm_record.specs.BlockSize.{IsBlockSize}
 use Rattle.nvm_record.specs.Entry.{IsWhole}
+use Rattle.nvm_record.specs.Ranges.{FitsItsBytes, ranges_of}
 use Rattle.nvm_record.specs.declared.command.Command.{Command}
 use Rattle.nvm_text.specs.Runs.{RunsAreLongest}
 use Rattle.nvm_text.specs.Lines.{name_of}
 use Rattle.nvm_list.specs.Words.{text_lines, words}
 use Rattle.nvm_list.specs.Lines.{command}
 use Rattle.nvm_list.specs.Lists.{at_line, on_line, in_front, followed_by, commands_from, commands}
-use Rattle.nvm_list.specs.Inside.Ranges.{HasValuesInRange}
+use Rattle.nvm_list.specs.Inside.Values.{HasValuesInRange}
 use Rattle.nvm_list.specs.Listing.{behind_spaces, listing_from, listing}
 use Rattle.nvm_list.specs.declared.expected.Expected.TheVariants.{NoMoreCommands}
 use Rattle.nvm_list.specs.declared.fault.ListFault.{ListFault}
 use Rattle.nvm_list.proofs.PlainText.{line_words_again, lines_again}
+use Rattle.nvm_list.proofs.ByteValues.{bytes_from}
+use Rattle.nvm_list.proofs.RangeLaws.{RangesFit}
 use Rattle.nvm_list.proofs.CommandListing.{IsListable, words_behind, command_again, name_is_word, behind_are_words}
 
 -- the line without its end
@@ -35,13 +38,15 @@ read_from size line place (c ∷ cs) longest valid h few =
     ∙ ap (λ (r : Result (Option Command) ListFault). followed_by r place (λ next. commands_from size (line + 1) next (text_lines (listing_from (place + 1) cs)))) (line_read size line place c longest valid h.0 (omega arith))
     ∙ ap (in_front c) (read_from size (line + 1) (place + 1) cs longest valid h.1 (omega arith))
 
-listable : (size : ℕ) (cs : List Command) → AllByRecursion (IsWhole size) cs → AllByRecursion HasValuesInRange cs → AllByRecursion (IsListable size) cs
-listable size [] h k = tt
-listable size (c ∷ cs) h k = (record { whole = h.0; range = k.0 }, listable size cs h.1 k.1)
+listable : (size : ℕ) (cs : List Command) → RangesFit → AllByRecursion (IsWhole size) cs → AllByRecursion HasValuesInRange cs → AllByRecursion (IsListable size) cs
+listable size [] fit h k = tt
+listable size (c ∷ cs) fit h k =
+    let bytes : All (λ b. b < 256) c.payload = All-from_recursion (λ b. b < 256) c.payload (bytes_from c.payload k.0.bytes) in
+    (record { whole = h.0; range = k.0; ranges = recursion_from_All FitsItsBytes (ranges_of c.payload) (fit c.payload bytes) }, listable size cs fit h.1 k.1)
 
-pub read_again : (size : ℕ) (cs : List Command) (text : List ℕ) → text ≡ listing cs → RunsAreLongest → AllByRecursion HasValuesInRange cs → IsBlockSize size → All (IsWhole size) cs → length cs ≤ 65536 → commands size text ≡ Ok cs
-read_again size cs text e longest ranges valid whole few =
-    ap (commands size) e ∙ read_from size 1 1 cs longest valid (listable size cs (recursion_from_All (IsWhole size) cs whole) ranges) (omega arith)
+pub read_again : (size : ℕ) (cs : List Command) (text : List ℕ) → text ≡ listing cs → RunsAreLongest → RangesFit → AllByRecursion HasValuesInRange cs → IsBlockSize size → All (IsWhole size) cs → length cs ≤ 65536 → commands size text ≡ Ok cs
+read_again size cs text e longest fit ranges valid whole few =
+    ap (commands size) e ∙ read_from size 1 1 cs longest valid (listable size cs fit (recursion_from_All (IsWhole size) cs whole) ranges) (omega arith)
 
 -- one command more is listed
 pub in_range_more : (c : Command) (cs : List Command) (i : ℕ) → drop i cs ≡ c ∷ drop (i + 1) cs → HasValuesInRange c

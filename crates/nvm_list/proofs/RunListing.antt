@@ -1,19 +1,20 @@
 -- Data that is printed as runs is read again.
-use Rattle.std.proofs.Common.{◌≡◌, ℕ, zero, suc, ◌+◌, ◌^◌, ◌<◌, ◌≤◌, ◌==◌, false, List, [], ◌∷◌, ◌++◌, map, length, take, drop, codes, decimal, replicate, All, Option, Some, None, Ok, refl, sym, ap, ◌∙◌, subst, append_assoc, arith}
-use Rattle.std.specs.List.{slice_split, position_or_len, before_first, after_first, AllByRecursion}
-use Rattle.std.proofs.lemmas.Bool.{ne_eqb, eq-eqb, cond-true}
+use Rattle.std.proofs.Common.{◌≡◌, ℕ, zero, suc, ◌+◌, ◌^◌, ◌<◌, ◌==◌, false, List, [], ◌∷◌, ◌++◌, map, length, codes, decimal, replicate, All, Option, Some, None, Ok, refl, sym, ap, ◌∙◌, subst, arith}
+use Rattle.std.specs.List.{before_first, after_first, AllByRecursion}
+use Rattle.std.proofs.lemmas.Bool.{eq-eqb, cond-true}
 use Rattle.std.proofs.lemmas.Fmt.{decimal_nonempty}
-use Rattle.std.proofs.lemmas.List.{append-nil, length-append, take_at, drop_at, get_or_append_left, get_or_at}
-use Rattle.std.proofs.lemmas.List.Elements.{All-from_recursion, All-get_or}
-use Rattle.std.proofs.lemmas.List.Splits.{slice_split_at, slice_split_none}
-use Rattle.std.proofs.lemmas.List.Sums.{position_or_len_is}
+use Rattle.std.proofs.lemmas.List.{length-append}
+use Rattle.std.proofs.lemmas.List.Elements.{All-from_recursion}
 use Rattle.nvm_text.specs.Runs.{Run, run_of, runs, written_out, AreNonempty, AreLongestRuns}
 use Rattle.nvm_text.specs.Lines.{hex2, run_text, more_runs_text, runs_text}
 use Rattle.nvm_list.specs.Words.{is}
 use Rattle.nvm_list.specs.Numbers.{number, hex_byte}
-use Rattle.nvm_list.specs.Data.{run_from, read_run, with_run, read_runs, total, data_of_runs, data_by, payload}
+use Rattle.nvm_list.specs.Commas.{read_parts, behind_commas}
+use Rattle.nvm_list.specs.Data.{run_from, read_run, total, data_of_runs, data_by, payload}
 use Rattle.nvm_list.proofs.PlainText.{IsPlain, IsPlainWord, both}
 use Rattle.nvm_list.proofs.NumberListing.{decimal_high, high_plain, number_again, hex_again, hex_high}
+use Rattle.nvm_list.proofs.ByteValues.{AreBytes}
+use Rattle.nvm_list.proofs.PartListing.{HasNoComma, before_at, after_at, high_none, parts_again}
 use Rattle.nvm_list.proofs.ReadWhole.{length_written}
 
 -- a run that can be read
@@ -23,29 +24,6 @@ pub record IsReadable (r : Run) : Type 0 where
   pub byte : r.byte < 256
 
 -- ---- one run
-
--- the first of a byte stands behind what has none of it
-place_at : (byte : ℕ) (xs ys : List ℕ) → All (λ b. is byte b ≡ false) xs → position_or_len (is byte) (xs ++ byte ∷ ys) ≡ length xs
-place_at byte xs ys h =
-    position_or_len_is (is byte) (xs ++ byte ∷ ys) (length xs) 0 (omega (arith, length-append {A = ℕ}))
-    (λ k lt. ap (is byte) (get_or_append_left xs (byte ∷ ys) 0 k lt) ∙ All-get_or (λ b. is byte b ≡ false) xs k 0 lt h)
-    (λ lt. ap (is byte) (get_or_at xs byte ys 0 (length xs) refl) ∙ eq-eqb byte byte refl)
-
-before_at : (byte : ℕ) (xs ys : List ℕ) → All (λ b. is byte b ≡ false) xs → before_first (is byte) (xs ++ byte ∷ ys) ≡ xs
-before_at byte xs ys h = ap (λ (n : ℕ). take n (xs ++ byte ∷ ys)) (place_at byte xs ys h) ∙ take_at xs (byte ∷ ys) (length xs) refl
-
-behind_one : (byte : ℕ) (xs ys : List ℕ) → drop (length xs + 1) (xs ++ byte ∷ ys) ≡ ys
-behind_one byte xs ys =
-    let regrouped : xs ++ byte ∷ ys ≡ (xs ++ byte ∷ []) ++ ys = sym (append_assoc xs (byte ∷ []) ys) in
-    let long : length (xs ++ byte ∷ []) ≡ length xs + 1 = omega (arith, length-append xs (byte ∷ [])) in
-    ap (drop (length xs + 1)) regrouped ∙ drop_at (xs ++ byte ∷ []) ys (length xs + 1) long
-
-after_at : (byte : ℕ) (xs ys : List ℕ) → All (λ b. is byte b ≡ false) xs → after_first (is byte) (xs ++ byte ∷ ys) ≡ ys
-after_at byte xs ys h = ap (λ (n : ℕ). drop (n + 1) (xs ++ byte ∷ ys)) (place_at byte xs ys h) ∙ behind_one byte xs ys
-
-high_none : (byte : ℕ) (xs : List ℕ) → byte < 48 → AllByRecursion (λ b. 48 ≤ b) xs → AllByRecursion (λ b. is byte b ≡ false) xs
-high_none byte [] low h = tt
-high_none byte (b ∷ xs) low h = let high : 48 ≤ b = h.0 in (ne_eqb b byte (λ e. absurd (omega arith)), high_none byte xs low h.1)
 
 run_is : (count byte : ℕ) → 0 < count → run_from (Some count) (Some byte) ≡ Some (run_of count byte)
 run_is zero byte some = absurd (omega arith)
@@ -63,18 +41,26 @@ run_again r h =
 pub run_plain : (r : Run) → IsReadable r → AllByRecursion IsPlain (run_text r)
 run_plain r h = both IsPlain (decimal r.count) (codes "*" ++ hex2 r.byte) (high_plain (decimal r.count) (decimal_high r.count h.fits)) (omega arith, high_plain (hex2 r.byte) (hex_high r.byte h.byte))
 
-no_comma : (r : Run) → IsReadable r → All (λ b. is 44 b ≡ false) (run_text r)
-no_comma r h = All-from_recursion (λ b. is 44 b ≡ false) (run_text r)
-    (both (λ b. is 44 b ≡ false) (decimal r.count) (codes "*" ++ hex2 r.byte) (high_none 44 (decimal r.count) (omega arith) (decimal_high r.count h.fits)) (refl, high_none 44 (hex2 r.byte) (omega arith) (hex_high r.byte h.byte)))
+no_comma : (r : Run) → IsReadable r → HasNoComma (run_text r)
+no_comma r h =
+    both (λ b. is 44 b ≡ false) (decimal r.count) (codes "*" ++ hex2 r.byte) (high_none 44 (decimal r.count) (omega arith) (decimal_high r.count h.fits)) (refl, high_none 44 (hex2 r.byte) (omega arith) (hex_high r.byte h.byte))
 
-texts_again : (r : Run) (rs : List Run) → IsReadable r → AllByRecursion IsReadable rs → slice_split (is 44) (run_text r ++ more_runs_text rs) ≡ run_text r ∷ map run_text rs
-texts_again r [] h hs = ap (slice_split (is 44)) (append-nil (run_text r)) ∙ slice_split_none (is 44) (run_text r) (no_comma r h)
-texts_again r (s ∷ rs) h hs =
-    slice_split_at (is 44) (run_text r) 44 (run_text s ++ more_runs_text rs) (no_comma r h) refl ∙ ap (λ (ts : List (List ℕ)). run_text r ∷ ts) (texts_again s rs hs.0 hs.1)
+no_commas : (rs : List Run) → AllByRecursion IsReadable rs → AllByRecursion HasNoComma (map run_text rs)
+no_commas [] h = tt
+no_commas (r ∷ rs) h = (no_comma r h.0, no_commas rs h.1)
 
-runs_again : (rs : List Run) → AllByRecursion IsReadable rs → read_runs (map run_text rs) ≡ Some rs
-runs_again [] h = refl
-runs_again (r ∷ rs) h = ap (λ (s : Option Run). with_run s (read_runs (map run_text rs))) (run_again r h.0) ∙ ap (λ (ss : Option (List Run)). with_run (Some r) ss) (runs_again rs h.1)
+more_are : (rs : List Run) → more_runs_text rs ≡ behind_commas (map run_text rs)
+more_are [] = refl
+more_are (r ∷ rs) = ap (λ (more : List ℕ). codes "," ++ (run_text r ++ more)) (more_are rs)
+
+each_again : (rs : List Run) → AllByRecursion IsReadable rs → AllByRecursion (λ r. read_run (run_text r) ≡ Some r) rs
+each_again [] h = tt
+each_again (r ∷ rs) h = (run_again r h.0, each_again rs h.1)
+
+runs_again : (r : Run) (rs : List Run) → AllByRecursion IsReadable (r ∷ rs) → read_parts read_run (runs_text (r ∷ rs)) ≡ Some (r ∷ rs)
+runs_again r rs h =
+    ap (λ (more : List ℕ). read_parts read_run (run_text r ++ more)) (more_are rs)
+    ∙ parts_again run_text read_run r rs (no_commas (r ∷ rs) h) (each_again (r ∷ rs) h)
 
 -- ---- the data
 
@@ -95,8 +81,7 @@ data_read : (wanted : ℕ) (rs : List Run) → 0 < length rs → AllByRecursion 
 data_read wanted [] some h e = absurd (omega arith)
 data_read wanted (r ∷ rs) some h e =
     ap (λ (b : Option ℕ). data_by wanted b (runs_text (r ∷ rs))) (long_word (runs_text (r ∷ rs)) (runs_long r rs h.0))
-    ∙ ap (λ (ts : List (List ℕ)). data_of_runs wanted (read_runs ts)) (texts_again r rs h.0 h.1)
-    ∙ ap (λ (ss : Option (List Run)). data_of_runs wanted ss) (runs_again (r ∷ rs) h)
+    ∙ ap (λ (ss : Option (List Run)). data_of_runs wanted ss) (runs_again r rs h)
     ∙ cond-true (total (r ∷ rs) == wanted) (Ok (written_out (r ∷ rs))) _ (eq-eqb (total (r ∷ rs)) wanted e)
 
 runs_plain : (rs : List Run) → AllByRecursion IsReadable rs → AllByRecursion IsPlain (more_runs_text rs)
@@ -110,9 +95,6 @@ text_word (r ∷ rs) some h =
     record { some = omega arith; plain = both IsPlain (run_text r) (more_runs_text rs) (run_plain r h.0) (runs_plain rs h.1) }
 
 -- ---- the longest runs of bytes can be read
-
-abbrev pub AreBytes : List ℕ → Type 0
-AreBytes bytes = AllByRecursion (λ b. b < 256) bytes
 
 bytes_left : (xs ys : List ℕ) → AreBytes (xs ++ ys) → AreBytes ys
 bytes_left [] ys h = h

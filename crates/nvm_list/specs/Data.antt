@@ -1,9 +1,10 @@
 -- The word that says a command's data: runs that add up to it, or one byte that fills it.
 use Rattle.std.specs.Prelude.{ℕ, zero, suc, ◌+◌, ◌==◌, if◌then◌else◌, List, [], ◌∷◌, replicate, Option, Some, None, Result, Ok, Err}
-use Rattle.std.specs.List.{slice_split, before_first, after_first}
+use Rattle.std.specs.List.{before_first, after_first}
 use Rattle.nvm_text.specs.Runs.{Run, run_of, written_out}
 use Rattle.nvm_list.specs.Words.{is}
 use Rattle.nvm_list.specs.Numbers.{number, hex_byte}
+use Rattle.nvm_list.specs.Commas.{read_parts}
 use Rattle.nvm_list.specs.declared.expected.Expected.{Expected}
 use Rattle.nvm_list.specs.declared.expected.Expected.TheVariants as expecting
 
@@ -18,15 +19,6 @@ run_from (Some (suc n)) (Some byte) = Some (run_of (suc n) byte)
 abbrev pub read_run : List ℕ → Option Run
 read_run text = run_from (number 18446744073709551615 (before_first (is 42) text)) (hex_byte (after_first (is 42) text))
 
-abbrev pub with_run : Option Run → Option (List Run) → Option (List Run)
-with_run None runs = None
-with_run (Some run) None = None
-with_run (Some run) (Some runs) = Some (run ∷ runs)
-
-abbrev pub read_runs : List (List ℕ) → Option (List Run)
-read_runs [] = Some []
-read_runs (text ∷ texts) = with_run (read_run text) (read_runs texts)
-
 -- how many bytes runs have
 abbrev pub total : List Run → ℕ
 total [] = 0
@@ -40,7 +32,7 @@ data_of_runs wanted (Some runs) =
 
 abbrev pub data_by : ℕ → Option ℕ → List ℕ → Result (List ℕ) Expected
 data_by wanted (Some byte) word = Ok (replicate wanted byte)
-data_by wanted None word = data_of_runs wanted (read_runs (slice_split (is 44) word))
+data_by wanted None word = data_of_runs wanted (read_parts read_run word)
 
 -- the `wanted` bytes that a word says
 abbrev pub payload : ℕ → List ℕ → Result (List ℕ) Expected

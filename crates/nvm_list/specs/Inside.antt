@@ -1,4 +1,4 @@
 -- What only the crate's own functions cite.
 pub mod Answers
-pub mod Ranges
+pub mod Values
 pub mod Rest

@@ -2,7 +2,9 @@ pub mod Words
 pub mod Numbers
 pub mod Expecting
 pub mod Names
+pub mod Commas
 pub mod Data
+pub mod Ranges
 pub mod Options
 pub mod Lines
 pub mod Lists

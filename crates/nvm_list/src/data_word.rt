@@ -1,9 +1,8 @@
 ghost use Rattle.std.specs.Prelude.{◌≡◌, IfOk, option_map, replicate};
-ghost use Rattle.std.specs.List.{slice_split};
 ghost use Rattle.nvm_text.specs.Runs.{written_out};
-ghost use Rattle.nvm_list.specs.Words.{is};
+ghost use Rattle.nvm_list.specs.Commas.{read_parts};
 ghost use Rattle.nvm_list.specs.Data as spec;
-ghost use Rattle.nvm_list.specs.Data.{read_runs};
+ghost use Rattle.nvm_list.specs.Data.{read_run};
 ghost use Rattle.nvm_list.specs.Inside.Answers.{Gives};
 
 use crate::expected::Expected;
@@ -37,7 +36,7 @@ fn filled(alloc: Global, wanted: u64, byte: u8) -> Result<Payload, NoMemory>
 /// The bytes of runs, which add up to `wanted`.
 fn payload_of_runs(alloc: Global, word: &[u8], wanted: u64) -> Result<Payload, LineFault>
     ensures { Gives (λ p. p) result
-        (spec.data_of_runs wanted (read_runs (slice_split (is 44) word.now))) }
+        (spec.data_of_runs wanted (read_parts read_run word.now)) }
 {
     let Some(runs) = runs_of(alloc, word)? else {
         return Err(LineFault::Expected(Expected::Data));
@@ -52,7 +51,7 @@ fn payload_of_runs(alloc: Global, word: &[u8], wanted: u64) -> Result<Payload, L
 /// The runs that commas part, or `None` where something there isn't a run.
 fn runs_of(alloc: Global, word: &[u8]) -> Result<Option<Vec<Run>>, NoMemory>
     ensures { IfOk result
-        (λ runs. option_map (λ v. v.items) runs ≡ read_runs (slice_split (is 44) word.now)) }
+        (λ runs. option_map (λ v. v.items) runs ≡ read_parts read_run word.now) }
 {
     let mut runs = Vec::new(alloc);
     let mut rest = Some(word);

@@ -4,7 +4,7 @@ use thiserror::Error;
 #[derive(Clone, Copy, Debug, PartialEq, Eq, Error)]
 pub enum Expected {
     /// The first word names no operation, or an opcode that has a name of its own.
-    #[error("expected write, read, compare, zeroes, uncorrectable, or op- and another opcode in two hexadecimal digits")]
+    #[error("expected write, read, compare, zeroes, uncorrectable, dataset, or op- and another opcode in two hexadecimal digits")]
     Name,
     /// The word after the name isn't a number that an LBA can be.
     #[error("expected an LBA from 0 to 18446744073709551615")]
@@ -23,11 +23,23 @@ pub enum Expected {
         /// How many bytes the runs have.
         found: u128,
     },
-    /// A word behind the command is no option.
+    /// The word after the name says no ranges.
+    #[error("expected ranges, as in 7+2,0+1: LBAs from 0 to 18446744073709551615, and from 0 to 4294967295 blocks")]
+    Ranges,
+    /// There are more ranges than a command has.
+    #[error("expected at most 256 ranges and not {found}")]
+    RangeCount {
+        /// How many ranges there are.
+        found: u64,
+    },
+    /// A word behind a command on blocks is no option of it.
     #[error("expected first, second, reserved, cid= or nsid=")]
     OptionName,
+    /// A word behind a command on ranges is no option of it.
+    #[error("expected deallocate, first, second, reserved, cid= or nsid=")]
+    RangeOptionName,
     /// An option stands twice, or two of `first`, `second` and `reserved` stand in one line.
-    #[error("expected at most one of first, second and reserved, one cid= and one nsid=")]
+    #[error("expected each option at most once, and at most one of first, second and reserved")]
     OptionOnce,
     /// What is behind `cid=` isn't a number that a command identifier can be.
     #[error("expected a number from 0 to 65535 behind cid=")]

@@ -1,9 +1,10 @@
 //! Command lists: a host file as text that people write and read.
 //!
 //! A line of a list is a command: `write LBA BLOCKS DATA`, `read LBA BLOCKS`, `compare LBA BLOCKS DATA`,
-//! `zeroes LBA BLOCKS`, `uncorrectable LBA BLOCKS` or `op-7f LBA BLOCKS`, and then options, each at most
-//! once and in any order: `first`, `second` or `reserved`, `cid=N` and `nsid=N`. `#` starts a comment, and
-//! a line without words is passed over.
+//! `zeroes LBA BLOCKS`, `uncorrectable LBA BLOCKS`, `dataset LBA+BLOCKS,LBA+BLOCKS` of up to 256 ranges, or
+//! `op-7f LBA BLOCKS`, and then options, each at most once and in any order: `first`, `second` or `reserved`,
+//! `cid=N` and `nsid=N`, and `deallocate` behind ranges. `#` starts a comment, and a line without words is
+//! passed over.
 //!
 //! [`assemble`] makes a list into the bytes of a host file, and [`list_file`] lists those. Lists that were written by
 //! hand, with their commands and faults, stand in `examples/programs.py`, which holds the built `nvq` to them.
@@ -15,11 +16,14 @@ mod expected;
 mod fault;
 pub mod laws;
 mod line_cut;
+mod line_pieces;
 mod listing;
 mod lists;
 mod name_word;
 mod number_word;
+mod operands;
 mod option_words;
+mod range_word;
 mod run;
 
 pub use expected::Expected;

@@ -1,6 +1,7 @@
-ghost use Rattle.std.specs.Prelude.{◌≡◌, ◌⊎◌, ◌≤◌, ◌++◌, ℕ, List, Ok, IfOk, IfErr, OnOk, MatchResult, ◌<◌, get_or, length, All, string_bytes};
+ghost use Rattle.std.specs.Prelude.{◌≡◌, ◌⊎◌, ◌≤◌, ◌++◌, ℕ, List, Ok, IfOk, IfErr, OnOk, MatchResult, ◌<◌, length, All, string_bytes};
 ghost use Rattle.nvm_record.specs.Entry.{IsWhole};
 ghost use Rattle.nvm_record.specs.BlockSize.{IsBlockSize};
+ghost use Rattle.nvm_record.specs.Lists.{IsAt};
 ghost use Rattle.nvm_record.specs.HostFile.{IsHostFile, IsHostFileFault, IsAnsweredFault, most_commands};
 ghost use Rattle.nvm_record.specs.declared.command.Command.{Command as Listed};
 ghost use Rattle.nvm_record.specs.declared.host_fault.HostFault.{HostFault as Fault};
@@ -9,13 +10,15 @@ ghost use Rattle.nvm_list.specs.Lists as lists;
 ghost use Rattle.nvm_list.specs.Lists.{commands};
 ghost use Rattle.nvm_list.specs.Lists.{assembled};
 ghost use Rattle.nvm_record.specs.HostFile.{file_of};
-ghost use Rattle.nvm_list.specs.Inside.Ranges.{HasValuesInRange};
+ghost use Rattle.nvm_list.specs.Inside.Values.{HasValuesInRange};
 ghost use Rattle.nvm_list.specs.Listing as spec;
-ghost use Rattle.nvm_list.specs.Listing.{listing, behind_spaces};
+ghost use Rattle.nvm_list.specs.Listing.{listing};
 
-use nvm_record::{BlockSize, Command, Fuse, HostFault, NoMemory, Payload, read_host};
+use crate::line_pieces::{push_cid, push_deallocate, push_fuse, push_nsid, push_operands};
+use nvm_record::laws::ranges_are_read_back;
+use nvm_record::{BlockSize, Command, HostFault, NoMemory, Payload, read_host};
 use nvm_text::laws::runs_are_longest;
-use nvm_text::{push_decimal, push_name, push_runs};
+use nvm_text::push_name;
 use std::alloc::Global;
 
 /// Reads a host file and lists its commands.
@@ -47,6 +50,7 @@ pub fn list(alloc: Global, commands: &[Command]) -> Result<String, NoMemory>
         → lists.commands size (string_bytes text) ≡ Ok commands.now) }
 {
     runs_are_longest();
+    ranges_are_read_back();
     let mut text = String::new(alloc);
     for (before, command) in commands.iter().enumerate() {
         has_ranges(command);
@@ -69,7 +73,7 @@ fn has_ranges(command: &Command)
 
 /// Does nothing, and says what the type of bytes does.
 fn has_bytes(bytes: &[u8])
-    ensures { (i : ℕ) → get_or bytes.now i 0 < 256 }
+    ensures { (i byte : ℕ) → IsAt bytes.now i byte → byte < 256 }
 {}
 
 /// Appends the line of the command at a place of its list.
@@ -77,74 +81,11 @@ fn push_command(text: &mut String, place: u64, command: &Command) -> Result<(), 
     ensures { OnOk result (string_bytes text.new ≡ string_bytes text.old ++ spec.listed_line place command.now) }
 {
     push_name(text, command.op)?;
-    push_range(text, command)?;
-    push_data(text, command)?;
+    push_operands(text, command)?;
+    push_deallocate(text, command.op)?;
     push_fuse(text, command.fuse)?;
     push_cid(text, place, command.cid)?;
     push_nsid(text, command.nsid)?;
     text.push_str("\n")?;
-    Ok(())
-}
-
-/// Appends the starting LBA and the number of blocks.
-fn push_range(text: &mut String, command: &Command) -> Result<(), NoMemory>
-    ensures { OnOk result (string_bytes text.new
-        ≡ string_bytes text.old ++ behind_spaces (spec.range_words command.now)) }
-{
-    text.push_str(" ")?;
-    push_decimal(text, command.slba)?;
-    text.push_str(" ")?;
-    push_decimal(text, u64::from(command.nlb) + 1)?;
-    Ok(())
-}
-
-/// Appends the data, where the operation carries some.
-fn push_data(text: &mut String, command: &Command) -> Result<(), NoMemory>
-    ensures { OnOk result (string_bytes text.new
-        ≡ string_bytes text.old ++ behind_spaces (spec.data_words command.now)) }
-{
-    if command.op.carries_data() {
-        text.push_str(" ")?;
-        push_runs(text, command.payload.as_slice())?;
-    }
-    Ok(())
-}
-
-/// Appends the place in a fused operation, if it has one.
-fn push_fuse(text: &mut String, fuse: Fuse) -> Result<(), NoMemory>
-    ensures { OnOk result (string_bytes text.new
-        ≡ string_bytes text.old ++ behind_spaces (spec.fuse_words fuse)) }
-{
-    let word = match fuse {
-        Fuse::Normal => return Ok(()),
-        Fuse::First => " first",
-        Fuse::Second => " second",
-        Fuse::Reserved => " reserved",
-    };
-    text.push_str(word)?;
-    Ok(())
-}
-
-/// Appends the command identifier, if it isn't the command's place.
-fn push_cid(text: &mut String, place: u64, cid: u16) -> Result<(), NoMemory>
-    ensures { OnOk result (string_bytes text.new
-        ≡ string_bytes text.old ++ behind_spaces (spec.cid_words place cid)) }
-{
-    if u64::from(cid) != place % 65_536 {
-        text.push_str(" cid=")?;
-        push_decimal(text, u64::from(cid))?;
-    }
-    Ok(())
-}
-
-/// Appends the namespace identifier, if it isn't 1.
-fn push_nsid(text: &mut String, nsid: u32) -> Result<(), NoMemory>
-    ensures { OnOk result (string_bytes text.new
-        ≡ string_bytes text.old ++ behind_spaces (spec.nsid_words nsid)) }
-{
-    if nsid != 1 {
-        text.push_str(" nsid=")?;
-        push_decimal(text, u64::from(nsid))?;
-    }
     Ok(())
 }

@@ -12,7 +12,7 @@ use crate::command_line::command;
 use crate::expected::Expected;
 use crate::fault::{LineFault, ListFault};
 use crate::line_cut::{cut, first_word, without_comment};
-use nvm_record::laws::opcodes_are_proper;
+use nvm_record::laws::{opcodes_are_proper, ranges_are_read_back};
 use nvm_record::{BlockSize, Command, MOST_COMMANDS, host_bytes};
 use std::alloc::Global;
 
@@ -43,6 +43,7 @@ pub fn read_list(alloc: Global, text: &[u8], size: BlockSize) -> Result<Vec<Comm
     ensures fault { IfErr result (λ e. (spec.commands size text.now ≡ Err e) ⊎ (e ≡ NoMemory)) }
 {
     opcodes_are_proper();
+    ranges_are_read_back();
     commands_of(alloc, text, size)
 }
 

@@ -5,7 +5,7 @@ use crate::expected::Expected;
 use crate::number_word::hex_byte;
 use nvm_record::Op;
 
-/// The operation that a word names.
+/// The operation that a word names, a Dataset Management without its Deallocate bit.
 pub fn operation(word: &[u8]) -> Result<Op, Expected>
     ensures { result ≡ spec.operation word.now }
 {
@@ -19,6 +19,8 @@ pub fn operation(word: &[u8]) -> Result<Op, Expected>
         Ok(Op::Compare)
     } else if word == b"zeroes".as_slice() {
         Ok(Op::WriteZeroes)
+    } else if word == b"dataset".as_slice() {
+        Ok(Op::Dataset { deallocate: false })
     } else {
         other_operation(word)
     }
@@ -34,7 +36,7 @@ fn other_operation(word: &[u8]) -> Result<Op, Expected>
     let Some(opcode) = hex_byte(digits) else {
         return Err(Expected::Name);
     };
-    match Op::of_opcode(opcode) {
+    match Op::of_opcode(opcode, false) {
         Op::Other(opcode) => Ok(Op::Other(opcode)),
         _ => Err(Expected::Name),
     }

@@ -15,6 +15,7 @@ pub struct Options {
     pub fuse: Option<Fuse>,
     pub cid: Option<u16>,
     pub nsid: Option<u32>,
+    pub deallocate: bool,
 }
 
 impl Model for Options {
@@ -22,19 +23,20 @@ impl Model for Options {
 
     ghost Value = { spec.Options };
 
-    ghost view = { λ o. record { fuse = o.fuse; cid = o.cid; nsid = o.nsid } };
+    ghost view = { λ o. record { fuse = o.fuse; cid = o.cid; nsid = o.nsid; deallocate = o.deallocate } };
 
-    ghost inverse = { λ o. record { fuse = o.fuse; cid = o.cid; nsid = o.nsid } };
+    ghost inverse = { λ o. record { fuse = o.fuse; cid = o.cid; nsid = o.nsid; deallocate = o.deallocate } };
 }
 
-/// The options that the words say.
-pub fn read_options(words: &[u8]) -> Result<Options, Expected>
-    ensures { result ≡ spec.options (words_in words.now) }
+/// The options that the words say behind a command that is on ranges, or on blocks.
+pub fn read_options(words: &[u8], ranges: bool) -> Result<Options, Expected>
+    ensures { result ≡ spec.options ranges (words_in words.now) }
 {
     let mut options = Options {
         fuse: None,
         cid: None,
         nsid: None,
+        deallocate: false,
     };
     let mut rest = words;
     loop {
@@ -42,14 +44,14 @@ pub fn read_options(words: &[u8]) -> Result<Options, Expected>
         if word.is_empty() {
             return Ok(options);
         }
-        options = with_option(options, word)?;
+        options = with_option(options, word, ranges)?;
         rest = after;
     }
 }
 
 /// The options with the one that a word says.
-fn with_option(options: Options, word: &[u8]) -> Result<Options, Expected>
-    ensures { result ≡ spec.with_option options word.now }
+fn with_option(options: Options, word: &[u8], ranges: bool) -> Result<Options, Expected>
+    ensures { result ≡ spec.with_option ranges options word.now }
 {
     if word == b"first".as_slice() {
         return with_fuse(options, Fuse::First);
@@ -66,7 +68,26 @@ fn with_option(options: Options, word: &[u8]) -> Result<Options, Expected>
     if let Some(nsid) = word.strip_prefix(b"nsid=") {
         return with_nsid(options, nsid);
     }
+    if ranges {
+        return with_range_option(options, word);
+    }
     Err(Expected::OptionName)
+}
+
+/// The options with one that only a command on ranges may have.
+fn with_range_option(options: Options, word: &[u8]) -> Result<Options, Expected>
+    ensures { result ≡ spec.with_range_option options word.now }
+{
+    if word != b"deallocate".as_slice() {
+        return Err(Expected::RangeOptionName);
+    }
+    if options.deallocate {
+        return Err(Expected::OptionOnce);
+    }
+    Ok(Options {
+        deallocate: true,
+        ..options
+    })
 }
 
 /// The options with a place in a fused operation.

@@ -43,7 +43,7 @@ can_last ns op parts told e =
     let P : Part → Type 0 = λ part. IsTrue (can_have op.deed part.result) in
     last_part P e.before e.last (subst (AllByRecursion P) e.are e.results)
 
-one_ending : (ns : Namespace) (op : Operation) (parts : List Part) (told : Statuses) → is_pair op.deed ≡ false → HasEnding ns op parts told → IsOneStatus told
+pub one_ending : (ns : Namespace) (op : Operation) (parts : List Part) (told : Statuses) → is_pair op.deed ≡ false → HasEnding ns op parts told → IsOneStatus told
 one_ending ns op parts told pair (inl h) = subst IsOneStatus (sym h.statuses) (one_success op.deed pair)
 one_ending ns op parts told pair (inr (inl h)) = subst IsOneStatus (sym h.statuses) (one_unstarted op.deed pair)
 one_ending ns op parts told pair (inr (inr e)) = one_shown op.deed e.last.result told pair (can_last ns op parts told e) e.statuses
@@ -53,16 +53,16 @@ two_ending ns op parts told pair (inl h) = subst IsTwoStatuses (sym h.statuses) 
 two_ending ns op parts told pair (inr (inl h)) = subst IsTwoStatuses (sym h.statuses) (two_unstarted op.deed pair)
 two_ending ns op parts told pair (inr (inr e)) = two_shown op.deed e.last.result told pair (can_last ns op parts told e) e.statuses
 
-single_deed : (c : Command) (op : Operation) → operation_of_body (Single c) ≡ Some op → is_pair op.deed ≡ false
-single_deed c op stands = grind (arith, common_steps)
+single_deed : (ns : Namespace) (c : Command) (op : Operation) → operation_of_body ns (Single c) ≡ Some op → is_pair op.deed ≡ false
+single_deed ns c op stands = grind (arith, common_steps)
 
-pair_deed : (c d : Command) (op : Operation) → operation_of_body (Pair c d) ≡ Some op → is_pair op.deed ≡ true
-pair_deed c d op stands = grind (arith, common_steps)
+pair_deed : (ns : Namespace) (c d : Command) (op : Operation) → operation_of_body ns (Pair c d) ≡ Some op → is_pair op.deed ≡ true
+pair_deed ns c d op stands = grind (arith, common_steps)
 
 operation_each : (ns : Namespace) (body : Body) (op : Operation) (parts : List Part) (told : Statuses) (read : Option (List ℕ))
-    → operation_of_body body ≡ Some op → HasShapeOf ns op parts told read → IsForEach body told
-operation_each ns (Single c) op parts told read stands h = one_ending ns op parts told (single_deed c op stands) h.ending
-operation_each ns (Pair c d) op parts told read stands h = two_ending ns op parts told (pair_deed c d op stands) h.ending
+    → operation_of_body ns body ≡ Some op → HasShapeOf ns op parts told read → IsForEach body told
+operation_each ns (Single c) op parts told read stands h = one_ending ns op parts told (single_deed ns c op stands) h.ending
+operation_each ns (Pair c d) op parts told read stands h = two_ending ns op parts told (pair_deed ns c d op stands) h.ending
 
 by_plan : (ns : Namespace) (body : Body) (refused : Option Statuses) (stands : Option Operation) (parts : List Part) (told : Statuses) (read : Option (List ℕ))
     → ((refusal : Statuses) → refused ≡ Some refusal → IsForEach body refusal)
@@ -80,5 +80,5 @@ job_refusal_each ns job refusal h = refusal_each ns job.body refusal h
 pub shape_for_each : (ns : Namespace) (job : Job) (parts : List Part) (told : Statuses) (read : Option (List ℕ))
     → HasOutcomeShape ns job parts told read → IsForEach job.body told
 shape_for_each ns job parts told read h =
-    by_plan ns job.body (refusal_of ns job) (job_operation_of job) parts told read (job_refusal_each ns job)
+    by_plan ns job.body (refusal_of ns job) (job_operation_of ns job) parts told read (job_refusal_each ns job)
     (λ op. operation_each ns job.body op parts told read) h

@@ -1,65 +1,146 @@
 -- A job's part in a unit is that of its operation, and lies in the unit.
-use Rattle.std.proofs.Common.{◌≡◌, ℕ, ◌+◌, ◌*◌, ◌<◌, ◌≤◌, Bool, true, false, if◌then◌else◌, [], Option, Some, None, MatchOption, IfSome, IsTrue, refl, sym, ap, subst, ◌∙◌, arith}
-use Rattle.std.proofs.lemmas.Bool.{lt-ltb}
+use Rattle.std.proofs.Common.{◌≡◌, ◌↔◌, ℕ, ◌+◌, ◌*◌, ◌<◌, ◌≤◌, Bool, true, false, if◌then◌else◌, List, [], Option, Some, None, MatchOption, IfSome, IsTrue, refl, sym, ap, subst, ◌∙◌, arith}
+use Rattle.std.specs.List.{Contains}
 use Rattle.std.proofs.lemmas.Option.{same_Some, none-some}
 use Rattle.nvm_record.specs.declared.command.Command.{Command}
 use Rattle.nvm_record.specs.declared.op.Op.{Op}
-use Rattle.nvm_record.specs.declared.op.Op.TheVariants.{Write, Read, WriteUncorrectable, Compare, WriteZeroes, Other}
+use Rattle.nvm_record.specs.declared.op.Op.TheVariants.{Write, Read, WriteUncorrectable, Compare, WriteZeroes, Dataset, Other}
 use Rattle.nvm_record.specs.declared.status.Statuses.{Statuses}
-use Rattle.nvm_record.specs.Step.{HasData, Deed, Operation, writes, zeroes, uncorrectable, reads, compares, pairs}
+use Rattle.nvm_record.specs.Deeds.{IsOnRange}
+use Rattle.nvm_record.specs.Op.{carries_ranges}
+use Rattle.nvm_record.specs.Step.{HasData, HasRangesWithin, Deed, Operation, writes, zeroes, uncorrectable, reads, compares, pairs}
+use Rattle.nvm_record.specs.declared.lba_range.LbaRange.{LbaRange}
 use Rattle.nvm_geometry.specs.Namespace.{Namespace}
+use Rattle.nvm_geometry.specs.Deallocation.{deallocation}
 use Rattle.nvm_geometry.specs.Parts.{meets, blocks_in, units_met, piece_in, part_in}
 use Rattle.nvm_geometry.specs.declared.piece.Piece.{Piece}
 use Rattle.nvm_store.specs.declared.place.Place.{Place}
+use Rattle.nvm_store.specs.Operation.{deallocate_operation}
 use Rattle.nvm_store.specs.Place.{IsCovered}
 use Rattle.nvm_plan.specs.UnitPlace.{IsUnitPlace}
 use Rattle.nvm_plan.specs.declared.job.Job.{Job}
 use Rattle.nvm_plan.specs.declared.lent_part.LentPart.{LentPart}
 use Rattle.nvm_plan.specs.LentPart.{part_operation_of}
 use Rattle.nvm_plan.specs.Checks.{refusal_of}
-use Rattle.nvm_plan.specs.JobPart.{unless_refused, units_of_ready, part_of_ready, job_units, job_part_in}
+use Rattle.nvm_plan.specs.JobPart.{unless_refused, ready_operation, units_of_ready, part_of_ready, job_units, job_part_in}
 use Rattle.nvm_plan.specs.Operation.{on_range, single_operation, fused_operation, job_operation_of}
 use Rattle.nvm_plan.specs.Profile.{is_in_profile}
-use Rattle.nvm_plan.specs.Ready.{IsReadyPair}
+use Rattle.nvm_plan.specs.Ready.{LiesInNamespace, IsReadyPair}
 
 if_true : (b : Bool) (x : Option Operation) → b ≡ true → (if b then x else None) ≡ x
 if_true b x e = rw e refl
+
+if_not : (b : Bool) (x : Option Operation) → (IsTrue b → ⊥) → (if b then x else None) ≡ None
+if_not true x h = absurd (h refl)
+if_not false x h = refl
 
 -- the part, where the operation meets the unit
 pub part_there : (ns : Namespace) (op : Operation) (unit : ℕ) → IsTrue (meets ns op unit) → part_of_ready ns (Some op) unit ≡ Some (part_in ns op unit)
 part_there ns op unit met = if_true _ _ met
 
-piece_there : (ns : Namespace) (op : Operation) (unit : ℕ) (p : Piece) (part : Operation) → p ≡ piece_in ns op.first op.blocks unit → 0 < p.blocks
-    → part ≡ part_in ns op p.unit → part_of_ready ns (Some op) unit ≡ Some part
-piece_there ns op unit p part is some same =
+-- no part, where it doesn't
+no_part : (ns : Namespace) (op : Operation) (unit : ℕ) → (IsTrue (meets ns op unit) → ⊥) → part_of_ready ns (Some op) unit ≡ None
+no_part ns op unit not_met = if_not _ _ not_met
+
+-- An operation on a range meets the units in which its range has a block.
+abbrev pub MeetsByBlocks : Namespace → Type 0
+MeetsByBlocks ns = (op : Operation) (unit : ℕ) → IsOnRange op.deed → op.first + op.blocks ≤ ns.nsze → IsTrue (meets ns op unit) ↔ (0 < (part_in ns op unit).blocks)
+
+piece_there : (ns : Namespace) → MeetsByBlocks ns → (op : Operation) (unit : ℕ) (p : Piece) (part : Operation) → IsOnRange op.deed → op.first + op.blocks ≤ ns.nsze
+    → p ≡ piece_in ns op.first op.blocks unit → 0 < p.blocks → part ≡ part_in ns op p.unit → part_of_ready ns (Some op) unit ≡ Some part
+piece_there ns by_blocks op unit p part whole inside is some same =
     let unit_is : p.unit ≡ unit = ap (λ (q : Piece). q.unit) is in
     let many : p.blocks ≡ blocks_in ns op.first op.blocks unit = ap (λ (q : Piece). q.blocks) is in
-    part_there ns op unit (lt-ltb 0 (blocks_in ns op.first op.blocks unit) (omega (arith, many, some))) ∙ ap (λ (o : Operation). Some o) (sym (same ∙ ap (part_in ns op) unit_is))
+    part_there ns op unit ((by_blocks op unit whole inside).1 (omega (arith, many, some))) ∙ ap (λ (o : Operation). Some o) (sym (same ∙ ap (part_in ns op) unit_is))
 
--- each command of the profile stands for an operation on its range
-single_stands : (o : Op) (c : Command) → IsTrue (is_in_profile o) → (deed : Deed) × (single_operation o c ≡ Some (on_range c deed))
-single_stands Write c known = (writes c.payload, refl)
-single_stands Read c known = (reads, refl)
-single_stands WriteUncorrectable c known = (uncorrectable, refl)
-single_stands Compare c known = (compares c.payload, refl)
-single_stands WriteZeroes c known = (zeroes, refl)
-single_stands (Other opcode) c known = absurd (cc known)
+piece_not_there : (ns : Namespace) → MeetsByBlocks ns → (op : Operation) (unit : ℕ) → IsOnRange op.deed → op.first + op.blocks ≤ ns.nsze
+    → blocks_in ns op.first op.blocks unit ≡ 0 → part_of_ready ns (Some op) unit ≡ None
+piece_not_there ns by_blocks op unit whole inside none =
+    no_part ns op unit (λ met. let some : 0 < blocks_in ns op.first op.blocks unit = (by_blocks op unit whole inside).0 met in absurd (omega (arith, some, none)))
 
-pub single_there : (ns : Namespace) (c : Command) (unit : ℕ) (p : Piece) (part : Operation) → IsTrue (is_in_profile c.op)
-    → p ≡ piece_in ns c.slba (c.nlb + 1) unit → 0 < p.blocks
-    → ((op : Operation) → single_operation c.op c ≡ Some op → part ≡ part_in ns op p.unit)
-    → part_of_ready ns (single_operation c.op c) unit ≡ Some part
-single_there ns c unit p part known is some all =
-    let stands = single_stands c.op c known in
-    ap (λ (o : Option Operation). part_of_ready ns o unit) stands.1 ∙ piece_there ns (on_range c stands.0) unit p part is some (all (on_range c stands.0) stands.1)
+-- each other command of the profile stands for an operation on its range
+single_stands : (ns : Namespace) (o : Op) (c : Command) → IsTrue (is_in_profile o) → carries_ranges o ≡ false
+    → (deed : Deed) × IsOnRange deed × (single_operation ns o c ≡ Some (on_range c deed))
+single_stands ns Write c known plain = (writes c.payload, refl, refl)
+single_stands ns Read c known plain = (reads, refl, refl)
+single_stands ns WriteUncorrectable c known plain = (uncorrectable, refl, refl)
+single_stands ns Compare c known plain = (compares c.payload, refl, refl)
+single_stands ns WriteZeroes c known plain = (zeroes, refl, refl)
+single_stands ns (Dataset deallocate) c known plain = absurd (cc plain)
+single_stands ns (Other opcode) c known plain = absurd (cc known)
 
-pub pair_there : (ns : Namespace) (c d : Command) (unit : ℕ) (p : Piece) (part : Operation) → IsReadyPair ns c d
+pub not_dataset : (o : Op) → ((deallocate : Bool) → o ≡ Dataset deallocate → ⊥) → carries_ranges o ≡ false
+not_dataset Write other = refl
+not_dataset Read other = refl
+not_dataset WriteUncorrectable other = refl
+not_dataset Compare other = refl
+not_dataset WriteZeroes other = refl
+not_dataset (Dataset deallocate) other = absurd (other deallocate refl)
+not_dataset (Other opcode) other = refl
+
+-- a command that has no ranges lies in the namespace by its range
+pub lies_on_range : (ns : Namespace) (o : Op) (c : Command) → carries_ranges o ≡ false → LiesInNamespace ns o c → c.slba + (c.nlb + 1) ≤ ns.nsze
+lies_on_range ns Write c plain h = h
+lies_on_range ns Read c plain h = h
+lies_on_range ns WriteUncorrectable c plain h = h
+lies_on_range ns Compare c plain h = h
+lies_on_range ns WriteZeroes c plain h = h
+lies_on_range ns (Dataset deallocate) c plain h = absurd (cc plain)
+lies_on_range ns (Other opcode) c plain h = h
+
+pub single_there : (ns : Namespace) → MeetsByBlocks ns → (c : Command) (unit : ℕ) (p : Piece) (part : Operation) → IsTrue (is_in_profile c.op) → carries_ranges c.op ≡ false
+    → c.slba + (c.nlb + 1) ≤ ns.nsze → p ≡ piece_in ns c.slba (c.nlb + 1) unit → 0 < p.blocks
+    → ((op : Operation) → single_operation ns c.op c ≡ Some op → part ≡ part_in ns op p.unit)
+    → part_of_ready ns (single_operation ns c.op c) unit ≡ Some part
+single_there ns by_blocks c unit p part known plain inside is some all =
+    let stands = single_stands ns c.op c known plain in
+    ap (λ (o : Option Operation). part_of_ready ns o unit) stands.2
+    ∙ piece_there ns by_blocks (on_range c stands.0) unit p part stands.1 inside is some (all (on_range c stands.0) stands.2)
+
+pub single_not_there : (ns : Namespace) → MeetsByBlocks ns → (c : Command) (unit : ℕ) → IsTrue (is_in_profile c.op) → carries_ranges c.op ≡ false
+    → c.slba + (c.nlb + 1) ≤ ns.nsze → blocks_in ns c.slba (c.nlb + 1) unit ≡ 0 → part_of_ready ns (single_operation ns c.op c) unit ≡ None
+single_not_there ns by_blocks c unit known plain inside none =
+    let stands = single_stands ns c.op c known plain in
+    ap (λ (o : Option Operation). part_of_ready ns o unit) stands.2 ∙ piece_not_there ns by_blocks (on_range c stands.0) unit stands.1 inside none
+
+pair_stands : (ns : Namespace) (c d : Command) → IsReadyPair ns c d → fused_operation c.op d.op c d ≡ Some (on_range c (pairs c.payload d.payload))
+pair_stands ns c d ready = rw (ready.compare, ready.write) refl
+
+pub pair_there : (ns : Namespace) → MeetsByBlocks ns → (c d : Command) (unit : ℕ) (p : Piece) (part : Operation) → IsReadyPair ns c d
     → p ≡ piece_in ns c.slba (c.nlb + 1) unit → 0 < p.blocks
     → ((op : Operation) → fused_operation c.op d.op c d ≡ Some op → part ≡ part_in ns op p.unit)
     → part_of_ready ns (fused_operation c.op d.op c d) unit ≡ Some part
-pair_there ns c d unit p part ready is some all =
-    let stands : fused_operation c.op d.op c d ≡ Some (on_range c (pairs c.payload d.payload)) = rw (ready.compare, ready.write) refl in
-    ap (λ (o : Option Operation). part_of_ready ns o unit) stands ∙ piece_there ns (on_range c (pairs c.payload d.payload)) unit p part is some (all _ stands)
+pair_there ns by_blocks c d unit p part ready is some all =
+    let stands = pair_stands ns c d ready in
+    ap (λ (o : Option Operation). part_of_ready ns o unit) stands
+    ∙ piece_there ns by_blocks (on_range c (pairs c.payload d.payload)) unit p part refl ready.range is some (all _ stands)
+
+pub pair_not_there : (ns : Namespace) → MeetsByBlocks ns → (c d : Command) (unit : ℕ) → IsReadyPair ns c d
+    → blocks_in ns c.slba (c.nlb + 1) unit ≡ 0 → part_of_ready ns (fused_operation c.op d.op c d) unit ≡ None
+pair_not_there ns by_blocks c d unit ready none =
+    ap (λ (o : Option Operation). part_of_ready ns o unit) (pair_stands ns c d ready)
+    ∙ piece_not_there ns by_blocks (on_range c (pairs c.payload d.payload)) unit refl ready.range none
+
+-- by the two laws: the units that an operation meets are those in which its part has a block, and those that pass the test
+pub meets_by_blocks : (ns : Namespace)
+    → ((op : Operation) (unit : ℕ) → IsOnRange op.deed → op.first + op.blocks ≤ ns.nsze → Contains (units_met ns op) unit ↔ (0 < (part_in ns op unit).blocks))
+    → ((op : Operation) (unit : ℕ) → op.first + op.blocks ≤ ns.nsze → Contains (units_met ns op) unit ↔ IsTrue (meets ns op unit)) → MeetsByBlocks ns
+meets_by_blocks ns met tested op unit whole inside =
+    let here = met op unit whole inside in
+    let test = tested op unit inside in
+    (λ h. here.0 (test.1 h), λ h. test.0 (here.1 h))
+
+-- The part of a Deallocate in a unit of this place: its ranges, cut to the place.
+pub deallocate_there : (ns : Namespace) (ranges : List LbaRange) (unit first blocks : ℕ) → IsTrue (meets ns (deallocation ns ranges) unit)
+    → (first ≡ (piece_in ns 0 ns.nsze unit).first) × (blocks ≡ (piece_in ns 0 ns.nsze unit).blocks)
+    → part_of_ready ns (Some (deallocation ns ranges)) unit ≡ Some (deallocate_operation first blocks ranges)
+deallocate_there ns ranges unit first blocks met same =
+    part_there ns (deallocation ns ranges) unit met
+    ∙ ap (λ (o : Operation). Some o) (sym (ap (λ (n : ℕ). deallocate_operation n blocks ranges) same.0 ∙ ap (λ (n : ℕ). deallocate_operation (piece_in ns 0 ns.nsze unit).first n ranges) same.1))
+
+pub deallocate_not_there : (ns : Namespace) (ranges : List LbaRange) (unit : ℕ) → meets ns (deallocation ns ranges) unit ≡ false
+    → part_of_ready ns (Some (deallocation ns ranges)) unit ≡ None
+deallocate_not_there ns ranges unit e = no_part ns (deallocation ns ranges) unit (λ met. cc (met, e))
 
 -- what is known of a job that has a part in the unit
 pub record HasPart (ns : Namespace) (refused : Option Statuses) (stands : Option Operation) (unit : ℕ) (part : Operation) : Type 0 where
@@ -81,26 +162,34 @@ part_known ns None None unit part h = absurd (none-some part h)
 part_known ns None (Some op) unit part h = met_or_not ns op unit part (meets ns op unit) refl h
 
 pub has_part : (ns : Namespace) (job : Job) (unit : ℕ) (part : Operation) → job_part_in ns job unit ≡ Some part
-    → HasPart ns (refusal_of ns job) (job_operation_of job) unit part
-has_part ns job unit part h = part_known ns (refusal_of ns job) (job_operation_of job) unit part h
+    → HasPart ns (refusal_of ns job) (job_operation_of ns job) unit part
+has_part ns job unit part h = part_known ns (refusal_of ns job) (job_operation_of ns job) unit part h
 
 -- the operation of a job that isn't refused
 served_is : (refused : Option Statuses) (stands : Option Operation) → refused ≡ None → unless_refused refused stands ≡ stands
 served_is refused stands e = rw e refl
 
-pub part_of_served : (ns : Namespace) (job : Job) (unit : ℕ) → refusal_of ns job ≡ None → job_part_in ns job unit ≡ part_of_ready ns (job_operation_of job) unit
-part_of_served ns job unit free = ap (λ (o : Option Operation). part_of_ready ns o unit) (served_is (refusal_of ns job) (job_operation_of job) free)
+pub part_of_served : (ns : Namespace) (job : Job) (unit : ℕ) → refusal_of ns job ≡ None → job_part_in ns job unit ≡ part_of_ready ns (job_operation_of ns job) unit
+part_of_served ns job unit free = ap (λ (o : Option Operation). part_of_ready ns o unit) (served_is (refusal_of ns job) (job_operation_of ns job) free)
 
-pub units_of_served : (ns : Namespace) (job : Job) → refusal_of ns job ≡ None → job_units ns job ≡ units_of_ready ns (job_operation_of job)
-units_of_served ns job free = ap (units_of_ready ns) (served_is (refusal_of ns job) (job_operation_of job) free)
+pub units_of_served : (ns : Namespace) (job : Job) → refusal_of ns job ≡ None → job_units ns job ≡ units_of_ready ns (job_operation_of ns job)
+units_of_served ns job free = ap (units_of_ready ns) (served_is (refusal_of ns job) (job_operation_of ns job) free)
 
-pub part_is_there : (ns : Namespace) (job : Job) (op : Operation) (unit : ℕ) → refusal_of ns job ≡ None → job_operation_of job ≡ Some op
+pub part_is_there : (ns : Namespace) (job : Job) (op : Operation) (unit : ℕ) → refusal_of ns job ≡ None → job_operation_of ns job ≡ Some op
     → IsTrue (meets ns op unit) → job_part_in ns job unit ≡ Some (part_in ns op unit)
 part_is_there ns job op unit free stands met =
     part_of_served ns job unit free ∙ ap (λ (o : Option Operation). part_of_ready ns o unit) stands ∙ part_there ns op unit met
 
-pub units_are : (ns : Namespace) (job : Job) (op : Operation) → refusal_of ns job ≡ None → job_operation_of job ≡ Some op → job_units ns job ≡ units_met ns op
+pub units_are : (ns : Namespace) (job : Job) (op : Operation) → refusal_of ns job ≡ None → job_operation_of ns job ≡ Some op → job_units ns job ≡ units_met ns op
 units_are ns job op free stands = units_of_served ns job free ∙ ap (units_of_ready ns) stands
+
+-- the operation of a job that has a part in the unit
+operation_met : (ns : Namespace) (ready : Option Operation) (unit : ℕ) → Contains (units_of_ready ns ready) unit → (op : Operation) × Contains (units_met ns op) unit
+operation_met ns None unit there = absurd (omega (arith, there.1))
+operation_met ns (Some op) unit there = (op, there)
+
+pub has_units : (ns : Namespace) (job : Job) (unit : ℕ) → Contains (job_units ns job) unit → (op : Operation) × Contains (units_met ns op) unit
+has_units ns job unit there = operation_met ns (ready_operation ns job) unit there
 
 -- nothing of a refused job
 none_ready : (refused : Option Statuses) (stands : Option Operation) (refusal : Statuses) → refused ≡ Some refusal → unless_refused refused stands ≡ None
@@ -108,17 +197,19 @@ none_ready refused stands refusal e = rw e refl
 
 pub nothing_refused : (ns : Namespace) (job : Job) (refusal : Statuses) (unit : ℕ) → refusal_of ns job ≡ Some refusal → (job_units ns job ≡ []) × (job_part_in ns job unit ≡ None)
 nothing_refused ns job refusal unit e =
-    let none = none_ready (refusal_of ns job) (job_operation_of job) refusal e in
+    let none = none_ready (refusal_of ns job) (job_operation_of ns job) refusal e in
     (ap (units_of_ready ns) none, ap (λ (o : Option Operation). part_of_ready ns o unit) none)
 
 pub part_covered : (ns : Namespace) (op part : Operation) (unit : ℕ) (place : Place) → part_in ns op unit ≡ part → 0 < (part_in ns op unit).blocks → place.size ≡ ns.block_size
     → (place.first ≤ (part_in ns op unit).first) × ((part_in ns op unit).first + (part_in ns op unit).blocks ≤ place.first + place.blocks)
     → HasData ((part_in ns op unit).blocks * ns.block_size) (part_in ns op unit).deed
+    → HasRangesWithin (part_in ns op unit).first (part_in ns op unit).blocks (part_in ns op unit).deed
     → IsCovered place part
-part_covered ns op part unit place is some size lies payload =
+part_covered ns op part unit place is some size lies payload ranges =
     subst (IsCovered place) is (record {
       range = record { some = some; above = lies.0; below = lies.1 };
       payload = subst (λ (n : ℕ). HasData ((part_in ns op unit).blocks * n) (part_in ns op unit).deed) (sym size) payload;
+      ranges = ranges;
     })
 
 -- what is borrowed of the part lies there, too

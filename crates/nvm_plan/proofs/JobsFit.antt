@@ -1,5 +1,5 @@
 -- Jobs of whole commands fit.
-use Rattle.std.proofs.Common.{ℕ, ◌≤◌, List, [], ◌∷◌, length, arith}
+use Rattle.std.proofs.Common.{inl, ℕ, ◌≤◌, List, [], ◌∷◌, length, arith}
 use Rattle.std.specs.List.{All}
 use Rattle.std.proofs.lemmas.List.Elements.{All-head, All-tail}
 use Rattle.nvm_record.specs.Entry.{IsWhole}
@@ -13,7 +13,7 @@ use Rattle.nvm_plan.specs.Jobs.{commands_of, IsBody, IsJobList}
 use Rattle.nvm_plan.proofs.JobPlaces.{all_of_hosts, all_whole}
 
 whole_body : (size : ℕ) (body : Body) → All (IsWhole size) (commands_of body) → IsBody body → IsWholeBody size body
-whole_body size (Single c) whole paired = All-head (IsWhole size) c [] whole
+whole_body size (Single c) whole paired = inl (All-head (IsWhole size) c [] whole)
 whole_body size (Pair c d) whole paired =
     (All-head (IsWhole size) c (d ∷ []) whole, All-head (IsWhole size) d [] (All-tail (IsWhole size) c (d ∷ []) whole), paired)
 

@@ -15,5 +15,7 @@ pub mod OneOutcome
 pub mod Endings
 pub mod OutcomeShape
 pub mod Arity
+pub mod DataTold
 pub mod JobsFit
 pub mod JobParts
+pub mod ReachOfJobs

@@ -70,4 +70,4 @@ same_by ns None None replies told other read also a b = absurd a
 
 pub same_outcome : (ns : Namespace) (job : Job) (replies : List Reply) (told other : Statuses) (read also : Option (List ℕ))
     → IsOutcome ns job replies told read → IsOutcome ns job replies other also → IsSame told read other also
-same_outcome ns job = same_by ns (refusal_of ns job) (job_operation_of job)
+same_outcome ns job = same_by ns (refusal_of ns job) (job_operation_of ns job)

@@ -148,4 +148,4 @@ shape_by ns None None replies told read h = h
 
 pub outcome_shape : (ns : Namespace) (job : Job) (replies : List Reply) (told : Statuses) (read : Option (List ℕ))
     → IsOutcome ns job replies told read → HasOutcomeShape ns job (parts_of replies) told read
-outcome_shape ns job replies told read h = shape_by ns (refusal_of ns job) (job_operation_of job) replies told read h
+outcome_shape ns job replies told read h = shape_by ns (refusal_of ns job) (job_operation_of ns job) replies told read h

@@ -7,6 +7,9 @@ use Rattle.nvm_record.specs.declared.op.Op.TheVariants.{Write, Compare}
 use Rattle.nvm_record.specs.declared.op.Fuse.{Fuse}
 use Rattle.nvm_record.specs.declared.op.Fuse.TheVariants.{Normal, First, Second, Reserved}
 use Rattle.nvm_record.specs.declared.command.Command.{Command}
+use Rattle.nvm_record.specs.declared.lba_range.LbaRange.{LbaRange}
+use Rattle.nvm_record.specs.Op.{carries_ranges}
+use Rattle.nvm_record.specs.Ranges.{ranges_of}
 use Rattle.nvm_record.specs.declared.status.Statuses.{Statuses}
 use Rattle.nvm_record.specs.declared.status.Statuses.TheVariants.{One, Two}
 use Rattle.nvm_record.specs.Status.{invalid_command_opcode, invalid_field_in_command, aborted_due_to_failed_fused_command, aborted_due_to_missing_fused_command, invalid_namespace_or_format, atomic_write_unit_exceeded, lba_out_of_range}
@@ -48,9 +51,15 @@ are_compare_and_write _ _ = false
 abbrev pub namespace_identifier : ℕ
 namespace_identifier = 1
 
--- the range ends above NSZE
+-- some range ends above NSZE; one without a block ends where it begins
+abbrev pub some_ends_above : Namespace → List LbaRange → Bool
+some_ends_above ns [] = false
+some_ends_above ns (r ∷ rs) = nat_lt ns.nsze (r.first + r.blocks) || some_ends_above ns rs
+
+-- the command's range ends above NSZE, or one of its ranges does
 abbrev pub ends_above : Namespace → Command → Bool
-ends_above ns c = nat_lt ns.nsze (c.slba + c.nlb + 1)
+ends_above ns c =
+    if carries_ranges c.op then some_ends_above ns (ranges_of c.payload) else nat_lt ns.nsze (c.slba + c.nlb + 1)
 
 -- A boundary is crossed by a range that has a block: its first and its last LBA are in different units.
 abbrev pub crosses_boundary : Namespace → ℕ → ℕ → Bool

@@ -1,6 +1,6 @@
 -- What a job must be before it is done or recorded (own).
-use Rattle.std.specs.Prelude.{ℕ, ◌≤◌}
-use Rattle.nvm_record.specs.Entry.{IsWhole}
+use Rattle.std.specs.Prelude.{◌⊎◌, ℕ, ◌≤◌}
+use Rattle.nvm_record.specs.Entry.{IsWhole, IsUnknownDataset}
 use Rattle.nvm_geometry.specs.Namespace.{Namespace}
 use Rattle.nvm_plan.specs.declared.job.Body.{Body}
 use Rattle.nvm_plan.specs.declared.job.Body.TheVariants.{Single, Pair}
@@ -11,9 +11,10 @@ use Rattle.nvm_plan.specs.Profile.{IsFusedPair}
 abbrev pub most_hosts : ℕ
 most_hosts = 64
 
--- Each command has just the data that it calls for and a proper opcode, and two of them are a pair.
+-- Each command has just the data that it calls for and a proper opcode, or is a Dataset Management as an unknown opcode, and
+-- two of them are a pair.
 abbrev pub IsWholeBody : ℕ → Body → Type 0
-IsWholeBody size (Single c) = IsWhole size c
+IsWholeBody size (Single c) = IsWhole size c ⊎ IsUnknownDataset c
 IsWholeBody size (Pair c d) = IsWhole size c × IsWhole size d × IsFusedPair c d
 
 -- The host is one of the namespace's, and the body is whole, in its blocks.

@@ -16,7 +16,7 @@ unless_refused None operation = operation
 
 -- the operation of a job to which no check applies
 abbrev pub ready_operation : Namespace → Job → Option Operation
-ready_operation ns job = unless_refused (refusal_of ns job) (job_operation_of job)
+ready_operation ns job = unless_refused (refusal_of ns job) (job_operation_of ns job)
 
 abbrev pub units_of_ready : Namespace → Option Operation → List ℕ
 units_of_ready ns None = []

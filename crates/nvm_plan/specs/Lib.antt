@@ -12,3 +12,4 @@ pub mod CallOf
 pub mod Outcome
 pub mod Shape
 pub mod Completions
+pub mod Inside

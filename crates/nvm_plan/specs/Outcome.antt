@@ -57,8 +57,8 @@ pub record StopsAtLast (ns : Namespace) (op : Operation) (replies : List Reply) 
   pub statuses : told ≡ last.statuses
   pub payload : read ≡ None
 
--- Nothing was done, for want of memory before the first part. A job that isn't refused may always end so
--- here: that a growth was really refused, no definition can say.
+-- Nothing was done, for want of memory before the first part. A job that has a part may always end so here: that a
+-- growth was really refused, no definition can say. One that has none succeeds.
 pub record IsUnstarted (ns : Namespace) (op : Operation) (replies : List Reply) (told : Statuses) (read : Option (List ℕ)) : Type 0 where
   pub some : units_met ns op ≢ []
   pub none_done : replies ≡ []
@@ -80,5 +80,5 @@ pub record IsRefused (refusal : Statuses) (replies : List Reply) (told : Statuse
 abbrev pub IsOutcome : Namespace → Job → List Reply → Statuses → Option (List ℕ) → Type 0
 IsOutcome ns job replies told read =
     MatchOption (refusal_of ns job)
-    (IsSomeAnd (job_operation_of job) (λ op. IsOutcomeOf ns op replies told read))
+    (IsSomeAnd (job_operation_of ns job) (λ op. IsOutcomeOf ns op replies told read))
     (λ refusal. IsRefused refusal replies told read)

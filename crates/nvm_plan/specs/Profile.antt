@@ -3,7 +3,7 @@
 -- served to be one is this project's own.
 use Rattle.std.specs.Prelude.{◌≡◌, Bool, true, false, IsTrue}
 use Rattle.nvm_record.specs.declared.op.Op.{Op}
-use Rattle.nvm_record.specs.declared.op.Op.TheVariants.{Write, Read, WriteUncorrectable, Compare, WriteZeroes, Other}
+use Rattle.nvm_record.specs.declared.op.Op.TheVariants.{Write, Read, WriteUncorrectable, Compare, WriteZeroes, Dataset, Other}
 use Rattle.nvm_record.specs.declared.op.Fuse.TheVariants.{First, Second}
 use Rattle.nvm_record.specs.declared.command.Command.{Command}
 
@@ -14,6 +14,7 @@ is_in_profile Read = true
 is_in_profile WriteUncorrectable = true
 is_in_profile Compare = true
 is_in_profile WriteZeroes = true
+is_in_profile (Dataset deallocate) = true
 is_in_profile (Other opcode) = false
 
 -- The two commands are a fused pair: a first and a second, both of the profile.

@@ -1,8 +1,11 @@
 -- What is known of a job to which no check applies.
 use Rattle.std.specs.Prelude.{◌≡◌, ◌+◌, ◌≤◌, Some, None, IsTrue}
-use Rattle.nvm_record.specs.declared.op.Op.TheVariants.{Write, Compare}
+use Rattle.nvm_record.specs.Ranges.{ranges_of}
+use Rattle.nvm_record.specs.declared.op.Op.{Op}
+use Rattle.nvm_record.specs.declared.op.Op.TheVariants.{Write, Read, WriteUncorrectable, Compare, WriteZeroes, Dataset, Other}
 use Rattle.nvm_record.specs.declared.op.Fuse.TheVariants.{Normal}
 use Rattle.nvm_record.specs.declared.command.Command.{Command}
+use Rattle.nvm_geometry.specs.Deallocation.{EndInNamespace}
 use Rattle.nvm_geometry.specs.Namespace.{Namespace}
 use Rattle.nvm_geometry.specs.Limits.{IsWithinPairLimit}
 use Rattle.nvm_plan.specs.declared.job.Body.{Body}
@@ -13,12 +16,22 @@ use Rattle.nvm_plan.specs.declared.decision.Plan.TheVariants.{Refused, Ready}
 use Rattle.nvm_plan.specs.Profile.{is_in_profile}
 use Rattle.nvm_plan.specs.Checks.{namespace_identifier, refusal_of}
 
--- A command of the profile, by itself, whose range lies in the namespace.
+-- The command's range lies in the namespace, or each of its ranges does, if it is a Dataset Management.
+abbrev pub LiesInNamespace : Namespace → Op → Command → Type 0
+LiesInNamespace ns Write c = c.slba + (c.nlb + 1) ≤ ns.nsze
+LiesInNamespace ns Read c = c.slba + (c.nlb + 1) ≤ ns.nsze
+LiesInNamespace ns WriteUncorrectable c = c.slba + (c.nlb + 1) ≤ ns.nsze
+LiesInNamespace ns Compare c = c.slba + (c.nlb + 1) ≤ ns.nsze
+LiesInNamespace ns WriteZeroes c = c.slba + (c.nlb + 1) ≤ ns.nsze
+LiesInNamespace ns (Dataset deallocate) c = EndInNamespace ns (ranges_of c.payload)
+LiesInNamespace ns (Other opcode) c = c.slba + (c.nlb + 1) ≤ ns.nsze
+
+-- A command of the profile, by itself, that asks for nothing outside the namespace.
 pub record IsReadySingle (ns : Namespace) (c : Command) : Type 0 where
   pub op : IsTrue (is_in_profile c.op)
   pub fuse : c.fuse ≡ Normal
   pub nsid : c.nsid ≡ namespace_identifier
-  pub range : c.slba + (c.nlb + 1) ≤ ns.nsze
+  pub range : LiesInNamespace ns c.op c
 
 -- Compare and Write of one range, which lies in the namespace, in one unit and within the limit.
 pub record IsReadyPair (ns : Namespace) (c d : Command) : Type 0 where

@@ -6,7 +6,7 @@ use Rattle.nvm_record.specs.declared.status.Statuses.TheVariants.{One, Two}
 use Rattle.nvm_record.specs.Status.{IsSuccess, successful_completion, internal_error, aborted_due_to_failed_fused_command, unrecovered_read_error, compare_failure}
 use Rattle.nvm_record.specs.Deeds.{is_read, is_look, is_pair, for_deed, success_of}
 use Rattle.nvm_record.specs.Medium.{Medium}
-use Rattle.nvm_record.specs.Step.{Deed, Operation, writes, zeroes, uncorrectable, reads, compares, pairs, statuses_of, data_of}
+use Rattle.nvm_record.specs.Step.{Deed, Operation, writes, zeroes, uncorrectable, reads, compares, pairs, deallocates, statuses_of, data_of}
 use Rattle.nvm_geometry.specs.Namespace.{Namespace}
 use Rattle.nvm_geometry.specs.Parts.{part_in}
 use Rattle.nvm_plan.specs.declared.part.Part.{Part}
@@ -53,6 +53,7 @@ CanEndLook uncorrectable s = ⊥
 CanEndLook reads s = (s ≡ successful_completion) ⊎ (s ≡ unrecovered_read_error)
 CanEndLook (compares payload) s = (s ≡ successful_completion) ⊎ IsFailedComparison s
 CanEndLook (pairs payload new) s = ⊥
+CanEndLook (deallocates ranges) s = ⊥
 
 abbrev pub IsOfLook : Deed → Statuses → Type 0
 IsOfLook deed (One s) = CanEndLook deed s

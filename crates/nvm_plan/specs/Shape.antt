@@ -84,7 +84,7 @@ pub record HasShapeOfRefusal (refusal : Statuses) (parts : List Part) (told : St
 abbrev pub HasOutcomeShape : Namespace → Job → List Part → Statuses → Option (List ℕ) → Type 0
 HasOutcomeShape ns job parts told read =
     MatchOption (refusal_of ns job)
-    (IsSomeAnd (job_operation_of job) (λ op. HasShapeOf ns op parts told read))
+    (IsSomeAnd (job_operation_of ns job) (λ op. HasShapeOf ns op parts told read))
     (λ refusal. HasShapeOfRefusal refusal parts told read)
 
 -- There is a status for each command of the body.

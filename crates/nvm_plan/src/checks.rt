@@ -1,8 +1,8 @@
-ghost use Rattle.std.specs.Prelude.{◌≡◌, ◌+◌, ◌<◌, ◌≤◌};
+ghost use Rattle.std.specs.Prelude.{◌≡◌, ◌+◌, ◌<◌, ◌≤◌, not};
 ghost use Rattle.nvm_record.specs.Status.{aborted_due_to_failed_fused_command};
 ghost use Rattle.nvm_record.specs.declared.status.Statuses.TheVariants.{Two};
 ghost use Rattle.nvm_plan.specs.Checks as spec;
-ghost use Rattle.nvm_plan.specs.Checks.{checks, single_checks, pair_checks, first_answer};
+ghost use Rattle.nvm_plan.specs.Checks.{checks, single_checks, pair_checks, first_answer, ends_above};
 ghost use Rattle.nvm_plan.specs.Ready.{IsReady, IsPlan, IfReady};
 
 use crate::decision::Plan;
@@ -26,6 +26,9 @@ const NAMESPACE_IDENTIFIER: u32 = 1;
 /// | a FUSE value that asks for a partner | 0/0a | two ranges that differ | 0/02, 0/02 |
 /// | another namespace than 1 | 0/0b | a range that ends above NSZE | 0/80, 0/09 |
 /// | a range that ends above NSZE | 0/80 | a range above the pair limit, or over a boundary | 0/14, 0/09 |
+///
+/// The ranges of a Dataset Management are all looked at, with the Deallocate bit or without it. A range without a
+/// block ends where it begins.
 #[tactic(auto, unfolding(crate::specs::Checks::refusal_of))]
 pub fn plan(geometry: &Geometry, job: &Job) -> Plan
     ensures table { IsPlan geometry.now job.now result }
@@ -65,10 +68,20 @@ fn single_refusal(geometry: Geometry, command: &Command) -> Option<Statuses>
     if command.nsid != NAMESPACE_IDENTIFIER {
         return Some(Statuses::One(Status::INVALID_NAMESPACE_OR_FORMAT));
     }
-    if !geometry.in_range(command.slba, u32::from(command.nlb) + 1) {
+    if !lies_in_namespace(geometry, command) {
         return Some(Statuses::One(Status::LBA_OUT_OF_RANGE));
     }
     None
+}
+
+/// Whether the command's range lies in the namespace, or each of its ranges does.
+fn lies_in_namespace(geometry: Geometry, command: &Command) -> bool
+    ensures { not result ≡ ends_above geometry command.now }
+{
+    if command.op.carries_ranges() {
+        return geometry.ranges_in_range(command.payload.as_slice());
+    }
+    geometry.in_range(command.slba, u32::from(command.nlb) + 1)
 }
 
 /// The statuses with which a fused pair is refused, if it is.

@@ -14,21 +14,23 @@ pub enum Completions {
 
 impl Completions {
     ghost use Rattle.nvm_plan.specs.Completions.{completions_of};
+    ghost use Rattle.nvm_plan.specs.Shape.{IsForEach};
 
-    /// The completions of a job that ended with these statuses and this data. A command by itself has the data,
-    /// the commands of a pair have none. It takes no memory.
+    /// The completions of a job that ended with these statuses, one for each of its commands, and this data. A
+    /// command by itself has the data, the commands of a pair have none. It takes no memory.
     pub fn of(job: &Job, statuses: Statuses, payload: Option<ReadData>) -> Completions
+        requires { IsForEach job.now.body statuses }
         ensures { result ≡ completions_of job.now statuses payload }
     {
-        let first = first_status(statuses);
-        match &job.body {
-            Body::Single(command) => {
-                Completions::One(completion(job.host, command, first, payload))
+        match (&job.body, statuses) {
+            (Body::Single(command), Statuses::One(status)) => {
+                Completions::One(completion(job.host, command, status, payload))
             }
-            Body::Pair(compare, write) => Completions::Two(
+            (Body::Pair(compare, write), Statuses::Two(first, second)) => Completions::Two(
                 completion(job.host, compare, first, None),
-                completion(job.host, write, second_status(statuses), None),
+                completion(job.host, write, second, None),
             ),
+            _ => unreachable!("each command has a status"),
         }
     }
 }
@@ -42,23 +44,5 @@ fn completion(host: u16, command: &Command, status: Status, payload: Option<Read
         cid: command.cid,
         status,
         payload,
-    }
-}
-
-/// The status of the first command.
-fn first_status(statuses: Statuses) -> Status
-    ensures { result ≡ spec.first_status statuses }
-{
-    match statuses {
-        Statuses::One(status) | Statuses::Two(status, _) => status,
-    }
-}
-
-/// The status of the second command.
-fn second_status(statuses: Statuses) -> Status
-    ensures { result ≡ spec.second_status statuses }
-{
-    match statuses {
-        Statuses::One(status) | Statuses::Two(_, status) => status,
     }
 }

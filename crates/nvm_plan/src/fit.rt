@@ -10,7 +10,9 @@ pub const MOST_HOSTS: u16 = 64;
 
 /// Whether the job can be done and recorded on a namespace of this geometry: its host is 1 to 64,
 /// each command has just the data that it calls for in the geometry's blocks and holds no opcode as
-/// `Other` that has a name, and a pair is a first and a second of the profile. It takes no memory.
+/// `Other` that has a name, and a pair is a first and a second of the profile. A Dataset Management as an
+/// unknown opcode without data is taken too, since it was one once: [`plan`](crate::plan) refuses it. It takes no
+/// memory.
 pub fn fits(geometry: &Geometry, job: &Job) -> bool
     ensures { IsTrue result ↔ FitsNamespace geometry.now job.now }
 {
@@ -19,7 +21,7 @@ pub fn fits(geometry: &Geometry, job: &Job) -> bool
     }
     let size = geometry.block_size();
     match &job.body {
-        Body::Single(command) => command.is_whole(size),
+        Body::Single(command) => command.is_whole(size) || command.is_unknown_dataset(),
         Body::Pair(first, second) => {
             first.is_whole(size) && second.is_whole(size) && is_fused_pair(first, second)
         }

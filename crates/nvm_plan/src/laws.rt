@@ -1,14 +1,18 @@
 //! What holds of plans and outcomes by their definitions alone. Each law is a call that does nothing and
 //! whose contract is the law.
 
-ghost use Rattle.std.specs.Prelude.{◌≡◌, ◌≢◌, ◌↔◌, ◌*◌, ◌+◌, ◌<◌, ◌≤◌, ℕ, List, [], ◌∷◌, ◌++◌, Contains, map, Option, None, Some, unwrap_or, IsSome, false};
+ghost use Rattle.std.specs.Prelude.{◌≡◌, ◌≢◌, ◌⊎◌, ◌↔◌, ◌*◌, ◌+◌, ◌<◌, ◌≤◌, ℕ, List, [], ◌∷◌, ◌++◌, Contains, map, Option, None, Some, unwrap_or, IsSome, IsTrue, false};
 ghost use Rattle.nvm_record.specs.declared.status.Statuses.{Statuses};
+ghost use Rattle.nvm_record.specs.declared.status.Statuses.TheVariants.{One};
+ghost use Rattle.nvm_record.specs.declared.lba_range.LbaRange.{LbaRange};
 ghost use Rattle.nvm_record.specs.Medium.{Medium};
-ghost use Rattle.nvm_record.specs.Deeds.{IsLook, IsAct, IsPair, IsFailedPair, success_of};
-ghost use Rattle.nvm_record.specs.Status.{IsSuccess};
-ghost use Rattle.nvm_record.specs.Step.{Deed, HasData, Operation, statuses_of};
+ghost use Rattle.nvm_record.specs.Ranges.{ranges_have};
+ghost use Rattle.nvm_record.specs.Deeds.{is_read, IsLook, IsAct, IsPair, IsOnRange, IsFailedPair, success_of};
+ghost use Rattle.nvm_record.specs.Status.{IsSuccess, successful_completion};
+ghost use Rattle.nvm_record.specs.Step.{Deed, deallocates, HasData, Operation, statuses_of};
 ghost use Rattle.nvm_geometry.specs.Namespace.{Namespace};
-ghost use Rattle.nvm_geometry.specs.Boundaries.{unit_number};
+ghost use Rattle.nvm_geometry.specs.Boundaries.{unit_number, units_of};
+ghost use Rattle.nvm_geometry.specs.Deallocation.{deallocation, EndInNamespace};
 ghost use Rattle.nvm_geometry.specs.Limits.{IsWithinPairLimit};
 ghost use Rattle.nvm_geometry.specs.Parts.{part_in, units_met};
 ghost use Rattle.nvm_store.specs.declared.place.Place.{Place as UnitPlace};
@@ -38,47 +42,60 @@ pub fn pair_limit_is_the_last_check()
     laws::sharing_is_one_number();
 }
 
-/// The jobs to which no check applies are those that are ready, and each stands for an operation. The
-/// operation's range has a block and lies in the namespace, so it has a part; that of a pair has just
-/// one.
+/// The jobs to which no check applies are those that are ready, and each stands for an operation in the
+/// namespace. One on a range has a block, so it has a part; that of a pair has just one. The ranges of a Deallocate
+/// lie in the namespace, which is its operation's range.
 #[tactic(auto, unfolding(crate::specs::Checks::refusal_of))]
 pub fn ready_jobs()
     ensures ready { (ns : Namespace) (job : Job) → refusal_of ns job ≡ None → IsReady ns job }
     ensures unrefused { (ns : Namespace) (job : Job) → IsReady ns job → refusal_of ns job ≡ None }
-    ensures operation { (ns : Namespace) (job : Job) → refusal_of ns job ≡ None → IsSome (job_operation_of job) }
+    ensures operation { (ns : Namespace) (job : Job) → refusal_of ns job ≡ None → IsSome (job_operation_of ns job) }
     ensures range { (ns : Namespace) (job : Job) (op : Operation) → refusal_of ns job ≡ None
-        → job_operation_of job ≡ Some op → (0 < op.blocks) × (op.first + op.blocks ≤ ns.nsze) }
+        → job_operation_of ns job ≡ Some op → op.first + op.blocks ≤ ns.nsze }
+    ensures some { (ns : Namespace) (job : Job) (op : Operation) → refusal_of ns job ≡ None
+        → job_operation_of ns job ≡ Some op → IsOnRange op.deed ⊎ (0 < ns.nsze) → 0 < op.blocks }
     ensures units { (ns : Namespace) (job : Job) (op : Operation) → refusal_of ns job ≡ None
-        → job_operation_of job ≡ Some op → units_met ns op ≢ [] }
+        → job_operation_of ns job ≡ Some op → IsOnRange op.deed → units_met ns op ≢ [] }
     ensures pair { (ns : Namespace) (job : Job) (op : Operation) → refusal_of ns job ≡ None
-        → job_operation_of job ≡ Some op → IsPair op.deed
+        → job_operation_of ns job ≡ Some op → IsPair op.deed
         → units_met ns op ≡ unit_number ns op.first ∷ [] }
+    ensures ranges { (ns : Namespace) (job : Job) (op : Operation) (ranges : List LbaRange) → refusal_of ns job ≡ None
+        → job_operation_of ns job ≡ Some op → op.deed ≡ deallocates ranges
+        → (op ≡ deallocation ns ranges) × EndInNamespace ns ranges }
 {
     laws::sharing_is_one_number();
-    laws::parts_lie_in_their_units();
+    laws::whole_ranges_are_reached();
+    laws::units_met_are_those_reached();
     laws::one_unit_is_one_part();
 }
 
 /// The operation of a job that fits has just the data of its blocks.
 pub fn jobs_that_fit_have_their_data()
     ensures { (ns : Namespace) (job : Job) (op : Operation) → FitsNamespace ns job
-        → refusal_of ns job ≡ None → job_operation_of job ≡ Some op
+        → refusal_of ns job ≡ None → job_operation_of ns job ≡ Some op
         → HasData (op.blocks * ns.block_size) op.deed }
 {
     ready_jobs();
 }
 
-/// A job has a part in just the units that its operation meets, and that part is its operation's. One that a
-/// check refuses has none. The part of a job that fits lies in its unit, has a block, and has just its data.
+/// A job has a part in just the units that its operation meets, all of them units of the namespace, and that part is
+/// its operation's. Those of a Deallocate are the units in which one of its ranges has an LBA, however many ranges have
+/// one there. A job that a check refuses has no part. The part of a job that fits lies in its unit, has a block, and
+/// has just its data, or its ranges lie there.
 pub fn parts_of_jobs()
     ensures part { (ns : Namespace) (job : Job) (op : Operation) (unit : ℕ) → refusal_of ns job ≡ None
-        → job_operation_of job ≡ Some op → Contains (units_met ns op) unit
+        → job_operation_of ns job ≡ Some op → Contains (units_met ns op) unit
         → job_part_in ns job unit ≡ Some (part_in ns op unit) }
     ensures known { (ns : Namespace) (job : Job) (unit : ℕ) (part : Operation) → job_part_in ns job unit ≡ Some part
-        → (refusal_of ns job ≡ None) × (op : Operation) × (job_operation_of job ≡ Some op)
+        → (refusal_of ns job ≡ None) × (op : Operation) × (job_operation_of ns job ≡ Some op)
         × Contains (units_met ns op) unit × (part ≡ part_in ns op unit) }
     ensures units { (ns : Namespace) (job : Job) (op : Operation) → refusal_of ns job ≡ None
-        → job_operation_of job ≡ Some op → job_units ns job ≡ units_met ns op }
+        → job_operation_of ns job ≡ Some op → job_units ns job ≡ units_met ns op }
+    ensures deallocated { (ns : Namespace) (job : Job) (op : Operation) (ranges : List LbaRange) (unit : ℕ)
+        → refusal_of ns job ≡ None → job_operation_of ns job ≡ Some op → op.deed ≡ deallocates ranges
+        → Contains (job_units ns job) unit
+        ↔ ((lba : ℕ) × IsTrue (ranges_have ranges lba) × (unit_number ns lba ≡ unit)) }
+    ensures inside { (ns : Namespace) (job : Job) (unit : ℕ) → Contains (job_units ns job) unit → unit < units_of ns }
     ensures refused { (ns : Namespace) (job : Job) (refusal : Statuses) (unit : ℕ) → refusal_of ns job ≡ Some refusal
         → (job_units ns job ≡ []) × (job_part_in ns job unit ≡ None) }
     ensures covered { (ns : Namespace) (job : Job) (unit : ℕ) (place : UnitPlace) (part : Operation)
@@ -86,6 +103,8 @@ pub fn parts_of_jobs()
         → IsCovered place part }
 {
     laws::parts_lie_in_their_units();
+    laws::units_met_are_those_reached();
+    laws::ranges_meet_their_units();
     ready_jobs();
     jobs_that_fit_have_their_data();
 }
@@ -93,7 +112,7 @@ pub fn parts_of_jobs()
 /// The outcome of a job that isn't refused is that of its operation. Nothing is done of a refused one.
 pub fn outcomes_by_plan()
     ensures ready { (ns : Namespace) (job : Job) (op : Operation) (replies : List Reply) (told : Statuses)
-        (read : Option (List ℕ)) → refusal_of ns job ≡ None → job_operation_of job ≡ Some op
+        (read : Option (List ℕ)) → refusal_of ns job ≡ None → job_operation_of ns job ≡ Some op
         → IsOutcome ns job replies told read ↔ IsOutcomeOf ns op replies told read }
     ensures refused { (ns : Namespace) (job : Job) (refusal : Statuses) (replies : List Reply) (told : Statuses)
         (read : Option (List ℕ)) → refusal_of ns job ≡ Some refusal
@@ -104,7 +123,7 @@ pub fn outcomes_by_plan()
 /// refusal.
 pub fn shapes_by_plan()
     ensures ready { (ns : Namespace) (job : Job) (op : Operation) (parts : List Part) (told : Statuses)
-        (read : Option (List ℕ)) → refusal_of ns job ≡ None → job_operation_of job ≡ Some op
+        (read : Option (List ℕ)) → refusal_of ns job ≡ None → job_operation_of ns job ≡ Some op
         → HasOutcomeShape ns job parts told read ↔ HasShapeOf ns op parts told read }
     ensures refused { (ns : Namespace) (job : Job) (refusal : Statuses) (parts : List Part) (told : Statuses)
         (read : Option (List ℕ)) → refusal_of ns job ≡ Some refusal
@@ -161,6 +180,20 @@ pub fn outcomes_have_their_shape()
         → IsOutcome ns job replies told read
         → HasOutcomeShape ns job (map (λ reply. reply.part) replies) told read }
 {}
+
+/// Data is told of a Read by itself that succeeds, and of no other job: it comes with the one status 0/00.
+pub fn data_comes_with_success()
+    ensures outcome { (ns : Namespace) (job : Job) (replies : List Reply) (told : Statuses) (read : Option (List ℕ))
+        → IsOutcome ns job replies told read → IsSome read
+        → (op : Operation) × (job_operation_of ns job ≡ Some op) × IsTrue (is_read op.deed)
+        × (told ≡ One successful_completion) }
+    ensures shape { (ns : Namespace) (job : Job) (parts : List Part) (told : Statuses) (read : Option (List ℕ))
+        → HasOutcomeShape ns job parts told read → IsSome read
+        → (op : Operation) × (job_operation_of ns job ≡ Some op) × IsTrue (is_read op.deed)
+        × (told ≡ One successful_completion) }
+{
+    outcomes_have_their_shape();
+}
 
 /// An outcome has a status for each command of its job, and so has its shape.
 pub fn each_command_has_a_status()

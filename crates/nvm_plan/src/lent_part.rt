@@ -1,18 +1,19 @@
-ghost use Rattle.std.specs.Prelude.{◌≡◌, ◌+◌, ◌-◌, ◌*◌, ◌≤◌, length, map, IfSome, IsTrue, MatchOption, None, Some};
+ghost use Rattle.std.specs.Prelude.{◌≡◌, ◌+◌, ◌-◌, ◌*◌, ◌≤◌, length, IfSome, IsTrue, MatchOption, None, Some, false};
 ghost use Rattle.nvm_record.specs.Entry.{IsWhole};
+ghost use Rattle.nvm_record.specs.Op.{carries_ranges};
 ghost use Rattle.nvm_record.specs.PayloadRef.{lent_bytes};
+ghost use Rattle.nvm_record.specs.Ranges.{ranges_of};
 ghost use Rattle.nvm_record.specs.Step.{Operation};
-ghost use Rattle.nvm_geometry.specs.Parts.{data_part, part_in, piece_in, pieces_of};
-ghost use Rattle.nvm_geometry.specs.Boundaries.{units_of};
+ghost use Rattle.nvm_geometry.specs.Deallocation.{deallocation, EndInNamespace};
+ghost use Rattle.nvm_geometry.specs.Parts.{data_part, part_in, piece_in};
 ghost use Rattle.nvm_store.specs.declared.place.Place.{Place as UnitPlace};
 ghost use Rattle.nvm_store.specs.Place.{IsCovered};
 ghost use Rattle.nvm_plan.specs.UnitPlace.{IsUnitPlace};
-ghost use Rattle.nvm_plan.specs.Checks.{refusal_of};
 ghost use Rattle.nvm_plan.specs.Fits.{FitsNamespace, IsWholeBody};
 ghost use Rattle.nvm_plan.specs.JobPart as spec;
-ghost use Rattle.nvm_plan.specs.JobPart.{job_units, part_of_ready};
+ghost use Rattle.nvm_plan.specs.JobPart.{part_of_ready};
 ghost use Rattle.nvm_plan.specs.LentPart.{part_operation_of};
-ghost use Rattle.nvm_plan.specs.Operation.{single_operation, fused_operation, operation_of_body, job_operation_of};
+ghost use Rattle.nvm_plan.specs.Operation.{single_operation, fused_operation, operation_of_body};
 ghost use Rattle.nvm_plan.specs.Profile.{is_in_profile};
 ghost use Rattle.nvm_plan.specs.Ready.{IsReadyBody, IsReadyPair};
 
@@ -20,14 +21,16 @@ use crate::checks::plan;
 use crate::decision::Plan;
 use crate::job::{Body, Job};
 use crate::laws::{parts_of_jobs, ready_jobs};
-use nvm_geometry::{Geometry, Parts, Piece, laws};
+use crate::reach::deallocated;
+use nvm_geometry::{Geometry, Piece, laws};
 use nvm_record::{BlockSize, Command, Op, PayloadRef};
 use nvm_store::{ActRef, Look};
 
 /// A job's part in one unit, with its data lent by the job's commands.
 #[derive(Clone, Copy, Debug)]
 pub enum LentPart<'a> {
-    /// A Write, a Write Zeroes, a Write Uncorrectable or a fused pair.
+    /// A Write, a Write Zeroes, a Write Uncorrectable, a Deallocate or a fused pair. A Deallocate's ranges are all
+    /// that its command has: they are cut where the act is done.
     Act(ActRef<'a>),
     /// A Read, or a Compare by itself.
     Look(Look<'a>),
@@ -35,7 +38,8 @@ pub enum LentPart<'a> {
 
 /// A job's part in a unit: what is done there, on just those of its blocks that lie in the unit and with just
 /// their data. It is `None` where a check refuses the job, where none of its blocks lies in the unit, and where
-/// no unit has that number. It takes no memory and a constant number of steps.
+/// no unit has that number. It takes no memory and a constant number of steps, and for a Dataset Management a walk
+/// over its ranges.
 pub fn job_part_in<'a>(geometry: &Geometry, job: &'a Job, unit: u16) -> Option<LentPart<'a>>
     requires { FitsNamespace geometry.now job.now }
     ensures part { MatchOption result (spec.job_part_in geometry.now job.now unit ≡ None)
@@ -52,56 +56,20 @@ pub fn job_part_in<'a>(geometry: &Geometry, job: &'a Job, unit: u16) -> Option<L
     }
 }
 
-/// The pieces of a job's range, ascending: one for each unit in which the job has a part.
-pub fn job_pieces(geometry: &Geometry, job: &Job) -> Parts
-    requires { refusal_of geometry.now job.now ≡ None }
-    ensures pieces { (op : Operation) → job_operation_of job.now ≡ Some op
-        → result ≡ pieces_of geometry.now op.first op.blocks }
-    ensures units { map (λ p. p.unit) result ≡ job_units geometry.now job.now }
-{
-    laws::pieces_stand_in_line();
-    ready_jobs();
-    parts_of_jobs();
-    let command = leader(&job.body);
-    geometry.parts(command.slba, u32::from(command.nlb) + 1)
-}
-
-/// In how many units a job has a part: 0 where a check refuses it. It takes no memory and a constant number
-/// of steps.
-pub fn job_part_count(geometry: &Geometry, job: &Job) -> u16
-    ensures value { result ≡ length (job_units geometry.now job.now) }
-    ensures valid { result ≤ units_of geometry.now }
-{
-    ready_jobs();
-    match plan(geometry, job) {
-        Plan::Refused(_) => 0,
-        Plan::Ready => {
-            let command = leader(&job.body);
-            geometry.piece_count(command.slba, u32::from(command.nlb) + 1)
-        }
-    }
-}
-
-/// The command whose range is that of the job.
-fn leader(body: &Body) -> &Command
-    ensures { (op : Operation) → operation_of_body body.now ≡ Some op
-        → (op.first ≡ result.now.slba) × (op.blocks ≡ result.now.nlb + 1) }
-{
-    match body {
-        Body::Single(command) => command,
-        Body::Pair(compare, _) => compare,
-    }
-}
-
 /// The part of a job's commands in a unit.
 fn body_part<'a>(geometry: Geometry, body: &'a Body, unit: u16) -> Option<LentPart<'a>>
     requires ready { IsReadyBody geometry body.now }
     requires whole { IsWholeBody geometry.block_size body.now }
-    ensures { MatchOption result (part_of_ready geometry (operation_of_body body.now) unit ≡ None)
-        (λ part. part_of_ready geometry (operation_of_body body.now) unit ≡ Some (part_operation_of part)) }
+    ensures { MatchOption result (part_of_ready geometry (operation_of_body geometry body.now) unit ≡ None)
+        (λ part. part_of_ready geometry (operation_of_body geometry body.now) unit ≡ Some (part_operation_of part)) }
 {
+    laws::units_met_are_those_reached();
+    laws::whole_ranges_are_reached();
     match body {
         Body::Single(command) => {
+            if let Op::Dataset { deallocate } = command.op {
+                return ranges_part(geometry, deallocated(command, deallocate), unit);
+            }
             let piece = geometry.piece_in(unit, command.slba, u32::from(command.nlb) + 1)?;
             Some(single_part(geometry, command, piece))
         }
@@ -112,13 +80,34 @@ fn body_part<'a>(geometry: Geometry, body: &'a Body, unit: u16) -> Option<LentPa
     }
 }
 
+/// The part of a Deallocate of these ranges in a unit.
+fn ranges_part<'a>(geometry: Geometry, ranges: PayloadRef<'a>, unit: u16) -> Option<LentPart<'a>>
+    requires { EndInNamespace geometry (ranges_of (lent_bytes ranges)) }
+    ensures { MatchOption result
+        (part_of_ready geometry (Some (deallocation geometry (ranges_of (lent_bytes ranges.entry)))) unit ≡ None)
+        (λ part. part_of_ready geometry (Some (deallocation geometry (ranges_of (lent_bytes ranges.entry)))) unit
+        ≡ Some (part_operation_of part)) }
+{
+    laws::each_unit_has_one_place();
+    if geometry.next_met(ranges.as_slice(), unit)? != unit {
+        return None;
+    }
+    let (first, blocks) = geometry.unit_range(unit);
+    Some(LentPart::Act(ActRef::Deallocate {
+        first,
+        blocks,
+        ranges,
+    }))
+}
+
 /// The part of a command by itself, at a piece of its range.
 fn single_part<'a>(geometry: Geometry, command: &'a Command, piece: Piece) -> LentPart<'a>
     requires profile { IsTrue (is_in_profile command.now.op) }
+    requires on_range { carries_ranges command.now.op ≡ false }
     requires whole { IsWhole geometry.block_size command.now }
     requires piece { piece ≡ piece_in geometry command.now.slba (command.now.nlb + 1) piece.unit }
     requires within { piece.first + piece.blocks ≤ command.now.slba + (command.now.nlb + 1) }
-    ensures { (op : Operation) → single_operation command.now.op command.now ≡ Some op
+    ensures { (op : Operation) → single_operation geometry command.now.op command.now ≡ Some op
         → part_operation_of result ≡ part_in geometry op piece.unit }
 {
     let size = geometry.block_size();
@@ -138,7 +127,7 @@ fn single_part<'a>(geometry: Geometry, command: &'a Command, piece: Piece) -> Le
             payload: piece_data(command, piece, size).as_slice(),
         }),
         Op::WriteZeroes => LentPart::Act(ActRef::Zeroes { first, blocks }),
-        Op::Other(_) => unreachable!("it isn't of the profile"),
+        Op::Dataset { .. } | Op::Other(_) => unreachable!("it is of the profile, and on a range"),
     }
 }
 

@@ -2,9 +2,9 @@
 //! anything is done, and what each of them asks of a unit.
 //!
 //! [`jobs`] pairs the hosts' commands and puts them in order, [`plan`] is the table of checks, and [`fits`]
-//! tests what a job must be before it. [`job_part_in`] is a job's act or look in one unit, and [`Completions`]
-//! are what its host is told. What a job does to the medium and what its outcome is stands in specs alone;
-//! [`laws`] and [`job_laws`] have what holds of these.
+//! tests what a job must be before it. [`job_units`] are the units in which a job has a part, [`job_part_in`] is its
+//! act or look in one of them, and [`Completions`] are what its host is told. What a job does to the medium and what
+//! its outcome is stands in specs alone; [`laws`] and [`job_laws`] have what holds of these.
 #![tactic(auto)]
 
 mod checks;
@@ -20,8 +20,10 @@ mod pairing;
 mod part;
 mod place;
 mod profile;
+mod reach;
 #[cfg(test)]
 mod tests;
+mod units;
 
 pub use checks::plan;
 pub use completions::Completions;
@@ -29,6 +31,7 @@ pub use decision::Plan;
 pub use fit::{MOST_HOSTS, fits};
 pub use job::{Body, Job};
 pub use job_list::jobs;
-pub use lent_part::{LentPart, job_part_count, job_part_in, job_pieces};
+pub use lent_part::{LentPart, job_part_in};
 pub use part::{Part, PartResult};
 pub use place::unit_place;
+pub use units::{JobUnits, job_part_count, job_units};

@@ -9,7 +9,12 @@ pub(crate) fn is_in_profile(op: Op) -> bool
     ensures { result ≡ spec.is_in_profile op }
 {
     match op {
-        Op::Write | Op::Read | Op::WriteUncorrectable | Op::Compare | Op::WriteZeroes => true,
+        Op::Write
+        | Op::Read
+        | Op::WriteUncorrectable
+        | Op::Compare
+        | Op::WriteZeroes
+        | Op::Dataset { .. } => true,
         Op::Other(_) => false,
     }
 }

@@ -6,8 +6,8 @@ use Rattle.std.proofs.Math.Nat.{mul-le-mul_right}
 use Rattle.nvm_record.specs.declared.block.Block.{Block}
 use Rattle.nvm_record.specs.declared.block.Block.TheVariants.{Bytes, Uncorrectable}
 use Rattle.nvm_record.specs.Medium.{Medium, zero_medium, range, is_marked, has_mark, bytes_of, joined, IsOfSize, HasBlockSize}
-use Rattle.nvm_record.specs.Step.{HasData, Deed, Operation, writes, zeroes, uncorrectable, reads, compares, pairs, compares_equal, block_at, block_after, is_in_range, range_of, data_of, data_on, medium_after}
-use Rattle.nvm_record.proofs.Locality.{range_bounds, after_inside, after_outside}
+use Rattle.nvm_record.specs.Step.{HasData, Deed, Operation, writes, zeroes, uncorrectable, reads, compares, pairs, deallocates, compares_equal, block_at, block_after, reaches, range_of, data_of, data_on, medium_after}
+use Rattle.nvm_record.proofs.Locality.{reached_bounds, after_reached, after_unreached}
 
 pub zero_sizes : (size : ℕ) → HasBlockSize size (zero_medium size)
 zero_sizes size lba = length-replicate size 0
@@ -31,16 +31,17 @@ block_after_size size blocks i before (pairs payload new) old has inside holds =
       | inl t ↦ rw t (block_size size blocks i new has.1 inside)
       | inr f ↦ rw f holds
     ]
+block_after_size size blocks i before (deallocates ranges) old has inside holds = length-replicate size 0
 
 pub step_sizes : (size : ℕ) (op : Operation) (m : Medium) → HasData (op.blocks * size) op.deed → HasBlockSize size m
     → HasBlockSize size (medium_after size op m)
 step_sizes size op m has holds lba =
-    elim (cases_Bool (is_in_range op lba)) [
+    elim (cases_Bool (reaches op lba)) [
       | inl t ↦
-          let bounds = range_bounds op lba t in
-          rw (after_inside size op m lba t)
+          let bounds = reached_bounds op lba t in
+          rw (after_reached size op m lba t)
           (block_after_size size op.blocks (lba - op.first) (range_of op m) op.deed (m lba) has (omega (arith, bounds.0, bounds.1)) (holds lba))
-      | inr f ↦ rw (after_outside size op m lba f) (holds lba)
+      | inr f ↦ rw (after_unreached size op m lba f) (holds lba)
     ]
 
 unmarked_size : (size : ℕ) (b : Block) → IsOfSize size b → is_marked b ≡ false → length (bytes_of b) ≡ size
@@ -73,6 +74,7 @@ read_size size m first n reads payload holds read =
     ]
 read_size size m first n (compares new) payload holds read = absurd (cc)
 read_size size m first n (pairs old new) payload holds read = absurd (cc)
+read_size size m first n (deallocates ranges) payload holds read = absurd (cc)
 
 pub data_size : (size : ℕ) (op : Operation) (m : Medium) (payload : List ℕ) → HasBlockSize size m → data_of op m ≡ Some payload
     → length payload ≡ op.blocks * size

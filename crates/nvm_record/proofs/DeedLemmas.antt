@@ -6,9 +6,9 @@ use Rattle.nvm_record.specs.declared.block.Block.{Block}
 use Rattle.nvm_record.specs.declared.status.Statuses.TheVariants.{One}
 use Rattle.nvm_record.specs.Status.{IsSuccess}
 use Rattle.nvm_record.specs.Medium.{Medium, has_mark, joined}
-use Rattle.nvm_record.specs.Step.{Deed, Operation, writes, zeroes, uncorrectable, reads, compares, pairs, block_after, compares_equal, data_on, is_in_range, range_of, statuses_on, statuses_of, medium_after}
+use Rattle.nvm_record.specs.Step.{Deed, Operation, writes, zeroes, uncorrectable, reads, compares, pairs, deallocates, block_after, compares_equal, data_on, reaches, range_of, statuses_on, statuses_of, medium_after}
 use Rattle.nvm_record.specs.Deeds.{IsLook, FailsOn, IsFailedPair, success_of}
-use Rattle.nvm_record.proofs.Locality.{after_inside, after_outside}
+use Rattle.nvm_record.proofs.Locality.{after_reached, after_unreached}
 
 block_stays : (size : ℕ) (blocks : List Block) (deed : Deed) (i : ℕ) (old : Block) → IsLook deed ⊎ FailsOn blocks deed
     → block_after size blocks deed i old ≡ old
@@ -22,13 +22,15 @@ block_stays size blocks reads i old why = refl
 block_stays size blocks (compares payload) i old why = refl
 block_stays size blocks (pairs payload new) i old (inl look) = absurd (cc look)
 block_stays size blocks (pairs payload new) i old (inr fails) = rw fails refl
+block_stays size blocks (deallocates ranges) i old (inl look) = absurd (cc look)
+block_stays size blocks (deallocates ranges) i old (inr fails) = absurd fails
 
 pub medium_stays : (size : ℕ) (op : Operation) (m : Medium) (lba : ℕ) → IsLook op.deed ⊎ IsFailedPair op m
     → medium_after size op m lba ≡ m lba
 medium_stays size op m lba why =
-    elim (cases_Bool (is_in_range op lba)) [
-      | inl t ↦ after_inside size op m lba t ∙ block_stays size (range_of op m) op.deed (lba - op.first) (m lba) why
-      | inr f ↦ after_outside size op m lba f
+    elim (cases_Bool (reaches op lba)) [
+      | inl t ↦ after_reached size op m lba t ∙ block_stays size (range_of op m) op.deed (lba - op.first) (m lba) why
+      | inr f ↦ after_unreached size op m lba f
     ]
 
 told_alike : (blocks : List Block) (deed : Deed) → IsSuccess (statuses_on blocks deed) → statuses_on blocks deed ≡ success_of deed
@@ -38,6 +40,7 @@ told_alike blocks uncorrectable h = refl
 told_alike blocks reads h = ap One h
 told_alike blocks (compares payload) h = ap One h
 told_alike blocks (pairs payload new) h = rw (h.0, h.1) refl
+told_alike blocks (deallocates ranges) h = refl
 
 pub success_alike : (op : Operation) (m : Medium) → IsSuccess (statuses_of op m) → statuses_of op m ≡ success_of op.deed
 success_alike op m h = told_alike (range_of op m) op.deed h

@@ -1,30 +1,31 @@
 -- Reading a host file from its front.
-use Rattle.std.proofs.Common.{inl, inr, ◌≡◌, ℕ, ◌+◌, ◌<◌, ◌≤◌, List, [], ◌∷◌, ◌++◌, length, take, drop, refl, sym, ap, ◌∙◌, subst, arith, append_assoc, length-append, length-drop}
+use Rattle.std.proofs.Common.{inl, inr, ◌≡◌, ℕ, ◌+◌, ◌<◌, ◌≤◌, List, [], ◌∷◌, ◌++◌, length, take, drop, All, refl, sym, ap, ◌∙◌, subst, arith, append_assoc, length-append, length-drop}
 use Rattle.std.proofs.Math.Seq.{take-append_seam, drop-append_seam}
 use Rattle.std.proofs.lemmas.List.{take-append-drop, length-take-le}
-use Rattle.nvm_record.specs.Entry.{BeginsWith, IsEntryOf, data_length}
+use Rattle.std.proofs.lemmas.List.Elements.{All-append, All-from_recursion}
+use Rattle.nvm_record.specs.Entry.{BeginsWith, IsEntryOf, IsWhole, called_for, data_kept}
 use Rattle.nvm_record.specs.HostFile.{BeginsWithAll, IsCutFault, IsAnsweredFault, file_name}
 use Rattle.nvm_record.specs.declared.command.Command.{Command}
 use Rattle.nvm_record.specs.declared.host_fault.HostFault.{HostFault}
 use Rattle.nvm_record.specs.declared.host_fault.HostFault.TheVariants.{BadName, Truncated, TooMany, NoMemory}
 
 -- the command at the front of the bytes, by its entry and the data after it
-pub begins_with : (size : ℕ) (bytes : List ℕ) (c : Command) (n : ℕ) → 64 ≤ length bytes → n ≡ data_length size c.op c.nlb → n ≤ length (drop 64 bytes)
-    → IsEntryOf (take 64 bytes) c → c.payload ≡ take n (drop 64 bytes) → BeginsWith size bytes c (drop n (drop 64 bytes))
-begins_with size bytes c n whole called_for enough entry payload =
-    let front : List ℕ = take 64 bytes ++ c.payload in
+pub begins_with : (size : ℕ) (bytes : List ℕ) (c : Command) (n : ℕ) → 64 ≤ length bytes → n ≡ called_for size (take 64 bytes) → n ≤ length (drop 64 bytes)
+    → IsEntryOf (take 64 bytes) c → c.payload ≡ data_kept c.op (take n (drop 64 bytes)) → BeginsWith size bytes c (drop n (drop 64 bytes))
+begins_with size bytes c n whole wanted enough entry payload =
+    let found : List ℕ = take n (drop 64 bytes) in
+    let front : List ℕ = take 64 bytes ++ found in
     let long : length (take 64 bytes) ≡ 64 = length-take-le 64 bytes whole in
-    let first : take 64 front ≡ take 64 bytes = subst (λ (k : ℕ). take k front ≡ take 64 bytes) long (take-append_seam (take 64 bytes) c.payload) in
-    let second : drop 64 front ≡ c.payload = subst (λ (k : ℕ). drop k front ≡ c.payload) long (drop-append_seam (take 64 bytes) c.payload) in (
+    let first : take 64 front ≡ take 64 bytes = subst (λ (k : ℕ). take k front ≡ take 64 bytes) long (take-append_seam (take 64 bytes) found) in
+    let second : drop 64 front ≡ found = subst (λ (k : ℕ). drop k front ≡ found) long (drop-append_seam (take 64 bytes) found) in (
       front,
-      sym (ap (λ (x : List ℕ). (take 64 bytes ++ x) ++ drop n (drop 64 bytes)) payload
-          ∙ append_assoc (take 64 bytes) (take n (drop 64 bytes)) (drop n (drop 64 bytes))
+      sym (append_assoc (take 64 bytes) found (drop n (drop 64 bytes))
           ∙ ap (λ (x : List ℕ). take 64 bytes ++ x) (take-append-drop n (drop 64 bytes))
           ∙ take-append-drop 64 bytes),
       record {
         entry = rw first entry;
-        payload = sym second;
-        called_for = ap length payload ∙ length-take-le n (drop 64 bytes) enough ∙ called_for;
+        payload = rw second payload;
+        called_for = ap length second ∙ length-take-le n (drop 64 bytes) enough ∙ wanted ∙ ap (called_for size) (sym first);
       },
     )
 
@@ -33,6 +34,7 @@ pub record IsReading (size : ℕ) (bytes : List ℕ) (cs : List Command) (rest :
   pub commands : BeginsWithAll size (drop 4 bytes) cs rest
   pub few : length cs ≤ 65536
   pub name : take 4 bytes ≡ file_name
+  pub whole : All (IsWhole size) cs
 
 -- What is left is no longer than the whole.
 pub begins_shorter : (size : ℕ) (bytes : List ℕ) (cs : List Command) (rest : List ℕ) → BeginsWithAll size bytes cs rest → length rest ≤ length bytes
@@ -47,11 +49,12 @@ pub begins_more : (size : ℕ) (bytes : List ℕ) (cs : List Command) (rest : Li
 begins_more size bytes [] rest c after h k = (after, subst (λ (b : List ℕ). BeginsWith size b c after) (sym h) k, refl)
 begins_more size bytes (d ∷ cs) rest c after h k = (h.0, h.1, begins_more size h.0 cs rest c after h.2 k)
 
-pub reading_more : (size : ℕ) (bytes : List ℕ) (cs : List Command) (rest : List ℕ) (c : Command) (after : List ℕ) → length cs < 65536 → IsReading size bytes cs rest → BeginsWith size rest c after → IsReading size bytes (cs ++ c ∷ []) after
-reading_more size bytes cs rest c after few h k = record {
+pub reading_more : (size : ℕ) (bytes : List ℕ) (cs : List Command) (rest : List ℕ) (c : Command) (after : List ℕ) → length cs < 65536 → IsReading size bytes cs rest → BeginsWith size rest c after → IsWhole size c → IsReading size bytes (cs ++ c ∷ []) after
+reading_more size bytes cs rest c after few h k whole = record {
   commands = begins_more size (drop 4 bytes) cs rest c after h.commands k;
   few = omega (arith, length-append cs (c ∷ []));
   name = h.name;
+  whole = All-append (IsWhole size) cs (c ∷ []) h.whole (All-from_recursion (IsWhole size) (c ∷ []) (whole, tt));
 }
 
 -- What is left of a file is no longer than the file.

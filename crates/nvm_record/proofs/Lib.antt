@@ -5,5 +5,8 @@ pub mod HostFileLemmas
 pub mod Locality
 pub mod OneReading
 pub mod PartsOfParts
+pub mod RangeAttributes
+pub mod RangeCuts
+pub mod RangesReadBack
 pub mod WholeCommands
 pub mod WrittenFiles

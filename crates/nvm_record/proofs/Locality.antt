@@ -3,7 +3,7 @@ use Rattle.std.proofs.Common.{◌≡◌, ◌↔◌, ℕ, zero, suc, ◌+◌, ◌
 use Rattle.std.proofs.lemmas.Bool.{cases_Bool, and_parts, leb-true, ltb-true, le-leb, lt-ltb}
 use Rattle.nvm_record.specs.declared.block.Block.{Block}
 use Rattle.nvm_record.specs.Medium.{Medium, range}
-use Rattle.nvm_record.specs.Step.{Operation, block_after, is_in_range, range_of, statuses_of, data_of, data_on, statuses_on, medium_after, AgreeOn}
+use Rattle.nvm_record.specs.Step.{Operation, block_after, is_about, is_in_range, reaches, range_of, statuses_of, data_of, data_on, statuses_on, medium_after, AgreeOn}
 
 -- the bounds that the test for the range tells
 pub range_bounds : (op : Operation) (lba : ℕ) → is_in_range op lba ≡ true → (op.first ≤ lba) × (lba < op.first + op.blocks)
@@ -17,12 +17,29 @@ range_test op lba bounds = rw (le-leb op.first lba bounds.0, lt-ltb lba (op.firs
 pub bounds_of_range : (op : Operation) (lba : ℕ) → IsTrue (is_in_range op lba) ↔ ((op.first ≤ lba) × (lba < op.first + op.blocks))
 bounds_of_range op lba = (range_bounds op lba, range_test op lba)
 
-pub after_inside : (size : ℕ) (op : Operation) (m : Medium) (lba : ℕ) → is_in_range op lba ≡ true
+-- what is reached lies in the range
+pub reached_bounds : (op : Operation) (lba : ℕ) → reaches op lba ≡ true → (op.first ≤ lba) × (lba < op.first + op.blocks)
+reached_bounds op lba reached =
+    let parts = and_parts (is_about op.deed lba) (is_in_range op lba) reached in
+    range_bounds op lba parts.1
+
+pub after_reached : (size : ℕ) (op : Operation) (m : Medium) (lba : ℕ) → reaches op lba ≡ true
     → medium_after size op m lba ≡ block_after size (range_of op m) op.deed (lba - op.first) (m lba)
-after_inside size op m lba inside = rw inside refl
+after_reached size op m lba reached = rw reached refl
+
+pub after_unreached : (size : ℕ) (op : Operation) (m : Medium) (lba : ℕ) → reaches op lba ≡ false
+    → medium_after size op m lba ≡ m lba
+after_unreached size op m lba unreached = rw unreached refl
+
+unreached_outside : (op : Operation) (lba : ℕ) → is_in_range op lba ≡ false → reaches op lba ≡ false
+unreached_outside op lba outside =
+    elim (cases_Bool (is_about op.deed lba)) [
+      | inl t ↦ rw (t, outside) refl
+      | inr f ↦ rw f refl
+    ]
 
 pub after_outside : (size : ℕ) (op : Operation) (m : Medium) (lba : ℕ) → is_in_range op lba ≡ false → medium_after size op m lba ≡ m lba
-after_outside size op m lba outside = rw outside refl
+after_outside size op m lba outside = after_unreached size op m lba (unreached_outside op lba outside)
 
 -- ranges of the same blocks
 ranges_agree : (m n : Medium) (first k : ℕ) → ((lba : ℕ) → first ≤ lba → lba < first + k → m lba ≡ n lba) → range m first k ≡ range n first k
@@ -43,7 +60,7 @@ data_agrees op m n agree = ap (λ (blocks : List Block). data_on blocks op.deed)
 pub blocks_agree : (size : ℕ) (op : Operation) (m n : Medium) (lba : ℕ) → AgreeOn op m n → m lba ≡ n lba
     → medium_after size op m lba ≡ medium_after size op n lba
 blocks_agree size op m n lba agree same =
-    elim (cases_Bool (is_in_range op lba)) [
-      | inl t ↦ rw (after_inside size op m lba t, after_inside size op n lba t, range_agrees op m n agree, same) refl
-      | inr f ↦ rw (after_outside size op m lba f, after_outside size op n lba f, same) refl
+    elim (cases_Bool (reaches op lba)) [
+      | inl t ↦ rw (after_reached size op m lba t, after_reached size op n lba t, range_agrees op m n agree, same) refl
+      | inr f ↦ rw (after_unreached size op m lba f, after_unreached size op n lba f, same) refl
     ]

@@ -1,11 +1,11 @@
 -- A file reads as one thing alone: one list of commands, or one fault.
-use Rattle.std.proofs.Common.{◌≡◌, ◌⊎◌, inl, inr, ℕ, suc, ◌+◌, ◌<◌, ◌≤◌, List, [], ◌∷◌, ◌++◌, length, take, drop, slice_index, refl, sym, ap, ◌∙◌, subst, arith, length-append, length-drop}
+use Rattle.std.proofs.Common.{◌≡◌, ◌⊎◌, inl, inr, ℕ, suc, ◌+◌, ◌<◌, ◌≤◌, List, [], ◌∷◌, ◌++◌, length, take, drop, if◌then◌else◌, refl, sym, ap, ◌∙◌, subst, arith, length-append, length-drop}
 use Rattle.std.proofs.Common.{Result, Ok, Err, IfOk, IfErr, MatchResult, Vec, Global}
 use Rattle.std.proofs.Math.Seq.{take-append_seam, drop-append_seam}
 use Rattle.std.proofs.lemmas.List.{length-take, take-append-le, drop-append-le}
 use Rattle.byteorder.specs.Endian.{little_number}
-use Rattle.nvm_record.specs.Op.{op_of}
-use Rattle.nvm_record.specs.Entry.{IsEntryOf, IsSpelling, data_length, BeginsWith, called_for}
+use Rattle.nvm_record.specs.Op.{carries_ranges}
+use Rattle.nvm_record.specs.Entry.{IsEntryOf, IsSpelling, BeginsWith, called_for, data_kept}
 use Rattle.nvm_record.specs.HostFile.{BeginsWithAll, IsHostFile, IsCut, IsTruncated, HasTooMany, IsHostFileFault, IsAnsweredFault}
 use Rattle.nvm_record.specs.declared.command.Command.{Command}
 use Rattle.nvm_record.specs.declared.op.Op.{Op}
@@ -19,23 +19,23 @@ long size front c s = let e : length (take 64 front) ≡ 64 = s.entry.whole in o
 
 -- What the bytes begin with, by their places alone.
 record IsPlaced (size : ℕ) (bytes : List ℕ) (c : Command) (rest : List ℕ) : Type 0 where
-  pub enough : length bytes ≡ 64 + data_length size c.op c.nlb + length rest
+  pub enough : length bytes ≡ 64 + called_for size (take 64 bytes) + length rest
   pub entry : IsEntryOf (take 64 bytes) c
-  pub payload : c.payload ≡ take (data_length size c.op c.nlb) (drop 64 bytes)
-  pub rest_is : rest ≡ drop (data_length size c.op c.nlb) (drop 64 bytes)
+  pub payload : c.payload ≡ data_kept c.op (take (called_for size (take 64 bytes)) (drop 64 bytes))
+  pub rest_is : rest ≡ drop (called_for size (take 64 bytes)) (drop 64 bytes)
 
 placed_front : (size : ℕ) (front : List ℕ) (c : Command) (rest : List ℕ) → IsSpelling size front c → IsPlaced size (front ++ rest) c rest
 placed_front size front c rest s =
     let whole = long size front c s in
+    let found : List ℕ = drop 64 front in
     let first : take 64 (front ++ rest) ≡ take 64 front = take-append-le 64 front rest whole in
-    let second : drop 64 (front ++ rest) ≡ c.payload ++ rest = drop-append-le 64 front rest whole ∙ ap (λ (x : List ℕ). x ++ rest) (sym s.payload) in
-    let size_of : data_length size c.op c.nlb ≡ length c.payload = sym s.called_for in
-    let back : length c.payload ≡ length (drop 64 front) = ap length s.payload in
+    let second : drop 64 (front ++ rest) ≡ found ++ rest = drop-append-le 64 front rest whole in
+    let size_of : called_for size (take 64 front) ≡ length found = sym s.called_for in
     record {
-      enough = omega (arith, length-append front rest, length-drop 64 front);
+      enough = rw (first, size_of) (omega (arith, length-append front rest, length-drop 64 front));
       entry = rw first s.entry;
-      payload = rw (second, size_of) (sym (take-append_seam c.payload rest));
-      rest_is = rw (second, size_of) (sym (drop-append_seam c.payload rest));
+      payload = rw (first, second, size_of) (s.payload ∙ ap (data_kept c.op) (sym (take-append_seam found rest)));
+      rest_is = rw (first, second, size_of) (sym (drop-append_seam found rest));
     }
 
 placed : (size : ℕ) (bytes : List ℕ) (c : Command) (rest : List ℕ) → BeginsWith size bytes c rest → IsPlaced size bytes c rest
@@ -56,11 +56,11 @@ one_command size bytes c d rest after h k =
     let p = placed size bytes c rest h in
     let q = placed size bytes d after k in
     let op : c.op ≡ d.op = p.entry.op ∙ sym q.entry.op in
-    let nlb : c.nlb ≡ d.nlb = p.entry.nlb ∙ sym q.entry.nlb in
-    let n : data_length size c.op c.nlb ≡ data_length size d.op d.nlb = cc in (
-      same_command c d (p.entry.cid ∙ sym q.entry.cid) (p.entry.nsid ∙ sym q.entry.nsid) (p.entry.fuse ∙ sym q.entry.fuse) op (p.entry.slba ∙ sym q.entry.slba) nlb
-          (p.payload ∙ ap (λ (k : ℕ). take k (drop 64 bytes)) n ∙ sym q.payload),
-      p.rest_is ∙ ap (λ (k : ℕ). drop k (drop 64 bytes)) n ∙ sym q.rest_is,
+    let slba : c.slba ≡ d.slba = p.entry.slba ∙ ap (λ (o : Op). if carries_ranges o then 0 else little_number 8 (drop 40 (take 64 bytes))) op ∙ sym q.entry.slba in
+    let nlb : c.nlb ≡ d.nlb = p.entry.nlb ∙ ap (λ (o : Op). if carries_ranges o then 0 else little_number 2 (drop 48 (take 64 bytes))) op ∙ sym q.entry.nlb in
+    let payload : c.payload ≡ d.payload = p.payload ∙ ap (λ (o : Op). data_kept o (take (called_for size (take 64 bytes)) (drop 64 bytes))) op ∙ sym q.payload in (
+      same_command c d (p.entry.cid ∙ sym q.entry.cid) (p.entry.nsid ∙ sym q.entry.nsid) (p.entry.fuse ∙ sym q.entry.fuse) op slba nlb payload,
+      p.rest_is ∙ sym q.rest_is,
     )
 
 -- no command begins there
@@ -68,19 +68,18 @@ abbrev IsBlocked : ℕ → List ℕ → Type 0
 IsBlocked size rest = (c : Command) (after : List ℕ) → BeginsWith size rest c after → ⊥
 
 blocked_at_end : (size : ℕ) → IsBlocked size []
-blocked_at_end size c after h = let p = placed size [] c after h in let e : 0 ≡ 64 + data_length size c.op c.nlb + length after = p.enough in absurd (omega arith)
+blocked_at_end size c after h =
+    let p = placed size [] c after h in
+    let e : 0 ≡ 64 + called_for size (take 64 []) + length after = p.enough in absurd (omega arith)
 
 blocked_at_cut : (size : ℕ) (rest : List ℕ) (at : ℕ) → IsCut size rest at → IsBlocked size rest
 blocked_at_cut size rest at cut c after h =
     let p = placed size rest c after h in
-    let e : length rest ≡ 64 + data_length size c.op c.nlb + length after = p.enough in
+    let n : ℕ = called_for size (take 64 rest) in
+    let e : length rest ≡ 64 + n + length after = p.enough in
     elim cut [
       | inl short ↦ let s : length rest < 64 = short.1 in absurd (omega arith)
-      | inr short ↦ let op : c.op ≡ op_of (slice_index (take 64 rest) 0) = p.entry.op in
-          let nlb : c.nlb ≡ little_number 2 (drop 48 (take 64 rest)) = p.entry.nlb in
-          let n : data_length size c.op c.nlb ≡ called_for size (take 64 rest) = cc in
-          let s : length rest < 64 + called_for size (take 64 rest) = short.1 in
-          absurd (omega arith)
+      | inr short ↦ let s : length rest < 64 + n = short.1 in absurd (omega arith)
     ]
 
 -- Two readings that both stop, at a place where no command begins or at the greatest number, are one.

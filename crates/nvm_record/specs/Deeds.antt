@@ -5,7 +5,7 @@ use Rattle.nvm_record.specs.declared.status.Statuses.{Statuses}
 use Rattle.nvm_record.specs.declared.status.Statuses.TheVariants.{One, Two}
 use Rattle.nvm_record.specs.Status.{successful_completion}
 use Rattle.nvm_record.specs.Medium.{Medium}
-use Rattle.nvm_record.specs.Step.{Deed, Operation, writes, zeroes, uncorrectable, reads, compares, pairs, compares_equal, range_of}
+use Rattle.nvm_record.specs.Step.{Deed, Operation, writes, zeroes, uncorrectable, reads, compares, pairs, deallocates, compares_equal, range_of}
 
 -- a Read: where it succeeds, it is answered data
 abbrev pub is_read : Deed → Bool
@@ -15,6 +15,7 @@ is_read uncorrectable = false
 is_read reads = true
 is_read (compares payload) = false
 is_read (pairs payload new) = false
+is_read (deallocates ranges) = false
 
 -- a Read, or a Compare by itself: it changes nothing
 abbrev pub is_look : Deed → Bool
@@ -24,6 +25,7 @@ is_look uncorrectable = false
 is_look reads = true
 is_look (compares payload) = true
 is_look (pairs payload new) = false
+is_look (deallocates ranges) = false
 
 -- a fused Compare and Write
 abbrev pub is_pair : Deed → Bool
@@ -33,6 +35,17 @@ is_pair uncorrectable = false
 is_pair reads = false
 is_pair (compares payload) = false
 is_pair (pairs payload new) = true
+is_pair (deallocates ranges) = false
+
+-- a Deallocate: it has to do with the LBAs of its ranges alone
+abbrev pub is_deallocate : Deed → Bool
+is_deallocate (writes payload) = false
+is_deallocate zeroes = false
+is_deallocate uncorrectable = false
+is_deallocate reads = false
+is_deallocate (compares payload) = false
+is_deallocate (pairs payload new) = false
+is_deallocate (deallocates ranges) = true
 
 abbrev pub IsLook : Deed → Type 0
 IsLook deed = IsTrue (is_look deed)
@@ -47,6 +60,10 @@ IsPair deed = IsTrue (is_pair deed)
 -- the deed of one command
 abbrev pub IsSingle : Deed → Type 0
 IsSingle deed = IsTrue (not (is_pair deed))
+
+-- The deed has to do with each LBA of its operation.
+abbrev pub IsOnRange : Deed → Type 0
+IsOnRange deed = IsTrue (not (is_deallocate deed))
 
 -- one status for a command by itself, two for a pair
 abbrev pub for_deed : Deed → Statuses → Statuses → Statuses
@@ -64,6 +81,7 @@ FailsOn blocks uncorrectable = ⊥
 FailsOn blocks reads = ⊥
 FailsOn blocks (compares payload) = ⊥
 FailsOn blocks (pairs payload new) = compares_equal blocks payload ≡ false
+FailsOn blocks (deallocates ranges) = ⊥
 
 -- The operation is a pair, and its comparison doesn't hold on the medium.
 abbrev pub IsFailedPair : Operation → Medium → Type 0

@@ -4,6 +4,7 @@ pub mod Entry
 pub mod HostFile
 pub mod Status
 pub mod Medium
+pub mod Ranges
 pub mod Step
 pub mod Deeds
 pub mod Completion

@@ -23,10 +23,10 @@ pub const MOST_COMMANDS: usize = 65_536;
 
 /// Reads the commands of a host file, from its front: the four bytes `NVQ1`, then each command's
 /// submission entry of 64 bytes and, after that of a Write or a Compare, its data of `nlb + 1` blocks
-/// of `size`.
+/// of `size`, or, after that of a Dataset Management, its `nr + 1` ranges of 16 bytes.
 ///
-/// The commands' data are parts of the bytes: nothing is copied, and memory is taken for the list of the
-/// commands alone.
+/// The commands' data are parts of the bytes, but for ranges, which are copied with context attributes of
+/// 0: memory is taken for them and for the list of the commands alone.
 ///
 /// The first fault from the front is answered, or `NoMemory` where a growth was refused before it, or
 /// 2^63 - 1 payloads shared the bytes.
@@ -50,6 +50,7 @@ pub fn read_host(alloc: Global, bytes: &Payload, size: BlockSize) -> Result<Vec<
 fn commands_of(alloc: Global, bytes: &Payload, size: BlockSize) -> Result<Vec<Command>, HostFault>
     ensures commands { IfOk result (λ v. IsHostFile size bytes.now v.items) }
     ensures fault { IfErr result (IsAnsweredFault size bytes.now) }
+    ensures whole { IfOk result (λ v. All (IsWhole size) v.items) }
 {
     if !bytes.as_slice().starts_with(NAME) {
         return Err(HostFault::BadName);
@@ -61,7 +62,7 @@ fn commands_of(alloc: Global, bytes: &Payload, size: BlockSize) -> Result<Vec<Co
         if commands.len() == MOST_COMMANDS {
             return Err(HostFault::TooMany);
         }
-        let (command, after) = next_command(&rest, size, length - rest.len())?;
+        let (command, after) = next_command(alloc, &rest, size, length - rest.len())?;
         commands.push(command)?;
         rest = after;
     }
@@ -71,6 +72,7 @@ fn commands_of(alloc: Global, bytes: &Payload, size: BlockSize) -> Result<Vec<Co
 /// Reads the command at the front of `rest`, which stands at `offset` of its file, and gives what
 /// follows it.
 fn next_command(
+    alloc: Global,
     rest: &Payload,
     size: BlockSize,
     offset: usize,
@@ -78,9 +80,10 @@ fn next_command(
     requires some { 0 < length rest.now }
     requires in_file { offset + length rest.now < 2 ^ 64 }
     ensures command { IfOk result (λ read. BeginsWith size rest.now read.0 read.1) }
+    ensures whole { IfOk result (λ read. IsWhole size read.0) }
     ensures fault { IfErr result (IsCutFault size rest.now offset) }
 {
-    match read_command(rest, size) {
+    match read_command(alloc, rest, size) {
         Ok(read) => Ok(read),
         Err(CommandFault::CutEntry) => Err(HostFault::Truncated { at: offset as u64 }),
         Err(CommandFault::CutData) => Err(HostFault::Truncated {
@@ -92,8 +95,8 @@ fn next_command(
 
 /// The bytes of the host file that holds the commands, every unnamed bit being 0.
 ///
-/// It is read as just these commands, where each has just the data that it calls for and a proper opcode,
-/// and there are 65,536 of them at most.
+/// It is read as just these commands, where each is whole ([`Command::is_whole`]), and there are 65,536 of
+/// them at most.
 pub fn host_bytes(alloc: Global, commands: &[Command]) -> Result<Vec<u8>, NoMemory>
     ensures bytes { IfOk result (λ v. v.items ≡ file_of commands.now) }
     ensures file { IfOk result (λ v. (size : ℕ) → All (IsWhole size) commands.now

@@ -1,20 +1,23 @@
 //! Laws of this crate's definitions, for the crates above. Each function does nothing: its contract
 //! is the law, which a caller then knows.
-ghost use Rattle.std.specs.Prelude.{◌≡◌, ◌⊎◌, ◌↔◌, ℕ, ◌+◌, ◌*◌, ◌++◌, ◌<◌, ◌≤◌, List, length, Some, IsTrue, false, true};
+ghost use Rattle.std.specs.Prelude.{◌≡◌, ◌≢◌, ◌⊎◌, ◌↔◌, ◌&&◌, [], ℕ, ◌+◌, ◌*◌, ◌^◌, ◌++◌, ◌<◌, ◌≤◌, List, length, nat_le, nat_lt, slice_index_or, Some, Bool, IsTrue, false, true};
+ghost use Rattle.std.specs.List.{All};
 ghost use Rattle.nvm_record.specs.Deeds.{IsLook, IsFailedPair, success_of};
 ghost use Rattle.nvm_record.specs.Entry.{BeginsWith, HasFieldsInRange, IsWhole, spelling_of};
 ghost use Rattle.nvm_record.specs.Medium.{Medium, HasBlockSize, zero_medium};
 ghost use Rattle.nvm_record.specs.Op.{op_of, IsProperOp};
+ghost use Rattle.nvm_record.specs.Ranges.{AreRangesWithin, FitsItsBytes, cut_ranges, data_of_ranges, range_at, range_count, range_length, ranges_have, ranges_of};
 ghost use Rattle.nvm_record.specs.Status as status;
 ghost use Rattle.nvm_record.specs.Status.{IsSuccess};
-ghost use Rattle.nvm_record.specs.Step.{HasData, Operation, AgreeOn, is_in_range, compares_equal, data_on, medium_after, reads, statuses_of, data_of};
+ghost use Rattle.nvm_record.specs.Step.{HasData, Operation, AgreeOn, is_in_range, reaches, compares_equal, data_on, medium_after, reads, statuses_of, data_of};
 ghost use Rattle.nvm_record.specs.declared.block.Block.{Block};
 ghost use Rattle.nvm_record.specs.declared.command.Command.{Command as Spelled};
+ghost use Rattle.nvm_record.specs.declared.lba_range.LbaRange.{LbaRange as Range};
 ghost use Rattle.nvm_record.specs.declared.status.TheConstants.Status as named;
 
 /// What an opcode asks for is proper: an `Other` only where the opcode has no name of its own.
 pub fn opcodes_are_proper()
-    ensures { (opcode : ℕ) → IsProperOp (op_of opcode) }
+    ensures { (opcode : ℕ) (deallocate : Bool) → IsProperOp (op_of opcode deallocate) }
 {}
 
 /// A command is read in one way: where bytes begin with a spelling of a command and then the rest, they
@@ -51,12 +54,15 @@ pub fn steps_keep_block_sizes()
         → data_of op m ≡ Some payload → length payload ≡ op.blocks * size }
 {}
 
-/// A step sees and changes its range alone. Outside it each block stays. Two media that agree on the
-/// range give the same statuses and the same data, and agree afterwards wherever they did.
+/// A step sees and changes its range alone. Outside it each block stays, and so does each that it doesn't reach: a
+/// Deallocate reaches no LBA but those in its ranges. Two media that agree on the range give the same statuses and
+/// the same data, and agree afterwards wherever they did.
 pub fn steps_are_local()
     ensures range { (op : Operation) (lba : ℕ)
         → IsTrue (is_in_range op lba) ↔ ((op.first ≤ lba) × (lba < op.first + op.blocks)) }
     ensures outside { (size : ℕ) (op : Operation) (m : Medium) (lba : ℕ) → is_in_range op lba ≡ false
+        → medium_after size op m lba ≡ m lba }
+    ensures unreached { (size : ℕ) (op : Operation) (m : Medium) (lba : ℕ) → reaches op lba ≡ false
         → medium_after size op m lba ≡ m lba }
     ensures statuses { (op : Operation) (m n : Medium) → AgreeOn op m n → statuses_of op m ≡ statuses_of op n }
     ensures payload { (op : Operation) (m n : Medium) → AgreeOn op m n → data_of op m ≡ data_of op n }
@@ -79,4 +85,37 @@ pub fn success_is_told_alike()
 pub fn reading_is_comparing()
     ensures { (blocks : List Block) (bytes : List ℕ)
         → (data_on blocks reads ≡ Some bytes) ↔ (compares_equal blocks bytes ≡ true) }
+{}
+
+/// Data holds one range for each 16 bytes, each at its place. The data of ranges is read as just these, where their
+/// fields have 64 and 32 bits, as those have that are read of bytes.
+pub fn ranges_are_read_back()
+    ensures again { (rs : List Range) → All FitsItsBytes rs → ranges_of (data_of_ranges rs) ≡ rs }
+    ensures bytes { (rs : List Range) → length (data_of_ranges rs) ≡ length rs * range_length }
+    ensures count { (payload : List ℕ) → length (ranges_of payload) ≡ range_count payload }
+    ensures place { (payload : List ℕ) (i : ℕ) (d : Range) → i < range_count payload
+        → slice_index_or (ranges_of payload) i d ≡ range_at payload i }
+    ensures fit { (payload : List ℕ) → All (λ b. b < 256) payload → All FitsItsBytes (ranges_of payload) }
+{}
+
+/// Ranges that are cut to LBAs have those of these LBAs that they had before, and no other. What is left lies among
+/// the LBAs, in fields of 64 and 32 bits as before, and there is something exactly where some range has one of them.
+/// Ranges that lie among the LBAs stay as they are, and a cut within a cut is one cut.
+pub fn cut_ranges_lie_within()
+    ensures has { (first blocks : ℕ) (rs : List Range) (lba : ℕ)
+        → ranges_have (cut_ranges first blocks rs) lba
+        ≡ ((nat_le first lba && nat_lt lba (first + blocks)) && ranges_have rs lba) }
+    ensures within { (first blocks : ℕ) (rs : List Range) → cut_ranges first blocks rs ≢ []
+        → AreRangesWithin first blocks (cut_ranges first blocks rs) }
+    ensures met { (first blocks : ℕ) (rs : List Range) → (cut_ranges first blocks rs ≢ [])
+        ↔ ((lba : ℕ) × (first ≤ lba) × (lba < first + blocks) × (ranges_have rs lba ≡ true)) }
+    ensures few { (first blocks : ℕ) (rs : List Range) → length (cut_ranges first blocks rs) ≤ length rs }
+    ensures fit { (first blocks : ℕ) (rs : List Range) → first < 2 ^ 64 → All FitsItsBytes rs
+        → All FitsItsBytes (cut_ranges first blocks rs) }
+    ensures itself { (first blocks : ℕ) (rs : List Range) → AreRangesWithin first blocks rs
+        → cut_ranges first blocks rs ≡ rs }
+    ensures inner { (first blocks low n : ℕ) (rs : List Range) → first ≤ low → low + n ≤ first + blocks
+        → cut_ranges low n (cut_ranges first blocks rs) ≡ cut_ranges low n rs }
+    ensures outer { (first blocks low n : ℕ) (rs : List Range) → low ≤ first → first + blocks ≤ low + n
+        → cut_ranges low n (cut_ranges first blocks rs) ≡ cut_ranges first blocks rs }
 {}

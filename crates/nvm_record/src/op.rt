@@ -4,6 +4,7 @@ ghost use Rattle.nvm_record.specs.Op as op;
 ghost use Rattle.nvm_record.specs.Op.{op_of, opcode_of, IsProperOp, fuse_of, bits_of};
 
 use crate::block_size::BlockSize;
+use crate::lba_range::RANGE_BYTES;
 
 /// What a submission entry asks for, by its opcode (NVM Command Set Specification, "NVM Command Set
 /// opcodes").
@@ -19,6 +20,9 @@ pub enum Op {
     Compare,
     /// 08h: the blocks become zero bytes.
     WriteZeroes,
+    /// 09h, Dataset Management: with the Deallocate bit the blocks of the ranges that follow the entry
+    /// become zero bytes, and without it nothing is done.
+    Dataset { deallocate: bool },
     /// Any other opcode.
     Other(u8),
 }
@@ -46,11 +50,17 @@ const WRITE_UNCORRECTABLE: u8 = 0x04;
 const COMPARE: u8 = 0x05;
 /// The opcode of Write Zeroes.
 const WRITE_ZEROES: u8 = 0x08;
+/// The opcode of Dataset Management.
+pub const DATASET_MANAGEMENT: u8 = 0x09;
+
+/// The bit for Deallocate in the lowest byte of command dword 11.
+const DEALLOCATE: u8 = 0x04;
 
 impl Op {
-    /// What an opcode asks for. An `Other` never holds an opcode that has a name of its own.
-    pub fn of_opcode(opcode: u8) -> Op
-        ensures value { result ≡ op_of opcode }
+    /// What an opcode asks for. The Deallocate bit counts for Dataset Management alone. An `Other` never
+    /// holds an opcode that has a name of its own.
+    pub fn of_opcode(opcode: u8, deallocate: bool) -> Op
+        ensures value { result ≡ op_of opcode deallocate }
         ensures proper { IsProperOp result }
     {
         match opcode {
@@ -59,6 +69,7 @@ impl Op {
             WRITE_UNCORRECTABLE => Op::WriteUncorrectable,
             COMPARE => Op::Compare,
             WRITE_ZEROES => Op::WriteZeroes,
+            DATASET_MANAGEMENT => Op::Dataset { deallocate },
             _ => Op::Other(opcode),
         }
     }
@@ -73,25 +84,47 @@ impl Op {
             Op::WriteUncorrectable => WRITE_UNCORRECTABLE,
             Op::Compare => COMPARE,
             Op::WriteZeroes => WRITE_ZEROES,
+            Op::Dataset { .. } => DATASET_MANAGEMENT,
             Op::Other(opcode) => opcode,
         }
     }
 
-    /// Whether data follows the entry: it does for Write and Compare.
-    pub fn carries_data(self) -> bool
-        ensures { result ≡ op.carries_data self }
+    /// Whether blocks of data follow the entry: they do for Write and Compare.
+    pub fn carries_blocks(self) -> bool
+        ensures { result ≡ op.carries_blocks self }
     {
         matches!(self, Op::Write | Op::Compare)
     }
 
-    /// How many bytes of data follow the entry of `nlb + 1` blocks of `size`.
-    pub fn data_length(self, nlb: u16, size: BlockSize) -> usize
-        ensures { result ≡ entry.data_length size self nlb }
+    /// Whether ranges follow the entry: they do for Dataset Management.
+    pub fn carries_ranges(self) -> bool
+        ensures { result ≡ op.carries_ranges self }
     {
-        if self.carries_data() {
+        matches!(self, Op::Dataset { .. })
+    }
+
+    /// How many bytes of data follow the entry: those of `nlb + 1` blocks of `size`, of `nr + 1` ranges of
+    /// 16 bytes, or none.
+    pub fn data_length(self, nlb: u16, nr: u8, size: BlockSize) -> usize
+        ensures { result ≡ entry.data_length size self nlb nr }
+    {
+        if self.carries_blocks() {
             (nlb as usize + 1) * size.bytes() as usize
+        } else if self.carries_ranges() {
+            (nr as usize + 1) * RANGE_BYTES
         } else {
             0
+        }
+    }
+
+    /// The lowest byte of command dword 11, its other bits being 0, of a Dataset Management. It is 0 for the
+    /// rest.
+    pub fn attributes(self) -> u8
+        ensures { result ≡ op.attributes_of self }
+    {
+        match self {
+            Op::Dataset { deallocate: true } => DEALLOCATE,
+            _ => 0,
         }
     }
 
@@ -99,8 +132,18 @@ impl Op {
     pub fn is_proper(self) -> bool
         ensures { IsTrue result ↔ IsProperOp self }
     {
-        Op::of_opcode(self.opcode()) == self
+        match self {
+            Op::Other(opcode) => Op::of_opcode(opcode, false) == self,
+            _ => true,
+        }
     }
+}
+
+/// Whether the lowest byte of command dword 11 has the Deallocate bit, bit 2.
+pub fn has_deallocate(attributes: u8) -> bool
+    ensures { result ≡ op.deallocate_of attributes }
+{
+    attributes / DEALLOCATE % 2 == 1
 }
 
 impl Fuse {

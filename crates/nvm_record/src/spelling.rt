@@ -1,19 +1,31 @@
 ghost use Rattle.std.specs.Prelude.{◌≡◌, ◌++◌, ℕ, IfOk, IfErr, OnOk, OnErr};
-ghost use Rattle.nvm_record.specs.Entry.{BeginsWith, IsCommandFault, IsSpelling, IsWhole, spelling_of};
+ghost use Rattle.nvm_record.specs.Entry.{BeginsWith, IsCommandFault, IsSpelling, IsWhole, data_kept, spelling_of};
+ghost use Rattle.nvm_record.specs.Ranges.{ranges_of};
 
 use crate::NoMemory;
 use crate::block_size::BlockSize;
 use crate::command::Command;
 use crate::command_fault::CommandFault;
 use crate::entry::{ENTRY_BYTES, command_bytes, entry_fields};
+use crate::op::Op;
 use crate::payload::Payload;
+use crate::range_attributes::without_attributes;
+use std::alloc::Global;
 
 /// Reads the command at the front of the bytes: its submission entry of 64 bytes and, after that of a
-/// Write or a Compare, its data of `nlb + 1` blocks of `size`. What follows is given back. The data and
-/// what follows are parts of the bytes, so nothing is copied and no memory is taken.
+/// Write or a Compare, its data of `nlb + 1` blocks of `size`, or, after that of a Dataset Management, its
+/// `nr + 1` ranges of 16 bytes. What follows is given back.
 ///
-/// The first fault is answered, or `NoMemory` where 2^63 - 1 payloads share the bytes already.
-pub fn read_command(bytes: &Payload, size: BlockSize) -> Result<(Command, Payload), CommandFault>
+/// The data and what follows are parts of the bytes, so nothing is copied and no memory is taken, but for
+/// ranges: they are copied, with context attributes of 0.
+///
+/// The first fault is answered, or `NoMemory` where memory for ranges is refused, or 2^63 - 1 payloads
+/// share the bytes already.
+pub fn read_command(
+    alloc: Global,
+    bytes: &Payload,
+    size: BlockSize,
+) -> Result<(Command, Payload), CommandFault>
     ensures command { IfOk result (λ read. BeginsWith size bytes.now read.0 read.1) }
     ensures whole { IfOk result (λ read. IsWhole size read.0) }
     ensures fault { IfErr result (IsCommandFault size bytes.now) }
@@ -23,12 +35,13 @@ pub fn read_command(bytes: &Payload, size: BlockSize) -> Result<(Command, Payloa
     }
     let (entry, after) = bytes.as_slice().split_at(ENTRY_BYTES);
     let fields = entry_fields(entry);
-    let wanted = fields.op.data_length(fields.nlb, size);
+    let wanted = fields.op.data_length(fields.nlb, fields.nr, size);
     if after.len() < wanted {
         return Err(CommandFault::CutData);
     }
     let end = ENTRY_BYTES + wanted;
-    let payload = bytes.part(ENTRY_BYTES, end)?;
+    let found = bytes.part(ENTRY_BYTES, end)?;
+    let payload = kept(alloc, fields.op, found)?;
     let rest = bytes.part(end, bytes.len())?;
     let command = Command {
         cid: fields.cid,
@@ -42,11 +55,22 @@ pub fn read_command(bytes: &Payload, size: BlockSize) -> Result<(Command, Payloa
     Ok((command, rest))
 }
 
+/// What a command keeps of its data: all of it, but for the context attributes of ranges.
+fn kept(alloc: Global, op: Op, found: Payload) -> Result<Payload, NoMemory>
+    ensures bytes { IfOk result (λ p. p ≡ data_kept op found) }
+    ensures again { IfOk result (λ p. ranges_of p ≡ ranges_of found) }
+{
+    if op.carries_ranges() {
+        without_attributes(alloc, found.as_slice())
+    } else {
+        Ok(found)
+    }
+}
+
 /// Appends the command's submission entry, every unnamed bit being 0, and its data. Where memory is
 /// refused, nothing is appended.
 ///
-/// What is appended is a spelling of the command, where the data is as long as the command calls for and
-/// an `Other` holds no opcode that has a name of its own.
+/// What is appended is a spelling of the command, where the command is whole.
 pub fn push_spelling(out: &mut Vec<u8>, command: &Command) -> Result<(), NoMemory>
     ensures bytes { OnOk result (out.new.items ≡ out.old.items ++ spelling_of command.now) }
     ensures unchanged { OnErr result (out.new.items ≡ out.old.items) }

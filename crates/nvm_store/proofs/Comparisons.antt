@@ -9,7 +9,7 @@ use Rattle.nvm_record.specs.declared.status.Status.{Status}
 use Rattle.nvm_record.specs.declared.status.Statuses.TheVariants.{Two}
 use Rattle.nvm_record.specs.Medium.{Medium, range, is_marked, has_mark, bytes_of, joined}
 use Rattle.nvm_record.specs.Status.{IsSuccess, successful_completion, unrecovered_read_error, compare_failure, aborted_due_to_failed_fused_command}
-use Rattle.nvm_record.specs.Step.{Deed, writes, zeroes, uncorrectable, reads, compares, pairs, compares_equal, comparison, statuses_on, statuses_of, medium_after}
+use Rattle.nvm_record.specs.Step.{Deed, writes, zeroes, uncorrectable, reads, compares, pairs, deallocates, compares_equal, comparison, statuses_on, statuses_of, medium_after}
 use Rattle.nvm_store.specs.Operation.{write_operation, pair_operation}
 use Rattle.nvm_record.specs.Deeds.{FailsOn}
 use Rattle.nvm_store.specs.Inside.Sound.{AreOfSize}
@@ -61,3 +61,4 @@ failed_pair_told blocks (pairs compare write) fails =
       ap (λ (t : Status). Two (comparison blocks compare) t) aborted,
       λ success. absurd (true≢false (sym (holds_where_successful (has_mark blocks) (bytes_eq (joined blocks) compare) success) ∙ fails)),
     )
+failed_pair_told blocks (deallocates ranges) fails = absurd fails

@@ -1,5 +1,5 @@
 -- A range of a medium, and the blocks of a unit that hold it.
-use Rattle.std.proofs.Common.{◌≡◌, ◌⊎◌, ℕ, suc, ◌+◌, ◌-◌, ◌*◌, ◌<◌, ◌≤◌, List, [], ◌∷◌, length, get_or, take, drop, replicate, false, refl, sym, ap, subst, ◌∙◌, arith, inl, inr}
+use Rattle.std.proofs.Common.{◌≡◌, ◌⊎◌, ℕ, suc, ◌+◌, ◌-◌, ◌*◌, ◌<◌, ◌≤◌, List, [], ◌∷◌, length, get_or, take, drop, replicate, true, false, refl, sym, ap, subst, ◌∙◌, arith, inl, inr}
 use Rattle.std.specs.Prelude.{Result, Ok, Err, OnOk, OnErr}
 use Rattle.std.proofs.Math.ListN.{length-take}
 use Rattle.std.proofs.Math.Nat.{mul-le-mul_right}
@@ -9,7 +9,7 @@ use Rattle.nvm_record.specs.declared.block.Block.{Block}
 use Rattle.nvm_record.specs.declared.block.Block.TheVariants.{Bytes, Uncorrectable}
 use Rattle.nvm_record.specs.Lists.{IsAt}
 use Rattle.nvm_record.specs.Medium.{Medium, IsOfSize, zero_medium, range}
-use Rattle.nvm_record.specs.Step.{Operation, range_of, is_in_range, block_after, block_at, medium_after}
+use Rattle.nvm_record.specs.Step.{Operation, range_of, is_about, is_in_range, block_after, block_at, medium_after}
 use Rattle.nvm_store.specs.Contents.{Contents, Holds, place_of}
 use Rattle.nvm_store.proofs.AtLemmas.{at_below, at_read, get_or_at_place}
 use Rattle.nvm_store.specs.Inside.Sound.{AreOfSize, AreSound, blocks_at}
@@ -97,10 +97,10 @@ zeroes_sized n size i block at =
     let is : zero ≡ block = sym (get_or-replicate n i zero block lt) ∙ get_or_at_place zeroes i block block at in
     subst (λ (b : Block). IsOfSize size b) is (length-replicate size 0)
 
--- An LBA of the operation's range takes the block that the deed leaves there.
-medium_after-inside : (m : Medium) (size : ℕ) (op : Operation) (lba : ℕ) → op.first ≤ lba → lba < op.first + op.blocks
-    → medium_after size op m lba ≡ block_after size (range_of op m) op.deed (lba - op.first) (m lba)
-medium_after-inside m size op lba above below = grind (arith, nat_tests)
+-- An LBA of the operation's range that the deed has to do with takes the block that it leaves there.
+medium_after-inside : (m : Medium) (size : ℕ) (op : Operation) (lba : ℕ) → is_about op.deed lba ≡ true → op.first ≤ lba
+    → lba < op.first + op.blocks → medium_after size op m lba ≡ block_after size (range_of op m) op.deed (lba - op.first) (m lba)
+medium_after-inside m size op lba about above below = grind (arith, nat_tests)
 
 -- A step leaves what is outside its range.
 abbrev pub StepsStayInside : Type 0
@@ -141,12 +141,12 @@ module _ (at count : ℕ) (news : ℕ → Block) (old new : List Block) (is : Is
         | inr below ↦ outside (inl below.1)
       ]
 
--- The unit of which the operation's range was rewritten holds the medium after it.
+-- The unit of which the operation's range was rewritten holds the medium after it, where the deed has to do with all of it.
 pub held-rewritten : StepsStayInside → (m : Medium) (first size at : ℕ) (op : Operation) (news : ℕ → Block) (old new : List Block)
-    → Holds (unit_with first size old) m → first + at ≡ op.first → IsRewritten at op.blocks news old new
+    → ((lba : ℕ) → is_about op.deed lba ≡ true) → Holds (unit_with first size old) m → first + at ≡ op.first → IsRewritten at op.blocks news old new
     → ((i : ℕ) → i < op.blocks → news i ≡ block_after size (range_of op m) op.deed i (m (op.first + i)))
     → Holds (unit_with first size new) (medium_after size op m)
-held-rewritten law m first size at op news old new held place is does i block there =
+held-rewritten law m first size at op news old new about held place is does i block there =
     let outside : (i < at) ⊎ (at + op.blocks ≤ i) → medium_after size op m (first + i) ≡ block =
     λ out.
     let out' : (first + i < op.first) ⊎ (op.first + op.blocks ≤ first + i) = grind arith in
@@ -162,7 +162,7 @@ held-rewritten law m first size at op news old new held place is does i block th
                 let same : first + i - op.first ≡ i - at = omega arith in
                 let put : news (i - at) ≡ block_after size (range_of op m) op.deed (i - at) (m (op.first + (i - at))) =
                 does (i - at) (omega arith) in
-                medium_after-inside m size op (first + i) (omega arith) (omega arith)
+                medium_after-inside m size op (first + i) (about (first + i)) (omega arith) (omega arith)
                 ∙ ap (λ (n : ℕ). block_after size (range_of op m) op.deed n (m (first + i))) same
                 ∙ sym (rw lba at put)
                 ∙ new_at at op.blocks news old new is i block above.1 before.1 there

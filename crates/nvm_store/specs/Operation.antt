@@ -1,6 +1,8 @@
 -- The operations that acts and looks stand for.
 use Rattle.std.specs.Prelude.{ℕ, List}
-use Rattle.nvm_record.specs.Step.{Operation, writes, zeroes, uncorrectable, reads, compares, pairs}
+use Rattle.nvm_record.specs.declared.lba_range.LbaRange.{LbaRange}
+use Rattle.nvm_record.specs.Ranges.{cut_ranges}
+use Rattle.nvm_record.specs.Step.{Operation, writes, zeroes, uncorrectable, reads, compares, pairs, deallocates}
 
 abbrev pub write_operation : ℕ → ℕ → List ℕ → Operation
 write_operation first blocks payload =
@@ -23,3 +25,12 @@ compare_operation first blocks payload =
 abbrev pub pair_operation : ℕ → ℕ → List ℕ → List ℕ → Operation
 pair_operation first blocks compare write =
     record { first = first; blocks = blocks; deed = pairs compare write }
+
+-- of just these ranges
+abbrev pub ranges_operation : ℕ → ℕ → List LbaRange → Operation
+ranges_operation first blocks ranges =
+    record { first = first; blocks = blocks; deed = deallocates ranges }
+
+-- of the ranges those parts that lie among the operation's LBAs
+abbrev pub deallocate_operation : ℕ → ℕ → List LbaRange → Operation
+deallocate_operation first blocks ranges = ranges_operation first blocks (cut_ranges first blocks ranges)

@@ -1,10 +1,14 @@
 ghost use Rattle.std.specs.Prelude.{◌≡◌, ◌↔◌, IsTrue};
 ghost use Rattle.nvm_store.specs.Act.{operation_of};
 ghost use Rattle.nvm_store.specs.ActRef.{lent_operation_of};
-ghost use Rattle.nvm_store.specs.Operation.{write_operation, zeroes_operation, uncorrectable_operation, pair_operation};
+ghost use Rattle.nvm_record.specs.Ranges.{ranges_of};
+ghost use Rattle.nvm_record.specs.Step.{HasRangesWithin};
+ghost use Rattle.nvm_store.specs.Operation.{write_operation, zeroes_operation, uncorrectable_operation, pair_operation, deallocate_operation, ranges_operation};
 
 use crate::act_ref::ActRef;
+use crate::cut_ranges;
 use nvm_record::Payload;
+use nvm_record::laws::cut_ranges_lie_within;
 use std::alloc::AllocError;
 
 /// What may change the blocks of a unit.
@@ -38,6 +42,15 @@ pub enum Act {
         blocks: u32,
         compare: Payload,
         write: Payload,
+    },
+    /// Those LBAs that are among the `blocks` from `first`, which are the unit's, and in one of the ranges
+    /// become zero bytes, and lose their marks (NVM Command Set Specification, "Dataset Management
+    /// command"). The ranges have 16 bytes each, as they follow a Dataset Management's entry; bytes behind
+    /// the last whole range aren't read.
+    Deallocate {
+        first: u64,
+        blocks: u32,
+        ranges: Payload,
     },
 }
 
@@ -82,15 +95,30 @@ impl Clone for Act {
                     write,
                 })
             }
+            Act::Deallocate {
+                first,
+                blocks,
+                ranges,
+            } => {
+                let ranges = ranges.clone()?;
+                Ok(Act::Deallocate {
+                    first: *first,
+                    blocks: *blocks,
+                    ranges,
+                })
+            }
         }
     }
 }
 
 impl Act {
-    /// The same act with its data lent. It takes no memory.
+    /// The same act with its data lent; a Deallocate where its ranges lie among its LBAs, as those of each
+    /// act of a unit's history do. It takes no memory.
     pub fn as_ref(&self) -> ActRef<'_>
-        ensures { lent_operation_of result ≡ operation_of self.now }
+        ensures { HasRangesWithin (operation_of self.now).first (operation_of self.now).blocks (operation_of self.now).deed
+            → lent_operation_of result ≡ operation_of self.now }
     {
+        cut_ranges_lie_within();
         match self {
             Act::Write {
                 first,
@@ -119,6 +147,15 @@ impl Act {
                 blocks: *blocks,
                 compare: compare.lend(),
                 write: write.lend(),
+            },
+            Act::Deallocate {
+                first,
+                blocks,
+                ranges,
+            } => ActRef::Deallocate {
+                first: *first,
+                blocks: *blocks,
+                ranges: ranges.lend(),
             },
         }
     }
@@ -174,6 +211,68 @@ impl Act {
                     && write.as_slice() == new
             }
             _ => false,
+        }
+    }
+
+    /// Whether it is the Deallocate of what lies of these ranges among the LBAs.
+    pub(crate) fn is_this_deallocate(&self, from: u64, count: u32, bytes: &[u8]) -> bool
+        ensures { IsTrue result
+            ↔ (deallocate_operation from count (ranges_of bytes.now) ≡ operation_of self.now) }
+    {
+        match self {
+            Act::Deallocate {
+                first,
+                blocks,
+                ranges,
+            } => {
+                *first == from
+                    && *blocks == count
+                    && cut_ranges::are_left(from, count, bytes, ranges.as_slice())
+            }
+            _ => false,
+        }
+    }
+
+    /// Whether it is the Deallocate of just these ranges.
+    fn has_these_ranges(&self, from: u64, count: u32, bytes: &[u8]) -> bool
+        ensures { IsTrue result
+            ↔ (ranges_operation from count (ranges_of bytes.now) ≡ operation_of self.now) }
+    {
+        match self {
+            Act::Deallocate {
+                first,
+                blocks,
+                ranges,
+            } => {
+                *first == from && *blocks == count && cut_ranges::are_same(bytes, ranges.as_slice())
+            }
+            _ => false,
+        }
+    }
+
+    /// Whether both are the same, with the same data. It takes no memory.
+    pub(crate) fn is_same(&self, other: &Act) -> bool
+        ensures { IsTrue result ↔ (operation_of self.now ≡ operation_of other.now) }
+    {
+        match self {
+            Act::Write {
+                first,
+                blocks,
+                payload,
+            } => other.is_this_write(*first, *blocks, payload.as_slice()),
+            Act::Zeroes { first, blocks } => other.are_these_zeroes(*first, *blocks),
+            Act::Uncorrectable { first, blocks } => other.is_this_mark(*first, *blocks),
+            Act::Pair {
+                first,
+                blocks,
+                compare,
+                write,
+            } => other.is_this_pair(*first, *blocks, compare.as_slice(), write.as_slice()),
+            Act::Deallocate {
+                first,
+                blocks,
+                ranges,
+            } => other.has_these_ranges(*first, *blocks, ranges.as_slice()),
         }
     }
 }

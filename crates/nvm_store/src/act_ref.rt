@@ -3,7 +3,9 @@ ghost use Rattle.nvm_store.specs.Act.{operation_of};
 ghost use Rattle.nvm_store.specs.ActRef.{lent_operation_of};
 
 use crate::act::Act;
+use crate::cut_ranges;
 use nvm_record::{NoMemory, PayloadRef};
+use std::alloc::Global;
 
 /// An [`Act`] whose data is lent: parts of payloads, which nothing shares yet.
 #[derive(Clone, Copy, Debug, PartialEq, Eq)]
@@ -31,10 +33,18 @@ pub enum ActRef<'a> {
         compare: PayloadRef<'a>,
         write: PayloadRef<'a>,
     },
+    /// See [`Act::Deallocate`]. The ranges may be those of a whole command: what isn't among the LBAs falls
+    /// out. A range's end, and that of the LBAs, may lie behind 2^64.
+    Deallocate {
+        first: u64,
+        blocks: u32,
+        ranges: PayloadRef<'a>,
+    },
 }
 
 impl<'a> ActRef<'a> {
-    /// Whether it is the same act, with the same data. It takes no memory.
+    /// Whether it is the same act, with the same data: of a Deallocate what lies of its ranges among its
+    /// LBAs. It takes no memory.
     pub fn is(self, act: &Act) -> bool
         ensures { IsTrue result ↔ (lent_operation_of self.entry ≡ operation_of act.now) }
     {
@@ -52,12 +62,20 @@ impl<'a> ActRef<'a> {
                 compare,
                 write,
             } => act.is_this_pair(first, blocks, compare.as_slice(), write.as_slice()),
+            ActRef::Deallocate {
+                first,
+                blocks,
+                ranges,
+            } => act.is_this_deallocate(first, blocks, ranges.as_slice()),
         }
     }
 
     /// The same act, which shares the data. It takes no memory, and is refused only where 2^63 - 1 payloads
     /// share the data already.
-    pub fn to_act(self) -> Result<Act, NoMemory>
+    ///
+    /// A Deallocate has its ranges copied, just what lies of them among its LBAs: their room is reserved
+    /// once, at its exact length.
+    pub fn to_act(self, alloc: Global) -> Result<Act, NoMemory>
         ensures { IfOk result (λ act. operation_of act ≡ lent_operation_of self.entry) }
     {
         match self {
@@ -88,6 +106,18 @@ impl<'a> ActRef<'a> {
                     blocks,
                     compare,
                     write,
+                })
+            }
+            ActRef::Deallocate {
+                first,
+                blocks,
+                ranges,
+            } => {
+                let ranges = cut_ranges::cut_data(alloc, first, blocks, ranges.as_slice())?;
+                Ok(Act::Deallocate {
+                    first,
+                    blocks,
+                    ranges,
                 })
             }
         }

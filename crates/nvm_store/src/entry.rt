@@ -41,7 +41,7 @@ impl PartialEq for Entry {
         ensures value { result ≡ same_entry self.now other.now }
         ensures same { IsTrue result ↔ (self.now ≡ other.now) }
     {
-        self.pass == other.pass && self.job == other.job && self.act.as_ref().is(&other.act)
+        self.pass == other.pass && self.job == other.job && self.act.is_same(&other.act)
     }
 }
 

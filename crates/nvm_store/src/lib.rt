@@ -10,6 +10,7 @@
 mod act;
 mod act_ref;
 mod comparison;
+mod cut_ranges;
 mod entry;
 mod history;
 pub mod laws;

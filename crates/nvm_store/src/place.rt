@@ -4,6 +4,7 @@ ghost use Rattle.nvm_store.specs.Look.{look_operation_of};
 ghost use Rattle.nvm_store.specs.Place.{IsWithin, IsCovered};
 
 use crate::act_ref::ActRef;
+use crate::cut_ranges;
 use crate::look::Look;
 use nvm_record::BlockSize;
 
@@ -19,8 +20,8 @@ pub struct Place {
 }
 
 impl Place {
-    /// Whether the act's range has a block and lies here, and its data, if it has any, has just the
-    /// blocks of the range. No LBA makes it wrap.
+    /// Whether the act's range has a block and lies here, its data, if it has any, has just the blocks of
+    /// the range, and of a Deallocate's ranges a block is left there. No LBA makes it wrap.
     pub fn covers(&self, act: ActRef<'_>) -> bool
         ensures { IsTrue result ↔ IsCovered self.now (lent_operation_of act.entry) }
     {
@@ -42,6 +43,14 @@ impl Place {
                 self.has_range(first, blocks)
                     && self.is_data_of(blocks, compare.as_slice())
                     && self.is_data_of(blocks, write.as_slice())
+            }
+            ActRef::Deallocate {
+                first,
+                blocks,
+                ranges,
+            } => {
+                self.has_range(first, blocks)
+                    && cut_ranges::is_left(first, blocks, ranges.as_slice())
             }
         }
     }

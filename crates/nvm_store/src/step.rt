@@ -26,9 +26,10 @@ pub fn judge(unit: &UnitBlocks, act: ActRef<'_>) -> Statuses
         → result ≡ statuses_of (lent_operation_of act.entry) m }
 {
     match act {
-        ActRef::Write { .. } | ActRef::Zeroes { .. } | ActRef::Uncorrectable { .. } => {
-            Statuses::One(Status::SUCCESSFUL_COMPLETION)
-        }
+        ActRef::Write { .. }
+        | ActRef::Zeroes { .. }
+        | ActRef::Uncorrectable { .. }
+        | ActRef::Deallocate { .. } => Statuses::One(Status::SUCCESSFUL_COMPLETION),
         ActRef::Pair {
             first,
             blocks,

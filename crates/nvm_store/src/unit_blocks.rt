@@ -3,7 +3,8 @@ ghost use Rattle.std.specs.Str.{bytes_eq};
 ghost use Rattle.nvm_record.specs.Medium as medium;
 ghost use Rattle.nvm_record.specs.Medium.{Medium, zero_medium, range};
 ghost use Rattle.nvm_record.specs.Step.{medium_after};
-ghost use Rattle.nvm_store.specs.Operation.{write_operation, zeroes_operation, uncorrectable_operation};
+ghost use Rattle.nvm_record.specs.Ranges.{ranges_of};
+ghost use Rattle.nvm_store.specs.Operation.{write_operation, zeroes_operation, uncorrectable_operation, deallocate_operation};
 ghost use Rattle.nvm_store.specs.ActRef.{lent_operation_of};
 ghost use Rattle.nvm_store.specs.Look.{look_operation_of};
 ghost use Rattle.nvm_store.specs.Contents.{Holds, LiesAt, Covers, Succeeds, StaysInPlace, place_of};
@@ -11,10 +12,11 @@ ghost use Rattle.nvm_store.specs.Place.{IsWithin, place_at};
 ghost use Rattle.nvm_store.specs.Inside.Sound.{blocks_at};
 
 use crate::act_ref::ActRef;
+use crate::cut_ranges::lowest_cut;
 use crate::look::Look;
 use crate::place::Place;
 use nvm_blocks::Blocks;
-use nvm_record::laws::steps_are_local;
+use nvm_record::laws::{cut_ranges_lie_within, steps_are_local};
 use nvm_record::{BlockSize, NoMemory, Payload};
 use std::alloc::Global;
 use std::marker::Model;
@@ -90,8 +92,9 @@ impl UnitBlocks {
         }
     }
 
-    /// Whether the act's range has a block and lies in the unit, and its data, if it has any, has just the
-    /// blocks of the range. It takes no memory, and no LBA makes it wrap.
+    /// Whether the act's range has a block and lies in the unit, its data, if it has any, has just the
+    /// blocks of the range, and of a Deallocate's ranges a block is left there. It takes no memory, and no
+    /// LBA makes it wrap.
     pub fn covers(&self, act: ActRef<'_>) -> bool
         ensures { IsTrue result ↔ Covers self.now (lent_operation_of act.entry) }
     {
@@ -107,8 +110,9 @@ impl UnitBlocks {
     }
 
     /// Makes the act's step, at the cost of its own blocks and of their ways in the tree, whatever else the
-    /// unit holds. One block is changed in place where no other unit shares it. Where memory is refused,
-    /// the unit is as it was.
+    /// unit holds. A Deallocate clears each block once, and costs a walk over the ranges for each run of
+    /// blocks that it clears. One block is changed in place where no other unit shares it. Where memory is
+    /// refused, the unit is as it was.
     pub fn change(&mut self, alloc: Global, act: ActRef<'_>) -> Result<(), NoMemory>
         requires covered { Covers self.old (lent_operation_of act) }
         requires success { Succeeds self.old (lent_operation_of act) }
@@ -137,6 +141,14 @@ impl UnitBlocks {
             } => {
                 let payload = write.share()?;
                 self.write(alloc, first, blocks, payload)
+            }
+            ActRef::Deallocate {
+                first,
+                blocks,
+                ranges,
+            } => {
+                *self = self.deallocated(alloc, first, blocks, ranges.as_slice())?;
+                Ok(())
             }
         }
     }
@@ -187,6 +199,34 @@ impl UnitBlocks {
         let at = (first - self.first) as usize;
         steps_are_local();
         self.blocks.mark(alloc, at, blocks as usize)
+    }
+
+    /// A unit that shares the blocks, of which those that are among the `blocks` LBAs from `first` and in one
+    /// of the ranges became zero bytes. Each is cleared once, also where ranges overlap; each run of blocks
+    /// that is cleared costs a walk over the ranges.
+    fn deallocated(
+        &self,
+        alloc: Global,
+        first: u64,
+        blocks: u32,
+        ranges: &[u8],
+    ) -> Result<UnitBlocks, NoMemory>
+        requires { IsWithin (place_of self.now) first blocks }
+        ensures step { IfOk result (λ unit. (m : Medium) → Holds self.now m → Holds unit
+            (medium_after self.now.size (deallocate_operation first blocks (ranges_of ranges.now)) m)) }
+        ensures place { IfOk result (StaysInPlace self.now) }
+    {
+        cut_ranges_lie_within();
+        let mut after = self.share()?;
+        let mut from = first;
+        let mut left = blocks;
+        while let Some(run) = lowest_cut(from, left, ranges) {
+            after.zero(alloc, run.first, run.blocks)?;
+            let past = run.first + u64::from(run.blocks);
+            left -= (past - from) as u32;
+            from = past;
+        }
+        Ok(after)
     }
 
     /// Whether one of the `blocks` LBAs from `first` is marked. It takes no memory.

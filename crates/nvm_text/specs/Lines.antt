@@ -1,7 +1,7 @@
 -- What is printed of a command and its completion.
 use Rattle.std.specs.Prelude.{ℕ, ◌+◌, ◌/◌, ◌%◌, nat_lt, if◌then◌else◌, List, [], ◌∷◌, ◌++◌, Option, Some, None, codes, decimal}
 use Rattle.nvm_record.specs.declared.op.Op.{Op}
-use Rattle.nvm_record.specs.declared.op.Op.TheVariants.{Write, Read, WriteUncorrectable, Compare, WriteZeroes, Other}
+use Rattle.nvm_record.specs.declared.op.Op.TheVariants.{Write, Read, WriteUncorrectable, Compare, WriteZeroes, Dataset, Other}
 use Rattle.nvm_record.specs.declared.status.Status.{Status}
 use Rattle.nvm_record.specs.declared.completion.Completion.{Completion}
 use Rattle.nvm_text.specs.Runs.{Run, runs}
@@ -21,6 +21,7 @@ name_of Read = codes "read"
 name_of WriteUncorrectable = codes "uncorrectable"
 name_of Compare = codes "compare"
 name_of WriteZeroes = codes "zeroes"
+name_of (Dataset deallocate) = codes "dataset"
 name_of (Other opcode) = codes "op-" ++ hex2 opcode
 
 -- the status code type, and the status code

@@ -36,8 +36,8 @@ fn push_identifiers(text: &mut String, completion: &Completion) -> Result<(), No
     Ok(())
 }
 
-/// Appends the name of an operation: `write`, `read`, `uncorrectable`, `compare` or `zeroes`, and
-/// `op-` with two hexadecimal digits for another opcode.
+/// Appends the name of an operation: `write`, `read`, `uncorrectable`, `compare`, `zeroes` or `dataset`,
+/// and `op-` with two hexadecimal digits for another opcode.
 pub fn push_name(text: &mut String, op: Op) -> Result<(), NoMemory>
     ensures ok { OnOk result (string_bytes text.new ≡ string_bytes text.old ++ name_of op) }
     ensures err { OnErr result (KeepsText (string_bytes text.old) (string_bytes text.new)) }
@@ -48,6 +48,7 @@ pub fn push_name(text: &mut String, op: Op) -> Result<(), NoMemory>
         Op::WriteUncorrectable => "uncorrectable",
         Op::Compare => "compare",
         Op::WriteZeroes => "zeroes",
+        Op::Dataset { .. } => "dataset",
         Op::Other(opcode) => return push_opcode(text, opcode),
     };
     text.push_str(name)?;

@@ -5,7 +5,7 @@ use Rattle.std.proofs.lemmas.List.{length-append}
 use Rattle.nvm_record.specs.declared.block.Block.{Block}
 use Rattle.nvm_record.specs.declared.status.Statuses.{Statuses}
 use Rattle.nvm_record.specs.Medium.{Medium}
-use Rattle.nvm_record.specs.Step.{Deed, writes, zeroes, uncorrectable, reads, compares, pairs, Operation, range_of, statuses_of, data_of, data_on}
+use Rattle.nvm_record.specs.Step.{Deed, writes, zeroes, uncorrectable, reads, compares, pairs, deallocates, Operation, range_of, statuses_of, data_of, data_on}
 use Rattle.nvm_store.specs.Answer.{told_by, read_by}
 use Rattle.nvm_store.specs.History.{replay_of}
 use Rattle.nvm_store.specs.HistoryEntry.{HistoryEntry}
@@ -68,6 +68,7 @@ fails_without_data blocks uncorrectable fails = absurd fails
 fails_without_data blocks reads fails = absurd fails
 fails_without_data blocks (compares payload) fails = absurd fails
 fails_without_data blocks (pairs compare write) fails = refl
+fails_without_data blocks (deallocates ranges) fails = absurd fails
 
 pub failed_rests : (n : ℕ) (statuses : Statuses) (p q : PassView) (job : ℕ) (op : Operation) (history : List HistoryEntry) → Makes (Failed n statuses) p job op q → Begins q.seen history
     → RestsOn p.bounds.place.size history n op statuses None

@@ -99,7 +99,7 @@ impl Book {
         let entry = Entry {
             pass,
             job,
-            act: act.to_act()?,
+            act: act.to_act(alloc)?,
         };
         self.history.reserve(1)?;
         self.blocks.change(alloc, act)?;

@@ -28,6 +28,7 @@ impl LockedUnit {
     /// Writes the data into the block, and keeps an entry that shares it.
     fn write(
         &mut self,
+        alloc: Global,
         pass: u16,
         job: u32,
         lba: u64,
@@ -47,7 +48,7 @@ impl LockedUnit {
         let entry = Entry {
             pass,
             job,
-            act: act.to_act()?,
+            act: act.to_act(alloc)?,
         };
         self.history.push(entry)?;
         block.copy_from_slice(payload.as_slice());
@@ -92,7 +93,9 @@ impl Writer for MutexWriter {
         lba: u64,
         payload: PayloadRef<'_>,
     ) -> Result<(), Fault> {
-        self.shared.lock(rt).write(self.number, job, lba, payload)?;
+        self.shared
+            .lock(rt)
+            .write(alloc, self.number, job, lba, payload)?;
         Ok(())
     }
 

@@ -1,9 +1,9 @@
 -- The new blocks that a source gives.
-use Rattle.std.specs.Prelude.{ℕ, ◌*◌, ◌≤◌, length}
+use Rattle.std.specs.Prelude.{◌≡◌, ◌⊎◌, ℕ, ◌+◌, ◌*◌, ◌<◌, ◌≤◌, List, length}
 use Rattle.nvm_record.specs.declared.block.Block.{Block}
 use Rattle.nvm_record.specs.declared.block.Block.TheVariants.{Uncorrectable}
 use Rattle.nvm_record.specs.Step.{block_at}
-use Rattle.nvm_blocks.specs.Rewrite.{zero_block}
+use Rattle.nvm_blocks.specs.Rewrite.{IsRewritten, zero_block}
 use Rattle.nvm_blocks.specs.declared.source.Source.{Source}
 use Rattle.nvm_blocks.specs.declared.source.Source.TheVariants.{Data, Zeroes, Marks}
 
@@ -18,3 +18,10 @@ abbrev pub HasBlocks : Source → ℕ → Type 0
 HasBlocks (Data size payload) count = count * size ≤ length payload
 HasBlocks (Zeroes size) count = Unit {0}
 HasBlocks Marks count = Unit {0}
+
+-- At least `least` blocks from place `at` are the source's from place `from` on, none of those from place `to` on;
+-- or all are as they were, where more than one was asked for.
+pub record IsFilled (source : Source) (at from to least count : ℕ) (old new : List Block) : Type 0 where
+  pub enough : (least ≤ count) ⊎ ((1 < least) × (count ≡ 0) × (new ≡ old))
+  pub few : from + count ≤ to
+  pub is : IsRewritten at count (λ i. source_block source (from + i)) old new

@@ -28,6 +28,9 @@ fn change_beside_a_copy(rt: &impl Abort, alloc: Global, count: usize) -> Result<
     let mut bytes = Vec::new(alloc);
     blocks.push_bytes(at, 2, &mut bytes)?;
     assert_eq!(rt; bytes.as_slice(), [1, 2, 0, 0].as_slice());
+    blocks.zero(alloc, 0, count, 2)?;
+    assert!(rt; blocks.is_equal(at, 4, &[0; 8]));
+    assert!(rt; copy.is_equal(at, 4, &[1, 2, 3, 4, 5, 6, 0, 0]));
     Ok(())
 }
 

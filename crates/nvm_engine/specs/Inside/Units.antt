@@ -1,5 +1,6 @@
 -- The whole namespace as its units, and jobs that are done there part by part.
-use Rattle.std.specs.Prelude.{◌≡◌, ◌≢◌, ◌⊎◌, ℕ, ◌+◌, ◌*◌, ◌<◌, ◌≤◌, List, [], ◌∷◌, ◌++◌, map, Option, None, length, vec_len, slice_index_or}
+use Rattle.std.specs.Prelude.{◌≡◌, ◌≢◌, ◌⊎◌, ℕ, ◌+◌, ◌*◌, ◌<◌, ◌≤◌, List, [], ◌∷◌, ◌++◌, Option, None, length, vec_len}
+use Rattle.nvm_record.specs.Lists.{IsAt}
 use Rattle.nvm_record.specs.Medium.{Medium}
 use Rattle.nvm_record.specs.Status.{successful_completion}
 use Rattle.nvm_record.specs.Step.{Deed, Operation}
@@ -8,7 +9,6 @@ use Rattle.nvm_record.specs.declared.status.Statuses.TheVariants.{One}
 use Rattle.nvm_geometry.specs.Namespace.{Namespace}
 use Rattle.nvm_geometry.specs.Boundaries.{units_of}
 use Rattle.nvm_geometry.specs.Parts.{part_in}
-use Rattle.nvm_geometry.specs.declared.piece.Piece.{Piece}
 use Rattle.nvm_plan.specs.UnitPlace.{IsUnitPlace}
 use Rattle.nvm_plan.specs.Outcome.{data_told, AreDone, IsOutcomeOf}
 use Rattle.nvm_record.specs.Deeds.{success_of}
@@ -33,8 +33,7 @@ AreOfUnit ns k u = IsUnitPlace ns k (place_of u)
 -- Unit k stands at place k, and its history is within the limit.
 abbrev pub AreUnits : Setup → List AtomicUnit → Type 0
 AreUnits s units =
-    (d : AtomicUnit) (k : ℕ) → k < length units
-    → AreOfUnit s.namespace k (slice_index_or units k d).blocks × (vec_len (slice_index_or units k d).history ≤ s.limit)
+    (k : ℕ) (unit : AtomicUnit) → IsAt units k unit → AreOfUnit s.namespace k unit.blocks × (vec_len unit.history ≤ s.limit)
 
 -- All units stand there.
 pub record IsLaidOut (s : Setup) (units : List AtomicUnit) : Type 0 where
@@ -44,8 +43,7 @@ pub record IsLaidOut (s : Setup) (units : List AtomicUnit) : Type 0 where
 -- Each unit holds the medium's blocks, and its history has as many entries as it had changes.
 abbrev pub AreAt : List AtomicUnit → Medium → Counts → Type 0
 AreAt units m counts =
-    (d : AtomicUnit) (k : ℕ) → k < length units
-    → Holds (slice_index_or units k d).blocks m × (counts k ≡ vec_len (slice_index_or units k d).history)
+    (k : ℕ) (unit : AtomicUnit) → IsAt units k unit → Holds unit.blocks m × (counts k ≡ vec_len unit.history)
 
 -- how the part ended, the statuses that were told of it, and the data
 abbrev pub result_told : Told → PartResult
@@ -106,15 +104,16 @@ HasRoom (Looked (Status status)) count room = Unit {0}
 HasRoom NoMemory count room = Unit {0}
 HasRoom Full count room = Unit {0}
 
--- how many blocks the pieces have
-abbrev pub blocks_left : List Piece → ℕ
-blocks_left [] = 0
-blocks_left (p ∷ ps) = p.blocks + blocks_left ps
+-- how many blocks the operation's parts in these units have
+abbrev pub blocks_left : Namespace → Operation → List ℕ → ℕ
+blocks_left ns op [] = 0
+blocks_left ns op (unit ∷ units) = (part_in ns op unit).blocks + blocks_left ns op units
 
--- After so many bytes of so much room there is room for those of the pieces that are left, or no byte is there yet and
--- at most one piece is left.
-abbrev pub HasRoomLeft : ℕ → List Piece → ℕ → ℕ → Type 0
-HasRoomLeft size rest count room = (count + blocks_left rest * size ≤ room) ⊎ ((count ≡ 0) × (length rest ≤ 1))
+-- After so many bytes of so much room there is room for those of the parts in the units that are left, or no byte is
+-- there yet and at most one unit is left.
+abbrev pub HasRoomLeft : Namespace → Operation → List ℕ → ℕ → ℕ → Type 0
+HasRoomLeft ns op left count room =
+    (count + blocks_left ns op left * ns.block_size ≤ room) ⊎ ((count ≡ 0) × (length left ≤ 1))
 
 -- A job of the deed ends with this.
 abbrev pub EndsWith : Deed → Told → DoneJob → Type 0
@@ -125,20 +124,20 @@ EndsWith deed (Looked (Status status)) done = (status ≢ successful_completion)
 EndsWith deed NoMemory done = done ≡ told (stop_of deed)
 EndsWith deed Full done = done ≡ told (stop_of deed)
 
--- The parts that were done from a medium and the units' changes, all with success, up to the pieces that
+-- The parts that were done from a medium and the units' changes, all with success, up to those in the units that
 -- are left, and the bytes that they read.
-pub record HaveDone (s : Setup) (op : Operation) (m : Medium) (counts : Counts) (new : List AtomicUnit) (rest : List Piece) (bytes : List ℕ) : Type 0 where
+pub record HaveDone (s : Setup) (op : Operation) (m : Medium) (counts : Counts) (new : List AtomicUnit) (left : List ℕ) (bytes : List ℕ) : Type 0 where
   pub replies : List Reply
   pub after : Medium
   pub counted : Counts
   pub at : AreAt new after counted
   pub does : Does s op m counts replies after counted
-  pub done : AreDone s.namespace op replies (map (λ p. p.unit) rest)
+  pub done : AreDone s.namespace op replies left
   pub bytes_are : data_told replies ≡ bytes
 
-abbrev pub IsUnderWay : Setup → Operation → List AtomicUnit → List AtomicUnit → List Piece → List ℕ → Type 0
-IsUnderWay s op old new rest bytes =
-    (m : Medium) (counts : Counts) → AreAt old m counts → HaveDone s op m counts new rest bytes
+abbrev pub IsUnderWay : Setup → Operation → List AtomicUnit → List AtomicUnit → List ℕ → List ℕ → Type 0
+IsUnderWay s op old new left bytes =
+    (m : Medium) (counts : Counts) → AreAt old m counts → HaveDone s op m counts new left bytes
 
 -- From the units as they were to the units as they are, this was told of the operation's parts.
 abbrev pub DoesParts : Setup → Operation → List AtomicUnit → List AtomicUnit → DoneJob → Type 0

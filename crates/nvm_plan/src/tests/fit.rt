@@ -1,4 +1,4 @@
-use crate::tests::command;
+use crate::tests::{command, dataset, job};
 use crate::{Body, Job, fits};
 use nvm_geometry::Geometry;
 use nvm_record::{Fuse, Op};
@@ -16,6 +16,9 @@ fn jobs_that_fit_and_others(rt: HostRuntime) -> Result<(), Fail> {
         (1, Op::Read, 1024, false),
         (1, Op::Other(0x7f), 0, true),
         (1, Op::Other(0x01), 0, false),
+        (1, Op::Other(0x09), 0, true),
+        (1, Op::Other(0x09), 16, false),
+        (1, Op::Dataset { deallocate: true }, 16, false),
     ];
     for (host, op, bytes, fitting) in cases {
         let single = command(rt.alloc(), 1, (op, Fuse::Normal), (1, 0, 1), bytes)?;
@@ -24,6 +27,18 @@ fn jobs_that_fit_and_others(rt: HostRuntime) -> Result<(), Fail> {
             body: Body::Single(single),
         };
         assert_eq!(rt; fits(&geometry, &job), fitting, "{host} {op:?} {bytes}");
+    }
+    Ok(())
+}
+
+#[test]
+fn ranges_that_fit_and_others(rt: HostRuntime) -> Result<(), Fail> {
+    let geometry = Geometry::new(32, 512, 7, 0, 7, 3).expect(&rt, "a geometry");
+    let cases = [(0, false), (1, true), (256, true), (257, false)];
+    for (count, fitting) in cases {
+        let ranges = vec![in rt.alloc(); (0, 1); count]?;
+        let job = job(dataset(rt.alloc(), true, ranges.as_slice())?);
+        assert_eq!(rt; fits(&geometry, &job), fitting, "{count}");
     }
     Ok(())
 }

@@ -1,9 +1,9 @@
 //! A job's parts in the units that it meets, and what its host is told.
-use crate::tests::command;
-use crate::{Body, Completions, Job, LentPart, job_part_count, job_part_in};
+use crate::tests::{command, data_of, dataset, job};
+use crate::{Body, Completions, Job, LentPart, job_part_count, job_part_in, job_units};
 use nvm_geometry::Geometry;
 use nvm_record::{Fuse, Op, ReadData, Status, Statuses};
-use nvm_store::Look;
+use nvm_store::{Act, Look};
 use std::test::Fail;
 
 #[test]
@@ -34,5 +34,31 @@ fn read_over_two_units(rt: HostRuntime) -> Result<(), Fail> {
         };
         assert_eq!(rt; part, wanted);
     }
+    Ok(())
+}
+
+#[test]
+fn ranges_in_two_units(rt: HostRuntime) -> Result<(), Fail> {
+    let geometry = Geometry::new(32, 512, 7, 0, 7, 3).expect(&rt, "a geometry");
+    let job = job(dataset(rt.alloc(), true, &[(9, 2), (0, 1), (10, 2)])?);
+    if !crate::fits(&geometry, &job) {
+        return Err(Fail::new("the job fits"));
+    }
+    let cases: [(u16, u64, &[(u64, u32)]); 2] = [(0, 0, &[(0, 1)]), (1, 8, &[(9, 2), (10, 2)])];
+    let mut units = job_units(&geometry, &job);
+    for (unit, first, cut) in cases {
+        assert_eq!(rt; units.next(), Some(unit));
+        let Some(LentPart::Act(act)) = job_part_in(&geometry, &job, unit) else {
+            return Err(Fail::new("the part is an act"));
+        };
+        let wanted = Act::Deallocate {
+            first,
+            blocks: 8,
+            ranges: data_of(rt.alloc(), cut)?,
+        };
+        assert_eq!(rt; act.to_act(rt.alloc())?, wanted);
+    }
+    assert_eq!(rt; units.next(), None);
+    assert!(rt; job_part_in(&geometry, &job, 2).is_none());
     Ok(())
 }

@@ -18,6 +18,7 @@ fn an_entry_has_its_fields_in_place(rt: HostRuntime) {
         op: Op::Compare,
         slba: 0x0102_0304_0506_0708,
         nlb: 3,
+        nr: 0,
     };
     assert_eq!(rt; entry_fields(&compare_entry(0xff)), wanted);
     let command = Command {

@@ -1,8 +1,9 @@
 -- The function that `==` of entries computes. It is true exactly where they are equal: the clauses of `==` say so.
-use Rattle.std.specs.Prelude.{ℕ, List, [], Bool, nat_eq}
+use Rattle.std.specs.Prelude.{ℕ, List, [], ◌∷◌, Bool, nat_eq}
+use Rattle.std.specs.List.{flat_map}
 use Rattle.std.specs.Cmp.Lexicographic.{pointwise}
 use Rattle.std.specs.Ordering.{on, eq_of_both}
-use Rattle.nvm_record.specs.Step.{Deed, writes, zeroes, uncorrectable, reads, compares, pairs}
+use Rattle.nvm_record.specs.Step.{Deed, writes, zeroes, uncorrectable, reads, compares, pairs, deallocates}
 use Rattle.nvm_store.specs.HistoryEntry.{HistoryEntry}
 
 -- a number for each kind of deed
@@ -13,8 +14,9 @@ kind_of uncorrectable = 2
 kind_of reads = 3
 kind_of (compares payload) = 4
 kind_of (pairs payload new) = 5
+kind_of (deallocates ranges) = 6
 
--- the data that the deed writes or compares with
+-- the data that the deed writes or compares with, or the numbers of its ranges
 abbrev pub payload_of : Deed → List ℕ
 payload_of (writes payload) = payload
 payload_of zeroes = []
@@ -22,6 +24,7 @@ payload_of uncorrectable = []
 payload_of reads = []
 payload_of (compares payload) = payload
 payload_of (pairs payload new) = payload
+payload_of (deallocates ranges) = flat_map (λ r. r.first ∷ r.blocks ∷ []) ranges
 
 -- the data that a pair writes
 abbrev pub new_payload_of : Deed → List ℕ
@@ -31,6 +34,7 @@ new_payload_of uncorrectable = []
 new_payload_of reads = []
 new_payload_of (compares payload) = []
 new_payload_of (pairs payload new) = new
+new_payload_of (deallocates ranges) = []
 
 abbrev pub same_deed : HistoryEntry → HistoryEntry → Bool
 same_deed =

@@ -161,7 +161,7 @@ fn an_act_and_its_copy_are_the_same(rt: HostRuntime) -> Result<(), Fail> {
         blocks: 1,
         payload: ones.lend(),
     };
-    let owned = act.to_act()?;
+    let owned = act.to_act(rt.alloc())?;
     assert!(rt; act.is(&owned));
     assert!(rt; unit.covers(owned.as_ref()));
     assert!(rt; judge(&unit, owned.as_ref()).is_success());

@@ -1,8 +1,13 @@
 //! Each public call once.
+ghost use Rattle.std.specs.Prelude.{◌≡◌};
+ghost use Rattle.nvm_unit.specs.Passes.{IsPassOf};
+
 use super::{BLOCK, change, two_passes};
-use crate::{Changed, Open};
-use nvm_record::Payload;
+use crate::{Changed, Open, Pass, Unit};
+use nvm_record::{LbaRange, Payload, Status, ranges_data};
 use nvm_store::{ActRef, Answer, Look};
+use std::alloc::Global;
+use std::sync::Wait;
 use std::test::Fail;
 
 #[test]
@@ -42,5 +47,81 @@ fn each_call_once(rt: HostRuntime) -> Result<(), Fail> {
     passes.push(second)?;
     let history = unit.close(passes);
     assert_eq!(rt; history.len(), 1);
+    Ok(())
+}
+
+/// Does a Write of bytes of 1 to all 8 blocks.
+fn write_all(rt: &impl Wait, alloc: Global, unit: &Unit, pass: &mut Pass) -> Result<(), Fail>
+    requires { IsPassOf unit.now pass.old }
+    ensures of { IsPassOf unit.now pass.new }
+    ensures number { pass.new.view.number ≡ pass.old.view.number }
+{
+    let payload = Payload::copy_of(alloc, &[1; 8 * BLOCK])?;
+    let write = ActRef::Write {
+        first: 0,
+        blocks: 8,
+        payload: payload.lend(),
+    };
+    change(alloc, rt, unit, pass, write, &Open)?;
+    Ok(())
+}
+
+/// Whether the block at the LBA has just such bytes.
+fn has(rt: &impl Wait, alloc: Global, unit: &Unit, pass: &mut Pass, first: u64, byte: u8) -> bool
+    requires { IsPassOf unit.now pass.old }
+    ensures of { IsPassOf unit.now pass.new }
+    ensures number { pass.new.view.number ≡ pass.old.view.number }
+{
+    let payload = [byte; BLOCK];
+    let look = Look::Compare {
+        first,
+        blocks: 1,
+        payload: &payload,
+    };
+    if !unit.covers_look(look) {
+        return false;
+    }
+    match unit.observe(rt, alloc, pass, look) {
+        Ok(observed) => { observed.answer == Answer::Status(Status::SUCCESSFUL_COMPLETION) }
+        Err(_) => false,
+    }
+}
+
+/// A Deallocate is one entry, or none where memory is refused, and then the blocks stay too.
+#[test]
+fn a_deallocate_is_one_entry(rt: HostRuntime) -> Result<(), Fail> {
+    let alloc = rt.alloc();
+    let (unit, mut first, mut second) = two_passes(alloc, 2)?;
+    write_all(&rt, alloc, &unit, &mut first)?;
+    let ranges = [
+        LbaRange { first: 5, blocks: 9 },
+        LbaRange { first: 0, blocks: 2 },
+        LbaRange { first: 1, blocks: 0 },
+    ];
+    let ranges = ranges_data(alloc, &ranges)?;
+    let act = ActRef::Deallocate {
+        first: 0,
+        blocks: 8,
+        ranges: ranges.lend(),
+    };
+    assert!(rt; unit.covers(act));
+    let done = match unit.change(&rt, alloc, &mut first, 5, act, &Open) {
+        Changed::Done { point } => {
+            assert_eq!(rt; point, 1);
+            true
+        }
+        changed => {
+            assert_eq!(rt; changed, Changed::NoMemory { point: 1 });
+            false
+        }
+    };
+    let cleared = u8::from(!done);
+    assert!(rt; has(&rt, alloc, &unit, &mut second, 1, cleared));
+    assert!(rt; has(&rt, alloc, &unit, &mut second, 2, 1));
+    assert!(rt; has(&rt, alloc, &unit, &mut second, 4, 1));
+    assert!(rt; has(&rt, alloc, &unit, &mut second, 5, cleared));
+    assert!(rt; has(&rt, alloc, &unit, &mut second, 7, cleared));
+    let seen = unit.history(&rt, alloc, &mut second)?;
+    assert_eq!(rt; seen.len(), 1 + usize::from(done));
     Ok(())
 }

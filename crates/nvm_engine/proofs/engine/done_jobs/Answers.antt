@@ -8,7 +8,7 @@ use Rattle.nvm_engine.specs.Run.{Setup, no_changes}
 use Rattle.nvm_engine.specs.Inside.Setup as units
 use Rattle.nvm_engine.specs.Shown.{setup_of_settings}
 use Rattle.nvm_engine.specs.Inside.Units.{IsLaidOut, AreAt, AnswersTo}
-use Rattle.nvm_engine.proofs.Serving.{IsServing, none_served, one_served, all_served}
+use Rattle.nvm_engine.proofs.Serving.{IsServing, none_served, one_served, all_served, run_has_statuses}
 use Rattle.nvm_engine.proofs.engine.done_jobs.Goals as goal
 
 pub loop-number-init : goal.loop-number-init
@@ -42,6 +42,14 @@ loop-number-preserved c =
       subst (λ (s : Setup). IsLaidOut s c.run_job.new.self.units.items) same c.run_job.ensures.laid,
       more,
     )
+
+pub returns-clause-statuses : goal.returns-clause-statuses
+returns-clause-statuses c =
+    let found = c.loop-number.invariant.3 in
+    let none : drop c.loop-number.number c.args.jobs.now ≡ [] = drop_of_length-le c.args.jobs.now c.loop-number-test.false in
+    run_has_statuses c.each_command_has_a_status.ensures.outcome (setup_of_settings c.args.settings.now) c.args.jobs.now c.loop-number.done.items (zero_medium c.args.settings.now.block) no_changes
+    (all_served (setup_of_settings c.args.settings.now) c.loop-number.units.units.items c.args.jobs.now c.loop-number.done.items found.0 found.1
+    (subst (λ (rest : List Job). IsServing (setup_of_settings c.args.settings.now) c.loop-number.units.units.items c.args.jobs.now c.loop-number.done.items rest found.0 found.1) none found.2))
 
 pub returns-clause-run : goal.returns-clause-run
 returns-clause-run c =

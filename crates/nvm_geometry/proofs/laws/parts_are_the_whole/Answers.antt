@@ -4,7 +4,7 @@ use Rattle.nvm_geometry.proofs.PartsData.{parts_data}
 use Rattle.nvm_geometry.proofs.laws.parts_are_the_whole.Goals as goal
 
 pub returns-clause-medium : goal.returns-clause-medium
-returns-clause-medium c = parts_medium
+returns-clause-medium c = parts_medium c.cut_ranges_lie_within.ensures.has
 
 pub returns-clause-success : goal.returns-clause-success
 returns-clause-success c = parts_success

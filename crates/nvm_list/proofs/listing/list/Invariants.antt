@@ -1,7 +1,7 @@
 use Rattle.std.proofs.Common.{◌≡◌, ◌+◌, ◌++◌, drop, string_bytes}
 use Rattle.std.specs.List.{AllByRecursion}
 use Rattle.nvm_list.specs.Listing.{listing, listing_from}
-use Rattle.nvm_list.specs.Inside.Ranges.{HasValuesInRange}
+use Rattle.nvm_list.specs.Inside.Values.{HasValuesInRange}
 use Rattle.nvm_list.proofs.listing.list.Given as goal
 
 abbrev pub invariant-loop-before : goal.invariant-loop-before

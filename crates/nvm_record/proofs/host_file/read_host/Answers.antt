@@ -1,4 +1,3 @@
-use Rattle.nvm_record.proofs.WholeCommands.{all_whole_read}
 use Rattle.nvm_record.proofs.OneReading.{all_alone, each_alone}
 use Rattle.nvm_record.proofs.host_file.read_host.Goals as goal
 
@@ -7,6 +6,3 @@ returns-clause-all_commands c = λ cs h. all_alone c.args.size c.args.bytes.now 
 
 pub returns-clause-each_fault : goal.returns-clause-each_fault
 returns-clause-each_fault c = λ f h. each_alone c.args.size c.args.bytes.now f c.commands_of.result h c.commands_of.ensures.commands c.commands_of.ensures.fault
-
-pub returns-clause-whole : goal.returns-clause-whole
-returns-clause-whole c = all_whole_read c.args.size c.args.bytes.now c.commands_of.result c.commands_of.ensures.commands

@@ -1,16 +1,20 @@
 use Rattle.std.proofs.Common.{◌≡◌, ◌+◌, ◌-◌, ◌≤◌, ℕ, length, take, drop, ap, sym, ◌∙◌, arith}
-use Rattle.std.proofs.lemmas.List.{drop-drop, take_rest}
-use Rattle.nvm_record.specs.Entry.{IsEntryOf}
+use Rattle.std.proofs.lemmas.List.{drop-drop, take_rest, length-take-le}
+use Rattle.nvm_record.specs.Entry.{IsEntryOf, called_for, data_kept}
 use Rattle.nvm_record.specs.declared.command.Command.{Command}
 use Rattle.nvm_record.proofs.HostFileLemmas.{begins_with}
+use Rattle.nvm_record.proofs.WholeCommands.{wanted, whole}
 use Rattle.nvm_record.proofs.spelling.read_command.Goals as goal
 
 pub returns-clause-command : goal.returns-clause-command
 returns-clause-command c =
-    let first : c.split_at.result.0.now ≡ take 64 c.args.bytes.now = c.split_at.ensures.front ∙ ap (take 64) c.as_slice.ensures in
-    let second : c.split_at.result.1.now ≡ drop 64 c.args.bytes.now = c.split_at.ensures.back ∙ ap (drop 64) c.as_slice.ensures in
-    let enough : c.data_length-wanted.result ≤ length (drop 64 c.args.bytes.now) = rw (← second) (omega arith) in
-    let read : Command = record { cid = c.entry_fields-fields.result.cid; nsid = c.entry_fields-fields.result.nsid; fuse = c.entry_fields-fields.result.fuse; op = c.entry_fields-fields.result.op; slba = c.entry_fields-fields.result.slba; nlb = c.entry_fields-fields.result.nlb; payload = c.in_ok-payload.payload } in
+    let all = c.args.bytes.now in
+    let n = c.data_length-wanted.result in
+    let fields = c.entry_fields-fields.result in
+    let read : Command = record { cid = fields.cid; nsid = fields.nsid; fuse = fields.fuse; op = fields.op; slba = fields.slba; nlb = fields.nlb; payload = c.in_ok-payload.payload } in
+    let first : c.split_at.result.0.now ≡ take 64 all = c.split_at.ensures.front ∙ ap (take 64) c.as_slice.ensures in
+    let second : c.split_at.result.1.now ≡ drop 64 all = c.split_at.ensures.back ∙ ap (drop 64) c.as_slice.ensures in
+    let enough : n ≤ length (drop 64 all) = rw (← second) (omega arith) in
     let entry : IsEntryOf c.split_at.result.0.now read = record {
       whole = c.split_at.ensures.front_len;
       op = c.entry_fields-fields.ensures.op;
@@ -20,8 +24,37 @@ returns-clause-command c =
       slba = c.entry_fields-fields.ensures.slba;
       nlb = c.entry_fields-fields.ensures.nlb;
     } in
-    let n = c.data_length-wanted.result in
-    let all = c.args.bytes.now in
-    let carried : c.in_ok-payload.payload ≡ take n (drop 64 all) = c.in_ok-payload.ensures ∙ ap (λ (k : ℕ). take k (drop 64 all)) (omega arith) in
+    let needed : n ≡ called_for c.args.size c.split_at.result.0.now =
+    c.data_length-wanted.ensures ∙ wanted c.args.size c.split_at.result.0.now fields.nr read entry c.entry_fields-fields.ensures.nr in
+    let found : c.in_ok-found.found ≡ take n (drop 64 all) = c.in_ok-found.ensures ∙ ap (λ (k : ℕ). take k (drop 64 all)) (omega arith) in
+    let kept : c.in_ok-payload.payload ≡ data_kept fields.op (take n (drop 64 all)) = c.in_ok-payload.ensures.bytes ∙ ap (data_kept fields.op) found in
     let rest : c.in_ok-rest.rest ≡ drop n (drop 64 all) = c.in_ok-rest.ensures ∙ ap (λ (k : ℕ). take (k - (64 + n)) (drop (64 + n) all)) c.len-2.ensures ∙ take_rest all (64 + n) ∙ sym (drop-drop n 64 all) in
-    rw rest (begins_with c.args.size all read n (omega arith) c.data_length-wanted.ensures enough (rw (← first) entry) carried)
+    rw rest (begins_with c.args.size all read n (omega arith) (rw (← first) needed) enough (rw (← first) entry) kept)
+
+pub returns-clause-whole : goal.returns-clause-whole
+returns-clause-whole c =
+    let all = c.args.bytes.now in
+    let n = c.data_length-wanted.result in
+    let fields = c.entry_fields-fields.result in
+    let read : Command = record { cid = fields.cid; nsid = fields.nsid; fuse = fields.fuse; op = fields.op; slba = fields.slba; nlb = fields.nlb; payload = c.in_ok-payload.payload } in
+    let entry : IsEntryOf c.split_at.result.0.now read = record {
+      whole = c.split_at.ensures.front_len;
+      op = c.entry_fields-fields.ensures.op;
+      fuse = c.entry_fields-fields.ensures.fuse;
+      cid = c.entry_fields-fields.ensures.cid;
+      nsid = c.entry_fields-fields.ensures.nsid;
+      slba = c.entry_fields-fields.ensures.slba;
+      nlb = c.entry_fields-fields.ensures.nlb;
+    } in
+    let second : c.split_at.result.1.now ≡ drop 64 all = c.split_at.ensures.back ∙ ap (drop 64) c.as_slice.ensures in
+    let enough : n ≤ length (drop 64 all) = rw (← second) (omega arith) in
+    let found : c.in_ok-found.found ≡ take n (drop 64 all) = c.in_ok-found.ensures ∙ ap (λ (k : ℕ). take k (drop 64 all)) (omega arith) in
+    let long : length c.in_ok-found.found ≡ n = ap length found ∙ length-take-le n (drop 64 all) enough in
+    whole c.args.size c.split_at.result.0.now c.in_ok-found.found fields.nr read (record {
+      entry = entry;
+      nr = c.entry_fields-fields.ensures.nr;
+      byte = omega arith;
+      wanted = long ∙ c.data_length-wanted.ensures;
+      payload = c.in_ok-payload.ensures.bytes;
+      again = c.in_ok-payload.ensures.again;
+    })

@@ -1,11 +1,13 @@
-use Rattle.std.proofs.Common.{◌+◌, refl, arith}
+use Rattle.std.proofs.Common.{◌+◌, refl}
 use Rattle.nvm_blocks.specs.Inside.Source.{source_block}
-use Rattle.nvm_blocks.proofs.Rewrites.{rewritten_more}
+use Rattle.nvm_blocks.proofs.Rewrites.{rewritten_on}
 use Rattle.nvm_blocks.proofs.blocks.Blocks.filled.Goals as goal
 
-pub loop-i-preserved : goal.loop-i-preserved
-loop-i-preserved c =
-    let i = c.loop-i.i in
-    let put = rw c.in_ok-block.ensures at c.in_ok-set.ensures.ok in
-    rewritten_more c.args.at i (c.args.at + i) (source_block c.args.source.now) c.args.self.now c.loop-i.after c.set.new.self
-    c.loop-i.invariant refl (omega arith) put
+pub loop-done-preserved : goal.loop-done-preserved
+loop-done-preserved c =
+    let done = c.loop-done.done in
+    record {
+      few = c.in_ok-done.ensures.ok.few;
+      is = rewritten_on c.args.at done c.in_ok-done.field-0 (c.args.at + done) (source_block c.args.source.now) c.args.self.now c.loop-done.after
+          c.fill_stretch.new.self c.loop-done.invariant.is refl c.in_ok-done.ensures.ok.is;
+    }

@@ -7,7 +7,7 @@ use Rattle.nvm_plan.specs.LentPart.{part_operation_of}
 use Rattle.nvm_plan.specs.declared.lent_part.LentPart.{LentPart}
 use Rattle.nvm_engine.specs.Inside.Setup.{setup_of_units}
 use Rattle.nvm_engine.specs.Inside.AtomicUnit.{TellsOfRead}
-use Rattle.nvm_engine.proofs.PartLemmas.{lies_there, its_size}
+use Rattle.nvm_engine.proofs.PartLemmas.{lies_there, its_size, its_limit, stays_laid, laid_set}
 use Rattle.nvm_engine.proofs.ToldLemmas.{changes_part, looks_at_part, changes_tell, looks_tell}
 use Rattle.nvm_engine.proofs.units.Units.do_part.Goals as goal
 
@@ -28,7 +28,7 @@ returns-in-Act-clause-part c = λ op is.
     changes_part (setup_of_units c.args.self.now) op (lent_operation_of c.in-Act.act) c.args.unit c.args.self.now.units.items c.index_mut-unit.result.now c.change.new.self
     c.requires.laid c.requires.known at same (c.acts_and_looks.ensures.acts c.in-Act.act)
     (c.parts_keep_their_kind.ensures.look c.args.self.now.geometry op c.args.unit)
-    (λ lba. c.part_has_its_blocks.ensures.lbas c.args.self.now.geometry op c.args.unit lba)
+    (λ lba. c.part_has_its_blocks.ensures.reached c.args.self.now.geometry op c.args.unit lba)
     (c.answers_of_the_step_are_replies.ensures.done c.args.self.now.geometry op)
     (c.answers_of_the_step_are_replies.ensures.failed c.args.self.now.geometry op)
     (c.answers_of_the_step_are_replies.ensures.no_memory op.deed)
@@ -56,3 +56,16 @@ returns-in-Look-clause-read c =
     subst (λ (p : LentPart). TellsOfRead c.args.self.now.geometry.block_size (part_operation_of p) c.look.result) (sym c.in-Look.is)
     (looks_tell c.index-unit.result.now c.args.self.now.geometry.block_size (look_operation_of c.in-Look.look) c.look.result
     (its_size (setup_of_units c.args.self.now) c.args.self.now.units.items c.args.unit c.index-unit.result.now c.requires.laid c.requires.known c.index-unit.ensures) c.look.ensures)
+
+pub change-requires-clause-few : goal.change-requires-clause-few
+change-requires-clause-few c =
+    its_limit (setup_of_units c.args.self.now) c.args.self.now.units.items c.args.unit c.index_mut-unit.result.now c.requires.laid c.requires.known c.index_mut-unit.ensures.value
+
+pub returns-in-Act-clause-laid : goal.returns-in-Act-clause-laid
+returns-in-Act-clause-laid c =
+    let s = setup_of_units c.args.self.now in
+    let units = c.args.self.now.units.items in
+    let old = c.index_mut-unit.result.now in
+    laid_set s units c.args.unit old c.change.new.self c.requires.laid c.requires.known c.index_mut-unit.ensures.value
+    (stays_laid c.args.self.now.limit old c.change.new.self (lent_operation_of c.in-Act.act) c.change.result
+    (its_limit s units c.args.unit old c.requires.laid c.requires.known c.index_mut-unit.ensures.value) c.change.ensures)

@@ -12,7 +12,7 @@ returns-in-Refused-clause-answer c =
 
 pub returns-in-Ready-clause-answer : goal.returns-in-Ready-clause-answer
 returns-in-Ready-clause-answer c =
-    let op = the_operation (job_operation_of c.args.job.now) (c.ready_jobs.ensures.operation c.args.self.now.geometry c.args.job.now c.in-Ready.ensures.table) in
+    let op = the_operation (job_operation_of c.args.self.now.geometry c.args.job.now) (c.ready_jobs.ensures.operation c.args.self.now.geometry c.args.job.now c.in-Ready.ensures.table) in
     ready_job (setup_of_units c.args.self.now) c.args.job.now op.0 c.args.self.now.units.items c.do_parts.new.self.units.items c.do_parts.result op.1
     (λ replies outcome. (c.outcomes_by_plan.ensures.ready c.args.self.now.geometry c.args.job.now op.0 replies c.do_parts.result.statuses c.do_parts.result.payload c.in-Ready.ensures.table op.1).1 outcome)
     (c.do_parts.ensures.parts op.0 op.1)

@@ -23,5 +23,5 @@ returns-clause-step c =
     (λ is m held.
     let held' = rw (← c.self.view_is) at held in
     held-rewritten c.steps_are_local.ensures.outside m c.self.inside.first c.self.inside.size at (uncorrectable_operation c.args.first c.args.blocks)
-    (λ _. Uncorrectable) c.self.inside.blocks c.mark.new.self held' place is (λ i lt. refl))
+    (λ _. Uncorrectable) c.self.inside.blocks c.mark.new.self (λ lba. refl) held' place is (λ i lt. refl))
     c.mark.ensures.ok

@@ -24,5 +24,5 @@ returns-clause-step c =
     let held' = rw (← c.self.view_is) at held in
     rw (← c.self.view_is)
     (held-rewritten c.steps_are_local.ensures.outside m c.self.inside.first c.self.inside.size at (write_operation c.args.first c.args.blocks c.args.payload)
-    (block_at c.bytes-size.result c.args.payload) c.self.inside.blocks c.write.new.self held' place is (λ i lt. ap (λ (n : ℕ). block_at n c.args.payload i) c.bytes-size.ensures.value)))
+    (block_at c.bytes-size.result c.args.payload) c.self.inside.blocks c.write.new.self (λ lba. refl) held' place is (λ i lt. ap (λ (n : ℕ). block_at n c.args.payload i) c.bytes-size.ensures.value)))
     c.write.ensures.ok

@@ -24,5 +24,5 @@ returns-clause-step c =
     let held' = rw (← c.self.view_is) at held in
     rw (← c.self.view_is)
     (held-rewritten c.steps_are_local.ensures.outside m c.self.inside.first c.self.inside.size at (zeroes_operation c.args.first c.args.blocks)
-    (λ _. zero_block c.bytes-size.result) c.self.inside.blocks c.zero.new.self held' place is (λ i lt. ap zero_block c.bytes-size.ensures.value)))
+    (λ _. zero_block c.bytes-size.result) c.self.inside.blocks c.zero.new.self (λ lba. refl) held' place is (λ i lt. ap zero_block c.bytes-size.ensures.value)))
     c.zero.ensures.ok

@@ -1,0 +1,58 @@
+-- The units that a job's operation meets, by what it has to do with.
+use Rattle.std.proofs.Common.{◌≡◌, inl, ◌⊎◌, ℕ, ◌+◌, ◌<◌, ◌≤◌, List, Option, Some, None, IsSome, refl, ap, subst, ◌∙◌}
+use Rattle.nvm_record.specs.Deeds.{IsOnRange}
+use Rattle.nvm_record.specs.Step.{Operation, deallocates}
+use Rattle.nvm_record.specs.declared.lba_range.LbaRange.{LbaRange}
+use Rattle.nvm_geometry.specs.Namespace.{Namespace}
+use Rattle.nvm_geometry.specs.Deallocation.{deallocation, EndInNamespace}
+use Rattle.nvm_geometry.specs.Parts.{units_met, units_of_range}
+use Rattle.nvm_plan.specs.declared.job.Job.{Job}
+use Rattle.nvm_plan.specs.declared.reach.Reach.{Reach}
+use Rattle.nvm_plan.specs.declared.reach.Reach.TheVariants.{Range}
+use Rattle.nvm_plan.specs.Inside.Reach.{IsReachOf}
+use Rattle.nvm_plan.specs.JobPart.{job_units}
+use Rattle.nvm_plan.specs.Operation.{job_operation_of}
+
+some_operation : (o : Option Operation) → IsSome o → (op : Operation) × (o ≡ Some op)
+some_operation None some = absurd (cc some)
+some_operation (Some op) some = (op, refl)
+
+-- what is known of a job to which no check applies
+module _ (ns : Namespace) (job : Job) (reach : Reach) (stands : IsSome (job_operation_of ns job))
+    (reached : (op : Operation) → job_operation_of ns job ≡ Some op → IsReachOf ns reach op) where
+  abbrev op : Operation
+  op = (some_operation (job_operation_of ns job) stands).0
+
+  is : job_operation_of ns job ≡ Some op
+  is = (some_operation (job_operation_of ns job) stands).1
+
+  of : (other : Reach) → reach ≡ other → IsReachOf ns other op
+  of other e = subst (λ (r : Reach). IsReachOf ns r op) e (reached op is)
+
+  pub range_inside : (first blocks : ℕ) → reach ≡ Range first blocks
+      → ((o : Operation) → job_operation_of ns job ≡ Some o → o.first + o.blocks ≤ ns.nsze) → first + blocks ≤ ns.nsze
+  range_inside first blocks e inside =
+      let its = of (Range first blocks) e in
+      rw (its.1, its.2) at (inside op is)
+
+  pub range_has_block : (first blocks : ℕ) → reach ≡ Range first blocks
+      → ((o : Operation) → job_operation_of ns job ≡ Some o → IsOnRange o.deed ⊎ (0 < ns.nsze) → 0 < o.blocks) → 0 < blocks
+  range_has_block first blocks e some =
+      let its = of (Range first blocks) e in
+      rw its.2 at (some op is (inl its.0))
+
+  pub range_units : (first blocks : ℕ) → reach ≡ Range first blocks
+      → ((o : Operation) → job_operation_of ns job ≡ Some o → job_units ns job ≡ units_met ns o)
+      → ((o : Operation) → IsOnRange o.deed → units_met ns o ≡ units_of_range ns o.first o.blocks)
+      → job_units ns job ≡ units_of_range ns first blocks
+  range_units first blocks e units met =
+      let its = of (Range first blocks) e in
+      units op is ∙ (met op its.0 ∙ (ap (λ (n : ℕ). units_of_range ns n op.blocks) its.1 ∙ ap (λ (n : ℕ). units_of_range ns first n) its.2))
+
+  pub ranges_units : (rs : List LbaRange) → ((o : Operation) → IsReachOf ns reach o → o ≡ deallocation ns rs)
+      → ((o : Operation) → job_operation_of ns job ≡ Some o → job_units ns job ≡ units_met ns o) → job_units ns job ≡ units_met ns (deallocation ns rs)
+  ranges_units rs same units = units op is ∙ ap (units_met ns) (same op (reached op is))
+
+  pub ranges_inside : (rs : List LbaRange) → ((o : Operation) → IsReachOf ns reach o → o ≡ deallocation ns rs)
+      → ((o : Operation) (qs : List LbaRange) → job_operation_of ns job ≡ Some o → o.deed ≡ deallocates qs → (o ≡ deallocation ns qs) × EndInNamespace ns qs) → EndInNamespace ns rs
+  ranges_inside rs same inside = (inside op rs is (ap (λ (o : Operation). o.deed) (same op (reached op is)))).1

@@ -1,0 +1,10 @@
+pub mod Lists
+pub mod OneMore
+pub mod NewPorts
+pub mod Columns
+pub mod Meetings
+pub mod Shuffles
+pub mod Joined
+pub mod DeedLemmas
+pub mod PartReplies
+pub mod Progress

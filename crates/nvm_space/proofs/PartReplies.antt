@@ -1,0 +1,156 @@
+-- What a unit tells of a part is a reply to the job's part there.
+use Rattle.std.proofs.Common.{◌≡◌, inl, inr, ℕ, List, [], ◌++◌, Bool, not, IsTrue, Option, Some, None, IsSome, Ok, Err, Result, unwrap_or, if◌then◌else◌, length, refl, sym, ap, ◌∙◌, subst, append-nil}
+use Rattle.nvm_record.specs.declared.status.Statuses.{Statuses}
+use Rattle.nvm_record.specs.declared.status.Statuses.TheVariants.{One, Two}
+use Rattle.nvm_record.specs.Deeds.{is_look, is_pair, IsAct, IsLook, IsFailedPair}
+use Rattle.nvm_record.specs.Medium.{Medium}
+use Rattle.nvm_record.specs.Status.{successful_completion, internal_error}
+use Rattle.nvm_record.specs.Step.{Deed, Operation, statuses_of, data_of}
+use Rattle.nvm_geometry.specs.Namespace.{Namespace}
+use Rattle.nvm_geometry.specs.Parts.{part_in}
+use Rattle.nvm_plan.specs.declared.part.Part.{Part}
+use Rattle.nvm_plan.specs.declared.part.PartResult.TheVariants as result
+use Rattle.nvm_plan.specs.Reply.{Reply, reply_on, reply_of_stop, stop_of, IsReplyTo}
+use Rattle.nvm_unit.specs.declared.replies.Changed.{Changed}
+use Rattle.nvm_unit.specs.declared.replies.Changed.TheVariants.{Done, Failed, NoMemory, Full}
+use Rattle.nvm_unit.specs.declared.replies.Observed.{Observed}
+use Rattle.nvm_unit.specs.declared.replies.ObserveFault.{ObserveFault}
+use Rattle.nvm_unit.specs.declared.replies.ObserveFault.TheVariants as observe_fault
+use Rattle.nvm_unit.specs.declared.views.PassView.{PassView}
+use Rattle.nvm_unit.specs.Replies.{AnswersChange, AnswersLook, Makes, Observes}
+use Rattle.nvm_space.specs.Trace.{PartDone, DoesPart, part_ended, reply_of_change, reply_of_look}
+use Rattle.nvm_space.proofs.DeedLemmas.{act_reads_none, look_is_no_pair, none_there}
+
+-- a reply with the same statuses and the same data
+same_reply : (deed : Deed) (part : Part) (told other : Statuses) (read also : Option (List ℕ)) → told ≡ other → read ≡ also
+    → IsReplyTo deed (let r : Reply = record { part = part; statuses = other; payload = also } in r)
+    → IsReplyTo deed (let r : Reply = record { part = part; statuses = told; payload = read } in r)
+same_reply deed part told other read also e f h = rw (e, f) h
+
+-- Of the operation, its part in the unit is this, and these are replies to it.
+module _ (ns : Namespace) (op part : Operation) (unit : ℕ) (is : part ≡ part_in ns op unit)
+    (look_kept : is_look (part_in ns op unit).deed ≡ is_look op.deed)
+    (pair_kept : is_pair (part_in ns op unit).deed ≡ is_pair op.deed)
+    (looked_replies : (m : Medium) (p : Part) → IsLook op.deed → p.result ≡ result.Looked → IsReplyTo op.deed (reply_on ns op m p))
+    (failed_replies : (m : Medium) (p : Part) → p.result ≡ result.Failed → IsFailedPair (part_in ns op p.unit) m → IsReplyTo op.deed (reply_on ns op m p))
+    (no_memory_replies : (p : Part) → p.result ≡ result.NoMemory → IsReplyTo op.deed (reply_of_stop op.deed p))
+    (full_replies : (p : Part) → IsAct op.deed → p.result ≡ result.Full → IsReplyTo op.deed (reply_of_stop op.deed p)) where
+  same_look : is_look part.deed ≡ is_look op.deed
+  same_look = ap (λ (o : Operation). is_look o.deed) is ∙ look_kept
+
+  same_pair : is_pair part.deed ≡ is_pair op.deed
+  same_pair = ap (λ (o : Operation). is_pair o.deed) is ∙ pair_kept
+
+  same_stop : stop_of part.deed ≡ stop_of op.deed
+  same_stop = ap (λ (b : Bool). if b then Two successful_completion internal_error else One internal_error) same_pair
+
+  change_replies : (changed : Changed) (entries limit : ℕ) (m : Medium) → IsAct part.deed → AnswersChange changed entries limit part m
+      → IsReplyTo op.deed (reply_of_change unit part.deed changed)
+  change_replies (Done point) entries limit m acts answer =
+      let whole : IsAct op.deed = subst (λ (b : Bool). IsTrue (not b)) same_look acts in
+      record {
+        result = whole;
+        told = ap (λ (b : Bool). if b then Two successful_completion successful_completion else One successful_completion) same_pair;
+        payload = ((λ some. absurd (cc some)), (λ gives. absurd (act_reads_none op.deed whole gives.0)));
+      }
+  change_replies (Failed point statuses) entries limit m acts answer =
+      let whole : IsAct op.deed = subst (λ (b : Bool). IsTrue (not b)) same_look acts in
+      let failed : IsFailedPair (part_in ns op unit) m = subst (λ (o : Operation). IsFailedPair o m) is answer.1 in
+      let reply = failed_replies m (part_ended unit point result.Failed) refl failed in
+      let none : data_of (part_in ns op unit) m ≡ None = none_there (data_of (part_in ns op unit) m) (λ some. act_reads_none op.deed whole (reply.payload.0 some).0) in
+      same_reply op.deed (part_ended unit point result.Failed) _ _ _ _ (answer.2 ∙ ap (λ (o : Operation). statuses_of o m) is) (sym none) reply
+  change_replies (NoMemory point) entries limit m acts answer =
+      same_reply op.deed (part_ended unit point result.NoMemory) _ _ _ _ same_stop refl (no_memory_replies (part_ended unit point result.NoMemory) refl)
+  change_replies (Full point) entries limit m acts answer =
+      same_reply op.deed (part_ended unit point result.Full) _ _ _ _ same_stop refl
+      (full_replies (part_ended unit point result.Full) (subst (λ (b : Bool). IsTrue (not b)) same_look acts) refl)
+
+  look_replies : (answer : Result Observed ObserveFault) (entries : ℕ) (m : Medium) → IsLook part.deed → AnswersLook answer entries part m
+      → IsReplyTo op.deed (reply_of_look unit part.deed answer)
+  look_replies (Ok observed) entries m looks answer =
+      let reply = looked_replies m (part_ended unit observed.point result.Looked) (subst (λ (b : Bool). IsTrue b) same_look looks) refl in
+      same_reply op.deed (part_ended unit observed.point result.Looked) _ _ _ _ (answer.1.0 ∙ ap (λ (o : Operation). statuses_of o m) is) (answer.1.1 ∙ ap (λ (o : Operation). data_of o m) is) reply
+  look_replies (Err (observe_fault.NoMemory point)) entries m looks answer =
+      same_reply op.deed (part_ended unit point result.NoMemory) _ _ _ _ same_stop refl (no_memory_replies (part_ended unit point result.NoMemory) refl)
+
+  -- What was told of the part is a reply to it.
+  pub part_replies : (job : ℕ) (reply : Reply) (p q : PassView) → reply.part.unit ≡ unit → DoesPart (let did : PartDone = record { job = job; operation = part; reply = reply } in did) p q
+      → IsReplyTo op.deed reply
+  part_replies job reply p q at (inl changes) =
+      let changed = changes.1 in
+      let made = changes.2 in
+      subst (λ (r : Reply). IsReplyTo op.deed r) (sym (changes.3 ∙ ap (λ (u : ℕ). reply_of_change u part.deed changed) at))
+      (change_replies changed (length made.0) p.bounds.limit _ changes.0 made.2)
+  part_replies job reply p q at (inr looks) =
+      let answer = looks.1 in
+      let seen = looks.2 in
+      subst (λ (r : Reply). IsReplyTo op.deed r) (sym (looks.3 ∙ ap (λ (u : ℕ). reply_of_look u part.deed answer) at))
+      (look_replies answer (length seen.0) _ looks.0 seen.2)
+
+  pub stop_replies : (point : ℕ) → IsReplyTo op.deed (reply_of_stop part.deed (part_ended unit point result.NoMemory))
+  stop_replies point =
+      same_reply op.deed (part_ended unit point result.NoMemory) _ _ _ _ same_stop refl (no_memory_replies (part_ended unit point result.NoMemory) refl)
+
+-- a change tells no data
+change_tells_none : (unit : ℕ) (deed : Deed) (changed : Changed) → IsSome (reply_of_change unit deed changed).payload → ⊥
+change_tells_none unit deed (Done point) some = cc some
+change_tells_none unit deed (Failed point statuses) some = cc some
+change_tells_none unit deed (NoMemory point) some = cc some
+change_tells_none unit deed (Full point) some = cc some
+
+look_found_none : (answer : Result Observed ObserveFault) (reply : Reply) (part : Operation) (p q : PassView) → IsSome reply.payload → reply ≡ reply_of_look reply.part.unit part.deed answer
+    → Observes answer p part q → Observes (Err (observe_fault.NoMemory reply.part.point)) p part q
+look_found_none (Ok observed) reply part p q some is seen =
+    let read : reply.payload ≡ data_of part _ = ap (λ (r : Reply). r.payload) is ∙ seen.2.1.1 in
+    (seen.0, seen.1, (ap (λ (r : Reply). r.part.point) is ∙ seen.2.0, subst IsSome read some), seen.3)
+look_found_none (Err (observe_fault.NoMemory point)) reply part p q some is seen =
+    absurd (let none : IsSome {T = List ℕ} None = subst IsSome (ap (λ (r : Reply). r.payload) is) some in cc none)
+
+-- A part whose data found no memory is a look that found none.
+pub found_no_memory : (job : ℕ) (part : Operation) (reply : Reply) (p q : PassView) → IsSome reply.payload → DoesPart (let did : PartDone = record { job = job; operation = part; reply = reply } in did) p q
+    → DoesPart (let did : PartDone = record { job = job; operation = part; reply = reply_of_stop part.deed (part_ended reply.part.unit reply.part.point result.NoMemory) } in did) p q
+found_no_memory job part reply p q some (inl changes) =
+    absurd (change_tells_none reply.part.unit part.deed changes.1 (subst IsSome (ap (λ (r : Reply). r.payload) changes.3) some))
+found_no_memory job part reply p q some (inr looks) =
+    inr (looks.0, Err (observe_fault.NoMemory reply.part.point), look_found_none looks.1 reply part p q some looks.3 looks.2, refl)
+
+-- and that is told by one status
+pub told_one : (job : ℕ) (part : Operation) (reply : Reply) (p q : PassView) → IsSome reply.payload → DoesPart (let did : PartDone = record { job = job; operation = part; reply = reply } in did) p q
+    → stop_of part.deed ≡ One internal_error
+told_one job part reply p q some (inl changes) =
+    absurd (change_tells_none reply.part.unit part.deed changes.1 (subst IsSome (ap (λ (r : Reply). r.payload) changes.3) some))
+told_one job part reply p q some (inr looks) =
+    ap (λ (b : Bool). if b then Two successful_completion internal_error else One internal_error) (look_is_no_pair part.deed looks.0)
+
+-- where nothing was read, nothing is added
+pub none_added : (old : List ℕ) (read : Option (List ℕ)) → read ≡ None → old ≡ old ++ unwrap_or read []
+none_added old read none = sym (ap (λ (r : Option (List ℕ)). old ++ unwrap_or r []) none ∙ append-nil old)
+
+pub some_added : (old new payload : List ℕ) (read : Option (List ℕ)) → read ≡ Some payload → new ≡ old ++ payload → new ≡ old ++ unwrap_or read []
+some_added old new payload read some is = is ∙ sym (ap (λ (r : Option (List ℕ)). old ++ unwrap_or r []) some)
+
+change_unit : (unit : ℕ) (deed : Deed) (changed : Changed) → (reply_of_change unit deed changed).part.unit ≡ unit
+change_unit unit deed (Done point) = refl
+change_unit unit deed (Failed point statuses) = refl
+change_unit unit deed (NoMemory point) = refl
+change_unit unit deed (Full point) = refl
+
+look_unit : (unit : ℕ) (deed : Deed) (answer : Result Observed ObserveFault) → (reply_of_look unit deed answer).part.unit ≡ unit
+look_unit unit deed (Ok observed) = refl
+look_unit unit deed (Err (observe_fault.NoMemory point)) = refl
+
+-- a change of the pass is a part that was done
+pub changes_part : (number unit : ℕ) (part act : Operation) (changed : Changed) (reply : Reply) (p q : PassView) → part ≡ act → IsAct act.deed → Makes changed p number act q
+    → reply ≡ reply_of_change unit act.deed changed → DoesPart (let did : PartDone = record { job = number; operation = part; reply = reply } in did) p q
+changes_part number unit part act changed reply p q is acts makes told =
+    let here : unit ≡ reply.part.unit = sym (ap (λ (r : Reply). r.part.unit) told ∙ change_unit unit act.deed changed) in
+    subst (λ (o : Operation). DoesPart (let did : PartDone = record { job = number; operation = o; reply = reply } in did) p q) (sym is)
+    (inl (acts, changed, makes, told ∙ ap (λ (u : ℕ). reply_of_change u act.deed changed) here))
+
+-- so is a look
+pub looks_at_part : (number unit : ℕ) (part look : Operation) (answer : Result Observed ObserveFault) (reply : Reply) (p q : PassView) → part ≡ look → IsLook look.deed → Observes answer p look q
+    → reply ≡ reply_of_look unit look.deed answer → DoesPart (let did : PartDone = record { job = number; operation = part; reply = reply } in did) p q
+looks_at_part number unit part look answer reply p q is looks seen told =
+    let here : unit ≡ reply.part.unit = sym (ap (λ (r : Reply). r.part.unit) told ∙ look_unit unit look.deed answer) in
+    subst (λ (o : Operation). DoesPart (let did : PartDone = record { job = number; operation = o; reply = reply } in did) p q) (sym is)
+    (inr (looks, answer, seen, told ∙ ap (λ (u : ℕ). reply_of_look u look.deed answer) here))

@@ -1,0 +1,238 @@
+-- The parts of a job, one after the other, are what is asked of it.
+use Rattle.std.proofs.Common.{◌≡◌, inl, inr, ℕ, ◌+◌, ◌<◌, List, [], ◌∷◌, ◌++◌, map, Option, Some, None, IsSome, unwrap_or, refl, sym, ap, ◌∙◌, subst, arith, length, get_or}
+use Rattle.std.specs.List.{AllByRecursion, range_with_len, Contains, All}
+use Rattle.std.proofs.lemmas.List.Elements.{All-filter, All-contains_itself, recursion_from_All}
+use Rattle.std.proofs.lemmas.List.FromFn.{length-range_with_len, get_or-range_with_len}
+use Rattle.nvm_record.specs.declared.status.Statuses.{Statuses}
+use Rattle.nvm_record.specs.declared.status.Statuses.TheVariants.{One}
+use Rattle.nvm_record.specs.Deeds.{is_look, is_pair, success_of, IsAct, IsLook, IsFailedPair}
+use Rattle.nvm_record.specs.Medium.{Medium}
+use Rattle.nvm_record.specs.Status.{IsSuccess, internal_error}
+use Rattle.nvm_record.specs.Step.{Operation}
+use Rattle.nvm_geometry.specs.Namespace.{Namespace}
+use Rattle.nvm_geometry.specs.Boundaries.{units_of}
+use Rattle.nvm_geometry.specs.Parts.{meets, part_in, units_met, units_where}
+use Rattle.nvm_plan.specs.declared.job.Job.{Job}
+use Rattle.nvm_plan.specs.declared.part.Part.{Part}
+use Rattle.nvm_plan.specs.declared.part.PartResult.TheVariants as result
+use Rattle.nvm_plan.specs.JobPart.{job_part_in}
+use Rattle.nvm_plan.specs.Operation.{job_operation_of}
+use Rattle.nvm_plan.specs.Outcome.{data_told, answered, AreDone, IsOutcomeOf, IsOutcome}
+use Rattle.nvm_plan.specs.Reply.{Reply, reply_on, reply_of_stop, stop_of, IsReplyTo, IsSuccessfulReply}
+use Rattle.nvm_unit.specs.declared.views.PassView.{PassView}
+use Rattle.nvm_space.specs.declared.job_done.JobDone.{JobDone}
+use Rattle.nvm_space.specs.declared.replies.PartReply.{PartReply}
+use Rattle.nvm_space.specs.Inside.Parts.{reply_told, part_done, job_ended, IsGathered, HaveDone}
+use Rattle.nvm_space.specs.Trace.{PartDone, DoesPart, DoesParts, IsPartOfJob, DoesJob, part_ended}
+use Rattle.nvm_space.specs.Visits.{BecomesAt}
+use Rattle.nvm_space.proofs.DeedLemmas.{internal_error_fails}
+use Rattle.nvm_space.proofs.Lists.{map_more}
+use Rattle.nvm_space.proofs.PartReplies.{found_no_memory, told_one, part_replies, stop_replies}
+
+all_more : {X : Type 0} (P : X → Type 0) (xs : List X) (y : X) → AllByRecursion P xs → P y → AllByRecursion P (xs ++ y ∷ [])
+all_more P [] y all here = (here, tt)
+all_more P (x ∷ xs) y all here = (all.0, all_more P xs y all.1 here)
+
+does_more : (parts : List PartDone) (did : PartDone) (start now new : List PassView) → DoesParts parts start now → BecomesAt did.reply.part.unit (DoesPart did) now new
+    → DoesParts (parts ++ did ∷ []) start new
+does_more [] did start now new does more = (new, subst (λ (vs : List PassView). BecomesAt did.reply.part.unit (DoesPart did) vs new) does more, refl)
+does_more (first ∷ parts) did start now new does more = (does.0, does.1, does_more parts did does.0 now new does.2 more)
+
+-- the pass of a unit became another so, and so in another way
+becomes_too : (k : ℕ) (So Too : PassView → PassView → Type 0) (old new : List PassView) → ((p q : PassView) → So p q → Too p q) → BecomesAt k So old new → BecomesAt k Too old new
+becomes_too k So Too old new too becomes = record {
+  before = becomes.before;
+  after = becomes.after;
+  was = becomes.was;
+  so = too becomes.before becomes.after becomes.so;
+  proper = becomes.proper;
+  others = becomes.others;
+}
+
+-- One part of the job was done in the unit, with these statuses.
+pub record IsStep (ns : Namespace) (number : ℕ) (job : Job) (op : Operation) (unit : ℕ) (now new : List PassView)
+    (bytes more : List ℕ) (part : Part) (statuses : Statuses) : Type 0 where
+  pub did : PartDone
+  pub becomes : BecomesAt unit (DoesPart did) now new
+  pub of_job : IsPartOfJob ns number job did
+  pub at : did.reply.part.unit ≡ unit
+  pub its_part : did.reply.part ≡ part
+  pub told : did.reply.statuses ≡ statuses
+  pub reply : IsReplyTo op.deed did.reply
+  pub goes : IsSuccess statuses → more ≡ bytes ++ unwrap_or did.reply.payload []
+
+-- what a unit told of the job's part there, with its data gathered
+pub step_of : (ns : Namespace) (number : ℕ) (job : Job) (op part : Operation) (unit : ℕ) (now new : List PassView) (bytes more : List ℕ) (r : PartReply) (ended : Part) (statuses : Statuses)
+    → BecomesAt unit (DoesPart (part_done number part (reply_told r))) now new → r.part.unit ≡ unit → job_part_in ns job unit ≡ Some part
+    → ((p q : PassView) → DoesPart (part_done number part (reply_told r)) p q → IsReplyTo op.deed (reply_told r))
+    → ((point : ℕ) → IsReplyTo op.deed (reply_of_stop part.deed (part_ended unit point result.NoMemory)))
+    → IsGathered r bytes more ended statuses
+    → IsStep ns number job op unit now new bytes more ended statuses
+step_of ns number job op part unit now new bytes more r ended statuses becomes at in_unit replies stops (inl kept) = record {
+  did = part_done number part (reply_told r);
+  becomes = becomes;
+  of_job = (refl, ap (λ (u : ℕ). job_part_in ns job u) at ∙ in_unit);
+  at = at;
+  its_part = sym kept.0;
+  told = sym kept.1;
+  reply = replies becomes.before becomes.after becomes.so;
+  goes = λ success. kept.2;
+}
+step_of ns number job op part unit now new bytes more r ended statuses becomes at in_unit replies stops (inr none) =
+    let told : stop_of part.deed ≡ One internal_error = told_one number part (reply_told r) becomes.before becomes.after none.0 becomes.so in
+    record {
+      did = part_done number part (reply_of_stop part.deed (part_ended r.part.unit r.part.point result.NoMemory));
+      becomes = becomes_too unit _ (DoesPart (part_done number part (reply_of_stop part.deed (part_ended r.part.unit r.part.point result.NoMemory)))) now new
+          (λ p q does. found_no_memory number part (reply_told r) p q none.0 does) becomes;
+      of_job = (refl, ap (λ (u : ℕ). job_part_in ns job u) at ∙ in_unit);
+      at = at;
+      its_part = sym none.1;
+      told = told ∙ sym none.2;
+      reply = subst (λ (u : ℕ). IsReplyTo op.deed (reply_of_stop part.deed (part_ended u r.part.point result.NoMemory))) (sym at) (stops r.part.point);
+      goes = λ success. absurd (internal_error_fails (subst IsSuccess none.2 success));
+    }
+
+module _ (ns : Namespace) (number : ℕ) (job : Job) (op : Operation) where
+  -- Before the first part.
+  pub not_begun : (start : List PassView) (left : List ℕ) (listed : List Part) (bytes : List ℕ) → AreDone ns op [] left → listed ≡ [] → bytes ≡ []
+      → HaveDone ns number job op start start left listed bytes
+  not_begun start left listed bytes begun none empty = record { parts = []; does = refl; each = tt; done = begun; read = sym empty; are_listed = none }
+
+  -- One part more, which succeeded.
+  pub one_more : ((replies : List Reply) (r : Reply) (left : List ℕ) → AreDone ns op replies (r.part.unit ∷ left) → IsSuccessfulReply op.deed r → AreDone ns op (replies ++ r ∷ []) left)
+      → ((replies : List Reply) (r : Reply) → data_told (replies ++ r ∷ []) ≡ data_told replies ++ unwrap_or r.payload [])
+      → (start now new : List PassView) (unit : ℕ) (left : List ℕ) (listed after : List Part) (bytes more_bytes : List ℕ) (part : Part) (statuses : Statuses)
+      → HaveDone ns number job op start now (unit ∷ left) listed bytes → IsStep ns number job op unit now new bytes more_bytes part statuses → IsSuccess statuses
+      → after ≡ listed ++ part ∷ [] → HaveDone ns number job op start new left after more_bytes
+  one_more more joined start now new unit left listed after bytes more_bytes part statuses have step success is =
+      let did = step.did in
+      let replies = map (λ (d : PartDone). d.reply) have.parts in
+      let longer : map (λ (d : PartDone). d.reply) (have.parts ++ did ∷ []) ≡ replies ++ did.reply ∷ [] = map_more (λ (d : PartDone). d.reply) have.parts did in
+      record {
+        parts = have.parts ++ did ∷ [];
+        does = does_more have.parts did start now new have.does (subst (λ (u : ℕ). BecomesAt u (DoesPart did) now new) (sym step.at) step.becomes);
+        each = all_more (IsPartOfJob ns number job) have.parts did have.each step.of_job;
+        done = subst (λ (rs : List Reply). AreDone ns op rs left) (sym longer)
+            (more replies did.reply left (subst (λ (u : ℕ). AreDone ns op replies (u ∷ left)) (sym step.at) have.done)
+            (record { reply = step.reply; success = subst IsSuccess (sym step.told) success }));
+        read = ap data_told longer ∙ joined replies did.reply ∙ ap (λ (xs : List ℕ). xs ++ unwrap_or did.reply.payload []) have.read ∙ sym (step.goes success);
+        are_listed = is ∙ ap (λ (ps : List Part). ps ++ part ∷ []) have.are_listed
+            ∙ ap (λ (p : Part). map (λ (d : PartDone). d.reply.part) have.parts ++ p ∷ []) (sym step.its_part)
+            ∙ sym (map_more (λ (d : PartDone). d.reply.part) have.parts did);
+      }
+
+  -- What is told of a part that doesn't succeed is told of the job.
+  pub stops_so : ((replies : List Reply) (r : Reply) (left : List ℕ) → AreDone ns op replies (r.part.unit ∷ left) → IsReplyTo op.deed r → (IsSuccess r.statuses → ⊥) → IsOutcomeOf ns op (replies ++ r ∷ []) r.statuses None)
+      → ((replies : List Reply) (told : Statuses) (read : Option (List ℕ)) → IsOutcomeOf ns op replies told read → IsOutcome ns job replies told read)
+      → (start now new : List PassView) (unit : ℕ) (left : List ℕ) (listed : List Part) (bytes more_bytes : List ℕ) (part : Part) (statuses : Statuses)
+      → HaveDone ns number job op start now (unit ∷ left) listed bytes → IsStep ns number job op unit now new bytes more_bytes part statuses → (IsSuccess statuses → ⊥)
+      → (replies : List Reply) × IsOutcome ns job replies statuses None
+  stops_so stopped outcome start now new unit left listed bytes more_bytes part statuses have step failure =
+      let did = step.did in
+      let replies = map (λ (d : PartDone). d.reply) have.parts in
+      let so = stopped replies did.reply left (subst (λ (u : ℕ). AreDone ns op replies (u ∷ left)) (sym step.at) have.done) step.reply (λ ok. failure (subst IsSuccess step.told ok)) in
+      (replies ++ did.reply ∷ [], subst (λ (x : Statuses). IsOutcome ns job (replies ++ did.reply ∷ []) x None) step.told (outcome (replies ++ did.reply ∷ []) did.reply.statuses None so))
+
+  -- A part that doesn't succeed ends the job.
+  pub stops : ((replies : List Reply) (r : Reply) (left : List ℕ) → AreDone ns op replies (r.part.unit ∷ left) → IsReplyTo op.deed r → (IsSuccess r.statuses → ⊥) → IsOutcomeOf ns op (replies ++ r ∷ []) r.statuses None)
+      → ((replies : List Reply) (told : Statuses) (read : Option (List ℕ)) → IsOutcomeOf ns op replies told read → IsOutcome ns job replies told read)
+      → (start now new : List PassView) (unit : ℕ) (left : List ℕ) (listed after : List Part) (bytes more_bytes : List ℕ) (part : Part) (statuses : Statuses) (done : JobDone)
+      → HaveDone ns number job op start now (unit ∷ left) listed bytes → IsStep ns number job op unit now new bytes more_bytes part statuses → (IsSuccess statuses → ⊥)
+      → after ≡ listed ++ part ∷ [] → job_ended job statuses None after done → DoesJob ns number job start new done
+  stops stopped outcome start now new unit left listed after bytes more_bytes part statuses done have step failure is ended =
+      let did = step.did in
+      let replies = map (λ (d : PartDone). d.reply) have.parts in
+      let longer : map (λ (d : PartDone). d.reply) (have.parts ++ did ∷ []) ≡ replies ++ did.reply ∷ [] = map_more (λ (d : PartDone). d.reply) have.parts did in
+      let so = stopped replies did.reply left (subst (λ (u : ℕ). AreDone ns op replies (u ∷ left)) (sym step.at) have.done) step.reply (λ ok. failure (subst IsSuccess step.told ok)) in
+      record {
+        parts = have.parts ++ did ∷ [];
+        does = does_more have.parts did start now new have.does (subst (λ (u : ℕ). BecomesAt u (DoesPart did) now new) (sym step.at) step.becomes);
+        each = all_more (IsPartOfJob ns number job) have.parts did have.each step.of_job;
+        told = statuses;
+        read = None;
+        outcome = subst (λ (rs : List Reply). IsOutcome ns job rs statuses None) (sym longer)
+            (subst (λ (x : Statuses). IsOutcome ns job (replies ++ did.reply ∷ []) x None) step.told (outcome (replies ++ did.reply ∷ []) did.reply.statuses None so));
+        completions = ended.0;
+        listed = ended.1 ∙ is ∙ ap (λ (ps : List Part). ps ++ part ∷ []) have.are_listed
+            ∙ ap (λ (p : Part). map (λ (d : PartDone). d.reply.part) have.parts ++ p ∷ []) (sym step.its_part)
+            ∙ sym (map_more (λ (d : PartDone). d.reply.part) have.parts did);
+      }
+
+  -- After the last part.
+  pub all_done : ((replies : List Reply) → AreDone ns op replies [] → IsOutcomeOf ns op replies (success_of op.deed) (answered op.deed (data_told replies)))
+      → ((replies : List Reply) (told : Statuses) (read : Option (List ℕ)) → IsOutcomeOf ns op replies told read → IsOutcome ns job replies told read)
+      → (start now : List PassView) (left : List ℕ) (listed : List Part) (bytes : List ℕ) (done : JobDone) → HaveDone ns number job op start now left listed bytes → left ≡ []
+      → job_ended job (success_of op.deed) (answered op.deed bytes) listed done → DoesJob ns number job start now done
+  all_done whole outcome start now left listed bytes done have none ended =
+      let replies = map (λ (d : PartDone). d.reply) have.parts in
+      let so = whole replies (subst (λ (us : List ℕ). AreDone ns op replies us) none have.done) in
+      record {
+        parts = have.parts;
+        does = have.does;
+        each = have.each;
+        told = success_of op.deed;
+        read = answered op.deed bytes;
+        outcome = outcome replies (success_of op.deed) (answered op.deed bytes) (subst (λ (xs : List ℕ). IsOutcomeOf ns op replies (success_of op.deed) (answered op.deed xs)) have.read so);
+        completions = ended.0;
+        listed = ended.1 ∙ have.are_listed;
+      }
+
+-- What was told of the part of a job that isn't refused.
+pub step_so : (ns : Namespace) (number : ℕ) (job : Job) (op part : Operation) (unit : ℕ) (now new : List PassView) (bytes more : List ℕ) (r : PartReply) (ended : Part) (statuses : Statuses)
+    → is_look (part_in ns op unit).deed ≡ is_look op.deed → is_pair (part_in ns op unit).deed ≡ is_pair op.deed
+    → ((m : Medium) (p : Part) → IsLook op.deed → p.result ≡ result.Looked → IsReplyTo op.deed (reply_on ns op m p))
+    → ((m : Medium) (p : Part) → p.result ≡ result.Failed → IsFailedPair (part_in ns op p.unit) m → IsReplyTo op.deed (reply_on ns op m p))
+    → ((p : Part) → p.result ≡ result.NoMemory → IsReplyTo op.deed (reply_of_stop op.deed p))
+    → ((p : Part) → IsAct op.deed → p.result ≡ result.Full → IsReplyTo op.deed (reply_of_stop op.deed p))
+    → part ≡ part_in ns op unit → job_part_in ns job unit ≡ Some part
+    → r.part.unit ≡ unit → BecomesAt unit (DoesPart (part_done number part (reply_told r))) now new → IsGathered r bytes more ended statuses
+    → IsStep ns number job op unit now new bytes more ended statuses
+step_so ns number job op part unit now new bytes more r ended statuses look pair looked failed no_memory full is in_unit at becomes gathered =
+    step_of ns number job op part unit now new bytes more r ended statuses becomes at in_unit
+    (λ p q does. part_replies ns op part unit is look pair looked failed no_memory full number (reply_told r) p q at does)
+    (stop_replies ns op part unit is look pair looked failed no_memory full) gathered
+
+-- The units that an operation meets are the namespace's.
+below_range : (low n high : ℕ) → low + n ≡ high → All (λ x. x < high) (range_with_len low n)
+below_range low n high end k d lt =
+    let count : length (range_with_len low n) ≡ n = length-range_with_len low n in
+    let is : get_or (range_with_len low n) k d ≡ low + k = get_or-range_with_len low n k d (omega arith) in
+    omega arith
+
+pub met_known : (ns : Namespace) (op : Operation) (unit : ℕ) → Contains (units_met ns op) unit → unit < units_of ns
+unfolding units_where
+met_known ns op unit there =
+    let all : All (λ x. x < units_of ns) (units_met ns op) = All-filter (λ u. meets ns op u) (λ x. x < units_of ns) (range_with_len 0 (units_of ns)) (below_range 0 (units_of ns) (units_of ns) (let e : 0 + units_of ns ≡ units_of ns = omega arith in e)) in
+    subst (λ (x : ℕ). x < units_of ns) there.2 (all there.0 unit there.1)
+
+-- Each unit that is left is one in which the job has a part.
+pub all_units : (units whole : List ℕ) → units ≡ whole → AllByRecursion (λ unit. Contains whole unit) units
+all_units units whole e = subst (λ (xs : List ℕ). AllByRecursion (λ unit. Contains whole unit) xs) (sym e) (recursion_from_All (λ unit. Contains whole unit) whole (All-contains_itself whole))
+
+-- The job's operation is being done.
+pub record IsUnderWay (ns : Namespace) (number : ℕ) (job : Job) (start now : List PassView) (left : List ℕ) (listed : List Part) (bytes : List ℕ) : Type 0 where
+  pub op : Operation
+  pub stands : job_operation_of ns job ≡ Some op
+  pub have : HaveDone ns number job op start now left listed bytes
+
+pub the_operation : (operation : Option Operation) → IsSome operation → (op : Operation) × (operation ≡ Some op)
+the_operation None some = absurd (cc some)
+the_operation (Some op) some = (op, refl)
+
+pub no_units : (units : List ℕ) → length units ≡ 0 → units ≡ []
+no_units [] e = refl
+no_units (unit ∷ units) e = absurd (omega arith)
+
+-- Nothing was done.
+pub nothing_done : (ns : Namespace) (number : ℕ) (job : Job) (views : List PassView) (told : Statuses) (read : Option (List ℕ)) (listed : List Part) (done : JobDone) → IsOutcome ns job [] told read
+    → listed ≡ [] → job_ended job told read listed done → DoesJob ns number job views views done
+nothing_done ns number job views told read listed done outcome none ended = record {
+  parts = [];
+  does = refl;
+  each = tt;
+  told = told;
+  read = read;
+  outcome = outcome;
+  completions = ended.0;
+  listed = ended.1 ∙ none;
+}

@@ -1,0 +1,55 @@
+-- A job that is under way: the parts that were done, and those that are left.
+use Rattle.std.specs.Prelude.{◌≡◌, ◌⊎◌, ℕ, List, [], ◌++◌, length, map, Option, unwrap_or, IsSome}
+use Rattle.std.specs.List.{AllByRecursion}
+use Rattle.nvm_record.specs.Lists.{IsAt}
+use Rattle.nvm_record.specs.declared.status.Statuses.{Statuses}
+use Rattle.nvm_record.specs.declared.status.Statuses.TheVariants.{One}
+use Rattle.nvm_record.specs.Status.{internal_error}
+use Rattle.nvm_record.specs.Step.{Operation}
+use Rattle.nvm_geometry.specs.Boundaries.{units_of}
+use Rattle.nvm_geometry.specs.Namespace.{Namespace}
+use Rattle.nvm_plan.specs.Completions.{completions_of}
+use Rattle.nvm_plan.specs.declared.job.Job.{Job}
+use Rattle.nvm_plan.specs.declared.part.Part.{Part}
+use Rattle.nvm_plan.specs.declared.part.PartResult.TheVariants as result
+use Rattle.nvm_plan.specs.Outcome.{data_told, AreDone}
+use Rattle.nvm_plan.specs.Reply.{Reply}
+use Rattle.nvm_plan.specs.UnitPlace.{IsUnitPlace}
+use Rattle.nvm_unit.specs.declared.views.PassView.{PassView}
+use Rattle.nvm_unit.specs.Passes.{UnitName}
+use Rattle.nvm_space.specs.declared.job_done.JobDone.{JobDone}
+use Rattle.nvm_space.specs.declared.replies.PartReply.{PartReply}
+use Rattle.nvm_space.specs.Trace.{PartDone, DoesParts, IsPartOfJob, part_ended}
+
+-- These are the units of the namespace, each at the place of its number.
+pub record AreUnitsOf (ns : Namespace) (units : List UnitName) : Type 0 where
+  pub count : length units ≡ units_of ns
+  pub place : (k : ℕ) (unit : UnitName) → IsAt units k unit → IsUnitPlace ns k unit.bounds.place
+
+-- what a unit told, as plain data
+abbrev pub reply_told : PartReply → Reply
+reply_told r = record { part = r.part; statuses = r.statuses; payload = r.payload }
+
+abbrev pub part_done : ℕ → Operation → Reply → PartDone
+part_done number op reply = record { job = number; operation = op; reply = reply }
+
+-- what is told of a job that ended with these statuses, this data and these parts
+abbrev pub job_ended : Job → Statuses → Option (List ℕ) → List Part → JobDone → Type 0
+job_ended job told read parts done = (done.completions ≡ completions_of job told read) × (done.parts.items ≡ parts)
+
+-- The data of the reply was added to the bytes before it; or there was no memory for that, and the part found none.
+abbrev pub IsGathered : PartReply → List ℕ → List ℕ → Part → Statuses → Type 0
+IsGathered r old new part statuses =
+    ((part ≡ r.part) × (statuses ≡ r.statuses) × (new ≡ old ++ unwrap_or r.payload []))
+    ⊎ (IsSome r.payload × (part ≡ part_ended r.part.unit r.part.point result.NoMemory)
+    × (statuses ≡ One internal_error))
+
+-- Parts of the job were done, each with success; they read these bytes, and those in the units `left` are left.
+pub record HaveDone (ns : Namespace) (number : ℕ) (job : Job) (op : Operation) (start now : List PassView)
+    (left : List ℕ) (listed : List Part) (bytes : List ℕ) : Type 0 where
+  pub parts : List PartDone
+  pub does : DoesParts parts start now
+  pub each : AllByRecursion (IsPartOfJob ns number job) parts
+  pub done : AreDone ns op (map (λ did. did.reply) parts) left
+  pub read : data_told (map (λ did. did.reply) parts) ≡ bytes
+  pub are_listed : listed ≡ map (λ did. did.reply.part) parts

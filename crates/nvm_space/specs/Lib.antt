@@ -1,0 +1,7 @@
+pub mod Spaces
+pub mod Ports
+pub mod Visits
+pub mod Trace
+pub mod Closing
+pub mod Shuffle
+pub mod Inside

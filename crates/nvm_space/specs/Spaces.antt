@@ -1,0 +1,37 @@
+-- What contracts see of a space: a namespace as the units that its boundaries make (own).
+use Rattle.std.specs.Prelude.{◌≡◌, ℕ, ◌<◌, ◌≤◌, List, length}
+use Rattle.nvm_record.specs.Lists.{IsAt}
+use Rattle.nvm_geometry.specs.Boundaries.{units_of}
+use Rattle.nvm_geometry.specs.Namespace.{Namespace}
+use Rattle.nvm_plan.specs.UnitPlace.{IsUnitPlace}
+use Rattle.nvm_unit.specs.Passes.{UnitName}
+use Rattle.nvm_space.specs.declared.space_fault.SpaceFault.{SpaceFault}
+use Rattle.nvm_space.specs.declared.space_fault.SpaceFault.TheVariants.{Ports, NoMemory}
+
+-- the namespace, how many ports there are, the limit of each unit's history, and which units they are
+pub record SpaceName : Type 0 where
+  pub namespace : Namespace
+  pub ports : ℕ
+  pub limit : ℕ
+  pub units : List UnitName
+
+-- The unit has this number and its place in the namespace, a pass for each port, and the limit.
+pub record IsUnitOf (s : SpaceName) (k : ℕ) (unit : UnitName) : Type 0 where
+  pub number : unit.number ≡ k
+  pub place : IsUnitPlace s.namespace k unit.bounds.place
+  pub passes : unit.bounds.passes ≡ s.ports
+  pub limit : unit.bounds.limit ≡ s.limit
+
+-- The units are all those of the namespace, each at the place of its number.
+pub record IsLaidOut (s : SpaceName) : Type 0 where
+  pub count : length s.units ≡ units_of s.namespace
+  pub each : (k : ℕ) (unit : UnitName) → IsAt s.units k unit → IsUnitOf s k unit
+
+-- A space has 1 to 64 ports.
+abbrev pub IsPortCount : ℕ → Type 0
+IsPortCount count = (0 < count) × (count ≤ 64)
+
+-- why there is no space with so many ports
+abbrev pub IsSpaceFault : ℕ → SpaceFault → Type 0
+IsSpaceFault count Ports = ¬ IsPortCount count
+IsSpaceFault count NoMemory = IsPortCount count

@@ -1,0 +1,87 @@
+//! What holds of the histories of all units by their definitions alone. Each law is a call that does nothing
+//! and whose contract is the law.
+ghost use Rattle.std.specs.Prelude.{◌≡◌, ℕ, ◌≤◌, List, length, map, take};
+ghost use Rattle.std.specs.List.{flat_map};
+ghost use Rattle.nvm_record.specs.Lists.{IsAt};
+ghost use Rattle.nvm_record.specs.Medium.{zero_medium};
+ghost use Rattle.nvm_record.specs.Step.{statuses_of};
+ghost use Rattle.nvm_geometry.specs.Boundaries.{unit_number};
+ghost use Rattle.nvm_geometry.specs.Namespace.{Namespace};
+ghost use Rattle.nvm_store.specs.Call.{Call};
+ghost use Rattle.nvm_store.specs.History.{replay_of};
+ghost use Rattle.nvm_store.specs.HistoryEntry.{HistoryEntry};
+ghost use Rattle.nvm_store.specs.PlacedRun.{RunStep, IsRunFrom, HasItsAnswer, answers, changes, entries_in};
+ghost use Rattle.nvm_store.specs.Point.{point};
+ghost use Rattle.nvm_unit.specs.Passes.{UnitName};
+ghost use Rattle.nvm_space.specs.Closing.{EndsWhole};
+ghost use Rattle.nvm_space.specs.Ports.{PortState};
+ghost use Rattle.nvm_space.specs.Spaces.{SpaceName, IsLaidOut};
+ghost use Rattle.nvm_space.specs.Shuffle.{AreLawfulHistories, IsShuffle, StandsAtItsPoint};
+ghost use Rattle.nvm_space.specs.Shuffle.{count_of_unit, entries_of_unit, unit_of_entry};
+
+use nvm_record::laws::{looks_change_nothing, steps_are_local};
+
+/// Units don't disturb one another. Each shuffle of the units' lawful histories is a run of the step on the
+/// whole namespace. An entry has the same statuses there as at its place in its unit's history. And after so
+/// many entries of a shuffle each LBA has the block that it has after so many of them as are of its unit; after
+/// all of them, that which its unit ends with.
+pub fn shuffles_are_runs()
+    ensures run { (ns : Namespace) (histories : List (List HistoryEntry)) (all : List HistoryEntry)
+        → AreLawfulHistories ns histories → IsShuffle ns histories all
+        → IsRunFrom ns.block_size (zero_medium ns.block_size) (map changes all) }
+    ensures place { (ns : Namespace) (histories : List (List HistoryEntry)) (all history : List HistoryEntry)
+        (i : ℕ) (entry : HistoryEntry) → IsShuffle ns histories all → IsAt all i entry
+        → IsAt histories (unit_of_entry ns entry) history
+        → IsAt history (count_of_unit ns (unit_of_entry ns entry) (take i all)) entry }
+    ensures statuses { (ns : Namespace) (histories : List (List HistoryEntry)) (all history : List HistoryEntry)
+        (i : ℕ) (entry : HistoryEntry) → AreLawfulHistories ns histories → IsShuffle ns histories all
+        → IsAt all i entry → IsAt histories (unit_of_entry ns entry) history
+        → statuses_of entry.operation (point ns.block_size all i) ≡ statuses_of entry.operation
+        (point ns.block_size history (count_of_unit ns (unit_of_entry ns entry) (take i all))) }
+    ensures medium { (ns : Namespace) (histories : List (List HistoryEntry)) (all history : List HistoryEntry)
+        (n lba : ℕ) → AreLawfulHistories ns histories → IsShuffle ns histories all
+        → IsAt histories (unit_number ns lba) history → point ns.block_size all n lba
+        ≡ point ns.block_size history (count_of_unit ns (unit_number ns lba) (take n all)) lba }
+    ensures end { (ns : Namespace) (histories : List (List HistoryEntry)) (all history : List HistoryEntry)
+        (lba : ℕ) → AreLawfulHistories ns histories → IsShuffle ns histories all
+        → IsAt histories (unit_number ns lba) history
+        → replay_of ns.block_size all lba ≡ replay_of ns.block_size history lba }
+{
+    steps_are_local();
+}
+
+/// There is a shuffle: the histories one behind the other, in the order of the units.
+pub fn there_is_a_shuffle()
+    ensures { (ns : Namespace) (histories : List (List HistoryEntry)) → AreLawfulHistories ns histories
+        → IsShuffle ns histories (flat_map (λ history. history) histories) }
+{}
+
+/// The histories with which the units of a space end are those of which the other laws here speak.
+pub fn units_end_with_lawful_histories()
+    ensures { (s : SpaceName) (ports : List PortState) (histories : List (List HistoryEntry)) → IsLaidOut s
+        → length histories ≡ length s.units
+        → ((k : ℕ) (unit : UnitName) (history : List HistoryEntry) → IsAt s.units k unit → IsAt histories k history
+        → EndsWhole k unit ports history)
+        → AreLawfulHistories s.namespace histories }
+{}
+
+/// A call that rests on a point of a unit's history has its answer wherever a shuffle has just that point's
+/// entries of the unit before it, and there is such a place for each point. So a shuffle with calls between
+/// its entries, each at such a place, is a run of the step on the whole namespace.
+pub fn calls_keep_their_answers()
+    ensures answer { (ns : Namespace) (histories : List (List HistoryEntry)) (all : List HistoryEntry) (n : ℕ)
+        (call : Call) → AreLawfulHistories ns histories → IsShuffle ns histories all
+        → StandsAtItsPoint ns histories (take n all) call
+        → HasItsAnswer (answers call) (point ns.block_size all n) }
+    ensures points { (ns : Namespace) (histories : List (List HistoryEntry)) (all history : List HistoryEntry)
+        (unit k : ℕ) → IsShuffle ns histories all → IsAt histories unit history
+        → (n : ℕ) × (n ≤ length all) × (entries_of_unit ns unit (take n all) ≡ take k history) }
+    ensures run { (ns : Namespace) (histories : List (List HistoryEntry)) (run : List RunStep)
+        → AreLawfulHistories ns histories → IsShuffle ns histories (entries_in run)
+        → ((i : ℕ) (call : Call) → IsAt run i (answers call)
+        → StandsAtItsPoint ns histories (entries_in (take i run)) call)
+        → IsRunFrom ns.block_size (zero_medium ns.block_size) run }
+{
+    looks_change_nothing();
+    steps_are_local();
+}

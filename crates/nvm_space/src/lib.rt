@@ -1,0 +1,21 @@
+//! A namespace that many threads share: its atomic units, and the ports through which jobs are done.
+//!
+//! [`Space::new`] gives a space with its ports, which threads take with them. A port holds a pass of each
+//! unit, and what its passes have seen grows at each call. [`Space::close`] gives the histories of all units.
+#![tactic(auto)]
+
+mod closing;
+mod job_done;
+pub mod laws;
+mod meeting;
+mod opening;
+mod port;
+mod replies;
+mod running;
+mod space;
+mod space_fault;
+
+pub use job_done::JobDone;
+pub use port::Port;
+pub use space::{MOST_PORTS, Space};
+pub use space_fault::SpaceFault;

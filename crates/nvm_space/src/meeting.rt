@@ -1,0 +1,28 @@
+//! How two ports meet: in one unit after the other.
+ghost use Rattle.std.specs.Prelude.{◌≡◌, ℕ};
+ghost use Rattle.nvm_unit.specs.Ends.{views_of};
+ghost use Rattle.nvm_space.specs.Ports.{ArePassesOfAll};
+ghost use Rattle.nvm_space.specs.Visits.{MeetInEach};
+
+use nvm_unit::{Pass, Unit};
+use std::sync::Wait;
+
+/// Brings the two passes of each unit to one history.
+pub(crate) fn meet_in_each<R: Wait>(
+    rt: &R,
+    units: &[Unit],
+    one: &mut Vec<Pass>,
+    other: &mut Vec<Pass>,
+)
+    requires one { (n : ℕ) × ArePassesOfAll units.now n one.old.items }
+    requires other { (n : ℕ) × ArePassesOfAll units.now n other.old.items }
+    ensures one { (n : ℕ) → ArePassesOfAll units.now n one.old.items → ArePassesOfAll units.now n one.new.items }
+    ensures other { (n : ℕ) → ArePassesOfAll units.now n other.old.items
+        → ArePassesOfAll units.now n other.new.items }
+    ensures met { MeetInEach (views_of one.old.items) (views_of other.old.items) (views_of one.new.items)
+        (views_of other.new.items) }
+{
+    for place in 0..units.len() {
+        units[place].meet(rt, &mut one[place], &mut other[place]);
+    }
+}

@@ -1,0 +1,70 @@
+//! How a space begins: its units are made one after the other, and each unit's passes are handed out to the
+//! ports.
+ghost use Rattle.std.specs.Prelude.{◌≡◌, [], IfOk, IfErr, OnOk, length};
+ghost use Rattle.nvm_space.specs.Inside.Dealing.{space_of, AreDealt, HaveOneMore};
+ghost use Rattle.nvm_space.specs.Ports.{new_ports};
+ghost use Rattle.nvm_space.specs.Spaces.{IsLaidOut, IsPortCount, IsSpaceFault};
+
+use crate::port::Port;
+use crate::space_fault::SpaceFault;
+use nvm_geometry::Geometry;
+use nvm_plan::unit_place;
+use nvm_record::NoMemory;
+use nvm_store::Limit;
+use nvm_unit::laws::new_passes_are_all;
+use nvm_unit::{Pass, Unit};
+use std::alloc::Global;
+
+/// The units of a new space, and its ports.
+pub(crate) fn opened(
+    alloc: Global,
+    geometry: Geometry,
+    ports: u16,
+    limit: Limit,
+) -> Result<(Vec<Unit>, Vec<Port>), SpaceFault>
+    requires { IsPortCount ports }
+    ensures refused { IfErr result (IsSpaceFault ports) }
+    ensures units { IfOk result (λ u. IsLaidOut (space_of geometry ports limit u.0.items)) }
+    ensures ports { IfOk result (λ u. u.1.items ≡ new_ports (space_of geometry ports limit u.0.items)) }
+{
+    new_passes_are_all();
+    // For the proof alone: how many LBAs there can be.
+    let _nsze = geometry.nsze();
+    let count = geometry.units();
+    let mut dealt = bare_ports(alloc, ports, count)?;
+    let mut units = Vec::with_capacity(alloc, usize::from(count))?;
+    for number in 0..count {
+        let place = unit_place(&geometry, number);
+        let Ok((unit, passes)) = Unit::new(alloc, number, place, ports, limit) else {
+            return Err(SpaceFault::NoMemory);
+        };
+        hand_out(&mut dealt, passes)?;
+        units.push(unit)?;
+    }
+    Ok((units, dealt))
+}
+
+/// The ports of a space that has no units yet, with room for so many passes each.
+fn bare_ports(alloc: Global, count: u16, units: u16) -> Result<Vec<Port>, NoMemory>
+    ensures { IfOk result (λ ports. AreDealt count [] ports.items) }
+{
+    let mut ports = Vec::with_capacity(alloc, usize::from(count))?;
+    for number in 0..count {
+        let passes = Vec::with_capacity(alloc, usize::from(units))?;
+        ports.push(Port { number, passes })?;
+    }
+    Ok(ports)
+}
+
+/// Hands a pass to each port, in their order.
+fn hand_out(ports: &mut Vec<Port>, passes: Vec<Pass>) -> Result<(), NoMemory>
+    requires { length passes.items ≡ length ports.old.items }
+    ensures { OnOk result (HaveOneMore passes.items ports.old.items ports.new.items) }
+{
+    let mut place = 0;
+    for pass in passes {
+        ports[place].add(pass)?;
+        place += 1;
+    }
+    Ok(())
+}

@@ -1,0 +1,146 @@
+//! What a unit tells of a job's part.
+ghost use Rattle.std.specs.Prelude.{◌≡◌, ◌++◌, OnOk};
+ghost use Rattle.nvm_record.specs.Deeds.{success_of};
+ghost use Rattle.nvm_store.specs.ActRef.{lent_operation_of};
+ghost use Rattle.nvm_store.specs.Look.{look_operation_of};
+ghost use Rattle.nvm_plan.specs.Reply.{stop_of};
+ghost use Rattle.nvm_space.specs.Trace as spec;
+
+use nvm_plan::{Part, PartResult};
+use nvm_record::{NoMemory, ReadData, Status, Statuses};
+use nvm_store::{ActRef, Answer, Look};
+use nvm_unit::{Changed, ObserveFault, Observed};
+
+/// The part, what its host would be told of it alone, and the data that a Read's part read.
+#[derive(Debug, Drop)]
+pub struct PartReply {
+    pub part: Part,
+    pub statuses: Statuses,
+    pub payload: Option<ReadData>,
+}
+
+ghost use Rattle.nvm_space.specs.Inside.Parts.{IsGathered, reply_told};
+
+/// What is told of a change.
+pub(crate) fn reply_of_change(unit: u16, act: ActRef<'_>, changed: Changed) -> PartReply
+    ensures { reply_told result ≡ spec.reply_of_change unit (lent_operation_of act.entry).deed changed }
+{
+    let (point, result, statuses) = match changed {
+        Changed::Done { point } => (point, PartResult::Done, success(act)),
+        Changed::Failed { point, statuses } => (point, PartResult::Failed, statuses),
+        Changed::NoMemory { point } => (point, PartResult::NoMemory, stop(act)),
+        Changed::Full { point } => (point, PartResult::Full, stop(act)),
+    };
+    PartReply {
+        part: Part {
+            unit,
+            point,
+            result,
+        },
+        statuses,
+        payload: None,
+    }
+}
+
+/// What is told of a look.
+pub(crate) fn reply_of_look(
+    unit: u16,
+    look: Look<'_>,
+    answer: Result<Observed, ObserveFault>,
+) -> PartReply
+    ensures { reply_told result ≡ spec.reply_of_look unit (look_operation_of look.entry).deed answer }
+{
+    let _ = look;
+    match answer {
+        Ok(Observed { point, answer }) => {
+            let part = Part {
+                unit,
+                point,
+                result: PartResult::Looked,
+            };
+            match answer {
+                Answer::Payload(payload) => PartReply {
+                    part,
+                    statuses: Statuses::One(Status::SUCCESSFUL_COMPLETION),
+                    payload: Some(payload),
+                },
+                Answer::Status(status) => PartReply {
+                    part,
+                    statuses: Statuses::One(status),
+                    payload: None,
+                },
+            }
+        }
+        Err(ObserveFault::NoMemory { point }) => PartReply {
+            part: Part {
+                unit,
+                point,
+                result: PartResult::NoMemory,
+            },
+            statuses: Statuses::One(Status::INTERNAL_ERROR),
+            payload: None,
+        },
+    }
+}
+
+/// What is told of an act that was done.
+fn success(act: ActRef<'_>) -> Statuses
+    ensures { result ≡ success_of (lent_operation_of act.entry).deed }
+{
+    match act {
+        ActRef::Pair { .. } => {
+            Statuses::Two(Status::SUCCESSFUL_COMPLETION, Status::SUCCESSFUL_COMPLETION)
+        }
+        _ => Statuses::One(Status::SUCCESSFUL_COMPLETION),
+    }
+}
+
+/// What is told of an act for which there was no memory or no room. A pair's comparison came before that, and
+/// held.
+fn stop(act: ActRef<'_>) -> Statuses
+    ensures { result ≡ stop_of (lent_operation_of act.entry).deed }
+{
+    match act {
+        ActRef::Pair { .. } => {
+            Statuses::Two(Status::SUCCESSFUL_COMPLETION, Status::INTERNAL_ERROR)
+        }
+        _ => Statuses::One(Status::INTERNAL_ERROR),
+    }
+}
+
+/// Adds what the part read to the bytes that the parts before it read. Where memory for that is refused, the
+/// part is one that found no memory.
+pub(crate) fn gathered(reply: PartReply, bytes: &mut Vec<u8>) -> (Part, Statuses)
+    ensures { IsGathered reply bytes.old.items bytes.new.items result.0 result.1 }
+{
+    let PartReply {
+        part,
+        statuses,
+        payload,
+    } = reply;
+    let Some(payload) = payload else {
+        return (part, statuses);
+    };
+    match add(bytes, payload) {
+        Ok(()) => (part, statuses),
+        Err(_) => (
+            Part {
+                unit: part.unit,
+                point: part.point,
+                result: PartResult::NoMemory,
+            },
+            Statuses::One(Status::INTERNAL_ERROR),
+        ),
+    }
+}
+
+/// Adds the data. Where no room was made, it is all that is read, and isn't copied.
+fn add(bytes: &mut Vec<u8>, payload: ReadData) -> Result<(), NoMemory>
+    ensures { OnOk result (bytes.new.items ≡ bytes.old.items ++ payload) }
+{
+    if bytes.is_empty() && bytes.capacity() < payload.len() {
+        *bytes = payload.into_vec();
+        return Ok(());
+    }
+    bytes.extend_from_slice(payload.as_slice())
+}

@@ -1,0 +1,197 @@
+ghost use Rattle.std.specs.Prelude.{◌≡◌, ◌<◌, ℕ, List, IfOk, IfErr, length};
+ghost use Rattle.nvm_record.specs.Lists.{IsAt};
+ghost use Rattle.nvm_store.specs.HistoryEntry.{HistoryEntry};
+ghost use Rattle.nvm_geometry.specs.Boundaries.{units_of};
+ghost use Rattle.nvm_unit.specs.declared.views.PassView.{PassView};
+ghost use Rattle.nvm_unit.specs.Ends.{views_of};
+ghost use Rattle.nvm_unit.specs.Passes.{UnitName};
+ghost use Rattle.nvm_unit.specs.Replies.{IsBroughtUp};
+ghost use Rattle.nvm_plan.specs.Fits.{FitsNamespace};
+ghost use Rattle.nvm_space.specs.Trace.{DoesJob};
+ghost use Rattle.nvm_space.specs.Visits.{BecomesAt, MeetInEach};
+ghost use Rattle.nvm_space.specs.Closing.{EndsWhole};
+ghost use Rattle.nvm_space.specs.Ports.{AreAllPortsOf, IsPortOf, new_ports};
+ghost use Rattle.nvm_space.specs.Spaces.{IsLaidOut, IsPortCount, IsSpaceFault};
+
+use crate::closing::histories;
+use crate::job_done::JobDone;
+use crate::meeting::meet_in_each;
+use crate::opening::opened;
+use crate::port::Port;
+use crate::running::do_job;
+use crate::space_fault::SpaceFault;
+use nvm_geometry::Geometry;
+use nvm_plan::Job;
+use nvm_record::NoMemory;
+use nvm_store::{History, Limit};
+use nvm_unit::{Gate, Unit};
+use std::alloc::Global;
+use std::marker::Model;
+use std::sync::Wait;
+
+/// A space has at most so many ports.
+pub const MOST_PORTS: u16 = 64;
+
+/// A namespace as the atomic units that its boundaries make, which many threads read and change by their ports.
+///
+/// Contracts see the namespace, the number of ports, the limit of each unit's history, and the units.
+#[derive(Drop)]
+pub struct Space {
+    pub(crate) geometry: Geometry,
+    pub(crate) ports: u16,
+    pub(crate) limit: Limit,
+    /// Unit k stands at place k.
+    pub(crate) units: Vec<Unit>,
+}
+
+impl Model for Space {
+    ghost use Rattle.nvm_space.specs.Spaces.{SpaceName, IsLaidOut};
+
+    ghost Value = { SpaceName };
+
+    ghost view = { λ s. record { namespace = s.geometry; ports = s.ports; limit = s.limit; units = s.units.items } };
+
+    ghost invariant = { λ s. IsLaidOut (record {
+      namespace = s.geometry;
+      ports = s.ports;
+      limit = s.limit;
+      units = s.units.items;
+    }) };
+}
+
+impl Space {
+    /// A new space of this geometry, whose blocks are all zero bytes, and its ports, which are numbered from 0.
+    /// Each unit's history may have as many entries as the limit says. `Ports` says that there can't be so many
+    /// ports; a refusal of memory leaves nothing. It costs a step for each unit and port.
+    pub fn new(
+        alloc: Global,
+        geometry: Geometry,
+        ports: u16,
+        limit: Limit,
+    ) -> Result<(Space, Vec<Port>), SpaceFault>
+        ensures taken { IfOk result (λ s. IsPortCount ports) }
+        ensures refused { IfErr result (IsSpaceFault ports) }
+        ensures namespace { IfOk result (λ s. s.0.namespace ≡ geometry) }
+        ensures limit { IfOk result (λ s. s.0.limit ≡ limit) }
+        ensures units { IfOk result (λ s. IsLaidOut s.0) }
+        ensures count { IfOk result (λ s. s.0.ports ≡ ports) }
+        ensures ports { IfOk result (λ s. s.1.items ≡ new_ports s.0) }
+        ensures all { IfOk result (λ s. AreAllPortsOf s.0 s.1.items) }
+    {
+        if ports == 0 || ports > MOST_PORTS {
+            return Err(SpaceFault::Ports);
+        }
+        let (units, dealt) = opened(alloc, geometry, ports, limit)?;
+        Ok((
+            Space {
+                geometry,
+                ports,
+                limit,
+                units,
+            },
+            dealt,
+        ))
+    }
+
+    /// Does a job by the port's passes, or refuses it, and says what its host is told. `number` is the job's number,
+    /// which the entries bear that it makes. Each part is one step of its unit; the parts are done in the order
+    /// of the units, up to the first that doesn't succeed.
+    ///
+    /// A job that is refused, or has no parts, takes no memory. Any other asks for the memory of its list of parts
+    /// before its first part, and a Read over several units for that of its data; where it is refused, nothing is
+    /// done. It waits for the units.
+    pub fn run_job<R: Wait, G: Gate>(
+        &self,
+        rt: &R,
+        alloc: Global,
+        port: &mut Port,
+        number: u32,
+        job: &Job,
+        gate: &G,
+    ) -> JobDone
+        requires of { IsPortOf self.now port.old }
+        requires fits { FitsNamespace self.now.namespace job.now }
+        ensures of { IsPortOf self.now port.new }
+        ensures number { port.new.number ≡ port.old.number }
+        ensures does { DoesJob self.now.namespace number job.now (views_of port.old.passes) (views_of port.new.passes)
+            result }
+    {
+        do_job(
+            rt,
+            alloc,
+            self.geometry,
+            &self.units,
+            &mut port.passes,
+            number,
+            job,
+            gate,
+        )
+    }
+
+    /// Brings the port's pass of the unit to the history that it finds. It waits for the unit, and takes no
+    /// memory.
+    pub fn refresh<R: Wait>(&self, rt: &R, port: &mut Port, unit: u16)
+        requires of { IsPortOf self.now port.old }
+        requires known { unit < units_of self.now.namespace }
+        ensures of { IsPortOf self.now port.new }
+        ensures number { port.new.number ≡ port.old.number }
+        ensures up { BecomesAt unit IsBroughtUp (views_of port.old.passes) (views_of port.new.passes) }
+    {
+        let place = usize::from(unit);
+        self.units[place].refresh(rt, &mut port.passes[place]);
+    }
+
+    /// Brings the port's pass of the unit to the history that it finds, and gives a copy of it. It waits for the
+    /// unit. Where memory is refused, the pass is brought up nevertheless.
+    pub fn history<R: Wait>(
+        &self,
+        rt: &R,
+        alloc: Global,
+        port: &mut Port,
+        unit: u16,
+    ) -> Result<History, NoMemory>
+        requires of { IsPortOf self.now port.old }
+        requires known { unit < units_of self.now.namespace }
+        ensures of { IsPortOf self.now port.new }
+        ensures number { port.new.number ≡ port.old.number }
+        ensures up { BecomesAt unit IsBroughtUp (views_of port.old.passes) (views_of port.new.passes) }
+        ensures seen { IfOk result (λ v. (view : PassView) → IsAt (views_of port.new.passes) unit view
+            → v.items ≡ view.seen) }
+    {
+        let place = usize::from(unit);
+        self.units[place].history(rt, alloc, &mut port.passes[place])
+    }
+
+    /// Brings both ports to one history in each unit, so that what either had seen stands in it. It waits for
+    /// the units, one after the other, and takes no memory.
+    pub fn meet<R: Wait>(&self, rt: &R, one: &mut Port, other: &mut Port)
+        requires one { IsPortOf self.now one.old }
+        requires other { IsPortOf self.now other.old }
+        ensures one { IsPortOf self.now one.new }
+        ensures other { IsPortOf self.now other.new }
+        ensures number { one.new.number ≡ one.old.number }
+        ensures other_number { other.new.number ≡ other.old.number }
+        ensures met { MeetInEach (views_of one.old.passes) (views_of other.old.passes) (views_of one.new.passes)
+            (views_of other.new.passes) }
+    {
+        meet_in_each(rt, &self.units, &mut one.passes, &mut other.passes);
+    }
+
+    /// The whole history of each unit, in the order of the units, once nobody uses the space any more. The ports
+    /// are those that [`Space::new`] gave with it, in their order. It waits for nothing. A refusal of memory
+    /// leaves nothing.
+    pub fn close(self, alloc: Global, ports: Vec<Port>) -> Result<Vec<History>, NoMemory>
+        requires { AreAllPortsOf self ports.items }
+        ensures count { IfOk result (λ hs. length hs.items ≡ length self.units) }
+        ensures each { IfOk result (λ hs. (k : ℕ) (unit : UnitName) (history : _) → IsAt self.units k unit
+            → IsAt hs.items k history → EndsWhole k unit ports.items history.items) }
+    {
+        let Space {
+            geometry: _,
+            ports: _,
+            limit: _,
+            units,
+        } = self;
+        histories(alloc, units, ports)
+    }
+}
