@@ -94,9 +94,18 @@ fn a_deallocate_is_one_entry(rt: HostRuntime) -> Result<(), Fail> {
     let (unit, mut first, mut second) = two_passes(alloc, 2)?;
     write_all(&rt, alloc, &unit, &mut first)?;
     let ranges = [
-        LbaRange { first: 5, blocks: 9 },
-        LbaRange { first: 0, blocks: 2 },
-        LbaRange { first: 1, blocks: 0 },
+        LbaRange {
+            first: 5,
+            blocks: 9,
+        },
+        LbaRange {
+            first: 0,
+            blocks: 2,
+        },
+        LbaRange {
+            first: 1,
+            blocks: 0,
+        },
     ];
     let ranges = ranges_data(alloc, &ranges)?;
     let act = ActRef::Deallocate {
