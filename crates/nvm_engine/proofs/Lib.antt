@@ -1,9 +1,3 @@
-pub mod PartLemmas
-pub mod ToldLemmas
-pub mod PartsLeft
-pub mod Rooms
-pub mod ReplyLemmas
-pub mod Progress
-pub mod RunLemmas
 pub mod Reading
+pub mod Alone
 pub mod Serving

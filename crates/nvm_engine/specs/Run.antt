@@ -1,26 +1,29 @@
 -- A run: jobs that are done one after the other, from a medium and the number of changes of each unit. All
 -- of it is this project's own.
-use Rattle.std.specs.Prelude.{◌≡◌, ◌⊎◌, ◌==◌, ℕ, ◌+◌, ◌<◌, if◌then◌else◌, List, [], ◌∷◌, MatchOption, Some, None, IsTrue, IsSome}
-use Rattle.nvm_record.specs.Deeds.{is_read, IsAct}
+use Rattle.std.specs.Prelude.{◌≡◌, ◌⊎◌, ◌==◌, ℕ, ◌+◌, ◌<◌, if◌then◌else◌, List, [], ◌∷◌, Option, MatchOption, IsSome}
+use Rattle.nvm_record.specs.declared.status.Statuses.{Statuses}
+use Rattle.nvm_record.specs.Deeds.{IsAct}
 use Rattle.nvm_record.specs.Medium.{Medium}
 use Rattle.nvm_record.specs.Status.{IsSuccess}
 use Rattle.nvm_record.specs.Step.{Operation, statuses_of, data_of, medium_after}
 use Rattle.nvm_geometry.specs.Namespace.{Namespace}
-use Rattle.nvm_geometry.specs.Boundaries.{Crosses}
-use Rattle.nvm_geometry.specs.Parts.{units_met, part_in}
-use Rattle.nvm_plan.specs.Checks.{refusal_of}
+use Rattle.nvm_geometry.specs.Parts.{part_in}
+use Rattle.nvm_plan.specs.Completions.{completions_of}
+use Rattle.nvm_plan.specs.declared.completions.Completions.{Completions}
 use Rattle.nvm_plan.specs.Operation.{job_operation_of}
 use Rattle.nvm_plan.specs.Outcome.{IsOutcome}
 use Rattle.nvm_plan.specs.Reply.{Reply}
 use Rattle.nvm_plan.specs.declared.job.Job.{Job}
 use Rattle.nvm_plan.specs.declared.part.PartResult.{PartResult}
 use Rattle.nvm_plan.specs.declared.part.PartResult.TheVariants.{Done, Failed, Looked, NoMemory, Full}
-use Rattle.nvm_engine.specs.declared.done_job.DoneJob.{DoneJob}
 
 -- the namespace, and how many changes each of its units may have
 pub record Setup : Type 0 where
   pub namespace : Namespace
   pub limit : ℕ
+
+abbrev pub setup_of : Namespace → ℕ → Setup
+setup_of ns limit = record { namespace = ns; limit = limit }
 
 -- how many changes each unit had
 abbrev pub Counts : Type 0
@@ -89,28 +92,19 @@ Does s op m counts (reply ∷ replies) after counted =
     × Does s op (medium_left s.namespace.block_size (part_told s op reply) reply.part.result m)
     (counts_left reply.part.unit reply.part.result counts) replies after counted
 
--- A Read whose range crosses a boundary: room for its data is asked for before its first part.
-pub record IsReadOverUnits (ns : Namespace) (op : Operation) : Type 0 where
-  pub read : IsTrue (is_read op.deed)
-  pub over : Crosses ns op.first op.blocks
-
--- Some part was done, unless there is none, or memory was refused before the first, which only such a Read asks for.
-abbrev pub IsBegun : Namespace → Operation → List Reply → Type 0
-IsBegun ns op [] = (units_met ns op ≡ []) ⊎ IsReadOverUnits ns op
-IsBegun ns op (reply ∷ replies) = Unit {0}
-
--- A job: its outcome is that of the replies to its parts, and these are what the parts did.
-pub record RunsJob (s : Setup) (m : Medium) (counts : Counts) (job : Job) (done : DoneJob) (after : Medium) (counted : Counts) : Type 0 where
+-- A job: its completions tell the outcome of the replies to its parts, and these are what the parts did.
+pub record RunsJob (s : Setup) (m : Medium) (counts : Counts) (job : Job) (told : Completions) (after : Medium) (counted : Counts) : Type 0 where
   pub replies : List Reply
-  pub outcome : IsOutcome s.namespace job replies done.statuses done.payload
+  pub statuses : Statuses
+  pub payload : Option (List ℕ)
+  pub outcome : IsOutcome s.namespace job replies statuses payload
+  pub completions : told ≡ completions_of job statuses payload
   pub parts : MatchOption (job_operation_of s.namespace job) ((after ≡ m) × (counted ≡ counts)) (λ op. Does s op m counts replies after counted)
-  pub begun : (op : Operation) → refusal_of s.namespace job ≡ None → job_operation_of s.namespace job ≡ Some op
-      → IsBegun s.namespace op replies
 
 -- These are what the jobs' hosts are told, where the jobs are done one after the other.
-abbrev pub IsRun : Setup → Medium → Counts → List Job → List DoneJob → Type 0
+abbrev pub IsRun : Setup → Medium → Counts → List Job → List Completions → Type 0
 IsRun s m counts [] [] = Unit {0}
-IsRun s m counts [] (done ∷ rest) = ⊥
+IsRun s m counts [] (told ∷ rest) = ⊥
 IsRun s m counts (job ∷ jobs) [] = ⊥
-IsRun s m counts (job ∷ jobs) (done ∷ rest) =
-    (after : Medium) × (counted : Counts) × RunsJob s m counts job done after counted × IsRun s after counted jobs rest
+IsRun s m counts (job ∷ jobs) (told ∷ rest) =
+    (after : Medium) × (counted : Counts) × RunsJob s m counts job told after counted × IsRun s after counted jobs rest

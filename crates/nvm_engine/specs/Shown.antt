@@ -4,17 +4,14 @@ use Rattle.nvm_record.specs.HostFile.{IsHostFile}
 use Rattle.nvm_record.specs.Medium.{zero_medium}
 use Rattle.nvm_record.specs.declared.command.Command.{Command}
 use Rattle.nvm_plan.specs.Jobs.{IsJobList}
+use Rattle.nvm_plan.specs.declared.completions.Completions.{Completions}
 use Rattle.nvm_plan.specs.declared.job.Job.{Job}
 use Rattle.nvm_plan.specs.Fits.{most_hosts}
 use Rattle.nvm_engine.specs.Lines.{job_lines}
-use Rattle.nvm_engine.specs.Run.{Setup, no_changes, IsRun}
+use Rattle.nvm_engine.specs.Run.{no_changes, IsRun, setup_of}
 use Rattle.nvm_engine.specs.Settings.{IsNamespace, advertised}
-use Rattle.nvm_engine.specs.declared.done_job.DoneJob.{DoneJob}
 use Rattle.nvm_engine.specs.declared.settings.Settings.{Settings}
 use Rattle.nvm_engine.specs.declared.shown.Shown.{Shown}
-
-abbrev pub setup_of_settings : Settings → Setup
-setup_of_settings s = record { namespace = advertised s; limit = s.limit }
 
 -- Each file is the host file of the commands at its place.
 abbrev pub AreHostFiles : ℕ → List (List ℕ) → List (List Command) → Type 0
@@ -28,12 +25,12 @@ AreHostFiles size (file ∷ files) (host ∷ hosts) = IsHostFile size file host 
 pub record IsShown (s : Settings) (files : List (List ℕ)) (shown : Shown) : Type 0 where
   pub hosts : List (List Command)
   pub jobs : List Job
-  pub done : List DoneJob
+  pub told : List Completions
   pub few : length files ≤ most_hosts
   pub namespace : IsNamespace s
   pub commands : AreHostFiles s.block files hosts
   pub order : IsJobList hosts jobs
-  pub run : IsRun (setup_of_settings s) (zero_medium s.block) no_changes jobs done
-  pub text : shown.text.items ≡ job_lines jobs done
+  pub run : IsRun (setup_of (advertised s) s.limit) (zero_medium s.block) no_changes jobs told
+  pub text : shown.text.items ≡ job_lines jobs told
   pub rec : shown.rec ≡ None
   pub status : shown.status ≡ 0

@@ -1,37 +1,41 @@
-ghost use Rattle.std.specs.Prelude.{◌≡◌, ◌<◌, ◌≤◌, ◌⊎◌, ◌^◌, ℕ, All, IfOk, IfErr, OnOk, length, map};
+ghost use Rattle.std.specs.Prelude.{◌≡◌, ◌<◌, ◌≤◌, ◌⊎◌, ◌^◌, All, IfOk, IfErr, OnOk, length, map};
 ghost use Rattle.nvm_record.specs.Entry.{IsWhole};
 ghost use Rattle.nvm_record.specs.HostFile.{IsHostFile};
-ghost use Rattle.nvm_record.specs.Medium.{zero_medium};
 ghost use Rattle.nvm_geometry.specs.Namespace.{Namespace};
 ghost use Rattle.nvm_plan.specs.Fits.{FitsNamespace};
 ghost use Rattle.nvm_plan.specs.Jobs.{IsJobList};
 ghost use Rattle.nvm_engine.specs.declared.fault.Fault.TheVariants.{NoMemory};
 ghost use Rattle.nvm_engine.specs.Fault.{IsFirstRunFault, IsGeometryFault, IsFileFault, IsFilesFault};
-ghost use Rattle.nvm_engine.specs.Inside.Statuses.{HaveStatuses};
-ghost use Rattle.nvm_engine.specs.Run.{no_changes, IsRun};
 ghost use Rattle.nvm_engine.specs.Settings.{IsNamespace, advertised};
-ghost use Rattle.nvm_engine.specs.Shown.{setup_of_settings, AreHostFiles, IsShown};
+ghost use Rattle.nvm_engine.specs.Shown.{AreHostFiles, IsShown};
 
-use crate::done_job::DoneJob;
 use crate::fault::Fault;
 use crate::lines::push_jobs;
+use crate::running::run;
 use crate::settings::Settings;
 use crate::shown::Shown;
-use crate::units::Units;
 use nvm_geometry::Geometry;
 use nvm_plan::job_laws::{jobs_fit, no_more_jobs_than_commands};
-use nvm_plan::laws::each_command_has_a_status;
 use nvm_plan::{Job, MOST_HOSTS, jobs};
 use nvm_record::{BlockSize, Command, NoMemory, Payload, read_host};
 use std::alloc::Global;
+use std::sync::Wait;
 
 /// Does the commands of the hosts' files, of which the first is host 1's, on a namespace of zero bytes,
 /// and says what to show: for each command the line of its completion, in the order of the jobs. One thread
-/// does them in that order. At a limit of 0 every change is 0/06.
+/// does them in that order, by the one port of a space.
+///
+/// A job that has a part asks for the memory of its list of parts before the first, so where memory is refused it may
+/// end with 0/06 there, a pair's second command with 0/09, and nothing of it is done.
 ///
 /// The first fault is answered: more than 64 files, then one of the settings, then one of a file, or
 /// `NoMemory` where a growth outside a command was refused. Nothing is shown then.
-pub fn execute(alloc: Global, settings: &Settings, files: &[Payload]) -> Result<Shown, Fault>
+pub fn execute<R: Wait>(
+    rt: &R,
+    alloc: Global,
+    settings: &Settings,
+    files: &[Payload],
+) -> Result<Shown, Fault>
     // What is shown is the text of a run of the files' commands, with status 0.
     ensures shown { IfOk result (IsShown settings.now files.now) }
     ensures fault { IfErr result (IsFirstRunFault settings.now files.now) }
@@ -42,9 +46,9 @@ pub fn execute(alloc: Global, settings: &Settings, files: &[Payload]) -> Result<
     let geometry = geometry_of(settings)?;
     let hosts = hosts_of(alloc, geometry.block_size(), files)?;
     let jobs = jobs_of(alloc, hosts)?;
-    let done = done_jobs(alloc, settings, geometry, jobs.as_slice())?;
+    let told = run(rt, alloc, geometry, settings.limit, jobs.as_slice())?;
     let mut text = String::new(alloc);
-    push_jobs(&mut text, jobs.as_slice(), done)?;
+    push_jobs(&mut text, jobs.as_slice(), told)?;
     Ok(Shown {
         text: text.into_bytes(),
         rec: None,
@@ -121,28 +125,4 @@ fn jobs_of(alloc: Global, hosts: Vec<Vec<Command>>) -> Result<Vec<Job>, NoMemory
     no_more_jobs_than_commands();
     let jobs = jobs(alloc, hosts)?;
     Ok(jobs)
-}
-
-/// What the hosts are told of the jobs, in their order.
-fn done_jobs(
-    alloc: Global,
-    settings: &Settings,
-    geometry: Geometry,
-    jobs: &[Job],
-) -> Result<Vec<DoneJob>, NoMemory>
-    requires geometry { geometry ≡ advertised settings.now }
-    requires fit { All (FitsNamespace geometry) jobs.now }
-    requires few { length jobs.now < 2 ^ 32 }
-    ensures run { IfOk result (λ done. IsRun (setup_of_settings settings.now) (zero_medium settings.now.block) no_changes
-        jobs.now done.items) }
-    ensures length { IfOk result (λ done. length done.items ≡ length jobs.now) }
-    ensures statuses { IfOk result (λ done. HaveStatuses jobs.now done.items) }
-{
-    each_command_has_a_status();
-    let mut units = Units::new(alloc, geometry, settings.limit)?;
-    let mut done = Vec::with_capacity(alloc, jobs.len())?;
-    for (number, job) in jobs.iter().enumerate() {
-        done.push(units.run_job(alloc, number as u32, job))?;
-    }
-    Ok(done)
 }

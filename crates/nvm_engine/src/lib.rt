@@ -5,15 +5,12 @@
 //! shown, [`Fault`].
 #![tactic(auto)]
 
-mod atomic_unit;
-mod done_job;
-mod ending;
 mod engine;
 mod fault;
 mod lines;
+mod running;
 mod settings;
 mod shown;
-mod units;
 
 pub use engine::execute;
 pub use fault::Fault;

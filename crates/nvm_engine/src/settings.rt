@@ -1,3 +1,5 @@
+use nvm_store::Limit;
+
 /// What the program runs with: the options of `nvmu run` that say what the namespace is, how many
 /// workers there are, and how long a history may grow.
 #[derive(Clone, Copy, Debug, PartialEq, Eq)]
@@ -16,6 +18,6 @@ pub struct Settings {
     pub nacwu: u16,
     /// How many workers do the jobs, 1 to 64. One thread does them all yet.
     pub workers: u16,
-    /// How many changes a unit's history may have, 1 to 65,536.
-    pub limit: u32,
+    /// How many changes a unit's history may have.
+    pub limit: Limit,
 }

@@ -14,13 +14,14 @@ use nvm_engine::{Fault, Settings, Shown, execute};
 use nvm_front::{WordFault, tell, texts_of, words_given, write};
 use std::process::ExitCode;
 use std::rt::{Env, Files};
+use std::sync::Wait;
 
 fn main(rt: HostRuntime) -> ExitCode {
     ExitCode::from(status_of(&rt))
 }
 
 /// Does what the words of the command line ask for, and gives the exit status: 0, or 1 after a fault.
-fn status_of<R: AllocGlobal + Env + Files + Print + Eprint>(rt: &R) -> u8 {
+fn status_of<R: AllocGlobal + Env + Files + Print + Eprint + Wait>(rt: &R) -> u8 {
     match asked(rt) {
         Ok(
             Asked::Run {
@@ -47,7 +48,7 @@ fn asked<R: AllocGlobal + Env>(rt: &R) -> Result<Asked, WordFault> {
 }
 
 /// Reads the files at these paths and has their commands done.
-fn run<R: AllocGlobal + Files>(
+fn run<R: AllocGlobal + Files + Wait>(
     rt: &R,
     settings: &Settings,
     paths: &[String],
@@ -56,7 +57,7 @@ fn run<R: AllocGlobal + Files>(
     ensures fault { IfErr result (IsFaultOn settings.now (map (λ path. string_bytes path) paths.now)) }
 {
     let files = read_files(rt, paths)?;
-    execute(rt.alloc(), settings, files.as_slice())
+    execute(rt, rt.alloc(), settings, files.as_slice())
 }
 
 /// Writes the text to standard output. Where that fails, the status is 1.

@@ -6,6 +6,7 @@ use clap::builder::ValueParser;
 use clap::{Arg, ArgAction, ArgMatches, Command, Error, value_parser};
 use nvm_engine::Settings;
 use nvm_front::{WordFault, missing};
+use nvm_store::Limit;
 use std::alloc::{AllocError, Global};
 
 /// What the words of the command line ask for.
@@ -128,6 +129,7 @@ fn owned(alloc: Global, texts: &[&str]) -> Result<Vec<String>, AllocError>
 fn settings_of(run: &ArgMatches<'_>) -> Option<Settings>
     ensures { IfSome result AreInRange }
 {
+    let limit = Limit::new(run.get_one::<u32>("limit")?)?;
     let settings = Settings {
         nsze: run.get_one::<u64>("nsze")?,
         block: run.get_one::<u32>("block")?,
@@ -136,12 +138,10 @@ fn settings_of(run: &ArgMatches<'_>) -> Option<Settings>
         nawun: run.get_one::<u16>("nawun")?,
         nacwu: run.get_one::<u16>("nacwu")?,
         workers: run.get_one::<u16>("workers")?,
-        limit: run.get_one::<u32>("limit")?,
+        limit,
     };
-    let is_in_range = 1 <= settings.workers
-        && settings.workers <= 64
-        && 1 <= settings.limit
-        && settings.limit <= 65_536;
+    let is_in_range =
+        1 <= settings.workers && settings.workers <= 64 && limit.entries() <= 65_536;
     if is_in_range { Some(settings) } else { None }
 }
 
