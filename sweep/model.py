@@ -176,9 +176,9 @@ def ends(namespace, body, world):
     lead, last = body[0], body[-1]
     wants_memory = ["0/00", "0/06"][-len(body) :]
     pieces = list(parts(namespace, lead))
-    # A Read over several units asks for the room of its data before its first part.
-    if lead.opcode == READ and len(pieces) > 1:
-        yield wants_memory, world.refused()
+    # Before its first part a job asks for the room of its list of parts, and a Read over several units for that of its data.
+    if pieces:
+        yield ["0/06", "0/09"][: len(body)], world.refused()
     for unit, begin, count in pieces:
         at, old = begin - lead.first, world.blocks[begin : begin + count]
         status = look(lead, old, lead.data[at : at + count])
@@ -188,7 +188,7 @@ def ends(namespace, body, world):
         if last.opcode in CHANGES and world.changes[unit] == namespace.limit:
             yield wants_memory, world
             return
-        # A Compare takes no memory.
+        # A Compare takes no memory of its own.
         if last.opcode != COMPARE:
             yield wants_memory, world.refused()
         if last.opcode in CHANGES:

@@ -1,5 +1,5 @@
 -- Doing jobs in their order makes a run of them.
-use Rattle.std.proofs.Common.{◌≡◌, ℕ, List, [], ◌∷◌, ◌++◌, map, Option, Some, None, MatchOption, refl, sym, ap, ◌∙◌, subst, append_assoc, append-nil}
+use Rattle.std.proofs.Common.{◌≡◌, ◌+◌, ℕ, List, [], ◌∷◌, ◌++◌, map, Option, Some, None, MatchOption, refl, sym, ap, ◌∙◌, subst, append_assoc, append-nil, length, length-append, drop}
 use Rattle.std.proofs.lemmas.Option.{same_Some, none-some}
 use Rattle.std.specs.List.{AllByRecursion}
 use Rattle.nvm_record.specs.declared.status.Statuses.{Statuses}
@@ -21,7 +21,9 @@ use Rattle.nvm_space.specs.Trace.{PartDone, DoesPart, DoesParts, IsPartOfJob, Do
 use Rattle.nvm_space.specs.Visits.{BecomesAt}
 use Rattle.nvm_space.specs.declared.job_done.JobDone.{JobDone}
 use Rattle.nvm_engine.specs.Inside.Alone.{HaveSeen}
-use Rattle.nvm_engine.specs.Inside.Bodies.{IsOfBody, AreOfJobs}
+use Rattle.nvm_engine.specs.Inside.Bodies.{IsOfBody}
+use Rattle.nvm_engine.specs.Inside.ShownRun.{ShowsRun}
+use Rattle.nvm_engine.specs.Lines.{body_lines, job_lines}
 use Rattle.nvm_engine.specs.Run.{Setup, Counts, Rests, Does, RunsJob, IsRun, no_changes, medium_left, counts_left}
 
 -- what a port alone does in a unit, is the part of a run
@@ -117,12 +119,6 @@ one_served s old new all told job rest done m counts alone has number does servi
       },
     )
 
--- Before the first job.
-pub none_served : (s : Setup) (views : List PassView) (all : List Job) → HaveSeen s (zero_medium s.namespace.block_size) no_changes views
-    → (m : Medium) × (counts : Counts) × IsServing s views all [] all m counts
-none_served s views all seen =
-    (zero_medium s.namespace.block_size, no_changes, record { seen = seen; completes = λ more run. run })
-
 -- After the last job.
 pub all_served : (s : Setup) (views : List PassView) (all : List Job) (told : List Completions) (m : Medium) (counts : Counts)
     → IsServing s views all told [] m counts → IsRun s (zero_medium s.namespace.block_size) no_changes all told
@@ -133,12 +129,76 @@ of_body : (host : ℕ) (body : Body) (statuses : Statuses) (payload : Option (Li
 of_body host (Single c) statuses payload = tt
 of_body host (Pair c d) statuses payload = tt
 
--- In a run each job has a completion for each of its commands.
-pub run_is_of_jobs : (s : Setup) (jobs : List Job) (told : List Completions) (m : Medium) (counts : Counts) → IsRun s m counts jobs told → AreOfJobs jobs told
-run_is_of_jobs s [] [] m counts run = tt
-run_is_of_jobs s [] (t ∷ ts) m counts run = absurd run
-run_is_of_jobs s (job ∷ jobs) [] m counts run = absurd run
-run_is_of_jobs s (job ∷ jobs) (t ∷ ts) m counts run = (
-  subst (IsOfBody job.body) (sym run.2.completions) (of_body job.host job.body run.2.statuses run.2.payload),
-  run_is_of_jobs s jobs ts run.0 run.1 run.3,
-)
+none_left : (told : List Completions) (job : Job) (rest : List Job) → drop (length told) [] ≡ job ∷ rest → ⊥
+none_left [] job rest e = absurd (cc e)
+none_left (t ∷ told) job rest e = absurd (cc e)
+
+no_lines : (jobs : List Job) → job_lines jobs [] ≡ []
+no_lines [] = refl
+no_lines (job ∷ jobs) = refl
+
+-- What a job's port tells is told of the job's commands.
+pub does_of_body : (s : Setup) (number : ℕ) (job : Job) (old new : List PassView) (done : JobDone) → DoesJob s.namespace number job old new done → IsOfBody job.body done.completions
+does_of_body s number job old new done does = subst (IsOfBody job.body) (sym does.completions) (of_body job.host job.body does.told does.read)
+
+-- The lines of one job more.
+lines_more : (jobs rest : List Job) (job : Job) (told : List Completions) (more : Completions) → drop (length told) jobs ≡ job ∷ rest
+    → job_lines jobs (told ++ more ∷ []) ≡ job_lines jobs told ++ body_lines job.body more
+lines_more [] rest job told more e = absurd (none_left told job rest e)
+lines_more (j ∷ jobs) rest job [] more e =
+    let same : j ≡ job = cc e in
+    ap (λ (bytes : List ℕ). body_lines j.body more ++ bytes) (no_lines jobs) ∙ append-nil (body_lines j.body more)
+    ∙ ap (λ (x : Job). body_lines x.body more) same
+lines_more (j ∷ jobs) rest job (t ∷ told) more e =
+    ap (λ (bytes : List ℕ). body_lines j.body t ++ bytes) (lines_more jobs rest job told more e)
+    ∙ sym (append_assoc (body_lines j.body t) (job_lines jobs told) (body_lines job.body more))
+
+-- A run is under way: so many jobs were done, and the text has their lines.
+pub record IsShowing (s : Setup) (views : List PassView) (jobs : List Job) (number : ℕ) (old now : List ℕ) : Type 0 where
+  pub told : List Completions
+  pub medium : Medium
+  pub counts : Counts
+  pub count : length told ≡ number
+  pub serving : IsServing s views jobs told (drop number jobs) medium counts
+  pub lines : now ≡ old ++ job_lines jobs told
+
+pub none_shown : (s : Setup) (views : List PassView) (jobs : List Job) (text : List ℕ) → HaveSeen s (zero_medium s.namespace.block_size) no_changes views
+    → IsShowing s views jobs 0 text text
+none_shown s views jobs text seen = record {
+  told = [];
+  medium = zero_medium s.namespace.block_size;
+  counts = no_changes;
+  count = refl;
+  serving = record { seen = seen; completes = λ more run. run };
+  lines = sym (ap (λ (bytes : List ℕ). text ++ bytes) (no_lines jobs) ∙ append-nil text);
+}
+
+pub one_shown : (s : Setup) (old new : List PassView) (jobs : List Job) (number : ℕ) (job : Job) (done : JobDone) (text now then : List ℕ)
+    → PartsAlone s → HasParts s job → DoesJob s.namespace number job old new done → drop number jobs ≡ job ∷ drop (number + 1) jobs
+    → IsShowing s old jobs number text now → then ≡ now ++ body_lines job.body done.completions
+    → IsShowing s new jobs (number + 1) text then
+one_shown s old new jobs number job done text now then alone has does at showing more =
+    let serving = subst (λ (rest : List Job). IsServing s old jobs showing.told rest showing.medium showing.counts) at showing.serving in
+    let step = one_served s old new jobs showing.told job (drop (number + 1) jobs) done showing.medium showing.counts alone has number does serving in
+    let left : drop (length showing.told) jobs ≡ job ∷ drop (number + 1) jobs = ap (λ (n : ℕ). drop n jobs) showing.count ∙ at in
+    record {
+      told = showing.told ++ done.completions ∷ [];
+      medium = step.0;
+      counts = step.1;
+      count = length-append showing.told (done.completions ∷ []) ∙ ap (λ (n : ℕ). n + 1) showing.count;
+      serving = step.2;
+      lines =
+          more
+          ∙ ap (λ (bytes : List ℕ). bytes ++ body_lines job.body done.completions) showing.lines
+          ∙ append_assoc text (job_lines jobs showing.told) (body_lines job.body done.completions)
+          ∙ ap (λ (bytes : List ℕ). text ++ bytes) (sym (lines_more jobs (drop (number + 1) jobs) job showing.told done.completions left));
+    }
+
+pub all_shown : (s : Setup) (views : List PassView) (jobs : List Job) (number : ℕ) (text now : List ℕ) → drop number jobs ≡ [] → IsShowing s views jobs number text now
+    → ShowsRun s jobs text now
+all_shown s views jobs number text now none showing = record {
+  told = showing.told;
+  run = all_served s views jobs showing.told showing.medium showing.counts
+      (subst (λ (rest : List Job). IsServing s views jobs showing.told rest showing.medium showing.counts) none showing.serving);
+  lines = showing.lines;
+}

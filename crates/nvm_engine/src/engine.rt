@@ -10,7 +10,6 @@ ghost use Rattle.nvm_engine.specs.Settings.{IsNamespace, advertised};
 ghost use Rattle.nvm_engine.specs.Shown.{AreHostFiles, IsShown};
 
 use crate::fault::Fault;
-use crate::lines::push_jobs;
 use crate::running::run;
 use crate::settings::Settings;
 use crate::shown::Shown;
@@ -46,9 +45,15 @@ pub fn execute<R: Wait>(
     let geometry = geometry_of(settings)?;
     let hosts = hosts_of(alloc, geometry.block_size(), files)?;
     let jobs = jobs_of(alloc, hosts)?;
-    let told = run(rt, alloc, geometry, settings.limit, jobs.as_slice())?;
     let mut text = String::new(alloc);
-    push_jobs(&mut text, jobs.as_slice(), told)?;
+    run(
+        rt,
+        alloc,
+        geometry,
+        settings.limit,
+        jobs.as_slice(),
+        &mut text,
+    )?;
     Ok(Shown {
         text: text.into_bytes(),
         rec: None,

@@ -1,29 +1,13 @@
-ghost use Rattle.std.specs.Prelude.{◌≡◌, ◌++◌, OnOk, length, string_bytes};
-ghost use Rattle.nvm_engine.specs.Inside.Bodies.{AreOfJobs, IsOfBody};
-ghost use Rattle.nvm_engine.specs.Lines.{body_lines, job_lines};
+ghost use Rattle.std.specs.Prelude.{◌≡◌, ◌++◌, OnOk, string_bytes};
+ghost use Rattle.nvm_engine.specs.Inside.Bodies.{IsOfBody};
+ghost use Rattle.nvm_engine.specs.Lines.{body_lines};
 
 use nvm_plan::{Body, Completions, Job};
 use nvm_record::NoMemory;
 use nvm_text::push_line;
 
-/// Appends the lines of jobs, each with what its host is told at its place.
-pub(crate) fn push_jobs(
-    text: &mut String,
-    jobs: &[Job],
-    told: Vec<Completions>,
-) -> Result<(), NoMemory>
-    requires count { length told.items ≡ length jobs.now }
-    requires of_jobs { AreOfJobs jobs.now told.items }
-    ensures { OnOk result (string_bytes text.new ≡ string_bytes text.old ++ job_lines jobs.now told.items) }
-{
-    for (job, told) in jobs.iter().zip(told) {
-        push_job(text, job, told)?;
-    }
-    Ok(())
-}
-
 /// Appends a line for each command of a job.
-fn push_job(text: &mut String, job: &Job, told: Completions) -> Result<(), NoMemory>
+pub(crate) fn push_job(text: &mut String, job: &Job, told: Completions) -> Result<(), NoMemory>
     requires { IsOfBody job.now.body told }
     ensures { OnOk result (string_bytes text.new ≡ string_bytes text.old ++ body_lines job.now.body told) }
 {
