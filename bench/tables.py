@@ -135,6 +135,23 @@ def print_units(large, hot, little, with_instructions):
     table(heads, rows)
 
 
+def print_deallocates(rows, with_instructions):
+    """What one Deallocate costs: title, run, what is taken off, and the units met of each row."""
+    lines = []
+    for title, run, base, units in rows:
+        own = (run.processor - base.processor) / run.count
+        line = [title, f"{run.cleared:,}", f"{run.ranges:,}", f"{units:,}", f"{own * 1e6:,.1f}", f"{own / run.cleared * 1e9:,.0f}"]
+        if with_instructions:
+            count = (run.instructions - base.instructions) / run.count
+            line += [f"{count:,.0f}", f"{count / run.cleared:,.0f}", f"{count / run.ranges / units:,.0f}"]
+        line.append(f"{(run.memory - base.memory) / run.count / 1e3:,.1f}")
+        lines.append(line)
+    heads = ["A Deallocate of", "blocks cleared", "ranges", "units met", "µs of processor time", "ns a block"]
+    if with_instructions:
+        heads += ["instructions", "a block", "a range and unit"]
+    table([*heads, "peak KB"], lines)
+
+
 def model():
     """The processor's name, where the system gives it."""
     try:

@@ -155,6 +155,10 @@ COMMANDS = [
     unknown(0, 1, cid=65_535),
     read(0, 1, fuse=1),
     read(0, 1, fuse=3, cid=0),
+    dataset((13, 2), (3, 1)),
+    read(3, 12),
+    dataset((33, 0), (24, 1), (4, 1)),
+    read(3, 2),
 ]
 LINES = """1 1 write 0/00
 1 2 read 0/80
@@ -179,6 +183,10 @@ LINES = """1 1 write 0/00
 1 65535 op-7f 0/01
 1 22 read 0/0a
 1 0 read 0/02
+1 24 dataset 0/00
+1 25 read 0/00 512*00,3072*42,2560*00
+1 26 dataset 0/06
+1 27 read 0/00 1024*00
 """
 # Numbers that nvmu takes, and some that it refuses as words.
 TAKEN = {"workers": [1, 64], "limit": [1, 65_536], "nawun": [0, 9], "nacwu": [0, 9], "nabo": [0, 9], "nsze": [1, 40_954]}
@@ -300,8 +308,9 @@ def words_of_nvmu(run):
     run.expect(words("host.nvq"), out=LINES)
     apart = [word for option in words()[2:] for word in option.split("=")]
     run.expect(["nvmu", "run", "host.nvq", *apart], out=LINES)
-    run.keep("large.nvq", file_of([write(0, 0x41), read(0, 2)], 4096))
-    run.expect(words("large.nvq", block=4096), out="1 1 write 0/00\n1 2 read 0/00 4096*41,4096*00\n")
+    run.keep("large.nvq", file_of([write(0, 0x41, 0x42), dataset((1, 1)), read(0, 2)], 4096))
+    lines = "1 1 write 0/00\n1 2 dataset 0/00\n1 3 read 0/00 4096*41,4096*00\n"
+    run.expect(words("large.nvq", block=4096), out=lines)
     # Files in their order, before and after options, and one of them twice.
     for host, filler in (("a", 0x41), ("b", 0x42)):
         run.keep(host, file_of([write(0, filler), read(0, 1)]))

@@ -1,9 +1,14 @@
 """Runs of whole lists, and what must be printed of them: rows that were worked out by hand.
 
-The namespace has 32 blocks of 512 bytes in units of eight, and pairs have up to four blocks.
+The namespace has 32 blocks of 512 bytes in units of eight, or 65,536 in units of sixteen or in one unit, and pairs have up
+to four blocks.
 """
 
-SETTINGS = "--nsze 32 --block 512 --nabsn 7 --nabo 0 --nawun 7 --nacwu 3 --workers 1".split()
+
+def settings(nsze, nabsn):
+    return f"--nsze {nsze} --block 512 --nabsn {nabsn} --nabo 0 --nawun 7 --nacwu 3 --workers 1".split()
+
+
 # A range that ends far above 2^64.
 FAR = f"{2**64 - 1}+{2**32 - 1}"
 
@@ -67,8 +72,16 @@ RUNS = [
     # No pair has a Dataset Management.
     (
         100,
-        "compare 0 1 00 first / dataset 0+1 deallocate second / dataset 0+1 first / dataset 0+1 reserved",
-        "compare 0/02 / dataset 0/02 / dataset 0/0a / dataset 0/02",
+        "compare 0 1 00 first / dataset 0+1 deallocate second / dataset 0+1 first / write 0 1 41 second"
+        " / dataset 0+1 second / dataset 0+1 reserved",
+        "compare 0/02 / dataset 0/02 / dataset 0/02 / write 0/02 / dataset 0/0a / dataset 0/02",
+    ),
+    # Its checks in their order, each with the reasons that are looked for later, too.
+    (
+        100,
+        "write 0 1 41 / dataset 0+1,33+0 deallocate reserved nsid=2 / dataset 0+1,33+0 deallocate first nsid=2"
+        " / dataset 0+1,33+0 deallocate nsid=2 / dataset 0+1,33+0 deallocate / read 0 1",
+        "write 0/00 / dataset 0/02 / dataset 0/0a / dataset 0/0b / dataset 0/80 / read 0/00 512*41",
     ),
     # Ranges in any order, one twice: a change in each of two units, so that the next is one too many.
     (
@@ -76,11 +89,127 @@ RUNS = [
         "dataset 9+2,0+1,10+2 deallocate / zeroes 16 1 / dataset 5+0,16+0 deallocate / write 0 1 41 / write 8 1 41",
         "dataset 0/00 / zeroes 0/00 / dataset 0/00 / write 0/06 / write 0/06",
     ),
+    # One without the bit is no change, also of a unit that is full.
+    (
+        1,
+        "write 0 1 41 / dataset 0+1 / dataset 0+1 deallocate / read 0 1",
+        "write 0/00 / dataset 0/00 / dataset 0/06 / read 0/00 512*41",
+    ),
     # A unit that is full stops it. What was deallocated in lower units stays so.
     (
         2,
         "write 0 1 41 / write 8 1 41 / write 8 1 42 / dataset 8+1,0+1 deallocate / read 0 1 / read 8 1",
         "write 0/00 / write 0/00 / write 0/00 / dataset 0/06 / read 0/00 512*00 / read 0/00 512*42",
+    ),
+]
+
+# An order of 256 ranges in which neighbours lie far apart.
+MIXED = [place * 93 % 256 for place in range(256)]
+
+
+def deallocate(ranges, bit=" deallocate"):
+    """A Deallocate of these ranges, each its first LBA and its number of blocks."""
+    return f"dataset {','.join(f'{first}+{blocks}' for first, blocks in ranges)}{bit}"
+
+
+# Range k has the blocks of the units from 16k to 16k + 15.
+WHOLE_UNITS = deallocate((256 * k, 256) for k in MIXED)
+# All blocks but the first eight. Where one range ends, the next begins in the middle of a unit.
+HALF_UNITS = deallocate((8 + 256 * k, 248 if k == 255 else 256) for k in MIXED)
+# Block 257k is number k modulo 16 of unit 16k + k // 16.
+ONE_BLOCKS = deallocate((257 * k, 1) for k in MIXED)
+ONE_BLOCKS_UNITS = {16 * k + k // 16 for k in range(256)}
+ONE_BLOCKS_LEFT = "read 0/00 512*00" + ",131072*41,512*00" * 255
+# Blocks 1,000 to 5,999, from the middle of unit 62 to the end of unit 374.
+EQUAL = deallocate([(1000, 5000)] * 256)
+EQUAL_LEFT = "read 0/00 512000*41,2560000*00,30482432*41"
+# Blocks 5 to 32,900, the last of them in unit 2,056. A range begins in the middle of the one before it.
+HALVES = deallocate((5 + 128 * k, 256) for k in MIXED)
+HALVES_LEFT = "read 0/00 2560*41,16842752*00,16709120*41"
+# Only the last block of the last range is above NSZE.
+TOO_FAR = [*((256 * k, 256) for k in range(255)), (65_280, 257)]
+EMPTY = [*((256 * k, 0) for k in range(255)), (65_536, 0)]
+
+# A Write into each of the units of 16 blocks, and its lines where these units are full.
+WRITES = [f"write {16 * unit} 1 43" for unit in range(4096)]
+
+
+def writes_told(full):
+    return ["write 0/06" if unit in full else "write 0/00" for unit in range(4096)]
+
+
+# Runs on 65,536 blocks: NABSN, the limit, the commands, and the lines. What takes one change in each unit of a namespace that
+# had one less than the limit succeeds, and a change more is 0/06.
+LARGE_RUNS = [
+    # 256 ranges over 4,096 units, with data and marks in them.
+    (
+        15,
+        2,
+        ["write 0 32768 41", "uncorrectable 32768 32768", "read 65535 1", WHOLE_UNITS, "read 0 65536", *WRITES],
+        ["write 0/00", "uncorrectable 0/00", "read 2/81", "dataset 0/00", "read 0/00 33554432*00", *writes_told(range(4096))],
+    ),
+    (
+        15,
+        1,
+        [HALF_UNITS, *WRITES, "read 0 65536"],
+        ["dataset 0/00", *writes_told(range(4096)), "read 0/00 33554432*00"],
+    ),
+    (
+        15,
+        2,
+        ["write 0 65536 41", HALF_UNITS, "read 0 65536", *WRITES],
+        ["write 0/00", "dataset 0/00", "read 0/00 4096*41,33550336*00", *writes_told(range(4096))],
+    ),
+    # Unit 2,048 is full. The lower ones are deallocated, the others as they were.
+    (
+        15,
+        2,
+        ["write 0 65536 41", "write 32768 1 42", WHOLE_UNITS, "read 0 65536", *WRITES],
+        [
+            *["write 0/00", "write 0/00", "dataset 0/06", "read 0/00 16777216*00,512*42,16776704*41"],
+            *writes_told(range(2049)),
+        ],
+    ),
+    # One block of each of 256 units. Those beside it stay as they were.
+    (
+        15,
+        2,
+        ["write 0 65536 41", ONE_BLOCKS, "read 0 65536", *WRITES],
+        ["write 0/00", "dataset 0/00", ONE_BLOCKS_LEFT, *writes_told(ONE_BLOCKS_UNITS)],
+    ),
+    # Ranges that overlap.
+    (
+        15,
+        2,
+        ["write 0 65536 41", EQUAL, "read 0 65536", *WRITES],
+        ["write 0/00", "dataset 0/00", EQUAL_LEFT, *writes_told(range(62, 375))],
+    ),
+    (
+        15,
+        2,
+        ["write 0 65536 41", HALVES, "read 0 65536", *WRITES],
+        ["write 0/00", "dataset 0/00", HALVES_LEFT, *writes_told(range(2057))],
+    ),
+    # The same in one unit.
+    *(
+        (0, 2, ["write 0 65536 41", asked, "read 0 65536", "write 9 1 42"], ["write 0/00", "dataset 0/00", left, "write 0/06"])
+        for asked, left in [
+            (WHOLE_UNITS, "read 0/00 33554432*00"),
+            (HALF_UNITS, "read 0/00 4096*41,33550336*00"),
+            (ONE_BLOCKS, ONE_BLOCKS_LEFT),
+            (EQUAL, EQUAL_LEFT),
+            (HALVES, HALVES_LEFT),
+        ]
+    ),
+    # One range of 256 that ends above NSZE, ranges without a block, and ranges without the bit.
+    (
+        15,
+        1,
+        [
+            *["write 0 65536 41", deallocate(TOO_FAR), deallocate(TOO_FAR, ""), deallocate(EMPTY)],
+            *[deallocate([(0, 65_536)] * 256, ""), "read 0 65536"],
+        ],
+        ["write 0/00", "dataset 0/80", "dataset 0/80", "dataset 0/00", "dataset 0/00", "read 0/00 33554432*41"],
     ),
 ]
 
@@ -98,6 +227,9 @@ CUT = "write 0 1 41\nread 0 1\ndataset 0+1,1+1 deallocate\n"
 CUTS = [(3, "bad name"), (67, "truncated at 4"), (579, "truncated at 68"), (643, "truncated at 580"), (707, "truncated at 644")]
 CUTS += [(708 + 31, "truncated at 708")]
 CUTS_LINES = {644: "2 1 write 0/00\n2 2 read 0/00 512*41\n", 740: "2 1 write 0/00\n2 2 read 0/00 512*41\n2 3 dataset 0/00\n"}
+# What is left where each bit of a Dataset Management that isn't read is 1, by the byte with the Deallocate bit.
+BITS = "write 0 2 41\ndataset 1+1\nread 0 2\n"
+BITS_LEFT = {0xFF: "512*41,512*00", 0xFB: "1024*41"}
 
 
 def runs(run):
@@ -107,13 +239,17 @@ def runs(run):
         run.keep("run.list", text)
         run.expect(["nvq", "assemble", "run.list", name])
 
-    def ran(limit, *files, **told):
-        run.expect(["nvmu", "run", *SETTINGS, f"--limit={limit}", "--out=record", *files], **told)
+    def ran(limit, *files, nsze=32, nabsn=7, **told):
+        run.expect(["nvmu", "run", *settings(nsze, nabsn), f"--limit={limit}", "--out=record", *files], **told)
+
+    def answered(limit, asked, lines, **changed):
+        assembled("run.nvq", "\n".join(asked))
+        ran(limit, "run.nvq", out="".join(f"1 {cid} {line}\n" for cid, line in enumerate(lines, 1)), **changed)
 
     for limit, asked, lines in RUNS:
-        assembled("run.nvq", asked.replace(" / ", "\n"))
-        out = "".join(f"1 {cid} {line}\n" for cid, line in enumerate(lines.split(" / "), 1))
-        ran(limit, "run.nvq", out=out)
+        answered(limit, asked.split(" / "), lines.split(" / "))
+    for nabsn, limit, asked, lines in LARGE_RUNS:
+        answered(limit, asked, lines, nsze=65_536, nabsn=nabsn)
     assembled("empty.nvq", "")
     assembled("turns.nvq", TURNS)
     ran(100, *["empty.nvq"] * 62, "turns.nvq", "turns.nvq", out=TURNS_LINES)
@@ -126,3 +262,14 @@ def runs(run):
     for length, lines in CUTS_LINES.items():
         run.keep("cut.nvq", whole[:length])
         ran(100, "empty.nvq", "cut.nvq", out=lines)
+    assembled("bits.nvq", BITS)
+    with open(f"{run.folder}/bits.nvq", "rb") as file:
+        bits = bytearray(file.read())
+    # The entry is at 1,092, and its range behind it. FUSE stays 0, and the number of ranges 1.
+    bits[1093] = 0xFC
+    for at in [*range(8, 40), *range(41, 68)]:
+        bits[1092 + at] = 0xFF
+    for byte, left in BITS_LEFT.items():
+        bits[1092 + 44] = byte
+        run.keep("bits.nvq", bytes(bits))
+        ran(100, "bits.nvq", out=f"1 1 write 0/00\n1 2 dataset 0/00\n1 3 read 0/00 {left}\n")
