@@ -1,0 +1,10 @@
+//! Laws of the definitions alone.
+ghost use Rattle.std.specs.Prelude.{ℕ, ◌<◌, List, length};
+ghost use Rattle.nvm_run.specs.Claims.{ClaimState, IsClaims, HaveEnded, AreDoneOnce};
+
+/// Where each of one or more workers did its drawn numbers below the number of jobs, and drew one past them,
+/// each job is done once, and nothing else is done.
+pub fn each_job_is_done_once()
+    ensures { (jobs : ℕ) (s : ClaimState) (dones : List (List ℕ))
+        → IsClaims jobs s → 0 < length s.lists → HaveEnded jobs dones s.lists → AreDoneOnce jobs dones }
+{}

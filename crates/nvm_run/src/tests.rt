@@ -1,0 +1,1 @@
+//! Workers that draw numbers.
