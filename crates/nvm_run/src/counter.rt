@@ -61,6 +61,7 @@ impl Counter {
         ensures of { claim.new.table ≡ claim.old.table }
         ensures job { IfSome result (λ n. (n < self.now.jobs) × (claim.new.drawn ≡ claim.old.drawn ++ n ∷ [])) }
         ensures rises { IfSome result (λ n. All (λ x. x < n) claim.old.drawn) }
+        ensures goes_on { IfSome result (λ n. All (λ x. x < self.now.jobs) claim.new.drawn) }
         ensures ended { IsNone result → HasEnded self.now.jobs claim.old.drawn claim.new.drawn }
     {
         let number = steps::draw(&self.desk, &mut claim.token);

@@ -1,1 +1,2 @@
 //! Workers that draw numbers.
+mod threads;
