@@ -4,3 +4,4 @@ pub mod Sharing
 pub mod Stepping
 pub mod DoneOnce
 pub mod Dealt
+pub mod Drawing

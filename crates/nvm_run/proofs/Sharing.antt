@@ -15,7 +15,7 @@ use Rattle.nvm_run.proofs.Places.{all_at}
 use Rattle.nvm_run.proofs.Totals.{ones, sum_one, total_draw, total_split, total_join, total_of_all, past_few}
 
 -- One number more comes.
-come_once_more : (word : ℕ) (f g : ℕ → ℕ) → ComeOnceBelow word f → ((x : ℕ) → g x ≡ f x + cond {A = ℕ} (eqb word x) 1 0) → ComeOnceBelow (word + 1) g
+pub come_once_more : (word : ℕ) (f g : ℕ → ℕ) → ComeOnceBelow word f → ((x : ℕ) → g x ≡ f x + cond {A = ℕ} (eqb word x) 1 0) → ComeOnceBelow (word + 1) g
 come_once_more word f g once more =
     record {
       below = λ x lt.
@@ -44,7 +44,7 @@ same_counts word f g once same =
       others = λ x le. same x ∙ once.others x le;
     }
 
-drawn_later : (jobs word : ℕ) (drawn : List ℕ) → IsDrawn jobs word drawn → IsDrawn jobs (word + 1) drawn
+pub drawn_later : (jobs word : ℕ) (drawn : List ℕ) → IsDrawn jobs word drawn → IsDrawn jobs (word + 1) drawn
 drawn_later jobs word drawn is =
     record {
       below = All-weaker (λ x. x < word) (λ x. x < word + 1) (λ x lt. omega arith) drawn is.below;
@@ -52,7 +52,7 @@ drawn_later jobs word drawn is =
       jobs_first = is.jobs_first;
     }
 
-drawn_more : (jobs word : ℕ) (drawn : List ℕ) → IsDrawn jobs word drawn → All (λ x. x < jobs) drawn → IsDrawn jobs (word + 1) (drawn ++ word ∷ [])
+pub drawn_more : (jobs word : ℕ) (drawn : List ℕ) → IsDrawn jobs word drawn → All (λ x. x < jobs) drawn → IsDrawn jobs (word + 1) (drawn ++ word ∷ [])
 drawn_more jobs word drawn is low =
     record {
       below = All-push (λ x. x < word + 1) drawn word (drawn_later jobs word drawn is).below (omega arith);
@@ -128,12 +128,20 @@ shared_join b word groups id other lists others shared at other_at theirs =
     }
 
 -- Nobody has drawn anything.
-counts_nothing : (h : List ℕ → ℕ) (n : ℕ) → h [] ≡ 0 → sum_by h (replicate n []) ≡ 0
+pub counts_nothing : (h : List ℕ → ℕ) (n : ℕ) → h [] ≡ 0 → sum_by h (replicate n []) ≡ 0
 counts_nothing h zero none = refl
 counts_nothing h (suc n) none =
     let rest : sum_by h (replicate n []) ≡ 0 = counts_nothing h n none in
     let cons : sum_by h ([] ∷ replicate n []) ≡ h [] + sum_by h (replicate n []) = sum_by-cons h [] (replicate n []) in
     omega arith
+
+pub new_list : (jobs : ℕ) → IsDrawn jobs 0 []
+new_list jobs =
+    record {
+      below = All-nil (λ x. x < 0);
+      rises = λ i j d lt in'. absurd (omega arith);
+      jobs_first = λ i j d lt in'. absurd (omega arith);
+    }
 
 pub shared_opening : (b : Bounds) → IsShared b 0 (no_numbers b ∷ [])
 shared_opening b =
@@ -141,9 +149,7 @@ shared_opening b =
     let nothing : (h : List ℕ → ℕ) → h [] ≡ 0 → total h (lists ∷ []) ≡ 0 = λ h none. sum_one (sum_by h) lists ∙ counts_nothing h b.workers none in
     record {
       once = record { below = λ x lt. absurd (omega arith); others = λ x le. nothing (times x) refl };
-      each = All-cons (All (IsDrawn b.jobs 0)) lists [] (All-replicate (IsDrawn b.jobs 0) b.workers []
-          (record { below = All-nil (λ x. x < 0); rises = λ i j d lt in'. absurd (omega arith); jobs_first = λ i j d lt in'. absurd (omega arith) }))
-          (All-nil (All (IsDrawn b.jobs 0)));
+      each = All-cons (All (IsDrawn b.jobs 0)) lists [] (All-replicate (IsDrawn b.jobs 0) b.workers [] (new_list b.jobs)) (All-nil (All (IsDrawn b.jobs 0)));
       count = sum_one (sum_by (λ d. 1)) lists ∙ (ones lists ∙ length-replicate b.workers []);
       few = omega arith;
     }

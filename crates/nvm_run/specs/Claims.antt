@@ -1,6 +1,7 @@
 -- Which numbers workers have drawn from a counter, and which jobs they have done by them.
-use Rattle.std.specs.Prelude.{◌≡◌, ℕ, ◌<◌, ◌≤◌, ◌==◌, List, [], ◌∷◌, ◌++◌, All, AllPairs, sum_by, count_by}
+use Rattle.std.specs.Prelude.{◌≡◌, ℕ, ◌+◌, ◌<◌, ◌≤◌, ◌==◌, List, [], ◌∷◌, ◌++◌, replicate, slice_set, All, AllPairs, sum_by, count_by}
 use Rattle.std.specs.List.{AllZip}
+use Rattle.nvm_record.specs.Lists.{IsAt}
 
 -- the counter's word, and for each worker the numbers that it has drawn, in their order
 pub record ClaimState : Type 0 where
@@ -30,6 +31,19 @@ pub record IsDrawn (jobs word : ℕ) (drawn : List ℕ) : Type 0 where
 pub record IsClaims (jobs : ℕ) (s : ClaimState) : Type 0 where
   pub once : ComeOnceBelow s.word (λ x. times_in x s.lists)
   pub each : All (IsDrawn jobs s.word) s.lists
+
+-- nobody has drawn anything
+abbrev pub opening_claims : ℕ → ClaimState
+opening_claims workers = record { word = 0; lists = replicate workers [] }
+
+-- The one kind of step: a worker whose numbers are all jobs' draws the word, which becomes one more.
+pub record Draws (jobs : ℕ) (s t : ClaimState) : Type 0 where
+  pub worker : ℕ
+  pub drawn : List ℕ
+  pub at : IsAt s.lists worker drawn
+  pub goes_on : All (λ x. x < jobs) drawn
+  pub word : t.word ≡ s.word + 1
+  pub lists : t.lists ≡ slice_set s.lists worker (drawn ++ s.word ∷ [])
 
 -- A worker that had drawn `done` found no job left: it has drawn one number more, past them.
 pub record HasEnded (jobs : ℕ) (done drawn : List ℕ) : Type 0 where

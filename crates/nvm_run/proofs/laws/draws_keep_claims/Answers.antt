@@ -1,0 +1,8 @@
+use Rattle.nvm_run.proofs.Drawing.{opening_is, draw_keeps}
+use Rattle.nvm_run.proofs.laws.draws_keep_claims.Goals as goal
+
+pub returns-clause-opening : goal.returns-clause-opening
+returns-clause-opening c = opening_is
+
+pub returns-clause-draw : goal.returns-clause-draw
+returns-clause-draw c = draw_keeps
