@@ -1,8 +1,8 @@
 -- A draw leads from claims to claims.
-use Rattle.std.proofs.Common.{◌≡◌, ℕ, ◌+◌, List, [], ◌∷◌, ◌++◌, set, subst, refl, sym, arith, eqb, cond}
+use Rattle.std.proofs.Common.{◌≡◌, ℕ, zero, suc, ◌+◌, List, [], ◌∷◌, ◌++◌, set, subst, refl, sym, arith, eqb, cond}
 use Rattle.std.proofs.lemmas.List.Sums.{sum_by_push}
 use Rattle.std.proofs.lemmas.List.Elements.{All-set, All-weaker, All-replicate}
-use Rattle.nvm_run.specs.Claims.{ClaimState, IsClaims, IsDrawn, opening_claims, Draws, times, times_in}
+use Rattle.nvm_run.specs.Claims.{ClaimState, IsClaims, IsDrawn, opening_claims, Draws, DrawsLead, IsReached, times, times_in}
 use Rattle.nvm_run.proofs.Places.{all_at}
 use Rattle.nvm_run.proofs.Sharing.{come_once_more, drawn_later, drawn_more, counts_nothing, new_list}
 use Rattle.nvm_run.proofs.Totals.{sum_set}
@@ -31,3 +31,10 @@ draw_keeps jobs s t claims draw =
     } in
     let there : (let x : ClaimState = record { word = s.word + 1; lists = lists } in x) ≡ t = λ i. record { word = sym draw.word i; lists = sym draw.lists i } in
     subst (IsClaims jobs) there after
+
+led : (jobs n : ℕ) (s t : ClaimState) → DrawsLead jobs n s t → IsClaims jobs s → IsClaims jobs t
+led jobs zero s t is claims = subst (IsClaims jobs) (sym is) claims
+led jobs (suc n) s t draws claims = draw_keeps jobs draws.0 t (led jobs n s draws.0 draws.1 claims) draws.2
+
+pub reached_are_claims : (jobs workers : ℕ) (s : ClaimState) → IsReached jobs workers s → IsClaims jobs s
+reached_are_claims jobs workers s reached = led jobs reached.0 (opening_claims workers) s reached.1 (opening_is jobs workers)

@@ -5,3 +5,4 @@ pub mod Stepping
 pub mod DoneOnce
 pub mod Dealt
 pub mod Drawing
+pub mod Coming

@@ -9,8 +9,9 @@ use mathlib.Core.Logic.{dite}
 use native.Mathlib.Decide.{dec_le, ℕ_discrete}
 use Rattle.nvm_record.specs.Lists.{IsAt}
 use Rattle.nvm_run.specs.declared.bounds.Bounds.{Bounds}
-use Rattle.nvm_run.specs.Claims.{ComeOnceBelow, IsDrawn, IsClaims, times}
+use Rattle.nvm_run.specs.Claims.{ComeOnceBelow, IsDrawn, IsClaims, HasCome, times}
 use Rattle.nvm_run.specs.Inside.Rule.{IsShared, total, past, no_numbers}
+use Rattle.nvm_run.proofs.Coming.{come_draw, come_moved, come_opening, come_to_the_end}
 use Rattle.nvm_run.proofs.Places.{all_at}
 use Rattle.nvm_run.proofs.Totals.{ones, sum_one, total_draw, total_split, total_join, total_of_all, past_few}
 
@@ -89,6 +90,7 @@ shared_draw b word groups id drawn shared at low =
       count = (let s : total (λ d. 1) now + 1 ≡ total (λ d. 1) groups + 1 = total_draw (λ d. 1) groups id drawn new at in
           let n : total (λ d. 1) groups ≡ b.workers = shared.count in
           omega arith);
+      come = come_draw b word groups id drawn shared.come at low;
       few = dite (dec_le b.jobs word)
           (λ le. let c : cond {A = ℕ} (leb b.jobs word) 1 0 ≡ 1 = ap (λ (t : Bool). cond {A = ℕ} t 1 0) (le-leb b.jobs word le) in omega arith)
           (λ not. omega arith);
@@ -105,6 +107,7 @@ shared_split b word groups id lists shared at =
       once = same_counts word (λ x. total (times x) groups) (λ x. total (times x) now) shared.once (λ x. same (times x));
       each = All-push (All P) (set groups id (take 1 lists)) (drop 1 lists) (All-set (All P) groups id (take 1 lists) (All-take P 1 lists mine) shared.each) (All-drop P 1 lists mine);
       count = same (λ d. 1) ∙ shared.count;
+      come = come_moved b word groups now shared.come same;
       few = (let s : total (past b.jobs) now ≡ total (past b.jobs) groups = same (past b.jobs) in
           let few : word ≤ b.jobs + total (past b.jobs) groups = shared.few in
           omega arith);
@@ -122,6 +125,7 @@ shared_join b word groups id other lists others shared at other_at theirs =
       once = same_counts word (λ x. total (times x) groups) (λ x. total (times x) now) shared.once (λ x. same (times x));
       each = All-set (All P) (set groups id (lists ++ others)) other [] (All-nil P) (All-set (All P) groups id (lists ++ others) (All-append P lists others mine theirs) shared.each);
       count = same (λ d. 1) ∙ shared.count;
+      come = come_moved b word groups now shared.come same;
       few = (let s : total (past b.jobs) now ≡ total (past b.jobs) groups = same (past b.jobs) in
           let few : word ≤ b.jobs + total (past b.jobs) groups = shared.few in
           omega arith);
@@ -151,6 +155,7 @@ shared_opening b =
       once = record { below = λ x lt. absurd (omega arith); others = λ x le. nothing (times x) refl };
       each = All-cons (All (IsDrawn b.jobs 0)) lists [] (All-replicate (IsDrawn b.jobs 0) b.workers [] (new_list b.jobs)) (All-nil (All (IsDrawn b.jobs 0)));
       count = sum_one (sum_by (λ d. 1)) lists ∙ (ones lists ∙ length-replicate b.workers []);
+      come = come_opening b;
       few = omega arith;
     }
 
@@ -171,3 +176,7 @@ claims_at_the_end b word groups id lists shared at all =
           (λ x. sym (total_of_all (times x) groups id lists at (shared.count ∙ sym all)));
       each = all_at (All (IsDrawn b.jobs word)) groups id lists shared.each at;
     }
+
+pub come_with_all : (b : Bounds) (word : ℕ) (groups : List (List (List ℕ))) (id : ℕ) (lists : List (List ℕ)) → IsShared b word groups → IsAt groups id lists
+    → length lists ≡ b.workers → HasCome b.jobs b.workers word lists
+come_with_all b word groups id lists shared at all = come_to_the_end b word groups id lists shared.come at (shared.count ∙ sym all)

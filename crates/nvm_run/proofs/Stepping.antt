@@ -6,11 +6,11 @@ use Rattle.atomic_table.specs.Table.{State, Step, Act, keeps, stepped, Valid, ca
 use Rattle.atomic_table.proofs.Lists.{set_else}
 use Rattle.nvm_record.specs.Lists.{IsAt}
 use Rattle.nvm_run.specs.declared.bounds.Bounds.{Bounds}
-use Rattle.nvm_run.specs.Claims.{IsDrawn, IsClaims}
+use Rattle.nvm_run.specs.Claims.{IsDrawn, IsClaims, HasCome}
 use Rattle.nvm_run.specs.Inside.Rule.{IsRuled, no_numbers}
 use Rattle.nvm_run.specs.Inside.Plays.{Sits, resting, HasDrawn, draws}
 use Rattle.nvm_run.proofs.Places.{all_at}
-use Rattle.nvm_run.proofs.Sharing.{drawn_at, shared_draw, shared_split, shared_join, shared_opening, word_small, claims_at_the_end}
+use Rattle.nvm_run.proofs.Sharing.{drawn_at, shared_draw, shared_split, shared_join, shared_opening, word_small, claims_at_the_end, come_with_all}
 
 -- What a step owes at a word.
 abbrev Owes : Bounds → State (Unit {0}) (List (List ℕ)) → ℕ → Sits → (ℕ → Sits → Type 0) → List ℕ → Type 0
@@ -84,10 +84,13 @@ opening_ruled b jobs workers =
 
 -- The word at the end, and the lists of the last seat.
 pub closing : (b : Bounds) (id : ℕ) (lists : List (List ℕ)) (words : List ℕ) (slots : List (Unit {0})) (word : ℕ) → length lists ≡ b.workers
-    → get_elem? words 0 ≡ some word → Final (Seen (IsRuled b) id lists) words slots → IsClaims b.jobs (record { word = word; lists = lists })
+    → get_elem? words 0 ≡ some word → Final (Seen (IsRuled b) id lists) words slots
+    → IsClaims b.jobs (record { word = word; lists = lists }) × HasCome b.jobs b.workers word lists
 closing b id lists words slots word all read final =
     let ruled = final.1.0 in
     let there : ruled.word ∷ [] ≡ words = sym ruled.words ∙ final.2 in
     let same : ruled.word ≡ word = some-injective ruled.word word (ap (λ (ws : List ℕ). get_elem? ws 0) there ∙ read) in
-    subst (λ (n : ℕ). IsClaims b.jobs (record { word = n; lists = lists })) same
-    (claims_at_the_end b ruled.word final.0.views id lists ruled.claims final.1.1 all)
+    subst (λ (n : ℕ). IsClaims b.jobs (record { word = n; lists = lists }) × HasCome b.jobs b.workers n lists) same (
+      claims_at_the_end b ruled.word final.0.views id lists ruled.claims final.1.1 all,
+      come_with_all b ruled.word final.0.views id lists ruled.claims final.1.1 all,
+    )

@@ -1,5 +1,5 @@
 -- Which numbers workers have drawn from a counter, and which jobs they have done by them.
-use Rattle.std.specs.Prelude.{◌≡◌, ℕ, ◌+◌, ◌<◌, ◌≤◌, ◌==◌, List, [], ◌∷◌, ◌++◌, replicate, slice_set, All, AllPairs, sum_by, count_by}
+use Rattle.std.specs.Prelude.{◌≡◌, ℕ, zero, suc, ◌+◌, ◌<◌, ◌≤◌, ◌==◌, List, [], ◌∷◌, ◌++◌, replicate, slice_set, All, AllPairs, sum_by, count_by, IsPermutation}
 use Rattle.std.specs.List.{AllZip}
 use Rattle.nvm_record.specs.Lists.{IsAt}
 
@@ -44,6 +44,20 @@ pub record Draws (jobs : ℕ) (s t : ClaimState) : Type 0 where
   pub goes_on : All (λ x. x < jobs) drawn
   pub word : t.word ≡ s.word + 1
   pub lists : t.lists ≡ slice_set s.lists worker (drawn ++ s.word ∷ [])
+
+-- So many draws lead from s to t, one after the other.
+abbrev pub DrawsLead : ℕ → ℕ → ClaimState → ClaimState → Type 0
+DrawsLead jobs zero s t = t ≡ s
+DrawsLead jobs (suc n) s t = (u : ClaimState) × DrawsLead jobs n s u × Draws jobs u t
+
+-- Some number of draws by so many workers leads to this state.
+abbrev pub IsReached : ℕ → ℕ → ClaimState → Type 0
+IsReached jobs workers s = (n : ℕ) × DrawsLead jobs n (opening_claims workers) s
+
+-- Draws led to this word and to these lists, in some order of the workers.
+abbrev pub HasCome : ℕ → ℕ → ℕ → List (List ℕ) → Type 0
+HasCome jobs workers word lists =
+    (s : ClaimState) × IsReached jobs workers s × (s.word ≡ word) × IsPermutation s.lists lists
 
 -- A worker that had drawn `done` found no job left: it has drawn one number more, past them.
 pub record HasEnded (jobs : ℕ) (done drawn : List ℕ) : Type 0 where

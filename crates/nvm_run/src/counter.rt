@@ -1,5 +1,5 @@
 ghost use Rattle.std.specs.Prelude.{◌≡◌, ◌<◌, ◌++◌, [], ◌∷◌, All, replicate, IfOk, IfSome, IsNone};
-ghost use Rattle.nvm_run.specs.Claims.{IsClaims, HasEnded};
+ghost use Rattle.nvm_run.specs.Claims.{IsClaims, HasCome, HasEnded};
 ghost use Rattle.nvm_run.specs.Counters.{IsWorkerCount, new_claim, lists_of, AreAllClaimsOf};
 
 use crate::bounds::Bounds;
@@ -76,7 +76,8 @@ impl Counter {
     /// [`Counter::open`] gave with it, in any order. It takes no memory, and waits for nothing.
     pub fn close(self, claims: Vec<Claim>) -> u64
         requires { AreAllClaimsOf self claims.items }
-        ensures { IsClaims self.jobs (record { word = result; lists = lists_of claims.items }) }
+        ensures claims { IsClaims self.jobs (record { word = result; lists = lists_of claims.items }) }
+        ensures draws { HasCome self.jobs self.workers result (lists_of claims.items) }
     {
         let Counter { desk, bounds: _ } = self;
         let token = gather(&desk, claims);

@@ -1,7 +1,7 @@
 //! The atomic steps on a counter's word. They alone have the table and its seats, so nothing else writes what
 //! a claim knows.
 ghost use Rattle.std.specs.Prelude.{◌≡◌, ℕ, ◌<◌, List, [], ◌∷◌, ◌++◌, All, take, drop, length, IfOk};
-ghost use Rattle.nvm_run.specs.Claims.{IsClaims};
+ghost use Rattle.nvm_run.specs.Claims.{IsClaims, HasCome};
 ghost use Rattle.nvm_run.specs.Inside.Rule.{no_numbers};
 ghost use Rattle.nvm_run.specs.Inside.Plays.{resting, HasDrawn};
 
@@ -78,7 +78,8 @@ pub fn open(alloc: Global, bounds: Bounds) -> Result<(Desk, Token), NoMemory>
 pub fn close(desk: Desk, token: Token) -> u64
     requires at { token.seat.table_id ≡ desk.table.shared.table_id }
     requires all { length token.seat.me.0 ≡ desk.table.shared.key.workers }
-    ensures { IsClaims desk.table.shared.key.jobs (record { word = result; lists = token.seat.me.0 }) }
+    ensures claims { IsClaims desk.table.shared.key.jobs (record { word = result; lists = token.seat.me.0 }) }
+    ensures draws { HasCome desk.table.shared.key.jobs desk.table.shared.key.workers result token.seat.me.0 }
 {
     let Desk { table } = desk;
     let Token { seat } = token;
