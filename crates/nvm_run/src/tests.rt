@@ -1,0 +1,2 @@
+//! Workers that draw numbers.
+mod threads;
