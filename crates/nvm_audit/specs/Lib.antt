@@ -1,0 +1,9 @@
+pub mod RecordedJob
+pub mod RecordedRun
+pub mod Recordable
+pub mod Shown
+pub mod RecordedPart
+pub mod Resting
+pub mod LawfulUnit
+pub mod LawfulRecord
+pub mod RecordedCalls
