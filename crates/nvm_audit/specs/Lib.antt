@@ -7,3 +7,4 @@ pub mod Resting
 pub mod LawfulUnit
 pub mod LawfulRecord
 pub mod RecordedCalls
+pub mod Inside

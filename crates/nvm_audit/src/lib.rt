@@ -7,6 +7,7 @@
 
 mod done_job;
 mod record;
+mod sameness;
 mod version;
 
 pub use done_job::DoneJob;
