@@ -7,4 +7,5 @@ pub mod Resting
 pub mod LawfulUnit
 pub mod LawfulRecord
 pub mod RecordedCalls
+pub mod OneAct
 pub mod Inside

@@ -6,6 +6,7 @@
 #![tactic(auto)]
 
 mod done_job;
+pub mod laws;
 mod record;
 mod sameness;
 mod version;

@@ -1,0 +1,61 @@
+-- What stands at a place of a list that is made of others.
+use Rattle.std.proofs.Common.{◌≡◌, ◌⊎◌, ℕ, zero, suc, ◌<◌, List, [], ◌∷◌, ◌++◌, length, filter, cond, Bool, true, false, get_or, refl, sym, subst, arith, inl, inr, All}
+use Rattle.std.proofs.lemmas.List.Elements.{All-head, All-tail}
+use Rattle.std.specs.List.{flat_map}
+use mathlib.Core.Option.{some-injective, some-ne-none}
+use Rattle.nvm_record.specs.Lists.{IsAt}
+
+-- It stands somewhere in the list.
+abbrev pub Stands : {A : Type 0} → List A → A → Type 0
+Stands xs x = (i : ℕ) × IsAt xs i x
+
+module _ {A : Type 0} where
+  pub none_stands : (i : ℕ) (x : A) → IsAt [] i x → ⊥
+  none_stands i x e = some-ne-none x (sym e)
+
+  pub below : (xs : List A) (i : ℕ) (x : A) → IsAt xs i x → i < length xs
+  below [] i x e = absurd (none_stands i x e)
+  below (y ∷ ys) zero x e = omega arith
+  below (y ∷ ys) (suc i) x e = let h = below ys i x e in omega arith
+
+  pub read_there : (xs : List A) (i : ℕ) (d : A) → i < length xs → IsAt xs i (get_or xs i d)
+  read_there [] i d lt = absurd (omega arith)
+  read_there (y ∷ ys) zero d lt = refl
+  read_there (y ∷ ys) (suc i) d lt = read_there ys i d (omega arith)
+
+  -- what stands in a list of one
+  pub alone : (y : A) (i : ℕ) (x : A) → IsAt (y ∷ []) i x → (i ≡ 0) × (x ≡ y)
+  alone y zero x e = (refl, sym (some-injective y x e))
+  alone y (suc i) x e = absurd (none_stands i x e)
+
+  pub in_append : (xs ys : List A) (i : ℕ) (x : A) → IsAt (xs ++ ys) i x → Stands xs x ⊎ Stands ys x
+  in_append [] ys i x e = inr (i, e)
+  in_append (y ∷ xs) ys zero x e = inl (zero, e)
+  in_append (y ∷ xs) ys (suc i) x e = elim (in_append xs ys i x e) [
+    | inl here ↦ inl (suc here.0, here.1)
+    | inr after ↦ inr after
+  ]
+
+  pub in_filter : (f : A → Bool) (xs : List A) (i : ℕ) (x : A) → IsAt (filter f xs) i x → (f x ≡ true) × Stands xs x
+  in_filter f [] i x e = absurd (none_stands i x e)
+  in_filter f (y ∷ ys) i x e = by (λ j h. in_filter f ys j x h) (f y) refl i e
+    where
+      by : ((j : ℕ) → IsAt (filter f ys) j x → (f x ≡ true) × Stands ys x) → (b : Bool) → f y ≡ b → (i : ℕ)
+          → IsAt (cond b (y ∷ filter f ys) (filter f ys)) i x → (f x ≡ true) × Stands (y ∷ ys) x
+      by behind true t zero e = let same : y ≡ x = some-injective y x e in (rw same at t, (zero, e))
+      by behind true t (suc i) e = let rest = behind i e in (rest.0, (suc rest.1.0, rest.1.1))
+      by behind false t i e = let rest = behind i e in (rest.0, (suc rest.1.0, rest.1.1))
+
+  -- What is so of all is so of what stands there.
+  pub all_at : (P : A → Type 0) (xs : List A) → All P xs → (i : ℕ) (x : A) → IsAt xs i x → P x
+  all_at P [] all i x e = absurd (none_stands i x e)
+  all_at P (y ∷ ys) all zero x e = subst P (some-injective y x e) (All-head P y ys all)
+  all_at P (y ∷ ys) all (suc i) x e = all_at P ys (All-tail P y ys all) i x e
+
+module _ {A B : Type 0} where
+  pub in_flat_map : (f : A → List B) (xs : List A) (i : ℕ) (y : B) → IsAt (flat_map f xs) i y → (x : A) × Stands xs x × Stands (f x) y
+  in_flat_map f [] i y e = absurd (none_stands i y e)
+  in_flat_map f (x ∷ xs) i y e = elim (in_append (f x) (flat_map f xs) i y e) [
+    | inl here ↦ (x, (zero, refl), here)
+    | inr after ↦ let rest = in_flat_map f xs after.0 y after.1 in (rest.0, (suc rest.1.0, rest.1.1), rest.2)
+  ]
