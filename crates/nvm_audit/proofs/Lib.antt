@@ -5,3 +5,5 @@ pub mod PartsFrom
 pub mod NoJobs
 pub mod Unrefused
 pub mod OneActs
+pub mod Told
+pub mod RecordRuns

@@ -1,5 +1,5 @@
 -- What stands at a place of a list that is made of others.
-use Rattle.std.proofs.Common.{◌≡◌, ◌⊎◌, ℕ, zero, suc, ◌<◌, List, [], ◌∷◌, ◌++◌, length, filter, cond, Bool, true, false, get_or, refl, sym, subst, arith, inl, inr, All}
+use Rattle.std.proofs.Common.{◌≡◌, ◌⊎◌, ℕ, zero, suc, ◌<◌, List, [], ◌∷◌, ◌++◌, length, filter, cond, Bool, true, false, get_or, refl, sym, subst, ◌∙◌, Contains, arith, inl, inr, All}
 use Rattle.std.proofs.lemmas.List.Elements.{All-head, All-tail}
 use Rattle.std.specs.List.{flat_map}
 use mathlib.Core.Option.{some-injective, some-ne-none}
@@ -23,6 +23,18 @@ module _ {A : Type 0} where
   read_there (y ∷ ys) zero d lt = refl
   read_there (y ∷ ys) (suc i) d lt = read_there ys i d (omega arith)
 
+  pub read_is : (xs : List A) (i : ℕ) (x d : A) → IsAt xs i x → get_or xs i d ≡ x
+  read_is [] i x d e = absurd (none_stands i x e)
+  read_is (y ∷ ys) zero x d e = some-injective y x e
+  read_is (y ∷ ys) (suc i) x d e = read_is ys i x d e
+
+  -- One thing stands at a place.
+  pub one_there : (xs : List A) (i : ℕ) (x y : A) → IsAt xs i x → IsAt xs i y → x ≡ y
+  one_there xs i x y e f = some-injective x y (sym e ∙ f)
+
+  pub contained : (xs : List A) (i : ℕ) (x : A) → IsAt xs i x → Contains xs x
+  contained xs i x e = (i, below xs i x e, read_is xs i x x e)
+
   -- what stands in a list of one
   pub alone : (y : A) (i : ℕ) (x : A) → IsAt (y ∷ []) i x → (i ≡ 0) × (x ≡ y)
   alone y zero x e = (refl, sym (some-injective y x e))
@@ -45,6 +57,22 @@ module _ {A : Type 0} where
       by behind true t zero e = let same : y ≡ x = some-injective y x e in (rw same at t, (zero, e))
       by behind true t (suc i) e = let rest = behind i e in (rest.0, (suc rest.1.0, rest.1.1))
       by behind false t i e = let rest = behind i e in (rest.0, (suc rest.1.0, rest.1.1))
+
+  -- What stands before another thing among those that pass a test stands before it among all.
+  pub filter_order : (f : A → Bool) (xs : List A) (i j : ℕ) (x y : A) → IsAt (filter f xs) i x → IsAt (filter f xs) j y → i < j
+      → (a b : ℕ) × IsAt xs a x × IsAt xs b y × (a < b)
+  filter_order f [] i j x y e h lt = absurd (none_stands i x e)
+  filter_order f (z ∷ zs) i j x y e h lt =
+      by (λ a b p q below. filter_order f zs a b x y p q below) (λ b q. in_filter f zs b y q) (f z) i j e h lt
+    where
+      by : ((a b : ℕ) → IsAt (filter f zs) a x → IsAt (filter f zs) b y → a < b → (c d : ℕ) × IsAt zs c x × IsAt zs d y × (c < d))
+          → ((b : ℕ) → IsAt (filter f zs) b y → (f y ≡ true) × Stands zs y)
+          → (t : Bool) (i j : ℕ) → IsAt (cond t (z ∷ filter f zs) (filter f zs)) i x → IsAt (cond t (z ∷ filter f zs) (filter f zs)) j y → i < j
+          → (a b : ℕ) × IsAt (z ∷ zs) a x × IsAt (z ∷ zs) b y × (a < b)
+      by behind after true i zero e h lt = absurd (omega arith)
+      by behind after true zero (suc j) e h lt = let rest = after j h in (0, suc rest.1.0, e, rest.1.1, omega arith)
+      by behind after true (suc i) (suc j) e h lt = let rest = behind i j e h (omega arith) in (suc rest.0, suc rest.1, rest.2, rest.3, omega (arith, rest.4))
+      by behind after false i j e h lt = let rest = behind i j e h lt in (suc rest.0, suc rest.1, rest.2, rest.3, omega (arith, rest.4))
 
   -- What is so of all is so of what stands there.
   pub all_at : (P : A → Type 0) (xs : List A) → All P xs → (i : ℕ) (x : A) → IsAt xs i x → P x
