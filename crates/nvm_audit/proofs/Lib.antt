@@ -7,3 +7,5 @@ pub mod Unrefused
 pub mod OneActs
 pub mod Told
 pub mod RecordRuns
+pub mod Held
+pub mod DoneParts

@@ -1,21 +1,62 @@
 //! What holds of records by their definition alone. Each law is a call that does nothing and whose contract is the law.
 
-ghost use Rattle.std.specs.Prelude.{◌≡◌, ℕ, List, [], ◌∷◌};
+ghost use Rattle.std.specs.Prelude.{◌≡◌, ℕ, ◌*◌, ◌<◌, List, [], ◌∷◌, length, Some, None};
+ghost use Rattle.nvm_record.specs.Deeds.{IsAct, success_of};
 ghost use Rattle.nvm_record.specs.Lists.{IsAt};
 ghost use Rattle.nvm_record.specs.Medium.{zero_medium};
 ghost use Rattle.nvm_record.specs.Step.{Operation};
+ghost use Rattle.nvm_geometry.specs.Faults.{IsValid};
+ghost use Rattle.nvm_plan.specs.declared.job.Job.{Job};
+ghost use Rattle.nvm_plan.specs.declared.part.PartResult.TheVariants.{Done};
+ghost use Rattle.nvm_plan.specs.JobPart.{ready_operation, job_part_in};
+ghost use Rattle.nvm_plan.specs.Shape.{HasOutcomeShape};
+ghost use Rattle.nvm_plan.specs.UnitPlace.{IsUnitPlace};
+ghost use Rattle.nvm_store.specs.declared.place.Place.{Place as UnitPlace};
 ghost use Rattle.nvm_store.specs.HistoryEntry.{HistoryEntry};
 ghost use Rattle.nvm_store.specs.PlacedRun.{RunStep, IsRunFrom};
+ghost use Rattle.nvm_store.specs.Point.{RestsOn};
 ghost use Rattle.nvm_audit.specs.LawfulRecord.{IsLawfulRecord};
 ghost use Rattle.nvm_audit.specs.OneAct.{entry_alone, IsOfOneAct, HasJust};
-ghost use Rattle.nvm_audit.specs.Recordable.{IsRecordable};
+ghost use Rattle.nvm_audit.specs.Recordable.{IsRecordable, IsRecordableJob, IsRecordableEntry, IsRecordableDone};
 ghost use Rattle.nvm_audit.specs.RecordedCalls.{IsPlacedRunOf};
-ghost use Rattle.nvm_audit.specs.RecordedPart.{parts_in_unit};
+ghost use Rattle.nvm_audit.specs.RecordedJob.{RecordedJob};
+ghost use Rattle.nvm_audit.specs.RecordedPart.{RecordedPart, parts_in_unit};
 ghost use Rattle.nvm_audit.specs.RecordedRun.{RecordedRun};
 
-use nvm_geometry::laws::parts_keep_their_kind;
-use nvm_plan::laws::{parts_of_jobs, shapes_by_plan};
+use nvm_geometry::laws::{
+    each_unit_has_one_place, parts_keep_their_kind, units_met_are_those_reached,
+};
+use nvm_plan::laws::{each_command_has_a_status, parts_of_jobs, ready_jobs, shapes_by_plan};
 use nvm_store::laws::{placed_runs_are_runs, single_act_succeeds, there_is_a_placed_run};
+
+/// What is made of the jobs of a record can be held in it: the part of a job in a unit, as an entry of that unit, and what has
+/// the shape of a job's outcome, with the bytes of a Read's blocks, as a done job.
+pub fn what_jobs_make_can_be_held()
+    ensures entries { (r : RecordedRun) (job : Job) (unit : ℕ) (place : UnitPlace) (entry : HistoryEntry)
+        → IsValid r.namespace → IsAt r.jobs entry.job job → IsRecordableJob r job
+        → job_part_in r.namespace job unit ≡ Some entry.operation → IsAct entry.operation.deed → entry.pass < r.workers
+        → IsUnitPlace r.namespace unit place → IsRecordableEntry r place entry }
+    ensures done { (r : RecordedRun) (job : Job) (d : RecordedJob) → IsAt r.jobs d.job job
+        → HasOutcomeShape r.namespace job d.parts d.statuses d.payload
+        → ((op : Operation) (bytes : List ℕ) → ready_operation r.namespace job ≡ Some op → d.payload ≡ Some bytes
+        → length bytes ≡ op.blocks * r.namespace.block_size)
+        → IsRecordableDone r d }
+{
+    parts_of_jobs();
+    parts_keep_their_kind();
+    ready_jobs();
+    units_met_are_those_reached();
+    each_unit_has_one_place();
+    each_command_has_a_status();
+}
+
+/// In a lawful record a part that was done rests on its point: it is the job's part in the unit, and succeeds there.
+pub fn done_parts_rest_on_their_points()
+    ensures { (r : RecordedRun) (unit k : ℕ) (history : List HistoryEntry) (p : RecordedPart) → IsLawfulRecord r
+        → IsAt r.units unit history → IsAt (parts_in_unit unit r.done) k p → p.part.result ≡ Done
+        → (job : Job) × (op : Operation) × IsAt r.jobs p.done.job job × (job_part_in r.namespace job unit ≡ Some op)
+        × RestsOn r.namespace.block_size history p.part.point op (success_of op.deed) None }
+{}
 
 /// A record without jobs is lawful: nothing can have been done in it.
 pub fn no_jobs_are_lawful()
