@@ -9,3 +9,4 @@ pub mod Told
 pub mod RecordRuns
 pub mod Held
 pub mod DoneParts
+pub mod OneActHeld

@@ -94,7 +94,7 @@ no_read (deallocates ranges) act read = cc read
 success_alone : (deed : Deed) → IsSingle deed → success_of deed ≡ One successful_completion
 success_alone deed single = ap (λ (b : Bool). cond b (Two successful_completion successful_completion) (One successful_completion)) (not_so (is_pair deed) single)
 
-shape_alone : (ns : Namespace) (op : Operation) (unit : ℕ) → IsAct op.deed → IsSingle op.deed → units_met ns op ≡ unit ∷ []
+pub shape_alone : (ns : Namespace) (op : Operation) (unit : ℕ) → IsAct op.deed → IsSingle op.deed → units_met ns op ≡ unit ∷ []
     → HasShapeOf ns op (record { unit = unit; point = 0; result = Done } ∷ []) (One successful_completion) None
 shape_alone ns op unit act single one =
     record {

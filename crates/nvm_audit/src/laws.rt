@@ -1,13 +1,16 @@
 //! What holds of records by their definition alone. Each law is a call that does nothing and whose contract is the law.
 
 ghost use Rattle.std.specs.Prelude.{◌≡◌, ℕ, ◌*◌, ◌<◌, List, [], ◌∷◌, length, Some, None};
-ghost use Rattle.nvm_record.specs.Deeds.{IsAct, success_of};
+ghost use Rattle.nvm_record.specs.Deeds.{IsAct, IsSingle, success_of};
 ghost use Rattle.nvm_record.specs.Lists.{IsAt};
 ghost use Rattle.nvm_record.specs.Medium.{zero_medium};
 ghost use Rattle.nvm_record.specs.Step.{Operation};
 ghost use Rattle.nvm_geometry.specs.Faults.{IsValid};
+ghost use Rattle.nvm_geometry.specs.Namespace.{Namespace};
+ghost use Rattle.nvm_geometry.specs.Parts.{units_met};
 ghost use Rattle.nvm_plan.specs.declared.job.Job.{Job};
 ghost use Rattle.nvm_plan.specs.declared.part.PartResult.TheVariants.{Done};
+ghost use Rattle.nvm_plan.specs.Fits.{FitsNamespace};
 ghost use Rattle.nvm_plan.specs.JobPart.{ready_operation, job_part_in};
 ghost use Rattle.nvm_plan.specs.Shape.{HasOutcomeShape};
 ghost use Rattle.nvm_plan.specs.UnitPlace.{IsUnitPlace};
@@ -15,9 +18,10 @@ ghost use Rattle.nvm_store.specs.declared.place.Place.{Place as UnitPlace};
 ghost use Rattle.nvm_store.specs.HistoryEntry.{HistoryEntry};
 ghost use Rattle.nvm_store.specs.PlacedRun.{RunStep, IsRunFrom};
 ghost use Rattle.nvm_store.specs.Point.{RestsOn};
+ghost use Rattle.nvm_audit.specs.declared.version.Version.{Version as FileVersion};
 ghost use Rattle.nvm_audit.specs.LawfulRecord.{IsLawfulRecord};
 ghost use Rattle.nvm_audit.specs.OneAct.{entry_alone, IsOfOneAct, HasJust};
-ghost use Rattle.nvm_audit.specs.Recordable.{IsRecordable, IsRecordableJob, IsRecordableEntry, IsRecordableDone};
+ghost use Rattle.nvm_audit.specs.Recordable.{HoldsLimit, HoldsBody, IsRecordable, IsRecordableJob, IsRecordableEntry, IsRecordableDone};
 ghost use Rattle.nvm_audit.specs.RecordedCalls.{IsPlacedRunOf};
 ghost use Rattle.nvm_audit.specs.RecordedJob.{RecordedJob};
 ghost use Rattle.nvm_audit.specs.RecordedPart.{RecordedPart, parts_in_unit};
@@ -74,6 +78,27 @@ pub fn one_act_is_lawful_with_its_entry()
     parts_of_jobs();
     shapes_by_plan();
     single_act_succeeds();
+}
+
+/// There are such records, of each such command: one with the entry, and one without it.
+pub fn one_act_can_be_held()
+    ensures with_entry { (version : FileVersion) (ns : Namespace) (limit : ℕ) (job : Job) (op : Operation) (unit : ℕ)
+        → IsValid ns → HoldsLimit version limit → FitsNamespace ns job → HoldsBody version job.body
+        → ready_operation ns job ≡ Some op → IsAct op.deed → IsSingle op.deed → units_met ns op ≡ unit ∷ []
+        → (r : RecordedRun) × (r.namespace ≡ ns) × IsRecordable r × IsOfOneAct r op unit
+        × HasJust r unit (entry_alone ns op unit ∷ []) }
+    ensures without { (version : FileVersion) (ns : Namespace) (limit : ℕ) (job : Job) (op : Operation) (unit : ℕ)
+        → IsValid ns → HoldsLimit version limit → FitsNamespace ns job → HoldsBody version job.body
+        → ready_operation ns job ≡ Some op → IsAct op.deed → IsSingle op.deed → units_met ns op ≡ unit ∷ []
+        → (r : RecordedRun) × (r.namespace ≡ ns) × IsRecordable r × IsOfOneAct r op unit × HasJust r unit [] }
+{
+    parts_of_jobs();
+    parts_keep_their_kind();
+    shapes_by_plan();
+    ready_jobs();
+    units_met_are_those_reached();
+    each_unit_has_one_place();
+    each_command_has_a_status();
 }
 
 /// Each unit of a lawful record is a one-thread block store: there is a placed run of it, which is its entries in order and
