@@ -215,7 +215,7 @@ few_parts ns op parts told (inr (inr ended)) =
     let same = length-map parts (λ (p : Part). p.unit) in
     omega (arith, count, joined, same)
 
-all_from : {A : Type 0} → (P : A → Type 0) (xs : List A) → ((i : ℕ) (x : A) → IsAt xs i x → P x) → All P xs
+pub all_from : {A : Type 0} → (P : A → Type 0) (xs : List A) → ((i : ℕ) (x : A) → IsAt xs i x → P x) → All P xs
 all_from P [] each = All-nil P
 all_from P (x ∷ xs) each = All-cons P x xs (each 0 x refl) (all_from P xs (λ i y at. each (suc i) y at))
 

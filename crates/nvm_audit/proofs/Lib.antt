@@ -10,3 +10,4 @@ pub mod RecordRuns
 pub mod Held
 pub mod DoneParts
 pub mod OneActHeld
+pub mod LawfulHeld

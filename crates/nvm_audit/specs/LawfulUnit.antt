@@ -11,7 +11,7 @@ use Rattle.nvm_store.specs.declared.place.Place.{Place}
 use Rattle.nvm_store.specs.History.{IsLawfulHistory}
 use Rattle.nvm_store.specs.HistoryEntry.{HistoryEntry}
 use Rattle.nvm_audit.specs.RecordedPart.{RecordedPart}
-use Rattle.nvm_audit.specs.Resting.{RestsOnItsPoint, NeverGoBack}
+use Rattle.nvm_audit.specs.Resting.{RestsOnItsPoint, PartsNeverGoBack}
 
 -- The entry is just its job's part in the unit.
 pub record IsPartOfItsJob (ns : Namespace) (jobs : List Job) (unit : ℕ) (entry : HistoryEntry) : Type 0 where
@@ -45,4 +45,4 @@ pub record IsLawfulUnit (ns : Namespace) (limit : ℕ) (jobs : List Job) (unit :
   -- Each part rests on its point.
   pub rests : (k : ℕ) (p : RecordedPart) → IsAt parts k p → RestsOnItsPoint ns limit jobs history p
   -- In a worker's order the points never go back.
-  pub order : NeverGoBack parts
+  pub order : PartsNeverGoBack parts

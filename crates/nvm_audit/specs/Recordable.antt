@@ -123,3 +123,10 @@ pub record IsRecordable (r : RecordedRun) : Type 0 where
   pub units : (unit : ℕ) (history : List HistoryEntry) → IsAt r.units unit history → IsRecordableHistory r unit history
   pub all_workers : length r.done ≡ r.workers
   pub done : All (IsRecordableWork r) r.done
+
+-- The data of each Read that is recorded is as long as the Read's blocks.
+abbrev pub HoldsWholeReads : RecordedRun → Type 0
+HoldsWholeReads r =
+    (worker : ℕ) (work : List RecordedJob) (k : ℕ) (done : RecordedJob) (job : Job) (op : Operation) (bytes : List ℕ)
+    → IsAt r.done worker work → IsAt work k done → IsAt r.jobs done.job job → ready_operation r.namespace job ≡ Some op
+    → done.payload ≡ Some bytes → length bytes ≡ op.blocks * r.namespace.block_size

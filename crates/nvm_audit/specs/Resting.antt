@@ -63,7 +63,7 @@ least_after part Full = part.point
 
 -- No point of a worker is below one that it had before, or not above an entry that it had made before, in these parts of
 -- one unit, which stand in the order of each worker.
-abbrev pub NeverGoBack : List RecordedPart → Type 0
-NeverGoBack parts =
+abbrev pub PartsNeverGoBack : List RecordedPart → Type 0
+PartsNeverGoBack parts =
     (i j : ℕ) (earlier later : RecordedPart) → IsAt parts i earlier → IsAt parts j later → i < j
     → later.worker ≡ earlier.worker → least_after earlier.part earlier.part.result ≤ later.part.point

@@ -1,6 +1,6 @@
 //! What holds of records by their definition alone. Each law is a call that does nothing and whose contract is the law.
 
-ghost use Rattle.std.specs.Prelude.{◌≡◌, ℕ, ◌*◌, ◌<◌, List, [], ◌∷◌, length, Some, None};
+ghost use Rattle.std.specs.Prelude.{◌≡◌, ℕ, ◌*◌, ◌<◌, ◌≤◌, List, [], ◌∷◌, All, length, Some, None};
 ghost use Rattle.nvm_record.specs.Deeds.{IsAct, IsSingle, success_of};
 ghost use Rattle.nvm_record.specs.Lists.{IsAt};
 ghost use Rattle.nvm_record.specs.Medium.{zero_medium};
@@ -21,7 +21,7 @@ ghost use Rattle.nvm_store.specs.Point.{RestsOn};
 ghost use Rattle.nvm_audit.specs.declared.version.Version.{Version as FileVersion};
 ghost use Rattle.nvm_audit.specs.LawfulRecord.{IsLawfulRecord};
 ghost use Rattle.nvm_audit.specs.OneAct.{entry_alone, IsOfOneAct, HasJust};
-ghost use Rattle.nvm_audit.specs.Recordable.{HoldsLimit, HoldsBody, IsRecordable, IsRecordableJob, IsRecordableEntry, IsRecordableDone};
+ghost use Rattle.nvm_audit.specs.Recordable.{most_workers, most_jobs, HoldsLimit, HoldsBody, HoldsWholeReads, IsRecordable, IsRecordableJob, IsRecordableEntry, IsRecordableDone};
 ghost use Rattle.nvm_audit.specs.RecordedCalls.{IsPlacedRunOf};
 ghost use Rattle.nvm_audit.specs.RecordedJob.{RecordedJob};
 ghost use Rattle.nvm_audit.specs.RecordedPart.{RecordedPart, parts_in_unit};
@@ -45,6 +45,21 @@ pub fn what_jobs_make_can_be_held()
         → ((op : Operation) (bytes : List ℕ) → ready_operation r.namespace job ≡ Some op → d.payload ≡ Some bytes
         → length bytes ≡ op.blocks * r.namespace.block_size)
         → IsRecordableDone r d }
+{
+    parts_of_jobs();
+    parts_keep_their_kind();
+    ready_jobs();
+    units_met_are_those_reached();
+    each_unit_has_one_place();
+    each_command_has_a_status();
+}
+
+/// A lawful record can be held where its jobs can, its numbers are in their ranges, and the data of its Reads is whole.
+pub fn lawful_records_can_be_held()
+    ensures { (r : RecordedRun) → IsLawfulRecord r → IsValid r.namespace → HoldsLimit r.version r.limit
+        → 1 ≤ r.workers → r.workers ≤ most_workers → length r.done ≡ r.workers
+        → All (IsRecordableJob r) r.jobs → length r.jobs ≤ most_jobs → All (λ work. length work ≤ most_jobs) r.done
+        → HoldsWholeReads r → IsRecordable r }
 {
     parts_of_jobs();
     parts_keep_their_kind();
