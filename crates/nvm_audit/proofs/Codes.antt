@@ -9,7 +9,7 @@ use Rattle.nvm_audit.specs.Inside.Same.{spelled, done_job_numbers, record_number
 use Rattle.nvm_audit.specs.contracts.done_job.DoneJob.{the_row as done_job}
 use Rattle.nvm_audit.specs.contracts.record.Record.{the_row as recorded}
 use Rattle.nvm_audit.specs.RecordedJob.{RecordedJob}
-use Rattle.nvm_audit.specs.RecordedRun.{RecordedRun}
+use Rattle.nvm_audit.specs.RecordView.{RecordView}
 
 abbrev first_of : ℕ → List ℕ → ℕ
 first_of n [] = n
@@ -58,7 +58,7 @@ same_done_job_decides a b =
       λ e. numbers.1 (ap done_job_numbers e),
     )
 
-pub same_record_decides : (a b : RecordedRun) → Decides (same_record a b) (a ≡ b)
+pub same_record_decides : (a b : RecordView) → Decides (same_record a b) (a ≡ b)
 unfolding record_numbers
 same_record_decides a b =
     let numbers = lists (record_numbers a) (record_numbers b) in (

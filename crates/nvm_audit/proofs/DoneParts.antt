@@ -13,7 +13,7 @@ use Rattle.nvm_store.specs.HistoryEntry.{HistoryEntry}
 use Rattle.nvm_store.specs.Point.{point, RestsOn}
 use Rattle.nvm_audit.specs.LawfulRecord.{IsLawfulRecord}
 use Rattle.nvm_audit.specs.RecordedPart.{RecordedPart, parts_in_unit}
-use Rattle.nvm_audit.specs.RecordedRun.{RecordedRun}
+use Rattle.nvm_audit.specs.RecordView.{RecordView}
 use Rattle.nvm_audit.proofs.Standing.{below}
 
 success_told : (blocks : List Block) (deed : Deed) → IsTrue (not (is_look deed)) → IsSuccess (statuses_on blocks deed)
@@ -26,7 +26,7 @@ success_told blocks (compares payload) act h = absurd (cc act)
 success_told blocks (pairs payload new) act h = λ i. Two (sym h.0 i) (sym h.1 i)
 success_told blocks (deallocates ranges) act h = refl
 
-no_data : (blocks : List Block) (deed : Deed) → IsTrue (not (is_look deed)) → None ≡ data_on blocks deed
+pub no_data : (blocks : List Block) (deed : Deed) → IsTrue (not (is_look deed)) → None ≡ data_on blocks deed
 no_data blocks (writes payload) act = refl
 no_data blocks zeroes act = refl
 no_data blocks uncorrectable act = refl
@@ -35,7 +35,7 @@ no_data blocks (compares payload) act = absurd (cc act)
 no_data blocks (pairs payload new) act = refl
 no_data blocks (deallocates ranges) act = refl
 
-pub done_parts_rest : (r : RecordedRun) (unit k : ℕ) (history : List HistoryEntry) (p : RecordedPart) → IsLawfulRecord r
+pub done_parts_rest : (r : RecordView) (unit k : ℕ) (history : List HistoryEntry) (p : RecordedPart) → IsLawfulRecord r
     → IsAt r.units unit history → IsAt (parts_in_unit unit r.done) k p → p.part.result ≡ Done
     → (job : Job) × (op : Operation) × IsAt r.jobs p.done.job job × (job_part_in r.namespace job unit ≡ Some op)
     × RestsOn r.namespace.block_size history p.part.point op (success_of op.deed) None

@@ -40,7 +40,7 @@ use Rattle.nvm_audit.specs.declared.version.Version.{Version}
 use Rattle.nvm_audit.specs.declared.version.Version.TheVariants.{One, Two}
 use Rattle.nvm_audit.specs.Recordable.{HoldsBody, HoldsKind, IsDeallocateOfUnit, IsRecordableJob, IsRecordableEntry, IsRecordableDone}
 use Rattle.nvm_audit.specs.RecordedJob.{RecordedJob}
-use Rattle.nvm_audit.specs.RecordedRun.{RecordedRun}
+use Rattle.nvm_audit.specs.RecordView.{RecordView}
 use Rattle.nvm_audit.proofs.RecordRuns.{CoversParts}
 use Rattle.nvm_audit.proofs.Standing.{below}
 use Rattle.nvm_audit.proofs.Told.{part_of_shape}
@@ -184,7 +184,7 @@ module _ (known : KnowsParts) (keeps : KeepsDeallocates) (is_ready : IsReadyJob)
     | inr e ↦ inl (on_range op e)
   ]
 
-  pub entries : (r : RecordedRun) (job : Job) (unit : ℕ) (place : Place) (entry : HistoryEntry) → IsValid r.namespace
+  pub entries : (r : RecordView) (job : Job) (unit : ℕ) (place : Place) (entry : HistoryEntry) → IsValid r.namespace
       → IsAt r.jobs entry.job job → IsRecordableJob r job → job_part_in r.namespace job unit ≡ Some entry.operation
       → IsAct entry.operation.deed → entry.pass < r.workers → IsUnitPlace r.namespace unit place → IsRecordableEntry r place entry
   entries r job unit place entry valid its held here act pass lies =
@@ -220,7 +220,7 @@ all_from P [] each = All-nil P
 all_from P (x ∷ xs) each = All-cons P x xs (each 0 x refl) (all_from P xs (λ i y at. each (suc i) y at))
 
 module _ (units : KnowsUnits) (few : FewUnits) (statuses : HasStatuses) where
-  pub done : (r : RecordedRun) (job : Job) (d : RecordedJob) → IsAt r.jobs d.job job
+  pub done : (r : RecordView) (job : Job) (d : RecordedJob) → IsAt r.jobs d.job job
       → HasOutcomeShape r.namespace job d.parts d.statuses d.payload
       → ((op : Operation) (bytes : List ℕ) → ready_operation r.namespace job ≡ Some op → d.payload ≡ Some bytes
       → length bytes ≡ op.blocks * r.namespace.block_size)

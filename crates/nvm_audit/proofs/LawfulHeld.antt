@@ -2,6 +2,7 @@
 use Rattle.std.proofs.Common.{◌≡◌, ℕ, ◌*◌, ◌<◌, ◌≤◌, List, length, Some, All, sym, subst}
 use Rattle.nvm_record.specs.Lists.{IsAt}
 use Rattle.nvm_record.specs.Step.{Operation}
+use Rattle.nvm_geometry.specs.Boundaries.{units_of}
 use Rattle.nvm_geometry.specs.Faults.{IsValid}
 use Rattle.nvm_plan.specs.declared.job.Job.{Job}
 use Rattle.nvm_plan.specs.JobPart.{ready_operation}
@@ -9,7 +10,7 @@ use Rattle.nvm_store.specs.HistoryEntry.{HistoryEntry}
 use Rattle.nvm_audit.specs.LawfulRecord.{IsLawfulRecord}
 use Rattle.nvm_audit.specs.Recordable.{most_workers, most_jobs, HoldsLimit, HoldsWholeReads, IsRecordable, IsRecordableJob, IsRecordableEntry, IsRecordableHistory, IsRecordableDone, IsRecordableWork}
 use Rattle.nvm_audit.specs.RecordedJob.{RecordedJob}
-use Rattle.nvm_audit.specs.RecordedRun.{RecordedRun}
+use Rattle.nvm_audit.specs.RecordView.{RecordView}
 use Rattle.nvm_audit.proofs.Held as held
 use Rattle.nvm_audit.proofs.Held.{KnowsParts, KeepsDeallocates, IsReadyJob, KnowsUnits, FewUnits, HasPlace, OnePlace, HasStatuses, all_from}
 use Rattle.nvm_audit.proofs.PartsFrom.{comes_from}
@@ -17,13 +18,15 @@ use Rattle.nvm_audit.proofs.RecordRuns.{CoversParts}
 use Rattle.nvm_audit.proofs.Standing.{all_at, below}
 
 module _ (known : KnowsParts) (keeps : KeepsDeallocates) (is_ready : IsReadyJob) (covers : CoversParts) (units : KnowsUnits) (few : FewUnits)
-    (has_place : HasPlace) (one_place : OnePlace) (statuses : HasStatuses) (r : RecordedRun) (lawful : IsLawfulRecord r)
-    (valid : IsValid r.namespace) (count : length r.done ≡ r.workers) (jobs : All (IsRecordableJob r) r.jobs) where
+    (has_place : HasPlace) (one_place : OnePlace) (statuses : HasStatuses) (r : RecordView) (lawful : IsLawfulRecord r)
+    (valid : IsValid r.namespace) (all_units : length r.units ≡ units_of r.namespace)
+    (few_entries : (unit : ℕ) (history : List HistoryEntry) → IsAt r.units unit history → length history ≤ r.limit)
+    (count : length r.done ≡ r.workers) (jobs : All (IsRecordableJob r) r.jobs) where
   history_held : (unit : ℕ) (history : List HistoryEntry) → IsAt r.units unit history → IsRecordableHistory r unit history
   history_held unit history there =
       let its = lawful.units unit history there in
       record {
-        few = its.few;
+        few = few_entries unit history there;
         place = its.place;
         lies = its.lies;
         each =
@@ -64,7 +67,7 @@ module _ (known : KnowsParts) (keeps : KeepsDeallocates) (is_ready : IsReadyJob)
         few_workers = most;
         few_jobs = few_jobs;
         jobs = jobs;
-        all_units = lawful.all_units;
+        all_units = all_units;
         units = history_held;
         all_workers = count;
         done =

@@ -25,16 +25,16 @@ use Rattle.nvm_audit.specs.declared.version.Version.{Version}
 use Rattle.nvm_audit.specs.declared.version.Version.TheVariants as version
 use Rattle.nvm_audit.specs.OneAct.{done_alone, entry_alone, IsOfOneAct, HasJust}
 use Rattle.nvm_audit.specs.Recordable.{HoldsLimit, HoldsBody, IsRecordable, IsRecordableJob, IsRecordableEntry, IsRecordableHistory, IsRecordableDone, IsRecordableWork}
-use Rattle.nvm_audit.specs.RecordedRun.{RecordedRun}
+use Rattle.nvm_audit.specs.RecordView.{RecordView}
 use Rattle.nvm_audit.proofs.Held as held
 use Rattle.nvm_audit.proofs.Held.{KnowsParts, KeepsDeallocates, IsReadyJob, KnowsUnits, FewUnits, HasPlace, OnePlace, HasStatuses}
-use Rattle.nvm_audit.proofs.OneActs.{HasPart, ShapesByPlan, shape_alone}
-use Rattle.nvm_audit.proofs.RecordRuns.{KeepsLooks, CoversParts}
+use Rattle.nvm_audit.proofs.OneActs.{KeepsLooks, HasPart, ShapesByPlan, shape_alone}
+use Rattle.nvm_audit.proofs.RecordRuns.{CoversParts}
 use Rattle.nvm_audit.proofs.Standing.{below, read_is}
 use Rattle.nvm_audit.proofs.Unrefused.{unrefused}
 
 -- the record, in which the unit has these entries
-abbrev record_alone : Version → Namespace → ℕ → Job → ℕ → List HistoryEntry → RecordedRun
+abbrev record_alone : Version → Namespace → ℕ → Job → ℕ → List HistoryEntry → RecordView
 record_alone v ns limit job unit entries =
     record {
       version = v;
@@ -70,7 +70,7 @@ module _ (looks : KeepsLooks) (has_part : HasPart) (covers : CoversParts) (shape
     (valid : IsValid ns) (room : HoldsLimit v limit) (fits : FitsNamespace ns job) (body : HoldsBody v job.body)
     (ready : ready_operation ns job ≡ Some op) (act : IsAct op.deed) (single : IsSingle op.deed) (one : units_met ns op ≡ unit ∷ [])
     (entries : List HistoryEntry) (are : All (λ e. e ≡ entry_alone ns op unit) entries) (at_most : length entries ≤ 1) where
-  abbrev r : RecordedRun
+  abbrev r : RecordView
   r = record_alone v ns limit job unit entries
 
   recordable_job : IsRecordableJob r job
@@ -142,7 +142,7 @@ module _ (looks : KeepsLooks) (has_part : HasPart) (covers : CoversParts) (shape
             (All-nil (IsRecordableWork r));
       }
 
-  pub there : (r : RecordedRun) × (r.namespace ≡ ns) × IsRecordable r × IsOfOneAct r op unit × HasJust r unit entries
+  pub there : (r : RecordView) × (r.namespace ≡ ns) × IsRecordable r × IsOfOneAct r op unit × HasJust r unit entries
   there = (
     r,
     refl,
@@ -157,7 +157,7 @@ module _ (looks : KeepsLooks) (has_part : HasPart) (covers : CoversParts) (shape
   pub with_entry : (v : Version) (ns : Namespace) (limit : ℕ) (job : Job) (op : Operation) (unit : ℕ) → IsValid ns → HoldsLimit v limit
       → FitsNamespace ns job → HoldsBody v job.body → ready_operation ns job ≡ Some op → IsAct op.deed → IsSingle op.deed
       → units_met ns op ≡ unit ∷ []
-      → (r : RecordedRun) × (r.namespace ≡ ns) × IsRecordable r × IsOfOneAct r op unit × HasJust r unit (entry_alone ns op unit ∷ [])
+      → (r : RecordView) × (r.namespace ≡ ns) × IsRecordable r × IsOfOneAct r op unit × HasJust r unit (entry_alone ns op unit ∷ [])
   with_entry v ns limit job op unit valid room fits body ready act single one =
       let P : HistoryEntry → Type 0 = λ e. e ≡ entry_alone ns op unit in
       there looks has_part covers shapes known keeps is_ready units few has_place one_place statuses v ns limit job op unit valid room fits
@@ -166,7 +166,7 @@ module _ (looks : KeepsLooks) (has_part : HasPart) (covers : CoversParts) (shape
   pub without : (v : Version) (ns : Namespace) (limit : ℕ) (job : Job) (op : Operation) (unit : ℕ) → IsValid ns → HoldsLimit v limit
       → FitsNamespace ns job → HoldsBody v job.body → ready_operation ns job ≡ Some op → IsAct op.deed → IsSingle op.deed
       → units_met ns op ≡ unit ∷ []
-      → (r : RecordedRun) × (r.namespace ≡ ns) × IsRecordable r × IsOfOneAct r op unit × HasJust r unit []
+      → (r : RecordView) × (r.namespace ≡ ns) × IsRecordable r × IsOfOneAct r op unit × HasJust r unit []
   without v ns limit job op unit valid room fits body ready act single one =
       let P : HistoryEntry → Type 0 = λ e. e ≡ entry_alone ns op unit in
       there looks has_part covers shapes known keeps is_ready units few has_place one_place statuses v ns limit job op unit valid room fits

@@ -8,7 +8,7 @@ use Rattle.nvm_record.specs.Deeds.{is_look, is_read, is_pair, IsAct, IsSingle, s
 use Rattle.nvm_record.specs.Lists.{IsAt}
 use Rattle.nvm_record.specs.Medium.{Medium}
 use Rattle.nvm_record.specs.Status.{IsSuccess, successful_completion}
-use Rattle.nvm_record.specs.Step.{Deed, Operation, statuses_of, writes, zeroes, uncorrectable, reads, compares, pairs, deallocates}
+use Rattle.nvm_record.specs.Step.{Deed, Operation, statuses_of, range_of, writes, zeroes, uncorrectable, reads, compares, pairs, deallocates}
 use Rattle.nvm_geometry.specs.Boundaries.{units_of}
 use Rattle.nvm_geometry.specs.Namespace.{Namespace}
 use Rattle.nvm_geometry.specs.Parts.{units_met, part_in}
@@ -21,20 +21,25 @@ use Rattle.nvm_plan.specs.Operation.{job_operation_of}
 use Rattle.nvm_plan.specs.Shape.{HasShapeOf, HasOutcomeShape}
 use Rattle.nvm_store.specs.HistoryEntry.{HistoryEntry}
 use Rattle.nvm_store.specs.History.{replay_of}
+use Rattle.nvm_store.specs.Point.{point}
 use Rattle.nvm_audit.specs.LawfulRecord.{times_done, HasItsShape, IsLawfulRecord}
 use Rattle.nvm_audit.specs.LawfulUnit.{IsPartOfItsJob, MadeEntry, IsLawfulUnit}
 use Rattle.nvm_audit.specs.OneAct.{done_alone, entry_alone, IsOfOneAct, HasJust}
 use Rattle.nvm_audit.specs.Recordable.{IsRecordable, IsRecordableEntry}
 use Rattle.nvm_audit.specs.RecordedJob.{RecordedJob}
 use Rattle.nvm_audit.specs.RecordedPart.{RecordedPart, parts_in_unit}
-use Rattle.nvm_audit.specs.RecordedRun.{RecordedRun}
-use Rattle.nvm_audit.specs.Resting.{RestsOnItsPoint}
+use Rattle.nvm_audit.specs.RecordView.{RecordView}
+use Rattle.nvm_audit.specs.Resting.{IsRightAtItsPoint}
+use Rattle.nvm_audit.proofs.DoneParts.{no_data}
 use Rattle.nvm_audit.proofs.Standing.{none_stands, alone, read_there, all_at}
 use Rattle.nvm_audit.proofs.Unrefused.{unrefused}
 
 -- What the laws below say that are used here.
 abbrev pub KeepsPairs : Type 0
 KeepsPairs = (ns : Namespace) (op : Operation) (unit : ℕ) → is_pair (part_in ns op unit).deed ≡ is_pair op.deed
+
+abbrev pub KeepsLooks : Type 0
+KeepsLooks = (ns : Namespace) (op : Operation) (unit : ℕ) → is_look (part_in ns op unit).deed ≡ is_look op.deed
 
 abbrev pub ActsSucceed : Type 0
 ActsSucceed =
@@ -115,7 +120,7 @@ shape_alone ns op unit act single one =
       payload = (λ some. absurd (cc some), λ gives. absurd (no_read op.deed act gives.0));
     }
 
-module _ (pairs_kept : KeepsPairs) (acts : ActsSucceed) (has_part : HasPart) (shapes : ShapesByPlan) (r : RecordedRun) (op : Operation)
+module _ (pairs_kept : KeepsPairs) (looks_kept : KeepsLooks) (acts : ActsSucceed) (has_part : HasPart) (shapes : ShapesByPlan) (r : RecordView) (op : Operation)
     (unit : ℕ) (held : IsRecordable r) (one : IsOfOneAct r op unit) where
   free : refusal_of r.namespace one.job ≡ None
   free = (unrefused r.namespace one.job op one.ready).0
@@ -134,6 +139,9 @@ module _ (pairs_kept : KeepsPairs) (acts : ActsSucceed) (has_part : HasPart) (sh
 
   single : IsSingle (part_in r.namespace op unit).deed
   single = subst (λ (b : Bool). IsTrue (not b)) (sym (pairs_kept r.namespace op unit)) one.single
+
+  its_act : IsAct (part_in r.namespace op unit).deed
+  its_act = subst (λ (b : Bool). IsTrue (not b)) (sym (looks_kept r.namespace op unit)) one.act
 
   only_job : (worker : ℕ) (work : List RecordedJob) (k : ℕ) (d : RecordedJob) → IsAt r.done worker work → IsAt work k d
       → d ≡ done_alone unit
@@ -189,13 +197,20 @@ module _ (pairs_kept : KeepsPairs) (acts : ActsSucceed) (has_part : HasPart) (sh
         subst (λ (n : ℕ). IsPartOfItsJob r.namespace r.jobs n (entry_alone r.namespace op unit)) (unit_is e)
         (record { job = one.job; its = here; part = part })
 
-    rests : RestsOnItsPoint r.namespace r.limit r.jobs history (part_alone unit)
+    rests : IsRightAtItsPoint r.namespace r.limit r.jobs history (part_alone unit)
     rests =
         record {
           whole = op;
           does = record { job = one.job; its = here; ready = one.ready };
           within = omega arith;
-          status = tt;
+          status =
+              record {
+                within = omega arith;
+                statuses =
+                    success_alone (part_in r.namespace op unit).deed single
+                    ∙ sym (acts (part_in r.namespace op unit) (point r.namespace.block_size history 0) its_act single);
+                payload = no_data (range_of (part_in r.namespace op unit) (point r.namespace.block_size history 0)) (part_in r.namespace op unit).deed its_act;
+              };
           payload = λ bytes e. absurd (none-some bytes e);
         }
 
@@ -203,7 +218,6 @@ module _ (pairs_kept : KeepsPairs) (acts : ActsSucceed) (has_part : HasPart) (sh
     its_unit =
         let kept = held.units k history there in
         record {
-          few = kept.few;
           place = kept.place;
           lies = kept.lies;
           lawful =
@@ -248,7 +262,7 @@ module _ (pairs_kept : KeepsPairs) (acts : ActsSucceed) (has_part : HasPart) (sh
           rests =
               λ i p at.
               let only = part_is i p at in
-              subst (λ (q : RecordedPart). RestsOnItsPoint r.namespace r.limit r.jobs history q) (sym only.is) rests;
+              subst (λ (q : RecordedPart). IsRightAtItsPoint r.namespace r.limit r.jobs history q) (sym only.is) rests;
           order =
               λ i j earlier later at after lt same.
               let first : i ≡ 0 = (part_is i earlier at).place in
@@ -263,7 +277,6 @@ module _ (pairs_kept : KeepsPairs) (acts : ActsSucceed) (has_part : HasPart) (sh
         shapes =
             λ worker work k d there at.
             subst (λ (x : RecordedJob). HasItsShape r.namespace r.jobs x) (sym (only_job worker work k d there at)) shape;
-        all_units = held.all_units;
         units = λ k history there. its_unit k history there (just k history there);
       }
 

@@ -3,9 +3,9 @@ use Rattle.std.proofs.Common.{◌≡◌, ◌⊎◌, ℕ, zero, suc, ◌<◌, ◌
 use Rattle.std.proofs.lemmas.Bool.Decides.{Decides-eqb}
 use Rattle.std.proofs.lemmas.List.Elements.{All-nil, All-cons}
 use mathlib.Core.Option.{some-injective}
-use Rattle.nvm_record.specs.Deeds.{is_look, IsLook, IsFailedPair}
+use Rattle.nvm_record.specs.Deeds.{IsLook, IsFailedPair}
 use Rattle.nvm_record.specs.Lists.{IsAt}
-use Rattle.nvm_record.specs.Medium.{Medium, zero_medium}
+use Rattle.nvm_record.specs.Medium.{zero_medium}
 use Rattle.nvm_record.specs.Step.{Operation, statuses_of, data_of}
 use Rattle.nvm_geometry.specs.Namespace.{Namespace}
 use Rattle.nvm_geometry.specs.Parts.{part_in}
@@ -31,18 +31,16 @@ use Rattle.nvm_audit.specs.LawfulUnit.{IsLawfulUnit}
 use Rattle.nvm_audit.specs.Recordable.{IsRecordable, IsRecordableJob}
 use Rattle.nvm_audit.specs.RecordedCalls.{is_call, call_parts, IsCallOfPart, AreCallsOf, IsPlacedRunOf}
 use Rattle.nvm_audit.specs.RecordedPart.{RecordedPart, parts_in_unit, told_of}
-use Rattle.nvm_audit.specs.RecordedRun.{RecordedRun}
-use Rattle.nvm_audit.specs.Resting.{HasRightStatus, RestsOnItsPoint, least_after}
-use Rattle.nvm_audit.proofs.OneActs.{HasPart, ShapesByPlan}
+use Rattle.nvm_audit.specs.RecordView.{RecordView}
+use Rattle.nvm_audit.specs.PointOrder.{least_after}
+use Rattle.nvm_audit.specs.Resting.{HasRightStatus, IsRightAtItsPoint}
+use Rattle.nvm_audit.proofs.OneActs.{KeepsLooks, HasPart, ShapesByPlan}
 use Rattle.nvm_audit.proofs.PartsFrom.{comes_from}
 use Rattle.nvm_audit.proofs.Standing.{none_stands, one_there, in_filter, filter_order, all_at}
 use Rattle.nvm_audit.proofs.Told.{IsPartOf, part_of_shape}
 use Rattle.nvm_audit.proofs.Unrefused.{unrefused}
 
 -- What the laws below say that are used here.
-abbrev pub KeepsLooks : Type 0
-KeepsLooks = (ns : Namespace) (op : Operation) (unit : ℕ) → is_look (part_in ns op unit).deed ≡ is_look op.deed
-
 abbrev pub CoversParts : Type 0
 CoversParts =
     (ns : Namespace) (job : Job) (unit : ℕ) (place : Place) (part : Operation) → FitsNamespace ns job
@@ -85,19 +83,21 @@ point_behind part Looked = omega arith
 point_behind part NoMemory = omega arith
 point_behind part Full = omega arith
 
--- A part that is a call was told what the step gives, and looks or fails.
-ends : KeepsLooks → (ns : Namespace) (limit : ℕ) (whole : Operation) (m : Medium) (p : RecordedPart) (result : PartResult)
-    → is_call result ≡ true → HasRightStatus limit (part_in ns whole p.part.unit) m p result → IsTrue (can_have whole.deed result)
-    → (told_of p ≡ statuses_of (part_in ns whole p.part.unit) m)
-    × (IsLook (part_in ns whole p.part.unit).deed ⊎ IsFailedPair (part_in ns whole p.part.unit) m)
-ends looks ns limit whole m p Done is right can = absurd (cc is)
-ends looks ns limit whole m p Failed is right can = (right.1, inr right.0)
-ends looks ns limit whole m p Looked is right can =
-    (right, inl (subst (λ (b : Bool). IsTrue b) (sym (looks ns whole p.part.unit)) can))
-ends looks ns limit whole m p NoMemory is right can = absurd (cc is)
-ends looks ns limit whole m p Full is right can = absurd (cc is)
+-- A part that is a call rests on its point, with the data of the step, and looks or fails.
+ends : KeepsLooks → (ns : Namespace) (limit : ℕ) (history : List HistoryEntry) (whole : Operation) (p : RecordedPart) (result : PartResult)
+    → is_call result ≡ true → HasRightStatus ns.block_size limit history (part_in ns whole p.part.unit) p result
+    → IsTrue (can_have whole.deed result)
+    → (told_of p ≡ statuses_of (part_in ns whole p.part.unit) (point ns.block_size history p.part.point))
+    × (IsLook (part_in ns whole p.part.unit).deed
+    ⊎ IsFailedPair (part_in ns whole p.part.unit) (point ns.block_size history p.part.point))
+ends looks ns limit history whole p Done is right can = absurd (cc is)
+ends looks ns limit history whole p Failed is right can = (right.1.statuses, inr right.0)
+ends looks ns limit history whole p Looked is right can =
+    (right.statuses, inl (subst (λ (b : Bool). IsTrue b) (sym (looks ns whole p.part.unit)) can))
+ends looks ns limit history whole p NoMemory is right can = absurd (cc is)
+ends looks ns limit history whole p Full is right can = absurd (cc is)
 
-module _ (looks : KeepsLooks) (has_part : HasPart) (covers : CoversParts) (shapes : ShapesByPlan) (r : RecordedRun) (held : IsRecordable r)
+module _ (looks : KeepsLooks) (has_part : HasPart) (covers : CoversParts) (shapes : ShapesByPlan) (r : RecordView) (held : IsRecordable r)
     (lawful : IsLawfulRecord r) (unit : ℕ) (history : List HistoryEntry) (there : IsAt r.units unit history) where
   abbrev parts : List RecordedPart
   parts = parts_in_unit unit r.done
@@ -106,7 +106,7 @@ module _ (looks : KeepsLooks) (has_part : HasPart) (covers : CoversParts) (shape
   its = lawful.units unit history there
 
   -- It is a part of its job's operation.
-  of_job : (k : ℕ) (p : RecordedPart) → IsAt parts k p → (rests : RestsOnItsPoint r.namespace r.limit r.jobs history p)
+  of_job : (k : ℕ) (p : RecordedPart) → IsAt parts k p → (rests : IsRightAtItsPoint r.namespace r.limit r.jobs history p)
       → IsPartOf r.namespace rests.whole p.part
   of_job k p at rests =
       let from = (comes_from unit r.done k p at).0 in
@@ -131,7 +131,7 @@ module _ (looks : KeepsLooks) (has_part : HasPart) (covers : CoversParts) (shape
       let size : its.place.size ≡ r.namespace.block_size = its.lies.size in
       let m = point r.namespace.block_size history n in
       let of_its = of_job k p at rests in
-      let told = ends looks r.namespace r.limit rests.whole m p p.part.result is rests.status of_its.result in
+      let told = ends looks r.namespace r.limit history rests.whole p p.part.result is rests.status of_its.result in
       let free = unrefused r.namespace rests.does.job rests.whole rests.does.ready in
       let part = has_part r.namespace rests.does.job rests.whole p.part.unit free.0 free.1 of_its.met in
       let fits = (all_at (IsRecordableJob r) r.jobs held.jobs p.done.job rests.does.job rests.does.its).fits in

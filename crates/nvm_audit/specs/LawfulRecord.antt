@@ -1,11 +1,11 @@
 -- The lawful record: when the answers of a run are those of one-thread block stores, one for each atomic unit, whatever the
--- order in which its workers did their jobs (own). What it is for the commands' atomicity that a namespace advertises: NVM
--- Command Set Specification, "Atomic Operation" and "Atomic Boundaries"; Base Specification, "Fused Operation". It is a
--- relation on the finished record: how a run came to it isn't asked.
+-- order in which its workers did their jobs (own): for commands within the advertised limits, that is the atomicity of NVM
+-- Command Set Specification, "Atomic Operation" and "Atomic Boundaries", and of Base Specification, "Fused Operation". It is
+-- said of a record that a file can hold (`Recordable.antt`), whose numbers are in their ranges and whose data is whole. How a
+-- run came to it isn't asked.
 use Rattle.std.specs.Prelude.{◌≡◌, ℕ, ◌<◌, nat_eq, List, length, count_by}
 use Rattle.std.specs.List.{sum_by}
 use Rattle.nvm_record.specs.Lists.{IsAt}
-use Rattle.nvm_geometry.specs.Boundaries.{units_of}
 use Rattle.nvm_geometry.specs.Namespace.{Namespace}
 use Rattle.nvm_plan.specs.declared.job.Job.{Job}
 use Rattle.nvm_plan.specs.Shape.{HasOutcomeShape}
@@ -13,7 +13,7 @@ use Rattle.nvm_store.specs.HistoryEntry.{HistoryEntry}
 use Rattle.nvm_audit.specs.LawfulUnit.{IsLawfulUnit}
 use Rattle.nvm_audit.specs.RecordedJob.{RecordedJob}
 use Rattle.nvm_audit.specs.RecordedPart.{parts_in_unit}
-use Rattle.nvm_audit.specs.RecordedRun.{RecordedRun}
+use Rattle.nvm_audit.specs.RecordView.{RecordView}
 
 -- how often the job of this number was done
 abbrev pub times_done : ℕ → List (List RecordedJob) → ℕ
@@ -27,13 +27,12 @@ pub record HasItsShape (ns : Namespace) (jobs : List Job) (d : RecordedJob) : Ty
   pub its : IsAt jobs d.job job
   pub shape : HasOutcomeShape ns job d.parts d.statuses d.payload
 
-pub record IsLawfulRecord (r : RecordedRun) : Type 0 where
+pub record IsLawfulRecord (r : RecordView) : Type 0 where
   -- Each job was done once.
   pub once : (number : ℕ) → number < length r.jobs → times_done number r.done ≡ 1
   -- Each done job has the shape of its outcome.
   pub shapes : (worker : ℕ) (work : List RecordedJob) (k : ℕ) (d : RecordedJob) → IsAt r.done worker work → IsAt work k d
       → HasItsShape r.namespace r.jobs d
-  -- Each unit has its history, and that is lawful with the parts that name the unit.
-  pub all_units : length r.units ≡ units_of r.namespace
+  -- Each unit's history is lawful, with the parts that name the unit.
   pub units : (unit : ℕ) (history : List HistoryEntry) → IsAt r.units unit history
       → IsLawfulUnit r.namespace r.limit r.jobs unit history (parts_in_unit unit r.done)

@@ -1,6 +1,6 @@
 -- When what a record shows of one unit is lawful: the unit is one thread's block store, and each part that names it is one
 -- step there (own).
-use Rattle.std.specs.Prelude.{◌≡◌, ℕ, ◌≤◌, List, length, Some}
+use Rattle.std.specs.Prelude.{◌≡◌, ℕ, List, Some}
 use Rattle.nvm_record.specs.Lists.{IsAt}
 use Rattle.nvm_geometry.specs.Namespace.{Namespace}
 use Rattle.nvm_plan.specs.declared.job.Job.{Job}
@@ -11,7 +11,8 @@ use Rattle.nvm_store.specs.declared.place.Place.{Place}
 use Rattle.nvm_store.specs.History.{IsLawfulHistory}
 use Rattle.nvm_store.specs.HistoryEntry.{HistoryEntry}
 use Rattle.nvm_audit.specs.RecordedPart.{RecordedPart}
-use Rattle.nvm_audit.specs.Resting.{RestsOnItsPoint, PartsNeverGoBack}
+use Rattle.nvm_audit.specs.PointOrder.{PointsNeverGoBack}
+use Rattle.nvm_audit.specs.Resting.{IsRightAtItsPoint}
 
 -- The entry is just its job's part in the unit.
 pub record IsPartOfItsJob (ns : Namespace) (jobs : List Job) (unit : ℕ) (entry : HistoryEntry) : Type 0 where
@@ -19,18 +20,16 @@ pub record IsPartOfItsJob (ns : Namespace) (jobs : List Job) (unit : ℕ) (entry
   pub its : IsAt jobs entry.job job
   pub part : job_part_in ns job unit ≡ Some entry.operation
 
--- The part made the entry that stands at this place of the history.
-pub record MadeEntry (place : ℕ) (entry : HistoryEntry) (p : RecordedPart) : Type 0 where
+-- The part made the entry that is entry i of the history.
+pub record MadeEntry (i : ℕ) (entry : HistoryEntry) (p : RecordedPart) : Type 0 where
   pub worker : entry.pass ≡ p.worker
   pub job : entry.job ≡ p.done.job
   pub result : p.part.result ≡ Done
-  pub point : p.part.point ≡ place
+  pub point : p.part.point ≡ i
 
 -- The unit of this number has this history, and these parts name it.
 pub record IsLawfulUnit (ns : Namespace) (limit : ℕ) (jobs : List Job) (unit : ℕ) (history : List HistoryEntry)
     (parts : List RecordedPart) : Type 0 where
-  -- it has no more entries than the limit
-  pub few : length history ≤ limit
   -- The history is lawful where the unit lies: each entry changes blocks of just this unit, and succeeds after those before.
   pub place : Place
   pub lies : IsUnitPlace ns unit place
@@ -42,7 +41,7 @@ pub record IsLawfulUnit (ns : Namespace) (limit : ℕ) (jobs : List Job) (unit :
       → (k : ℕ) × (p : RecordedPart) × IsAt parts k p × MadeEntry i entry p
   pub made : (k : ℕ) (p : RecordedPart) → IsAt parts k p → p.part.result ≡ Done
       → (entry : HistoryEntry) × IsAt history p.part.point entry × MadeEntry p.part.point entry p
-  -- Each part rests on its point.
-  pub rests : (k : ℕ) (p : RecordedPart) → IsAt parts k p → RestsOnItsPoint ns limit jobs history p
+  -- What was recorded of each part is right at its point.
+  pub rests : (k : ℕ) (p : RecordedPart) → IsAt parts k p → IsRightAtItsPoint ns limit jobs history p
   -- In a worker's order the points never go back.
-  pub order : PartsNeverGoBack parts
+  pub order : PointsNeverGoBack parts

@@ -1,9 +1,10 @@
 pub mod RecordedJob
-pub mod RecordedRun
+pub mod RecordView
 pub mod Recordable
 pub mod Shown
 pub mod RecordedPart
 pub mod Resting
+pub mod PointOrder
 pub mod LawfulUnit
 pub mod LawfulRecord
 pub mod RecordedCalls

@@ -1,5 +1,5 @@
--- The smallest record in which something was done, which shows that the definition of a lawful record says neither too much
--- nor too little: one command that changes blocks of one unit, done by the one worker.
+-- One instance of a lawful record in which something was done: one command that changes blocks of one unit, done by the one
+-- worker. With its entry the record is lawful, and without it it isn't.
 use Rattle.std.specs.Prelude.{◌≡◌, ℕ, nat_eq, if◌then◌else◌, List, [], ◌∷◌, Some, None}
 use Rattle.nvm_record.specs.declared.status.Statuses.TheVariants.{One}
 use Rattle.nvm_record.specs.Deeds.{IsAct, IsSingle}
@@ -13,7 +13,7 @@ use Rattle.nvm_plan.specs.declared.part.PartResult.TheVariants.{Done}
 use Rattle.nvm_plan.specs.JobPart.{ready_operation}
 use Rattle.nvm_store.specs.HistoryEntry.{HistoryEntry}
 use Rattle.nvm_audit.specs.RecordedJob.{RecordedJob}
-use Rattle.nvm_audit.specs.RecordedRun.{RecordedRun}
+use Rattle.nvm_audit.specs.RecordView.{RecordView}
 
 -- job 0, whose one part was done in this unit before any other change there
 abbrev pub done_alone : ℕ → RecordedJob
@@ -30,7 +30,7 @@ abbrev pub entry_alone : Namespace → Operation → ℕ → HistoryEntry
 entry_alone ns op unit = record { pass = 0; job = 0; operation = part_in ns op unit }
 
 -- The one job changes blocks by this operation, in this unit alone, and the one worker did it.
-pub record IsOfOneAct (r : RecordedRun) (op : Operation) (unit : ℕ) : Type 0 where
+pub record IsOfOneAct (r : RecordView) (op : Operation) (unit : ℕ) : Type 0 where
   pub job : Job
   pub jobs : r.jobs ≡ job ∷ []
   pub ready : ready_operation r.namespace job ≡ Some op
@@ -40,6 +40,6 @@ pub record IsOfOneAct (r : RecordedRun) (op : Operation) (unit : ℕ) : Type 0 w
   pub done : r.done ≡ (done_alone unit ∷ []) ∷ []
 
 -- This unit has just this history, and the others have no entry.
-abbrev pub HasJust : RecordedRun → ℕ → List HistoryEntry → Type 0
+abbrev pub HasJust : RecordView → ℕ → List HistoryEntry → Type 0
 HasJust r unit entries =
     (k : ℕ) (history : List HistoryEntry) → IsAt r.units k history → history ≡ (if nat_eq unit k then entries else [])

@@ -1,5 +1,6 @@
 -- What a record file can hold, whether or not any run was so (own). Each record holds just this, by its type. The first
--- version of the file is older than Dataset Management: opcode 09h is an unknown one there.
+-- version of the file is older than Dataset Management: opcode 09h is an unknown one there. That each number fits its field (a
+-- point 4 bytes, a status 1 and 1) isn't said here, since the Rust type of the field says it.
 use Rattle.std.specs.Prelude.{◌≡◌, ◌≢◌, ◌⊎◌, ℕ, ◌*◌, ◌<◌, ◌≤◌, List, length, not, Some, IsTrue}
 use Rattle.std.specs.List.{All}
 use Rattle.nvm_record.specs.declared.command.Command.{Command}
@@ -27,7 +28,7 @@ use Rattle.nvm_store.specs.Place.{IsCovered}
 use Rattle.nvm_audit.specs.declared.version.Version.{Version}
 use Rattle.nvm_audit.specs.declared.version.Version.TheVariants.{One, Two}
 use Rattle.nvm_audit.specs.RecordedJob.{RecordedJob}
-use Rattle.nvm_audit.specs.RecordedRun.{RecordedRun}
+use Rattle.nvm_audit.specs.RecordView.{RecordView}
 
 -- a run has at most so many workers
 abbrev pub most_workers : ℕ
@@ -56,7 +57,7 @@ HoldsBody version (Single c) = HoldsCommand version c
 HoldsBody version (Pair c d) = HoldsCommand version c × HoldsCommand version d
 
 -- The job fits the namespace, and the version has its commands.
-pub record IsRecordableJob (r : RecordedRun) (job : Job) : Type 0 where
+pub record IsRecordableJob (r : RecordView) (job : Job) : Type 0 where
   pub fits : FitsNamespace r.namespace job
   pub known : HoldsBody r.version job.body
 
@@ -75,7 +76,7 @@ HoldsKind Two place op = IsOnRange op.deed ⊎ IsDeallocateOfUnit place op
 
 -- The entry is one that some worker may have made of some job in the unit that lies there: its operation changes blocks of
 -- just this unit.
-pub record IsRecordableEntry (r : RecordedRun) (place : Place) (entry : HistoryEntry) : Type 0 where
+pub record IsRecordableEntry (r : RecordView) (place : Place) (entry : HistoryEntry) : Type 0 where
   pub pass : entry.pass < r.workers
   pub job : entry.job < length r.jobs
   pub act : IsAct entry.operation.deed
@@ -83,7 +84,7 @@ pub record IsRecordableEntry (r : RecordedRun) (place : Place) (entry : HistoryE
   pub kind : HoldsKind r.version place entry.operation
 
 -- The history of the unit is within the limit, and each entry may stand there.
-pub record IsRecordableHistory (r : RecordedRun) (unit : ℕ) (history : List HistoryEntry) : Type 0 where
+pub record IsRecordableHistory (r : RecordView) (unit : ℕ) (history : List HistoryEntry) : Type 0 where
   pub few : length history ≤ r.limit
   pub place : Place
   pub lies : IsUnitPlace r.namespace unit place
@@ -98,7 +99,7 @@ pub record IsLongAsRead (ns : Namespace) (job : Job) (bytes : List ℕ) : Type 0
 
 -- What is recorded of a done job: which of the jobs it is, parts in units of the namespace and no more than there are units, a
 -- status for each of its commands, and data of a Read alone. The points and results of parts, and the statuses, may be any.
-pub record IsRecordableDone (r : RecordedRun) (done : RecordedJob) : Type 0 where
+pub record IsRecordableDone (r : RecordView) (done : RecordedJob) : Type 0 where
   pub job : Job
   pub its : IsAt r.jobs done.job job
   pub few : length done.parts ≤ units_of r.namespace
@@ -107,12 +108,12 @@ pub record IsRecordableDone (r : RecordedRun) (done : RecordedJob) : Type 0 wher
   pub payload : (bytes : List ℕ) → done.payload ≡ Some bytes → IsLongAsRead r.namespace job bytes
 
 -- What a worker did.
-pub record IsRecordableWork (r : RecordedRun) (work : List RecordedJob) : Type 0 where
+pub record IsRecordableWork (r : RecordView) (work : List RecordedJob) : Type 0 where
   pub few : length work ≤ most_jobs
   pub each : All (IsRecordableDone r) work
 
 -- A record file of its version can hold the record.
-pub record IsRecordable (r : RecordedRun) : Type 0 where
+pub record IsRecordable (r : RecordView) : Type 0 where
   pub namespace : IsValid r.namespace
   pub limit : HoldsLimit r.version r.limit
   pub some_worker : 1 ≤ r.workers
@@ -125,7 +126,7 @@ pub record IsRecordable (r : RecordedRun) : Type 0 where
   pub done : All (IsRecordableWork r) r.done
 
 -- The data of each Read that is recorded is as long as the Read's blocks.
-abbrev pub HoldsWholeReads : RecordedRun → Type 0
+abbrev pub HoldsWholeReads : RecordView → Type 0
 HoldsWholeReads r =
     (worker : ℕ) (work : List RecordedJob) (k : ℕ) (done : RecordedJob) (job : Job) (op : Operation) (bytes : List ℕ)
     → IsAt r.done worker work → IsAt work k done → IsAt r.jobs done.job job → ready_operation r.namespace job ≡ Some op

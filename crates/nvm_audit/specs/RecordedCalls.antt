@@ -1,5 +1,6 @@
 -- The placed run of a unit of a record: its entries in order, and between them, at its point, each part that looked or that
--- is of a pair whose comparison failed (own). A part that found no memory, or the history at its limit, stands nowhere.
+-- is of a pair whose comparison failed (own). A part that found no memory, or the history at its limit, has no
+-- place in it.
 use Rattle.std.specs.Prelude.{◌≡◌, ℕ, List, length, filter, Bool, true, false, Some}
 use Rattle.nvm_record.specs.Lists.{IsAt}
 use Rattle.nvm_record.specs.Step.{Operation}
@@ -26,7 +27,8 @@ is_call Full = false
 abbrev pub call_parts : List RecordedPart → List RecordedPart
 call_parts parts = filter (λ p. is_call p.part.result) parts
 
--- The part is this call. What the parts read of a Read that failed in a later unit isn't recorded, so it may be anything.
+-- The part is this call. Of a Read that failed in a later unit no data is recorded, so nothing is said here of what its
+-- earlier parts read.
 pub record IsCallOfPart (ns : Namespace) (jobs : List Job) (p : RecordedPart) (call : Call) : Type 0 where
   pub whole : Operation
   pub does : DoesOperation ns jobs p.done.job whole

@@ -2,9 +2,9 @@
 use Rattle.std.specs.Prelude.{map}
 use Rattle.nvm_audit.specs.declared.record.Record.TheInside.{Inside}
 use Rattle.nvm_audit.specs.Recordable.{IsRecordable}
-use Rattle.nvm_audit.specs.RecordedRun.{RecordedRun}
+use Rattle.nvm_audit.specs.RecordView.{RecordView}
 
-abbrev pub shown_by : Inside → RecordedRun
+abbrev pub shown_by : Inside → RecordView
 shown_by r =
     record {
       version = r.version;

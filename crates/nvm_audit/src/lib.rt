@@ -2,7 +2,7 @@
 //!
 //! A [`Record`] has the jobs of a run, the history of each unit and what each worker did. By its type it holds just what a
 //! record file can hold, whoever made it. Whether it is lawful is a relation in specs alone, over jobs, histories and
-//! done jobs, in which no thread, word or pass occurs; [`laws`] have what holds of it.
+//! done jobs, in which no thread and no word occurs, and a pass only as its worker's number; [`laws`] have what holds of it.
 #![tactic(auto)]
 
 mod done_job;

@@ -13,8 +13,10 @@ use std::marker::Model;
 /// A finished run: its jobs, the changes of each unit, and what each worker did.
 ///
 /// It holds what a record file of its version can hold, which whoever makes one has to prove: 1 to 64 workers; at most
-/// 4,194,304 jobs, which fit the geometry; a history for each unit, of entries within the unit and the limit; and for each
-/// worker the jobs that it did, with parts and statuses that may be any. That it is lawful isn't said.
+/// 4,194,304 jobs, which fit the geometry; a history for each unit, within the limit, of entries that change blocks of just
+/// this unit; and for each worker at most 4,194,304 done jobs. A done job has parts in units of the namespace, no more than
+/// there are units, a status for each of its commands, and data of a Read alone, as long as its blocks. The points and
+/// results of parts, and the statuses, may be any: that the record is lawful isn't said.
 ///
 /// Contracts see it as plain data.
 #[derive(Debug, Drop)]
@@ -35,9 +37,9 @@ pub struct Record {
 }
 
 impl Model for Record {
-    ghost use Rattle.nvm_audit.specs.RecordedRun.{RecordedRun};
+    ghost use Rattle.nvm_audit.specs.RecordView.{RecordView};
 
-    ghost Value = { RecordedRun };
+    ghost Value = { RecordView };
 
     ghost use Rattle.nvm_audit.specs.Shown.{shown_by, IsRecordableAs};
 

@@ -7,7 +7,7 @@ use base.Stored.{Gv, gnil, gnum, gcons}
 use Rattle.nvm_audit.specs.contracts.done_job.DoneJob.{the_row as done_job}
 use Rattle.nvm_audit.specs.contracts.record.Record.{the_row as recorded}
 use Rattle.nvm_audit.specs.RecordedJob.{RecordedJob}
-use Rattle.nvm_audit.specs.RecordedRun.{RecordedRun}
+use Rattle.nvm_audit.specs.RecordView.{RecordView}
 
 -- the numbers of a code, before these
 abbrev pub spelled : Gv → List ℕ → List ℕ
@@ -18,11 +18,11 @@ spelled (gcons a b) rest = 2 ∷ spelled a (spelled b rest)
 unfoldable pub done_job_numbers : RecordedJob → List ℕ
 done_job_numbers d = spelled (done_job.coded.code d) []
 
-unfoldable pub record_numbers : RecordedRun → List ℕ
+unfoldable pub record_numbers : RecordView → List ℕ
 record_numbers r = spelled (recorded.coded.code r) []
 
 abbrev pub same_done_job : RecordedJob → RecordedJob → Bool
 same_done_job = on done_job_numbers (pointwise nat_eq)
 
-abbrev pub same_record : RecordedRun → RecordedRun → Bool
+abbrev pub same_record : RecordView → RecordView → Bool
 same_record = on record_numbers (pointwise nat_eq)

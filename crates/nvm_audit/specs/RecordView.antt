@@ -9,7 +9,7 @@ use Rattle.nvm_audit.specs.RecordedJob.{RecordedJob}
 -- The version of the file that holds it, the namespace, how many entries a unit's history may have, how many workers there
 -- were, and the jobs, each at the place of its number. Then the history of each unit, at the place of the unit, and what each
 -- worker did, in its order, at the place of the worker.
-pub record RecordedRun : Type 0 where
+pub record RecordView : Type 0 where
   pub version : Version
   pub namespace : Namespace
   pub limit : ℕ
