@@ -143,12 +143,9 @@ module _ (looks : KeepsLooks) (has_part : HasPart) (covers : CoversParts) (shape
             record {
               whole = rests.whole;
               does = rests.does;
-              pass = refl;
-              job = refl;
-              point = refl;
-              operation = refl;
-              told = refl;
-              read = rests.payload;
+              read = data_of op m;
+              is = refl;
+              shown = rests.payload;
             };
         on =
             record {
@@ -228,10 +225,10 @@ module _ (looks : KeepsLooks) (has_part : HasPart) (covers : CoversParts) (shape
       let first = of_one (call_parts parts) good_calls i c at in
       let second = of_one (call_parts parts) good_calls j d after in
       let stands = filter_order (λ q. is_call q.part.result) parts i j first.p second.p first.at second.at lt in
-      let first_pass : c.pass ≡ first.p.worker = sym (ap (λ (x : Call). x.pass) first.is) ∙ first.known.of.pass in
-      let second_pass : d.pass ≡ second.p.worker = sym (ap (λ (x : Call). x.pass) second.is) ∙ second.known.of.pass in
-      let first_point : c.point ≡ first.p.part.point = sym (ap (λ (x : Call). x.point) first.is) ∙ first.known.of.point in
-      let second_point : d.point ≡ second.p.part.point = sym (ap (λ (x : Call). x.point) second.is) ∙ second.known.of.point in
+      let first_pass : c.pass ≡ first.p.worker = sym (ap (λ (x : Call). x.pass) first.is) ∙ ap (λ (x : Call). x.pass) first.known.of.is in
+      let second_pass : d.pass ≡ second.p.worker = sym (ap (λ (x : Call). x.pass) second.is) ∙ ap (λ (x : Call). x.pass) second.known.of.is in
+      let first_point : c.point ≡ first.p.part.point = sym (ap (λ (x : Call). x.point) first.is) ∙ ap (λ (x : Call). x.point) first.known.of.is in
+      let second_point : d.point ≡ second.p.part.point = sym (ap (λ (x : Call). x.point) second.is) ∙ ap (λ (x : Call). x.point) second.known.of.is in
       let workers : second.p.worker ≡ first.p.worker = sym second_pass ∙ same ∙ first_pass in
       let least = its.order stands.0 stands.1 first.p second.p stands.2 stands.3 stands.4 workers in
       let low = point_behind first.p.part first.p.part.result in
