@@ -11,3 +11,4 @@ pub mod Held
 pub mod DoneParts
 pub mod OneActHeld
 pub mod LawfulHeld
+pub mod InOrder
