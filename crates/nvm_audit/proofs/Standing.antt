@@ -1,5 +1,5 @@
 -- What stands at a place of a list that is made of others.
-use Rattle.std.proofs.Common.{◌≡◌, ◌⊎◌, ℕ, zero, suc, ◌<◌, List, [], ◌∷◌, ◌++◌, length, filter, cond, Bool, true, false, get_or, refl, sym, subst, ◌∙◌, Contains, arith, inl, inr, All}
+use Rattle.std.proofs.Common.{◌≡◌, ◌⊎◌, ℕ, zero, suc, ◌<◌, List, [], ◌∷◌, ◌++◌, length, filter, cond, Bool, true, false, get_or, refl, sym, subst, ap, ◌∙◌, Contains, arith, inl, inr, All}
 use Rattle.std.proofs.lemmas.List.Elements.{All-head, All-tail}
 use Rattle.std.specs.List.{flat_map}
 use mathlib.Core.Option.{some-injective, some-ne-none}
@@ -57,6 +57,17 @@ module _ {A : Type 0} where
       by behind true t zero e = let same : y ≡ x = some-injective y x e in (rw same at t, (zero, e))
       by behind true t (suc i) e = let rest = behind i e in (rest.0, (suc rest.1.0, rest.1.1))
       by behind false t i e = let rest = behind i e in (rest.0, (suc rest.1.0, rest.1.1))
+
+  pub in_filter_back : (f : A → Bool) (xs : List A) (i : ℕ) (x : A) → IsAt xs i x → f x ≡ true → Stands (filter f xs) x
+  in_filter_back f [] i x e t = absurd (none_stands i x e)
+  in_filter_back f (y ∷ ys) zero x e t =
+      let same : f y ≡ true = ap f (some-injective y x e) ∙ t in
+      subst (λ (b : Bool). Stands (cond b (y ∷ filter f ys) (filter f ys)) x) (sym same) (0, e)
+  in_filter_back f (y ∷ ys) (suc i) x e t = by (f y) (in_filter_back f ys i x e t)
+    where
+      by : (b : Bool) → Stands (filter f ys) x → Stands (cond b (y ∷ filter f ys) (filter f ys)) x
+      by true h = (suc h.0, h.1)
+      by false h = h
 
   -- What stands before another thing among those that pass a test stands before it among all.
   pub filter_order : (f : A → Bool) (xs : List A) (i j : ℕ) (x y : A) → IsAt (filter f xs) i x → IsAt (filter f xs) j y → i < j

@@ -1,7 +1,7 @@
 -- The placed run of a unit of a record: its entries in order, and between them, at its point, each part that looked or that
 -- is of a pair whose comparison failed (own). A part that found no memory, or the history at its limit, has no
 -- place in it.
-use Rattle.std.specs.Prelude.{◌≡◌, ℕ, List, length, filter, Bool, true, false, Option, Some}
+use Rattle.std.specs.Prelude.{◌≡◌, ℕ, nat_eq, List, [], ◌∷◌, filter, Option, Some}
 use Rattle.nvm_record.specs.Lists.{IsAt}
 use Rattle.nvm_record.specs.Step.{Operation}
 use Rattle.nvm_geometry.specs.Namespace.{Namespace}
@@ -13,21 +13,11 @@ use Rattle.nvm_plan.specs.CallOf.{resting_call}
 use Rattle.nvm_plan.specs.Reply.{Reply}
 use Rattle.nvm_store.specs.Call.{Call}
 use Rattle.nvm_store.specs.HistoryEntry.{HistoryEntry}
-use Rattle.nvm_store.specs.PlacedRun.{RunStep, IsPlacedRun}
+use Rattle.nvm_store.specs.PlacedRun.{RunStep, changes, answers, entries_in, StandAtPoints}
+use Rattle.nvm_store.specs.PassOrder.{steps_by}
+use Rattle.nvm_audit.specs.LawfulUnit.{MadeEntry}
 use Rattle.nvm_audit.specs.RecordedPart.{RecordedPart, told_of}
 use Rattle.nvm_audit.specs.Resting.{DoesOperation, data_in}
-
--- a part that ended so rests on its point without an entry there: it is a call (`call_by_result` of nvm_plan)
-abbrev pub is_call : PartResult → Bool
-is_call Done = false
-is_call Failed = true
-is_call Looked = true
-is_call NoMemory = false
-is_call Full = false
-
--- those of the parts that are calls, in their order
-abbrev pub call_parts : List RecordedPart → List RecordedPart
-call_parts parts = filter (λ p. is_call p.part.result) parts
 
 -- the reply of a part that read this
 abbrev pub reply_shown : RecordedPart → Option (List ℕ) → Reply
@@ -42,15 +32,33 @@ pub record IsCallOfPart (ns : Namespace) (jobs : List Job) (p : RecordedPart) (c
   pub is : call ≡ resting_call p.worker p.done.job (part_in ns whole p.part.unit) (reply_shown p read)
   pub shown : (bytes : List ℕ) → p.done.payload ≡ Some bytes → read ≡ Some (data_in ns whole p.part.unit bytes)
 
--- These are the calls of the parts, one for each, in their order.
-pub record AreCallsOf (ns : Namespace) (jobs : List Job) (parts : List RecordedPart) (calls : List Call) : Type 0 where
-  pub count : length calls ≡ length (call_parts parts)
-  pub each : (i : ℕ) (p : RecordedPart) (call : Call) → IsAt (call_parts parts) i p → IsAt calls i call
-      → IsCallOfPart ns jobs p call
+-- The steps begin with that of a part that ended so, and the rest follows: one that was done has its entry, one that looked and
+-- a failed pair the call, and one that found no memory or a full history no step.
+abbrev pub BeginsWithStep : Namespace → List Job → List HistoryEntry → RecordedPart → (List RunStep → Type 0) → PartResult → List RunStep → Type 0
+BeginsWithStep ns jobs history p rest Done steps =
+    (entry : HistoryEntry) × IsAt history p.part.point entry × MadeEntry p.part.point entry p
+    × (left : List RunStep) × (steps ≡ changes entry ∷ left) × rest left
+BeginsWithStep ns jobs history p rest Failed steps =
+    (call : Call) × IsCallOfPart ns jobs p call × (left : List RunStep) × (steps ≡ answers call ∷ left) × rest left
+BeginsWithStep ns jobs history p rest Looked steps =
+    (call : Call) × IsCallOfPart ns jobs p call × (left : List RunStep) × (steps ≡ answers call ∷ left) × rest left
+BeginsWithStep ns jobs history p rest NoMemory steps = rest steps
+BeginsWithStep ns jobs history p rest Full steps = rest steps
 
--- The run is a placed run of the unit with this history, which these parts name.
+-- These are the steps of the parts, in their order.
+abbrev pub AreStepsOf : Namespace → List Job → List HistoryEntry → List RecordedPart → List RunStep → Type 0
+AreStepsOf ns jobs history [] steps = steps ≡ []
+AreStepsOf ns jobs history (p ∷ ps) steps =
+    BeginsWithStep ns jobs history p (AreStepsOf ns jobs history ps) p.part.result steps
+
+-- the parts of one worker, in its order
+abbrev pub parts_by : ℕ → List RecordedPart → List RecordedPart
+parts_by worker parts = filter (λ p. nat_eq p.worker worker) parts
+
+-- The run is a placed run of the unit with this history, which these parts name: it has just the history's entries, in
+-- order, and just the steps of each worker's parts, in the worker's order; and each call stands at its point.
 pub record IsPlacedRunOf (ns : Namespace) (jobs : List Job) (history : List HistoryEntry) (parts : List RecordedPart)
     (run : List RunStep) : Type 0 where
-  pub calls : List Call
-  pub are : AreCallsOf ns jobs parts calls
-  pub placed : IsPlacedRun history calls run
+  pub whole : entries_in run ≡ history
+  pub in_order : (worker : ℕ) → AreStepsOf ns jobs history (parts_by worker parts) (steps_by worker run)
+  pub at_points : StandAtPoints 0 run

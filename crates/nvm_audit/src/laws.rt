@@ -32,7 +32,9 @@ use nvm_geometry::laws::{
     each_unit_has_one_place, parts_keep_their_kind, units_met_are_those_reached,
 };
 use nvm_plan::laws::{each_command_has_a_status, parts_of_jobs, ready_jobs, shapes_by_plan};
-use nvm_store::laws::{placed_runs_are_runs, single_act_succeeds, there_is_a_placed_run};
+use nvm_store::laws::{
+    placed_runs_are_runs, placed_runs_keep_order, single_act_succeeds, there_is_a_placed_run,
+};
 
 /// What is made of the jobs of a record can be held in it: the part of a job in a unit, as an entry of that unit, and what has
 /// the shape of a job's outcome, with the bytes of a Read's blocks, as a done job.
@@ -120,8 +122,8 @@ pub fn one_act_can_be_held()
 }
 
 /// Each unit of a lawful record is a one-thread block store: there is a placed run of it, which is its entries in order and
-/// between them, at its point, each part that looked or whose pair failed, and that is a run of the step from zero bytes, in
-/// which every entry succeeds and each part has the answer that it got.
+/// between them, at its point, each part that looked or whose pair failed, with each worker's parts in the worker's order; and
+/// that is a run of the step from zero bytes, in which every entry succeeds and each part has the answer that it got.
 pub fn lawful_units_are_runs()
     ensures { (r : RecordView) (unit : ℕ) (history : List HistoryEntry) → IsRecordable r → IsLawfulRecord r
         → IsAt r.units unit history
@@ -133,4 +135,5 @@ pub fn lawful_units_are_runs()
     shapes_by_plan();
     there_is_a_placed_run();
     placed_runs_are_runs();
+    placed_runs_keep_order();
 }
