@@ -1,0 +1,14 @@
+pub mod Codes
+pub mod Mapped
+pub mod Standing
+pub mod PartsFrom
+pub mod NoJobs
+pub mod Unrefused
+pub mod OneActs
+pub mod Told
+pub mod RecordRuns
+pub mod Held
+pub mod DoneParts
+pub mod OneActHeld
+pub mod LawfulHeld
+pub mod InOrder

@@ -1,0 +1,2 @@
+-- What `==` of records computes.
+pub mod Same

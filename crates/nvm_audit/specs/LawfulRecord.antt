@@ -1,0 +1,38 @@
+-- The lawful record: when the answers of a run are those of one-thread block stores, one for each atomic unit, whatever the
+-- order in which its workers did their jobs (own): for commands within the advertised limits, that is the atomicity of NVM
+-- Command Set Specification, "Atomic Operation" and "Atomic Boundaries", and of Base Specification, "Fused Operation". It is
+-- said of a record that a file can hold (`Recordable.antt`), whose numbers are in their ranges and whose data is whole. How a
+-- run came to it isn't asked.
+use Rattle.std.specs.Prelude.{◌≡◌, ℕ, ◌<◌, nat_eq, List, length, count_by}
+use Rattle.std.specs.List.{sum_by}
+use Rattle.nvm_record.specs.Lists.{IsAt}
+use Rattle.nvm_geometry.specs.Namespace.{Namespace}
+use Rattle.nvm_plan.specs.declared.job.Job.{Job}
+use Rattle.nvm_plan.specs.Shape.{HasOutcomeShape}
+use Rattle.nvm_store.specs.HistoryEntry.{HistoryEntry}
+use Rattle.nvm_audit.specs.LawfulUnit.{IsLawfulUnit}
+use Rattle.nvm_audit.specs.RecordedJob.{RecordedJob}
+use Rattle.nvm_audit.specs.RecordedPart.{parts_in_unit}
+use Rattle.nvm_audit.specs.RecordView.{RecordView}
+
+-- how often the job of this number was done
+abbrev pub times_done : ℕ → List (List RecordedJob) → ℕ
+times_done number done = sum_by (λ work. count_by (λ d. nat_eq d.job number) work) done
+
+-- What is recorded of a done job has the shape of an outcome of its job: no part of a refused one; else the parts of the
+-- first units in which it has one, with results that its command can have, the last of which decides; and data just of a
+-- Read that succeeded.
+pub record HasItsShape (ns : Namespace) (jobs : List Job) (d : RecordedJob) : Type 0 where
+  pub job : Job
+  pub its : IsAt jobs d.job job
+  pub shape : HasOutcomeShape ns job d.parts d.statuses d.payload
+
+pub record IsLawfulRecord (r : RecordView) : Type 0 where
+  -- Each job was done once.
+  pub once : (number : ℕ) → number < length r.jobs → times_done number r.done ≡ 1
+  -- Each done job has the shape of its outcome.
+  pub shapes : (worker : ℕ) (work : List RecordedJob) (k : ℕ) (d : RecordedJob) → IsAt r.done worker work → IsAt work k d
+      → HasItsShape r.namespace r.jobs d
+  -- Each unit's history is lawful, with the parts that name the unit.
+  pub units : (unit : ℕ) (history : List HistoryEntry) → IsAt r.units unit history
+      → IsLawfulUnit r.namespace r.limit r.jobs unit history (parts_in_unit unit r.done)

@@ -1,0 +1,12 @@
+pub mod RecordedJob
+pub mod RecordView
+pub mod Recordable
+pub mod Shown
+pub mod RecordedPart
+pub mod Resting
+pub mod PointOrder
+pub mod LawfulUnit
+pub mod LawfulRecord
+pub mod RecordedCalls
+pub mod OneAct
+pub mod Inside

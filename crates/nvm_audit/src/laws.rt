@@ -1,0 +1,139 @@
+//! What holds of records by their definition alone. Each law is a call that does nothing and whose contract is the law.
+
+ghost use Rattle.std.specs.Prelude.{◌≡◌, ℕ, ◌*◌, ◌<◌, ◌≤◌, List, [], ◌∷◌, All, length, Some, None};
+ghost use Rattle.nvm_record.specs.Deeds.{IsAct, IsSingle, success_of};
+ghost use Rattle.nvm_record.specs.Lists.{IsAt};
+ghost use Rattle.nvm_record.specs.Medium.{zero_medium};
+ghost use Rattle.nvm_record.specs.Step.{Operation};
+ghost use Rattle.nvm_geometry.specs.Boundaries.{units_of};
+ghost use Rattle.nvm_geometry.specs.Faults.{IsValid};
+ghost use Rattle.nvm_geometry.specs.Namespace.{Namespace};
+ghost use Rattle.nvm_geometry.specs.Parts.{units_met};
+ghost use Rattle.nvm_plan.specs.declared.job.Job.{Job};
+ghost use Rattle.nvm_plan.specs.declared.part.PartResult.TheVariants.{Done};
+ghost use Rattle.nvm_plan.specs.Fits.{FitsNamespace};
+ghost use Rattle.nvm_plan.specs.JobPart.{ready_operation, job_part_in};
+ghost use Rattle.nvm_plan.specs.Shape.{HasOutcomeShape};
+ghost use Rattle.nvm_plan.specs.UnitPlace.{IsUnitPlace};
+ghost use Rattle.nvm_store.specs.declared.place.Place.{Place as UnitPlace};
+ghost use Rattle.nvm_store.specs.HistoryEntry.{HistoryEntry};
+ghost use Rattle.nvm_store.specs.PlacedRun.{RunStep, IsRunFrom};
+ghost use Rattle.nvm_store.specs.Point.{RestsOn};
+ghost use Rattle.nvm_audit.specs.declared.version.Version.{Version as FileVersion};
+ghost use Rattle.nvm_audit.specs.LawfulRecord.{IsLawfulRecord};
+ghost use Rattle.nvm_audit.specs.OneAct.{entry_alone, IsOfOneAct, HasJust};
+ghost use Rattle.nvm_audit.specs.Recordable.{most_workers, most_jobs, HoldsLimit, HoldsBody, HoldsWholeReads, IsRecordable, IsRecordableJob, IsRecordableEntry, IsRecordableDone};
+ghost use Rattle.nvm_audit.specs.RecordedCalls.{IsPlacedRunOf};
+ghost use Rattle.nvm_audit.specs.RecordedJob.{RecordedJob};
+ghost use Rattle.nvm_audit.specs.RecordedPart.{RecordedPart, parts_in_unit};
+ghost use Rattle.nvm_audit.specs.RecordView.{RecordView};
+
+use nvm_geometry::laws::{
+    each_unit_has_one_place, parts_keep_their_kind, units_met_are_those_reached,
+};
+use nvm_plan::laws::{each_command_has_a_status, parts_of_jobs, ready_jobs, shapes_by_plan};
+use nvm_store::laws::{
+    placed_runs_are_runs, placed_runs_keep_order, single_act_succeeds, there_is_a_placed_run,
+};
+
+/// What is made of the jobs of a record can be held in it: the part of a job in a unit, as an entry of that unit, and what has
+/// the shape of a job's outcome, with the bytes of a Read's blocks, as a done job.
+pub fn what_jobs_make_can_be_held()
+    ensures entries { (r : RecordView) (job : Job) (unit : ℕ) (place : UnitPlace) (entry : HistoryEntry)
+        → IsValid r.namespace → IsAt r.jobs entry.job job → IsRecordableJob r job
+        → job_part_in r.namespace job unit ≡ Some entry.operation → IsAct entry.operation.deed → entry.pass < r.workers
+        → IsUnitPlace r.namespace unit place → IsRecordableEntry r place entry }
+    ensures done { (r : RecordView) (job : Job) (d : RecordedJob) → IsAt r.jobs d.job job
+        → HasOutcomeShape r.namespace job d.parts d.statuses d.payload
+        → ((op : Operation) (bytes : List ℕ) → ready_operation r.namespace job ≡ Some op → d.payload ≡ Some bytes
+        → length bytes ≡ op.blocks * r.namespace.block_size)
+        → IsRecordableDone r d }
+{
+    parts_of_jobs();
+    parts_keep_their_kind();
+    ready_jobs();
+    units_met_are_those_reached();
+    each_unit_has_one_place();
+    each_command_has_a_status();
+}
+
+/// A lawful record can be held where its jobs can, its numbers are in their ranges, and the data of its Reads is whole.
+pub fn lawful_records_can_be_held()
+    ensures { (r : RecordView) → IsLawfulRecord r → IsValid r.namespace → HoldsLimit r.version r.limit
+        → length r.units ≡ units_of r.namespace
+        → ((unit : ℕ) (history : List HistoryEntry) → IsAt r.units unit history → length history ≤ r.limit)
+        → 1 ≤ r.workers → r.workers ≤ most_workers → length r.done ≡ r.workers
+        → All (IsRecordableJob r) r.jobs → length r.jobs ≤ most_jobs → All (λ work. length work ≤ most_jobs) r.done
+        → HoldsWholeReads r → IsRecordable r }
+{
+    parts_of_jobs();
+    parts_keep_their_kind();
+    ready_jobs();
+    units_met_are_those_reached();
+    each_unit_has_one_place();
+    each_command_has_a_status();
+}
+
+/// In a lawful record a part that was done rests on its point: it is the job's part in the unit, and succeeds there.
+pub fn done_parts_rest_on_their_points()
+    ensures { (r : RecordView) (unit k : ℕ) (history : List HistoryEntry) (p : RecordedPart) → IsLawfulRecord r
+        → IsAt r.units unit history → IsAt (parts_in_unit unit r.done) k p → p.part.result ≡ Done
+        → (job : Job) × (op : Operation) × IsAt r.jobs p.done.job job × (job_part_in r.namespace job unit ≡ Some op)
+        × RestsOn r.namespace.block_size history p.part.point op (success_of op.deed) None }
+{}
+
+/// A record without jobs is lawful: nothing can have been done in it.
+pub fn no_jobs_are_lawful()
+    ensures { (r : RecordView) → IsRecordable r → r.jobs ≡ [] → IsLawfulRecord r }
+{}
+
+/// A record of one command that changes blocks of one unit is lawful with its entry, and not without it.
+pub fn one_act_is_lawful_with_its_entry()
+    ensures lawful { (r : RecordView) (op : Operation) (unit : ℕ) → IsRecordable r → IsOfOneAct r op unit
+        → HasJust r unit (entry_alone r.namespace op unit ∷ []) → IsLawfulRecord r }
+    ensures left_out { (r : RecordView) (op : Operation) (unit : ℕ) → IsRecordable r → IsOfOneAct r op unit
+        → HasJust r unit [] → ¬ IsLawfulRecord r }
+{
+    parts_keep_their_kind();
+    parts_of_jobs();
+    shapes_by_plan();
+    single_act_succeeds();
+}
+
+/// There are such records, of each such command: one with the entry, and one without it.
+pub fn one_act_can_be_held()
+    ensures with_entry { (version : FileVersion) (ns : Namespace) (limit : ℕ) (job : Job) (op : Operation) (unit : ℕ)
+        → IsValid ns → HoldsLimit version limit → FitsNamespace ns job → HoldsBody version job.body
+        → ready_operation ns job ≡ Some op → IsAct op.deed → IsSingle op.deed → units_met ns op ≡ unit ∷ []
+        → (r : RecordView) × (r.namespace ≡ ns) × IsRecordable r × IsOfOneAct r op unit
+        × HasJust r unit (entry_alone ns op unit ∷ []) }
+    ensures without { (version : FileVersion) (ns : Namespace) (limit : ℕ) (job : Job) (op : Operation) (unit : ℕ)
+        → IsValid ns → HoldsLimit version limit → FitsNamespace ns job → HoldsBody version job.body
+        → ready_operation ns job ≡ Some op → IsAct op.deed → IsSingle op.deed → units_met ns op ≡ unit ∷ []
+        → (r : RecordView) × (r.namespace ≡ ns) × IsRecordable r × IsOfOneAct r op unit × HasJust r unit [] }
+{
+    parts_of_jobs();
+    parts_keep_their_kind();
+    shapes_by_plan();
+    ready_jobs();
+    units_met_are_those_reached();
+    each_unit_has_one_place();
+    each_command_has_a_status();
+}
+
+/// Each unit of a lawful record is a one-thread block store: there is a placed run of it, which is its entries in order and
+/// between them, at its point, each part that looked or whose pair failed, with each worker's parts in the worker's order; and
+/// that is a run of the step from zero bytes, in which every entry succeeds and each part has the answer that it got.
+pub fn lawful_units_are_runs()
+    ensures { (r : RecordView) (unit : ℕ) (history : List HistoryEntry) → IsRecordable r → IsLawfulRecord r
+        → IsAt r.units unit history
+        → (run : List RunStep) × IsPlacedRunOf r.namespace r.jobs history (parts_in_unit unit r.done) run
+        × IsRunFrom r.namespace.block_size (zero_medium r.namespace.block_size) run }
+{
+    parts_keep_their_kind();
+    parts_of_jobs();
+    shapes_by_plan();
+    there_is_a_placed_run();
+    placed_runs_are_runs();
+    placed_runs_keep_order();
+}
