@@ -8,3 +8,4 @@ pub mod Joined
 pub mod DeedLemmas
 pub mod PartReplies
 pub mod Progress
+pub mod PortsKept

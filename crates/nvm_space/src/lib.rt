@@ -14,6 +14,8 @@ mod replies;
 mod running;
 mod space;
 mod space_fault;
+#[cfg(test)]
+mod tests;
 
 pub use job_done::JobDone;
 pub use port::Port;
