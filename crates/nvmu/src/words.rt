@@ -140,8 +140,7 @@ fn settings_of(run: &ArgMatches<'_>) -> Option<Settings>
         workers: run.get_one::<u16>("workers")?,
         limit,
     };
-    let is_in_range =
-        1 <= settings.workers && settings.workers <= 64 && limit.entries() <= 65_536;
+    let is_in_range = 1 <= settings.workers && settings.workers <= 64 && limit.entries() <= 65_536;
     if is_in_range { Some(settings) } else { None }
 }
 
