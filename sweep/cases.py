@@ -4,7 +4,6 @@ A case has `whole`, which looks at a run with nothing refused, and `refused`, wh
 growths refused: it says in a word how that ended. Both raise ValueError where it is no right end.
 """
 
-import ast
 import re
 import signal
 from dataclasses import dataclass, field
@@ -83,10 +82,8 @@ class Test:
     The two are told apart by what it prints. An error that leaves the test by `?` prints its Debug text
     behind 'error: ' and gives status 101; that of want of memory has the name of the error in it. An
     assertion that compares what a call gave with what it gives in ample memory prints both and aborts:
-    what it gave must then be the error, the line of want of memory, or a text whose first difference is
-    a 0/06 of the same command. The lines after that depend on the blocks that the command left, of which
-    the runs of the program itself are held to the model. Any other assertion is a wrong value: no test
-    takes a call's want of memory for its answer."""
+    what it gave must then be the error, or the line of want of memory. Any other assertion is a wrong value:
+    no test takes a call's want of memory for its answer."""
 
     name: str
     words: list
@@ -114,27 +111,4 @@ class Test:
         if sides and end.status == -signal.SIGABRT:
             if GIVEN_FOR_MEMORY.fullmatch(sides[1]):
                 return "no memory"
-            if is_first_difference_for_memory(*map(bytes_of, sides.groups())):
-                return "with 0/06"
         raise ValueError("the test fails by something else than want of memory")
-
-
-def bytes_of(debug):
-    """The bytes that were printed as a list of numbers."""
-    try:
-        return bytes(ast.literal_eval(debug))
-    except (SyntaxError, TypeError, ValueError):
-        raise ValueError("an assertion fails that compares no bytes") from None
-
-
-def is_first_difference_for_memory(left, right):
-    left, right = left.decode().split("\n"), right.decode().split("\n")
-    place, got, wanted = next(((i, a, b) for i, (a, b) in enumerate(zip(left, right)) if a != b), (0, "", ""))
-    # A Read may want memory before it comes to a mark. A Compare never does, nor does that of a pair.
-    may_be = {"write": ["0/00"], "zeroes": ["0/00"], "uncorrectable": ["0/00"], "dataset": ["0/00"], "read": ["0/00", "2/81"]}
-    told = wanted.split()
-    is_answer = got == " ".join([*told[:3], "0/06"]) and told[3] in may_be.get(told[2], [])
-    # A command that is 0/06 in both, for a full unit, may have been stopped in an earlier one by want of
-    # memory, and then it left other blocks.
-    was_stopped = any(line.endswith(" 0/06") for line in left[:place])
-    return (is_answer or was_stopped) and [it.split()[:3] for it in left] == [it.split()[:3] for it in right]

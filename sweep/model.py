@@ -2,8 +2,8 @@
 
 What isn't decided by the files alone is which growths of memory are refused. So a job has several ends
 here, those in which it wants memory among them, and `Model.wants` follows all of those that print what the
-program printed. It knows nothing of how the program is made but this: a job that is refused a growth ends
-with it, and asks for no more.
+program printed. It knows nothing of how the program is made but this: a job asks for its list of parts
+before the first, and one that is refused a growth ends with it, and asks for no more.
 """
 
 import re
