@@ -33,7 +33,7 @@ abbrev pub parts_of_workers : ℕ → List (List RecordedJob) → List RecordedP
 parts_of_workers worker [] = []
 parts_of_workers worker (work ∷ rest) = parts_of_work worker work ++ parts_of_workers (worker + 1) rest
 
--- The parts that name the unit: by worker, and those of one worker in its order.
+-- What all workers did in the unit: the first worker's parts in its order, then the next one's.
 abbrev pub parts_in_unit : ℕ → List (List RecordedJob) → List RecordedPart
 parts_in_unit unit done = filter (λ p. nat_eq p.part.unit unit) (parts_of_workers 0 done)
 

@@ -24,8 +24,8 @@ pub record DoesOperation (ns : Namespace) (jobs : List Job) (number : ℕ) (whol
 
 -- What was recorded of a part that ended so is right, by its unit's history. One that was done, one that looked, and a pair
 -- whose comparison failed rest on their point. One that found no memory, or the history at its limit, doesn't: nothing was
--- done, and it would have succeeded there, since a pair compares before either is looked at; the limit is looked at before
--- memory is asked for. Of a look that found no memory nothing is known.
+-- done, and it would have succeeded there, since a pair compares before either is looked at; memory is asked
+-- for only below the limit. Of a look that found no memory nothing is known.
 abbrev pub HasRightStatus : ℕ → ℕ → List HistoryEntry → Operation → RecordedPart → PartResult → Type 0
 HasRightStatus size limit history op p Done = RestsOn size history p.part.point op (success_of op.deed) None
 HasRightStatus size limit history op p Failed =

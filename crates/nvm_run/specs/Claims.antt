@@ -8,11 +8,11 @@ pub record ClaimState : Type 0 where
   pub word : ℕ
   pub lists : List (List ℕ)
 
--- how often the number stands in the list
+-- how many times one worker drew the number
 abbrev pub times : ℕ → List ℕ → ℕ
 times x xs = count_by (λ y. y == x) xs
 
--- how often it stands in the lists together
+-- how many times all workers together drew it
 abbrev pub times_in : ℕ → List (List ℕ) → ℕ
 times_in x lists = sum_by (times x) lists
 

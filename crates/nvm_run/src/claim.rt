@@ -27,7 +27,7 @@ impl Model for Claim {
 }
 
 impl Claim {
-    /// Its seat.
+    /// Its token.
     pub(crate) fn into_token(self) -> Token
         ensures table { result.seat.table_id ≡ self.table }
         ensures me { result.seat.me ≡ resting (self.drawn ∷ []) }

@@ -9,8 +9,8 @@ pub fn draws_keep_claims()
     ensures reached { (jobs workers : ℕ) (s : ClaimState) → IsReached jobs workers s → IsClaims jobs s }
 {}
 
-/// Where each of one or more workers did its drawn numbers below the number of jobs, and drew one past them,
-/// each job is done once, and nothing else is done.
+/// Where each of one or more workers did those of its numbers that are jobs', and drew one that is none, each job is
+/// done once, and nothing else is done.
 pub fn each_job_is_done_once()
     ensures { (jobs : ℕ) (s : ClaimState) (dones : List (List ℕ))
         → IsClaims jobs s → 0 < length s.lists → HaveEnded jobs dones s.lists → AreDoneOnce jobs dones }

@@ -65,7 +65,10 @@ fn histories_hold_what_all_threads_did(rt: HostRuntime) -> Result<(), Fail> {
         { work(&rt, alloc, at, port, &tally) },
     )?;
     let histories = space.close(alloc, ports)?;
-    let mut entries = tally.without_memory.load(Ordering::SeqCst);
+    if tally.without_memory.load(Ordering::SeqCst) > 0 {
+        return Err(Fail::new("there was no memory"));
+    }
+    let mut entries: u64 = 0;
     for history in &histories {
         entries = entries.wrapping_add(history.len() as u64);
     }
