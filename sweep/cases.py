@@ -76,6 +76,21 @@ class Run:
 
 
 @dataclass
+class Threads(Run):
+    """A run by several workers, whose text doesn't depend on how they take turns."""
+
+    def has_threads(self):
+        return True
+
+    def is_passed(self, end):
+        try:
+            self.whole(end)
+        except ValueError:
+            return False
+        return True
+
+
+@dataclass
 class Test:
     """A test, run by its name. Want of memory may end it, a wrong value not.
 

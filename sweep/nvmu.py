@@ -3,7 +3,7 @@
 import os
 import random
 
-from cases import Run
+from cases import Run, Threads
 from host_files import compare, dataset, file_of, mixed, pair, read, uncorrectable, unknown, write, zeroes
 from model import Model, Namespace
 
@@ -155,6 +155,23 @@ def two_hosts():
     return [file_of([*one, zeroes(9, 4), read(0, 8), read(9, 23)]), file_of(other)]
 
 
+def hosts_apart(count):
+    """So many hosts' files, of commands on blocks that no other host names, so that each command has one answer, whatever
+    the order in which workers do the hosts' jobs: a Write and a pair of blocks that none of its others name, a Read of one that
+    nobody writes, and commands that are refused."""
+    return [
+        file_of([
+            write(4 * host, 0x41 + host),
+            *pair(compare(4 * host + 1, 0), write(4 * host + 1, 0x61 + host)),
+            read(4 * host + 2, 2),
+            *pair(compare(4 * host + 2, 1), write(4 * host + 2, 2)),
+            zeroes(4 * count, 1),
+            unknown(0, 1),
+        ])
+        for host in range(count)
+    ]
+
+
 def hosts_of_one_or_two(count):
     """So many hosts' files, by turns of a Write and a Read and of a Read alone."""
     return [file_of([write(host, host), read(0, count)][host % 2 :]) for host in range(count)]
@@ -188,6 +205,11 @@ def runs(folder):
     def lines(name, files, **changed):
         paths = [kept(f"{name}-{host}", file) for host, file in enumerate(files, 1)]
         return Run(name, "nvmu", words(paths, **changed), model=Model(Namespace(**changed), files))
+
+    def by_workers(name, files, workers, **changed):
+        paths = [kept(f"{name}-{host}", file) for host, file in enumerate(files, 1)]
+        model = Model(Namespace(**changed), files)
+        return Threads(name, "nvmu", words(paths, workers=workers, **changed), model=model)
 
     def fault(name, line, paths, **changed):
         return Run(name, "nvmu", words(paths, **changed), 1, err=f"nvmu: {line}\n")
@@ -224,6 +246,10 @@ def runs(folder):
         lines("sixty commands", [mixed(1, 60, 32, 4096)], block=4096, limit=15),
         lines("sixty commands over units", [mixed(2, 60, 32)], **EIGHTS, limit=8),
         *(lines(f"by chance, {seed}", files, **options) for seed, files, options in map(by_chance, range(1, 6))),
+        by_workers("two workers", hosts_apart(4), 2, nsze=16, nabsn=3),
+        by_workers("four workers on one unit", hosts_apart(6), 4, nsze=24),
+        by_workers("sixty-four workers", hosts_apart(3), 64, nsze=12, nabsn=7),
+        by_workers("two workers and no commands", [none], 2),
         lines("no commands", [none]),
         lines("no commands of two hosts", [none, none]),
         fault("an empty file", "host 1: bad name", [empty]),
