@@ -11,6 +11,8 @@ mod claim;
 mod counter;
 pub mod laws;
 mod rule;
+mod run;
+mod run_fault;
 mod seats;
 mod steps;
 #[cfg(test)]
@@ -18,3 +20,5 @@ mod tests;
 
 pub use claim::Claim;
 pub use counter::{Counter, MOST_WORKERS};
+pub use run::run;
+pub use run_fault::RunFault;
