@@ -6,3 +6,12 @@ pub mod DoneOnce
 pub mod Dealt
 pub mod Drawing
 pub mod Coming
+pub mod InLists
+pub mod KnownLaws
+pub mod PartTaken
+pub mod PartRests
+pub mod OnePass
+pub mod PortParts
+pub mod WorkersParts
+pub mod GatheredUnit
+pub mod GatheredRecord
