@@ -20,9 +20,10 @@ use Rattle.nvm_run.proofs.KnownLaws.{AnswerLaws, MarkLaws, HistoryLaws}
 use Rattle.nvm_run.proofs.Places.{at_below}
 use Rattle.nvm_run.proofs.PortParts.{JobsAreShown, job_was_done}
 
-module _ (answers : AnswerLaws) (marks : MarkLaws) (histories : HistoryLaws) (s : SpaceName) (ports : List PortState) (r : RecordView)
-    (shown : JobsAreShown s.namespace r.jobs)
-    (shaped : (d : RecordedJob) (old new : List PassView) → HasDoneJob s.namespace r.jobs d old new → HasItsShape s.namespace r.jobs d)
+module _ (answers : AnswerLaws) (marks : MarkLaws) (histories : HistoryLaws) (s : SpaceName) (ports : List PortState)
+    (r : RecordView) (shown : JobsAreShown s.namespace r.jobs)
+    (shaped : (d : RecordedJob) (old new : List PassView) → HasDoneJob s.namespace r.jobs d old new
+    → HasItsShape s.namespace r.jobs d)
     (gathered : IsGathered s ports r) where
   job_shaped : (worker : ℕ) (work : List RecordedJob) (i : ℕ) (d : RecordedJob) → IsAt r.done worker work → IsAt work i d
       → HasItsShape r.namespace r.jobs d

@@ -1,7 +1,6 @@
 -- What a gathered record shows of one unit is lawful.
-use Rattle.std.proofs.Common.{◌≡◌, ℕ, ◌<◌, ◌≤◌, List, length, map, subst, refl, sym, ap, ◌∙◌, arith, inl, inr, Option, Some}
+use Rattle.std.proofs.Common.{◌≡◌, ℕ, ◌<◌, ◌≤◌, List, length, subst, refl, sym, ap, ◌∙◌, arith, inl, inr, Some}
 use Rattle.nvm_record.specs.Lists.{IsAt}
-use Rattle.nvm_record.specs.Step.{Operation}
 use Rattle.nvm_plan.specs.declared.job.Job.{Job}
 use Rattle.nvm_plan.specs.declared.part.PartResult.TheVariants.{Done}
 use Rattle.nvm_plan.specs.JobPart.{job_part_in}
@@ -44,7 +43,8 @@ record IsMade (s : SpaceName) (r : RecordView) (k i : ℕ) (entry : HistoryEntry
   pub made : IsMadeAmong s.namespace r.jobs k entry.pass i entry (parts_of_work entry.pass work)
 
 -- The part was done in one step of its worker's pass, and what the pass had seen then begins the unit's history.
-record IsTakenIn (s : SpaceName) (jobs : List Job) (unit : UnitName) (history : List HistoryEntry) (x : RecordedPart) : Type 0 where
+record IsTakenIn (s : SpaceName) (jobs : List Job) (unit : UnitName) (history : List HistoryEntry)
+    (x : RecordedPart) : Type 0 where
   pub last : PassView
   pub step : IsTakenBetween s.namespace jobs x (newcomer unit.bounds x.worker) last
   pub begins : Begins step.after.seen history
@@ -59,7 +59,8 @@ new_port_laid s ports r gathered worker k view at =
     subst (λ (v : PassView). IsUnitPlace s.namespace k v.bounds.place) (sym is) (gathered.laid.each k unit.0 unit.1).place
 
 -- Each worker has a port.
-pub port_of : (s : SpaceName) (ports : List PortState) (r : RecordView) → IsGathered s ports r → (worker : ℕ) (work : List RecordedJob)
+pub port_of : (s : SpaceName) (ports : List PortState) (r : RecordView) → IsGathered s ports r
+    → (worker : ℕ) (work : List RecordedJob)
     → IsAt r.done worker work → (port : PortState) × IsAt ports worker port
 port_of s ports r gathered worker work at =
     let below : worker < length r.done = at_below r.done worker work at in
@@ -67,9 +68,9 @@ port_of s ports r gathered worker work at =
     let count : length ports ≡ s.ports = gathered.all.count in
     some_there ports worker (omega arith)
 
-module _ (answers : AnswerLaws) (marks : MarkLaws) (histories : HistoryLaws) (s : SpaceName) (ports : List PortState) (r : RecordView)
-    (shown : JobsAreShown s.namespace r.jobs) (gathered : IsGathered s ports r) (k : ℕ) (unit : UnitName) (history : List HistoryEntry)
-    (in_space : IsAt s.units k unit) (in_record : IsAt r.units k history) where
+module _ (answers : AnswerLaws) (marks : MarkLaws) (histories : HistoryLaws) (s : SpaceName) (ports : List PortState)
+    (r : RecordView) (shown : JobsAreShown s.namespace r.jobs) (gathered : IsGathered s ports r) (k : ℕ) (unit : UnitName)
+    (history : List HistoryEntry) (in_space : IsAt s.units k unit) (in_record : IsAt r.units k history) where
   pass_of_work : (worker : ℕ) (work : List RecordedJob) → IsAt r.done worker work
       → IsPassOfWork s r.jobs k unit history worker work
   pass_of_work worker work at =
@@ -82,14 +83,15 @@ module _ (answers : AnswerLaws) (marks : MarkLaws) (histories : HistoryLaws) (s 
       let old = views_of (new_port s.units worker).passes in
       let new = views_of port.0.passes in
       let first : IsAt old k (newcomer unit.bounds worker) =
-      mapped_at (λ (p : PassState). p.view) (new_port s.units worker).passes k (new_pass worker unit) (mapped_at (new_pass worker) s.units k unit in_space) in
+      mapped_at (λ (p : PassState). p.view) (new_port s.units worker).passes k (new_pass worker unit)
+      (mapped_at (new_pass worker) s.units k unit in_space) in
       let last : IsAt new k pass.0.view = mapped_at (λ (p : PassState). p.view) port.0.passes k pass.0 its in
       let done = work_shown s.namespace r.jobs shown worker work old new (gathered.done worker work port.0 at port.1)
       (new_port_laid s ports r gathered worker) in
       record {
         last = pass.0.view;
-        takes = takes_all s.namespace r.jobs k (parts_of_work worker work) done.acts old new (newcomer unit.bounds worker) pass.0.view
-            done.shows done.does first last;
+        takes = takes_all s.namespace r.jobs k (parts_of_work worker work) done.acts old new (newcomer unit.bounds worker)
+            pass.0.view done.shows done.does first last;
         finds = ends.whole.each worker pass.0.view (mapped_at (λ (p : PassState). p.view) ends.passes worker pass.0 pass.1);
       }
 
@@ -121,7 +123,8 @@ module _ (answers : AnswerLaws) (marks : MarkLaws) (histories : HistoryLaws) (s 
       record {
         job = among.made.job;
         its = among.made.its;
-        part = subst (λ (n : ℕ). job_part_in s.namespace among.made.job n ≡ Some entry.operation) among.in_unit among.made.in_unit;
+        part = subst (λ (n : ℕ). job_part_in s.namespace among.made.job n ≡ Some entry.operation) among.in_unit
+            among.made.in_unit;
       }
 
   entry_claimed : (i : ℕ) (entry : HistoryEntry) → IsAt history i entry
@@ -146,8 +149,8 @@ module _ (answers : AnswerLaws) (marks : MarkLaws) (histories : HistoryLaws) (s 
       let found = of_unit k r.done j x at in
       let of = found.1 in
       let pass = pass_of_work x.worker of.work of.there in
-      let step = taken_at marks histories s.namespace r.jobs k (parts_of_work x.worker of.work) (newcomer unit.bounds x.worker) pass.last pass.takes
-      of.place x of.at found.0 in
+      let step = taken_at marks histories s.namespace r.jobs k (parts_of_work x.worker of.work) (newcomer unit.bounds x.worker)
+      pass.last pass.takes of.place x of.at found.0 in
       record {
         last = pass.last;
         step = step;
@@ -164,20 +167,23 @@ module _ (answers : AnswerLaws) (marks : MarkLaws) (histories : HistoryLaws) (s 
         record { worker = made.pass ∙ its.step.number; job = made.job; result = done; point = refl },
       )
 
-  part_rests : (j : ℕ) (x : RecordedPart) → IsAt (parts_in_unit k r.done) j x → IsRightAtItsPoint s.namespace s.limit r.jobs history x
+  part_rests : (j : ℕ) (x : RecordedPart) → IsAt (parts_in_unit k r.done) j x
+      → IsRightAtItsPoint s.namespace s.limit r.jobs history x
   part_rests j x at =
       let its = part_taken j x at in
       let laid = gathered.laid.each k unit in_space in
       rests_so answers s.namespace s.limit r.jobs x its.step.before its.step.after history its.step.taken its.begins
-      (ap (λ (b : Bounds). b.place.size) its.step.bounds ∙ laid.place.size) (ap (λ (b : Bounds). b.limit) its.step.bounds ∙ laid.limit)
+      (ap (λ (b : Bounds). b.place.size) its.step.bounds ∙ laid.place.size)
+      (ap (λ (b : Bounds). b.limit) its.step.bounds ∙ laid.limit)
 
-  parts_in_order : (i j : ℕ) (x y : RecordedPart) → IsAt (parts_in_unit k r.done) i x → IsAt (parts_in_unit k r.done) j y → i < j
+  parts_in_order : (i j : ℕ) (x y : RecordedPart) → IsAt (parts_in_unit k r.done) i x → IsAt (parts_in_unit k r.done) j y
+      → i < j
       → y.worker ≡ x.worker → least_after x.part x.part.result ≤ y.part.point
   parts_in_order i j x y at also lt same =
       let both = unit_in_order k r.done i j x y at also lt same in
       let pass = pass_of_work x.worker both.work both.there in
-      never_back marks histories s.namespace r.jobs k (parts_of_work x.worker both.work) (newcomer unit.bounds x.worker) pass.last pass.takes
-      both.order.first both.order.second x y both.order.first_at both.order.second_at both.order.before
+      never_back marks histories s.namespace r.jobs k (parts_of_work x.worker both.work) (newcomer unit.bounds x.worker)
+      pass.last pass.takes both.order.first both.order.second x y both.order.first_at both.order.second_at both.order.before
       (of_unit k r.done i x at).0 (of_unit k r.done j y also).0
 
   pub unit_lawful : IsLawfulUnit s.namespace s.limit r.jobs k history (parts_in_unit k r.done)

@@ -1,8 +1,6 @@
 -- What stands at a place of a list that is made of others.
-use Rattle.std.proofs.Common.{◌≡◌, ◌≢◌, ◌⊎◌, ℕ, zero, suc, ◌+◌, ◌<◌, List, [], ◌∷◌, ◌++◌, length, map, filter, cond, set, Bool, true, false, refl, sym, subst, ap, ◌∙◌, arith, inl, inr}
-use Rattle.std.specs.List.{flat_map}
+use Rattle.std.proofs.Common.{◌≡◌, ◌⊎◌, ℕ, zero, suc, ◌+◌, ◌<◌, List, [], ◌∷◌, ◌++◌, length, map, filter, cond, set, Bool, true, false, refl, sym, subst, ap, ◌∙◌, arith, inl, inr}
 use mathlib.Core.Option.{some, some-injective, some-ne-none}
-use lib.ListN.{get_elem?}
 use Rattle.nvm_record.specs.Lists.{IsAt}
 
 -- It stands somewhere in the list.
@@ -87,11 +85,18 @@ module _ {A : Type 0} where
       later : StandInOrder zs x y → StandInOrder (z ∷ zs) x y
       later rest =
           let lt = rest.before in
-          record { first = suc rest.first; second = suc rest.second; first_at = rest.first_at; second_at = rest.second_at; before = omega arith }
+          record {
+            first = suc rest.first;
+            second = suc rest.second;
+            first_at = rest.first_at;
+            second_at = rest.second_at;
+            before = omega arith;
+          }
 
       by : ((a b : ℕ) → IsAt (filter f zs) a x → IsAt (filter f zs) b y → a < b → StandInOrder zs x y)
           → ((b : ℕ) → IsAt (filter f zs) b y → Stands zs y)
-          → (t : Bool) (i j : ℕ) → IsAt (cond t (z ∷ filter f zs) (filter f zs)) i x → IsAt (cond t (z ∷ filter f zs) (filter f zs)) j y → i < j
+          → (t : Bool) (i j : ℕ) → IsAt (cond t (z ∷ filter f zs) (filter f zs)) i x
+          → IsAt (cond t (z ∷ filter f zs) (filter f zs)) j y → i < j
           → StandInOrder (z ∷ zs) x y
       by rest after true i zero e h lt = absurd (omega arith)
       by rest after true zero (suc j) e h lt =

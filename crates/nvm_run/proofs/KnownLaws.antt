@@ -20,7 +20,8 @@ use Rattle.nvm_unit.specs.Views.{Begins, entries_by}
 
 -- on what answers rest
 pub record AnswerLaws : Type 0 where
-  pub change_at : (changed : Changed) (p q : PassView) (job : ℕ) (op : Operation) (history : List HistoryEntry) → Makes changed p job op q
+  pub change_at : (changed : Changed) (p q : PassView) (job : ℕ) (op : Operation) (history : List HistoryEntry)
+      → Makes changed p job op q
       → Begins q.seen history
       → (n : ℕ) × (n ≤ length history) × AnswersChange changed n p.bounds.limit op (point p.bounds.place.size history n)
   pub done_at : (n : ℕ) (p q : PassView) (job : ℕ) (op : Operation) (history : List HistoryEntry) → Makes (Done n) p job op q
@@ -30,7 +31,8 @@ pub record AnswerLaws : Type 0 where
   pub look_at : (answer : Result Observed ObserveFault) (p q : PassView) (op : Operation) (history : List HistoryEntry)
       → Observes answer p op q → Begins q.seen history
       → (n : ℕ) × (n ≤ length history) × AnswersLook answer n op (point p.bounds.place.size history n)
-  pub observed_at : (observed : Observed) (p q : PassView) (op : Operation) (history : List HistoryEntry) → Observes (Ok observed) p op q
+  pub observed_at : (observed : Observed) (p q : PassView) (op : Operation) (history : List HistoryEntry)
+      → Observes (Ok observed) p op q
       → Begins q.seen history
       → RestsOn p.bounds.place.size history observed.point op (told_by observed.answer) (read_by observed.answer)
   pub told_alike : (op : Operation) (m : Medium) → IsSuccess (statuses_of op m) → statuses_of op m ≡ success_of op.deed

@@ -20,7 +20,8 @@ TakesIts ns jobs unit x p q = ((x.part.unit ≡ unit) × IsTaken ns jobs x p q) 
 -- The pass of the unit did all those of the parts that are of the unit.
 abbrev pub TakesAll : Namespace → List Job → ℕ → List RecordedPart → PassView → PassView → Type 0
 TakesAll ns jobs unit [] p q = q ≡ p
-TakesAll ns jobs unit (x ∷ xs) p q = (between : PassView) × TakesIts ns jobs unit x p between × TakesAll ns jobs unit xs between q
+TakesAll ns jobs unit (x ∷ xs) p q =
+    (between : PassView) × TakesIts ns jobs unit x p between × TakesAll ns jobs unit xs between q
 
 -- The pass did the part between what it was first and what it was last.
 pub record IsTakenBetween (ns : Namespace) (jobs : List Job) (x : RecordedPart) (first last : PassView) : Type 0 where
@@ -34,7 +35,8 @@ pub record IsTakenBetween (ns : Namespace) (jobs : List Job) (x : RecordedPart) 
   pub rest : Begins after.seen last.seen
 
 -- One of the parts made the entry.
-pub record IsMadeAmong (ns : Namespace) (jobs : List Job) (unit number n : ℕ) (entry : HistoryEntry) (xs : List RecordedPart) : Type 0 where
+pub record IsMadeAmong (ns : Namespace) (jobs : List Job) (unit number n : ℕ) (entry : HistoryEntry)
+    (xs : List RecordedPart) : Type 0 where
   pub place : ℕ
   pub part : RecordedPart
   pub at : IsAt xs place part
@@ -72,7 +74,8 @@ module _ (marks : MarkLaws) (histories : HistoryLaws) (ns : Namespace) (jobs : L
         seen = histories.further p.seen takes.0.seen q.seen first.seen rest.seen;
       }
 
-  pub taken_at : (xs : List RecordedPart) (p q : PassView) → TakesAll ns jobs unit xs p q → (i : ℕ) (x : RecordedPart) → IsAt xs i x
+  pub taken_at : (xs : List RecordedPart) (p q : PassView) → TakesAll ns jobs unit xs p q → (i : ℕ) (x : RecordedPart)
+      → IsAt xs i x
       → x.part.unit ≡ unit → IsTakenBetween ns jobs x p q
   taken_at [] p q takes i x at in_unit = absurd (none_there i x at)
   taken_at (y ∷ ys) p q takes zero x at in_unit =
@@ -107,7 +110,8 @@ module _ (marks : MarkLaws) (histories : HistoryLaws) (ns : Namespace) (jobs : L
 
   -- The points of the unit's parts never go back.
   pub never_back : (xs : List RecordedPart) (p q : PassView) → TakesAll ns jobs unit xs p q → (i j : ℕ) (x y : RecordedPart)
-      → IsAt xs i x → IsAt xs j y → i < j → x.part.unit ≡ unit → y.part.unit ≡ unit → least_after x.part x.part.result ≤ y.part.point
+      → IsAt xs i x → IsAt xs j y → i < j → x.part.unit ≡ unit → y.part.unit ≡ unit
+      → least_after x.part x.part.result ≤ y.part.point
   never_back [] p q takes i j x y first second lt in_unit also = absurd (none_there i x first)
   never_back (z ∷ zs) p q takes i zero x y first second lt in_unit also = absurd (omega arith)
   never_back (z ∷ zs) p q takes zero (suc j) x y first second lt in_unit also =
@@ -119,7 +123,8 @@ module _ (marks : MarkLaws) (histories : HistoryLaws) (ns : Namespace) (jobs : L
           let left = left_so ns jobs marks x p takes.0 its.1 in
           let later = taken_at zs takes.0 q takes.2 j y second also in
           let least : least_after x.part x.part.result ≡ length takes.0.seen = left.least in
-          let more : length takes.0.seen ≤ length later.before.seen = histories.no_longer takes.0.seen later.before.seen later.seen in
+          let more : length takes.0.seen ≤ length later.before.seen =
+          histories.no_longer takes.0.seen later.before.seen later.seen in
           let within : length later.before.seen ≤ y.part.point = later.left.marked.within in
           omega (arith, least, more, within)
       here (inr other) = absurd (other.0 in_unit)
@@ -132,7 +137,8 @@ module _ (marks : MarkLaws) (histories : HistoryLaws) (ns : Namespace) (jobs : L
   made_among [] p q takes i n entry at = inl (i, subst (λ (v : PassView). IsAt v.mine i (n, entry)) takes at)
   made_among (x ∷ xs) p q takes i n entry at = by (made_among xs takes.0 q takes.2 i n entry at) takes.1
     where
-      by : Stands takes.0.mine (n, entry) ⊎ IsMadeAmong ns jobs unit takes.0.number n entry xs → TakesIts ns jobs unit x p takes.0
+      by : Stands takes.0.mine (n, entry) ⊎ IsMadeAmong ns jobs unit takes.0.number n entry xs
+          → TakesIts ns jobs unit x p takes.0
           → Stands p.mine (n, entry) ⊎ IsMadeAmong ns jobs unit p.number n entry (x ∷ xs)
       by (inr later) first =
           let kept = step_kept x p takes.0 first in

@@ -1,22 +1,15 @@
 -- One part that a record shows, and the one step of a pass that did it.
-use Rattle.std.proofs.Common.{◌≡◌, ◌⊎◌, ℕ, ◌+◌, ◌≤◌, List, [], ◌∷◌, ◌++◌, length, subst, refl, sym, ap, ◌∙◌, arith, inl, inr, Bool, true, false, not, IsTrue, Option, Some, None, Result, Ok, Err}
-use Rattle.nvm_record.specs.declared.block.Block.{Block}
-use Rattle.nvm_record.specs.declared.status.Statuses.{Statuses}
-use Rattle.nvm_record.specs.Deeds.{IsAct, IsLook, IsFailedPair, is_look, success_of}
+use Rattle.std.proofs.Common.{◌≡◌, ◌⊎◌, ℕ, List, [], ◌∷◌, length, subst, refl, sym, ap, ◌∙◌, inl, inr, Some, Result, Ok, Err}
 use Rattle.nvm_record.specs.Lists.{IsAt}
-use Rattle.nvm_record.specs.Medium.{Medium}
-use Rattle.nvm_record.specs.Status.{IsSuccess}
-use Rattle.nvm_record.specs.Step.{Deed, Operation, writes, zeroes, uncorrectable, reads, compares, pairs, deallocates, statuses_of, data_of, data_on, range_of}
+use Rattle.nvm_record.specs.Step.{Deed, Operation}
 use Rattle.nvm_geometry.specs.Namespace.{Namespace}
-use Rattle.nvm_geometry.specs.Parts.{part_in}
 use Rattle.nvm_plan.specs.declared.job.Job.{Job}
 use Rattle.nvm_plan.specs.declared.part.Part.{Part}
-use Rattle.nvm_plan.specs.declared.part.PartResult.{PartResult}
 use Rattle.nvm_plan.specs.declared.part.PartResult.TheVariants as result
 use Rattle.nvm_plan.specs.JobPart.{job_part_in}
 use Rattle.nvm_plan.specs.Reply.{Reply}
 use Rattle.nvm_store.specs.HistoryEntry.{HistoryEntry}
-use Rattle.nvm_store.specs.Point.{point, RestsOn}
+use Rattle.nvm_store.specs.Point.{point}
 use Rattle.nvm_unit.specs.declared.replies.Changed.{Changed}
 use Rattle.nvm_unit.specs.declared.replies.Changed.TheVariants.{Done, Failed, NoMemory, Full}
 use Rattle.nvm_unit.specs.declared.replies.Observed.{Observed}
@@ -24,15 +17,13 @@ use Rattle.nvm_unit.specs.declared.replies.ObserveFault.{ObserveFault}
 use Rattle.nvm_unit.specs.declared.replies.ObserveFault.TheVariants as observe_fault
 use Rattle.nvm_unit.specs.declared.views.PassView.{PassView}
 use Rattle.nvm_unit.specs.Marks.{HasMarked, entries_after, mine_after, point_of_look}
-use Rattle.nvm_unit.specs.Replies.{Makes, Observes, entry_of_job, pass_after, point_of}
-use Rattle.nvm_unit.specs.Views.{Begins}
-use Rattle.nvm_space.specs.Trace.{PartDone, DoesPart, part_ended, reply_of_change, reply_of_look}
+use Rattle.nvm_unit.specs.Replies.{entry_of_job, pass_after, point_of}
+use Rattle.nvm_space.specs.Trace.{PartDone, DoesPart, reply_of_change, reply_of_look}
 use Rattle.nvm_audit.specs.PointOrder.{least_after}
-use Rattle.nvm_audit.specs.RecordedPart.{RecordedPart, told_of}
-use Rattle.nvm_audit.specs.Resting.{HasRightStatus, IsRightAtItsPoint}
+use Rattle.nvm_audit.specs.RecordedPart.{RecordedPart}
 use Rattle.nvm_run.specs.Inside.Shows.{Shows}
 use Rattle.nvm_run.proofs.InLists.{Stands, in_either, alone_there}
-use Rattle.nvm_run.proofs.KnownLaws.{AnswerLaws, MarkLaws}
+use Rattle.nvm_run.proofs.KnownLaws.{MarkLaws}
 
 -- The pass did the part in this one step.
 pub record IsTaken (ns : Namespace) (jobs : List Job) (x : RecordedPart) (p q : PassView) : Type 0 where
@@ -56,7 +47,8 @@ pub record IsLeft (ns : Namespace) (jobs : List Job) (x : RecordedPart) (p q : P
   pub least : least_after x.part x.part.result ≡ length q.seen
   pub number : q.number ≡ p.number
   pub bounds : q.bounds ≡ p.bounds
-  pub mine : (i n : ℕ) (entry : HistoryEntry) → IsAt q.mine i (n, entry) → Stands p.mine (n, entry) ⊎ MadeIt ns jobs p.number n entry x
+  pub mine : (i n : ℕ) (entry : HistoryEntry) → IsAt q.mine i (n, entry)
+      → Stands p.mine (n, entry) ⊎ MadeIt ns jobs p.number n entry x
 
 -- What is told of a change and of a look has their point, and the entries that there are after them.
 change_point : (unit : ℕ) (deed : Deed) (changed : Changed) → (reply_of_change unit deed changed).part.point ≡ point_of changed
@@ -66,13 +58,15 @@ change_point unit deed (NoMemory n) = refl
 change_point unit deed (Full n) = refl
 
 change_least : (unit : ℕ) (deed : Deed) (changed : Changed)
-    → least_after (reply_of_change unit deed changed).part (reply_of_change unit deed changed).part.result ≡ entries_after changed
+    → least_after (reply_of_change unit deed changed).part (reply_of_change unit deed changed).part.result
+    ≡ entries_after changed
 change_least unit deed (Done n) = refl
 change_least unit deed (Failed n statuses) = refl
 change_least unit deed (NoMemory n) = refl
 change_least unit deed (Full n) = refl
 
-look_point : (unit : ℕ) (deed : Deed) (answer : Result Observed ObserveFault) → (reply_of_look unit deed answer).part.point ≡ point_of_look answer
+look_point : (unit : ℕ) (deed : Deed) (answer : Result Observed ObserveFault)
+    → (reply_of_look unit deed answer).part.point ≡ point_of_look answer
 look_point unit deed (Ok observed) = refl
 look_point unit deed (Err (observe_fault.NoMemory n)) = refl
 
@@ -81,13 +75,15 @@ look_least : (unit : ℕ) (deed : Deed) (answer : Result Observed ObserveFault)
 look_least unit deed (Ok observed) = refl
 look_least unit deed (Err (observe_fault.NoMemory n)) = refl
 
-change_number : (changed : Changed) (found : List HistoryEntry) (entry : HistoryEntry) (p : PassView) → (pass_after changed found entry p).number ≡ p.number
+change_number : (changed : Changed) (found : List HistoryEntry) (entry : HistoryEntry) (p : PassView)
+    → (pass_after changed found entry p).number ≡ p.number
 change_number (Done n) found entry p = refl
 change_number (Failed n statuses) found entry p = refl
 change_number (NoMemory n) found entry p = refl
 change_number (Full n) found entry p = refl
 
-change_bounds : (changed : Changed) (found : List HistoryEntry) (entry : HistoryEntry) (p : PassView) → (pass_after changed found entry p).bounds ≡ p.bounds
+change_bounds : (changed : Changed) (found : List HistoryEntry) (entry : HistoryEntry) (p : PassView)
+    → (pass_after changed found entry p).bounds ≡ p.bounds
 change_bounds (Done n) found entry p = refl
 change_bounds (Failed n statuses) found entry p = refl
 change_bounds (NoMemory n) found entry p = refl
@@ -105,16 +101,18 @@ part_keeps did p q (inr looks) =
     (ap (λ (v : PassView). v.number) observes.3, ap (λ (v : PassView). v.bounds) observes.3)
 
 -- A pass's own entries after a change: those that it had, and where it was done the new one.
-change_mine_of : (changed : Changed) (p : PassView) (job : ℕ) (op : Operation) (unit : ℕ) (deed : Deed) (i n : ℕ) (entry : HistoryEntry)
-    → IsAt (mine_after changed p job op) i (n, entry)
+change_mine_of : (changed : Changed) (p : PassView) (job : ℕ) (op : Operation) (unit : ℕ) (deed : Deed) (i n : ℕ)
+    (entry : HistoryEntry) → IsAt (mine_after changed p job op) i (n, entry)
     → Stands p.mine (n, entry)
-    ⊎ (((reply_of_change unit deed changed).part.result ≡ result.Done) × (point_of changed ≡ n) × (entry_of_job p job op ≡ entry))
-change_mine_of (Done m) p job op unit deed i n entry at = elim (in_either p.mine ((m, entry_of_job p job op) ∷ []) i (n, entry) at) [
-  | inl here ↦ inl (i, here.1)
-  | inr after ↦
-      let is = alone_there (m, entry_of_job p job op) after.0 (n, entry) after.2 in
-      inr (refl, ap (λ (e : ℕ × HistoryEntry). e.0) is, ap (λ (e : ℕ × HistoryEntry). e.1) is)
-]
+    ⊎ (((reply_of_change unit deed changed).part.result ≡ result.Done) × (point_of changed ≡ n)
+    × (entry_of_job p job op ≡ entry))
+change_mine_of (Done m) p job op unit deed i n entry at =
+    elim (in_either p.mine ((m, entry_of_job p job op) ∷ []) i (n, entry) at) [
+      | inl here ↦ inl (i, here.1)
+      | inr after ↦
+          let is = alone_there (m, entry_of_job p job op) after.0 (n, entry) after.2 in
+          inr (refl, ap (λ (e : ℕ × HistoryEntry). e.0) is, ap (λ (e : ℕ × HistoryEntry). e.1) is)
+    ]
 change_mine_of (Failed m statuses) p job op unit deed i n entry at = inl (i, at)
 change_mine_of (NoMemory m) p job op unit deed i n entry at = inl (i, at)
 change_mine_of (Full m) p job op unit deed i n entry at = inl (i, at)
@@ -131,18 +129,21 @@ module _ (ns : Namespace) (jobs : List Job) (laws : MarkLaws) (x : RecordedPart)
           let deed = did.operation.deed in
           let changed = changes.1 in
           let makes = changes.2 in
-          let part : x.part ≡ (reply_of_change unit deed changed).part = sym shows.part ∙ ap (λ (r : Reply). r.part) changes.3 in
+          let part : x.part ≡ (reply_of_change unit deed changed).part =
+          sym shows.part ∙ ap (λ (r : Reply). r.part) changes.3 in
           let point_is : x.part.point ≡ point_of changed = ap (λ (y : Part). y.point) part ∙ change_point unit deed changed in
           let keeps = part_keeps did p q (inl changes) in
           record {
-            marked = subst (λ (n : ℕ). HasMarked n p q) (sym point_is) (laws.change_marks changed p q did.job did.operation makes);
+            marked = subst (λ (n : ℕ). HasMarked n p q) (sym point_is)
+                (laws.change_marks changed p q did.job did.operation makes);
             least = ap (λ (y : Part). least_after y y.result) part ∙ change_least unit deed changed
                 ∙ sym (laws.change_entries changed p q did.job did.operation makes);
             number = keeps.0;
             bounds = keeps.1;
             mine = λ i n entry at.
                 elim (change_mine_of changed p did.job did.operation unit deed i n entry
-                (subst (λ (es : List (ℕ × HistoryEntry)). IsAt es i (n, entry)) (laws.change_mine changed p q did.job did.operation makes) at)) [
+                (subst (λ (es : List (ℕ × HistoryEntry)). IsAt es i (n, entry))
+                (laws.change_mine changed p q did.job did.operation makes) at)) [
                   | inl before ↦ inl before
                   | inr new ↦
                       let same = new.2 in
@@ -176,5 +177,7 @@ module _ (ns : Namespace) (jobs : List Job) (laws : MarkLaws) (x : RecordedPart)
                 ∙ sym (laws.look_entries answer p q did.operation observes);
             number = keeps.0;
             bounds = keeps.1;
-            mine = λ i n entry at. inl (i, subst (λ (es : List (ℕ × HistoryEntry)). IsAt es i (n, entry)) (laws.look_mine answer p q did.operation observes) at);
+            mine = λ i n entry at.
+                inl (i, subst (λ (es : List (ℕ × HistoryEntry)). IsAt es i (n, entry))
+                (laws.look_mine answer p q did.operation observes) at);
           }

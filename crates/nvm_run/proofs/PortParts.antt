@@ -1,5 +1,5 @@
 -- What a port did, part by part, as each of its passes did it, and as the record shows it.
-use Rattle.std.proofs.Common.{◌≡◌, ◌≢◌, ℕ, zero, suc, List, [], ◌∷◌, ◌++◌, set, subst, refl, sym, ap, ◌∙◌, inl, inr}
+use Rattle.std.proofs.Common.{◌≡◌, ℕ, zero, suc, List, [], ◌∷◌, ◌++◌, set, subst, refl, sym, ap, ◌∙◌, inl, inr}
 use Rattle.std.specs.List.{AllZip}
 use mathlib.Core.Logic.{dite}
 use mathlib.Core.Option.{some-injective}
@@ -19,7 +19,7 @@ use Rattle.nvm_run.specs.DoneJobs.{HasDoneJob, HaveDone}
 use Rattle.nvm_run.specs.Inside.Shows.{Shows}
 use Rattle.nvm_run.proofs.InLists.{none_there, same_there, replaced, kept_elsewhere, was_there}
 use Rattle.nvm_run.proofs.OnePass.{TakesIts, TakesAll}
-use Rattle.nvm_run.proofs.PartTaken.{IsTaken, part_keeps}
+use Rattle.nvm_run.proofs.PartTaken.{part_keeps}
 
 -- Each pass's unit lies where that of its number does.
 abbrev pub AreLaid : Namespace → List PassView → Type 0
@@ -31,23 +31,28 @@ laid_after ns did old new becomes laid k view at =
     let unit = did.reply.part.unit in
     elim (was_there old unit k becomes.after view (subst (λ (vs : List PassView). IsAt vs k view) becomes.others at)) [
       | inl here ↦
-          let kept : becomes.after.bounds ≡ becomes.before.bounds = (part_keeps did becomes.before becomes.after becomes.so).1 in
+          let kept : becomes.after.bounds ≡ becomes.before.bounds =
+          (part_keeps did becomes.before becomes.after becomes.so).1 in
           let same : becomes.before.bounds ≡ view.bounds = sym (ap (λ (v : PassView). v.bounds) here.1 ∙ kept) in
           subst (λ (b : Bounds). IsUnitPlace ns k b.place) same
           (subst (λ (n : ℕ). IsUnitPlace ns n becomes.before.bounds.place) (sym here.0) (laid unit becomes.before becomes.was))
       | inr there ↦ laid k view there
     ]
 
-all_laid : (ns : Namespace) (acts : List PartDone) (old new : List PassView) → DoesParts acts old new → AreLaid ns old → AreLaid ns new
+all_laid : (ns : Namespace) (acts : List PartDone) (old new : List PassView) → DoesParts acts old new → AreLaid ns old
+    → AreLaid ns new
 all_laid ns [] old new does laid = subst (AreLaid ns) (sym does) laid
 all_laid ns (did ∷ acts) old new does laid = all_laid ns acts does.0 new does.2 (laid_after ns did old does.0 does.1 laid)
 
-one_then_others : (first rest : List PartDone) (old between new : List PassView) → DoesParts first old between → DoesParts rest between new
+one_then_others : (first rest : List PartDone) (old between new : List PassView) → DoesParts first old between
+    → DoesParts rest between new
     → DoesParts (first ++ rest) old new
 one_then_others [] rest old between new does then_ = subst (λ (vs : List PassView). DoesParts rest vs new) does then_
-one_then_others (did ∷ first) rest old between new does then_ = (does.0, does.1, one_then_others first rest does.0 between new does.2 then_)
+one_then_others (did ∷ first) rest old between new does then_ =
+    (does.0, does.1, one_then_others first rest does.0 between new does.2 then_)
 
-zip_both : {A B : Type 0} (R : A → B → Type 0) (xs ys : List A) (us vs : List B) → AllZip R xs us → AllZip R ys vs → AllZip R (xs ++ ys) (us ++ vs)
+zip_both : {A B : Type 0} (R : A → B → Type 0) (xs ys : List A) (us vs : List B) → AllZip R xs us → AllZip R ys vs
+    → AllZip R (xs ++ ys) (us ++ vs)
 zip_both R [] ys [] vs first rest = rest
 zip_both R [] ys (u ∷ us) vs first rest = absurd first
 zip_both R (x ∷ xs) ys [] vs first rest = absurd first
@@ -66,7 +71,8 @@ JobsAreShown ns jobs =
     → IsShown ns jobs (parts_left worker d d.parts) old new
 
 -- What a worker's done jobs show of all its parts.
-pub work_shown : (ns : Namespace) (jobs : List Job) → JobsAreShown ns jobs → (worker : ℕ) (work : List RecordedJob) (old new : List PassView)
+pub work_shown : (ns : Namespace) (jobs : List Job) → JobsAreShown ns jobs
+    → (worker : ℕ) (work : List RecordedJob) (old new : List PassView)
     → HaveDone ns jobs work old new → AreLaid ns old → IsShown ns jobs (parts_of_work worker work) old new
 work_shown ns jobs shown worker [] old new done laid = record { acts = []; does = done; shows = tt }
 work_shown ns jobs shown worker (d ∷ work) old new done laid =
@@ -75,11 +81,13 @@ work_shown ns jobs shown worker (d ∷ work) old new done laid =
     record {
       acts = first.acts ++ rest.acts;
       does = one_then_others first.acts rest.acts old done.0 new first.does rest.does;
-      shows = zip_both (Shows ns jobs) (parts_left worker d d.parts) (parts_of_work worker work) first.acts rest.acts first.shows rest.shows;
+      shows = zip_both (Shows ns jobs) (parts_left worker d d.parts) (parts_of_work worker work) first.acts rest.acts
+          first.shows rest.shows;
     }
 
 -- Each of a worker's jobs was done between some views.
-pub job_was_done : (ns : Namespace) (jobs : List Job) (work : List RecordedJob) (old new : List PassView) → HaveDone ns jobs work old new
+pub job_was_done : (ns : Namespace) (jobs : List Job) (work : List RecordedJob) (old new : List PassView)
+    → HaveDone ns jobs work old new
     → (i : ℕ) (d : RecordedJob) → IsAt work i d → (before after : List PassView) × HasDoneJob ns jobs d before after
 job_was_done ns jobs [] old new done i d at = absurd (none_there i d at)
 job_was_done ns jobs (e ∷ work) old new done zero d at =
@@ -87,7 +95,8 @@ job_was_done ns jobs (e ∷ work) old new done zero d at =
 job_was_done ns jobs (e ∷ work) old new done (suc i) d at = job_was_done ns jobs work done.0 new done.2 i d at
 
 -- One part is a step of its unit's pass, and leaves the others.
-step_of_pass : (ns : Namespace) (jobs : List Job) (unit : ℕ) (x : RecordedPart) (did : PartDone) (old new : List PassView) (p : PassView)
+step_of_pass : (ns : Namespace) (jobs : List Job) (unit : ℕ) (x : RecordedPart) (did : PartDone) (old new : List PassView)
+    (p : PassView)
     → Shows ns jobs x did → BecomesAt did.reply.part.unit (DoesPart did) old new → IsAt old unit p
     → (q : PassView) × IsAt new unit q × TakesIts ns jobs unit x p q
 step_of_pass ns jobs unit x did old new p shows becomes at =
@@ -95,22 +104,26 @@ step_of_pass ns jobs unit x did old new p shows becomes at =
     let same_unit : there ≡ x.part.unit = ap (λ (y : Part). y.unit) shows.part in
     dite (ℕ_discrete there unit)
     (λ is.
-    let was : becomes.before ≡ p = same_there old unit becomes.before p (subst (λ (n : ℕ). IsAt old n becomes.before) is becomes.was) at in
+    let was : becomes.before ≡ p =
+    same_there old unit becomes.before p (subst (λ (n : ℕ). IsAt old n becomes.before) is becomes.was) at in
     let does : DoesPart did p becomes.after = subst (λ (v : PassView). DoesPart did v becomes.after) was becomes.so in (
       becomes.after,
       subst (λ (vs : List PassView). IsAt vs unit becomes.after) (sym becomes.others)
-          (subst (λ (n : ℕ). IsAt (set old there becomes.after) n becomes.after) is (replaced old there becomes.after becomes.before becomes.was)),
+          (subst (λ (n : ℕ). IsAt (set old there becomes.after) n becomes.after) is
+          (replaced old there becomes.after becomes.before becomes.was)),
       inl (sym same_unit ∙ is, record { did = did; shows = shows; does = does }),
     ))
     (λ not. (
       p,
-      subst (λ (vs : List PassView). IsAt vs unit p) (sym becomes.others) (kept_elsewhere old there unit becomes.after p not at),
+      subst (λ (vs : List PassView). IsAt vs unit p) (sym becomes.others)
+          (kept_elsewhere old there unit becomes.after p not at),
       inr ((λ is. not (same_unit ∙ is)), refl),
     ))
 
 -- The pass of each unit did all the parts of the unit.
-pub takes_all : (ns : Namespace) (jobs : List Job) (unit : ℕ) (xs : List RecordedPart) (acts : List PartDone) (old new : List PassView) (p q : PassView)
-    → AllZip (Shows ns jobs) xs acts → DoesParts acts old new → IsAt old unit p → IsAt new unit q → TakesAll ns jobs unit xs p q
+pub takes_all : (ns : Namespace) (jobs : List Job) (unit : ℕ) (xs : List RecordedPart) (acts : List PartDone)
+    (old new : List PassView) (p q : PassView) → AllZip (Shows ns jobs) xs acts → DoesParts acts old new → IsAt old unit p → IsAt new unit q
+    → TakesAll ns jobs unit xs p q
 takes_all ns jobs unit [] [] old new p q shows does at now =
     same_there old unit q p (subst (λ (vs : List PassView). IsAt vs unit q) does now) at
 takes_all ns jobs unit [] (did ∷ acts) old new p q shows does at now = absurd shows

@@ -1,7 +1,6 @@
 -- Which worker's a part of a record is, and the order in which it stands there.
-use Rattle.std.proofs.Common.{◌≡◌, ◌⊎◌, ℕ, zero, suc, ◌+◌, ◌<◌, List, [], ◌∷◌, ◌++◌, length, subst, refl, sym, ap, ◌∙◌, arith, inl, inr, nat_eq, true}
+use Rattle.std.proofs.Common.{◌≡◌, ◌⊎◌, ℕ, zero, suc, ◌+◌, ◌<◌, List, [], ◌∷◌, length, subst, refl, sym, ap, arith, inl, inr, nat_eq}
 use Rattle.std.proofs.lemmas.Bool.Decides.{Decides-eqb}
-use Rattle.std.specs.List.{flat_map}
 use mathlib.Core.Option.{some-injective}
 use Rattle.nvm_record.specs.Lists.{IsAt}
 use Rattle.nvm_plan.specs.declared.part.Part.{Part}
@@ -9,7 +8,8 @@ use Rattle.nvm_audit.specs.RecordedJob.{RecordedJob}
 use Rattle.nvm_audit.specs.RecordedPart.{RecordedPart, parts_left, parts_of_work, parts_of_workers, parts_in_unit}
 use Rattle.nvm_run.proofs.InLists.{Stands, StandInOrder, none_there, in_either, in_front, behind, passes, passes_back, keep_order}
 
-left_by : (worker : ℕ) (d : RecordedJob) (parts : List Part) (i : ℕ) (x : RecordedPart) → IsAt (parts_left worker d parts) i x → x.worker ≡ worker
+left_by : (worker : ℕ) (d : RecordedJob) (parts : List Part) (i : ℕ) (x : RecordedPart) → IsAt (parts_left worker d parts) i x
+    → x.worker ≡ worker
 left_by worker d [] i x at = absurd (none_there i x at)
 left_by worker d (part ∷ []) zero x at = ap (λ (y : RecordedPart). y.worker) (sym (some-injective _ x at))
 left_by worker d (part ∷ []) (suc i) x at = absurd (none_there i x at)
@@ -17,7 +17,8 @@ left_by worker d (part ∷ next ∷ parts) zero x at = ap (λ (y : RecordedPart)
 left_by worker d (part ∷ next ∷ parts) (suc i) x at = left_by worker d (next ∷ parts) i x at
 
 -- The parts of a worker's work have its number.
-pub work_by : (worker : ℕ) (work : List RecordedJob) (i : ℕ) (x : RecordedPart) → IsAt (parts_of_work worker work) i x → x.worker ≡ worker
+pub work_by : (worker : ℕ) (work : List RecordedJob) (i : ℕ) (x : RecordedPart) → IsAt (parts_of_work worker work) i x
+    → x.worker ≡ worker
 work_by worker [] i x at = absurd (none_there i x at)
 work_by worker (d ∷ work) i x at = elim (in_either (parts_left worker d d.parts) (parts_of_work worker work) i x at) [
   | inl here ↦ left_by worker d d.parts i x here.1
@@ -70,7 +71,14 @@ of_workers first (work ∷ done) i x at = elim (in_either (parts_of_work first w
   | inr after ↦
       let rest = of_workers (first + 1) done after.0 x after.2 in
       let number : x.worker ≡ first + 1 + rest.nth = rest.number in
-      record { nth = suc rest.nth; number = omega arith; work = rest.work; there = rest.there; place = rest.place; at = rest.at }
+      record {
+        nth = suc rest.nth;
+        number = omega arith;
+        work = rest.work;
+        there = rest.there;
+        place = rest.place;
+        at = rest.at;
+      }
 ]
 
 -- It stands in the first worker's work, or in that of a later one.
@@ -80,8 +88,10 @@ InEither first work done i x =
     ⊎ ((j : ℕ) × (i ≡ length (parts_of_work first work) + j) × IsAt (parts_of_workers (first + 1) done) j x)
 
 both_in : (first : ℕ) (work : List RecordedJob) (done : List (List RecordedJob)) (i j : ℕ) (x y : RecordedPart)
-    → ((a b : ℕ) → IsAt (parts_of_workers (first + 1) done) a x → IsAt (parts_of_workers (first + 1) done) b y → a < b → AreInWorkOf (first + 1) done x y)
-    → i < j → y.worker ≡ x.worker → InEither first work done i x → InEither first work done j y → AreInWorkOf first (work ∷ done) x y
+    → ((a b : ℕ) → IsAt (parts_of_workers (first + 1) done) a x → IsAt (parts_of_workers (first + 1) done) b y → a < b
+    → AreInWorkOf (first + 1) done x y)
+    → i < j → y.worker ≡ x.worker → InEither first work done i x → InEither first work done j y
+    → AreInWorkOf first (work ∷ done) x y
 both_in first work done i j x y rest lt same (inl here) (inl there) =
     let number : x.worker ≡ first = work_by first work i x here.1 in
     record {
@@ -108,7 +118,8 @@ both_in first work done i j x y rest lt same (inr one) (inr other) =
     let number : x.worker ≡ first + 1 + both.nth = both.number in
     record { nth = suc both.nth; number = omega arith; work = both.work; there = both.there; order = both.order }
 
-in_work_of : (first : ℕ) (done : List (List RecordedJob)) (i j : ℕ) (x y : RecordedPart) → IsAt (parts_of_workers first done) i x
+in_work_of : (first : ℕ) (done : List (List RecordedJob)) (i j : ℕ) (x y : RecordedPart)
+    → IsAt (parts_of_workers first done) i x
     → IsAt (parts_of_workers first done) j y → i < j → y.worker ≡ x.worker → AreInWorkOf first done x y
 in_work_of first [] i j x y at also lt same = absurd (none_there i x at)
 in_work_of first (work ∷ done) i j x y at also lt same =
@@ -117,8 +128,8 @@ in_work_of first (work ∷ done) i j x y at also lt same =
     (in_either (parts_of_work first work) (parts_of_workers (first + 1) done) j y also)
 
 -- What stands in a worker's work stands among the parts of all workers.
-pub in_workers : (first nth n : ℕ) (done : List (List RecordedJob)) (work : List RecordedJob) (k : ℕ) (x : RecordedPart) → IsAt done nth work
-    → n ≡ first + nth → IsAt (parts_of_work n work) k x → Stands (parts_of_workers first done) x
+pub in_workers : (first nth n : ℕ) (done : List (List RecordedJob)) (work : List RecordedJob) (k : ℕ) (x : RecordedPart)
+    → IsAt done nth work → n ≡ first + nth → IsAt (parts_of_work n work) k x → Stands (parts_of_workers first done) x
 in_workers first nth n [] work k x there is at = absurd (none_there nth work there)
 in_workers first zero n (other ∷ done) work k x there is at =
     let same : other ≡ work = some-injective other work there in
@@ -131,7 +142,8 @@ in_workers first zero n (other ∷ done) work k x there is at =
 in_workers first (suc nth) n (other ∷ done) work k x there is at =
     let rest = in_workers (first + 1) nth n done work k x there (omega arith) at in (
       length (parts_of_work first other) + rest.0,
-      behind (parts_of_work first other) (parts_of_workers (first + 1) done) (length (parts_of_work first other) + rest.0) rest.0 x refl rest.1,
+      behind (parts_of_work first other) (parts_of_workers (first + 1) done) (length (parts_of_work first other) + rest.0)
+          rest.0 x refl rest.1,
     )
 
 -- A part that names the unit is one of a worker's.
@@ -147,7 +159,8 @@ of_unit unit done i x at =
     )
 
 -- Two parts of one worker that name the unit stand in order in its work.
-pub unit_in_order : (unit : ℕ) (done : List (List RecordedJob)) (i j : ℕ) (x y : RecordedPart) → IsAt (parts_in_unit unit done) i x
+pub unit_in_order : (unit : ℕ) (done : List (List RecordedJob)) (i j : ℕ) (x y : RecordedPart)
+    → IsAt (parts_in_unit unit done) i x
     → IsAt (parts_in_unit unit done) j y → i < j → y.worker ≡ x.worker → AreInWork done x y
 unit_in_order unit done i j x y at also lt same =
     let kept = keep_order (λ p. nat_eq p.part.unit unit) (parts_of_workers 0 done) i j x y at also lt in
@@ -157,8 +170,10 @@ unit_in_order unit done i j x y at also lt same =
     record { work = both.work; there = subst (λ (n : ℕ). IsAt done n both.work) is both.there; order = both.order }
 
 -- A worker's part in the unit stands among the parts that name the unit.
-pub in_unit_of : (unit worker : ℕ) (done : List (List RecordedJob)) (work : List RecordedJob) (k : ℕ) (x : RecordedPart) → IsAt done worker work
+pub in_unit_of : (unit worker : ℕ) (done : List (List RecordedJob)) (work : List RecordedJob) (k : ℕ) (x : RecordedPart)
+    → IsAt done worker work
     → IsAt (parts_of_work worker work) k x → x.part.unit ≡ unit → Stands (parts_in_unit unit done) x
 in_unit_of unit worker done work k x there at is =
     let stands = in_workers 0 worker worker done work k x there (let same : worker ≡ 0 + worker = omega arith in same) at in
-    passes_back (λ p. nat_eq p.part.unit unit) (parts_of_workers 0 done) stands.0 x stands.1 ((Decides-eqb x.part.unit unit).1 is)
+    passes_back (λ p. nat_eq p.part.unit unit) (parts_of_workers 0 done) stands.0 x stands.1
+    ((Decides-eqb x.part.unit unit).1 is)

@@ -1,7 +1,5 @@
 //! Laws of the definitions alone.
-ghost use Rattle.std.specs.Prelude.{ℕ, ◌<◌, List, All, length};
-ghost use Rattle.nvm_geometry.specs.Faults.{IsValid};
-ghost use Rattle.nvm_plan.specs.Fits.{FitsNamespace};
+ghost use Rattle.std.specs.Prelude.{ℕ, ◌<◌, List, length};
 ghost use Rattle.nvm_space.specs.Ports.{PortState};
 ghost use Rattle.nvm_space.specs.Spaces.{SpaceName};
 ghost use Rattle.nvm_audit.specs.LawfulRecord.{IsLawfulRecord};
@@ -9,6 +7,7 @@ ghost use Rattle.nvm_audit.specs.RecordView.{RecordView};
 ghost use Rattle.nvm_run.specs.Claims.{ClaimState, IsClaims, opening_claims, Draws, IsReached, HaveEnded, AreDoneOnce};
 ghost use Rattle.nvm_run.specs.Gathered.{IsGathered};
 
+use crate::shown::parts_show_what_was_done;
 use nvm_record::laws::success_is_told_alike;
 use nvm_store::laws::act_succeeds_unless_failed_pair;
 use nvm_unit::laws::{
@@ -33,8 +32,7 @@ pub fn each_job_is_done_once()
 /// A record that is gathered from what the workers did by their ports, and from the histories with which the units of
 /// their space end, is lawful.
 pub fn gathered_records_are_lawful()
-    ensures { (s : SpaceName) (ports : List PortState) (r : RecordView) → IsValid s.namespace
-        → All (FitsNamespace s.namespace) r.jobs → IsGathered s ports r → IsLawfulRecord r }
+    ensures { (s : SpaceName) (ports : List PortState) (r : RecordView) → IsGathered s ports r → IsLawfulRecord r }
 {
     changes_rest_on_their_points();
     looks_rest_on_their_points();
@@ -44,4 +42,5 @@ pub fn gathered_records_are_lawful()
     entries_are_their_passes_own();
     success_is_told_alike();
     act_succeeds_unless_failed_pair();
+    parts_show_what_was_done();
 }
