@@ -6,3 +6,10 @@ pub mod DoneOnce
 pub mod Dealt
 pub mod Drawing
 pub mod Coming
+pub mod ReadCut
+pub mod PassPlaces
+pub mod PassReads
+pub mod JobReplies
+pub mod DoneReads
+pub mod PartsShown
+pub mod WholeReads

@@ -11,8 +11,8 @@ mod claim;
 mod counter;
 pub mod laws;
 mod rule;
-mod running;
 mod run_fault;
+mod running;
 mod seats;
 mod shown;
 mod steps;
@@ -21,5 +21,5 @@ mod tests;
 
 pub use claim::Claim;
 pub use counter::{Counter, MOST_WORKERS};
-pub use running::run;
 pub use run_fault::RunFault;
+pub use running::run;
