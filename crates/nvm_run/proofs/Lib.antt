@@ -15,3 +15,10 @@ pub mod PortParts
 pub mod WorkersParts
 pub mod GatheredUnit
 pub mod GatheredRecord
+pub mod ReadCut
+pub mod PassPlaces
+pub mod PassReads
+pub mod JobReplies
+pub mod DoneReads
+pub mod PartsShown
+pub mod WholeReads

@@ -9,7 +9,6 @@ use Rattle.nvm_plan.specs.declared.part.PartResult.TheVariants as result
 use Rattle.nvm_plan.specs.JobPart.{job_part_in}
 use Rattle.nvm_plan.specs.Reply.{Reply}
 use Rattle.nvm_store.specs.HistoryEntry.{HistoryEntry}
-use Rattle.nvm_store.specs.Point.{point}
 use Rattle.nvm_unit.specs.declared.replies.Changed.{Changed}
 use Rattle.nvm_unit.specs.declared.replies.Changed.TheVariants.{Done, Failed, NoMemory, Full}
 use Rattle.nvm_unit.specs.declared.replies.Observed.{Observed}
@@ -178,6 +177,9 @@ module _ (ns : Namespace) (jobs : List Job) (laws : MarkLaws) (x : RecordedPart)
             number = keeps.0;
             bounds = keeps.1;
             mine = λ i n entry at.
-                inl (i, subst (λ (es : List (ℕ × HistoryEntry)). IsAt es i (n, entry))
-                (laws.look_mine answer p q did.operation observes) at);
+                inl (
+                  i,
+                  subst (λ (es : List (ℕ × HistoryEntry)). IsAt es i (n, entry))
+                      (laws.look_mine answer p q did.operation observes) at,
+                );
           }
