@@ -4,7 +4,6 @@ use Rattle.nvm_record.specs.Lists.{IsAt}
 use Rattle.nvm_plan.specs.declared.job.Job.{Job}
 use Rattle.nvm_plan.specs.declared.part.PartResult.TheVariants.{Done}
 use Rattle.nvm_plan.specs.JobPart.{job_part_in}
-use Rattle.nvm_plan.specs.UnitPlace.{IsUnitPlace}
 use Rattle.nvm_store.specs.HistoryEntry.{HistoryEntry}
 use Rattle.nvm_unit.specs.declared.bounds.Bounds.{Bounds}
 use Rattle.nvm_unit.specs.declared.views.PassView.{PassView}
@@ -20,12 +19,13 @@ use Rattle.nvm_audit.specs.RecordedPart.{RecordedPart, parts_of_work, parts_in_u
 use Rattle.nvm_audit.specs.RecordView.{RecordView}
 use Rattle.nvm_audit.specs.Resting.{IsRightAtItsPoint}
 use Rattle.nvm_run.specs.Gathered.{IsGathered}
-use Rattle.nvm_run.proofs.InLists.{none_there, some_there, mapped_at, mapped_from}
+use Rattle.nvm_run.proofs.InLists.{none_there, some_there, mapped_at}
 use Rattle.nvm_run.proofs.KnownLaws.{AnswerLaws, MarkLaws, HistoryLaws}
 use Rattle.nvm_run.proofs.OnePass.{TakesAll, IsTakenBetween, IsMadeAmong, all_kept, taken_at, never_back, made_among}
 use Rattle.nvm_run.proofs.PartRests.{rests_so, made_so}
 use Rattle.nvm_run.proofs.Places.{at_below}
-use Rattle.nvm_run.proofs.PortParts.{AreLaid, JobsAreShown, work_shown, takes_all}
+use Rattle.nvm_run.proofs.PassPlaces.{new_port_lies}
+use Rattle.nvm_run.proofs.PortParts.{JobsAreShown, work_shown, takes_all}
 use Rattle.nvm_run.proofs.WorkersParts.{work_by, of_unit, unit_in_order, in_unit_of}
 
 -- What a worker's pass of the unit did: all the worker's parts in the unit, from when the pass was new; and what it had seen
@@ -48,15 +48,6 @@ record IsTakenIn (s : SpaceName) (jobs : List Job) (unit : UnitName) (history : 
   pub last : PassView
   pub step : IsTakenBetween s.namespace jobs x (newcomer unit.bounds x.worker) last
   pub begins : Begins step.after.seen history
-
--- The passes of a new port are of the space's units.
-new_port_laid : (s : SpaceName) (ports : List PortState) (r : RecordView) → IsGathered s ports r → (worker : ℕ)
-    → AreLaid s.namespace (views_of (new_port s.units worker).passes)
-new_port_laid s ports r gathered worker k view at =
-    let pass = mapped_from (λ (p : PassState). p.view) (new_port s.units worker).passes k view at in
-    let unit = mapped_from (new_pass worker) s.units k pass.0 pass.1 in
-    let is : view ≡ (new_pass worker unit.0).view = pass.2 ∙ ap (λ (p : PassState). p.view) unit.2 in
-    subst (λ (v : PassView). IsUnitPlace s.namespace k v.bounds.place) (sym is) (gathered.laid.each k unit.0 unit.1).place
 
 -- Each worker has a port.
 pub port_of : (s : SpaceName) (ports : List PortState) (r : RecordView) → IsGathered s ports r
@@ -87,7 +78,7 @@ module _ (answers : AnswerLaws) (marks : MarkLaws) (histories : HistoryLaws) (s 
       (mapped_at (new_pass worker) s.units k unit in_space) in
       let last : IsAt new k pass.0.view = mapped_at (λ (p : PassState). p.view) port.0.passes k pass.0 its in
       let done = work_shown s.namespace r.jobs shown worker work old new (gathered.done worker work port.0 at port.1)
-      (new_port_laid s ports r gathered worker) in
+      (new_port_lies s worker gathered.laid) in
       record {
         last = pass.0.view;
         takes = takes_all s.namespace r.jobs k (parts_of_work worker work) done.acts old new (newcomer unit.bounds worker)

@@ -7,6 +7,13 @@ pub mod Dealt
 pub mod Drawing
 pub mod Coming
 pub mod InLists
+pub mod PassPlaces
+pub mod ReadCut
+pub mod PassReads
+pub mod JobReplies
+pub mod DoneReads
+pub mod PartsShown
+pub mod WholeReads
 pub mod KnownLaws
 pub mod PartTaken
 pub mod PartRests
@@ -15,10 +22,3 @@ pub mod PortParts
 pub mod WorkersParts
 pub mod GatheredUnit
 pub mod GatheredRecord
-pub mod ReadCut
-pub mod PassPlaces
-pub mod PassReads
-pub mod JobReplies
-pub mod DoneReads
-pub mod PartsShown
-pub mod WholeReads

@@ -180,7 +180,8 @@ pub record HasMade (history : List HistoryEntry) (x : RecordedPart) (p : PassVie
 
 -- Only a change that was done is told so.
 change_made : (laws : AnswerLaws) (number unit : ℕ) (op : Operation) (x : RecordedPart) (p q : PassView)
-    (history : List HistoryEntry) → Begins q.seen history → x.part.result ≡ result.Done → number ≡ x.done.job → (changed : Changed)
+    (history : List HistoryEntry) → Begins q.seen history → x.part.result ≡ result.Done → number ≡ x.done.job
+    → (changed : Changed)
     → Makes changed p number op q
     → (reply_of_change unit op.deed changed).part ≡ x.part → HasMade history x p
 change_made laws number unit op x p q history begins done job_is (Done n) makes part =
@@ -208,7 +209,8 @@ look_made_none unit op x done (Err (observe_fault.NoMemory n)) part =
     let no : result.NoMemory ≡ result.Done = ap (λ (y : Part). y.result) part ∙ done in cc
 
 pub made_so : (laws : AnswerLaws) (ns : Namespace) (jobs : List Job) (x : RecordedPart) (p q : PassView)
-    (history : List HistoryEntry) → IsTaken ns jobs x p q → Begins q.seen history → x.part.result ≡ result.Done → HasMade history x p
+    (history : List HistoryEntry) → IsTaken ns jobs x p q → Begins q.seen history → x.part.result ≡ result.Done
+    → HasMade history x p
 made_so laws ns jobs x p q history taken begins done = by taken.does
   where
     by : DoesPart taken.did p q → HasMade history x p

@@ -23,6 +23,7 @@ use Rattle.nvm_audit.specs.RecordedPart.{RecordedPart}
 use Rattle.nvm_run.specs.Inside.Shows.{Shows}
 use Rattle.nvm_run.proofs.InLists.{Stands, in_either, alone_there}
 use Rattle.nvm_run.proofs.KnownLaws.{MarkLaws}
+use Rattle.nvm_run.proofs.PassPlaces.{bounds_kept}
 
 -- The pass did the part in this one step.
 pub record IsTaken (ns : Namespace) (jobs : List Job) (x : RecordedPart) (p q : PassView) : Type 0 where
@@ -74,6 +75,7 @@ look_least : (unit : ℕ) (deed : Deed) (answer : Result Observed ObserveFault)
 look_least unit deed (Ok observed) = refl
 look_least unit deed (Err (observe_fault.NoMemory n)) = refl
 
+-- A change and a look keep their pass's number.
 change_number : (changed : Changed) (found : List HistoryEntry) (entry : HistoryEntry) (p : PassView)
     → (pass_after changed found entry p).number ≡ p.number
 change_number (Done n) found entry p = refl
@@ -81,23 +83,13 @@ change_number (Failed n statuses) found entry p = refl
 change_number (NoMemory n) found entry p = refl
 change_number (Full n) found entry p = refl
 
-change_bounds : (changed : Changed) (found : List HistoryEntry) (entry : HistoryEntry) (p : PassView)
-    → (pass_after changed found entry p).bounds ≡ p.bounds
-change_bounds (Done n) found entry p = refl
-change_bounds (Failed n statuses) found entry p = refl
-change_bounds (NoMemory n) found entry p = refl
-change_bounds (Full n) found entry p = refl
-
--- A part keeps its pass's number and bounds.
-pub part_keeps : (did : PartDone) (p q : PassView) → DoesPart did p q → (q.number ≡ p.number) × (q.bounds ≡ p.bounds)
-part_keeps did p q (inl changes) =
-    let makes = changes.2 in (
-      ap (λ (v : PassView). v.number) makes.3 ∙ change_number changes.1 makes.0 (entry_of_job p did.job did.operation) p,
-      ap (λ (v : PassView). v.bounds) makes.3 ∙ change_bounds changes.1 makes.0 (entry_of_job p did.job did.operation) p,
-    )
-part_keeps did p q (inr looks) =
+number_kept : (did : PartDone) (p q : PassView) → DoesPart did p q → q.number ≡ p.number
+number_kept did p q (inl changes) =
+    let makes = changes.2 in
+    ap (λ (v : PassView). v.number) makes.3 ∙ change_number changes.1 makes.0 (entry_of_job p did.job did.operation) p
+number_kept did p q (inr looks) =
     let observes = looks.2 in
-    (ap (λ (v : PassView). v.number) observes.3, ap (λ (v : PassView). v.bounds) observes.3)
+    ap (λ (v : PassView). v.number) observes.3
 
 -- A pass's own entries after a change: those that it had, and where it was done the new one.
 change_mine_of : (changed : Changed) (p : PassView) (job : ℕ) (op : Operation) (unit : ℕ) (deed : Deed) (i n : ℕ)
@@ -131,14 +123,13 @@ module _ (ns : Namespace) (jobs : List Job) (laws : MarkLaws) (x : RecordedPart)
           let part : x.part ≡ (reply_of_change unit deed changed).part =
           sym shows.part ∙ ap (λ (r : Reply). r.part) changes.3 in
           let point_is : x.part.point ≡ point_of changed = ap (λ (y : Part). y.point) part ∙ change_point unit deed changed in
-          let keeps = part_keeps did p q (inl changes) in
           record {
             marked = subst (λ (n : ℕ). HasMarked n p q) (sym point_is)
                 (laws.change_marks changed p q did.job did.operation makes);
             least = ap (λ (y : Part). least_after y y.result) part ∙ change_least unit deed changed
                 ∙ sym (laws.change_entries changed p q did.job did.operation makes);
-            number = keeps.0;
-            bounds = keeps.1;
+            number = number_kept did p q taken.does;
+            bounds = bounds_kept did p q taken.does;
             mine = λ i n entry at.
                 elim (change_mine_of changed p did.job did.operation unit deed i n entry
                 (subst (λ (es : List (ℕ × HistoryEntry)). IsAt es i (n, entry))
@@ -169,13 +160,12 @@ module _ (ns : Namespace) (jobs : List Job) (laws : MarkLaws) (x : RecordedPart)
           let observes = looks.2 in
           let part : x.part ≡ (reply_of_look unit deed answer).part = sym shows.part ∙ ap (λ (r : Reply). r.part) looks.3 in
           let point_is : x.part.point ≡ point_of_look answer = ap (λ (y : Part). y.point) part ∙ look_point unit deed answer in
-          let keeps = part_keeps did p q (inr looks) in
           record {
             marked = subst (λ (n : ℕ). HasMarked n p q) (sym point_is) (laws.look_marks answer p q did.operation observes);
             least = ap (λ (y : Part). least_after y y.result) part ∙ look_least unit deed answer
                 ∙ sym (laws.look_entries answer p q did.operation observes);
-            number = keeps.0;
-            bounds = keeps.1;
+            number = number_kept did p q taken.does;
+            bounds = bounds_kept did p q taken.does;
             mine = λ i n entry at.
                 inl (
                   i,

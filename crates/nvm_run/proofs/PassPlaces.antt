@@ -1,5 +1,5 @@
 -- Where the units of passes lie: a part leaves it, whatever it does.
-use Rattle.std.proofs.Common.{◌≡◌, ◌⊎◌, ℕ, zero, suc, List, [], ◌∷◌, map, slice_set, refl, sym, ap, subst, ◌∙◌, inl, inr}
+use Rattle.std.proofs.Common.{◌≡◌, ℕ, zero, suc, List, [], ◌∷◌, map, refl, sym, ap, subst, ◌∙◌, inl, inr}
 use mathlib.Core.Option.{some-injective, some-ne-none}
 use Rattle.nvm_record.specs.Lists.{IsAt}
 use Rattle.nvm_geometry.specs.Namespace.{Namespace}
@@ -19,6 +19,7 @@ use Rattle.nvm_space.specs.Trace.{PartDone, DoesPart, DoesParts}
 use Rattle.nvm_space.specs.Visits.{BecomesAt}
 use Rattle.nvm_audit.specs.RecordedJob.{RecordedJob}
 use Rattle.nvm_run.specs.DoneJobs.{HasDoneJob}
+use Rattle.nvm_run.proofs.InLists.{was_there}
 
 -- Something holds of what is settled of each pass's unit.
 abbrev pub HaveBounds : (ℕ → Bounds → Type 0) → List PassView → Type 0
@@ -28,19 +29,6 @@ HaveBounds P views = (k : ℕ) (view : PassView) → IsAt views k view → P k v
 abbrev pub AreInTheirUnits : Namespace → List PassView → Type 0
 AreInTheirUnits ns views = (k : ℕ) (view : PassView) → IsAt views k view → IsUnitPlace ns k view.bounds.place
 
-module _ {A : Type 0} where
-  -- what stands in a list in which one thing was replaced
-  at_set : (xs : List A) (i j : ℕ) (x y : A) → IsAt (slice_set xs i x) j y → ((j ≡ i) × (y ≡ x)) ⊎ IsAt xs j y
-  at_set [] i j x y e = inr e
-  at_set (z ∷ zs) zero zero x y e = inl (refl, sym (some-injective x y e))
-  at_set (z ∷ zs) zero (suc j) x y e = inr e
-  at_set (z ∷ zs) (suc i) zero x y e = inr e
-  at_set (z ∷ zs) (suc i) (suc j) x y e =
-      elim (at_set zs i j x y e) [
-        | inl here ↦ inl (ap suc here.0, here.1)
-        | inr there ↦ inr there
-      ]
-
 bounds_after : (changed : Changed) (history : List HistoryEntry) (entry : HistoryEntry) (p : PassView)
     → (pass_after changed history entry p).bounds ≡ p.bounds
 bounds_after (Done point) history entry p = refl
@@ -49,7 +37,7 @@ bounds_after (NoMemory point) history entry p = refl
 bounds_after (Full point) history entry p = refl
 
 -- a part leaves where its pass's unit lies
-bounds_kept : (did : PartDone) (p q : PassView) → DoesPart did p q → q.bounds ≡ p.bounds
+pub bounds_kept : (did : PartDone) (p q : PassView) → DoesPart did p q → q.bounds ≡ p.bounds
 bounds_kept did p q (inl change) =
     let made = change.2 in
     ap (λ (view : PassView). view.bounds) made.3 ∙ bounds_after change.1 made.0 _ p
@@ -61,7 +49,7 @@ module _ (P : ℕ → Bounds → Type 0) where
   pub step_keeps : (k : ℕ) (did : PartDone) (old new : List PassView) → BecomesAt k (DoesPart did) old new → HaveBounds P old
       → HaveBounds P new
   step_keeps k did old new becomes have j view at =
-      elim (at_set old k j becomes.after view (subst (λ (views : List PassView). IsAt views j view) becomes.others at)) [
+      elim (was_there old k j becomes.after view (subst (λ (views : List PassView). IsAt views j view) becomes.others at)) [
         | inl here ↦
             let same : view.bounds ≡ becomes.before.bounds =
             ap (λ (v : PassView). v.bounds) here.1 ∙ bounds_kept did becomes.before becomes.after becomes.so in

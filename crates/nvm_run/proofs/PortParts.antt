@@ -8,8 +8,6 @@ use Rattle.nvm_record.specs.Lists.{IsAt}
 use Rattle.nvm_geometry.specs.Namespace.{Namespace}
 use Rattle.nvm_plan.specs.declared.job.Job.{Job}
 use Rattle.nvm_plan.specs.declared.part.Part.{Part}
-use Rattle.nvm_plan.specs.UnitPlace.{IsUnitPlace}
-use Rattle.nvm_unit.specs.declared.bounds.Bounds.{Bounds}
 use Rattle.nvm_unit.specs.declared.views.PassView.{PassView}
 use Rattle.nvm_space.specs.Trace.{PartDone, DoesPart, DoesParts}
 use Rattle.nvm_space.specs.Visits.{BecomesAt}
@@ -17,40 +15,18 @@ use Rattle.nvm_audit.specs.RecordedJob.{RecordedJob}
 use Rattle.nvm_audit.specs.RecordedPart.{RecordedPart, parts_left, parts_of_work}
 use Rattle.nvm_run.specs.DoneJobs.{HasDoneJob, HaveDone}
 use Rattle.nvm_run.specs.Inside.Shows.{Shows}
-use Rattle.nvm_run.proofs.InLists.{none_there, same_there, replaced, kept_elsewhere, was_there}
+use Rattle.nvm_run.proofs.InLists.{none_there, same_there, replaced, kept_elsewhere}
 use Rattle.nvm_run.proofs.OnePass.{TakesIts, TakesAll}
-use Rattle.nvm_run.proofs.PartTaken.{part_keeps}
+use Rattle.nvm_run.proofs.PassPlaces.{AreInTheirUnits, places_stay}
 
--- Each pass's unit lies where that of its number does.
-abbrev pub AreLaid : Namespace → List PassView → Type 0
-AreLaid ns views = (k : ℕ) (view : PassView) → IsAt views k view → IsUnitPlace ns k view.bounds.place
-
-laid_after : (ns : Namespace) (did : PartDone) (old new : List PassView) → BecomesAt did.reply.part.unit (DoesPart did) old new
-    → AreLaid ns old → AreLaid ns new
-laid_after ns did old new becomes laid k view at =
-    let unit = did.reply.part.unit in
-    elim (was_there old unit k becomes.after view (subst (λ (vs : List PassView). IsAt vs k view) becomes.others at)) [
-      | inl here ↦
-          let kept : becomes.after.bounds ≡ becomes.before.bounds =
-          (part_keeps did becomes.before becomes.after becomes.so).1 in
-          let same : becomes.before.bounds ≡ view.bounds = sym (ap (λ (v : PassView). v.bounds) here.1 ∙ kept) in
-          subst (λ (b : Bounds). IsUnitPlace ns k b.place) same
-          (subst (λ (n : ℕ). IsUnitPlace ns n becomes.before.bounds.place) (sym here.0) (laid unit becomes.before becomes.was))
-      | inr there ↦ laid k view there
-    ]
-
-all_laid : (ns : Namespace) (acts : List PartDone) (old new : List PassView) → DoesParts acts old new → AreLaid ns old
-    → AreLaid ns new
-all_laid ns [] old new does laid = subst (AreLaid ns) (sym does) laid
-all_laid ns (did ∷ acts) old new does laid = all_laid ns acts does.0 new does.2 (laid_after ns did old does.0 does.1 laid)
-
+-- Some parts were done, and then others: so all of them were.
 one_then_others : (first rest : List PartDone) (old between new : List PassView) → DoesParts first old between
-    → DoesParts rest between new
-    → DoesParts (first ++ rest) old new
+    → DoesParts rest between new → DoesParts (first ++ rest) old new
 one_then_others [] rest old between new does then_ = subst (λ (vs : List PassView). DoesParts rest vs new) does then_
 one_then_others (did ∷ first) rest old between new does then_ =
     (does.0, does.1, one_then_others first rest does.0 between new does.2 then_)
 
+-- What is so of each two of two lists, and of each two of two others, is so of each two of them joined.
 zip_both : {A B : Type 0} (R : A → B → Type 0) (xs ys : List A) (us vs : List B) → AllZip R xs us → AllZip R ys vs
     → AllZip R (xs ++ ys) (us ++ vs)
 zip_both R [] ys [] vs first rest = rest
@@ -67,17 +43,17 @@ pub record IsShown (ns : Namespace) (jobs : List Job) (xs : List RecordedPart) (
 -- What each done job shows of its parts.
 abbrev pub JobsAreShown : Namespace → List Job → Type 0
 JobsAreShown ns jobs =
-    (worker : ℕ) (d : RecordedJob) (old new : List PassView) → HasDoneJob ns jobs d old new → AreLaid ns old
+    (worker : ℕ) (d : RecordedJob) (old new : List PassView) → HasDoneJob ns jobs d old new → AreInTheirUnits ns old
     → IsShown ns jobs (parts_left worker d d.parts) old new
 
 -- What a worker's done jobs show of all its parts.
-pub work_shown : (ns : Namespace) (jobs : List Job) → JobsAreShown ns jobs
-    → (worker : ℕ) (work : List RecordedJob) (old new : List PassView)
-    → HaveDone ns jobs work old new → AreLaid ns old → IsShown ns jobs (parts_of_work worker work) old new
-work_shown ns jobs shown worker [] old new done laid = record { acts = []; does = done; shows = tt }
-work_shown ns jobs shown worker (d ∷ work) old new done laid =
-    let first = shown worker d old done.0 done.1 laid in
-    let rest = work_shown ns jobs shown worker work done.0 new done.2 (all_laid ns done.1.parts old done.0 done.1.does laid) in
+pub work_shown : (ns : Namespace) (jobs : List Job) → JobsAreShown ns jobs → (worker : ℕ) (work : List RecordedJob)
+    (old new : List PassView) → HaveDone ns jobs work old new → AreInTheirUnits ns old
+    → IsShown ns jobs (parts_of_work worker work) old new
+work_shown ns jobs shown worker [] old new done places = record { acts = []; does = done; shows = tt }
+work_shown ns jobs shown worker (d ∷ work) old new done places =
+    let first = shown worker d old done.0 done.1 places in
+    let rest = work_shown ns jobs shown worker work done.0 new done.2 (places_stay ns jobs d old done.0 done.1 places) in
     record {
       acts = first.acts ++ rest.acts;
       does = one_then_others first.acts rest.acts old done.0 new first.does rest.does;
@@ -87,8 +63,8 @@ work_shown ns jobs shown worker (d ∷ work) old new done laid =
 
 -- Each of a worker's jobs was done between some views.
 pub job_was_done : (ns : Namespace) (jobs : List Job) (work : List RecordedJob) (old new : List PassView)
-    → HaveDone ns jobs work old new
-    → (i : ℕ) (d : RecordedJob) → IsAt work i d → (before after : List PassView) × HasDoneJob ns jobs d before after
+    → HaveDone ns jobs work old new → (i : ℕ) (d : RecordedJob) → IsAt work i d
+    → (before after : List PassView) × HasDoneJob ns jobs d before after
 job_was_done ns jobs [] old new done i d at = absurd (none_there i d at)
 job_was_done ns jobs (e ∷ work) old new done zero d at =
     (old, done.0, subst (λ (x : RecordedJob). HasDoneJob ns jobs x old done.0) (some-injective e d at) done.1)
@@ -96,8 +72,7 @@ job_was_done ns jobs (e ∷ work) old new done (suc i) d at = job_was_done ns jo
 
 -- One part is a step of its unit's pass, and leaves the others.
 step_of_pass : (ns : Namespace) (jobs : List Job) (unit : ℕ) (x : RecordedPart) (did : PartDone) (old new : List PassView)
-    (p : PassView)
-    → Shows ns jobs x did → BecomesAt did.reply.part.unit (DoesPart did) old new → IsAt old unit p
+    (p : PassView) → Shows ns jobs x did → BecomesAt did.reply.part.unit (DoesPart did) old new → IsAt old unit p
     → (q : PassView) × IsAt new unit q × TakesIts ns jobs unit x p q
 step_of_pass ns jobs unit x did old new p shows becomes at =
     let there = did.reply.part.unit in
@@ -122,7 +97,8 @@ step_of_pass ns jobs unit x did old new p shows becomes at =
 
 -- The pass of each unit did all the parts of the unit.
 pub takes_all : (ns : Namespace) (jobs : List Job) (unit : ℕ) (xs : List RecordedPart) (acts : List PartDone)
-    (old new : List PassView) (p q : PassView) → AllZip (Shows ns jobs) xs acts → DoesParts acts old new → IsAt old unit p → IsAt new unit q
+    (old new : List PassView) (p q : PassView) → AllZip (Shows ns jobs) xs acts → DoesParts acts old new → IsAt old unit p
+    → IsAt new unit q
     → TakesAll ns jobs unit xs p q
 takes_all ns jobs unit [] [] old new p q shows does at now =
     same_there old unit q p (subst (λ (vs : List PassView). IsAt vs unit q) does now) at

@@ -1,5 +1,5 @@
 -- In a gathered record the data of each Read is as long as its blocks.
-use Rattle.std.proofs.Common.{◌≡◌, ℕ, zero, suc, ◌*◌, ◌<◌, List, [], ◌∷◌, length, Some, refl, sym, ap, subst, ◌∙◌, inl, inr, arith}
+use Rattle.std.proofs.Common.{◌≡◌, ℕ, zero, suc, ◌*◌, ◌<◌, List, [], ◌∷◌, length, Some, sym, ap, subst, ◌∙◌, inl, inr, arith}
 use Rattle.std.proofs.lemmas.Option.{none-some, same_Some}
 use mathlib.Core.Option.{some-injective, some-ne-none}
 use Rattle.nvm_record.specs.Lists.{IsAt}
@@ -19,17 +19,12 @@ use Rattle.nvm_audit.specs.RecordView.{RecordView}
 use Rattle.nvm_run.specs.DoneJobs.{HasDoneJob, HaveDone}
 use Rattle.nvm_run.specs.Gathered.{IsGathered}
 use Rattle.nvm_run.proofs.DoneReads.{LiesInside, MeetsItsUnits, replies_to, data_is_cut}
+use Rattle.nvm_run.proofs.InLists.{some_there}
 use Rattle.nvm_run.proofs.JobReplies.{PairMeetsOne, IsRepliedTo, ready_is, replied_to}
 use Rattle.nvm_run.proofs.PassPlaces.{AreInTheirUnits, new_port_lies, places_stay}
 use Rattle.nvm_run.proofs.PassReads.{KeepSizes, ReadsAreWhole}
 use Rattle.nvm_run.proofs.Places.{at_below}
 use Rattle.nvm_run.proofs.ReadCut.{StandInLine}
-
--- Some thing stands at each place below the end.
-some_at : {A : Type 0} (xs : List A) (i : ℕ) → i < length xs → (x : A) × IsAt xs i x
-some_at [] i lt = absurd (omega arith)
-some_at (x ∷ xs) zero lt = (x, refl)
-some_at (x ∷ xs) (suc i) lt = some_at xs i (omega arith)
 
 module _ (in_line : StandInLine) (inside : LiesInside) (meets_units : MeetsItsUnits) (keep : KeepSizes)
     (whole : ReadsAreWhole) (one : PairMeetsOne) where
@@ -66,7 +61,7 @@ module _ (in_line : StandInLine) (inside : LiesInside) (meets_units : MeetsItsUn
   gathered_are_whole s ports r gathered worker work k d job op bytes at_worker at_job its ready e =
       let below : worker < length ports =
       omega (arith, at_below r.done worker work at_worker, gathered.workers, gathered.all.count) in
-      let port = some_at ports worker below in
+      let port = some_there ports worker below in
       work_is_whole s.namespace r.jobs work (views_of (new_port s.units worker).passes) (views_of port.0.passes) k d job op bytes
       (gathered.done worker work port.0 at_worker port.1) (new_port_lies s worker gathered.laid) at_job its
       (subst (λ (ns : Namespace). ready_operation ns job ≡ Some op) gathered.namespace ready) e
