@@ -11,10 +11,15 @@ mod claim;
 mod counter;
 pub mod laws;
 mod rule;
+mod run_fault;
+mod running;
 mod seats;
+mod shown;
 mod steps;
 #[cfg(test)]
 mod tests;
 
 pub use claim::Claim;
 pub use counter::{Counter, MOST_WORKERS};
+pub use run_fault::RunFault;
+pub use running::run;
