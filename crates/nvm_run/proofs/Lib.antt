@@ -6,3 +6,5 @@ pub mod DoneOnce
 pub mod Dealt
 pub mod Drawing
 pub mod Coming
+pub mod Recorded
+pub mod Working

@@ -1,6 +1,6 @@
 -- Lists that are read by place, and what holds of all their elements.
-use Rattle.std.proofs.Common.{◌≡◌, ℕ, zero, suc, ◌<◌, List, [], ◌∷◌, length, get_or, subst, sym, arith, All, AllPairs}
-use mathlib.Core.Option.{some-injective, some-ne-none}
+use Rattle.std.proofs.Common.{◌≡◌, ℕ, zero, suc, ◌<◌, List, [], ◌∷◌, length, get_or, subst, sym, ap, arith, All, AllPairs}
+use mathlib.Core.Option.{some, some-injective, some-ne-none}
 use Rattle.nvm_record.specs.Lists.{IsAt}
 
 module _ {A : Type 0} where
@@ -13,6 +13,11 @@ module _ {A : Type 0} where
   at_read [] i x d e = absurd (some-ne-none x (sym e))
   at_read (y ∷ ys) zero x d e = some-injective y x e
   at_read (y ∷ ys) (suc i) x d e = at_read ys i x d e
+
+  pub at_index : (xs : List A) (i : ℕ) (x : A) → i < length xs → x ≡ get_or xs i x → IsAt xs i x
+  at_index [] i x lt e = absurd (omega arith)
+  at_index (y ∷ ys) zero x lt e = ap some (sym e)
+  at_index (y ∷ ys) (suc i) x lt e = at_index ys i x (omega arith) e
 
   -- What holds of all holds at each place.
   pub all_at : (P : A → Type 0) (xs : List A) (i : ℕ) (x : A) → All P xs → IsAt xs i x → P x

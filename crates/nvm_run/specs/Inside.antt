@@ -3,3 +3,4 @@ pub mod Rule
 pub mod Plays
 pub mod Seats
 pub mod Shows
+pub mod Working

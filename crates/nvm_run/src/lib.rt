@@ -11,14 +11,15 @@ mod claim;
 mod counter;
 pub mod laws;
 mod rule;
-mod running;
 mod run_fault;
+mod running;
 mod seats;
 mod steps;
 #[cfg(test)]
 mod tests;
+mod worker;
 
 pub use claim::Claim;
 pub use counter::{Counter, MOST_WORKERS};
-pub use running::run;
 pub use run_fault::RunFault;
+pub use running::run;
