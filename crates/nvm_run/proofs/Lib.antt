@@ -8,3 +8,5 @@ pub mod Drawing
 pub mod Coming
 pub mod Recorded
 pub mod Working
+pub mod Brought
+pub mod Started

@@ -4,3 +4,4 @@ pub mod Plays
 pub mod Seats
 pub mod Shows
 pub mod Working
+pub mod Gathering

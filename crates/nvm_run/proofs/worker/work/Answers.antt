@@ -1,4 +1,4 @@
-use Rattle.std.proofs.Common.{◌≡◌, ℕ, ◌<◌, ◌∙◌, List, All, subst, sym, ap}
+use Rattle.std.proofs.Common.{◌≡◌, ℕ, ◌<◌, ◌∙◌, List, All, subst}
 use Rattle.nvm_unit.specs.Ends.{views_of}
 use Rattle.nvm_run.specs.Inside.Working.{numbers_of}
 use Rattle.nvm_run.proofs.Working.{work_more, drawn_more}
