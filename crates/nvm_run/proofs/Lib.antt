@@ -10,3 +10,4 @@ pub mod Recorded
 pub mod Working
 pub mod Brought
 pub mod Started
+pub mod Finished
