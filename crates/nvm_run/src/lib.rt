@@ -14,6 +14,7 @@ mod rule;
 mod run_fault;
 mod running;
 mod seats;
+mod shown;
 mod steps;
 #[cfg(test)]
 mod tests;
