@@ -22,14 +22,7 @@ use Rattle.nvm_run.specs.declared.worker.Worker.{Worker}
 use Rattle.nvm_run.specs.DoneJobs.{HaveDone}
 use Rattle.nvm_run.specs.Inside.Gathering.{run_record, IsOfWorkers}
 use Rattle.nvm_run.specs.Inside.Working.{AllHaveWorked, AreTheirs, AreOfWorkers, HasWorked, numbers_of}
-use Rattle.nvm_run.proofs.Places.{at_index, at_read, at_below, at_one, at_some, at_map, at_map_back, all_at}
-
--- What holds at each place holds of all.
-all_from_at : {A : Type 0} (P : A → Type 0) (xs : List A) → ((i : ℕ) (x : A) → IsAt xs i x → P x) → All P xs
-all_from_at {A} P xs each k d below =
-    let there = at_some xs k below in
-    let read : get_or xs k d ≡ there.0 = at_read xs k there.0 d there.1 in
-    subst P (sym read) (each k there.0 there.1)
+use Rattle.nvm_run.proofs.Places.{at_index, at_read, at_below, at_one, at_some, at_map, at_map_back, all_at, all_from_at}
 
 -- How often a job was done is how often its number comes.
 times_of_numbers : (x : ℕ) (work : List RecordedJob) → times x (numbers_of work) ≡ count_by (λ d. nat_eq d.job x) work

@@ -11,6 +11,7 @@ pub mod Working
 pub mod Brought
 pub mod Started
 pub mod Finished
+pub mod WholeRun
 pub mod InLists
 pub mod PassPlaces
 pub mod ReadCut

@@ -40,6 +40,13 @@ module _ {A : Type 0} where
   pub pairs_tail : (R : A → A → Type 0) (x : A) (xs : List A) → AllPairs R (x ∷ xs) → AllPairs R xs
   pairs_tail R x xs pairs i j d lt in' = pairs (suc i) (suc j) d (omega arith) (omega arith)
 
+  -- What holds at each place holds of all.
+  pub all_from_at : (P : A → Type 0) (xs : List A) → ((i : ℕ) (x : A) → IsAt xs i x → P x) → All P xs
+  all_from_at P xs each k d below =
+      let there = at_some xs k below in
+      let read : get_or xs k d ≡ there.0 = at_read xs k there.0 d there.1 in
+      subst P (sym read) (each k there.0 there.1)
+
 module _ {A B : Type 0} where
   pub at_map : (f : A → B) (xs : List A) (i : ℕ) (x : A) → IsAt xs i x → IsAt (map f xs) i (f x)
   at_map f [] i x e = absurd (some-ne-none x (sym e))

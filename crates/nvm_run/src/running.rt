@@ -14,10 +14,12 @@ ghost use Rattle.nvm_run.specs.RunFaults.{IsRunFault};
 ghost use Rattle.nvm_run.specs.RunRecord.{IsRecordOfRun};
 
 use crate::counter::Counter;
-use crate::laws::each_job_is_done_once;
+use crate::laws::{each_job_is_done_once, gathered_records_are_lawful};
 use crate::run_fault::RunFault;
+use crate::shown::done_reads_are_whole;
 use crate::workers::all_work;
-use nvm_audit::{DoneJob, Record};
+use nvm_audit::laws::{lawful_records_can_be_held, lawful_units_are_runs};
+use nvm_audit::{DoneJob, Record, Version};
 use nvm_geometry::Geometry;
 use nvm_plan::Job;
 use nvm_space::Space;
@@ -56,10 +58,23 @@ pub fn run<R: Threads + Wait + Sync, G: Gate + Sync>(
         × IsRunFrom r.namespace.block_size (zero_medium r.namespace.block_size) steps) }
     ensures fault { IfErr result (IsRunFault workers) }
 {
-    if workers == 0 || workers > 64 {
-        return Err(RunFault::Workers);
-    }
-    Err(RunFault::NoMemory)
+    done_reads_are_whole();
+    gathered_records_are_lawful();
+    lawful_records_can_be_held();
+    lawful_units_are_runs();
+    // For the proof alone: that the geometry and the limit are sound.
+    let _nsze = geometry.nsze();
+    let _entries = limit.entries();
+    let (units, done) = done_by_workers(rt, alloc, geometry, &jobs, workers, limit, gate)?;
+    Ok(Record {
+        version: Version::Two,
+        geometry,
+        limit,
+        workers,
+        jobs,
+        units,
+        done,
+    })
 }
 
 /// Has so many workers do the jobs in a new space. Gives the histories with which its units end, and what each worker did.
