@@ -6,6 +6,12 @@ pub mod DoneOnce
 pub mod Dealt
 pub mod Drawing
 pub mod Coming
+pub mod Recorded
+pub mod Working
+pub mod Brought
+pub mod Started
+pub mod Finished
+pub mod WholeRun
 pub mod InLists
 pub mod PassPlaces
 pub mod ReadCut

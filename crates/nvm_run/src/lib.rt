@@ -18,6 +18,8 @@ mod shown;
 mod steps;
 #[cfg(test)]
 mod tests;
+mod worker;
+mod workers;
 
 pub use claim::Claim;
 pub use counter::{Counter, MOST_WORKERS};
