@@ -12,3 +12,7 @@ pub mod DoneParts
 pub mod OneActHeld
 pub mod LawfulHeld
 pub mod InOrder
+pub mod EachPasses
+pub mod UnitChecksPass
+pub mod RecordChecksPass
+pub mod OneFirst

@@ -19,10 +19,13 @@ ghost use Rattle.nvm_store.specs.declared.place.Place.{Place as UnitPlace};
 ghost use Rattle.nvm_store.specs.HistoryEntry.{HistoryEntry};
 ghost use Rattle.nvm_store.specs.PlacedRun.{RunStep, IsRunFrom};
 ghost use Rattle.nvm_store.specs.Point.{RestsOn};
+ghost use Rattle.nvm_audit.specs.declared.audit_fault.AuditFault.{AuditFault};
+ghost use Rattle.nvm_audit.specs.declared.audit_fault.AuditFault.TheVariants.{NoMemory};
 ghost use Rattle.nvm_audit.specs.declared.version.Version.{Version as FileVersion};
 ghost use Rattle.nvm_audit.specs.LawfulRecord.{IsLawfulRecord};
 ghost use Rattle.nvm_audit.specs.OneAct.{entry_alone, IsOfOneAct, HasJust};
 ghost use Rattle.nvm_audit.specs.Recordable.{most_workers, most_jobs, HoldsLimit, HoldsBody, HoldsWholeReads, IsRecordable, IsRecordableJob, IsRecordableEntry, IsRecordableDone};
+ghost use Rattle.nvm_audit.specs.RecordChecks.{HasNoFault, IsFirstFault};
 ghost use Rattle.nvm_audit.specs.RecordedCalls.{IsPlacedRunOf};
 ghost use Rattle.nvm_audit.specs.RecordedJob.{RecordedJob};
 ghost use Rattle.nvm_audit.specs.RecordedPart.{RecordedPart, parts_in_unit};
@@ -137,3 +140,17 @@ pub fn lawful_units_are_runs()
     placed_runs_are_runs();
     placed_runs_keep_order();
 }
+
+/// A record that can be held is lawful exactly where nothing that is looked for in it is wrong.
+pub fn no_check_fails_for_lawful_records()
+    ensures lawful { (r : RecordView) → IsRecordable r → HasNoFault r → IsLawfulRecord r }
+    ensures passes { (r : RecordView) → IsLawfulRecord r → HasNoFault r }
+{}
+
+/// A record has no more than one first fault, a lawful one has none, and want of memory is none of any record.
+pub fn one_check_is_the_first_fault()
+    ensures one { (r : RecordView) (fault other : AuditFault) → IsFirstFault r fault → IsFirstFault r other
+        → fault ≡ other }
+    ensures none { (r : RecordView) (fault : AuditFault) → IsLawfulRecord r → ¬ (IsFirstFault r fault) }
+    ensures memory { (r : RecordView) → ¬ (IsFirstFault r NoMemory) }
+{}
