@@ -16,3 +16,4 @@ pub mod EachPasses
 pub mod UnitChecksPass
 pub mod RecordChecksPass
 pub mod OneFirst
+pub mod FewDone

@@ -154,3 +154,9 @@ pub fn one_check_is_the_first_fault()
     ensures none { (r : RecordView) (fault : AuditFault) → IsLawfulRecord r → ¬ (IsFirstFault r fault) }
     ensures memory { (r : RecordView) → ¬ (IsFirstFault r NoMemory) }
 {}
+
+/// In a lawful record no worker did more jobs than there are.
+pub fn each_worker_did_few_jobs()
+    ensures { (r : RecordView) (worker : ℕ) (work : List RecordedJob) → IsLawfulRecord r → IsAt r.done worker work
+        → length work ≤ length r.jobs }
+{}
