@@ -2,12 +2,19 @@
 use Rattle.std.proofs.Common.{ℕ, zero, suc, ◌+◌, ◌<◌, ◌≤◌, List, [], ◌∷◌, ◌++◌, map, refl, subst, inl, inr, arith}
 use Rattle.std.proofs.lemmas.Bool.{cases_eq}
 use Rattle.std.specs.List.{AllByRecursion, flat_map, range_with_len}
+use mathlib.Core.Option.{some-injective}
 use Rattle.nvm_record.specs.Lists.{IsAt}
+use Rattle.nvm_audit.proofs.Standing.{none_stands}
 
 module _ {A : Type 0} (P : A → Type 0) where
   pub of_each : (xs : List A) → ((i : ℕ) (x : A) → IsAt xs i x → P x) → AllByRecursion P xs
   of_each [] each = tt
   of_each (x ∷ xs) each = (each zero x refl, of_each xs (λ i y at. each (suc i) y at))
+
+  pub all_here : (xs : List A) → AllByRecursion P xs → (i : ℕ) (x : A) → IsAt xs i x → P x
+  all_here [] all i x at = absurd (none_stands i x at)
+  all_here (y ∷ ys) all zero x at = subst P (some-injective y x at) all.0
+  all_here (y ∷ ys) all (suc i) x at = all_here ys all.1 i x at
 
   pub joined : (xs ys : List A) → AllByRecursion P xs → AllByRecursion P ys → AllByRecursion P (xs ++ ys)
   joined [] ys here after = after

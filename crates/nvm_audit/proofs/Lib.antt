@@ -17,3 +17,7 @@ pub mod UnitChecksPass
 pub mod RecordChecksPass
 pub mod OneFirst
 pub mod FewDone
+pub mod Decided
+pub mod SameData
+pub mod ShapeDecided
+pub mod ChecksDecided

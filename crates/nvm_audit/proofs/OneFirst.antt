@@ -1,5 +1,5 @@
--- The first check that doesn't pass is one alone, where all pass there is none, and none finds want of memory.
-use Rattle.std.proofs.Common.{◌≡◌, ℕ, List, [], ◌∷◌, Bool, true, false, refl, sym, ap, ◌∙◌, inl, inr}
+-- Either all checks pass, and then none is the first that doesn't, or one alone is. None finds want of memory.
+use Rattle.std.proofs.Common.{◌≡◌, ◌⊎◌, ℕ, List, [], ◌∷◌, Bool, true, false, refl, sym, ap, ◌∙◌, inl, inr}
 use mathlib.Core.Bool.{true≢false}
 use Rattle.std.specs.List.{AllByRecursion}
 use Rattle.nvm_audit.specs.declared.audit_fault.AuditFault.{AuditFault}
@@ -7,6 +7,8 @@ use Rattle.nvm_audit.specs.declared.audit_fault.AuditFault.TheVariants.{JobMissi
 use Rattle.nvm_audit.specs.FirstFailed.{IsFirstFailed}
 use Rattle.nvm_audit.specs.RecordChecks.{RecordCheck, job_done, job_once, shape_right, in_unit, Passes, record_checks, fault_of, HasNoFault, IsFirstFault}
 use Rattle.nvm_audit.specs.RecordView.{RecordView}
+use Rattle.nvm_audit.proofs.Decided.{IsDecided}
+use Rattle.nvm_audit.proofs.ChecksDecided.{check_decided}
 use Rattle.nvm_audit.specs.UnitChecks.{UnitCheck, entry_right, entry_claimed, point_there, point_on, status_right, payload_right, fault_in}
 
 module _ {C : Type 0} (P : C → Type 0) where
@@ -16,6 +18,16 @@ module _ {C : Type 0} (P : C → Type 0) where
   one (c ∷ cs) check other (inl here) (inr after) = absurd (here.1 after.0)
   one (c ∷ cs) check other (inr after) (inl there) = absurd (there.1 after.0)
   one (c ∷ cs) check other (inr after) (inr later) = one cs check other after.1 later.1
+
+  first_or_none : ((c : C) → IsDecided (P c)) → (cs : List C) → AllByRecursion P cs ⊎ ((check : C) × IsFirstFailed P cs check)
+  first_or_none decided [] = inl tt
+  first_or_none decided (c ∷ cs) = elim (decided c) [
+    | inl passes ↦ elim (first_or_none decided cs) [
+      | inl rest ↦ inl (passes, rest)
+      | inr after ↦ inr (after.0, inr (passes, after.1))
+    ]
+    | inr fails ↦ inr (c, inl (refl, fails))
+  ]
 
   none_passes : (cs : List C) (check : C) → AllByRecursion P cs → IsFirstFailed P cs check → ⊥
   none_passes [] check all is = is
@@ -28,6 +40,12 @@ one_fault r fault other first also =
 
 pub no_fault : (r : RecordView) (fault : AuditFault) → HasNoFault r → IsFirstFault r fault → ⊥
 no_fault r fault none first = none_passes (Passes r) (record_checks r) first.check none first.first
+
+pub clean_or_first : (r : RecordView) → HasNoFault r ⊎ ((fault : AuditFault) × IsFirstFault r fault)
+clean_or_first r = elim (first_or_none (Passes r) (check_decided r) (record_checks r)) [
+  | inl none ↦ inl none
+  | inr found ↦ inr (fault_of found.0, record { check = found.0; first = found.1; is = refl })
+]
 
 abbrev is_memory : AuditFault → Bool
 is_memory (JobMissing job) = false

@@ -25,7 +25,7 @@ use Rattle.nvm_audit.proofs.Standing.{none_stands, one_there}
 use mathlib.Core.Option.{some-injective}
 
 -- A job is done by one operation.
-one_operation : (ns : Namespace) (jobs : List Job) (number : ℕ) (whole other : Operation) → DoesOperation ns jobs number whole
+pub one_operation : (ns : Namespace) (jobs : List Job) (number : ℕ) (whole other : Operation) → DoesOperation ns jobs number whole
     → DoesOperation ns jobs number other → whole ≡ other
 one_operation ns jobs number whole other does also =
     let same : does.job ≡ also.job = one_there jobs number does.job also.job does.its also.its in

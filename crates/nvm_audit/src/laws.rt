@@ -1,6 +1,6 @@
 //! What holds of records by their definition alone. Each law is a call that does nothing and whose contract is the law.
 
-ghost use Rattle.std.specs.Prelude.{◌≡◌, ℕ, ◌*◌, ◌<◌, ◌≤◌, List, [], ◌∷◌, All, length, Some, None};
+ghost use Rattle.std.specs.Prelude.{◌≡◌, ◌⊎◌, ℕ, ◌*◌, ◌<◌, ◌≤◌, List, [], ◌∷◌, All, length, Some, None};
 ghost use Rattle.nvm_record.specs.Deeds.{IsAct, IsSingle, success_of};
 ghost use Rattle.nvm_record.specs.Lists.{IsAt};
 ghost use Rattle.nvm_record.specs.Medium.{zero_medium};
@@ -147,8 +147,11 @@ pub fn no_check_fails_for_lawful_records()
     ensures passes { (r : RecordView) → IsLawfulRecord r → HasNoFault r }
 {}
 
-/// A record has no more than one first fault, a lawful one has none, and want of memory is none of any record.
+/// Each record that can be held is lawful or has a first fault. It hasn't both, and no two of these; and want of memory is
+/// the fault of no record.
 pub fn one_check_is_the_first_fault()
+    ensures either { (r : RecordView) → IsRecordable r
+        → IsLawfulRecord r ⊎ ((fault : AuditFault) × IsFirstFault r fault) }
     ensures one { (r : RecordView) (fault other : AuditFault) → IsFirstFault r fault → IsFirstFault r other
         → fault ≡ other }
     ensures none { (r : RecordView) (fault : AuditFault) → IsLawfulRecord r → ¬ (IsFirstFault r fault) }
