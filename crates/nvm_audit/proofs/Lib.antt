@@ -21,3 +21,7 @@ pub mod Decided
 pub mod SameData
 pub mod ShapeDecided
 pub mod ChecksDecided
+pub mod ReadJoined
+pub mod PartsShown
+pub mod PointReplies
+pub mod JobOutcomes

@@ -13,6 +13,7 @@ ghost use Rattle.nvm_plan.specs.declared.job.Job.{Job};
 ghost use Rattle.nvm_plan.specs.declared.part.PartResult.TheVariants.{Done};
 ghost use Rattle.nvm_plan.specs.Fits.{FitsNamespace};
 ghost use Rattle.nvm_plan.specs.JobPart.{ready_operation, job_part_in};
+ghost use Rattle.nvm_plan.specs.Reply.{Reply};
 ghost use Rattle.nvm_plan.specs.Shape.{HasOutcomeShape};
 ghost use Rattle.nvm_plan.specs.UnitPlace.{IsUnitPlace};
 ghost use Rattle.nvm_store.specs.declared.place.Place.{Place as UnitPlace};
@@ -30,11 +31,16 @@ ghost use Rattle.nvm_audit.specs.RecordedCalls.{IsPlacedRunOf};
 ghost use Rattle.nvm_audit.specs.RecordedJob.{RecordedJob};
 ghost use Rattle.nvm_audit.specs.RecordedPart.{RecordedPart, parts_in_unit};
 ghost use Rattle.nvm_audit.specs.RecordView.{RecordView};
+ghost use Rattle.nvm_audit.specs.ReplyAtPoint.{AreRepliesOf};
 
 use nvm_geometry::laws::{
-    each_unit_has_one_place, parts_keep_their_kind, units_met_are_those_reached,
+    each_unit_has_one_place, parts_keep_their_kind, pieces_stand_in_line,
+    units_met_are_those_reached, whole_ranges_are_reached,
 };
-use nvm_plan::laws::{each_command_has_a_status, parts_of_jobs, ready_jobs, shapes_by_plan};
+use nvm_plan::laws::{
+    answers_of_the_step_are_replies, each_command_has_a_status, outcomes_by_plan, parts_of_jobs,
+    ready_jobs, shapes_by_plan,
+};
 use nvm_store::laws::{
     placed_runs_are_runs, placed_runs_keep_order, single_act_succeeds, there_is_a_placed_run,
 };
@@ -163,3 +169,18 @@ pub fn each_worker_did_few_jobs()
     ensures { (r : RecordView) (worker : ℕ) (work : List RecordedJob) → IsLawfulRecord r → IsAt r.done worker work
         → length work ≤ length r.jobs }
 {}
+
+/// In a lawful record that can be held, what is recorded of a done job is its outcome: of the replies to its parts, each of
+/// them what its unit's step gives at the part's point, the statuses follow, and a Read's data is theirs joined.
+pub fn done_jobs_are_outcomes()
+    ensures { (r : RecordView) (worker k : ℕ) (work : List RecordedJob) (d : RecordedJob) → IsRecordable r
+        → IsLawfulRecord r → IsAt r.done worker work → IsAt work k d
+        → (replies : List Reply) × AreRepliesOf r d replies }
+{
+    answers_of_the_step_are_replies();
+    outcomes_by_plan();
+    parts_keep_their_kind();
+    pieces_stand_in_line();
+    ready_jobs();
+    whole_ranges_are_reached();
+}
