@@ -25,3 +25,5 @@ pub mod ReadJoined
 pub mod PartsShown
 pub mod PointReplies
 pub mod JobOutcomes
+pub mod FirstFaults
+pub mod DoneStatus

@@ -15,7 +15,7 @@ use Rattle.nvm_audit.proofs.UnitChecksPass.{lawful_unit, no_unit_fault}
 use mathlib.Core.Option.{some-injective}
 
 module _ (r : RecordView) where
-  all_counted : ((number : ℕ) → number < length r.jobs → times_done number r.done ≡ 1)
+  pub all_counted : ((number : ℕ) → number < length r.jobs → times_done number r.done ≡ 1)
       → AllByRecursion (Passes r) (count_checks (length r.jobs))
   all_counted once =
       each_list (Passes r) (λ number. job_done number ∷ job_once number ∷ []) 0 (length r.jobs)
@@ -31,7 +31,7 @@ module _ (r : RecordView) where
       let most = found.1.0 in
       omega (arith, some, most)
 
-  all_shaped : HaveShapes r → AllByRecursion (Passes r) (shape_checks (length r.jobs))
+  pub all_shaped : HaveShapes r → AllByRecursion (Passes r) (shape_checks (length r.jobs))
   all_shaped shapes =
       mapped (Passes r) shape_right (range_with_len 0 (length r.jobs))
       (of_range (HaveShapesOf r) 0 (length r.jobs) (λ number worker work k d there at is. shapes worker work k d there at))
@@ -44,7 +44,7 @@ module _ (r : RecordView) where
       at_number (HaveShapesOf r) 0 (length r.jobs) (unmapped (Passes r) shape_right (range_with_len 0 (length r.jobs)) all)
       d.job (omega arith) (omega (arith, lt)) worker work k d there at refl
 
-  units_pass : (unit : ℕ) (units : List (List HistoryEntry))
+  pub units_pass : (unit : ℕ) (units : List (List HistoryEntry))
       → ((i : ℕ) (history : List HistoryEntry) → IsAt units i history → HasNoUnitFault (view_of_unit r (unit + i) history))
       → AllByRecursion (Passes r) (checks_of_units r unit units)
   units_pass unit [] each = tt
