@@ -68,7 +68,8 @@ its_operation ns jobs number = elim (at_place jobs number) [
     by_ready job its None e =
         inr
         (λ whole does.
-        let same : ready_operation ns does.job ≡ ready_operation ns job = ap (λ (j : Job). ready_operation ns j) (one_there jobs number does.job job does.its its) in
+        let same : ready_operation ns does.job ≡ ready_operation ns job =
+        ap (λ (j : Job). ready_operation ns j) (one_there jobs number does.job job does.its its) in
         none-some whole (sym e ∙ sym same ∙ does.ready))
 
 fails_on : (blocks : List Block) (deed : Deed) → IsDecided (FailsOn blocks deed)

@@ -56,7 +56,8 @@ done_has_its_status u p unit done its_point right acts =
       does = record { job = of.job; its = subst (λ (n : ℕ). IsAt u.jobs n of.job) made.2.job of.its; ready = ready.is };
       status =
           subst
-          (λ (result : PartResult). HasRightStatus u.namespace.block_size u.limit u.history (part_in u.namespace ready.whole p.part.unit) p result)
+          (λ (result : PartResult). HasRightStatus u.namespace.block_size u.limit u.history
+          (part_in u.namespace ready.whole p.part.unit) p result)
           (sym done)
           (subst (λ (op : Operation). RestsOn u.namespace.block_size u.history p.part.point op (success_of op.deed) None) same rests);
     }

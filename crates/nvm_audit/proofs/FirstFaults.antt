@@ -80,7 +80,8 @@ module _ (r : RecordView) where
       (first_of_lists (Passes r) (λ n. job_done n ∷ job_once n ∷ []) 0 (length r.jobs) number check (omega arith) (omega (arith, lt))
       (λ j below. once j (before j below)) is))
 
-  pub missing : (number : ℕ) → number < length r.jobs → OnceBelow number → times_done number r.done ≡ 0 → IsFirstFault r (JobMissing number)
+  pub missing : (number : ℕ) → number < length r.jobs → OnceBelow number → times_done number r.done ≡ 0
+      → IsFirstFault r (JobMissing number)
   missing number lt before none =
       record {
         check = job_done number;
@@ -88,7 +89,8 @@ module _ (r : RecordView) where
         is = refl;
       }
 
-  pub twice : (number : ℕ) → number < length r.jobs → OnceBelow number → 1 < times_done number r.done → IsFirstFault r (JobTwice number)
+  pub twice : (number : ℕ) → number < length r.jobs → OnceBelow number → 1 < times_done number r.done
+      → IsFirstFault r (JobTwice number)
   twice number lt before more =
       record {
         check = job_once number;
@@ -116,29 +118,38 @@ module _ (r : RecordView) where
   CleanBelow unit units place =
       (i : ℕ) (history : List HistoryEntry) → i < place → IsAt units i history → HasNoUnitFault (view_of_unit r (unit + i) history)
 
+  -- It is the first check of the unit that fails.
+  abbrev FailsFirst : ℕ → List HistoryEntry → UnitCheck → Type 0
+  FailsFirst unit history check =
+      IsFirstFailed (PassesInUnit (view_of_unit r unit history)) (unit_checks (view_of_unit r unit history)) check
+
+  -- what is looked for in the unit of this number, which has this history
+  abbrev checks_in : ℕ → List HistoryEntry → List RecordCheck
+  checks_in unit history = map (in_unit (view_of_unit r unit history)) (unit_checks (view_of_unit r unit history))
+
   unit_first : (unit : ℕ) (units : List (List HistoryEntry)) (place : ℕ) (history : List HistoryEntry) (check : UnitCheck)
       → IsAt units place history → CleanBelow unit units place
-      → IsFirstFailed (PassesInUnit (view_of_unit r (unit + place) history)) (unit_checks (view_of_unit r (unit + place) history)) check
+      → FailsFirst (unit + place) history check
       → IsFirstFailed (Passes r) (checks_of_units r unit units) (in_unit (view_of_unit r (unit + place) history) check)
   unit_first unit [] place history check at clean is = absurd (none_stands place history at)
   unit_first unit (first ∷ rest) zero history check at clean is =
       let here : unit + 0 ≡ unit = omega arith in
       let same : first ≡ history = some-injective first history at in
-      first_in_front (Passes r) (map (in_unit (view_of_unit r unit first)) (unit_checks (view_of_unit r unit first)))
+      first_in_front (Passes r) (checks_in unit first)
       (checks_of_units r (unit + 1) rest) (in_unit (view_of_unit r (unit + 0) history) check)
       (subst
-      (λ (n : ℕ). IsFirstFailed (Passes r) (map (in_unit (view_of_unit r unit first)) (unit_checks (view_of_unit r unit first)))
+      (λ (n : ℕ). IsFirstFailed (Passes r) (checks_in unit first)
       (in_unit (view_of_unit r n history) check)) (sym here)
       (subst
-      (λ (h : List HistoryEntry). IsFirstFailed (Passes r) (map (in_unit (view_of_unit r unit first)) (unit_checks (view_of_unit r unit first)))
+      (λ (h : List HistoryEntry). IsFirstFailed (Passes r) (checks_in unit first)
       (in_unit (view_of_unit r unit h) check)) same
       (first_mapped (Passes r) (in_unit (view_of_unit r unit first)) (unit_checks (view_of_unit r unit first)) check
-      (subst (λ (h : List HistoryEntry). IsFirstFailed (PassesInUnit (view_of_unit r unit h)) (unit_checks (view_of_unit r unit h)) check) (sym same)
-      (subst (λ (n : ℕ). IsFirstFailed (PassesInUnit (view_of_unit r n history)) (unit_checks (view_of_unit r n history)) check) here is)))))
+      (subst (λ (h : List HistoryEntry). FailsFirst unit h check) (sym same)
+      (subst (λ (n : ℕ). FailsFirst n history check) here is)))))
   unit_first unit (first ∷ rest) (suc place) history check at clean is =
       let here : unit + 0 ≡ unit = omega arith in
       let number : unit + 1 + place ≡ unit + suc place = omega arith in
-      first_behind (Passes r) (map (in_unit (view_of_unit r unit first)) (unit_checks (view_of_unit r unit first)))
+      first_behind (Passes r) (checks_in unit first)
       (checks_of_units r (unit + 1) rest) (in_unit (view_of_unit r (unit + suc place) history) check)
       (each.mapped (Passes r) (in_unit (view_of_unit r unit first)) (unit_checks (view_of_unit r unit first))
       (subst (λ (n : ℕ). HasNoUnitFault (view_of_unit r n first)) here (clean 0 first (omega arith) refl)))
@@ -147,7 +158,7 @@ module _ (r : RecordView) where
       (λ i next below there.
       let behind : unit + suc i ≡ unit + 1 + i = omega arith in
       subst (λ (n : ℕ). HasNoUnitFault (view_of_unit r n next)) behind (clean (suc i) next (omega (arith, below)) there))
-      (subst (λ (n : ℕ). IsFirstFailed (PassesInUnit (view_of_unit r n history)) (unit_checks (view_of_unit r n history)) check) (sym number) is)))
+      (subst (λ (n : ℕ). FailsFirst n history check) (sym number) is)))
 
   pub wrong_in_unit : OnceBelow (length r.jobs) → HaveShapes r → (unit : ℕ) (history : List HistoryEntry) → IsAt r.units unit history
       → ((i : ℕ) (h : List HistoryEntry) → i < unit → IsAt r.units i h → HasNoUnitFault (view_of_unit r i h))
@@ -161,8 +172,10 @@ module _ (r : RecordView) where
             (each.joined (Passes r) (count_checks (length r.jobs)) (shape_checks (length r.jobs)) (all_counted r counted) (all_shaped r shapes))
             (subst (λ (n : ℕ). IsFirstFailed (Passes r) (checks_of_units r 0 r.units) (in_unit (view_of_unit r n history) found.check)) number
             (unit_first 0 r.units unit history found.check there
-            (λ i h below at. let same : i ≡ 0 + i = omega arith in subst (λ (n : ℕ). HasNoUnitFault (view_of_unit r n h)) same (clean i h below at))
-            (subst (λ (n : ℕ). IsFirstFailed (PassesInUnit (view_of_unit r n history)) (unit_checks (view_of_unit r n history)) found.check)
+            (λ i h below at.
+            let same : i ≡ 0 + i = omega arith in
+            subst (λ (n : ℕ). HasNoUnitFault (view_of_unit r n h)) same (clean i h below at))
+            (subst (λ (n : ℕ). FailsFirst n history found.check)
             (sym number) found.first)));
         is = found.is;
       }
@@ -175,4 +188,5 @@ module _ (r : RecordView) where
       (each.joined (Passes r) (count_checks (length r.jobs)) (shape_checks (length r.jobs)) (all_counted r counted) (all_shaped r shapes))
       (units_pass r 0 r.units
       (λ unit history there.
-      let same : unit ≡ 0 + unit = omega arith in subst (λ (n : ℕ). HasNoUnitFault (view_of_unit r n history)) same (clean unit history there)))
+      let same : unit ≡ 0 + unit = omega arith in
+      subst (λ (n : ℕ). HasNoUnitFault (view_of_unit r n history)) same (clean unit history there)))

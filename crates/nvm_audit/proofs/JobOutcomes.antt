@@ -21,6 +21,7 @@ use Rattle.nvm_plan.specs.Reply.{Reply, IsReplyTo, IsSuccessfulReply, can_have}
 use Rattle.nvm_plan.specs.Shape.{EndsAtLast, HasShapeOf, HasShapeOfRefusal, goes_on, MayShow, HasEnding}
 use Rattle.nvm_plan.specs.declared.part.PartResult.{PartResult}
 use Rattle.nvm_plan.specs.declared.part.PartResult.TheVariants.{Done, Failed, Looked, NoMemory, Full}
+use Rattle.nvm_store.specs.HistoryEntry.{HistoryEntry}
 use Rattle.nvm_store.specs.Point.{point}
 use Rattle.nvm_audit.specs.LawfulRecord.{IsLawfulRecord}
 use Rattle.nvm_audit.specs.Recordable.{IsRecordable, IsRecordableDone, IsRecordableWork}
@@ -123,6 +124,9 @@ module _ (steps : StepsAreReplies) (outcomes : KnowsOutcomes) (knows : KnowsRead
   kept : IsRecordableDone r d
   kept = all_at (IsRecordableDone r) work (all_at (IsRecordableWork r) r.done held.done worker work there).each k d at
 
+  abbrev history_of : Part → List HistoryEntry
+  history_of part = get_or r.units part.unit []
+
   module _ (job : Job) (op : Operation) (its : IsAt r.jobs d.job job) (refusal : refusal_of r.namespace job ≡ None)
       (stands : job_operation_of r.namespace job ≡ Some op) where
     ready : ready_operation r.namespace job ≡ Some op
@@ -132,13 +136,13 @@ module _ (steps : StepsAreReplies) (outcomes : KnowsOutcomes) (knows : KnowsRead
     does = record { job = job; its = its; ready = ready }
 
     abbrev reply_of : Part → Reply
-    reply_of part = reply_at r.namespace op (get_or r.units part.unit []) part part.result
+    reply_of part = reply_at r.namespace op (history_of part) part part.result
 
     -- What is recorded of a part is right at its point, in the history of its unit.
     record RightAt (p : RecordedPart) : Type 0 where
-      unit : IsAt r.units p.part.unit (get_or r.units p.part.unit [])
-      status : IsRight r.namespace r.limit op (get_or r.units p.part.unit []) p p.part.result
-      payload : HasRightData r.namespace op (point r.namespace.block_size (get_or r.units p.part.unit []) p.part.point) p
+      unit : IsAt r.units p.part.unit (history_of p.part)
+      status : IsRight r.namespace r.limit op (history_of p.part) p p.part.result
+      payload : HasRightData r.namespace op (point r.namespace.block_size (history_of p.part) p.part.point) p
 
     right_at : (part : Part) (is_last : Bool) → Stands d.parts part
         → Stands (parts_left worker d d.parts) (recorded_part worker d part is_last) → RightAt (recorded_part worker d part is_last)
@@ -147,7 +151,7 @@ module _ (steps : StepsAreReplies) (outcomes : KnowsOutcomes) (knows : KnowsRead
         let known : part.unit < units_of r.namespace =
         all_at (λ (q : Part). q.unit < units_of r.namespace) d.parts kept.units among.0 part among.1 in
         let lt : part.unit < length r.units = subst (λ (n : ℕ). part.unit < n) (sym held.all_units) known in
-        let history = get_or r.units part.unit [] in
+        let history = history_of part in
         let unit : IsAt r.units part.unit history = read_there r.units part.unit [] lt in
         let among_units = shown r.done worker work k d left.0 p there at left.1 in
         let rests = (lawful.units part.unit history unit).rests among_units.0 p among_units.1 in
@@ -155,7 +159,8 @@ module _ (steps : StepsAreReplies) (outcomes : KnowsOutcomes) (knows : KnowsRead
         record {
           unit = unit;
           status = subst (λ (whole : Operation). IsRight r.namespace r.limit whole history p part.result) same rests.status;
-          payload = subst (λ (whole : Operation). HasRightData r.namespace whole (point r.namespace.block_size history part.point) p) same rests.payload;
+          payload =
+              subst (λ (whole : Operation). HasRightData r.namespace whole (point r.namespace.block_size history part.point) p) same rests.payload;
         }
 
     told_units : (ps : List Part) (last : Reply) (left : List ℕ)
@@ -163,23 +168,23 @@ module _ (steps : StepsAreReplies) (outcomes : KnowsOutcomes) (knows : KnowsRead
     told_units [] last left = refl
     told_units (p ∷ ps) last left =
         ap (λ (q : Part). q.unit ∷ (units_told (map reply_of ps ++ last ∷ []) ++ left))
-        (replies.part_of_reply r.namespace op (get_or r.units p.unit []) p p.result)
+        (replies.part_of_reply r.namespace op (history_of p) p p.result)
         ∙ ap (λ (l : List ℕ). p.unit ∷ l) (told_units ps last left)
 
     front_units : (ps : List Part) (left : List ℕ) → units_told (map reply_of ps) ++ left ≡ map (λ (p : Part). p.unit) ps ++ left
     front_units [] left = refl
     front_units (p ∷ ps) left =
         ap (λ (q : Part). q.unit ∷ (units_told (map reply_of ps) ++ left))
-        (replies.part_of_reply r.namespace op (get_or r.units p.unit []) p p.result)
+        (replies.part_of_reply r.namespace op (history_of p) p p.result)
         ∙ ap (λ (l : List ℕ). p.unit ∷ l) (front_units ps left)
 
     told_parts : (ps : List Part) (last : Part)
         → map (λ (reply : Reply). reply.part) (map reply_of ps ++ reply_of last ∷ []) ≡ ps ++ last ∷ []
     told_parts [] last =
-        ap (λ (q : Part). q ∷ []) (replies.part_of_reply r.namespace op (get_or r.units last.unit []) last last.result)
+        ap (λ (q : Part). q ∷ []) (replies.part_of_reply r.namespace op (history_of last) last last.result)
     told_parts (p ∷ ps) last =
         ap (λ (q : Part). q ∷ map (λ (reply : Reply). reply.part) (map reply_of ps ++ reply_of last ∷ []))
-        (replies.part_of_reply r.namespace op (get_or r.units p.unit []) p p.result)
+        (replies.part_of_reply r.namespace op (history_of p) p p.result)
         ∙ ap (λ (l : List Part). p ∷ l) (told_parts ps last)
 
     module _ (shape : HasShapeOf r.namespace op d.parts d.statuses d.payload) where
@@ -197,6 +202,9 @@ module _ (steps : StepsAreReplies) (outcomes : KnowsOutcomes) (knows : KnowsRead
         among_before i part here =
             subst (λ (l : List Part). Stands l part) (sym ends.are) (in_front ends.before (ends.last ∷ []) i part here)
 
+        abbrev shown_last : RecordedPart
+        shown_last = recorded_part worker d ends.last true
+
         among_last : Stands d.parts ends.last
         among_last = subst (λ (l : List Part). Stands l ends.last) (sym ends.are) (behind ends.before (ends.last ∷ []) 0 ends.last refl)
 
@@ -208,11 +216,11 @@ module _ (steps : StepsAreReplies) (outcomes : KnowsOutcomes) (knows : KnowsRead
                   (before_last worker d ends.before ends.last i part here),
             )
 
-        right_last : RightAt (recorded_part worker d ends.last true)
+        right_last : RightAt shown_last
         right_last =
             right_at ends.last true among_last (
               length ends.before,
-              subst (λ (l : List Part). IsAt (parts_left worker d l) (length ends.before) (recorded_part worker d ends.last true)) (sym ends.are)
+              subst (λ (l : List Part). IsAt (parts_left worker d l) (length ends.before) shown_last) (sym ends.are)
                   (at_last worker d ends.before ends.last),
             )
 
@@ -222,10 +230,12 @@ module _ (steps : StepsAreReplies) (outcomes : KnowsOutcomes) (knows : KnowsRead
         succeeds : (i : ℕ) (part : Part) → IsAt ends.before i part → IsSuccessfulReply op.deed (reply_of part)
         succeeds i part here =
             let p = recorded_part worker d part false in
-            let history = get_or r.units part.unit [] in
+            let history = history_of part in
             let right = right_before i part here in
             record {
-              reply = replies.is_reply r.namespace r.limit op history p steps part.result refl (can part (among_before i part here)) right.status;
+              reply =
+                  replies.is_reply r.namespace r.limit op history p steps part.result refl
+                  (can part (among_before i part here)) right.status;
               success =
                   replies.goes_on_succeeds r.namespace r.limit op history p part.result
                   (each.all_here (λ (q : Part). IsTrue (goes_on q.result)) ends.before ends.going_on i part here) refl right.status;
@@ -233,19 +243,19 @@ module _ (steps : StepsAreReplies) (outcomes : KnowsOutcomes) (knows : KnowsRead
 
         last_is_reply : IsReplyTo op.deed (reply_of ends.last)
         last_is_reply =
-            replies.is_reply r.namespace r.limit op (get_or r.units ends.last.unit []) (recorded_part worker d ends.last true) steps ends.last.result refl
+            replies.is_reply r.namespace r.limit op (history_of ends.last) shown_last steps ends.last.result refl
             (can ends.last among_last) right_last.status
 
         last_told : d.statuses ≡ (reply_of ends.last).statuses
         last_told =
-            replies.last_decides r.namespace r.limit op (get_or r.units ends.last.unit []) (recorded_part worker d ends.last true) keeps ends.last.result
+            replies.last_decides r.namespace r.limit op (history_of ends.last) shown_last keeps ends.last.result
             ends.statuses right_last.status
 
         abbrev all_replies : List Reply
         all_replies = map reply_of ends.before ++ reply_of ends.last ∷ []
 
         last_part : (reply_of ends.last).part ≡ ends.last
-        last_part = replies.part_of_reply r.namespace op (get_or r.units ends.last.unit []) ends.last ends.last.result
+        last_part = replies.part_of_reply r.namespace op (history_of ends.last) ends.last ends.last.result
 
         -- the units of the parts that are there and of those that aren't
         all_units : map (λ (p : Part). p.unit) ends.before ++ ((reply_of ends.last).part.unit ∷ ends.left) ≡ units_met r.namespace op
@@ -266,8 +276,8 @@ module _ (steps : StepsAreReplies) (outcomes : KnowsOutcomes) (knows : KnowsRead
             (each.mapped (IsReplyAtPoint r job) reply_of ends.before
             (each.of_each (λ (p : Part). IsReplyAtPoint r job (reply_of p)) ends.before
             (λ i part here.
-            replies.is_at_point r job op (get_or r.units part.unit []) part part.result ready (right_before i part here).unit refl)))
-            (replies.is_at_point r job op (get_or r.units ends.last.unit []) ends.last ends.last.result ready right_last.unit refl, tt)
+            replies.is_at_point r job op (history_of part) part part.result ready (right_before i part here).unit refl)))
+            (replies.is_at_point r job op (history_of ends.last) ends.last ends.last.result ready right_last.unit refl, tt)
 
         module _ (s : IsSuccess d.statuses) where
           last_succeeds : IsSuccess (reply_of ends.last).statuses
@@ -283,10 +293,14 @@ module _ (steps : StepsAreReplies) (outcomes : KnowsOutcomes) (knows : KnowsRead
               → (bytes : List ℕ) → d.payload ≡ Some bytes
               → (reply_of part).payload ≡ Some (bytes_in r.namespace op.first op.blocks bytes (reply_of part).part.unit)
           reads_right part is_last right success bytes e =
-              replies.reads_its_data r.namespace r.limit op (get_or r.units part.unit []) (recorded_part worker d part is_last) part.result
+              replies.reads_its_data r.namespace r.limit op (history_of part) (recorded_part worker d part is_last) part.result
               success right.payload bytes e
               ∙ ap (λ (q : Part). Some (bytes_in r.namespace op.first op.blocks bytes q.unit))
-              (sym (replies.part_of_reply r.namespace op (get_or r.units part.unit []) part part.result))
+              (sym (replies.part_of_reply r.namespace op (history_of part) part part.result))
+
+          -- the part read what these bytes have of its blocks
+          abbrev ReadsOf : List ℕ → Reply → Type 0
+          ReadsOf bytes reply = reply.payload ≡ Some (bytes_in r.namespace op.first op.blocks bytes reply.part.unit)
 
           read : is_read op.deed ≡ true → d.payload ≡ answered op.deed (data_told all_replies)
           read e =
@@ -297,15 +311,13 @@ module _ (steps : StepsAreReplies) (outcomes : KnowsOutcomes) (knows : KnowsRead
               one_operation r.namespace r.jobs d.job long.op op (record { job = kept.job; its = kept.its; ready = long.ready }) does in
               let length_is : length bytes ≡ op.blocks * r.namespace.block_size =
               subst (λ (x : Operation). length bytes ≡ x.blocks * r.namespace.block_size) same long.whole in
-              let each_reads = each.joined
-              (λ (reply : Reply). reply.payload ≡ Some (bytes_in r.namespace op.first op.blocks bytes reply.part.unit))
-              (map reply_of ends.before) (reply_of ends.last ∷ [])
-              (each.mapped (λ (reply : Reply). reply.payload ≡ Some (bytes_in r.namespace op.first op.blocks bytes reply.part.unit)) reply_of ends.before
-              (each.of_each
-              (λ (p : Part). (reply_of p).payload ≡ Some (bytes_in r.namespace op.first op.blocks bytes (reply_of p).part.unit)) ends.before
+              let each_reads = each.joined (ReadsOf bytes) (map reply_of ends.before) (reply_of ends.last ∷ [])
+              (each.mapped (ReadsOf bytes) reply_of ends.before
+              (each.of_each (λ (p : Part). ReadsOf bytes (reply_of p)) ends.before
               (λ i part here. reads_right part false (right_before i part here) (succeeds i part here).success bytes some.1)))
               (reads_right ends.last true right_last last_succeeds bytes some.1, tt) in
-              let joined = read_joined r.namespace op.first op.blocks bytes in_line (knows.range r.namespace job op refusal stands) length_is all_replies
+              let inside = knows.range r.namespace job op refusal stands in
+              let joined = read_joined r.namespace op.first op.blocks bytes in_line inside length_is all_replies
               (sym (append-nil (units_told all_replies)) ∙ all_met ∙ its_range r.namespace op (reads_its_range op.deed e)) each_reads in
               answered_is op.deed (data_told all_replies) d.payload true e (some.1 ∙ ap (λ (l : List ℕ). Some l) (sym joined))
 

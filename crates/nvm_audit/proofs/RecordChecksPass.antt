@@ -26,7 +26,8 @@ module _ (r : RecordView) where
   once_each : AllByRecursion (Passes r) (count_checks (length r.jobs)) → (number : ℕ) → number < length r.jobs
       → times_done number r.done ≡ 1
   once_each all number lt =
-      let found = list_of (Passes r) (λ number. job_done number ∷ job_once number ∷ []) 0 (length r.jobs) all number (omega arith) (omega (arith, lt)) in
+      let found = list_of (Passes r) (λ number. job_done number ∷ job_once number ∷ []) 0 (length r.jobs) all number
+      (omega arith) (omega (arith, lt)) in
       let some = found.0 in
       let most = found.1.0 in
       omega (arith, some, most)

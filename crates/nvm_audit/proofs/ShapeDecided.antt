@@ -132,7 +132,8 @@ module _ (ns : Namespace) where
             → map (λ (part : Part). part.unit) parts ++ left ≡ units_met ns op → EndsAtLast ns op parts told → EndsWith before last left
         well before last left are units ends =
             let end = one_end ends.before before ends.last last (sym ends.are ∙ are) in
-            let rest : ends.left ≡ left = append_cancel_left (map (λ (part : Part). part.unit) parts) ends.left left (ends.units ∙ sym units) in (
+            let rest : ends.left ≡ left =
+            append_cancel_left (map (λ (part : Part). part.unit) parts) ends.left left (ends.units ∙ sym units) in (
               (
                 ends.results,
                 subst (λ (l : List Part). AllByRecursion (λ (part : Part). IsTrue (goes_on part.result)) l) end.0 ends.going_on,
