@@ -27,12 +27,17 @@ pub record HasItsShape (ns : Namespace) (jobs : List Job) (d : RecordedJob) : Ty
   pub its : IsAt jobs d.job job
   pub shape : HasOutcomeShape ns job d.parts d.statuses d.payload
 
+-- What is recorded of each done job has its shape.
+abbrev pub HaveShapes : RecordView → Type 0
+HaveShapes r =
+    (worker : ℕ) (work : List RecordedJob) (k : ℕ) (d : RecordedJob) → IsAt r.done worker work → IsAt work k d
+    → HasItsShape r.namespace r.jobs d
+
 pub record IsLawfulRecord (r : RecordView) : Type 0 where
   -- Each job was done once.
   pub once : (number : ℕ) → number < length r.jobs → times_done number r.done ≡ 1
   -- Each done job has the shape of its outcome.
-  pub shapes : (worker : ℕ) (work : List RecordedJob) (k : ℕ) (d : RecordedJob) → IsAt r.done worker work → IsAt work k d
-      → HasItsShape r.namespace r.jobs d
+  pub shapes : HaveShapes r
   -- Each unit's history is lawful, with the parts that name the unit.
   pub units : (unit : ℕ) (history : List HistoryEntry) → IsAt r.units unit history
       → IsLawfulUnit r.namespace r.limit r.jobs unit history (parts_in_unit unit r.done)

@@ -27,6 +27,14 @@ pub record MadeEntry (i : ℕ) (entry : HistoryEntry) (p : RecordedPart) : Type 
   pub result : p.part.result ≡ Done
   pub point : p.part.point ≡ i
 
+-- One of the parts made the entry that is entry i of the history.
+abbrev pub IsClaimed : List RecordedPart → ℕ → HistoryEntry → Type 0
+IsClaimed parts i entry = (k : ℕ) × (p : RecordedPart) × IsAt parts k p × MadeEntry i entry p
+
+-- The history has, at the part's point, the entry that the part made.
+abbrev pub HasMadeEntry : List HistoryEntry → RecordedPart → Type 0
+HasMadeEntry history p = (entry : HistoryEntry) × IsAt history p.part.point entry × MadeEntry p.part.point entry p
+
 -- The unit of this number has this history, and these parts name it.
 pub record IsLawfulUnit (ns : Namespace) (limit : ℕ) (jobs : List Job) (unit : ℕ) (history : List HistoryEntry)
     (parts : List RecordedPart) : Type 0 where
@@ -37,10 +45,8 @@ pub record IsLawfulUnit (ns : Namespace) (limit : ℕ) (jobs : List Job) (unit :
   -- Each entry is the part of a job that no check refuses.
   pub entries : (i : ℕ) (entry : HistoryEntry) → IsAt history i entry → IsPartOfItsJob ns jobs unit entry
   -- An entry stands exactly where its worker did this part of the job.
-  pub claimed : (i : ℕ) (entry : HistoryEntry) → IsAt history i entry
-      → (k : ℕ) × (p : RecordedPart) × IsAt parts k p × MadeEntry i entry p
-  pub made : (k : ℕ) (p : RecordedPart) → IsAt parts k p → p.part.result ≡ Done
-      → (entry : HistoryEntry) × IsAt history p.part.point entry × MadeEntry p.part.point entry p
+  pub claimed : (i : ℕ) (entry : HistoryEntry) → IsAt history i entry → IsClaimed parts i entry
+  pub made : (k : ℕ) (p : RecordedPart) → IsAt parts k p → p.part.result ≡ Done → HasMadeEntry history p
   -- What was recorded of each part is right at its point.
   pub rests : (k : ℕ) (p : RecordedPart) → IsAt parts k p → IsRightAtItsPoint ns limit jobs history p
   -- In a worker's order the points never go back.

@@ -7,6 +7,12 @@ pub mod Resting
 pub mod PointOrder
 pub mod LawfulUnit
 pub mod LawfulRecord
+pub mod UnitView
+pub mod FirstFailed
+pub mod UnitChecks
+pub mod RecordChecks
+pub mod Verdict
 pub mod RecordedCalls
+pub mod ReplyAtPoint
 pub mod OneAct
 pub mod Inside

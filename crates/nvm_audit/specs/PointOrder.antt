@@ -14,9 +14,13 @@ least_after part Looked = part.point
 least_after part NoMemory = part.point
 least_after part Full = part.point
 
+-- The later part's point isn't behind the earlier part of the same worker.
+abbrev pub IsNotBefore : RecordedPart → RecordedPart → Type 0
+IsNotBefore earlier later = later.worker ≡ earlier.worker → least_after earlier.part earlier.part.result ≤ later.part.point
+
 -- In these parts of one unit, which stand in the order of each worker, no point of a worker is below one that it had
 -- before, nor at or below the place of an entry that it had made before.
 abbrev pub PointsNeverGoBack : List RecordedPart → Type 0
 PointsNeverGoBack parts =
     (i j : ℕ) (earlier later : RecordedPart) → IsAt parts i earlier → IsAt parts j later → i < j
-    → later.worker ≡ earlier.worker → least_after earlier.part earlier.part.result ≤ later.part.point
+    → IsNotBefore earlier later

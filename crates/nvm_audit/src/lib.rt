@@ -5,12 +5,16 @@
 //! done jobs, in which no thread and no word occurs, and a pass only as its worker's number; [`laws`] have what holds of it.
 #![tactic(auto)]
 
+mod audit_fault;
 mod done_job;
 pub mod laws;
 mod record;
 mod sameness;
+mod verdict;
 mod version;
 
+pub use audit_fault::{AuditFault, Spot};
 pub use done_job::DoneJob;
 pub use record::Record;
+pub use verdict::Verdict;
 pub use version::Version;

@@ -1,0 +1,67 @@
+ghost use Rattle.std.specs.Prelude.{◌≡◌};
+ghost use Rattle.nvm_audit.specs.declared.audit_fault.AuditFault.TheVariants.{NoMemory};
+
+use std::alloc::{AllocError, AllocFailed};
+use thiserror::Error;
+
+/// Why a record isn't lawful: the first thing found wrong in it, in the order in which an audit looks. First each job in the
+/// order of the numbers, whether it was done once; then each job, whether it has the shape of an outcome; then each unit: its
+/// entries by place, and then the parts that name it, by worker and in the worker's order.
+#[derive(Clone, Copy, Debug, PartialEq, Eq, Error)]
+pub enum AuditFault {
+    /// No worker did the job.
+    #[error("JobMissing")]
+    JobMissing { job: u32 },
+    /// The job was done more than once.
+    #[error("JobTwice")]
+    JobTwice { job: u32 },
+    /// The worker that an entry names has no part of the job there that was done.
+    #[error("EntryUnclaimed")]
+    EntryUnclaimed { job: u32, spot: Spot },
+    /// An entry isn't its job's part in the unit, or doesn't succeed after the entries before it.
+    #[error("EntryWrong")]
+    EntryWrong { job: u32, spot: Spot },
+    /// A part's point is above the number of entries, or the part was done and the entry at its point isn't of its worker
+    /// and its job.
+    #[error("PointPast")]
+    PointPast { job: u32, spot: Spot },
+    /// A part's point is below one that its worker had in the unit before, or not above the place of an entry that the
+    /// worker had made there before.
+    #[error("PointBack")]
+    PointBack { job: u32, spot: Spot },
+    /// What was done of a job hasn't the shape of an outcome: no spot is named then. Or a part at its point didn't end as
+    /// recorded, or with other statuses.
+    #[error("StatusWrong")]
+    StatusWrong { job: u32, spot: Option<Spot> },
+    /// The data recorded of a Read isn't that of the blocks at its part's point.
+    #[error("DataWrong")]
+    DataWrong { job: u32, spot: Spot },
+    /// Memory was asked for and refused: nothing is known of the record.
+    #[error("no memory")]
+    NoMemory,
+}
+
+/// Where in a unit something is wrong.
+#[derive(Clone, Copy, Debug, PartialEq, Eq)]
+pub struct Spot {
+    /// The number of the unit.
+    pub unit: u16,
+    /// The place of an entry in the unit's history, or the point of a part.
+    pub place: u32,
+}
+
+impl From<AllocError> for AuditFault {
+    ghost from_gives = { λ _ e. e ≡ NoMemory };
+
+    fn from(_e: AllocError) -> AuditFault {
+        AuditFault::NoMemory
+    }
+}
+
+impl<T: Drop> From<AllocFailed<T>> for AuditFault {
+    ghost from_gives = { λ _ e. e ≡ NoMemory };
+
+    fn from(_e: AllocFailed<T>) -> AuditFault {
+        AuditFault::NoMemory
+    }
+}
