@@ -18,15 +18,15 @@ pub record HasItsOutcome (ns : Namespace) (jobs : List Job) (d : RecordedJob) : 
   pub outcome : IsOutcome ns job replies d.statuses d.payload
   pub listed : d.parts ≡ map (λ reply. reply.part) replies
 
--- The record is that of a run of just these jobs by so many workers, on this namespace, where a unit's history may have so many
+-- The record is that of a run of just these jobs by so many workers, on this namespace, where a unit's history may have `most`
 -- entries. It is lawful. Each worker did its jobs in the order of their numbers, so one worker alone does all in their order.
-pub record IsRecordOfRun (ns : Namespace) (limit workers : ℕ) (jobs : List Job) (r : RecordView) : Type 0 where
+pub record IsRecordOfRun (ns : Namespace) (most count : ℕ) (asked : List Job) (r : RecordView) : Type 0 where
   pub version : r.version ≡ Two
   pub namespace : r.namespace ≡ ns
-  pub limit : r.limit ≡ limit
-  pub workers : r.workers ≡ workers
-  pub jobs : r.jobs ≡ jobs
+  pub limit : r.limit ≡ most
+  pub workers : r.workers ≡ count
+  pub jobs : r.jobs ≡ asked
   pub lawful : IsLawfulRecord r
   pub outcomes : (worker : ℕ) (work : List RecordedJob) (k : ℕ) (d : RecordedJob) → IsAt r.done worker work → IsAt work k d
-      → HasItsOutcome ns jobs d
+      → HasItsOutcome ns asked d
   pub rises : (worker : ℕ) (work : List RecordedJob) → IsAt r.done worker work → AllPairs (λ d e. d.job < e.job) work

@@ -11,7 +11,7 @@ mod claim;
 mod counter;
 pub mod laws;
 mod rule;
-mod run;
+mod running;
 mod run_fault;
 mod seats;
 mod steps;
@@ -20,5 +20,5 @@ mod tests;
 
 pub use claim::Claim;
 pub use counter::{Counter, MOST_WORKERS};
-pub use run::run;
+pub use running::run;
 pub use run_fault::RunFault;
