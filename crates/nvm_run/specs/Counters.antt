@@ -1,10 +1,11 @@
 -- What contracts see of a counter and of its claims.
 use Rattle.std.specs.Prelude.{◌≡◌, ℕ, ◌<◌, ◌≤◌, List, [], map, length, All}
 use Rattle.atomic_table.specs.Seated.{TableId}
+use Rattle.nvm_audit.specs.Recordable.{most_workers}
 
 -- A run has 1 to 64 workers.
 abbrev pub IsWorkerCount : ℕ → Type 0
-IsWorkerCount count = (0 < count) × (count ≤ 64)
+IsWorkerCount count = (0 < count) × (count ≤ most_workers)
 
 -- which counter it is, and what is settled of it
 pub record CounterName : Type 0 where

@@ -17,7 +17,7 @@ pub record IsGathered (s : SpaceName) (ports : List PortState) (r : RecordView) 
   pub namespace : r.namespace ≡ s.namespace
   pub limit : r.limit ≡ s.limit
   pub laid : IsLaidOut s
-  pub ports : AreAllPortsOf s ports
+  pub all : AreAllPortsOf s ports
   -- Each job was done once.
   pub once : (number : ℕ) → number < length r.jobs → times_done number r.done ≡ 1
   -- Each worker did its jobs by the port of its number, from when the port was new.

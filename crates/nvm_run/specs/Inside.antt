@@ -3,3 +3,5 @@ pub mod Rule
 pub mod Plays
 pub mod Seats
 pub mod Shows
+pub mod Working
+pub mod Gathering

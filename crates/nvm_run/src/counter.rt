@@ -1,13 +1,14 @@
-ghost use Rattle.std.specs.Prelude.{◌≡◌, ◌<◌, ◌++◌, [], ◌∷◌, All, replicate, IfOk, IfSome, IsNone};
+ghost use Rattle.std.specs.Prelude.{◌≡◌, ◌<◌, ◌++◌, [], ◌∷◌, All, replicate, IfOk, IfErr, IfSome, IsNone};
 ghost use Rattle.nvm_run.specs.Claims.{IsClaims, HasCome, HasEnded};
 ghost use Rattle.nvm_run.specs.Counters.{IsWorkerCount, new_claim, lists_of, AreAllClaimsOf};
+ghost use Rattle.nvm_run.specs.RunFaults.{IsRunFault};
 
 use crate::bounds::Bounds;
 use crate::claim::Claim;
+use crate::run_fault::RunFault;
 use crate::seats::{deal, gather};
 use crate::steps;
 use crate::steps::Desk;
-use nvm_record::NoMemory;
 use std::alloc::Global;
 use std::marker::Model;
 
@@ -40,13 +41,17 @@ impl Model for Counter {
 
 impl Counter {
     /// A counter for so many jobs, which are numbered from 0, and a claim for each worker, of 1 to
-    /// [`MOST_WORKERS`]. A refusal of memory leaves nothing.
-    pub fn open(alloc: Global, jobs: u32, workers: u16) -> Result<(Counter, Vec<Claim>), NoMemory>
-        requires { IsWorkerCount workers }
+    /// [`MOST_WORKERS`]. `Workers` says that there can't be so many workers; a refusal of memory leaves nothing.
+    pub fn new(alloc: Global, jobs: u32, workers: u16) -> Result<(Counter, Vec<Claim>), RunFault>
+        ensures taken { IfOk result (λ c. IsWorkerCount workers) }
+        ensures refused { IfErr result (IsRunFault workers) }
         ensures jobs { IfOk result (λ c. c.0.jobs ≡ jobs) }
         ensures workers { IfOk result (λ c. c.0.workers ≡ workers) }
         ensures claims { IfOk result (λ c. c.1.items ≡ replicate workers (new_claim c.0.table)) }
     {
+        if workers == 0 || workers > MOST_WORKERS {
+            return Err(RunFault::Workers);
+        }
         let bounds = Bounds { jobs, workers };
         let (desk, token) = steps::open(alloc, bounds)?;
         let claims = deal(alloc, &desk, token, workers)?;
@@ -73,7 +78,7 @@ impl Counter {
     }
 
     /// How many numbers were drawn, once no worker draws any more. The claims are those that
-    /// [`Counter::open`] gave with it, in any order. It takes no memory, and waits for nothing.
+    /// [`Counter::new`] gave with it, in any order. It takes no memory, and waits for nothing.
     pub fn close(self, claims: Vec<Claim>) -> u64
         requires { AreAllClaimsOf self claims.items }
         ensures claims { IsClaims self.jobs (record { word = result; lists = lists_of claims.items }) }

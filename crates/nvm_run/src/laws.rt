@@ -1,6 +1,19 @@
 //! Laws of the definitions alone.
 ghost use Rattle.std.specs.Prelude.{ℕ, ◌<◌, List, length};
+ghost use Rattle.nvm_space.specs.Ports.{PortState};
+ghost use Rattle.nvm_space.specs.Spaces.{SpaceName};
+ghost use Rattle.nvm_audit.specs.LawfulRecord.{IsLawfulRecord};
+ghost use Rattle.nvm_audit.specs.RecordView.{RecordView};
 ghost use Rattle.nvm_run.specs.Claims.{ClaimState, IsClaims, opening_claims, Draws, IsReached, HaveEnded, AreDoneOnce};
+ghost use Rattle.nvm_run.specs.Gathered.{IsGathered};
+
+use crate::shown::parts_show_what_was_done;
+use nvm_record::laws::success_is_told_alike;
+use nvm_store::laws::act_succeeds_unless_failed_pair;
+use nvm_unit::laws::{
+    beginnings_of_beginnings_begin, changes_mark_their_points, changes_rest_on_their_points,
+    entries_are_their_passes_own, looks_mark_their_points, looks_rest_on_their_points,
+};
 
 /// Nobody's numbers are claims, each draw leads from claims to claims, and so every list of draws does.
 pub fn draws_keep_claims()
@@ -15,3 +28,19 @@ pub fn each_job_is_done_once()
     ensures { (jobs : ℕ) (s : ClaimState) (dones : List (List ℕ))
         → IsClaims jobs s → 0 < length s.lists → HaveEnded jobs dones s.lists → AreDoneOnce jobs dones }
 {}
+
+/// A record that is gathered from what the workers did by their ports, and from the histories with which the units of
+/// their space end, is lawful.
+pub fn gathered_records_are_lawful()
+    ensures { (s : SpaceName) (ports : List PortState) (r : RecordView) → IsGathered s ports r → IsLawfulRecord r }
+{
+    changes_rest_on_their_points();
+    looks_rest_on_their_points();
+    changes_mark_their_points();
+    looks_mark_their_points();
+    beginnings_of_beginnings_begin();
+    entries_are_their_passes_own();
+    success_is_told_alike();
+    act_succeeds_unless_failed_pair();
+    parts_show_what_was_done();
+}

@@ -11,14 +11,17 @@ mod claim;
 mod counter;
 pub mod laws;
 mod rule;
-mod running;
 mod run_fault;
+mod running;
 mod seats;
+mod shown;
 mod steps;
 #[cfg(test)]
 mod tests;
+mod worker;
+mod workers;
 
 pub use claim::Claim;
 pub use counter::{Counter, MOST_WORKERS};
-pub use running::run;
 pub use run_fault::RunFault;
+pub use running::run;

@@ -1,4 +1,4 @@
-ghost use Rattle.std.specs.Prelude.{◌≡◌, ℕ, ◌≤◌, List, All, length, IfOk, IfErr};
+ghost use Rattle.std.specs.Prelude.{◌≡◌, ℕ, ◌≤◌, List, All, length, map, IfOk, IfErr};
 ghost use Rattle.nvm_record.specs.Lists.{IsAt};
 ghost use Rattle.nvm_record.specs.Medium.{zero_medium};
 ghost use Rattle.nvm_plan.specs.Fits.{FitsNamespace};
@@ -8,14 +8,22 @@ ghost use Rattle.nvm_audit.specs.declared.version.Version.TheVariants.{Two};
 ghost use Rattle.nvm_audit.specs.Recordable.{most_jobs, HoldsBody};
 ghost use Rattle.nvm_audit.specs.RecordedCalls.{IsPlacedRunOf};
 ghost use Rattle.nvm_audit.specs.RecordedPart.{parts_in_unit};
+ghost use Rattle.nvm_run.specs.Counters.{IsWorkerCount};
+ghost use Rattle.nvm_run.specs.Inside.Gathering.{run_record, IsOfWorkers};
 ghost use Rattle.nvm_run.specs.RunFaults.{IsRunFault};
 ghost use Rattle.nvm_run.specs.RunRecord.{IsRecordOfRun};
 
+use crate::counter::Counter;
+use crate::laws::{each_job_is_done_once, gathered_records_are_lawful};
 use crate::run_fault::RunFault;
-use nvm_audit::Record;
+use crate::shown::done_reads_are_whole;
+use crate::workers::all_work;
+use nvm_audit::laws::{lawful_records_can_be_held, lawful_units_are_runs};
+use nvm_audit::{DoneJob, Record, Version};
 use nvm_geometry::Geometry;
 use nvm_plan::Job;
-use nvm_store::Limit;
+use nvm_space::Space;
+use nvm_store::{History, Limit};
 use nvm_unit::Gate;
 use std::alloc::Global;
 use std::sync::Wait;
@@ -50,8 +58,49 @@ pub fn run<R: Threads + Wait + Sync, G: Gate + Sync>(
         × IsRunFrom r.namespace.block_size (zero_medium r.namespace.block_size) steps) }
     ensures fault { IfErr result (IsRunFault workers) }
 {
-    if workers == 0 || workers > 64 {
-        return Err(RunFault::Workers);
-    }
-    Err(RunFault::NoMemory)
+    done_reads_are_whole();
+    gathered_records_are_lawful();
+    lawful_records_can_be_held();
+    lawful_units_are_runs();
+    // For the proof alone: that the geometry and the limit are sound.
+    let _nsze = geometry.nsze();
+    let _entries = limit.entries();
+    let (units, done) = done_by_workers(rt, alloc, geometry, &jobs, workers, limit, gate)?;
+    Ok(Record {
+        version: Version::Two,
+        geometry,
+        limit,
+        workers,
+        jobs,
+        units,
+        done,
+    })
+}
+
+/// Has so many workers do the jobs in a new space. Gives the histories with which its units end, and what each worker did.
+fn done_by_workers<R: Threads + Wait + Sync, G: Gate + Sync>(
+    rt: &R,
+    alloc: Global,
+    geometry: Geometry,
+    jobs: &[Job],
+    workers: u16,
+    limit: Limit,
+    gate: &G,
+) -> Result<(Vec<History>, Vec<Vec<DoneJob>>), RunFault>
+    requires few { length jobs.now ≤ most_jobs }
+    requires fit { All (FitsNamespace geometry) jobs.now }
+    ensures taken { IfOk result (λ ended. IsWorkerCount workers) }
+    ensures gathered { IfOk result (λ ended. IsOfWorkers (run_record geometry limit workers jobs.now
+        (map (λ history. history.items) ended.0.items) (map (λ work. work.items) ended.1.items))) }
+    ensures fault { IfErr result (IsRunFault workers) }
+{
+    each_job_is_done_once();
+    let (counter, claims) = Counter::new(alloc, jobs.len() as u32, workers)?;
+    let Ok((space, ports)) = Space::new(alloc, geometry, workers, limit) else {
+        return Err(RunFault::NoMemory);
+    };
+    let (claims, ports, done) = all_work(rt, alloc, &counter, &space, jobs, claims, ports, gate)?;
+    let _drawn = counter.close(claims);
+    let units = space.close(alloc, ports)?;
+    Ok((units, done))
 }

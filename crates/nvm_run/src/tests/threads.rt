@@ -56,7 +56,9 @@ fn together(
 #[test]
 fn each_number_is_drawn_once(rt: HostRuntime) -> Result<(), Fail> {
     let alloc = rt.alloc();
-    let (counter, claims) = Counter::open(alloc, JOBS, 8)?;
+    let Ok((counter, claims)) = Counter::new(alloc, JOBS, 8) else {
+        return Err(Fail::new("there was no memory"));
+    };
     let shared = &counter;
     let workers = map_vec(
         &rt,
