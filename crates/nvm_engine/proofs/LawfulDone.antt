@@ -34,7 +34,7 @@ in_work number (d ∷ work) some = by (λ more. in_work number work more) (nat_e
         (suc rest.0, rest.1, rest.2, rest.3)
 
 -- A job that was done was done by some worker.
-by_worker : (number : ℕ) (done : List (List RecordedJob)) → 0 < times_done number done → (its : RecordedJob) × IsDoneJob done number its
+pub by_worker : (number : ℕ) (done : List (List RecordedJob)) → 0 < times_done number done → (its : RecordedJob) × IsDoneJob done number its
 by_worker number [] some = absurd (omega arith)
 by_worker number (work ∷ done) some = by (λ more. by_worker number done more) (count_by (λ d. nat_eq d.job number) work) refl
   where

@@ -2,3 +2,4 @@ pub mod Reading
 pub mod Noting
 pub mod Telling
 pub mod LawfulDone
+pub mod OneText

@@ -7,11 +7,14 @@
 
 mod engine;
 mod fault;
+pub mod laws;
 mod lines;
 mod record_text;
 mod settings;
 mod shown;
 mod standing;
+#[cfg(test)]
+mod tests;
 mod workers;
 
 pub use engine::execute;
