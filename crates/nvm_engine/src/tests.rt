@@ -89,7 +89,7 @@ fn two_workers_act_at_once(rt: HostRuntime) -> Result<(), Fail> {
     assert_eq!(rt; gate.seen.load(Ordering::SeqCst), 1);
     assert_eq!(rt;
         shown.text.as_slice(),
-        b"1 1 zeroes 0/00\n1 2 zeroes 0/00\n"
+        b"1 1 zeroes 0/00\n1 2 zeroes 0/00\n".as_slice()
     );
     Ok(())
 }
