@@ -135,7 +135,7 @@ compare 0 2 63*01,64*02,65*03,128*07,129*08,1*09,574*0a
 """
 
 # Each option of nvmu at a value that no other has, but for --workers and --out, of which nothing is printed.
-OPTIONS = {"nsze": 33, "block": 512, "nabsn": 9, "nabo": 4, "nawun": 7, "nacwu": 5, "workers": 2, "limit": 3}
+OPTIONS = {"nsze": 33, "block": 512, "nabsn": 9, "nabo": 4, "nawun": 7, "nacwu": 5, "workers": 1, "limit": 3}
 # Boundaries at 4, 14 and 24.
 COMMANDS = [
     write(32, 0x41),
@@ -188,6 +188,23 @@ LINES = """1 1 write 0/00
 1 26 dataset 0/06
 1 27 read 0/00 1024*00
 """
+# What four hosts ask for, all of them alike and each on blocks of its own, so that the lines are the same whichever worker does
+# what: with the numbers of the host and the command in the place of the dots.
+SEVERAL = {
+    "write": (lambda own: [write(own, own + 1)], ". . write 0/00\n"),
+    "pair": (
+        lambda own: pair(compare(own + 4, 0), write(own + 4, 0x42)),
+        ". . compare 0/00\n. . write 0/00\n",
+    ),
+    "failed pair": (
+        lambda own: pair(compare(own + 8, 1), write(own + 8, 0x43)),
+        ". . compare 2/85\n. . write 0/09\n",
+    ),
+    "range": (lambda own: [zeroes(own * 2 + 12, 2)], ". . zeroes 0/00\n"),
+    "read": (lambda own: [read(28, 4)], ". . read 0/00 2048*00\n"),
+    "far": (lambda own: [write(own + 32, 0x44, 0x45)], ". . write 0/80\n"),
+    "unknown": (lambda own: [unknown(own, 1)], ". . op-7f 0/01\n"),
+}
 # Numbers that nvmu takes, and some that it refuses as words.
 TAKEN = {"workers": [1, 64], "limit": [1, 65_536], "nawun": [0, 9], "nacwu": [0, 9], "nabo": [0, 9], "nsze": [1, 40_954]}
 NOT_TAKEN = {
@@ -346,6 +363,22 @@ def words_of_nvmu(run):
         run.expect(["nvmu", *given], out=SOME)
 
 
+def several_workers(run):
+    """Runs whose lines don't depend on which worker does what, by several numbers of workers."""
+    hosts = range(1, 5)
+    texts, cids = "", dict.fromkeys(hosts, 0)
+    for _commands, lines in SEVERAL.values():
+        for host in hosts:
+            for line in lines.splitlines():
+                cids[host] += 1
+                texts += f"{host} {cids[host]} {line[4:]}\n"
+    for host in hosts:
+        run.keep(f"several-{host}", file_of([command for commands, _lines in SEVERAL.values() for command in commands(host - 1)]))
+    options = "--nsze 33 --block 512 --nabsn 7 --nabo 0 --nawun 7 --nacwu 3 --limit 100 --out record".split()
+    for workers in (1, 2, 4, 64):
+        run.expect(["nvmu", "run", *options, f"--workers={workers}", *(f"several-{host}" for host in hosts)], out=texts)
+
+
 def words_of_unit_bench(run):
     for given in NO_BENCH:
         run.expect(["unit_bench", *given.split()], 1, err=BENCH)
@@ -357,6 +390,6 @@ def tried():
     """How many runs ended as they must, and how many didn't."""
     with tempfile.TemporaryDirectory(prefix="examples-") as folder:
         run = Programs(folder)
-        for table in (lists, words_of_nvq, words_of_nvmu, runs, words_of_unit_bench):
+        for table in (lists, words_of_nvq, words_of_nvmu, several_workers, runs, words_of_unit_bench):
             table(run)
         return run.passed, run.failed

@@ -1,3 +1,5 @@
 pub mod Reading
-pub mod Alone
-pub mod Serving
+pub mod Noting
+pub mod Telling
+pub mod LawfulDone
+pub mod OneText

@@ -1,8 +1,16 @@
 -- Reading files in their order, each as the commands of a host.
-use Rattle.std.proofs.Common.{inl, inr, ℕ, ◌+◌, ◌≤◌, List, [], ◌∷◌, ◌++◌, length, map, subst, append_assoc, append-nil}
+use Rattle.std.proofs.Common.{inl, inr, ◌≡◌, ℕ, ◌+◌, ◌≤◌, List, [], ◌∷◌, ◌++◌, All, false, arith, length, map, subst, append_assoc, append-nil}
 use Rattle.std.specs.List.{AllByRecursion}
+use Rattle.nvm_record.specs.Entry.{IsWhole}
 use Rattle.nvm_record.specs.HostFile.{IsHostFile}
+use Rattle.nvm_record.specs.Op.{op_of, IsProperOp}
+use Rattle.nvm_record.specs.declared.op.Op.TheVariants.{Other}
 use Rattle.nvm_record.specs.declared.command.Command.{Command}
+use Rattle.nvm_plan.specs.Jobs.{commands_of}
+use Rattle.nvm_plan.specs.declared.job.Body.{Body}
+use Rattle.nvm_plan.specs.declared.job.Body.TheVariants.{Single, Pair}
+use Rattle.nvm_audit.specs.Recordable.{HoldsCommand, HoldsBody}
+use Rattle.nvm_audit.specs.declared.version.Version.TheVariants.{Two}
 use Rattle.nvm_engine.specs.Fault.{IsFileFault, IsFilesFault}
 use Rattle.nvm_engine.specs.Shown.{AreHostFiles}
 use Rattle.nvm_engine.specs.declared.fault.Fault.{Fault}
@@ -35,3 +43,11 @@ few_commands size [] f [] h = tt
 few_commands size [] f (x ∷ xs) h = absurd h
 few_commands size (file ∷ files) f [] h = absurd h
 few_commands size (file ∷ files) f (x ∷ xs) h = (h.0.few, few_commands size files f xs h.1)
+
+-- Commands of a proper opcode are no unknown opcode 09h.
+not_unknown : (c : Command) → IsProperOp c.op → HoldsCommand Two c
+not_unknown c proper e = let h : op_of 9 false ≡ Other 9 = subst IsProperOp e proper in cc
+
+pub known_body : (size : ℕ) (body : Body) → All (IsWhole size) (commands_of body) → HoldsBody Two body
+known_body size (Single c) whole = not_unknown c (whole 0 c (omega arith)).op
+known_body size (Pair c d) whole = (not_unknown c (whole 0 c (omega arith)).op, not_unknown d (whole 1 d (omega arith)).op)

@@ -1,4 +1,2 @@
 -- What is said of private functions alone.
-pub mod Bodies
-pub mod ShownRun
-pub mod Alone
+pub mod Standings

@@ -1,6 +1,6 @@
 pub mod Settings
 pub mod Fault
-pub mod Run
 pub mod Lines
+pub mod RecordLines
 pub mod Shown
 pub mod Inside

@@ -2,12 +2,12 @@
 use Rattle.std.specs.Prelude.{◌≤◌}
 use Rattle.nvm_geometry.specs.Faults.{HasNoFault}
 use Rattle.nvm_geometry.specs.Namespace.{Namespace, namespace_of}
+use Rattle.nvm_run.specs.Counters.{IsWorkerCount}
 use Rattle.nvm_engine.specs.declared.settings.Settings.{Settings}
 
 -- What the options --workers and --limit take.
 pub record AreInRange (s : Settings) : Type 0 where
-  pub workers : 1 ≤ s.workers
-  pub workers_end : s.workers ≤ 64
+  pub workers : IsWorkerCount s.workers
   pub limit : 1 ≤ s.limit
   pub limit_end : s.limit ≤ 65536
 

@@ -1,14 +1,14 @@
 -- What a run shows of its settings and the hosts' files.
 use Rattle.std.specs.Prelude.{◌≡◌, ◌≤◌, ℕ, List, [], ◌∷◌, None, length}
 use Rattle.nvm_record.specs.HostFile.{IsHostFile}
-use Rattle.nvm_record.specs.Medium.{zero_medium}
 use Rattle.nvm_record.specs.declared.command.Command.{Command}
 use Rattle.nvm_plan.specs.Jobs.{IsJobList}
-use Rattle.nvm_plan.specs.declared.completions.Completions.{Completions}
 use Rattle.nvm_plan.specs.declared.job.Job.{Job}
 use Rattle.nvm_plan.specs.Fits.{most_hosts}
-use Rattle.nvm_engine.specs.Lines.{job_lines}
-use Rattle.nvm_engine.specs.Run.{no_changes, IsRun, setup_of}
+use Rattle.nvm_audit.specs.Recordable.{IsRecordable}
+use Rattle.nvm_audit.specs.RecordView.{RecordView}
+use Rattle.nvm_run.specs.RunRecord.{IsRecordOfRun}
+use Rattle.nvm_engine.specs.RecordLines.{IsTextOf}
 use Rattle.nvm_engine.specs.Settings.{IsNamespace, advertised}
 use Rattle.nvm_engine.specs.declared.settings.Settings.{Settings}
 use Rattle.nvm_engine.specs.declared.shown.Shown.{Shown}
@@ -20,17 +20,18 @@ AreHostFiles size [] (host ∷ hosts) = ⊥
 AreHostFiles size (file ∷ files) [] = ⊥
 AreHostFiles size (file ∷ files) (host ∷ hosts) = IsHostFile size file host × AreHostFiles size files hosts
 
--- The text is the lines of the jobs that the files' commands are, and of what was told of them in a run
--- from the medium of zero bytes.
+-- The text is that of the record of a run of the jobs that the files' commands are, by as many workers as the settings say. The
+-- record is lawful, and can be held in a file.
 pub record IsShown (s : Settings) (files : List (List ℕ)) (shown : Shown) : Type 0 where
   pub hosts : List (List Command)
   pub jobs : List Job
-  pub told : List Completions
+  pub run : RecordView
   pub few : length files ≤ most_hosts
   pub namespace : IsNamespace s
   pub commands : AreHostFiles s.block files hosts
   pub order : IsJobList hosts jobs
-  pub run : IsRun (setup_of (advertised s) s.limit) (zero_medium s.block) no_changes jobs told
-  pub text : shown.text.items ≡ job_lines jobs told
+  pub is : IsRecordOfRun (advertised s) s.limit s.workers jobs run
+  pub held : IsRecordable run
+  pub text : IsTextOf run shown.text.items
   pub rec : shown.rec ≡ None
   pub status : shown.status ≡ 0

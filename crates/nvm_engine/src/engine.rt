@@ -1,41 +1,49 @@
-ghost use Rattle.std.specs.Prelude.{◌≡◌, ◌<◌, ◌≤◌, ◌⊎◌, ◌^◌, All, IfOk, IfErr, OnOk, length, map};
+ghost use Rattle.std.specs.Prelude.{◌≡◌, ◌≤◌, ◌⊎◌, ℕ, All, IfOk, IfErr, OnOk, length, map};
 ghost use Rattle.nvm_record.specs.Entry.{IsWhole};
 ghost use Rattle.nvm_record.specs.HostFile.{IsHostFile};
 ghost use Rattle.nvm_geometry.specs.Namespace.{Namespace};
 ghost use Rattle.nvm_plan.specs.Fits.{FitsNamespace};
 ghost use Rattle.nvm_plan.specs.Jobs.{IsJobList};
+ghost use Rattle.nvm_audit.specs.Recordable.{most_jobs, HoldsBody};
+ghost use Rattle.nvm_audit.specs.declared.version.Version.TheVariants.{Two};
+ghost use Rattle.nvm_run.specs.RunRecord.{IsRecordOfRun};
 ghost use Rattle.nvm_engine.specs.declared.fault.Fault.TheVariants.{NoMemory};
 ghost use Rattle.nvm_engine.specs.Fault.{IsFirstRunFault, IsGeometryFault, IsFileFault, IsFilesFault};
 ghost use Rattle.nvm_engine.specs.Settings.{IsNamespace, advertised};
 ghost use Rattle.nvm_engine.specs.Shown.{AreHostFiles, IsShown};
 
 use crate::fault::Fault;
-use crate::running::run;
+use crate::record_text::text_of;
 use crate::settings::Settings;
 use crate::shown::Shown;
+use nvm_audit::Record;
 use nvm_geometry::Geometry;
-use nvm_plan::job_laws::{jobs_fit, no_more_jobs_than_commands};
+use nvm_plan::job_laws::{jobs_are_of_their_hosts, jobs_fit, no_more_jobs_than_commands};
 use nvm_plan::{Job, MOST_HOSTS, jobs};
 use nvm_record::{BlockSize, Command, NoMemory, Payload, read_host};
-use std::alloc::Global;
+use nvm_run::{RunFault, run};
+use nvm_unit::Gate;
+use std::alloc::{AllocError, Global};
 use std::sync::Wait;
+use std::thread::Threads;
 
-/// Does the commands of the hosts' files, of which the first is host 1's, on a namespace of zero bytes,
-/// and says what to show: for each command the line of its completion, in the order of the jobs. One thread
-/// does them in that order, by the one port of a space.
+/// Does the commands of the hosts' files, of which the first is host 1's, on a namespace of zero bytes by as many workers as
+/// the settings say, and says what to show: for each command the line of its completion, in the order of the jobs and not in
+/// that of the workers. The lines are those of the run's record, which is lawful.
 ///
-/// A job that has a part asks for the memory of its list of parts before the first, so where memory is refused it may
-/// end with 0/06 there, a pair's second command with 0/09, and nothing of it is done.
+/// The gate is told of the course of the jobs. A job that finds no memory ends with 0/06, a pair's second command with 0/09,
+/// and has its lines as any other.
 ///
 /// The first fault is answered: more than 64 files, then one of the settings, then one of a file, or
-/// `NoMemory` where a growth outside a command was refused. Nothing is shown then.
-pub fn execute<R: Wait>(
+/// `NoMemory` where a growth outside a command was refused. All workers have ended then, and nothing is shown.
+pub fn execute<R: Threads + Wait + Sync, G: Gate + Sync>(
     rt: &R,
     alloc: Global,
     settings: &Settings,
     files: &[Payload],
+    gate: &G,
 ) -> Result<Shown, Fault>
-    // What is shown is the text of a run of the files' commands, with status 0.
+    // What is shown is the text of the record of a run of the files' commands, with status 0.
     ensures shown { IfOk result (IsShown settings.now files.now) }
     ensures fault { IfErr result (IsFirstRunFault settings.now files.now) }
 {
@@ -45,15 +53,8 @@ pub fn execute<R: Wait>(
     let geometry = geometry_of(settings)?;
     let hosts = hosts_of(alloc, geometry.block_size(), files)?;
     let jobs = jobs_of(alloc, hosts)?;
-    let mut text = String::new(alloc);
-    run(
-        rt,
-        alloc,
-        geometry,
-        settings.limit,
-        jobs.as_slice(),
-        &mut text,
-    )?;
+    let record = record_of(rt, alloc, geometry, settings, jobs, gate)?;
+    let text = text_of(alloc, &record)?;
     Ok(Shown {
         text: text.into_bytes(),
         rec: None,
@@ -116,18 +117,42 @@ fn commands_of(
     }
 }
 
-/// The jobs of the hosts' commands. At most 64 hosts of at most 65,536 commands have few enough of them that
-/// their numbers fit into 32 bits.
+/// The jobs of the hosts' commands. At most 64 hosts of at most 65,536 commands have no more of them than a record holds.
 fn jobs_of(alloc: Global, hosts: Vec<Vec<Command>>) -> Result<Vec<Job>, NoMemory>
     requires hosts { length hosts.items ≤ 64 }
     requires commands { All (λ host. length host.items ≤ 65536) hosts.items }
     ensures order { IfOk result (λ jobs. IsJobList (map (λ host. host.items) hosts.items) jobs.items) }
     ensures fit { IfOk result (λ jobs. (ns : Namespace) → All (λ host. All (IsWhole ns.block_size) host.items) hosts.items
         → All (FitsNamespace ns) jobs.items) }
-    ensures few { IfOk result (λ jobs. length jobs.items < 2 ^ 32) }
+    ensures known { IfOk result (λ jobs. (size : ℕ) → All (λ host. All (IsWhole size) host.items) hosts.items
+        → All (λ job. HoldsBody Two job.body) jobs.items) }
+    ensures few { IfOk result (λ jobs. length jobs.items ≤ most_jobs) }
 {
     jobs_fit();
+    jobs_are_of_their_hosts();
     no_more_jobs_than_commands();
     let jobs = jobs(alloc, hosts)?;
     Ok(jobs)
+}
+
+/// The record of a run of the jobs.
+fn record_of<R: Threads + Wait + Sync, G: Gate + Sync>(
+    rt: &R,
+    alloc: Global,
+    geometry: Geometry,
+    settings: &Settings,
+    jobs: Vec<Job>,
+    gate: &G,
+) -> Result<Record, NoMemory>
+    requires few { length jobs.items ≤ most_jobs }
+    requires fit { All (FitsNamespace geometry) jobs.items }
+    requires known { All (λ job. HoldsBody Two job.body) jobs.items }
+    ensures { IfOk result (IsRecordOfRun geometry settings.now.limit settings.now.workers jobs.items) }
+{
+    let workers = settings.workers.count();
+    match run(rt, alloc, geometry, jobs, workers, settings.limit, gate) {
+        Ok(record) => Ok(record),
+        Err(RunFault::NoMemory) => Err(AllocError),
+        Err(RunFault::Workers) => unreachable!("there are 1 to 64 workers"),
+    }
 }

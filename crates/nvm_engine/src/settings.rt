@@ -1,3 +1,4 @@
+use crate::workers::Workers;
 use nvm_store::Limit;
 
 /// What the program runs with: the options of `nvmu run` that say what the namespace is, how many
@@ -16,8 +17,8 @@ pub struct Settings {
     pub nawun: u16,
     /// NACWU, the atomic compare and write unit, zeroes-based.
     pub nacwu: u16,
-    /// How many workers do the jobs, 1 to 64. One thread does them all yet.
-    pub workers: u16,
+    /// How many workers do the jobs.
+    pub workers: Workers,
     /// How many changes a unit's history may have.
     pub limit: Limit,
 }

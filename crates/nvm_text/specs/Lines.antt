@@ -48,13 +48,13 @@ payload_text None = []
 payload_text (Some bytes) = codes " " ++ runs_text (runs bytes)
 
 -- the host's number and the command identifier
-abbrev pub identifiers : Completion → List ℕ
-identifiers completion = decimal completion.host ++ (codes " " ++ (decimal completion.cid ++ codes " "))
+abbrev pub identifiers : ℕ → ℕ → List ℕ
+identifiers host cid = decimal host ++ (codes " " ++ (decimal cid ++ codes " "))
 
 -- Host, command identifier, name, status and data of a command, and the end of the line.
 abbrev pub line : Op → Completion → List ℕ
 line op completion =
-    identifiers completion
+    identifiers completion.host completion.cid
     ++ (name_of op ++ (codes " "
     ++ (status_text completion.status
     ++ (payload_text completion.payload ++ codes "\n"))))

@@ -12,6 +12,6 @@ mod line;
 mod number;
 mod run;
 
-pub use line::{push_line, push_name, push_status};
+pub use line::{push_line, push_name, push_status, push_told};
 pub use number::push_decimal;
 pub use run::push_runs;

@@ -14,24 +14,48 @@ pub fn push_line(text: &mut String, op: Op, completion: &Completion) -> Result<(
         (string_bytes text.new ≡ string_bytes text.old ++ spec.line op completion.now) }
     ensures err { OnErr result (KeepsText (string_bytes text.old) (string_bytes text.new)) }
 {
-    push_identifiers(text, completion)?;
+    push_told(
+        text,
+        op,
+        completion.host,
+        completion.cid,
+        completion.status,
+        &completion.payload,
+    )
+}
+
+/// Appends the line of a command that asked for `op`, by what its host is told. It is that of the completion of these
+/// parts, of which the data is only lent.
+pub fn push_told(
+    text: &mut String,
+    op: Op,
+    host: u16,
+    cid: u16,
+    status: Status,
+    payload: &Option<ReadData>,
+) -> Result<(), NoMemory>
+    ensures ok { OnOk result (string_bytes text.new ≡ string_bytes text.old
+        ++ spec.line op (record { host = host; cid = cid; status = status; payload = payload.now })) }
+    ensures err { OnErr result (KeepsText (string_bytes text.old) (string_bytes text.new)) }
+{
+    push_identifiers(text, host, cid)?;
     push_name(text, op)?;
     text.push_str(" ")?;
-    push_status(text, completion.status)?;
-    push_payload(text, &completion.payload)?;
+    push_status(text, status)?;
+    push_payload(text, payload)?;
     text.push_str("\n")?;
     Ok(())
 }
 
 /// Appends the host's number and the command identifier, with a space behind each.
-fn push_identifiers(text: &mut String, completion: &Completion) -> Result<(), NoMemory>
+fn push_identifiers(text: &mut String, host: u16, cid: u16) -> Result<(), NoMemory>
     ensures ok { OnOk result
-        (string_bytes text.new ≡ string_bytes text.old ++ identifiers completion.now) }
+        (string_bytes text.new ≡ string_bytes text.old ++ identifiers host cid) }
     ensures err { OnErr result (KeepsText (string_bytes text.old) (string_bytes text.new)) }
 {
-    push_decimal(text, u64::from(completion.host))?;
+    push_decimal(text, u64::from(host))?;
     text.push_str(" ")?;
-    push_decimal(text, u64::from(completion.cid))?;
+    push_decimal(text, u64::from(cid))?;
     text.push_str(" ")?;
     Ok(())
 }

@@ -1,4 +1,4 @@
-//! The program `nvmu`: reads the words of its command line and the hosts' files, has their commands done, and
+//! The program `nvmu`: reads the words of its command line and the hosts' files, has their commands done by workers, and
 //! writes what they show.
 #![tactic(auto)]
 
@@ -12,16 +12,18 @@ use crate::files::read_files;
 use crate::words::{Asked, read_words};
 use nvm_engine::{Fault, Settings, Shown, execute};
 use nvm_front::{WordFault, tell, texts_of, words_given, write};
+use nvm_unit::Open;
 use std::process::ExitCode;
 use std::rt::{Env, Files};
 use std::sync::Wait;
+use std::thread::Threads;
 
 fn main(rt: HostRuntime) -> ExitCode {
     ExitCode::from(status_of(&rt))
 }
 
 /// Does what the words of the command line ask for, and gives the exit status: 0, or 1 after a fault.
-fn status_of<R: AllocGlobal + Env + Files + Print + Eprint + Wait>(rt: &R) -> u8 {
+fn status_of<R: AllocGlobal + Env + Files + Print + Eprint + Threads + Wait + Sync>(rt: &R) -> u8 {
     match asked(rt) {
         Ok(
             Asked::Run {
@@ -48,7 +50,7 @@ fn asked<R: AllocGlobal + Env>(rt: &R) -> Result<Asked, WordFault> {
 }
 
 /// Reads the files at these paths and has their commands done.
-fn run<R: AllocGlobal + Files + Wait>(
+fn run<R: AllocGlobal + Files + Threads + Wait + Sync>(
     rt: &R,
     settings: &Settings,
     paths: &[String],
@@ -57,7 +59,7 @@ fn run<R: AllocGlobal + Files + Wait>(
     ensures fault { IfErr result (IsFaultOn settings.now (map (λ path. string_bytes path) paths.now)) }
 {
     let files = read_files(rt, paths)?;
-    execute(rt, rt.alloc(), settings, files.as_slice())
+    execute(rt, rt.alloc(), settings, files.as_slice(), &Open)
 }
 
 /// Writes the text to standard output. Where that fails, the status is 1.

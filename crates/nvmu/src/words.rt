@@ -4,7 +4,7 @@ ghost use Rattle.nvmu.specs.Words.{IsAsked};
 
 use clap::builder::ValueParser;
 use clap::{Arg, ArgAction, ArgMatches, Command, Error, value_parser};
-use nvm_engine::Settings;
+use nvm_engine::{Settings, Workers};
 use nvm_front::{WordFault, missing};
 use nvm_store::Limit;
 use std::alloc::{AllocError, Global};
@@ -58,7 +58,11 @@ const NUMBERS: [(&str, Number, &str); 8] = [
         Number::Of16Bits,
         "Atomic compare and write unit, zeroes-based",
     ),
-    ("workers", Number::OfWorkers, "Number of workers, 1 to 64"),
+    (
+        "workers",
+        Number::OfWorkers,
+        "Number of threads that do the commands, 1 to 64",
+    ),
     (
         "limit",
         Number::OfChanges,
@@ -129,19 +133,21 @@ fn owned(alloc: Global, texts: &[&str]) -> Result<Vec<String>, AllocError>
 fn settings_of(run: &ArgMatches<'_>) -> Option<Settings>
     ensures { IfSome result AreInRange }
 {
+    let workers = Workers::new(run.get_one::<u16>("workers")?)?;
     let limit = Limit::new(run.get_one::<u32>("limit")?)?;
-    let settings = Settings {
+    if limit.entries() > 65_536 {
+        return None;
+    }
+    Some(Settings {
         nsze: run.get_one::<u64>("nsze")?,
         block: run.get_one::<u32>("block")?,
         nabsn: run.get_one::<u16>("nabsn")?,
         nabo: run.get_one::<u16>("nabo")?,
         nawun: run.get_one::<u16>("nawun")?,
         nacwu: run.get_one::<u16>("nacwu")?,
-        workers: run.get_one::<u16>("workers")?,
+        workers,
         limit,
-    };
-    let is_in_range = 1 <= settings.workers && settings.workers <= 64 && limit.entries() <= 65_536;
-    if is_in_range { Some(settings) } else { None }
+    })
 }
 
 /// The command line of the program.

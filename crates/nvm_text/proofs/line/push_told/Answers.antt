@@ -1,5 +1,5 @@
 use Rattle.std.proofs.Common.{append_assoc}
-use Rattle.nvm_text.proofs.line.push_line.Goals as goal
+use Rattle.nvm_text.proofs.line.push_told.Goals as goal
 
 -- each piece stands behind the one before
 pub returns-clause-ok : goal.returns-clause-ok
