@@ -3,10 +3,17 @@
 What stands here is written by hand. Host files are made by sweep/host_files.py, which knows nothing of the programs.
 """
 
+import ctypes
 import os
+import resource
+import shutil
+import signal
+import socket
+import stat
 import subprocess
 import sys
 import tempfile
+import threading
 
 HERE = os.path.dirname(os.path.realpath(__file__))
 TOP = os.path.dirname(HERE)
@@ -249,10 +256,12 @@ class Programs:
         with open(os.path.join(self.folder, name), "wb") as file:
             file.write(content if isinstance(content, bytes) else content.encode())
 
-    def expect(self, words, status=0, out=b"", err=b"", given=b"", files=None):
+    def expect(self, words, status=0, out=b"", err=b"", given=b"", files=None, **how):
         """Holds a run to its status, to what it writes on both streams, and to the files that it writes."""
         program = os.path.join(TOP, "crates", words[0], "out", words[0])
-        done = subprocess.run([program, *words[1:]], input=given, capture_output=True, cwd=self.folder, timeout=60)
+        done = subprocess.run(
+            [program, *words[1:]], input=given, capture_output=True, cwd=self.folder, timeout=60, umask=0o022, **how
+        )
         found = [done.returncode, done.stdout, done.stderr]
         wanted = [status, *(text if text is SOME or isinstance(text, bytes) else text.encode() for text in (out, err))]
         right = all(it and b"panic" not in it if want is SOME else it == want for it, want in zip(found, wanted))
@@ -263,6 +272,12 @@ class Programs:
         self.passed, self.failed = self.passed + right, self.failed + (not right)
         if not right:
             print(f"{words} ended with {[it if isinstance(it, int) else it[:300] for it in found]}")
+
+    def hold(self, told, found, wanted):
+        """Holds what was found to what is wanted."""
+        self.passed, self.failed = self.passed + (found == wanted), self.failed + (found != wanted)
+        if found != wanted:
+            print(f"{told}: found {found}")
 
     def refuse(self, words):
         """Holds words that clap refuses to its fault, on standard error alone."""
@@ -312,6 +327,175 @@ def words_of_nvq(run):
         run.refuse(["nvq", *words.split()])
     for words in ("--help", "assemble --help", "list --help"):
         run.expect(["nvq", *words.split()], out=SOME)
+
+
+# What a file holds before the host file of LONG_LIST is written over it, which is longer than what a child with
+# `stopped_early` or `killed_early` can write into a file.
+OLD = b"old" * 100_000
+LONG_LIST = "write 0 1 41\n" * 200
+LONG_FILE = file_of([write(0, 0x41)] * 200)
+NEW = ("-rw-r--r--", LONG_FILE)
+LIMIT_OF_FILE = 100_000
+
+
+def obeys_permissions():
+    """A child that is root has no right to pass over permissions: PR_CAPBSET_DROP of CAP_DAC_OVERRIDE."""
+    ctypes.CDLL(None).prctl(24, 1, 0, 0, 0)
+
+
+def killed_early():
+    """A child is killed as it writes more than so many bytes into a file."""
+    resource.setrlimit(resource.RLIMIT_CORE, (0, 0))
+    resource.setrlimit(resource.RLIMIT_FSIZE, (LIMIT_OF_FILE, LIMIT_OF_FILE))
+
+
+def stopped_early():
+    """A child can't write more than so many bytes into a file."""
+    signal.signal(signal.SIGXFSZ, signal.SIG_IGN)
+    killed_early()
+
+
+def mounted():
+    """To a child, the file `outs/old` is a mount point, where this process may make one: a bind mount of the file on itself."""
+    call, own_mounts, private, bind = ctypes.CDLL(None), 0x20000, 0x44000, 0x1000
+    if call.unshare(own_mounts) == 0:
+        call.mount(b"none", b"/", None, ctypes.c_ulong(private), None)
+        call.mount(b"outs/old", b"outs/old", None, ctypes.c_ulong(bind), None)
+
+
+# What stands in a folder, the OUT there, what stands afterwards, and how the child is run. Where it can't write OUT, the third
+# is None. A link has what it names, and what is neither a file nor a link has nothing. The folder itself is "".
+OUTS = [
+    # The file appears whole, in place of what stood there and with its permissions.
+    ({}, "new", {"new": NEW}, None),
+    ({"old": ("-rw-r-----", OLD)}, "old", {"old": ("-rw-r-----", LONG_FILE)}, None),
+    ({"old": ("-rwxrwxrwx", b"")}, "old", {"old": ("-rwxrwxrwx", LONG_FILE)}, None),
+    ({"-": ("-rw-r--r--", OLD)}, "-", {"-": NEW}, None),
+    ({"\u00e9" * 127: ("-rw-r--r--", OLD)}, "\u00e9" * 127, {"\u00e9" * 127: NEW}, None),
+    # Names beside it that others have stay theirs.
+    (
+        {".nvm-unfinished-0": ("-rw-------", b"0"), ".nvm-unfinished-1": ("drwxr-xr-x", None)},
+        "new",
+        {".nvm-unfinished-0": ("-rw-------", b"0"), ".nvm-unfinished-1": ("drwxr-xr-x", None), "new": NEW},
+        None,
+    ),
+    # Or not at all, and nothing is left beside it but by a program that was killed.
+    ({}, "new", None, stopped_early),
+    ({"old": ("-rw-r-----", OLD)}, "old", None, stopped_early),
+    ({}, "new", {".nvm-unfinished-0": ("-rw-r--r--", LONG_FILE[:LIMIT_OF_FILE])}, killed_early),
+    (
+        {"old": ("-rw-r-----", OLD)},
+        "old",
+        {"old": ("-rw-r-----", OLD), ".nvm-unfinished-0": ("-rw-r-----", LONG_FILE[:LIMIT_OF_FILE])},
+        killed_early,
+    ),
+    # What can't be written stays as it was.
+    ({"old": ("-r--r--r--", OLD)}, "old", None, obeys_permissions),
+    ({"": ("dr-xr-xr-x", None)}, "new", None, obeys_permissions),
+    ({}, "missing/new", None, None),
+    ({"old": ("-rw-r--r--", OLD)}, "old/new", None, None),
+    ({}, "new/", None, None),
+    ({"folder": ("drwxr-xr-x", None)}, "folder", None, None),
+    ({"old": ("srwxr-xr-x", None)}, "old", None, None),
+    # A file that can be written but not replaced is written as it stands.
+    ({"old": ("-rw-r-----", OLD)}, "old", {"old": ("-rw-r-----", LONG_FILE)}, mounted),
+    (
+        {"": ("dr-xr-xr-x", None), "old": ("-rw-r-----", OLD)},
+        "old",
+        {"": ("dr-xr-xr-x", None), "old": ("-rw-r-----", LONG_FILE)},
+        obeys_permissions,
+    ),
+    # A link is written through, and stays.
+    (
+        {"link": ("lrwxrwxrwx", "old"), "old": ("-rw-r-----", OLD)},
+        "link",
+        {"link": ("lrwxrwxrwx", "old"), "old": ("-rw-r-----", LONG_FILE)},
+        None,
+    ),
+    ({"link": ("lrwxrwxrwx", "new")}, "link", {"link": ("lrwxrwxrwx", "new"), "new": NEW}, None),
+    ({"link": ("lrwxrwxrwx", "link")}, "link", None, None),
+    ({"link": ("lrwxrwxrwx", "/dev/null")}, "link", {"link": ("lrwxrwxrwx", "/dev/null")}, None),
+    ({"link": ("lrwxrwxrwx", "/dev/full")}, "link", None, None),
+]
+
+
+def make(path, mode, content):
+    """Makes what has a mode as `ls -l` writes it."""
+    kind = mode[0]
+    if kind == "l":
+        os.symlink(content, path)
+        return
+    if kind == "p":
+        os.mkfifo(path)
+    elif kind == "s":
+        with socket.socket(socket.AF_UNIX) as made:
+            made.bind(path)
+    elif kind == "d":
+        os.makedirs(path, exist_ok=True)
+    else:
+        with open(path, "wb") as file:
+            file.write(content)
+    os.chmod(path, sum(1 << place for place, letter in enumerate(reversed(mode[1:])) if letter != "-"))
+
+
+def standing(folder):
+    """What stands in a folder, as in OUTS."""
+    found = {}
+    for name in ["", *os.listdir(folder)]:
+        path = os.path.join(folder, name)
+        mode = stat.filemode(os.lstat(path).st_mode)
+        if mode[0] == "l":
+            found[name] = (mode, os.readlink(path))
+        elif mode[0] == "-":
+            with open(path, "rb") as file:
+                found[name] = (mode, file.read())
+        else:
+            found[name] = (mode, None)
+    return found
+
+
+def outs_of_nvq(run):
+    run.keep("long.txt", LONG_LIST)
+    folder = os.path.join(run.folder, "outs")
+    open_folder = {"": ("drwxr-xr-x", None)}
+    for before, out, after, how in OUTS:
+        os.mkdir(folder)
+        for name, (mode, content) in sorted({**open_folder, **before}.items(), reverse=True):
+            make(os.path.join(folder, name), mode, content)
+        told = {"status": 1, "err": f"nvq: cannot write outs/{out}\n"} if after is None else {}
+        if how is killed_early:
+            told = {"status": -signal.SIGXFSZ}
+        run.expect(["nvq", "assemble", "long.txt", f"outs/{out}"], preexec_fn=how, **told)
+        run.hold(f"outs/{out} after {how}", standing(folder), {**open_folder, **(before if after is None else after)})
+        os.chmod(folder, 0o755)
+        shutil.rmtree(folder)
+    for out in ("/dev/full", "/dev", "/proc/new"):
+        run.expect(["nvq", "assemble", "long.txt", out], 1, err=f"nvq: cannot write {out}\n")
+    run.expect(["nvq", "assemble", "long.txt", "/dev/null"])
+    run.hold("/dev/null", stat.S_ISCHR(os.lstat("/dev/null").st_mode), True)
+    # A new file gets the owner of the one that it replaces. Only root can give files to others.
+    if os.geteuid() == 0:
+        run.keep("owned", OLD)
+        os.chown(os.path.join(run.folder, "owned"), 1, 2)
+        run.expect(["nvq", "assemble", "long.txt", "owned"], files={"owned": LONG_FILE})
+        found = os.lstat(os.path.join(run.folder, "owned"))
+        run.hold("owned", (found.st_uid, found.st_gid), (1, 2))
+    # A list that is refused leaves OUT as it was.
+    run.keep("kept", OLD)
+    run.expect(["nvq", "assemble", "-", "kept"], 1, given=b"walk", err=f"nvq: line 1: {NAME}\n", files={"kept": OLD})
+    # A pipe is read as it is written, and stays.
+    pipe, read_there = os.path.join(run.folder, "pipe"), []
+    os.mkfifo(pipe)
+
+    def read_pipe():
+        with open(pipe, "rb") as file:
+            read_there.append(file.read())
+
+    reader = threading.Thread(target=read_pipe, daemon=True)
+    reader.start()
+    run.expect(["nvq", "assemble", "long.txt", "pipe"])
+    reader.join(60)
+    run.hold("pipe", (read_there, stat.S_ISFIFO(os.lstat(pipe).st_mode)), ([LONG_FILE], True))
 
 
 def words_of_nvmu(run):
@@ -390,6 +574,6 @@ def tried():
     """How many runs ended as they must, and how many didn't."""
     with tempfile.TemporaryDirectory(prefix="examples-") as folder:
         run = Programs(folder)
-        for table in (lists, words_of_nvq, words_of_nvmu, several_workers, runs, words_of_unit_bench):
+        for table in (lists, words_of_nvq, outs_of_nvq, words_of_nvmu, several_workers, runs, words_of_unit_bench):
             table(run)
         return run.passed, run.failed

@@ -1,10 +1,11 @@
+use crate::output::Output;
 use std::fs::OpenFile;
 use std::io::{ErrorKind, Read, Write};
 use std::rt::Files;
 use std::{fs, io};
 
 /// The path that stands for standard input, or for standard output.
-const STANDARD: &str = "-";
+pub(crate) const STANDARD: &str = "-";
 
 /// A file is read in chunks of so many bytes.
 const CHUNK: usize = 65_536;
@@ -78,16 +79,13 @@ fn push_chunks<R: AllocGlobal, F: Read>(
     Ok(())
 }
 
-/// Writes bytes to the file at a path, or to standard output where the path is `-`.
+/// Writes bytes to the file at a path, or to standard output where the path is `-`, as an [`Output`].
 pub fn write<R: Files + AllocGlobal + Print>(
     rt: &R,
     path: &str,
     bytes: &[u8],
 ) -> Result<(), FileFault> {
-    if path == STANDARD {
-        io::writer(rt).write_all(bytes)?;
-    } else {
-        fs::write(rt, path, bytes)?;
-    }
-    Ok(())
+    let mut output = Output::new(rt, path)?;
+    output.write_all(bytes)?;
+    output.finish()
 }

@@ -6,7 +6,12 @@
 #![tactic(auto)]
 
 mod files;
+mod output;
+#[cfg(test)]
+mod tests;
+mod unfinished;
 mod words;
 
 pub use files::{FileFault, read_file, read_input, write};
+pub use output::Output;
 pub use words::{WordFault, missing, tell, texts_of, words_given};
