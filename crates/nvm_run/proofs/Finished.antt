@@ -1,5 +1,5 @@
 -- The record of what all workers did.
-use Rattle.std.proofs.Common.{◌≡◌, ℕ, zero, suc, ◌+◌, ◌<◌, ◌≤◌, List, [], ◌∷◌, ◌++◌, length, length-append, map, get_or, All, AllPairs, refl, sym, ap, ◌∙◌, subst, arith, sum_by, count_by, nat_eq, cond}
+use Rattle.std.proofs.Common.{◌≡◌, ℕ, suc, ◌+◌, ◌<◌, ◌≤◌, List, [], ◌∷◌, ◌++◌, length, length-append, map, get_or, All, AllPairs, refl, sym, ap, ◌∙◌, subst, arith, count_by, nat_eq, cond}
 use Rattle.std.proofs.lemmas.List.{length-map, get_or_append_left}
 use Rattle.std.proofs.lemmas.List.Elements.{All-head, All-tail}
 use Rattle.std.proofs.lemmas.List.Sums.{sum_by-cons}
@@ -21,8 +21,8 @@ use Rattle.nvm_run.specs.Counters.{CounterName, ClaimView, AreAllClaimsOf, lists
 use Rattle.nvm_run.specs.declared.worker.Worker.{Worker}
 use Rattle.nvm_run.specs.DoneJobs.{HaveDone}
 use Rattle.nvm_run.specs.Inside.Gathering.{run_record, IsOfWorkers}
-use Rattle.nvm_run.specs.Inside.Working.{AllHaveWorked, AreTheirs, AreOfWorkers, HasWorked, numbers_of}
-use Rattle.nvm_run.proofs.Places.{at_index, at_read, at_below, at_one, at_some, at_map, at_map_back, all_at, all_from_at}
+use Rattle.nvm_run.specs.Inside.Working.{AllHaveWorked, AreTheirs, numbers_of}
+use Rattle.nvm_run.proofs.Places.{at_read, at_one, at_some, at_map, at_map_back, all_at, all_from_at}
 
 -- How often a job was done is how often its number comes.
 times_of_numbers : (x : ℕ) (work : List RecordedJob) → times x (numbers_of work) ≡ count_by (λ d. nat_eq d.job x) work

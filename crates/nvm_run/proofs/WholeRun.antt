@@ -1,5 +1,5 @@
 -- The record of a run is one that can be held.
-use Rattle.std.proofs.Common.{◌≡◌, ℕ, zero, suc, ◌+◌, ◌<◌, ◌≤◌, List, [], ◌∷◌, length, map, All, AllPairs, refl, sym, ap, ◌∙◌, subst, arith}
+use Rattle.std.proofs.Common.{◌≡◌, ℕ, zero, suc, ◌<◌, ◌≤◌, List, [], ◌∷◌, length, map, All, AllPairs, refl, sym, ap, ◌∙◌, subst, arith}
 use mathlib.Core.Option.{some-injective, some-ne-none}
 use Rattle.nvm_record.specs.Lists.{IsAt}
 use Rattle.nvm_geometry.specs.Boundaries.{units_of}
@@ -12,10 +12,8 @@ use Rattle.nvm_store.specs.HistoryEntry.{HistoryEntry}
 use Rattle.nvm_store.specs.Limit.{IsLimit}
 use Rattle.nvm_unit.specs.declared.views.PassView.{PassView}
 use Rattle.nvm_unit.specs.Ends.{views_of}
-use Rattle.nvm_space.specs.Ports.{PortState, new_port}
-use Rattle.nvm_space.specs.Spaces.{SpaceName}
+use Rattle.nvm_space.specs.Ports.{new_port}
 use Rattle.nvm_space.specs.Trace.{PartDone}
-use Rattle.nvm_audit.specs.declared.version.Version.{Version}
 use Rattle.nvm_audit.specs.declared.version.Version.TheVariants.{Two}
 use Rattle.nvm_audit.specs.LawfulRecord.{IsLawfulRecord}
 use Rattle.nvm_audit.specs.Recordable.{most_jobs, most_workers, HoldsBody, HoldsLimit, HoldsWholeReads, IsRecordable, IsRecordableJob}
@@ -23,10 +21,9 @@ use Rattle.nvm_audit.specs.RecordedJob.{RecordedJob}
 use Rattle.nvm_audit.specs.RecordView.{RecordView}
 use Rattle.nvm_run.specs.Counters.{IsWorkerCount}
 use Rattle.nvm_run.specs.DoneJobs.{HasDoneJob, HaveDone}
-use Rattle.nvm_run.specs.Gathered.{IsGathered}
 use Rattle.nvm_run.specs.Inside.Gathering.{run_record, IsOfWorkers}
 use Rattle.nvm_run.specs.RunRecord.{HasItsOutcome, IsRecordOfRun}
-use Rattle.nvm_run.proofs.Places.{at_below, at_some, all_at, all_from_at}
+use Rattle.nvm_run.proofs.Places.{at_below, at_some, all_at}
 
 parts_of_replies : (parts : List PartDone) → map (λ did. did.reply.part) parts ≡ map (λ reply. reply.part) (map (λ did. did.reply) parts)
 parts_of_replies [] = refl

@@ -1,9 +1,9 @@
-//! Workers that do a list of jobs: so far, the counter by which they share the jobs out among them.
+//! Runs: workers that do a list of jobs on the units of a namespace, and the record of what they did.
 //!
-//! [`Counter::open`] gives a counter and a claim for each worker, which the worker takes with it. Each
-//! [`Counter::draw`] answers the number of a job that nobody else is given. [`Counter::close`] says of all claims
-//! together that each number was drawn once, and a law of [`laws`] that each job is done once by workers that
-//! went on until no job was left.
+//! [`run`] has 1 to 64 workers do the jobs, each on a thread of its own where one can be made, and gives a lawful record of
+//! just these jobs. Each worker draws the numbers of its jobs from a [`Counter`], whose [`Counter::draw`] answers the number of
+//! a job that nobody else is given, and does them by a port of its own. [`laws`] have what holds of drawn numbers and of what is
+//! gathered from the workers.
 #![tactic(auto)]
 
 mod bounds;

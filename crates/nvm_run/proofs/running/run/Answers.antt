@@ -1,4 +1,4 @@
-use Rattle.std.proofs.Common.{◌≡◌, List, map, subst}
+use Rattle.std.proofs.Common.{List, map, subst}
 use Rattle.nvm_plan.specs.declared.job.Job.{Job}
 use Rattle.nvm_store.specs.Limit.{IsLimit}
 use Rattle.nvm_run.specs.Inside.Gathering.{run_record, IsOfWorkers}
