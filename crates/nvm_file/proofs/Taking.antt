@@ -22,15 +22,15 @@ takes_behind a b c piece after first (front, rest, whole, taken) =
     (piece ++ front, rest, ap (λ l. piece ++ l) whole ∙ sym (append_assoc piece front rest),
       Appends-trans a b c piece front first taken)
 
-on_err : {A E P : Type 0} (r : Result A E) → P → OnErr r P
+pub on_err : {A E P : Type 0} (r : Result A E) → P → OnErr r P
 on_err (Ok x) p = tt
 on_err (Err e) p = p
 
-on_ok_then : {A E P Q : Type 0} (r : Result A E) → (P → Q) → OnOk r P → OnOk r Q
+pub on_ok_then : {A E P Q : Type 0} (r : Result A E) → (P → Q) → OnOk r P → OnOk r Q
 on_ok_then (Ok x) f p = f p
 on_ok_then (Err e) f p = tt
 
-on_err_then : {A E P Q : Type 0} (r : Result A E) → (P → Q) → OnErr r P → OnErr r Q
+pub on_err_then : {A E P Q : Type 0} (r : Result A E) → (P → Q) → OnErr r P → OnErr r Q
 on_err_then (Ok x) f p = tt
 on_err_then (Err e) f p = f p
 
@@ -65,3 +65,22 @@ loop_front r f xs i a b c p y next before failed =
     let whole : front ++ (y ++ after) ≡ p ++ flat_map f xs =
     append_assoc p (flat_map f (take i xs)) (y ++ after) ∙ ap (λ l. p ++ l) (sym split) in
     on_err r (subst (TakesFront a c) whole (takes_behind a b c front (y ++ after) before (takes_within b c y after failed)))
+
+-- Item i was written too.
+pub loop_next : {T : Type 0} (f : T → List ℕ) (xs : List T) (i : ℕ) (a b c : Option (List ℕ)) (p y : List ℕ)
+    → flat_map f (take (i + 1) xs) ≡ flat_map f (take i xs) ++ y
+    → Appends a b (p ++ flat_map f (take i xs)) → Appends b c y → Appends a c (p ++ flat_map f (take (i + 1) xs))
+loop_next f xs i a b c p y next before item =
+    let front = p ++ flat_map f (take i xs) in
+    subst (Appends a c) (append_assoc p (flat_map f (take i xs)) y ∙ ap (λ l. p ++ l) (sym next))
+    (Appends-trans a b c front y before item)
+
+-- The same for more than two pieces, one in the other: the piece at hand is `p`.
+pub first_of : (a b : Option (List ℕ)) (x p q : List ℕ) → x ≡ p → TakesFront a b x → TakesFront a b (p ++ q)
+first_of a b x p q e taken = takes_within a b p q (subst (TakesFront a b) e taken)
+
+pub behind : (a b c : Option (List ℕ)) (x p q : List ℕ) → x ≡ p → Appends a b x → TakesFront b c q → TakesFront a c (p ++ q)
+behind a b c x p q e first rest = takes_behind a b c p q (subst (Appends a b) e first) rest
+
+pub both : (a b c : Option (List ℕ)) (x p q : List ℕ) → x ≡ p → Appends a b x → Appends b c q → Appends a c (p ++ q)
+both a b c x p q e first rest = Appends-trans a b c p q (subst (Appends a b) e first) rest

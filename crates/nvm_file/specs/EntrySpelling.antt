@@ -37,13 +37,13 @@ change_bytes first blocks (pairs payload new) = extent_bytes first blocks ++ (pa
 change_bytes first blocks (deallocates ranges) = little_bytes 2 (length ranges) ++ flat_map cut_bytes ranges
 
 -- what stands before what was done
-abbrev pub front_bytes : HistoryEntry → List ℕ
-front_bytes entry =
+abbrev pub entry_front : HistoryEntry → List ℕ
+entry_front entry =
     little_bytes 2 entry.pass ++ (little_bytes 4 entry.job ++ (kind_of entry.operation.deed ∷ []))
 
 abbrev pub entry_bytes : HistoryEntry → List ℕ
 entry_bytes entry =
-    front_bytes entry ++ change_bytes entry.operation.first entry.operation.blocks entry.operation.deed
+    entry_front entry ++ change_bytes entry.operation.first entry.operation.blocks entry.operation.deed
 
 -- the history of a unit
 abbrev pub history_bytes : List HistoryEntry → List ℕ

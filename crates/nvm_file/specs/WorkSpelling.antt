@@ -37,11 +37,14 @@ abbrev pub payload_bytes : Option (List ℕ) → List ℕ
 payload_bytes None = 0 ∷ []
 payload_bytes (Some payload) = 1 ∷ payload
 
--- The job's number, how many parts there are, each of them, the statuses, and the data.
+-- the job's number, and how many parts there are
+abbrev pub done_front : RecordedJob → List ℕ
+done_front done = little_bytes 4 done.job ++ little_bytes 2 (length done.parts)
+
+-- then each part, the statuses, and the data
 abbrev pub done_bytes : RecordedJob → List ℕ
 done_bytes done =
-    (little_bytes 4 done.job ++ little_bytes 2 (length done.parts))
-    ++ (flat_map part_bytes done.parts ++ (statuses_bytes done.statuses ++ payload_bytes done.payload))
+    done_front done ++ (flat_map part_bytes done.parts ++ (statuses_bytes done.statuses ++ payload_bytes done.payload))
 
 -- all that one worker did, in its order
 abbrev pub work_bytes : List RecordedJob → List ℕ

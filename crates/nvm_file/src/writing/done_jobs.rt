@@ -1,7 +1,6 @@
-ghost use Rattle.std.specs.Prelude.{◌≡◌, ◌<◌, ◌++◌, ◌^◌, All, OnErr, OnOk, length, map};
+ghost use Rattle.std.specs.Prelude.{◌≡◌, All, OnErr, OnOk, map};
 ghost use Rattle.std.specs.Io.KnownBytes.{Appends};
 ghost use Rattle.std.specs.List.{flat_map};
-ghost use Rattle.byteorder.specs.Endian.{little_bytes};
 ghost use Rattle.nvm_file.specs.Handed.{TakesFront};
 ghost use Rattle.nvm_file.specs.Inside.Short.{IsShortDone, IsShortWork};
 ghost use Rattle.nvm_file.specs.WorkSpelling as spec;
@@ -57,7 +56,7 @@ fn write_done<W: Write>(writer: &mut W, done: &DoneJob) -> io::Result<()>
 /// The job's number, and how many parts there are.
 fn done_front(done: &DoneJob) -> [u8; 6]
     requires { IsShortDone done.now }
-    ensures { result ≡ little_bytes 4 done.now.job ++ little_bytes 2 (length done.now.parts) }
+    ensures { result ≡ spec.done_front done.now }
 {
     let mut front = [0; 6];
     LittleEndian::write_u32(&mut front, done.job);

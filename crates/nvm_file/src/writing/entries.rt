@@ -6,7 +6,7 @@ ghost use Rattle.nvm_record.specs.Ranges.{most_ranges, ranges_of};
 ghost use Rattle.nvm_record.specs.Ranges as ranges;
 ghost use Rattle.nvm_store.specs.Act.{operation_of};
 ghost use Rattle.nvm_file.specs.EntrySpelling as spec;
-ghost use Rattle.nvm_file.specs.EntrySpelling.{change_bytes, cut_bytes, entry_bytes, front_bytes, history_bytes, kind_of};
+ghost use Rattle.nvm_file.specs.EntrySpelling.{change_bytes, cut_bytes, entry_bytes, history_bytes, kind_of};
 ghost use Rattle.nvm_file.specs.Handed.{TakesFront};
 ghost use Rattle.nvm_file.specs.Inside.Short.{IsShortDeed, IsShortHistory};
 
@@ -56,7 +56,7 @@ fn write_entry<W: Write>(writer: &mut W, entry: &Entry) -> io::Result<()>
 
 /// The numbers of the pass and of the job, and the kind.
 fn entry_front(entry: &Entry) -> [u8; 7]
-    ensures { result ≡ front_bytes entry.now }
+    ensures { result ≡ spec.entry_front entry.now }
 {
     let mut front = [0; 7];
     LittleEndian::write_u16(&mut front, entry.pass);

@@ -1,9 +1,9 @@
-ghost use Rattle.std.specs.Prelude.{◌≡◌, ◌<◌, ◌∷◌, ◌++◌, ◌^◌, [], OnErr, OnOk, length};
+ghost use Rattle.std.specs.Prelude.{◌≡◌, ◌<◌, ◌^◌, OnErr, OnOk, length};
 ghost use Rattle.std.specs.Io.KnownBytes.{Appends};
-ghost use Rattle.byteorder.specs.Endian.{little_bytes};
 ghost use Rattle.nvm_record.specs.Entry.{spelling_of};
 ghost use Rattle.nvm_file.specs.Counted.{counted};
 ghost use Rattle.nvm_file.specs.Handed.{TakesFront};
+ghost use Rattle.nvm_file.specs.JobSpelling as spec;
 ghost use Rattle.nvm_file.specs.JobSpelling.{body_kind, commands_bytes, job_bytes};
 
 use super::bytes::count_bytes;
@@ -37,7 +37,7 @@ fn write_job<W: Write>(writer: &mut W, job: &Job) -> io::Result<()>
 
 /// The number of the host, and whether the job is a pair.
 fn job_front(job: &Job) -> [u8; 3]
-    ensures { result ≡ little_bytes 2 job.now.host ++ body_kind job.now.body ∷ [] }
+    ensures { result ≡ spec.job_front job.now }
 {
     let mut front = [0; 3];
     LittleEndian::write_u16(&mut front, job.host);

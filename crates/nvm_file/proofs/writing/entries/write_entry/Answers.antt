@@ -1,0 +1,1 @@
+use Rattle.nvm_file.proofs.writing.entries.write_entry.Goals as goal
