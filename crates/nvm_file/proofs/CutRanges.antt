@@ -1,9 +1,10 @@
 -- The ranges of a Deallocate, one after the other.
-use Rattle.std.proofs.Common.{◌≡◌, ℕ, ◌+◌, ◌<◌, List, [], ◌∷◌, ◌++◌, take, sym, ap, ◌∙◌, append-nil, arith}
+use Rattle.std.proofs.Common.{◌≡◌, ℕ, ◌+◌, ◌<◌, ◌≤◌, List, [], ◌∷◌, ◌++◌, length, take, sym, ap, subst, ◌∙◌, append-nil, arith}
 use Rattle.std.specs.List.{flat_map, range_with_len}
 use Rattle.std.proofs.lemmas.List.Concat.{flat_map-append, flat_map-cons}
-use Rattle.std.proofs.lemmas.List.FromFn.{take-map-range_with_len, map-range_with_len_more}
-use Rattle.nvm_record.specs.Ranges.{range_at, range_count, ranges_of}
+use Rattle.std.proofs.lemmas.List.FromFn.{length-map-range_with_len, take-map-range_with_len, map-range_with_len_more}
+use Rattle.byteorder.specs.Endian.{little_bytes}
+use Rattle.nvm_record.specs.Ranges.{most_ranges, range_at, range_count, ranges_of}
 use Rattle.nvm_file.specs.EntrySpelling.{cut_bytes}
 
 -- the bytes of one range more
@@ -22,3 +23,20 @@ next_range payload i below =
 -- all of them
 pub all_ranges : (payload : List ℕ) → take (range_count payload) (ranges_of payload) ≡ ranges_of payload
 all_ranges payload = take-map-range_with_len (range_at payload) 0 (range_count payload) (range_count payload) (omega arith)
+
+-- how many there are
+pub count_of_ranges : (payload : List ℕ) → length (ranges_of payload) ≡ range_count payload
+count_of_ranges payload = length-map-range_with_len (range_at payload) 0 (range_count payload)
+
+-- A slice with just these bytes is written as the ranges that the bytes hold.
+pub ranges_of_slice : (slice payload : List ℕ) → slice ≡ payload
+    → little_bytes 2 (range_count slice) ++ flat_map cut_bytes (ranges_of slice)
+    ≡ little_bytes 2 (length (ranges_of payload)) ++ flat_map cut_bytes (ranges_of payload)
+ranges_of_slice slice payload e =
+    ap (λ n. little_bytes 2 n ++ flat_map cut_bytes (ranges_of slice)) (sym (count_of_ranges slice))
+    ∙ ap (λ l. little_bytes 2 (length (ranges_of l)) ++ flat_map cut_bytes (ranges_of l)) e
+
+-- and has no more of them
+pub few_in_slice : (slice payload : List ℕ) → slice ≡ payload → length (ranges_of payload) ≤ most_ranges
+    → range_count slice ≤ most_ranges
+few_in_slice slice payload e few = subst (λ n. n ≤ most_ranges) (ap (λ l. length (ranges_of l)) (sym e) ∙ count_of_ranges slice) few
