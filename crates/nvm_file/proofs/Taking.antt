@@ -1,8 +1,9 @@
 -- What a writer took of bytes that it was handed in several pieces.
-use Rattle.std.proofs.Common.{◌≡◌, ℕ, ◌+◌, List, [], ◌++◌, take, drop, take-append-drop, Option, Result, Ok, Err, OnOk, OnErr, refl, sym, ap, subst, ◌∙◌, append_assoc}
+use Rattle.std.proofs.Common.{◌≡◌, ℕ, ◌+◌, ◌<◌, List, [], ◌∷◌, ◌++◌, length, get_or, map, append-nil, take, drop, take-append-drop, Option, Result, Ok, Err, OnOk, OnErr, refl, sym, ap, subst, ◌∙◌, append_assoc}
 use Rattle.std.specs.Io.KnownBytes.{Appends, Keeps}
 use Rattle.std.specs.List.{flat_map}
-use Rattle.std.proofs.lemmas.List.Concat.{flat_map-append}
+use Rattle.std.proofs.lemmas.List.Concat.{flat_map-append, flat_map-cons}
+use Rattle.std.proofs.lemmas.List.{take_more, get_or-map, length-map}
 use Rattle.std.proofs.KnownBytes.{Appends-nil, Appends-kept, Appends-trans}
 use Rattle.nvm_file.specs.Handed.{TakesFront}
 
@@ -84,3 +85,15 @@ behind a b c x p q e first rest = takes_behind a b c p q (subst (Appends a b) e 
 
 pub both : (a b c : Option (List ℕ)) (x p q : List ℕ) → x ≡ p → Appends a b x → Appends b c q → Appends a c (p ++ q)
 both a b c x p q e first rest = Appends-trans a b c p q (subst (Appends a b) e first) rest
+
+-- The bytes of one item more, where the items are what `m` makes of others.
+pub next_of_map : {S T : Type 0} (f : T → List ℕ) (m : S → T) (xs : List S) (i : ℕ) (d : S) (y : List ℕ) → i < length xs
+    → y ≡ f (m (get_or xs i d)) → flat_map f (take (i + 1) (map m xs)) ≡ flat_map f (take i (map m xs)) ++ y
+next_of_map f m xs i d y below is =
+    let item = m (get_or xs i d) in
+    let front = take i (map m xs) in
+    let long : i < length (map m xs) = subst (λ n. i < n) (sym (length-map xs m)) below in
+    let one : take (i + 1) (map m xs) ≡ front ++ item ∷ [] =
+    take_more (map m xs) i item long ∙ ap (λ x. front ++ x ∷ []) (get_or-map m xs i d item below) in
+    ap (flat_map f) one ∙ flat_map-append f front (item ∷ [])
+    ∙ ap (λ l. flat_map f front ++ l) (flat_map-cons f item [] ∙ append-nil (f item) ∙ sym is)
