@@ -12,13 +12,8 @@ use Rattle.nvm_audit.specs.declared.version.Version.TheVariants.{One, Two}
 use Rattle.nvm_audit.specs.Recordable.{HoldsKind, HoldsLimit, IsDeallocateOfUnit, IsRecordable, IsRecordableHistory, IsRecordableWork}
 use Rattle.nvm_audit.specs.RecordedJob.{RecordedJob}
 use Rattle.nvm_audit.specs.RecordView.{RecordView}
+use Rattle.nvm_file.proofs.Places.{at_mapped}
 use Rattle.nvm_file.specs.Inside.Short.{IsShortDeed, IsShortHistory, IsShortWork}
-
--- what a list is mapped to, at each place
-there : {S T : Type 0} (f : S → T) (xs : List S) (k : ℕ) (d : S) → k < length xs → IsAt (map f xs) k (f (get_or xs k d))
-there f [] k d below = absurd (omega arith)
-there f (x ∷ xs) zero d below = refl
-there f (x ∷ xs) (suc k) d below = there f xs k d (omega arith)
 
 on_range : (deed : Deed) → IsTrue (not (is_deallocate deed)) → IsShortDeed deed
 on_range (writes payload) h = tt
@@ -61,7 +56,7 @@ pub short_units : {A : Type 0} (r : RecordView) → IsRecordable r → (historie
     → r.units ≡ map (λ history. history.items) histories → All (λ history. IsShortHistory history.items) histories
 short_units r can histories is k d below =
     let history = (get_or histories k d).items in
-    let at : IsAt r.units k history = subst (λ l. IsAt l k history) (sym is) (there (λ h. h.items) histories k d below) in
+    let at : IsAt r.units k history = subst (λ l. IsAt l k history) (sym is) (at_mapped (λ h. h.items) histories k d below) in
     short_history r can k history (can.units k history at)
 
 -- and what each worker did

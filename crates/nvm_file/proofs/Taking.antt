@@ -19,9 +19,12 @@ takes_within a b piece after (front, rest, whole, taken) =
 -- It took the first piece, and failed within what comes after.
 pub takes_behind : (a b c : Option (List ℕ)) (piece after : List ℕ) → Appends a b piece → TakesFront b c after
     → TakesFront a c (piece ++ after)
-takes_behind a b c piece after first (front, rest, whole, taken) =
-    (piece ++ front, rest, ap (λ l. piece ++ l) whole ∙ sym (append_assoc piece front rest),
-      Appends-trans a b c piece front first taken)
+takes_behind a b c piece after first (front, rest, whole, taken) = (
+  piece ++ front,
+  rest,
+  ap (λ l. piece ++ l) whole ∙ sym (append_assoc piece front rest),
+  Appends-trans a b c piece front first taken,
+)
 
 pub on_err : {A E P : Type 0} (r : Result A E) → P → OnErr r P
 on_err (Ok x) p = tt

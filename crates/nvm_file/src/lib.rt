@@ -4,6 +4,7 @@
 //! the first version one of the second.
 #![tactic(auto)]
 
+pub mod laws;
 mod upgrade_fault;
 mod upgrading;
 mod writing;

@@ -1,4 +1,5 @@
-ghost use Rattle.std.specs.Prelude.{◌≡◌, ◌↔◌, ◌<◌, ◌^◌, ℕ, IsTrue, IfErr, OnErr, OnOk, Ok, Err, length, IfNone, IfSome};
+ghost use Rattle.std.specs.Prelude.{◌≡◌, ◌↔◌, ◌<◌, ◌^◌, Err, IfErr, IfNone, IfSome, IsOk, IsTrue, OnErr, OnOk, length};
+ghost use Rattle.nvm_audit.specs.declared.version.Version.TheVariants.{Two};
 ghost use Rattle.nvm_file.specs.declared.upgrade_fault.UpgradeFault.{UpgradeFault as Fault};
 ghost use Rattle.nvm_file.specs.Upgrade.{AreKnown, HasUnknown, IsFirstUnknown, IsUnknown, IsUpgradeFault, second_version};
 
@@ -20,9 +21,11 @@ pub fn upgrade(run: &mut Record) -> Result<(), UpgradeFault>
     ensures unchanged { OnErr result (run.new ≡ run.old) }
     ensures fault { IfErr result (IsUpgradeFault run.old.jobs) }
 
-    // A record without such a command is upgraded, and else the first job that has one is named.
+    // A record without such a command is upgraded, and else the first job that has one is named. One of the second version
+    // stays as it is.
     ensures each_upgrade { AreKnown run.old.jobs → IsOk result }
     ensures each_fault { (f : Fault) → IsUpgradeFault run.old.jobs f → result ≡ Err f }
+    ensures stays { run.old.version ≡ Two → IsOk result × (run.new ≡ run.old) }
 {
     if let Some(job) = first_unknown(&run.jobs) {
         return Err(UpgradeFault::Dataset { job });

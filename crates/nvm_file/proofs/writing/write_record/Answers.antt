@@ -24,8 +24,8 @@ returns-in_err-write_jobs-clause-front g c =
     let r = shown_by c.run.inside in
     let after = flat_map history_bytes r.units ++ flat_map work_bytes r.done in
     on_err c.from_residual-in_err-write_jobs.result (subst (TakesFront _ _) (ap record_bytes c.run.view_is)
-      (behind _ _ _ _ (head_bytes r) (counted job_bytes r.jobs ++ after) (ap head_bytes (sym c.run.view_is)) c.in_ok-write_head.ensures.whole
-        (first_of _ _ _ (counted job_bytes r.jobs) after (ap (counted job_bytes) c.deref.ensures.value) c.in_err-write_jobs.ensures.front)))
+    (behind _ _ _ _ (head_bytes r) (counted job_bytes r.jobs ++ after) (ap head_bytes (sym c.run.view_is)) c.in_ok-write_head.ensures.whole
+    (first_of _ _ _ (counted job_bytes r.jobs) after (ap (counted job_bytes) c.deref.ensures.value) c.in_err-write_jobs.ensures.front)))
 
 pub write_units-requires : goal.write_units-requires
 write_units-requires g c = rw c.deref-2.ensures.value (short_units (shown_by c.run.inside) c.run.invariant c.run.inside.units.items refl)
@@ -36,9 +36,9 @@ returns-in_err-write_units-clause-front g c =
     let units = flat_map history_bytes r.units in
     let done = flat_map work_bytes r.done in
     on_err c.from_residual-in_err-write_units.result (subst (TakesFront _ _) (ap record_bytes c.run.view_is)
-      (behind _ _ _ _ (head_bytes r) (counted job_bytes r.jobs ++ (units ++ done)) (ap head_bytes (sym c.run.view_is)) c.in_ok-write_head.ensures.whole
-        (behind _ _ _ _ (counted job_bytes r.jobs) (units ++ done) (ap (counted job_bytes) c.deref.ensures.value) c.in_ok-write_jobs.ensures.whole
-          (first_of _ _ _ units done (ap (λ l. flat_map history_bytes (map (λ h. h.items) l)) c.deref-2.ensures.value) c.in_err-write_units.ensures.front))))
+    (behind _ _ _ _ (head_bytes r) (counted job_bytes r.jobs ++ (units ++ done)) (ap head_bytes (sym c.run.view_is)) c.in_ok-write_head.ensures.whole
+    (behind _ _ _ _ (counted job_bytes r.jobs) (units ++ done) (ap (counted job_bytes) c.deref.ensures.value) c.in_ok-write_jobs.ensures.whole
+    (first_of _ _ _ units done (ap (λ l. flat_map history_bytes (map (λ h. h.items) l)) c.deref-2.ensures.value) c.in_err-write_units.ensures.front))))
 
 pub write_workers-requires : goal.write_workers-requires
 write_workers-requires g c = rw c.deref-3.ensures.value (short_works (shown_by c.run.inside) c.run.invariant c.run.inside.done.items refl)
@@ -49,7 +49,7 @@ returns-clause-front g c =
     let units = flat_map history_bytes r.units in
     let done = flat_map work_bytes r.done in
     on_err_then c.write_workers.result (λ failed. subst (TakesFront _ _) (ap record_bytes c.run.view_is)
-      (behind _ _ _ _ (head_bytes r) (counted job_bytes r.jobs ++ (units ++ done)) (ap head_bytes (sym c.run.view_is)) c.in_ok-write_head.ensures.whole
-        (behind _ _ _ _ (counted job_bytes r.jobs) (units ++ done) (ap (counted job_bytes) c.deref.ensures.value) c.in_ok-write_jobs.ensures.whole
-          (behind _ _ _ _ units done (ap (λ l. flat_map history_bytes (map (λ h. h.items) l)) c.deref-2.ensures.value) c.in_ok-write_units.ensures.whole
-            (subst (TakesFront _ _) (ap (λ l. flat_map work_bytes (map (λ w. w.items) l)) c.deref-3.ensures.value) failed))))) c.write_workers.ensures.front
+    (behind _ _ _ _ (head_bytes r) (counted job_bytes r.jobs ++ (units ++ done)) (ap head_bytes (sym c.run.view_is)) c.in_ok-write_head.ensures.whole
+    (behind _ _ _ _ (counted job_bytes r.jobs) (units ++ done) (ap (counted job_bytes) c.deref.ensures.value) c.in_ok-write_jobs.ensures.whole
+    (behind _ _ _ _ units done (ap (λ l. flat_map history_bytes (map (λ h. h.items) l)) c.deref-2.ensures.value) c.in_ok-write_units.ensures.whole
+    (subst (TakesFront _ _) (ap (λ l. flat_map work_bytes (map (λ w. w.items) l)) c.deref-3.ensures.value) failed))))) c.write_workers.ensures.front

@@ -18,7 +18,7 @@ returns-in_err-write_parts-clause-front g c =
     let ended = statuses_bytes done.statuses ++ payload_bytes done.payload in
     let parts = flat_map part_bytes done.parts in
     on_err c.from_residual-in_err-write_parts.result (behind _ _ _ _ (done_front done) (parts ++ ended) c.done_front.ensures c.in_ok-hand.ensures.whole
-      (first_of _ _ _ parts ended (ap (flat_map part_bytes) c.deref.ensures.value ∙ ap (λ d. flat_map part_bytes d.parts) c.done.view_is) c.in_err-write_parts.ensures.front))
+    (first_of _ _ _ parts ended (ap (flat_map part_bytes) c.deref.ensures.value ∙ ap (λ d. flat_map part_bytes d.parts) c.done.view_is) c.in_err-write_parts.ensures.front))
 
 pub returns-in_err-write_statuses-clause-front : goal.returns-in_err-write_statuses-clause-front
 returns-in_err-write_statuses-clause-front g c =
@@ -27,8 +27,8 @@ returns-in_err-write_statuses-clause-front g c =
     let statuses = statuses_bytes done.statuses in
     let payload = payload_bytes done.payload in
     on_err c.from_residual-in_err-write_statuses.result (behind _ _ _ _ (done_front done) (parts ++ (statuses ++ payload)) c.done_front.ensures c.in_ok-hand.ensures.whole
-      (behind _ _ _ _ parts (statuses ++ payload) (ap (flat_map part_bytes) c.deref.ensures.value ∙ ap (λ d. flat_map part_bytes d.parts) c.done.view_is) c.in_ok-write_parts.ensures.whole
-        (first_of _ _ _ statuses payload (ap (λ d. statuses_bytes d.statuses) c.done.view_is) c.in_err-write_statuses.ensures.front)))
+    (behind _ _ _ _ parts (statuses ++ payload) (ap (flat_map part_bytes) c.deref.ensures.value ∙ ap (λ d. flat_map part_bytes d.parts) c.done.view_is) c.in_ok-write_parts.ensures.whole
+    (first_of _ _ _ statuses payload (ap (λ d. statuses_bytes d.statuses) c.done.view_is) c.in_err-write_statuses.ensures.front)))
 
 pub returns-clause-front : goal.returns-clause-front
 returns-clause-front g c =
@@ -37,7 +37,7 @@ returns-clause-front g c =
     let statuses = statuses_bytes done.statuses in
     let payload = payload_bytes done.payload in
     on_err_then c.write_payload.result (λ failed.
-      behind _ _ _ _ (done_front done) (parts ++ (statuses ++ payload)) c.done_front.ensures c.in_ok-hand.ensures.whole
-      (behind _ _ _ _ parts (statuses ++ payload) (ap (flat_map part_bytes) c.deref.ensures.value ∙ ap (λ d. flat_map part_bytes d.parts) c.done.view_is) c.in_ok-write_parts.ensures.whole
-        (behind _ _ _ _ statuses payload (ap (λ d. statuses_bytes d.statuses) c.done.view_is) c.in_ok-write_statuses.ensures.whole
-          (subst (TakesFront _ _) (ap (λ d. payload_bytes d.payload) c.done.view_is) failed)))) c.write_payload.ensures.front
+    behind _ _ _ _ (done_front done) (parts ++ (statuses ++ payload)) c.done_front.ensures c.in_ok-hand.ensures.whole
+    (behind _ _ _ _ parts (statuses ++ payload) (ap (flat_map part_bytes) c.deref.ensures.value ∙ ap (λ d. flat_map part_bytes d.parts) c.done.view_is) c.in_ok-write_parts.ensures.whole
+    (behind _ _ _ _ statuses payload (ap (λ d. statuses_bytes d.statuses) c.done.view_is) c.in_ok-write_statuses.ensures.whole
+    (subst (TakesFront _ _) (ap (λ d. payload_bytes d.payload) c.done.view_is) failed)))) c.write_payload.ensures.front

@@ -9,4 +9,4 @@ returns-in_err-hand-in-Some-clause-front g c =
 pub returns-in_ok-hand-in-Some-clause-front : goal.returns-in_ok-hand-in-Some-clause-front
 returns-in_ok-hand-in-Some-clause-front g c =
     rw c.in-Some.is (then_front c.hand-in-Some-2.result _ _ _ _ (1 ∷ []) _ c.in-Some.payload refl c.as_slice.ensures
-      c.in_ok-hand-in-Some.ensures.whole c.hand-in-Some-2.ensures.front)
+    c.in_ok-hand-in-Some.ensures.whole c.hand-in-Some-2.ensures.front)

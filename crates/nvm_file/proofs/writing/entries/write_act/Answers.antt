@@ -22,19 +22,19 @@ pub returns-in_err-hand-in-Write-clause-front : goal.returns-in_err-hand-in-Writ
 returns-in_err-hand-in-Write-clause-front g c =
     let act = c.in-Write in
     rw act.is (within c.from_residual.result _ _ _ (extent_bytes act.first act.blocks) act.payload c.extent_bytes.ensures
-      c.in_err-hand-in-Write.ensures.front)
+    c.in_err-hand-in-Write.ensures.front)
 
 pub returns-in_ok-hand-in-Write-clause-whole : goal.returns-in_ok-hand-in-Write-clause-whole
 returns-in_ok-hand-in-Write-clause-whole g c =
     let act = c.in-Write in
     rw act.is (then_whole c.hand-in-Write.result _ _ _ _ (extent_bytes act.first act.blocks) _ act.payload c.extent_bytes.ensures
-      c.as_slice.ensures c.in_ok-hand-in-Write.ensures.whole c.hand-in-Write.ensures.whole)
+    c.as_slice.ensures c.in_ok-hand-in-Write.ensures.whole c.hand-in-Write.ensures.whole)
 
 pub returns-in_ok-hand-in-Write-clause-front : goal.returns-in_ok-hand-in-Write-clause-front
 returns-in_ok-hand-in-Write-clause-front g c =
     let act = c.in-Write in
     rw act.is (then_front c.hand-in-Write.result _ _ _ _ (extent_bytes act.first act.blocks) _ act.payload c.extent_bytes.ensures
-      c.as_slice.ensures c.in_ok-hand-in-Write.ensures.whole c.hand-in-Write.ensures.front)
+    c.as_slice.ensures c.in_ok-hand-in-Write.ensures.whole c.hand-in-Write.ensures.front)
 
 -- a Write Zeroes, or a Write Uncorrectable
 
@@ -42,7 +42,7 @@ pub returns-in-Zeroes-clause-whole : goal.returns-in-Zeroes-clause-whole
 returns-in-Zeroes-clause-whole g c =
     let act = c.in-Zeroes in
     on_ok_then c.hand-in-Zeroes.result (λ taken.
-      subst (Appends _ _) (c.extent_bytes-in-Zeroes.ensures ∙ has_no_data c.args.act.now act.first act.blocks act.is) taken)
+    subst (Appends _ _) (c.extent_bytes-in-Zeroes.ensures ∙ has_no_data c.args.act.now act.first act.blocks act.is) taken)
     c.hand-in-Zeroes.ensures.whole
 
 -- a fused pair
@@ -51,30 +51,30 @@ pub returns-in_err-hand-in-Pair-clause-front : goal.returns-in_err-hand-in-Pair-
 returns-in_err-hand-in-Pair-clause-front g c =
     let act = c.in-Pair in
     rw act.is (within c.from_residual-in_err-hand-in-Pair.result _ _ _ (extent_bytes act.first act.blocks) (act.compare ++ act.write)
-      c.extent_bytes-in-Pair.ensures c.in_err-hand-in-Pair.ensures.front)
+    c.extent_bytes-in-Pair.ensures c.in_err-hand-in-Pair.ensures.front)
 
 pub returns-in_err-hand-in-Pair-2-clause-front : goal.returns-in_err-hand-in-Pair-2-clause-front
 returns-in_err-hand-in-Pair-2-clause-front g c =
     let act = c.in-Pair in
     rw act.is (on_err c.from_residual-in_err-hand-in-Pair-2.result (behind _ _ _ _ (extent_bytes act.first act.blocks)
-      (act.compare ++ act.write) c.extent_bytes-in-Pair.ensures c.in_ok-hand-in-Pair.ensures.whole
-      (first_of _ _ _ act.compare act.write c.as_slice-in-Pair.ensures c.in_err-hand-in-Pair-2.ensures.front)))
+    (act.compare ++ act.write) c.extent_bytes-in-Pair.ensures c.in_ok-hand-in-Pair.ensures.whole
+    (first_of _ _ _ act.compare act.write c.as_slice-in-Pair.ensures c.in_err-hand-in-Pair-2.ensures.front)))
 
 pub returns-in_ok-hand-in-Pair-2-clause-whole : goal.returns-in_ok-hand-in-Pair-2-clause-whole
 returns-in_ok-hand-in-Pair-2-clause-whole g c =
     let act = c.in-Pair in
     rw act.is (on_ok_then c.hand-in-Pair-3.result (λ taken.
-      both _ _ _ _ (extent_bytes act.first act.blocks) (act.compare ++ act.write) c.extent_bytes-in-Pair.ensures c.in_ok-hand-in-Pair.ensures.whole
-      (both _ _ _ _ act.compare act.write c.as_slice-in-Pair.ensures c.in_ok-hand-in-Pair-2.ensures.whole
-        (subst (Appends _ _) c.as_slice-in-Pair-2.ensures taken))) c.hand-in-Pair-3.ensures.whole)
+    both _ _ _ _ (extent_bytes act.first act.blocks) (act.compare ++ act.write) c.extent_bytes-in-Pair.ensures c.in_ok-hand-in-Pair.ensures.whole
+    (both _ _ _ _ act.compare act.write c.as_slice-in-Pair.ensures c.in_ok-hand-in-Pair-2.ensures.whole
+    (subst (Appends _ _) c.as_slice-in-Pair-2.ensures taken))) c.hand-in-Pair-3.ensures.whole)
 
 pub returns-in_ok-hand-in-Pair-2-clause-front : goal.returns-in_ok-hand-in-Pair-2-clause-front
 returns-in_ok-hand-in-Pair-2-clause-front g c =
     let act = c.in-Pair in
     rw act.is (on_err_then c.hand-in-Pair-3.result (λ failed.
-      behind _ _ _ _ (extent_bytes act.first act.blocks) (act.compare ++ act.write) c.extent_bytes-in-Pair.ensures c.in_ok-hand-in-Pair.ensures.whole
-      (behind _ _ _ _ act.compare act.write c.as_slice-in-Pair.ensures c.in_ok-hand-in-Pair-2.ensures.whole
-        (subst (TakesFront _ _) c.as_slice-in-Pair-2.ensures failed))) c.hand-in-Pair-3.ensures.front)
+    behind _ _ _ _ (extent_bytes act.first act.blocks) (act.compare ++ act.write) c.extent_bytes-in-Pair.ensures c.in_ok-hand-in-Pair.ensures.whole
+    (behind _ _ _ _ act.compare act.write c.as_slice-in-Pair.ensures c.in_ok-hand-in-Pair-2.ensures.whole
+    (subst (TakesFront _ _) c.as_slice-in-Pair-2.ensures failed))) c.hand-in-Pair-3.ensures.front)
 
 -- a Deallocate
 
@@ -86,11 +86,11 @@ write_ranges-requires g c =
 pub returns-in-Deallocate-clause-whole : goal.returns-in-Deallocate-clause-whole
 returns-in-Deallocate-clause-whole g c =
     rw c.in-Deallocate.is (on_ok_then c.write_ranges.result (λ taken.
-      subst (Appends _ _) (ranges_of_slice c.as_slice-in-Deallocate.result.now c.in-Deallocate.ranges c.as_slice-in-Deallocate.ensures) taken)
-      c.write_ranges.ensures.whole)
+    subst (Appends _ _) (ranges_of_slice c.as_slice-in-Deallocate.result.now c.in-Deallocate.ranges c.as_slice-in-Deallocate.ensures) taken)
+    c.write_ranges.ensures.whole)
 
 pub returns-in-Deallocate-clause-front : goal.returns-in-Deallocate-clause-front
 returns-in-Deallocate-clause-front g c =
     rw c.in-Deallocate.is (on_err_then c.write_ranges.result (λ failed.
-      subst (TakesFront _ _) (ranges_of_slice c.as_slice-in-Deallocate.result.now c.in-Deallocate.ranges c.as_slice-in-Deallocate.ensures) failed)
-      c.write_ranges.ensures.front)
+    subst (TakesFront _ _) (ranges_of_slice c.as_slice-in-Deallocate.result.now c.in-Deallocate.ranges c.as_slice-in-Deallocate.ensures) failed)
+    c.write_ranges.ensures.front)

@@ -25,10 +25,12 @@ pub returns-in-Ok-eq0-clause-front : goal.returns-in-Ok-eq0-clause-front
 returns-in-Ok-eq0-clause-front g c =
     let (done, split, appended) = c.loop.invariant in
     let rest = c.loop.rest.now in
-    let n = c.in-Ok-eq0.field-0 in
-    (done ++ take n rest, drop n rest,
+    let n = c.in-Ok-eq0.field-0 in (
+      done ++ take n rest,
+      drop n rest,
       split ∙ ap (λ l. done ++ l) (sym (take-append-drop n rest)) ∙ sym (append_assoc done (take n rest) (drop n rest)),
-      Appends-trans _ _ _ done (take n rest) appended c.in-Ok-eq0.ensures.bytes)
+      Appends-trans _ _ _ done (take n rest) appended c.in-Ok-eq0.ensures.bytes,
+    )
 
 pub returns-then-ne-clause-front : goal.returns-then-ne-clause-front
 returns-then-ne-clause-front g c =
