@@ -1,5 +1,5 @@
 -- The lists of a record are no longer than the fields of their lengths hold.
-use Rattle.std.proofs.Common.{◌≡◌, ◌⊎◌, inl, inr, ℕ, zero, suc, ◌<◌, ◌≤◌, ◌^◌, List, [], ◌∷◌, length, map, get_or, All, Vec, refl, sym, ap, subst, ◌∙◌, arith, IsTrue, not}
+use Rattle.std.proofs.Common.{◌≡◌, inl, inr, ℕ, ◌<◌, ◌^◌, List, [], length, map, get_or, All, Vec, sym, ap, subst, ◌∙◌, arith, IsTrue, not}
 use Rattle.std.proofs.lemmas.Bool.{false≢true}
 use Rattle.std.proofs.lemmas.List.{get_or-map, length-map}
 use Rattle.nvm_record.specs.Deeds.{is_deallocate}

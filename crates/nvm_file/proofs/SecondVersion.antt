@@ -1,9 +1,7 @@
 -- The second version of a record that a file of its own version can hold.
-use Rattle.std.proofs.Common.{◌≡◌, ◌⊎◌, inl, inr, ℕ, List, get_or, sym, ap, subst, arith}
-use Rattle.nvm_record.specs.Lists.{IsAt}
+use Rattle.std.proofs.Common.{◌≡◌, inl, inr, ℕ, List, get_or, sym, ap, subst, arith}
 use Rattle.nvm_plan.specs.declared.job.Body.{Body}
 use Rattle.nvm_plan.specs.declared.job.Body.TheVariants.{Single, Pair}
-use Rattle.nvm_plan.specs.declared.job.Job.{Job}
 use Rattle.nvm_record.specs.Step.{Operation}
 use Rattle.nvm_store.specs.declared.place.Place.{Place}
 use Rattle.nvm_store.specs.HistoryEntry.{HistoryEntry}
@@ -11,7 +9,7 @@ use Rattle.nvm_store.specs.Limit.{IsLimit}
 use Rattle.nvm_audit.specs.declared.version.Version.{Version}
 use Rattle.nvm_audit.specs.declared.version.Version.TheVariants.{One, Two}
 use Rattle.nvm_audit.specs.LawfulRecord.{IsLawfulRecord}
-use Rattle.nvm_audit.specs.Recordable.{HoldsBody, HoldsKind, HoldsLimit, IsRecordable, IsRecordableDone, IsRecordableEntry, IsRecordableHistory, IsRecordableJob, IsRecordableWork}
+use Rattle.nvm_audit.specs.Recordable.{HoldsBody, HoldsKind, HoldsLimit, IsRecordable, IsRecordableDone, IsRecordableEntry, IsRecordableHistory, IsRecordableWork}
 use Rattle.nvm_audit.specs.RecordedJob.{RecordedJob}
 use Rattle.nvm_audit.specs.RecordView.{RecordView}
 use Rattle.nvm_file.specs.Upgrade.{AreKnown, HasUnknown, second_version}

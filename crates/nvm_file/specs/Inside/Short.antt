@@ -1,5 +1,5 @@
 -- Lists whose lengths fit the fields that a record file has for them.
-use Rattle.std.specs.Prelude.{ℕ, ◌<◌, ◌≤◌, ◌^◌, List, All, length}
+use Rattle.std.specs.Prelude.{◌<◌, ◌≤◌, ◌^◌, List, All, length}
 use Rattle.nvm_record.specs.Ranges.{most_ranges}
 use Rattle.nvm_record.specs.Step.{Deed, writes, zeroes, uncorrectable, reads, compares, pairs, deallocates}
 use Rattle.nvm_store.specs.HistoryEntry.{HistoryEntry}

@@ -1,4 +1,4 @@
-use Rattle.std.proofs.Common.{◌≡◌, length, sym, subst, IsTrue, arith, rules}
+use Rattle.std.proofs.Common.{◌≡◌, length, sym, subst, arith, rules}
 use Rattle.nvm_record.specs.Lists.{IsAt}
 use Rattle.nvm_file.specs.Upgrade.{HasUnknown}
 use Rattle.nvm_file.proofs.Places.{at_place}

@@ -1,5 +1,4 @@
-use Rattle.std.proofs.Common.{◌++◌, ◌∙◌, ap, map, refl, subst, sym}
-use Rattle.std.specs.Io.KnownBytes.{Appends}
+use Rattle.std.proofs.Common.{◌++◌, ap, map, refl, subst, sym}
 use Rattle.std.specs.List.{flat_map}
 use Rattle.nvm_audit.specs.Shown.{shown_by}
 use Rattle.nvm_file.specs.Counted.{counted}
@@ -10,7 +9,7 @@ use Rattle.nvm_file.specs.JobSpelling.{job_bytes}
 use Rattle.nvm_file.specs.Spelling.{record_bytes}
 use Rattle.nvm_file.specs.WorkSpelling.{work_bytes}
 use Rattle.nvm_file.proofs.Lengths.{short_units, short_works}
-use Rattle.nvm_file.proofs.Taking.{behind, both, first_of, on_err, on_err_then, within}
+use Rattle.nvm_file.proofs.Taking.{behind, first_of, on_err, on_err_then, within}
 use Rattle.nvm_file.proofs.writing.write_record.Goals as goal
 
 pub returns-in_err-write_head-clause-front : goal.returns-in_err-write_head-clause-front

@@ -1,7 +1,6 @@
-use Rattle.std.proofs.Common.{◌++◌, ◌∙◌, ap, refl, subst}
+use Rattle.std.proofs.Common.{◌++◌, ap, refl, subst}
 use Rattle.std.specs.Io.KnownBytes.{Appends}
 use Rattle.byteorder.specs.Endian.{little_bytes}
-use Rattle.nvm_audit.specs.Shown.{shown_by}
 use Rattle.nvm_file.specs.HeadSpelling.{head_bytes, limit_bytes, name_of, namespace_bytes}
 use Rattle.nvm_file.specs.Handed.{TakesFront}
 use Rattle.nvm_file.proofs.Taking.{behind, both, first_of, on_err, on_err_then, on_ok_then}
