@@ -1,0 +1,5 @@
+use Rattle.nvm_file.proofs.SecondVersion.{first_lawful, second_can, second_lawful}
+use Rattle.nvm_file.proofs.laws.upgraded_records_are_judged_alike.Goals as goal
+
+pub returns : goal.returns
+returns c = record { lawful = λ r. (first_lawful r, second_lawful r); held = second_can }

@@ -1,0 +1,10 @@
+use Rattle.std.proofs.Common.{map, take}
+use Rattle.std.specs.Io.KnownBytes.{Appends}
+use Rattle.std.specs.List.{flat_map}
+use Rattle.nvm_file.specs.WorkSpelling.{work_bytes}
+use Rattle.nvm_file.proofs.writing.done_jobs.write_workers.Given as goal
+
+abbrev pub invariant-loop-work : goal.invariant-loop-work
+invariant-loop-work g l =
+    Appends (g.W.Write.contents l.fn.writer) (g.W.Write.contents l.writer)
+    (flat_map work_bytes (take l.work-index (map (λ work. work.items) l.workers)))

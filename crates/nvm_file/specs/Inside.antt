@@ -1,0 +1,2 @@
+-- What private functions' contracts say of a record that is written.
+pub mod Short

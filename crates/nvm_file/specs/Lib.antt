@@ -1,0 +1,9 @@
+pub mod Counted
+pub mod HeadSpelling
+pub mod JobSpelling
+pub mod EntrySpelling
+pub mod WorkSpelling
+pub mod Spelling
+pub mod Handed
+pub mod Upgrade
+pub mod Inside

@@ -1,0 +1,125 @@
+ghost use Rattle.std.specs.Prelude.{◌≡◌, All, OnErr, OnOk, map};
+ghost use Rattle.std.specs.Io.KnownBytes.{Appends};
+ghost use Rattle.std.specs.List.{flat_map};
+ghost use Rattle.nvm_file.specs.Handed.{TakesFront};
+ghost use Rattle.nvm_file.specs.Inside.Short.{IsShortDone, IsShortWork};
+ghost use Rattle.nvm_file.specs.WorkSpelling as spec;
+ghost use Rattle.nvm_file.specs.WorkSpelling.{done_bytes, payload_bytes, result_byte, statuses_bytes, work_bytes};
+
+use super::bytes::count_bytes;
+use super::handing::hand;
+use byteorder::{ByteOrder, LittleEndian};
+use nvm_audit::DoneJob;
+use nvm_plan::{Part, PartResult};
+use nvm_record::{ReadData, Statuses};
+use std::io;
+use std::io::Write;
+
+/// Writes what each worker did.
+pub fn write_workers<W: Write>(writer: &mut W, workers: &[Vec<DoneJob>]) -> io::Result<()>
+    requires { All (λ work. IsShortWork work.items) workers.now }
+    ensures whole { OnOk result (Appends (W.contents writer.old) (W.contents writer.new)
+        (flat_map work_bytes (map (λ work. work.items) workers.now))) }
+    ensures front { OnErr result (TakesFront (W.contents writer.old) (W.contents writer.new)
+        (flat_map work_bytes (map (λ work. work.items) workers.now))) }
+{
+    for work in workers {
+        write_work(writer, work)?;
+    }
+    Ok(())
+}
+
+/// Writes how many jobs the worker did, and each of them.
+fn write_work<W: Write>(writer: &mut W, work: &[DoneJob]) -> io::Result<()>
+    requires { IsShortWork work.now }
+    ensures whole { OnOk result (Appends (W.contents writer.old) (W.contents writer.new) (work_bytes work.now)) }
+    ensures front { OnErr result (TakesFront (W.contents writer.old) (W.contents writer.new) (work_bytes work.now)) }
+{
+    hand(writer, &count_bytes(work.len()))?;
+    for done in work {
+        write_done(writer, done)?;
+    }
+    Ok(())
+}
+
+fn write_done<W: Write>(writer: &mut W, done: &DoneJob) -> io::Result<()>
+    requires { IsShortDone done.now }
+    ensures whole { OnOk result (Appends (W.contents writer.old) (W.contents writer.new) (done_bytes done.now)) }
+    ensures front { OnErr result (TakesFront (W.contents writer.old) (W.contents writer.new) (done_bytes done.now)) }
+{
+    hand(writer, &done_front(done))?;
+    write_parts(writer, &done.parts)?;
+    write_statuses(writer, done.statuses)?;
+    write_payload(writer, &done.payload)
+}
+
+/// The job's number, and how many parts there are.
+fn done_front(done: &DoneJob) -> [u8; 6]
+    requires { IsShortDone done.now }
+    ensures { result ≡ spec.done_front done.now }
+{
+    let mut front = [0; 6];
+    LittleEndian::write_u32(&mut front, done.job);
+    LittleEndian::write_u16(&mut front[4..], done.parts.len() as u16);
+    front
+}
+
+fn write_parts<W: Write>(writer: &mut W, parts: &[Part]) -> io::Result<()>
+    ensures whole { OnOk result (Appends (W.contents writer.old) (W.contents writer.new) (flat_map spec.part_bytes parts.now)) }
+    ensures front { OnErr result (TakesFront (W.contents writer.old) (W.contents writer.new)
+        (flat_map spec.part_bytes parts.now)) }
+{
+    for part in parts {
+        hand(writer, &part_bytes(*part))?;
+    }
+    Ok(())
+}
+
+/// The unit's number, the point, and how the part ended.
+fn part_bytes(part: Part) -> [u8; 7]
+    ensures { result ≡ spec.part_bytes part }
+{
+    let mut bytes = [0; 7];
+    LittleEndian::write_u16(&mut bytes, part.unit);
+    LittleEndian::write_u32(&mut bytes[2..], part.point);
+    bytes[6] = result_code(part.result);
+    bytes
+}
+
+fn result_code(end: PartResult) -> u8
+    ensures { result ≡ result_byte end }
+{
+    match end {
+        PartResult::Done => 1,
+        PartResult::Failed => 2,
+        PartResult::Looked => 3,
+        PartResult::NoMemory => 4,
+        PartResult::Full => 5,
+    }
+}
+
+fn write_statuses<W: Write>(writer: &mut W, statuses: Statuses) -> io::Result<()>
+    ensures whole { OnOk result (Appends (W.contents writer.old) (W.contents writer.new) (statuses_bytes statuses)) }
+    ensures front { OnErr result (TakesFront (W.contents writer.old) (W.contents writer.new) (statuses_bytes statuses)) }
+{
+    match statuses {
+        Statuses::One(status) => hand(writer, &[status.sct, status.sc]),
+        Statuses::Two(first, second) => {
+            hand(writer, &[first.sct, first.sc, second.sct, second.sc])
+        }
+    }
+}
+
+/// Writes whether there is data, and the data.
+fn write_payload<W: Write>(writer: &mut W, payload: &Option<ReadData>) -> io::Result<()>
+    ensures whole { OnOk result (Appends (W.contents writer.old) (W.contents writer.new) (payload_bytes payload.now)) }
+    ensures front { OnErr result (TakesFront (W.contents writer.old) (W.contents writer.new) (payload_bytes payload.now)) }
+{
+    match payload {
+        None => hand(writer, &[0]),
+        Some(payload) => {
+            hand(writer, &[1])?;
+            hand(writer, payload.as_slice())
+        }
+    }
+}

@@ -1,0 +1,140 @@
+ghost use Rattle.std.specs.Prelude.{◌≡◌, ◌++◌, ◌≤◌, All, OnErr, OnOk, map};
+ghost use Rattle.std.specs.Io.KnownBytes.{Appends};
+ghost use Rattle.std.specs.List.{flat_map};
+ghost use Rattle.byteorder.specs.Endian.{little_bytes};
+ghost use Rattle.nvm_record.specs.Ranges.{most_ranges, ranges_of};
+ghost use Rattle.nvm_record.specs.Ranges as ranges;
+ghost use Rattle.nvm_store.specs.Act.{operation_of};
+ghost use Rattle.nvm_file.specs.EntrySpelling as spec;
+ghost use Rattle.nvm_file.specs.EntrySpelling.{change_bytes, cut_bytes, entry_bytes, history_bytes, kind_of};
+ghost use Rattle.nvm_file.specs.Handed.{TakesFront};
+ghost use Rattle.nvm_file.specs.Inside.Short.{IsShortDeed, IsShortHistory};
+
+use super::bytes::{count_bytes, two_bytes};
+use super::handing::hand;
+use byteorder::{ByteOrder, LittleEndian};
+use nvm_record::{LbaRange, range_count};
+use nvm_store::{Act, Entry, History};
+use std::io;
+use std::io::Write;
+
+/// Writes the history of each unit.
+pub fn write_units<W: Write>(writer: &mut W, units: &[History]) -> io::Result<()>
+    requires { All (λ history. IsShortHistory history.items) units.now }
+    ensures whole { OnOk result (Appends (W.contents writer.old) (W.contents writer.new)
+        (flat_map history_bytes (map (λ history. history.items) units.now))) }
+    ensures front { OnErr result (TakesFront (W.contents writer.old) (W.contents writer.new)
+        (flat_map history_bytes (map (λ history. history.items) units.now))) }
+{
+    for history in units {
+        write_history(writer, history)?;
+    }
+    Ok(())
+}
+
+/// Writes how many entries there are, and each of them.
+fn write_history<W: Write>(writer: &mut W, history: &[Entry]) -> io::Result<()>
+    requires { IsShortHistory history.now }
+    ensures whole { OnOk result (Appends (W.contents writer.old) (W.contents writer.new) (history_bytes history.now)) }
+    ensures front { OnErr result (TakesFront (W.contents writer.old) (W.contents writer.new) (history_bytes history.now)) }
+{
+    hand(writer, &count_bytes(history.len()))?;
+    for entry in history {
+        write_entry(writer, entry)?;
+    }
+    Ok(())
+}
+
+fn write_entry<W: Write>(writer: &mut W, entry: &Entry) -> io::Result<()>
+    requires { IsShortDeed entry.now.operation.deed }
+    ensures whole { OnOk result (Appends (W.contents writer.old) (W.contents writer.new) (entry_bytes entry.now)) }
+    ensures front { OnErr result (TakesFront (W.contents writer.old) (W.contents writer.new) (entry_bytes entry.now)) }
+{
+    hand(writer, &entry_front(entry))?;
+    write_act(writer, &entry.act)
+}
+
+/// The numbers of the pass and of the job, and the kind.
+fn entry_front(entry: &Entry) -> [u8; 7]
+    ensures { result ≡ spec.entry_front entry.now }
+{
+    let mut front = [0; 7];
+    LittleEndian::write_u16(&mut front, entry.pass);
+    LittleEndian::write_u32(&mut front[2..], entry.job);
+    front[6] = kind(&entry.act);
+    front
+}
+
+/// The kind of the entry that has the act.
+fn kind(act: &Act) -> u8
+    ensures { result ≡ kind_of (operation_of act.now).deed }
+{
+    match act {
+        Act::Write { .. } => 1,
+        Act::Zeroes { .. } => 2,
+        Act::Uncorrectable { .. } => 3,
+        Act::Pair { .. } => 4,
+        Act::Deallocate { .. } => 5,
+    }
+}
+
+/// Writes what stands behind the kind.
+fn write_act<W: Write>(writer: &mut W, act: &Act) -> io::Result<()>
+    requires { IsShortDeed (operation_of act.now).deed }
+    ensures whole { OnOk result (Appends (W.contents writer.old) (W.contents writer.new)
+        (change_bytes (operation_of act.now).first (operation_of act.now).blocks (operation_of act.now).deed)) }
+    ensures front { OnErr result (TakesFront (W.contents writer.old) (W.contents writer.new)
+        (change_bytes (operation_of act.now).first (operation_of act.now).blocks (operation_of act.now).deed)) }
+{
+    match act {
+        Act::Write {
+            first,
+            blocks,
+            payload,
+        } => {
+            hand(writer, &extent_bytes(*first, *blocks))?;
+            hand(writer, payload.as_slice())
+        }
+        Act::Zeroes { first, blocks } | Act::Uncorrectable { first, blocks } => {
+            hand(writer, &extent_bytes(*first, *blocks))
+        }
+        Act::Pair {
+            first,
+            blocks,
+            compare,
+            write,
+        } => {
+            hand(writer, &extent_bytes(*first, *blocks))?;
+            hand(writer, compare.as_slice())?;
+            hand(writer, write.as_slice())
+        }
+        Act::Deallocate { ranges, .. } => write_ranges(writer, ranges.as_slice()),
+    }
+}
+
+/// A first LBA, and a number of blocks.
+fn extent_bytes(first: u64, blocks: u32) -> [u8; 12]
+    ensures { result ≡ spec.extent_bytes first blocks }
+{
+    let mut bytes = [0; 12];
+    LittleEndian::write_u64(&mut bytes, first);
+    LittleEndian::write_u32(&mut bytes[8..], blocks);
+    bytes
+}
+
+/// Writes how many ranges there are, and each of them, without its context attributes.
+fn write_ranges<W: Write>(writer: &mut W, payload: &[u8]) -> io::Result<()>
+    requires { ranges.range_count payload.now ≤ most_ranges }
+    ensures whole { OnOk result (Appends (W.contents writer.old) (W.contents writer.new)
+        (little_bytes 2 (ranges.range_count payload.now) ++ flat_map cut_bytes (ranges_of payload.now))) }
+    ensures front { OnErr result (TakesFront (W.contents writer.old) (W.contents writer.new)
+        (little_bytes 2 (ranges.range_count payload.now) ++ flat_map cut_bytes (ranges_of payload.now))) }
+{
+    let count = range_count(payload);
+    hand(writer, &two_bytes(count as u16))?;
+    for place in 0..count {
+        let range = LbaRange::at(payload, place);
+        hand(writer, &extent_bytes(range.first, range.blocks))?;
+    }
+    Ok(())
+}
