@@ -12,3 +12,5 @@ pub mod DoneParts
 pub mod OneActHeld
 pub mod LawfulHeld
 pub mod InOrder
+pub mod Claiming
+pub mod Judged

@@ -1,2 +1,4 @@
 -- What `==` of records computes.
 pub mod Same
+-- What is found of a part at its point.
+pub mod Judging

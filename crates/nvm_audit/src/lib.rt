@@ -7,6 +7,8 @@
 
 mod audit_fault;
 mod done_job;
+mod done_part;
+mod judging;
 pub mod laws;
 mod record;
 mod sameness;
