@@ -162,3 +162,6 @@ data_told ns job op part m p size start bytes same ready is starts long size_is 
           sym data_is ∙ tells.0 t ∙ ap (λ (xs : List ℕ). Some xs) cut ∙ ap (λ (xs : List ℕ). Some (data_in ns op p.part.unit xs)) (sym which),
       λ h. tells.1 (data_is ∙ h bytes payload ∙ ap (λ (xs : List ℕ). Some xs) (sym cut)),
     )
+
+pub some_is : {x y : Operation} → ◌≡◌ {A = Option Operation} (Some x) (Some y) → x ≡ y
+some_is e = cc

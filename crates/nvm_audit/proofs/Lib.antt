@@ -12,5 +12,7 @@ pub mod DoneParts
 pub mod OneActHeld
 pub mod LawfulHeld
 pub mod InOrder
+pub mod Places
+pub mod Chained
 pub mod Claiming
 pub mod Judged

@@ -2,3 +2,7 @@
 pub mod Same
 -- What is found of a part at its point.
 pub mod Judging
+-- One unit while it is audited.
+pub mod Audited
+-- Which entries were made by parts.
+pub mod Claims

@@ -6,14 +6,19 @@
 #![tactic(auto)]
 
 mod audit_fault;
+mod by_point;
+mod claims;
 mod done_job;
 mod done_part;
+mod entries;
 mod judging;
 pub mod laws;
 mod record;
 mod sameness;
+mod shown_unit;
 mod verdict;
 mod version;
+mod walking;
 
 pub use audit_fault::{AuditFault, Spot};
 pub use done_job::DoneJob;
