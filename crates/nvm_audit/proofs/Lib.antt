@@ -14,5 +14,8 @@ pub mod LawfulHeld
 pub mod InOrder
 pub mod Places
 pub mod Chained
+pub mod Findings
+pub mod Entered
+pub mod Scans
 pub mod Claiming
 pub mod Judged

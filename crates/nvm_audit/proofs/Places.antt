@@ -58,3 +58,9 @@ module _ {A : Type 0} where
   -- what was read stands there
   pub stands_read : (xs : List A) (k : ℕ) (x : A) → k < length xs → x ≡ get_or xs k x → IsAt xs k x
   stands_read xs k x low is = subst (λ (y : A). IsAt xs k y) (sym is) (read_there xs k x low)
+
+  -- something stands at each place
+  pub get_or_there : (xs : List A) (k : ℕ) → k < length xs → (x : A) × IsAt xs k x
+  get_or_there [] k low = absurd (omega arith)
+  get_or_there (y ∷ ys) zero low = (y, refl)
+  get_or_there (y ∷ ys) (suc k) low = get_or_there ys k (omega arith)

@@ -6,3 +6,5 @@ pub mod Judging
 pub mod Audited
 -- Which entries were made by parts.
 pub mod Claims
+-- The parts of a unit while they are looked at.
+pub mod Scanned

@@ -1,5 +1,6 @@
-ghost use Rattle.std.specs.Prelude.{◌≡◌, ◌↔◌, IsTrue};
+ghost use Rattle.std.specs.Prelude.{◌≡◌, ◌↔◌, ◌≤◌, IsTrue, length};
 ghost use Rattle.nvm_audit.specs.LawfulUnit.{HasMadeEntry, MadeEntry};
+ghost use Rattle.nvm_audit.specs.PointOrder.{least_after};
 ghost use Rattle.nvm_audit.specs.RecordedPart.{told_of};
 
 use crate::done_job::DoneJob;
@@ -56,5 +57,29 @@ impl<'a> DonePart<'a> {
     {
         let point = self.part.point as usize;
         point < history.len() && self.made(&history[point])
+    }
+
+    /// Whether the history has come to the part's point, and has the part's entry there, where it made one.
+    pub(crate) fn has_its_point(&self, history: &History) -> bool
+        ensures { IsTrue result ↔ ((self.now.part.point ≤ length history.now.items)
+            × (self.now.part.result ≡ Done → HasMadeEntry history.now.items self.now)) }
+    {
+        if self.part.point as usize > history.len() {
+            return false;
+        }
+        self.part.result != PartResult::Done || self.made_entry(history)
+    }
+
+    /// The lowest point that the worker's next part in the unit may have: behind the entry, where the part made one.
+    pub(crate) fn next_point(&self) -> u32
+        requires { self.now.part.point ≤ 4194304 }
+        ensures { result ≡ least_after self.now.part self.now.part.result }
+    {
+        match self.part.result {
+            PartResult::Done => self.part.point + 1,
+            PartResult::Failed | PartResult::Looked | PartResult::NoMemory | PartResult::Full => {
+                self.part.point
+            }
+        }
     }
 }

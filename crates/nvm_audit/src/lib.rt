@@ -15,6 +15,7 @@ mod judging;
 pub mod laws;
 mod record;
 mod sameness;
+mod scanning;
 mod shown_unit;
 mod verdict;
 mod version;

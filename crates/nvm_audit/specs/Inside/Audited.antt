@@ -1,5 +1,6 @@
 -- One unit while it is audited: what is known of it from the record's type and from the shapes of its jobs.
-use Rattle.std.specs.Prelude.{◌≡◌, ◌≢◌, ℕ, ◌+◌, ◌<◌, ◌≤◌, List, length, Some, IsSome}
+use Rattle.std.specs.Prelude.{◌≡◌, ◌≢◌, ℕ, ◌+◌, ◌<◌, ◌≤◌, List, [], ◌∷◌, length, drop, Some, IsSome}
+use Rattle.std.specs.List.{AllByRecursion}
 use Rattle.nvm_record.specs.Deeds.{IsAct}
 use Rattle.nvm_record.specs.Lists.{IsAt}
 use Rattle.nvm_geometry.specs.Boundaries.{units_of}
@@ -10,15 +11,19 @@ use Rattle.nvm_plan.specs.Fits.{FitsNamespace}
 use Rattle.nvm_plan.specs.JobPart.{job_part_in}
 use Rattle.nvm_plan.specs.UnitPlace.{IsUnitPlace}
 use Rattle.nvm_store.specs.declared.place.Place.{Place}
+use Rattle.nvm_store.specs.Contents.{Contents, Holds, place_of}
 use Rattle.nvm_store.specs.HistoryEntry.{HistoryEntry}
 use Rattle.nvm_store.specs.Limit.{IsLimit}
 use Rattle.nvm_store.specs.Place.{IsCovered}
+use Rattle.nvm_store.specs.Point.{point}
+use Rattle.nvm_audit.specs.declared.audit_fault.AuditFault.{AuditFault}
 use Rattle.nvm_audit.specs.declared.judging.Finding.{Finding}
 use Rattle.nvm_audit.specs.declared.judging.Finding.TheVariants.{Right, StatusWrong, DataWrong}
 use Rattle.nvm_audit.specs.declared.shown_unit.ShownUnit.{ShownUnit}
+use Rattle.nvm_audit.specs.FirstFailed.{IsFirstFailed}
 use Rattle.nvm_audit.specs.Recordable.{most_workers, IsLongAsRead}
 use Rattle.nvm_audit.specs.RecordedPart.{RecordedPart}
-use Rattle.nvm_audit.specs.UnitChecks.{HasItsStatus, HasItsData}
+use Rattle.nvm_audit.specs.UnitChecks.{UnitCheck, entry_right, entry_claimed, HasItsStatus, HasItsData, PassesInUnit, entry_checks, fault_in}
 use Rattle.nvm_audit.specs.UnitView.{UnitView}
 
 -- what is shown of the unit, as plain data
@@ -85,3 +90,41 @@ pub record AreByPoint (entries : ℕ) (parts : List RecordedPart) (last before :
   pub numbers : length before ≡ length parts
   pub at_point : (n at : ℕ) → IsAt last n at → IsLastAt parts n (length parts) at
   pub earlier : (k at : ℕ) (p : RecordedPart) → IsAt before k at → IsAt parts k p → p.part.point ≤ entries → IsLastAt parts p.part.point k at
+
+-- The parts with this point are judged from the last one down to that before which `at` parts stand; those with lower points are.
+pub record IsJudgedDownTo (u : UnitView) (n at : ℕ) (findings : List Finding) : Type 0 where
+  pub long : length findings ≡ length u.parts
+  pub within : at ≤ length u.parts
+  pub there : (k : ℕ) (p : RecordedPart) → at ≡ k + 1 → IsAt u.parts k p → p.part.point ≡ n
+  pub before : AreJudgedBelow u n findings
+  pub done : (k : ℕ) (p : RecordedPart) (f : Finding) → at ≤ k → IsAt u.parts k p → p.part.point ≡ n → IsAt findings k f → IsJudged u p f
+
+-- What is so of the checks that are left is so of all: where they all pass, all do, and the first of them that fails is the
+-- first of all.
+pub record Leads {C : Type 0} (P : C → Type 0) (left all : List C) : Type 0 where
+  pub all_pass : AllByRecursion P left → AllByRecursion P all
+  pub first : (c : C) → IsFirstFailed P left c → IsFirstFailed P all c
+
+-- It is the first fault that these checks of the unit find.
+pub record IsFirstAmong (u : UnitView) (checks : List UnitCheck) (fault : AuditFault) : Type 0 where
+  pub check : UnitCheck
+  pub first : IsFirstFailed (PassesInUnit u) checks check
+  pub is : fault ≡ fault_in u.unit check
+
+-- The checks of the entry at this place.
+abbrev pub checks_of_entry : ℕ → HistoryEntry → List UnitCheck
+checks_of_entry place entry = entry_right place entry ∷ entry_claimed place entry ∷ []
+
+-- The entries before this place were found right and claimed, the parts before it are judged, and the blocks are those there.
+pub record IsWalkedTo (u : UnitView) (place : ℕ) (blocks : Contents) (findings : List Finding) : Type 0 where
+  pub lies : IsUnitPlace u.namespace u.unit (place_of blocks)
+  pub held : Holds blocks (point u.namespace.block_size u.history place)
+  pub long : length findings ≡ length u.parts
+  pub judged : AreJudgedBelow u place findings
+  pub leads : Leads (PassesInUnit u) (entry_checks place (drop place u.history)) (entry_checks 0 u.history)
+
+-- All entries are right and claimed, and each part that the history has come to is judged.
+pub record IsWalkedWhole (u : UnitView) (findings : List Finding) : Type 0 where
+  pub entries : AllByRecursion (PassesInUnit u) (entry_checks 0 u.history)
+  pub long : length findings ≡ length u.parts
+  pub judged : AreJudgedBelow u (length u.history + 1) findings
