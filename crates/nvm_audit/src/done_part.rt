@@ -1,4 +1,5 @@
 ghost use Rattle.std.specs.Prelude.{◌≡◌, ◌↔◌, ◌≤◌, IsTrue, length};
+ghost use Rattle.nvm_plan.specs.declared.part.PartResult.TheVariants.{Done};
 ghost use Rattle.nvm_audit.specs.LawfulUnit.{HasMadeEntry, MadeEntry};
 ghost use Rattle.nvm_audit.specs.PointOrder.{least_after};
 ghost use Rattle.nvm_audit.specs.RecordedPart.{told_of};

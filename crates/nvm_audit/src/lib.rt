@@ -17,6 +17,7 @@ mod record;
 mod sameness;
 mod scanning;
 mod shown_unit;
+mod unit_fault;
 mod verdict;
 mod version;
 mod walking;
