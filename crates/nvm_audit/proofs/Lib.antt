@@ -17,5 +17,6 @@ pub mod Chained
 pub mod Findings
 pub mod Entered
 pub mod Scans
+pub mod Joined
 pub mod Claiming
 pub mod Judged
