@@ -16,7 +16,7 @@ use Rattle.nvm_audit.specs.RecordedPart.{RecordedPart, parts_in_unit}
 use Rattle.nvm_audit.specs.RecordView.{RecordView}
 use Rattle.nvm_audit.proofs.Standing.{below}
 
-success_told : (blocks : List Block) (deed : Deed) → IsTrue (not (is_look deed)) → IsSuccess (statuses_on blocks deed)
+pub success_told : (blocks : List Block) (deed : Deed) → IsTrue (not (is_look deed)) → IsSuccess (statuses_on blocks deed)
     → success_of deed ≡ statuses_on blocks deed
 success_told blocks (writes payload) act h = refl
 success_told blocks zeroes act h = refl

@@ -1,6 +1,5 @@
 -- What the shape of an outcome says of each of its parts.
 use Rattle.std.proofs.Common.{ℕ, zero, suc, List, [], ◌∷◌, ◌++◌, map, Option, IsTrue, Contains, ap, subst, inl, inr}
-use Rattle.std.specs.List.{AllByRecursion}
 use mathlib.Core.Option.{some, some-injective}
 use Rattle.nvm_record.specs.Lists.{IsAt}
 use Rattle.nvm_record.specs.declared.status.Statuses.{Statuses}
@@ -10,18 +9,13 @@ use Rattle.nvm_geometry.specs.Parts.{units_met}
 use Rattle.nvm_plan.specs.declared.part.Part.{Part}
 use Rattle.nvm_plan.specs.Reply.{can_have}
 use Rattle.nvm_plan.specs.Shape.{HasShapeOf}
+use Rattle.nvm_audit.proofs.EachPasses.{all_here}
 use Rattle.nvm_audit.proofs.Standing.{none_stands, contained}
 
 -- A part of an operation: in a unit that it meets, with a result that it can have.
 pub record IsPartOf (ns : Namespace) (op : Operation) (part : Part) : Type 0 where
   pub met : Contains (units_met ns op) part.unit
   pub result : IsTrue (can_have op.deed part.result)
-
-module _ {A : Type 0} where
-  all_here : (P : A → Type 0) (xs : List A) → AllByRecursion P xs → (i : ℕ) (x : A) → IsAt xs i x → P x
-  all_here P [] all i x e = absurd (none_stands i x e)
-  all_here P (y ∷ ys) all zero x e = subst P (some-injective y x e) all.0
-  all_here P (y ∷ ys) all (suc i) x e = all_here P ys all.1 i x e
 
 unit_there : (parts : List Part) (left : List ℕ) (i : ℕ) (part : Part) → IsAt parts i part
     → IsAt (map (λ p. p.unit) parts ++ left) i part.unit

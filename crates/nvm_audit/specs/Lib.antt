@@ -13,5 +13,6 @@ pub mod UnitChecks
 pub mod RecordChecks
 pub mod Verdict
 pub mod RecordedCalls
+pub mod ReplyAtPoint
 pub mod OneAct
 pub mod Inside

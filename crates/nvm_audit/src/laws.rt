@@ -1,6 +1,6 @@
 //! What holds of records by their definition alone. Each law is a call that does nothing and whose contract is the law.
 
-ghost use Rattle.std.specs.Prelude.{◌≡◌, ℕ, ◌*◌, ◌<◌, ◌≤◌, List, [], ◌∷◌, All, length, Some, None};
+ghost use Rattle.std.specs.Prelude.{◌≡◌, ◌⊎◌, ℕ, ◌*◌, ◌<◌, ◌≤◌, List, [], ◌∷◌, All, length, Some, None};
 ghost use Rattle.nvm_record.specs.Deeds.{IsAct, IsSingle, success_of};
 ghost use Rattle.nvm_record.specs.Lists.{IsAt};
 ghost use Rattle.nvm_record.specs.Medium.{zero_medium};
@@ -13,25 +13,34 @@ ghost use Rattle.nvm_plan.specs.declared.job.Job.{Job};
 ghost use Rattle.nvm_plan.specs.declared.part.PartResult.TheVariants.{Done};
 ghost use Rattle.nvm_plan.specs.Fits.{FitsNamespace};
 ghost use Rattle.nvm_plan.specs.JobPart.{ready_operation, job_part_in};
+ghost use Rattle.nvm_plan.specs.Reply.{Reply};
 ghost use Rattle.nvm_plan.specs.Shape.{HasOutcomeShape};
 ghost use Rattle.nvm_plan.specs.UnitPlace.{IsUnitPlace};
 ghost use Rattle.nvm_store.specs.declared.place.Place.{Place as UnitPlace};
 ghost use Rattle.nvm_store.specs.HistoryEntry.{HistoryEntry};
 ghost use Rattle.nvm_store.specs.PlacedRun.{RunStep, IsRunFrom};
 ghost use Rattle.nvm_store.specs.Point.{RestsOn};
+ghost use Rattle.nvm_audit.specs.declared.audit_fault.AuditFault.{AuditFault};
+ghost use Rattle.nvm_audit.specs.declared.audit_fault.AuditFault.TheVariants.{NoMemory};
 ghost use Rattle.nvm_audit.specs.declared.version.Version.{Version as FileVersion};
 ghost use Rattle.nvm_audit.specs.LawfulRecord.{IsLawfulRecord};
 ghost use Rattle.nvm_audit.specs.OneAct.{entry_alone, IsOfOneAct, HasJust};
 ghost use Rattle.nvm_audit.specs.Recordable.{most_workers, most_jobs, HoldsLimit, HoldsBody, HoldsWholeReads, IsRecordable, IsRecordableJob, IsRecordableEntry, IsRecordableDone};
+ghost use Rattle.nvm_audit.specs.RecordChecks.{HasNoFault, IsFirstFault};
 ghost use Rattle.nvm_audit.specs.RecordedCalls.{IsPlacedRunOf};
 ghost use Rattle.nvm_audit.specs.RecordedJob.{RecordedJob};
 ghost use Rattle.nvm_audit.specs.RecordedPart.{RecordedPart, parts_in_unit};
 ghost use Rattle.nvm_audit.specs.RecordView.{RecordView};
+ghost use Rattle.nvm_audit.specs.ReplyAtPoint.{AreRepliesOf};
 
 use nvm_geometry::laws::{
-    each_unit_has_one_place, parts_keep_their_kind, units_met_are_those_reached,
+    each_unit_has_one_place, parts_keep_their_kind, pieces_stand_in_line,
+    units_met_are_those_reached, whole_ranges_are_reached,
 };
-use nvm_plan::laws::{each_command_has_a_status, parts_of_jobs, ready_jobs, shapes_by_plan};
+use nvm_plan::laws::{
+    answers_of_the_step_are_replies, each_command_has_a_status, outcomes_by_plan, parts_of_jobs,
+    ready_jobs, shapes_by_plan,
+};
 use nvm_store::laws::{
     placed_runs_are_runs, placed_runs_keep_order, single_act_succeeds, there_is_a_placed_run,
 };
@@ -136,4 +145,42 @@ pub fn lawful_units_are_runs()
     there_is_a_placed_run();
     placed_runs_are_runs();
     placed_runs_keep_order();
+}
+
+/// A record that can be held is lawful exactly where nothing that is looked for in it is wrong.
+pub fn no_check_fails_for_lawful_records()
+    ensures lawful { (r : RecordView) → IsRecordable r → HasNoFault r → IsLawfulRecord r }
+    ensures passes { (r : RecordView) → IsLawfulRecord r → HasNoFault r }
+{}
+
+/// Each record that can be held is lawful or has a first fault. It hasn't both, and no two of these; and want of memory is
+/// the fault of no record.
+pub fn one_check_is_the_first_fault()
+    ensures either { (r : RecordView) → IsRecordable r
+        → IsLawfulRecord r ⊎ ((fault : AuditFault) × IsFirstFault r fault) }
+    ensures one { (r : RecordView) (fault other : AuditFault) → IsFirstFault r fault → IsFirstFault r other
+        → fault ≡ other }
+    ensures none { (r : RecordView) (fault : AuditFault) → IsLawfulRecord r → ¬ (IsFirstFault r fault) }
+    ensures memory { (r : RecordView) → ¬ (IsFirstFault r NoMemory) }
+{}
+
+/// In a lawful record no worker did more jobs than there are.
+pub fn each_worker_did_few_jobs()
+    ensures { (r : RecordView) (worker : ℕ) (work : List RecordedJob) → IsLawfulRecord r → IsAt r.done worker work
+        → length work ≤ length r.jobs }
+{}
+
+/// In a lawful record that can be held, what is recorded of a done job is its outcome: of the replies to its parts, each of
+/// them what its unit's step gives at the part's point, the statuses follow, and a Read's data is theirs joined.
+pub fn done_jobs_are_outcomes()
+    ensures { (r : RecordView) (worker k : ℕ) (work : List RecordedJob) (d : RecordedJob) → IsRecordable r
+        → IsLawfulRecord r → IsAt r.done worker work → IsAt work k d
+        → (replies : List Reply) × AreRepliesOf r d replies }
+{
+    answers_of_the_step_are_replies();
+    outcomes_by_plan();
+    parts_keep_their_kind();
+    pieces_stand_in_line();
+    ready_jobs();
+    whole_ranges_are_reached();
 }
