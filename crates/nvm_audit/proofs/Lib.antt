@@ -14,3 +14,5 @@ pub mod LawfulHeld
 pub mod InOrder
 pub mod Claiming
 pub mod Judged
+pub mod Fronts
+pub mod Endings

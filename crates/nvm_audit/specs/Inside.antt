@@ -2,3 +2,5 @@
 pub mod Same
 -- What is found of a part at its point.
 pub mod Judging
+-- The kinds of deeds.
+pub mod Kinds

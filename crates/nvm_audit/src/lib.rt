@@ -12,6 +12,7 @@ mod judging;
 pub mod laws;
 mod record;
 mod sameness;
+mod shapes;
 mod verdict;
 mod version;
 
