@@ -16,3 +16,5 @@ pub mod Claiming
 pub mod Judged
 pub mod Fronts
 pub mod Endings
+pub mod Searching
+pub mod Counting

@@ -4,3 +4,7 @@ pub mod Same
 pub mod Judging
 -- The kinds of deeds.
 pub mod Kinds
+-- What a search through checks finds.
+pub mod Search
+-- How often each job was done.
+pub mod Occurrences

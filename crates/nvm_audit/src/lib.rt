@@ -10,6 +10,7 @@ mod done_job;
 mod done_part;
 mod judging;
 pub mod laws;
+mod occurrences;
 mod record;
 mod sameness;
 mod shapes;
