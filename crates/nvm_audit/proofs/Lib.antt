@@ -35,3 +35,7 @@ pub mod Scans
 pub mod Joined
 pub mod Claiming
 pub mod Judged
+pub mod Fronts
+pub mod Endings
+pub mod Searching
+pub mod Counting
