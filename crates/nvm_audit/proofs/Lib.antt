@@ -27,3 +27,15 @@ pub mod DoneParts
 pub mod OneActHeld
 pub mod LawfulHeld
 pub mod InOrder
+pub mod Places
+pub mod Chained
+pub mod Findings
+pub mod Entered
+pub mod Scans
+pub mod Joined
+pub mod Claiming
+pub mod Judged
+pub mod Fronts
+pub mod Endings
+pub mod Searching
+pub mod Counting

@@ -1,2 +1,16 @@
 -- What `==` of records computes.
 pub mod Same
+-- What is found of a part at its point.
+pub mod Judging
+-- One unit while it is audited.
+pub mod Audited
+-- Which entries were made by parts.
+pub mod Claims
+-- The parts of a unit while they are looked at.
+pub mod Scanned
+-- The kinds of deeds.
+pub mod Kinds
+-- What a search through checks finds.
+pub mod Search
+-- How often each job was done.
+pub mod Occurrences

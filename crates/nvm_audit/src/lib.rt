@@ -6,12 +6,23 @@
 #![tactic(auto)]
 
 mod audit_fault;
+mod by_point;
+mod claims;
 mod done_job;
+mod done_part;
+mod entries;
+mod judging;
 pub mod laws;
+mod occurrences;
 mod record;
 mod sameness;
+mod scanning;
+mod shapes;
+mod shown_unit;
+mod unit_fault;
 mod verdict;
 mod version;
+mod walking;
 
 pub use audit_fault::{AuditFault, Spot};
 pub use done_job::DoneJob;

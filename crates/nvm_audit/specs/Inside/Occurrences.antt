@@ -1,0 +1,38 @@
+-- How often the jobs of a record were done.
+use Rattle.std.specs.Prelude.{◌≡◌, ℕ, ◌<◌, ◌≤◌, List, length}
+use Rattle.nvm_record.specs.Lists.{IsAt}
+use Rattle.nvm_audit.specs.declared.occurrences.Occurrence.{Occurrence}
+use Rattle.nvm_audit.specs.declared.occurrences.Occurrence.TheVariants.{Never, Once, Often}
+use Rattle.nvm_audit.specs.LawfulRecord.{times_done}
+use Rattle.nvm_audit.specs.RecordedJob.{RecordedJob}
+
+-- Some worker did this, and it is the job of this number.
+pub record IsDoneJob (done : List (List RecordedJob)) (number : ℕ) (d : RecordedJob) : Type 0 where
+  pub is : d.job ≡ number
+  pub worker : ℕ
+  pub work : List RecordedJob
+  pub place : ℕ
+  pub by : IsAt done worker work
+  pub there : IsAt work place d
+
+-- It says that the job of this number was done so often.
+abbrev pub IsOccurrence : List (List RecordedJob) → ℕ → ℕ → Occurrence → Type 0
+IsOccurrence done number times Never = times ≡ 0
+IsOccurrence done number times (Once d) = (times ≡ 1) × IsDoneJob done number d.now
+IsOccurrence done number times Often = 2 ≤ times
+
+-- It was found that the job of this number was done so often.
+pub record IsCounted (done : List (List RecordedJob)) (found : List Occurrence) (number times : ℕ) : Type 0 where
+  pub occurrence : Occurrence
+  pub its : IsAt found number occurrence
+  pub is : IsOccurrence done number times occurrence
+
+-- It was found how often each of so many jobs was done.
+pub record AreCounted (jobs : ℕ) (done : List (List RecordedJob)) (found : List Occurrence) : Type 0 where
+  pub long : length found ≡ jobs
+  pub each : (number : ℕ) → number < jobs → IsCounted done found number (times_done number done)
+
+-- Each done job is of one of so many jobs.
+abbrev pub AreOfJobs : ℕ → List (List RecordedJob) → Type 0
+AreOfJobs jobs done =
+    (worker : ℕ) (work : List RecordedJob) (place : ℕ) (d : RecordedJob) → IsAt done worker work → IsAt work place d → d.job < jobs

@@ -1,0 +1,259 @@
+ghost use Rattle.std.specs.Prelude.{◌≡◌, ◌≢◌, ◌↔◌, ◌<◌, ℕ, List, [], ◌++◌, length, map, not, None, Some, IsTrue};
+ghost use Rattle.std.specs.List.{AllByRecursion};
+ghost use Rattle.nvm_record.specs.Deeds as deeds;
+ghost use Rattle.nvm_record.specs.Step.{Deed, Operation};
+ghost use Rattle.nvm_geometry.specs.Namespace.{Namespace};
+ghost use Rattle.nvm_plan.specs.Checks.{refusal_of};
+ghost use Rattle.nvm_plan.specs.JobPart as spec;
+ghost use Rattle.nvm_plan.specs.Operation.{job_operation_of, operation_of_body};
+ghost use Rattle.nvm_plan.specs.Outcome as outcome;
+ghost use Rattle.nvm_plan.specs.Reply as reply;
+ghost use Rattle.nvm_plan.specs.Shape as shape;
+ghost use Rattle.nvm_plan.specs.Shape.{EndsAtLast, HasEnding, HasOutcomeShape, MayShow};
+ghost use Rattle.nvm_audit.specs.Inside.Kinds.{IsOfKind};
+
+use crate::done_job::DoneJob;
+use nvm_geometry::Geometry;
+use nvm_plan::laws::{parts_of_jobs, ready_jobs, shapes_by_plan};
+use nvm_plan::{Body, Job, JobUnits, Part, PartResult, Plan, job_units, plan};
+use nvm_record::{Op, Status, Statuses};
+
+/// What a job's parts do.
+#[derive(Clone, Copy, Debug, PartialEq, Eq)]
+pub(crate) enum Kind {
+    /// They change blocks.
+    Act,
+    /// The one part compares, and then changes blocks.
+    Pair,
+    /// They change nothing.
+    Look,
+}
+
+impl Kind {
+    /// Whether a part of the kind may end so.
+    fn can_have(self, ended: PartResult) -> bool
+        ensures { (deed : Deed) → IsOfKind self deed → result ≡ reply.can_have deed ended }
+    {
+        match ended {
+            PartResult::Done | PartResult::Full => self != Kind::Look,
+            PartResult::Failed => self == Kind::Pair,
+            PartResult::Looked => self == Kind::Look,
+            PartResult::NoMemory => true,
+        }
+    }
+
+    /// What is told where all parts succeeded.
+    fn success(self) -> Statuses
+        ensures { (deed : Deed) → IsOfKind self deed → result ≡ deeds.success_of deed }
+    {
+        if self == Kind::Pair {
+            Statuses::Two(Status::SUCCESSFUL_COMPLETION, Status::SUCCESSFUL_COMPLETION)
+        } else {
+            Statuses::One(Status::SUCCESSFUL_COMPLETION)
+        }
+    }
+
+    /// What is told where memory was refused to a part, or its unit's history was full.
+    fn stop(self) -> Statuses
+        ensures { (deed : Deed) → IsOfKind self deed → result ≡ reply.stop_of deed }
+    {
+        if self == Kind::Pair {
+            Statuses::Two(Status::SUCCESSFUL_COMPLETION, Status::INTERNAL_ERROR)
+        } else {
+            Statuses::One(Status::INTERNAL_ERROR)
+        }
+    }
+
+    /// What is told where memory was refused before the first part.
+    fn unstarted(self) -> Statuses
+        ensures { (deed : Deed) → IsOfKind self deed → result ≡ outcome.unstarted_of deed }
+    {
+        if self == Kind::Pair {
+            Statuses::Two(
+                Status::INTERNAL_ERROR,
+                Status::ABORTED_DUE_TO_FAILED_FUSED_COMMAND,
+            )
+        } else {
+            Statuses::One(Status::INTERNAL_ERROR)
+        }
+    }
+
+    /// Whether the job's statuses may be these where its last part ended so.
+    fn may_show(self, ended: PartResult, told: Statuses) -> bool
+        ensures { (deed : Deed) → IsOfKind self deed → IsTrue result ↔ MayShow deed ended told }
+    {
+        match ended {
+            PartResult::Done => told == self.success(),
+            PartResult::Failed => has_two(told),
+            PartResult::Looked => !has_two(told),
+            PartResult::NoMemory | PartResult::Full => told == self.stop(),
+        }
+    }
+}
+
+/// What the parts of a job do that stands for an operation.
+fn kind_of(body: &Body) -> Kind
+    ensures { (ns : Namespace) (op : Operation) → operation_of_body ns body.now ≡ Some op → IsOfKind result op.deed }
+{
+    match body {
+        Body::Single(command) => match command.op {
+            Op::Read | Op::Compare => Kind::Look,
+            _ => Kind::Act,
+        },
+        Body::Pair(_, _) => Kind::Pair,
+    }
+}
+
+/// Whether the job is a Read, where it stands for an operation.
+fn is_read(body: &Body) -> bool
+    ensures { (ns : Namespace) (op : Operation) → operation_of_body ns body.now ≡ Some op → result ≡ deeds.is_read op.deed }
+{
+    match body {
+        Body::Single(command) => command.op == Op::Read,
+        Body::Pair(_, _) => false,
+    }
+}
+
+/// Whether a job that ended so is told data, where it stands for an operation.
+fn gives_data(body: &Body, told: Statuses) -> bool
+    ensures { (ns : Namespace) (op : Operation) → operation_of_body ns body.now ≡ Some op
+        → IsTrue result ↔ reply.GivesData op.deed told }
+{
+    is_read(body) && told.is_success()
+}
+
+/// Whether these are the statuses of two commands.
+fn has_two(told: Statuses) -> bool
+    ensures two { IsTrue result ↔ shape.IsTwoStatuses told }
+    ensures one { IsTrue (not result) ↔ reply.IsOneStatus told }
+{
+    match told {
+        Statuses::One(_) => false,
+        Statuses::Two(_, _) => true,
+    }
+}
+
+/// Whether a part that ended so may have others after it.
+fn goes_on(ended: PartResult) -> bool
+    ensures { result ≡ shape.goes_on ended }
+{
+    matches!(ended, PartResult::Done | PartResult::Looked)
+}
+
+/// Whether the parts are in the first of these units, in their order. Then those are left that come after them.
+fn are_first(units: &mut JobUnits<'_>, parts: &[Part]) -> bool
+    ensures first { IsTrue result → map (λ part. part.unit) parts.now ++ units.new ≡ units.old }
+    ensures left { (left : List ℕ) → map (λ part. part.unit) parts.now ++ left ≡ units.old
+        → IsTrue result × (left ≡ units.new) }
+{
+    for part in parts {
+        match units.next() {
+            Some(unit) => {
+                if unit != part.unit {
+                    return false;
+                }
+            }
+            None => return false,
+        }
+    }
+    true
+}
+
+/// Whether each of the parts may have ended as it did.
+fn results_fit(kind: Kind, parts: &[Part]) -> bool
+    ensures { (deed : Deed) → IsOfKind kind deed
+        → IsTrue result ↔ AllByRecursion (λ part. IsTrue (reply.can_have deed part.result)) parts.now }
+{
+    for part in parts {
+        if !kind.can_have(part.result) {
+            return false;
+        }
+    }
+    true
+}
+
+/// Whether each of the parts may have others after it.
+fn all_go_on(parts: &[Part]) -> bool
+    ensures { IsTrue result ↔ AllByRecursion (λ part. IsTrue (shape.goes_on part.result)) parts.now }
+{
+    for part in parts {
+        if !goes_on(part.result) {
+            return false;
+        }
+    }
+    true
+}
+
+/// Whether the statuses are those of a job of which no part was done, where none of its checks applies.
+fn ends_without_parts(geometry: &Geometry, job: &Job, told: Statuses) -> bool
+    requires ready { refusal_of geometry.now job.now ≡ None }
+    ensures { (op : Operation) → job_operation_of geometry.now job.now ≡ Some op
+        → IsTrue result ↔ HasEnding geometry.now op [] told }
+{
+    parts_of_jobs();
+    let kind = kind_of(&job.body);
+    let mut units = job_units(geometry, job);
+    match units.next() {
+        Some(_) => told == kind.unstarted(),
+        None => told == kind.success(),
+    }
+}
+
+/// Whether the parts and the statuses are those of a job that ended with the last of these parts, where none of its checks
+/// applies.
+fn ends_at_last(geometry: &Geometry, job: &Job, parts: &[Part], told: Statuses) -> bool
+    requires ready { refusal_of geometry.now job.now ≡ None }
+    requires some { 0 < length parts.now }
+    ensures { (op : Operation) → job_operation_of geometry.now job.now ≡ Some op
+        → IsTrue result ↔ EndsAtLast geometry.now op parts.now told }
+{
+    parts_of_jobs();
+    let kind = kind_of(&job.body);
+    let before = parts.len() - 1;
+    let mut units = job_units(geometry, job);
+    if !are_first(&mut units, parts) {
+        return false;
+    }
+    if !results_fit(kind, parts) {
+        return false;
+    }
+    if !all_go_on(&parts[..before]) {
+        return false;
+    }
+    if !kind.may_show(parts[before].result, told) {
+        return false;
+    }
+    !told.is_success() || units.next().is_none()
+}
+
+/// Whether the parts and the statuses are those of a job to which no check applies.
+fn has_ending(geometry: &Geometry, job: &Job, parts: &[Part], told: Statuses) -> bool
+    requires ready { refusal_of geometry.now job.now ≡ None }
+    ensures { (op : Operation) → job_operation_of geometry.now job.now ≡ Some op
+        → IsTrue result ↔ HasEnding geometry.now op parts.now told }
+{
+    if parts.is_empty() {
+        ends_without_parts(geometry, job, told)
+    } else {
+        ends_at_last(geometry, job, parts, told)
+    }
+}
+
+/// Whether what was done of the job has the shape of its outcome. It takes no memory, and a constant number of steps for each
+/// part; those of a Dataset Management cost a walk over its ranges.
+pub(crate) fn has_shape(geometry: &Geometry, job: &Job, done: &DoneJob) -> bool
+    ensures { IsTrue result
+        ↔ HasOutcomeShape geometry.now job.now done.now.parts done.now.statuses done.now.payload }
+{
+    shapes_by_plan();
+    ready_jobs();
+    match plan(geometry, job) {
+        Plan::Refused(refusal) => {
+            done.parts.is_empty() && done.statuses == refusal && done.payload.is_none()
+        }
+        Plan::Ready => {
+            has_ending(geometry, job, &done.parts, done.statuses)
+                && done.payload.is_some() == gives_data(&job.body, done.statuses)
+        }
+    }
+}
