@@ -18,3 +18,4 @@ pub mod Fronts
 pub mod Endings
 pub mod Searching
 pub mod Counting
+pub mod OneDone

@@ -6,8 +6,10 @@
 #![tactic(auto)]
 
 mod audit_fault;
+mod counts;
 mod done_job;
 mod done_part;
+mod job_fault;
 mod judging;
 pub mod laws;
 mod occurrences;
