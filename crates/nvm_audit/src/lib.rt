@@ -8,9 +8,11 @@
 mod audit_fault;
 mod by_point;
 mod claims;
+mod counts;
 mod done_job;
 mod done_part;
 mod entries;
+mod job_fault;
 mod judging;
 pub mod laws;
 mod occurrences;
