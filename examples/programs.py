@@ -356,15 +356,15 @@ def stopped_early():
 
 
 def mounted():
-    """To a child, the file `outs/old` is a mount point, where this process may make one: a bind mount of the file on itself."""
+    """To a child, `outs/old` is a mount point, a bind mount of the file on itself, where this process may make one."""
     call, own_mounts, private, bind = ctypes.CDLL(None), 0x20000, 0x44000, 0x1000
     if call.unshare(own_mounts) == 0:
         call.mount(b"none", b"/", None, ctypes.c_ulong(private), None)
         call.mount(b"outs/old", b"outs/old", None, ctypes.c_ulong(bind), None)
 
 
-# What stands in a folder, the OUT there, what stands afterwards, and how the child is run. Where it can't write OUT, the third
-# is None. A link has what it names, and what is neither a file nor a link has nothing. The folder itself is "".
+# What stands in a folder, the OUT there, what stands afterwards, and how the child is run. Where it can't write OUT, the
+# third is None. A link has what it names, and what is neither a file nor a link has nothing. The folder itself is "".
 OUTS = [
     # The file appears whole, in place of what stood there and with its permissions.
     ({}, "new", {"new": NEW}, None),
@@ -466,7 +466,8 @@ def outs_of_nvq(run):
         if how is killed_early:
             told = {"status": -signal.SIGXFSZ}
         run.expect(["nvq", "assemble", "long.txt", f"outs/{out}"], preexec_fn=how, **told)
-        run.hold(f"outs/{out} after {how}", standing(folder), {**open_folder, **(before if after is None else after)})
+        wanted = before if after is None else after
+        run.hold(f"outs/{out} after {how}", standing(folder), {**open_folder, **wanted})
         os.chmod(folder, 0o755)
         shutil.rmtree(folder)
     for out in ("/dev/full", "/dev", "/proc/new"):

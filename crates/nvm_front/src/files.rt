@@ -79,13 +79,18 @@ fn push_chunks<R: AllocGlobal, F: Read>(
     Ok(())
 }
 
-/// Writes bytes to the file at a path, or to standard output where the path is `-`, as an [`Output`].
+/// Writes bytes to the file at a path, as an [`Output`] does, or to standard output where the path is `-`, which
+/// takes no memory.
 pub fn write<R: Files + AllocGlobal + Print>(
     rt: &R,
     path: &str,
     bytes: &[u8],
 ) -> Result<(), FileFault> {
-    let mut output = Output::new(rt, path)?;
+    if path == STANDARD {
+        io::writer(rt).write_all(bytes)?;
+        return Ok(());
+    }
+    let mut output = Output::file(rt, path)?;
     output.write_all(bytes)?;
     output.finish()
 }

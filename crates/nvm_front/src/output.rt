@@ -8,15 +8,18 @@ use std::{fs, io};
 /// So many bytes are gathered before the system is asked to write them.
 const GATHERED: usize = 65_536;
 
-/// What a program writes, piece by piece: a file or standard output. It takes the same memory however much is written.
+/// What a program writes, piece by piece: a file or standard output. It takes the same memory however much is
+/// written.
 ///
-/// A file appears whole or not at all. It is written beside its path and takes its place in [`finish`](Output::finish),
-/// so whoever opens the path before that, or after the program was killed, finds what stood there before. An output that
-/// is dropped unfinished is removed. A program that is killed leaves it behind, as `.nvm-unfinished-` and a number.
+/// A file appears whole or not at all. It is written beside its path and takes its place in
+/// [`finish`](Output::finish), so whoever opens the path before that, or after the program was killed, finds what
+/// stood there before. An output that is dropped unfinished is removed. A program that is killed leaves it behind, as
+/// `.nvm-unfinished-` and a number.
 ///
 /// What stands at the path as anything but a regular file (a device, a pipe, a socket, a link) is written as it
 /// stands and never replaced. So is a regular file that can be written but not replaced: its folder takes no other
-/// file, its owner can't be given one, or it is a mount point. Such a file may be left with a part of what it should have.
+/// file, its owner can't be given one, or it is a mount point. After a fault such a file, and standard output, may
+/// have a part of what was written.
 #[derive(Drop)]
 pub struct Output<'a, R: Files + Print> {
     writer: BufWriter<Target<'a, R>>,
@@ -52,8 +55,8 @@ impl<'a, R: Files + AllocGlobal + Print> Output<'a, R> {
 }
 
 impl<R: Files + Print> Output<'_, R> {
-    /// Writes what is still gathered. Then a file that was written beside its path takes its place, once it stands on
-    /// the disk. After a fault nothing is left of it, and what stood at the path stays as it was.
+    /// Writes what is still gathered. Then a file that was written beside its path takes its place, once it stands
+    /// on the disk. After a fault nothing is left of it, and what stood at the path stays as it was.
     pub fn finish(self) -> Result<(), FileFault> {
         let Output {
             mut writer,
@@ -115,7 +118,8 @@ impl<R: Files + Print> Write for Target<'_, R> {
     }
 }
 
-/// A file to write, beside its path where it can be. A regular file that stands there already must be one that can be written.
+/// A file to write, beside its path where it can be. A regular file that stands there must be one that can be
+/// written.
 fn opened<'a, R: Files + AllocGlobal>(
     rt: &'a R,
     path: &'a str,
