@@ -18,5 +18,7 @@ pub mod Findings
 pub mod Entered
 pub mod Scans
 pub mod Joined
+pub mod Gathers
+pub mod Known
 pub mod Claiming
 pub mod Judged

@@ -8,3 +8,5 @@ pub mod Audited
 pub mod Claims
 -- The parts of a unit while they are looked at.
 pub mod Scanned
+-- The parts that name a unit.
+pub mod Gathered
