@@ -1,19 +1,16 @@
 -- What is known of a unit of a record whose jobs have their shapes.
-use Rattle.std.proofs.Common.{◌≡◌, ◌↔◌, ℕ, ◌<◌, ◌≤◌, List, [], length, Option, Some, None, IsSome, Contains, refl, sym, ap, subst, ◌∙◌, arith}
+use Rattle.std.proofs.Common.{◌≡◌, ◌↔◌, ℕ, ◌<◌, List, [], Option, Some, None, IsSome, refl, sym, subst, ◌∙◌, arith}
 use mathlib.Core.Bool.{true≢false}
 use Rattle.nvm_record.specs.declared.status.Statuses.{Statuses}
 use Rattle.nvm_record.specs.Lists.{IsAt}
 use Rattle.nvm_record.specs.Step.{Operation}
-use Rattle.nvm_geometry.specs.Boundaries.{units_of}
 use Rattle.nvm_geometry.specs.Namespace.{Namespace}
-use Rattle.nvm_geometry.specs.Parts.{units_met, part_in}
-use Rattle.nvm_geometry.specs.Place.{IsPlaceOf}
 use Rattle.nvm_plan.specs.declared.job.Job.{Job}
 use Rattle.nvm_plan.specs.declared.part.Part.{Part}
 use Rattle.nvm_plan.specs.Checks.{refusal_of}
-use Rattle.nvm_plan.specs.JobPart.{job_part_in, ready_operation}
+use Rattle.nvm_plan.specs.JobPart.{job_part_in}
 use Rattle.nvm_plan.specs.Operation.{job_operation_of}
-use Rattle.nvm_plan.specs.Shape.{HasOutcomeShape, HasShapeOf, HasShapeOfRefusal}
+use Rattle.nvm_plan.specs.Shape.{HasOutcomeShape, HasShapeOfRefusal}
 use Rattle.nvm_plan.specs.UnitPlace.{IsUnitPlace}
 use Rattle.nvm_store.specs.declared.place.Place.{Place}
 use Rattle.nvm_store.specs.HistoryEntry.{HistoryEntry}
@@ -21,8 +18,8 @@ use Rattle.nvm_store.specs.Limit.{IsLimit}
 use Rattle.nvm_store.specs.Place.{place_at, IsCovered}
 use Rattle.nvm_audit.specs.declared.version.Version.{Version}
 use Rattle.nvm_audit.specs.declared.version.Version.TheVariants.{One, Two}
-use Rattle.nvm_audit.specs.Inside.Audited.{IsKnownEntry, IsKnownPart, IsKnownUnit}
-use Rattle.nvm_audit.specs.LawfulRecord.{HasItsShape, HaveShapes}
+use Rattle.nvm_audit.specs.Inside.Audited.{IsKnownPart, IsKnownUnit}
+use Rattle.nvm_audit.specs.LawfulRecord.{HaveShapes}
 use Rattle.nvm_audit.specs.Recordable.{HoldsLimit, IsLongAsRead, IsRecordable, IsRecordableDone, IsRecordableEntry, IsRecordableJob, IsRecordableWork}
 use Rattle.nvm_audit.specs.RecordedJob.{RecordedJob}
 use Rattle.nvm_audit.specs.RecordedPart.{RecordedPart, parts_in_unit}
@@ -110,11 +107,11 @@ module _ (one : OnePlace) (have : HasPart) (shapes : ShapesByPlan) (refused : Sh
         limit = limit_is r.version r.limit held.limit;
         few = its.few;
         entries = λ i entry stands.
-        let known = all_at (IsRecordableEntry r its.place) history its.each i entry stands in
-        record {
-          job = known.job;
-          act = known.act;
-          covered = λ place lies. same_place one r.namespace unit its.place place its.lies lies entry.operation known.covered;
-        };
+            let known = all_at (IsRecordableEntry r its.place) history its.each i entry stands in
+            record {
+              job = known.job;
+              act = known.act;
+              covered = λ place lies. same_place one r.namespace unit its.place place its.lies lies entry.operation known.covered;
+            };
         parts = λ k p stands. known_part unit history k p stands;
       }

@@ -20,5 +20,6 @@ pub mod Scans
 pub mod Joined
 pub mod Gathers
 pub mod Known
+pub mod ShownParts
 pub mod Claiming
 pub mod Judged

@@ -1,5 +1,5 @@
 -- The parts that name a unit, gathered from what the workers did.
-use Rattle.std.specs.Prelude.{ℕ, nat_eq, List, filter, map}
+use Rattle.std.specs.Prelude.{ℕ, nat_eq, List, filter}
 use Rattle.nvm_audit.specs.RecordedPart.{RecordedPart}
 
 -- those of these parts that name the unit

@@ -1,4 +1,4 @@
-use Rattle.std.proofs.Common.{◌≡◌, ◌<◌, ◌+◌, length, drop, map, rules}
+use Rattle.std.proofs.Common.{◌<◌, ◌+◌, length, drop, map, rules}
 use Rattle.nvm_audit.proofs.Gathers.{drop_map, one_worker_more}
 use Rattle.nvm_audit.specs.RecordedPart.{parts_in_unit}
 use Rattle.nvm_audit.proofs.gathering.parts_of_unit.Goals as goal

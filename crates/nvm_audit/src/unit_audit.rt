@@ -24,12 +24,18 @@ use nvm_plan::laws::{parts_of_jobs, ready_jobs, shapes_by_plan};
 use nvm_record::NoMemory;
 use std::alloc::Global;
 
-/// The first fault of what is shown of a unit, or none.
-pub(crate) fn fault_shown(alloc: Global, u: &ShownUnit<'_, '_>) -> Result<Option<AuditFault>, NoMemory>
+/// The first fault of what is shown of a unit, or none. A unit without entries and parts costs nothing.
+pub(crate) fn fault_shown(
+    alloc: Global,
+    u: &ShownUnit<'_, '_>,
+) -> Result<Option<AuditFault>, NoMemory>
     requires { IsKnownUnit (view_of_shown u.now) }
     ensures { IfOk result (λ found. MatchOption found (HasNoUnitFault (view_of_shown u.now))
         (IsFirstUnitFault (view_of_shown u.now))) }
 {
+    if u.history.is_empty() && u.parts.is_empty() {
+        return Ok(None);
+    }
     let claimed = claims(alloc, u.history, u.parts)?;
     let by_point = by_point(alloc, u.history.len(), u.parts)?;
     let mut findings = vec![in alloc; Finding::Right; u.parts.len()]?;
@@ -45,10 +51,10 @@ pub(crate) fn fault_shown(alloc: Global, u: &ShownUnit<'_, '_>) -> Result<Option
 ///
 /// Each done job has to have the shape of an outcome, which an audit has looked at before.
 pub fn unit_fault(alloc: Global, record: &Record, unit: u16) -> Result<Option<AuditFault>, NoMemory>
-    requires there { unit < length record.now.units }
-    requires shapes { HaveShapes record.now }
-    ensures { IfOk result (λ found. (history : List HistoryEntry) → IsAt record.now.units unit history → MatchOption found
-        (HasNoUnitFault (view_of_unit record.now unit history)) (IsFirstUnitFault (view_of_unit record.now unit history))) }
+    requires there { unit < length «record».now.units }
+    requires shapes { HaveShapes «record».now }
+    ensures { IfOk result (λ found. (history : List HistoryEntry) → IsAt «record».now.units unit history → MatchOption found
+        (HasNoUnitFault (view_of_unit «record».now unit history)) (IsFirstUnitFault (view_of_unit «record».now unit history))) }
 {
     let parts = parts_of_unit(alloc, &record.done, unit)?;
     fault_of_parts(alloc, record, unit, &parts)
@@ -61,11 +67,11 @@ pub(crate) fn fault_of_parts<'a>(
     unit: u16,
     parts: &Vec<DonePart<'a>>,
 ) -> Result<Option<AuditFault>, NoMemory>
-    requires there { unit < length record.now.units }
-    requires shapes { HaveShapes record.now }
-    requires parts { parts.now.items ≡ parts_in_unit unit record.now.done }
-    ensures { IfOk result (λ found. (history : List HistoryEntry) → IsAt record.now.units unit history → MatchOption found
-        (HasNoUnitFault (view_of_unit record.now unit history)) (IsFirstUnitFault (view_of_unit record.now unit history))) }
+    requires there { unit < length «record».now.units }
+    requires shapes { HaveShapes «record».now }
+    requires parts { parts.now.items ≡ parts_in_unit unit «record».now.done }
+    ensures { IfOk result (λ found. (history : List HistoryEntry) → IsAt «record».now.units unit history → MatchOption found
+        (HasNoUnitFault (view_of_unit «record».now unit history)) (IsFirstUnitFault (view_of_unit «record».now unit history))) }
 {
     known_units();
     let u = ShownUnit {

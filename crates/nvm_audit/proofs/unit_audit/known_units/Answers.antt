@@ -1,5 +1,5 @@
 use Rattle.nvm_audit.proofs.Known.{known_unit}
-use Rattle.nvm_audit.proofs.unit_fault.known_units.Goals as goal
+use Rattle.nvm_audit.proofs.unit_audit.known_units.Goals as goal
 
 pub returns : goal.returns
 returns c = λ r unit history held shaped at.

@@ -1,4 +1,0 @@
-use Rattle.nvm_audit.proofs.unit_fault.fault_of_parts.Goals as goal
-
-pub returns : goal.returns
-returns c = ?
