@@ -14,6 +14,10 @@ from model import Model
 GIVEN_FOR_MEMORY = re.compile(r'"(nvmu|nvq|unit_bench): no memory"|Err\((NoMemory|AllocError|AllocFailed \{ \.\. \})\)')
 
 
+# How a run is called that had the memory for its commands, and none for a thread.
+WITHOUT_A_THREAD = "without a thread"
+
+
 @dataclass
 class End:
     status: int
@@ -44,6 +48,10 @@ class Run:
     def has_threads(self):
         return False
 
+    def threads(self):
+        """How many threads do its commands. Where one can't be made, the program does that one's work by itself."""
+        return 1 if self.model else 0
+
     def whole(self, end):
         if end.status != self.status:
             raise ValueError(f"the status isn't {self.status}")
@@ -71,6 +79,8 @@ class Run:
         # A command that is refused a growth asks for no more, and what is outside ends the program.
         wants = self.model.wants(end.out)
         if refusals not in wants:
+            if refusals == 1 and end.said() == whole.said():
+                return WITHOUT_A_THREAD
             raise ValueError(f"{sorted(wants)} commands want memory, where {refusals} growths were refused")
         return "with 0/06"
 
@@ -106,6 +116,9 @@ class Test:
 
     def has_threads(self):
         return "::threads::" in self.name
+
+    def threads(self):
+        return 0
 
     def whole(self, end):
         if not self.is_passed(end):
