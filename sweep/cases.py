@@ -87,10 +87,23 @@ class Run:
 
 @dataclass
 class Threads(Run):
-    """A run by several workers, whose text doesn't depend on how they take turns."""
+    """A run by several workers, whose text doesn't depend on how they take turns. Which growth is that of a thread does."""
+
+    workers: int = 1
 
     def has_threads(self):
         return True
+
+    def refused(self, end, whole, refusals):
+        if end.said() == (1, "", f"{self.program}: no memory\n", {}):
+            return "no memory"
+        if end.status or end.err or end.files != self.files:
+            raise ValueError("it is another end")
+        wants = self.model.wants(end.out)
+        for threads in range(self.workers + 1):
+            if refusals - threads in wants:
+                return "with 0/06, or without a thread"
+        raise ValueError(f"{sorted(wants)} commands want memory, where {refusals} growths were refused")
 
     def is_passed(self, end):
         try:

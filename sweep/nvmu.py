@@ -209,7 +209,7 @@ def runs(folder):
     def by_workers(name, files, workers, **changed):
         paths = [kept(f"{name}-{host}", file) for host, file in enumerate(files, 1)]
         model = Model(Namespace(**changed), files)
-        return Threads(name, "nvmu", words(paths, workers=workers, **changed), model=model)
+        return Threads(name, "nvmu", words(paths, workers=workers, **changed), model=model, workers=workers)
 
     def fault(name, line, paths, **changed):
         return Run(name, "nvmu", words(paths, **changed), 1, err=f"nvmu: {line}\n")
