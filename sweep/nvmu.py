@@ -246,7 +246,7 @@ def runs(folder):
         lines("sixty commands", [mixed(1, 60, 32, 4096)], block=4096, limit=15),
         lines("sixty commands over units", [mixed(2, 60, 32)], **EIGHTS, limit=8),
         *(lines(f"by chance, {seed}", files, **options) for seed, files, options in map(by_chance, range(1, 6))),
-        by_workers("two workers", hosts_apart(4), 2, nsze=16, nabsn=3),
+        by_workers("two workers", hosts_apart(4), 2, nsze=16, nabsn=3, nawun=3),
         by_workers("four workers on one unit", hosts_apart(6), 4, nsze=24),
         by_workers("sixty-four workers", hosts_apart(3), 64, nsze=12, nabsn=7),
         by_workers("two workers and no commands", [none], 2),
