@@ -9,8 +9,8 @@ use crate::shapes::shape_fault;
 use nvm_record::NoMemory;
 use std::alloc::Global;
 
-/// What is first found wrong of the record's jobs, if anything is: one that wasn't done once, or else one of which what was done
-/// hasn't the shape of its outcome. It goes over the done jobs once, and then over the jobs twice.
+/// What is first found wrong of the record's jobs, if anything is: one that wasn't done once, or else one of which what was
+/// done hasn't the shape of its outcome. It goes over the done jobs once, and then over the jobs twice.
 pub(crate) fn job_fault(alloc: Global, r: &Record) -> Result<Option<AuditFault>, NoMemory>
     ensures { IfOk result (IsFound r.now (count_checks (length r.now.jobs) ++ shape_checks (length r.now.jobs))) }
 {

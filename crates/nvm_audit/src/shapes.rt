@@ -246,8 +246,8 @@ fn has_ending(geometry: &Geometry, job: &Job, parts: &[Part], told: Statuses) ->
     }
 }
 
-/// Whether what was done of the job has the shape of its outcome. It takes no memory, and a constant number of steps for each
-/// part; those of a Dataset Management cost a walk over its ranges.
+/// Whether what was done of the job has the shape of its outcome. It takes no memory, and a constant number of steps for
+/// each part; each part of a Dataset Management costs a walk over its ranges.
 pub(crate) fn has_shape(geometry: &Geometry, job: &Job, done: &DoneJob) -> bool
     ensures { IsTrue result
         ↔ HasOutcomeShape geometry.now job.now done.now.parts done.now.statuses done.now.payload }

@@ -38,7 +38,8 @@ pub record AreCounted (jobs : ℕ) (done : List (List RecordedJob)) (found : Lis
 -- Each done job is of one of so many jobs.
 abbrev pub AreOfJobs : ℕ → List (List RecordedJob) → Type 0
 AreOfJobs jobs done =
-    (worker : ℕ) (work : List RecordedJob) (place : ℕ) (d : RecordedJob) → IsAt done worker work → IsAt work place d → d.job < jobs
+    (worker : ℕ) (work : List RecordedJob) (place : ℕ) (d : RecordedJob) → IsAt done worker work → IsAt work place d
+    → d.job < jobs
 
 -- What was done of the job, where it was done once, has the shape of its outcome.
 abbrev pub HasShapeOnce : Namespace → Job → Occurrence → Type 0
