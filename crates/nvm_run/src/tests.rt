@@ -1,8 +1,6 @@
 //! Workers that draw numbers, and runs of LBAs 0 to 31 with blocks of 512 bytes, in 4 units of 8 LBAs each.
 mod asked;
-mod runs;
 mod threads;
-mod together;
 
 ghost use Rattle.std.specs.Prelude.{◌≡◌, ◌≢◌, [], IfOk};
 ghost use Rattle.nvm_record.specs.declared.op.Op.TheVariants.{Other};

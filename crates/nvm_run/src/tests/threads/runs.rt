@@ -1,6 +1,6 @@
 //! Runs by one worker and by many, and what stands in their records.
-use super::asked::is_as_lawful;
-use super::{Fitting, pair, single, successes};
+use super::super::asked::is_as_lawful;
+use super::super::{Fitting, pair, single, successes};
 use crate::{RunFault, run};
 use nvm_record::{Op, Payload};
 use nvm_store::Limit;
