@@ -1,0 +1,9 @@
+pub mod Fields
+pub mod Rest
+pub mod HeadReading
+pub mod CommandReading
+pub mod JobReading
+pub mod EntryReading
+pub mod DoneReading
+pub mod Reading
+pub mod RecordFile
