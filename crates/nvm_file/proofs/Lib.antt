@@ -1,0 +1,2 @@
+pub mod Geometries
+pub mod RangeData

@@ -1,6 +1,6 @@
 -- A command in a record file: its submission entry of 64 bytes, then its data. Each bit that no field names is 0, so a command
 -- has one spelling in each version. The first version is older than Dataset Management: its opcode is an unknown one there.
-use Rattle.std.specs.Prelude.{ℕ, ◌==◌, ◌%◌, List, [], ◌∷◌, ◌++◌, drop, slice_index, replicate, Bool, true, false, ◌&&◌, if◌then◌else◌, Result, Ok}
+use Rattle.std.specs.Prelude.{◌≡◌, ℕ, ◌==◌, ◌%◌, List, [], ◌∷◌, ◌++◌, drop, slice_index, replicate, Bool, true, false, ◌&&◌, if◌then◌else◌, Result, Ok}
 use Rattle.std.specs.Str.{bytes_eq}
 use Rattle.byteorder.specs.Endian.{little_number, little_bytes}
 use Rattle.nvm_record.specs.declared.command.Command.{Command}
@@ -75,19 +75,22 @@ may_stand Alone f = true
 may_stand FirstOfPair f = is_first f.fuse && is_in_profile f.op
 may_stand SecondOfPair f = is_second f.fuse && is_in_profile f.op
 
--- these 64 bytes are the entry of a command that may stand there
-abbrev pub is_entry : Version → Standing → List ℕ → Bool
-is_entry version standing entry =
-    bytes_eq entry (entry_with (fields_in version entry)) && may_stand standing (fields_in version entry)
+-- the bytes are an entry of just these fields, and a command of them may stand there
+unfoldable pub is_just : List ℕ → Standing → EntryFields → Bool
+is_just entry standing f = bytes_eq entry (entry_with f) && may_stand standing f
+
+-- What carries ranges has no LBA and no NLB.
+abbrev pub NamesOnePlace : Op → ℕ → ℕ → Type 0
+NamesOnePlace op slba nlb = carries_ranges op ≡ true → (slba ≡ 0) × (nlb ≡ 0)
 
 -- the entry of a command
 unfoldable pub submission_at : ℕ → Version → Standing → List ℕ → Result (EntryFields × List ℕ) RecordFault
 submission_at total version standing bytes = do
   entry ← bytes_at total 64 bytes
-  if is_entry version standing entry.0 then Ok (fields_in version entry.0, entry.1) else refused total bytes
+  if is_just entry.0 standing (fields_in version entry.0) then Ok (fields_in version entry.0, entry.1) else refused total bytes
 
 -- the data may follow an entry of this opcode: the context attributes of ranges are 0
-abbrev pub may_follow : Op → List ℕ → Bool
+unfoldable pub may_follow : Op → List ℕ → Bool
 may_follow op payload = if carries_ranges op then bytes_eq payload (data_of_ranges (ranges_of payload)) else true
 
 -- the command of these fields and this data

@@ -11,7 +11,7 @@ use Rattle.nvm_audit.specs.Recordable.{most_workers, most_jobs}
 use Rattle.nvm_file.specs.declared.frame.Frame.{Frame}
 use Rattle.nvm_file.specs.declared.record_fault.RecordFault.{RecordFault}
 use Rattle.nvm_file.specs.declared.record_fault.RecordFault.TheVariants as fault
-use Rattle.nvm_file.specs.Fields.{◌>>=◌, refused, number_at, number_in}
+use Rattle.nvm_file.specs.Fields.{◌>>=◌, number_at, number_in}
 
 -- `NVR`, with which each record file begins
 abbrev pub record_name : List ℕ
@@ -41,17 +41,20 @@ is_geometry ns =
     && ((ns.block_size == 512 || ns.block_size == 4096)
     && (keeps_boundary ns && nat_le (units_of ns) most_units))
 
--- The numbers of the namespace, which are judged once the last of them was read: the fault is that of the first, at offset 4.
-unfoldable pub namespace_at : ℕ → List ℕ → Result (Namespace × List ℕ) RecordFault
-namespace_at total bytes = do
+-- the numbers of the namespace, which may be any
+unfoldable pub numbers_at : ℕ → List ℕ → Result (Namespace × List ℕ) RecordFault
+numbers_at total bytes = do
   nsze ← number_at total 8 bytes
   block_size ← number_at total 4 nsze.1
   nabsn ← number_at total 2 block_size.1
   nabo ← number_at total 2 nabsn.1
   nawun ← number_at total 2 nabo.1
   nacwu ← number_at total 2 nawun.1
-  if is_geometry (namespace_of nsze.0 block_size.0 nabsn.0 nabo.0 nawun.0 nacwu.0)
-      then Ok (namespace_of nsze.0 block_size.0 nabsn.0 nabo.0 nawun.0 nacwu.0, nacwu.1) else Err (fault.BadValue 4)
+  Ok (namespace_of nsze.0 block_size.0 nabsn.0 nabo.0 nawun.0 nacwu.0, nacwu.1)
+
+-- The numbers of the namespace are judged once the last of them was read: the fault is that of the first, at offset 4.
+unfoldable pub judged : Namespace → Result Namespace RecordFault
+judged ns = if is_geometry ns then Ok ns else Err (fault.BadValue 4)
 
 -- the limit less 1, in the first version
 unfoldable pub limit_less_one_at : ℕ → List ℕ → Result (ℕ × List ℕ) RecordFault
@@ -59,33 +62,27 @@ limit_less_one_at total bytes = do
   n ← number_at total 2 bytes
   Ok (n.0 + 1, n.1)
 
--- the limit, in the second version: 1 to 4,194,304
-unfoldable pub whole_limit_at : ℕ → List ℕ → Result (ℕ × List ℕ) RecordFault
-whole_limit_at total bytes = do
-  n ← number_at total 4 bytes
-  if nat_le 1 n.0 && nat_le n.0 4194304 then Ok n else refused total bytes
+-- a limit is at most so many entries
+abbrev pub most_entries : ℕ
+most_entries = 4194304
 
 -- the limit, as the version keeps it
 abbrev pub limit_at : Version → ℕ → List ℕ → Result (ℕ × List ℕ) RecordFault
 limit_at One total bytes = limit_less_one_at total bytes
-limit_at Two total bytes = whole_limit_at total bytes
+limit_at Two total bytes = number_in total 4 1 most_entries bytes
+
+-- what the front of a file of `total` bytes says of all that follows
+abbrev pub frame_with : ℕ → Version → Namespace → ℕ → ℕ → ℕ → Frame
+frame_with total version ns limit workers jobs =
+    record { total = total; version = version; geometry = ns; limit = limit; workers = workers; jobs = jobs }
 
 -- all that stands before the jobs, of a file of `total` bytes
 unfoldable pub head_at : ℕ → List ℕ → Result (Frame × List ℕ) RecordFault
 head_at total bytes = do
   version ← version_at bytes
-  namespace ← namespace_at total version.1
-  limit ← limit_at version.0 total namespace.1
+  numbers ← numbers_at total version.1
+  namespace ← judged numbers.0
+  limit ← limit_at version.0 total numbers.1
   workers ← number_in total 2 1 most_workers limit.1
   jobs ← number_in total 4 0 most_jobs workers.1
-  Ok (
-    record {
-      total = total;
-      version = version.0;
-      geometry = namespace.0;
-      limit = limit.0;
-      workers = workers.0;
-      jobs = jobs.0;
-    },
-    jobs.1,
-  )
+  Ok (frame_with total version.0 namespace limit.0 workers.0 jobs.0, jobs.1)

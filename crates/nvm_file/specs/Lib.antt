@@ -1,6 +1,7 @@
 pub mod Fields
 pub mod Rest
 pub mod HeadReading
+pub mod Head
 pub mod CommandReading
 pub mod JobReading
 pub mod EntryReading

@@ -1,6 +1,7 @@
 //! Records of runs as files, in two versions.
 #![tactic(auto)]
 
+mod command;
 mod fields;
 mod frame;
 mod head;

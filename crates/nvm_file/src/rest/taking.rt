@@ -29,6 +29,17 @@ impl<'a> Rest<'a> {
         &self.file.as_slice()[self.from..]
     }
 
+    /// The next `count` bytes.
+    #[tactic(auto, unfolding(crate::specs::Rest::left_of))]
+    pub fn front(self, count: usize) -> &'a [u8]
+        requires { count ≤ length (left_of self) }
+        ensures bytes { result.now ≡ take count (left_of self.entry) }
+        ensures count { length result.now ≡ count }
+    {
+        let _length = self.file.len();
+        &self.file.as_slice()[self.from..self.from + count]
+    }
+
     /// What is left behind the next `count` bytes.
     #[tactic(auto, unfolding(crate::specs::Rest::left_of))]
     pub fn after(self, count: usize) -> Rest<'a>
