@@ -1,13 +1,13 @@
 //! Numbers and bytes, read from the front of what is left of a file of `total` bytes.
-ghost use Rattle.std.specs.Prelude.{◌≡◌, length};
-ghost use Rattle.nvm_file.specs.Fields.{Gives, number_at, number_in, number_below, offset};
-ghost use Rattle.nvm_file.specs.Fields as fields;
+ghost use Rattle.std.specs.Prelude.{◌≡◌, ◌<◌};
+ghost use Rattle.nvm_file.specs.Fields.{Gives, bytes_at, number_at, number_in, number_below, offset};
 ghost use Rattle.nvm_file.specs.Rest.{left_of};
 ghost use Rattle.nvm_file.specs.declared.record_fault.RecordFault.TheVariants.{Truncated as CutShort, BadValue as Refused};
 
 use crate::record_fault::RecordFault;
 use crate::rest::Rest;
 use byteorder::{ByteOrder, LittleEndian};
+use nvm_record::Payload;
 
 /// The offset in the file at which what is left begins.
 pub fn offset_of(total: usize, rest: Rest<'_>) -> u64
@@ -142,4 +142,28 @@ pub fn u32_below(total: usize, end: u32, rest: Rest<'_>) -> Result<(u32, Rest<'_
         return Err(refused(total, rest));
     }
     Ok((number, after))
+}
+
+/// A run of so many bytes, shared with the file.
+#[tactic(auto, unfolding(crate::specs::Fields::bytes_at))]
+pub fn data_of(
+    total: usize,
+    count: usize,
+    rest: Rest<'_>,
+) -> Result<(Payload, Rest<'_>), RecordFault>
+    ensures { Gives (λ x. (x.0, left_of x.1)) result (bytes_at total count (left_of rest.entry)) }
+{
+    if rest.len() < count {
+        return Err(cut_short(total, rest));
+    }
+    let payload = rest.share(count)?;
+    Ok((payload, rest.after(count)))
+}
+
+/// For how many of `count` items of at least so many bytes there is room in what is left: memory is taken for these
+/// alone, whatever the count says.
+pub fn room_for(count: usize, least_bytes: usize, rest: Rest<'_>) -> usize
+    requires { 0 < least_bytes }
+{
+    count.min(rest.len() / least_bytes)
 }

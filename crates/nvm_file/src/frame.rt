@@ -3,6 +3,7 @@ use nvm_geometry::Geometry;
 use nvm_store::Limit;
 
 /// What the front of a file says of all that follows.
+#[derive(Drop)]
 pub struct Frame {
     /// The length of the whole file, in bytes.
     pub total: usize,
