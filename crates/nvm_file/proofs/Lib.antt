@@ -1,2 +1,3 @@
 pub mod Geometries
 pub mod RangeData
+pub mod ItemLoops

@@ -1,5 +1,6 @@
 //! What the workers did, in a record file.
 ghost use Rattle.std.specs.Prelude.{◌≡◌, map, slice_get};
+ghost use Rattle.nvm_plan.specs.Operation.{operation_of_body};
 ghost use Rattle.nvm_file.specs.DoneReading as spec;
 ghost use Rattle.nvm_file.specs.DoneReading.{answer_at, answer_behind, done_at, done_of, one_status_at, part_at, parts_at, payload_at, result_of, status_at, statuses_at, two_statuses_at, work_at};
 ghost use Rattle.nvm_file.specs.Fields.{Gives, items_at, number_in};
