@@ -33,8 +33,8 @@ module _ {A : Type 0} where
   goes_on item count i front bytes x after all lt h so_far =
       let k : count - i ≡ suc (count - (i + 1)) = omega arith in
       let one : with_front front (items_at item i (count - i) bytes)
-          ≡ with_front (front ++ x ∷ []) (items_at item (i + 1) (count - (i + 1)) after) =
-          rw (k, h) (regroup front x (items_at item (i + 1) (count - (i + 1)) after)) in
+      ≡ with_front (front ++ x ∷ []) (items_at item (i + 1) (count - (i + 1)) after) =
+      rw (k, h) (regroup front x (items_at item (i + 1) (count - (i + 1)) after)) in
       sym one ∙ so_far
 
   pub ends : (item : ℕ → List ℕ → Result (A × List ℕ) RecordFault) (e : RecordFault) (count i : ℕ) (front : List A) (bytes : List ℕ)
@@ -53,5 +53,5 @@ module _ {A : Type 0} where
   is_done item count i front bytes all le so_far =
       let k : count - i ≡ 0 = omega arith in
       let one : with_front front (items_at item i (count - i) bytes) ≡ Ok (front, bytes) =
-          rw k (ap (λ (xs : List A). Ok (xs, bytes)) (append-nil front)) in
+      rw k (ap (λ (xs : List A). Ok (xs, bytes)) (append-nil front)) in
       sym so_far ∙ one

@@ -1,6 +1,6 @@
 -- A command in a record file: its submission entry of 64 bytes, then its data. Each bit that no field names is 0, so a command
 -- has one spelling in each version. The first version is older than Dataset Management: its opcode is an unknown one there.
-use Rattle.std.specs.Prelude.{◌≡◌, ℕ, ◌==◌, ◌%◌, List, [], ◌∷◌, ◌++◌, drop, slice_index, replicate, Bool, true, false, ◌&&◌, if◌then◌else◌, Result, Ok}
+use Rattle.std.specs.Prelude.{◌≡◌, ℕ, ◌==◌, ◌%◌, nat_le, List, [], ◌∷◌, ◌++◌, drop, slice_index, replicate, Bool, true, false, ◌&&◌, if◌then◌else◌, Result, Ok}
 use Rattle.std.specs.Str.{bytes_eq}
 use Rattle.byteorder.specs.Endian.{little_number, little_bytes}
 use Rattle.nvm_record.specs.declared.command.Command.{Command}
@@ -11,7 +11,7 @@ use Rattle.nvm_record.specs.declared.op.Op.{Op}
 use Rattle.nvm_record.specs.declared.op.Op.TheVariants.{Other}
 use Rattle.nvm_record.specs.Entry.{data_length}
 use Rattle.nvm_record.specs.Op.{op_of, opcode_of, deallocate_of, attributes_of, fuse_of, bits_of, carries_ranges}
-use Rattle.nvm_record.specs.Ranges.{ranges_of, data_of_ranges}
+use Rattle.nvm_record.specs.Ranges.{most_ranges, range_count, ranges_of, data_of_ranges}
 use Rattle.nvm_plan.specs.Profile.{is_in_profile}
 use Rattle.nvm_audit.specs.declared.version.Version.{Version}
 use Rattle.nvm_audit.specs.declared.version.Version.TheVariants.{One, Two}
@@ -89,9 +89,11 @@ submission_at total version standing bytes = do
   entry ← bytes_at total 64 bytes
   if is_just entry.0 standing (fields_in version entry.0) then Ok (fields_in version entry.0, entry.1) else refused total bytes
 
--- the data may follow an entry of this opcode: the context attributes of ranges are 0
+-- the data may follow an entry of this opcode: ranges are 256 at most, and their context attributes are 0
 unfoldable pub may_follow : Op → List ℕ → Bool
-may_follow op payload = if carries_ranges op then bytes_eq payload (data_of_ranges (ranges_of payload)) else true
+may_follow op payload =
+    if carries_ranges op
+    then nat_le (range_count payload) most_ranges && bytes_eq payload (data_of_ranges (ranges_of payload)) else true
 
 -- the command of these fields and this data
 abbrev pub command_with : EntryFields → List ℕ → Command

@@ -23,6 +23,7 @@ use std::alloc::Global;
 ///
 /// The first fault from the front is answered, or `NoMemory` where a growth was refused before it, or 2^63 - 1 payloads
 /// shared the bytes.
+#[tactic(auto, unfolding(crate::specs::Reading::record_at))]
 pub fn read_record(alloc: Global, bytes: &Payload) -> Result<Record, RecordFault>
     ensures { Gives (λ r. r) result (record_at bytes.now) }
 {
@@ -33,6 +34,7 @@ pub fn read_record(alloc: Global, bytes: &Payload) -> Result<Record, RecordFault
 }
 
 /// What stands behind the head.
+#[tactic(auto, unfolding(crate::specs::Reading::body_of))]
 fn body_of(alloc: Global, frame: &Frame, rest: Rest<'_>) -> Result<Record, RecordFault>
     ensures { Gives (λ r. r) result (spec.body_of frame.now (left_of rest.entry)) }
 {
