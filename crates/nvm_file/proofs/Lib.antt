@@ -2,6 +2,9 @@ pub mod Geometries
 pub mod RangeData
 pub mod ItemLoops
 pub mod Readings
+pub mod HeadsHeld
 pub mod CommandsHeld
 pub mod JobsHeld
 pub mod EntriesHeld
+pub mod DoneHeld
+pub mod RecordsHeld

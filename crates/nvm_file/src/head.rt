@@ -1,7 +1,8 @@
 //! What stands before the jobs.
-ghost use Rattle.std.specs.Prelude.{◌≡◌, IfOk};
+ghost use Rattle.std.specs.Prelude.{◌≡◌, ◌≤◌, IfOk};
 ghost use Rattle.nvm_geometry.specs.Faults.{HasNoFault};
 ghost use Rattle.nvm_store.specs.Limit.{IsLimit};
+ghost use Rattle.nvm_audit.specs.Recordable.{HoldsLimit, most_entries_of_two_bytes};
 ghost use Rattle.nvm_file.specs.Fields.{Gives, number_in};
 ghost use Rattle.nvm_file.specs.Head.{frame_by, namespace_with};
 ghost use Rattle.nvm_file.specs.HeadReading.{digit_at, head_at, judged, limit_at, limit_less_one_at, most_entries, numbers_at, version_at};
@@ -57,6 +58,7 @@ pub fn head_of(total: usize, rest: Rest<'_>) -> Result<(Head, Rest<'_>), RecordF
     ensures head { Gives (λ x. (frame_by total x.0, left_of x.1)) result (head_at total (left_of rest.entry)) }
     ensures geometry { IfOk result (λ x. HasNoFault (namespace_with x.0.numbers)) }
     ensures limit { IfOk result (λ x. IsLimit x.0.limit) }
+    ensures held { IfOk result (λ x. HoldsLimit x.0.version x.0.limit) }
 {
     let (version, rest) = version_of(rest)?;
     let (numbers, rest) = numbers_of(total, rest)?;
@@ -167,6 +169,7 @@ fn geometry_of(numbers: &Numbers) -> Result<Geometry, RecordFault>
 fn limit_of(version: Version, total: usize, rest: Rest<'_>) -> Result<(u32, Rest<'_>), RecordFault>
     ensures limit { Gives (λ x. (x.0, left_of x.1)) result (limit_at version total (left_of rest.entry)) }
     ensures sound { IfOk result (λ x. IsLimit x.0) }
+    ensures held { IfOk result (λ x. HoldsLimit version x.0) }
 {
     match version {
         Version::One => limit_less_one_of(total, rest),
@@ -179,6 +182,7 @@ fn limit_of(version: Version, total: usize, rest: Rest<'_>) -> Result<(u32, Rest
 fn limit_less_one_of(total: usize, rest: Rest<'_>) -> Result<(u32, Rest<'_>), RecordFault>
     ensures limit { Gives (λ x. (x.0, left_of x.1)) result (limit_less_one_at total (left_of rest.entry)) }
     ensures sound { IfOk result (λ x. IsLimit x.0) }
+    ensures few { IfOk result (λ x. x.0 ≤ most_entries_of_two_bytes) }
 {
     let (less_one, rest) = u16_of(total, rest)?;
     Ok((u32::from(less_one) + 1, rest))

@@ -1,5 +1,6 @@
 ghost use Rattle.std.specs.Prelude.{◌≡◌};
 ghost use Rattle.nvm_file.specs.Fields.{Gives};
+ghost use Rattle.nvm_file.specs.Frames.{IsSoundFrame};
 ghost use Rattle.nvm_file.specs.Reading as spec;
 ghost use Rattle.nvm_file.specs.Reading.{record_at};
 ghost use Rattle.nvm_file.specs.Rest.{left_of};
@@ -13,7 +14,9 @@ use crate::job::jobs_of;
 use crate::record_fault::RecordFault;
 use crate::rest::Rest;
 use nvm_audit::Record;
+use nvm_geometry::laws::each_unit_has_one_place;
 use nvm_record::Payload;
+use nvm_record::laws::opcodes_are_proper;
 use std::alloc::Global;
 
 /// Reads a record file of either version, from its front. What is read is spelled just so, each byte of it.
@@ -36,8 +39,11 @@ pub fn read_record(alloc: Global, bytes: &Payload) -> Result<Record, RecordFault
 /// What stands behind the head.
 #[tactic(auto, unfolding(crate::specs::Reading::body_of))]
 fn body_of(alloc: Global, frame: &Frame, rest: Rest<'_>) -> Result<Record, RecordFault>
+    requires { IsSoundFrame frame.now }
     ensures { Gives (λ r. r) result (spec.body_of frame.now (left_of rest.entry)) }
 {
+    opcodes_are_proper();
+    each_unit_has_one_place();
     let (jobs, rest) = jobs_of(alloc, frame, rest)?;
     let (units, rest) = units_of(alloc, frame, rest)?;
     let (done, rest) = workers_of(alloc, frame, jobs.as_slice(), rest)?;
