@@ -1,3 +1,13 @@
+pub mod Geometries
+pub mod RangeData
+pub mod ItemLoops
+pub mod Readings
+pub mod HeadsHeld
+pub mod CommandsHeld
+pub mod JobsHeld
+pub mod EntriesHeld
+pub mod DoneHeld
+pub mod RecordsHeld
 pub mod Taking
 pub mod CutRanges
 pub mod Places
