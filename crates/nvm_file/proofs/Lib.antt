@@ -14,3 +14,6 @@ pub mod Places
 pub mod Lengths
 pub mod Unknowns
 pub mod SecondVersion
+pub mod NumberBytes
+pub mod FieldSpellings
+pub mod EntrySpellings
