@@ -6,9 +6,10 @@ use Rattle.std.proofs.lemmas.List.Concat.{flat_map-cons}
 use Rattle.byteorder.specs.Endian.{little_bytes, little_number}
 use Rattle.nvm_file.specs.declared.record_fault.RecordFault.{RecordFault}
 use Rattle.nvm_file.specs.declared.record_fault.RecordFault.TheVariants.{Truncated, BadValue}
+use Rattle.nvm_file.specs.Counted.{counted}
 use Rattle.nvm_file.specs.Fields.{◌>>=◌, offset, refused, bytes_at, number_at, number_in, number_below, items_at}
 use Rattle.nvm_file.proofs.NumberBytes.{IsBytes, bytes_again}
-use Rattle.nvm_file.proofs.Readings.{bind_ok, kept, ok_is, took}
+use Rattle.nvm_file.proofs.Readings.{bind_ok, each_holds, kept, ok_is, took}
 
 -- The bytes are the piece, and then the rest.
 pub record Takes (bytes piece rest : List ℕ) : Type 0 where
@@ -85,3 +86,19 @@ module _ {A : Type 0} (spelled : A → List ℕ) (item : ℕ → List ℕ → Re
       subst (λ (y : List A × List ℕ). Takes bytes (flat_map spelled y.0) y.1) (ok_is (a.0.0 ∷ b.0.0, b.0.1) x b.2)
       (spelled_as bytes (spelled a.0.0 ++ flat_map spelled b.0.0) (flat_map spelled (a.0.0 ∷ b.0.0)) b.0.1
         (sym (flat_map-cons spelled a.0.0 b.0.0)) both)
+
+module _ {A : Type 0} where
+  -- There are as many items as were asked for.
+  pub how_many : (item : ℕ → List ℕ → Result (A × List ℕ) RecordFault) (place count : ℕ) (bytes : List ℕ) (x : List A × List ℕ)
+      → items_at item place count bytes ≡ Ok x → length x.0 ≡ count
+  how_many item place count bytes x e = (each_holds (λ _. Unit {0}) item (λ i l y h. tt) place count bytes x e).1
+
+  -- a count of four bytes, and then the items
+  pub counted_takes : (spelled : A → List ℕ) (item : ℕ → List ℕ → Result (A × List ℕ) RecordFault)
+      → ((i : ℕ) (bytes : List ℕ) (x : A × List ℕ) → IsBytes bytes → item i bytes ≡ Ok x → Takes bytes (spelled x.0) x.1)
+      → (bytes : List ℕ) (count : ℕ × List ℕ) (x : List A × List ℕ) → Takes bytes (little_bytes 4 count.0) count.1
+      → items_at item 0 count.0 count.1 ≡ Ok x → Takes bytes (counted spelled x.0) x.1
+  counted_takes spelled item takes bytes count x first e =
+      let many = how_many item 0 count.0 count.1 x e in
+      let number = spelled_as bytes (little_bytes 4 count.0) (little_bytes 4 (length x.0)) count.1 (ap (little_bytes 4) (sym many)) first in
+      and_then _ _ _ _ _ number (items_take spelled item takes 0 count.0 count.1 x first.rest_are e)
