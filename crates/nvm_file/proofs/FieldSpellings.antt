@@ -1,5 +1,5 @@
 -- Fields that were read are spelled so.
-use Rattle.std.proofs.Common.{◌≡◌, ℕ, zero, suc, ◌+◌, ◌<◌, ◌≤◌, ◌||◌, cond, ltb, List, [], ◌∷◌, ◌++◌, length, take, drop, take-append-drop, append_assoc, Result, Ok, Err, refl, sym, ap, subst, ◌∙◌, arith}
+use Rattle.std.proofs.Common.{◌≡◌, ℕ, zero, suc, ◌+◌, ◌%◌, ◌<◌, ◌≤◌, ◌||◌, cond, ltb, List, [], ◌∷◌, ◌++◌, length, take, drop, take-append-drop, append_assoc, Result, Ok, Err, refl, sym, ap, subst, ◌∙◌, arith}
 use Rattle.std.specs.List.{flat_map}
 use Rattle.std.proofs.lemmas.Bool.{ltb-false}
 use Rattle.std.proofs.lemmas.List.Concat.{flat_map-cons}
@@ -102,3 +102,14 @@ module _ {A : Type 0} where
       let many = how_many item 0 count.0 count.1 x e in
       let number = spelled_as bytes (little_bytes 4 count.0) (little_bytes 4 (length x.0)) count.1 (ap (little_bytes 4) (sym many)) first in
       and_then _ _ _ _ _ number (items_take spelled item takes 0 count.0 count.1 x first.rest_are e)
+
+one_byte : (bytes : List ℕ) → IsBytes bytes → 1 ≤ length bytes → little_number 1 bytes % 256 ≡ little_number 1 bytes
+one_byte [] are long = absurd (omega (arith, long))
+one_byte (b ∷ bs) are long = omega (arith, are.0)
+
+-- a number of one byte is that byte
+pub small_byte : (total : ℕ) (bytes : List ℕ) (x : ℕ × List ℕ) → IsBytes bytes → number_at total 1 bytes ≡ Ok x → x.0 % 256 ≡ x.0
+unfolding number_at
+small_byte total bytes x are e =
+    let g = kept (ltb (length bytes) 1) (Truncated (offset total bytes)) (little_number 1 bytes, drop 1 bytes) x e in
+    subst (λ (y : ℕ × List ℕ). y.0 % 256 ≡ y.0) g.1 (one_byte bytes are (ltb-false _ _ g.0))

@@ -17,3 +17,4 @@ pub mod SecondVersion
 pub mod NumberBytes
 pub mod FieldSpellings
 pub mod EntrySpellings
+pub mod DoneSpellings
