@@ -69,6 +69,12 @@ run_takes total n bytes x are e =
     subst (λ (y : List ℕ × List ℕ). Takes bytes y.0 y.1) g.1
     (record { parts = sym (take-append-drop n bytes); rest_are = dropped n bytes are })
 
+pub run_are : (total n : ℕ) (bytes : List ℕ) (x : List ℕ × List ℕ) → IsBytes bytes → bytes_at total n bytes ≡ Ok x → IsBytes x.0
+unfolding bytes_at
+run_are total n bytes x are e =
+    let g = kept (ltb (length bytes) n) (Truncated (offset total bytes)) (take n bytes, drop n bytes) x e in
+    subst (λ (y : List ℕ × List ℕ). IsBytes y.0) g.1 (taken n bytes are)
+
 module _ {A : Type 0} (spelled : A → List ℕ) (item : ℕ → List ℕ → Result (A × List ℕ) RecordFault)
     (takes : (i : ℕ) (bytes : List ℕ) (x : A × List ℕ) → IsBytes bytes → item i bytes ≡ Ok x → Takes bytes (spelled x.0) x.1) where
   pub items_take : (place count : ℕ) (bytes : List ℕ) (x : List A × List ℕ) → IsBytes bytes → items_at item place count bytes ≡ Ok x
@@ -85,7 +91,7 @@ module _ {A : Type 0} (spelled : A → List ℕ) (item : ℕ → List ℕ → Re
       let both = and_then bytes (spelled a.0.0) a.0.1 (flat_map spelled b.0.0) b.0.1 first others in
       subst (λ (y : List A × List ℕ). Takes bytes (flat_map spelled y.0) y.1) (ok_is (a.0.0 ∷ b.0.0, b.0.1) x b.2)
       (spelled_as bytes (spelled a.0.0 ++ flat_map spelled b.0.0) (flat_map spelled (a.0.0 ∷ b.0.0)) b.0.1
-        (sym (flat_map-cons spelled a.0.0 b.0.0)) both)
+      (sym (flat_map-cons spelled a.0.0 b.0.0)) both)
 
 module _ {A : Type 0} where
   -- There are as many items as were asked for.

@@ -18,3 +18,6 @@ pub mod NumberBytes
 pub mod FieldSpellings
 pub mod EntrySpellings
 pub mod DoneSpellings
+pub mod HeadSpellings
+pub mod CommandSpellings
+pub mod RecordSpellings

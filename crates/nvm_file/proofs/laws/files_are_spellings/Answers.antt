@@ -1,7 +1,6 @@
-use Rattle.nvm_file.proofs.DoneSpellings.{work_takes}
-use Rattle.nvm_file.proofs.EntrySpellings.{history_takes}
-use Rattle.nvm_file.proofs.FieldSpellings.{Takes, items_take}
+use Rattle.std.proofs.lemmas.List.Elements.{recursion_from_All}
+use Rattle.nvm_file.proofs.RecordSpellings.{record_takes}
 use Rattle.nvm_file.proofs.laws.files_are_spellings.Goals as goal
 
 pub returns : goal.returns
-returns c = ?
+returns c bytes r are file = record_takes bytes r (recursion_from_All _ bytes are) file
