@@ -1,6 +1,7 @@
 //! Files that were written by hand, and what is read of them.
 mod faults;
 mod worked_record;
+mod written;
 
 use std::alloc::{AllocError, Global};
 
