@@ -21,3 +21,4 @@ pub mod DoneSpellings
 pub mod HeadSpellings
 pub mod CommandSpellings
 pub mod RecordSpellings
+pub mod FieldsAgain
