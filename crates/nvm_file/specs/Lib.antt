@@ -1,3 +1,14 @@
+pub mod Fields
+pub mod Rest
+pub mod HeadReading
+pub mod Head
+pub mod Frames
+pub mod CommandReading
+pub mod JobReading
+pub mod EntryReading
+pub mod DoneReading
+pub mod Reading
+pub mod RecordFile
 pub mod Counted
 pub mod HeadSpelling
 pub mod JobSpelling

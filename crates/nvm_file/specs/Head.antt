@@ -1,0 +1,15 @@
+-- The numbers before the jobs, as the code holds them.
+use Rattle.std.specs.Prelude.{ℕ}
+use Rattle.nvm_geometry.specs.Namespace.{Namespace, namespace_of}
+use Rattle.nvm_file.specs.declared.frame.Frame.{Frame}
+use Rattle.nvm_file.specs.declared.head.Head.{Head}
+use Rattle.nvm_file.specs.declared.head.Numbers.{Numbers}
+use Rattle.nvm_file.specs.HeadReading.{frame_with}
+
+-- the namespace of these numbers
+abbrev pub namespace_with : Numbers → Namespace
+namespace_with n = namespace_of n.nsze n.block_size n.nabsn n.nabo n.nawun n.nacwu
+
+-- what the head of a file of `total` bytes says of all that follows
+abbrev pub frame_by : ℕ → Head → Frame
+frame_by total head = frame_with total head.version (namespace_with head.numbers) head.limit head.workers head.jobs

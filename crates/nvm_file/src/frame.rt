@@ -1,0 +1,20 @@
+use nvm_audit::Version;
+use nvm_geometry::Geometry;
+use nvm_store::Limit;
+
+/// What the front of a file says of all that follows.
+#[derive(Drop)]
+pub struct Frame {
+    /// The length of the whole file, in bytes.
+    pub total: usize,
+    /// The file's version.
+    pub version: Version,
+    /// The namespace.
+    pub geometry: Geometry,
+    /// The most entries that a unit's history may have.
+    pub limit: Limit,
+    /// How many workers there were.
+    pub workers: u16,
+    /// How many jobs there are.
+    pub jobs: u32,
+}

@@ -1,0 +1,79 @@
+//! Jobs of a record file.
+ghost use Rattle.std.specs.Prelude.{◌≡◌};
+ghost use Rattle.nvm_file.specs.Fields.{Gives};
+ghost use Rattle.nvm_file.specs.JobReading as spec;
+ghost use Rattle.nvm_file.specs.JobReading.{job_at, pair_at, single_at};
+ghost use Rattle.nvm_file.specs.Reading.{jobs_at};
+ghost use Rattle.nvm_file.specs.Rest.{left_of};
+
+use crate::command::command_of;
+use crate::fields::{room_for, u8_in, u16_in};
+use crate::frame::Frame;
+use crate::record_fault::RecordFault;
+use crate::rest::Rest;
+use crate::standing::Standing;
+use nvm_plan::{Body, Job, MOST_HOSTS};
+use std::alloc::Global;
+
+/// A job has so many bytes at least: its host, its kind, and an entry.
+const LEAST_BYTES: usize = 67;
+
+/// The jobs, each at the place of its number. Their data is shared with the file.
+pub fn jobs_of<'a>(
+    alloc: Global,
+    frame: &Frame,
+    from: Rest<'a>,
+) -> Result<(Vec<Job>, Rest<'a>), RecordFault>
+    ensures { Gives (λ x. (x.0.items, left_of x.1)) result (jobs_at frame.now (left_of from.entry)) }
+{
+    let room = room_for(frame.jobs as usize, LEAST_BYTES, from);
+    let mut jobs = Vec::with_capacity(alloc, room)?;
+    let mut rest = from;
+    for _ in 0..frame.jobs {
+        let (job, after) = job_of(frame, rest)?;
+        jobs.push(job)?;
+        rest = after;
+    }
+    Ok((jobs, rest))
+}
+
+/// A job: the number of its host, its kind, and its command or commands.
+#[tactic(auto, unfolding(crate::specs::JobReading::job_at))]
+fn job_of<'a>(frame: &Frame, rest: Rest<'a>) -> Result<(Job, Rest<'a>), RecordFault>
+    ensures { Gives (λ x. (x.0, left_of x.1)) result (job_at frame.now (left_of rest.entry)) }
+{
+    let (host, rest) = u16_in(frame.total, 1, MOST_HOSTS, rest)?;
+    let (kind, rest) = u8_in(frame.total, 0, 1, rest)?;
+    let (body, rest) = body_of(kind, frame, rest)?;
+    Ok((Job { host, body }, rest))
+}
+
+/// What the kind says: 0 is a command by itself, and 1 a pair.
+fn body_of<'a>(kind: u8, frame: &Frame, rest: Rest<'a>) -> Result<(Body, Rest<'a>), RecordFault>
+    ensures { Gives (λ x. (x.0, left_of x.1)) result (spec.body_at kind frame.now (left_of rest.entry)) }
+{
+    if kind == 0 {
+        single_of(frame, rest)
+    } else {
+        pair_of(frame, rest)
+    }
+}
+
+/// A command by itself.
+#[tactic(auto, unfolding(crate::specs::JobReading::single_at))]
+fn single_of<'a>(frame: &Frame, rest: Rest<'a>) -> Result<(Body, Rest<'a>), RecordFault>
+    ensures { Gives (λ x. (x.0, left_of x.1)) result (single_at frame.now (left_of rest.entry)) }
+{
+    let (command, rest) = command_of(frame, Standing::Alone, rest)?;
+    Ok((Body::Single(command), rest))
+}
+
+/// The two commands of a fused pair.
+#[tactic(auto, unfolding(crate::specs::JobReading::pair_at))]
+fn pair_of<'a>(frame: &Frame, rest: Rest<'a>) -> Result<(Body, Rest<'a>), RecordFault>
+    ensures { Gives (λ x. (x.0, left_of x.1)) result (pair_at frame.now (left_of rest.entry)) }
+{
+    let (first, rest) = command_of(frame, Standing::FirstOfPair, rest)?;
+    let (second, rest) = command_of(frame, Standing::SecondOfPair, rest)?;
+    Ok((Body::Pair(first, second), rest))
+}

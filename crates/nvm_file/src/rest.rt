@@ -1,0 +1,13 @@
+ghost use Rattle.std.specs.Prelude.{◌≤◌, length};
+
+use nvm_record::Payload;
+
+mod taking;
+
+/// What is left of a file to read: its bytes from one place to its end, borrowed.
+#[derive(Clone, Copy)]
+pub struct Rest<'a> {
+    file: &'a Payload,
+    from: usize,
+    ghost within: { from ≤ length file.now },
+}

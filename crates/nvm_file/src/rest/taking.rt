@@ -1,0 +1,65 @@
+ghost use Rattle.std.specs.Prelude.{◌≡◌, ◌≤◌, IfOk, drop, length, take};
+ghost use Rattle.nvm_file.specs.Rest.{left_of};
+
+use super::Rest;
+use nvm_record::{NoMemory, Payload};
+
+impl<'a> Rest<'a> {
+    /// The whole file.
+    #[tactic(auto, unfolding(crate::specs::Rest::left_of))]
+    pub fn whole(file: &'a Payload) -> Rest<'a>
+        ensures { left_of result ≡ file.now }
+    {
+        Rest { file, from: 0 }
+    }
+
+    /// How many bytes are left.
+    #[tactic(auto, unfolding(crate::specs::Rest::left_of))]
+    pub fn len(self) -> usize
+        ensures { result ≡ length (left_of self.entry) }
+    {
+        self.file.len() - self.from
+    }
+
+    /// The bytes that are left.
+    #[tactic(auto, unfolding(crate::specs::Rest::left_of))]
+    pub fn as_slice(self) -> &'a [u8]
+        ensures { result.now ≡ left_of self.entry }
+    {
+        &self.file.as_slice()[self.from..]
+    }
+
+    /// The next `count` bytes.
+    #[tactic(auto, unfolding(crate::specs::Rest::left_of))]
+    pub fn front(self, count: usize) -> &'a [u8]
+        requires { count ≤ length (left_of self) }
+        ensures bytes { result.now ≡ take count (left_of self.entry) }
+        ensures count { length result.now ≡ count }
+    {
+        let _length = self.file.len();
+        &self.file.as_slice()[self.from..self.from + count]
+    }
+
+    /// What is left behind the next `count` bytes.
+    #[tactic(auto, unfolding(crate::specs::Rest::left_of))]
+    pub fn after(self, count: usize) -> Rest<'a>
+        requires { count ≤ length (left_of self) }
+        ensures { left_of result ≡ drop count (left_of self.entry) }
+    {
+        let _length = self.file.len();
+        Rest {
+            file: self.file,
+            from: self.from + count,
+        }
+    }
+
+    /// The next `count` bytes, shared.
+    #[tactic(auto, unfolding(crate::specs::Rest::left_of))]
+    pub fn share(self, count: usize) -> Result<Payload, NoMemory>
+        requires { count ≤ length (left_of self) }
+        ensures { IfOk result (λ p. p ≡ take count (left_of self.entry)) }
+    {
+        let _length = self.file.len();
+        self.file.part(self.from, self.from + count)
+    }
+}
