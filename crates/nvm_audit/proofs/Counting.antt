@@ -1,26 +1,25 @@
 -- Counting how often jobs were done, one done job after the other.
-use Rattle.std.proofs.Common.{◌≡◌, ℕ, zero, suc, ◌+◌, ◌-◌, ◌<◌, ◌≤◌, nat_eq, List, [], ◌∷◌, ◌++◌, Bool, true, false, length, map, take, get_or, replicate, refl, sym, ap, subst, ◌∙◌, arith}
+use Rattle.std.proofs.Common.{◌≡◌, ℕ, zero, suc, ◌+◌, ◌-◌, ◌<◌, nat_eq, List, [], ◌∷◌, ◌++◌, Bool, true, false, length, map, take, get_or, replicate, refl, sym, ap, subst, ◌∙◌, arith}
 use Rattle.std.proofs.Math.ListN.{set}
 use Rattle.std.proofs.lemmas.Bool.{eqb-true, eqb-false}
 use Rattle.std.proofs.lemmas.List.{length-replicate, take_all}
-use Rattle.std.proofs.lemmas.List.Sums.{count_by_more_no, count_by_more_yes, sum_by_more, sum_by-cons}
-use Rattle.std.specs.List.{count_by, sum_by}
+use Rattle.std.proofs.lemmas.List.Sums.{count_by_more_no, count_by_more_yes, sum_by_more}
+use Rattle.std.specs.List.{count_by}
 use mathlib.Core.Option.{some, some-injective}
 use Rattle.nvm_record.specs.Lists.{IsAt}
 use Rattle.nvm_audit.specs.declared.occurrences.Occurrence.{Occurrence}
-use Rattle.nvm_audit.specs.declared.occurrences.Occurrence.TheVariants.{Never, Once, Often}
-use Rattle.nvm_audit.specs.Inside.Occurrences.{IsDoneJob, IsOccurrence, IsCounted, AreCounted}
+use Rattle.nvm_audit.specs.Inside.Occurrences.{IsOccurrence, IsCounted, AreCounted}
 use Rattle.nvm_audit.specs.LawfulRecord.{times_done}
 use Rattle.nvm_audit.specs.RecordedJob.{RecordedJob}
 use Rattle.nvm_audit.proofs.Standing.{none_stands, below, read_there, read_is}
 
 module _ {A : Type 0} where
-  at_set_same : (xs : List A) (i : ℕ) (x : A) → i < length xs → IsAt (set xs i x) i x
+  pub at_set_same : (xs : List A) (i : ℕ) (x : A) → i < length xs → IsAt (set xs i x) i x
   at_set_same [] i x lt = absurd (omega arith)
   at_set_same (y ∷ ys) zero x lt = refl
   at_set_same (y ∷ ys) (suc i) x lt = at_set_same ys i x (omega arith)
 
-  at_set_other : (xs : List A) (i j : ℕ) (x y : A) → (j ≡ i → ⊥) → IsAt xs j y → IsAt (set xs i x) j y
+  pub at_set_other : (xs : List A) (i j : ℕ) (x y : A) → (j ≡ i → ⊥) → IsAt xs j y → IsAt (set xs i x) j y
   at_set_other [] i j x y off at = at
   at_set_other (z ∷ zs) zero zero x y off at = absurd (off refl)
   at_set_other (z ∷ zs) zero (suc j) x y off at = at

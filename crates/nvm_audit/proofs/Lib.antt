@@ -39,3 +39,4 @@ pub mod Fronts
 pub mod Endings
 pub mod Searching
 pub mod Counting
+pub mod Groups

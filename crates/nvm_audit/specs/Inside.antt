@@ -14,3 +14,5 @@ pub mod Kinds
 pub mod Search
 -- How often each job was done.
 pub mod Occurrences
+-- The parts of all units, by unit.
+pub mod Grouped

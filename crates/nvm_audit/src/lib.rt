@@ -11,6 +11,7 @@ mod claims;
 mod done_job;
 mod done_part;
 mod entries;
+mod grouping;
 mod judging;
 pub mod laws;
 mod occurrences;
