@@ -34,8 +34,8 @@ no_claims history claimed is =
     record {
       whole = ap length is ∙ length-replicate (length history) false;
       each = λ i entry made at mark.
-      let none = at_replicate (length history) false i made (subst (λ (bs : List Bool). IsAt bs i made) is mark) in
-      (λ t. absurd (true≢false (sym t ∙ none)), λ h. absurd (none_claimed i entry h));
+          let none = at_replicate (length history) false i made (subst (λ (bs : List Bool). IsAt bs i made) is mark) in
+          (λ t. absurd (true≢false (sym t ∙ none)), λ h. absurd (none_claimed i entry h));
     }
 
 by_last : (history : List HistoryEntry) (parts : List RecordedPart) (p : RecordedPart) (i : ℕ) (entry : HistoryEntry)
@@ -56,21 +56,27 @@ claims_one history parts p claimed old made =
     record {
       whole = length-set claimed p.part.point true ∙ old.whole;
       each = λ i entry mark at marked.
-      elim (at_set claimed p.part.point true i mark marked) [
-        | inl here ↦ (λ t.
-          (length parts, p, at_end parts p,
-          subst (λ (n : ℕ). MadeEntry n entry p) (sym here.0)
-          (subst (λ (e : HistoryEntry). MadeEntry p.part.point e p)
-          (one_there history p.part.point made.0 entry made.1 (subst (λ (n : ℕ). IsAt history n entry) here.0 at)) made.2)),
-          λ h. here.1)
-        | inr there ↦
-          let tells = old.each i entry mark at there.1 in
-          (λ t. still parts p i entry (tells.0 t),
-          λ h. elim (by_last history parts p i entry h) [
-            | inl before ↦ tells.1 before
-            | inr last ↦ absurd (there.0 (sym last.point))
-          ])
-      ];
+          elim (at_set claimed p.part.point true i mark marked) [
+            | inl here ↦ (
+              λ t. (
+                length parts,
+                p,
+                at_end parts p,
+                subst (λ (n : ℕ). MadeEntry n entry p) (sym here.0)
+                    (subst (λ (e : HistoryEntry). MadeEntry p.part.point e p)
+                    (one_there history p.part.point made.0 entry made.1 (subst (λ (n : ℕ). IsAt history n entry) here.0 at)) made.2),
+              ),
+              λ h. here.1,
+            )
+            | inr there ↦
+                let tells = old.each i entry mark at there.1 in (
+                  λ t. still parts p i entry (tells.0 t),
+                  λ h. elim (by_last history parts p i entry h) [
+                    | inl before ↦ tells.1 before
+                    | inr last ↦ absurd (there.0 (sym last.point))
+                  ],
+                )
+          ];
     }
 
 -- A part that made none claims nothing.
@@ -80,11 +86,15 @@ claims_none history parts p claimed old none =
     record {
       whole = old.whole;
       each = λ i entry mark at marked.
-      let tells = old.each i entry mark at marked in
-      (λ t. still parts p i entry (tells.0 t),
-      λ h. elim (by_last history parts p i entry h) [
-        | inl before ↦ tells.1 before
-        | inr last ↦ absurd (none (entry, subst (λ (n : ℕ). IsAt history n entry) (sym last.point) at,
-          subst (λ (n : ℕ). MadeEntry n entry p) (sym last.point) last))
-      ]);
+          let tells = old.each i entry mark at marked in (
+            λ t. still parts p i entry (tells.0 t),
+            λ h. elim (by_last history parts p i entry h) [
+              | inl before ↦ tells.1 before
+              | inr last ↦ absurd (none (
+                entry,
+                subst (λ (n : ℕ). IsAt history n entry) (sym last.point) at,
+                subst (λ (n : ℕ). MadeEntry n entry p) (sym last.point) last,
+              ))
+            ],
+          );
     }

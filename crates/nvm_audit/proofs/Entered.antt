@@ -1,38 +1,34 @@
 -- The entry at a place of a unit's history, and what is left behind it.
-use Rattle.std.proofs.Common.{◌≡◌, ◌⊎◌, ◌↔◌, ℕ, suc, ◌+◌, ◌<◌, ◌≤◌, List, [], ◌∷◌, ◌++◌, length, drop, get_or, Bool, false, Some, IsTrue, Result, Ok, Err, OnOk, refl, sym, ap, subst, ◌∙◌, arith, inl, inr}
+use Rattle.std.proofs.Common.{◌≡◌, ◌↔◌, ℕ, ◌+◌, List, [], ◌∷◌, ◌++◌, length, drop, Bool, Some, IsTrue, refl, ap, subst, ◌∙◌, arith, inl, inr}
 use Rattle.std.proofs.lemmas.List.{drop_more, drop_all}
 use Rattle.std.specs.List.{AllByRecursion}
 use Rattle.nvm_record.specs.Lists.{IsAt}
 use Rattle.nvm_record.specs.Status.{IsSuccess}
-use Rattle.nvm_record.specs.Step.{HasRangesWithin, Operation, statuses_of}
+use Rattle.nvm_record.specs.Step.{statuses_of}
 use Rattle.nvm_plan.specs.declared.job.Job.{Job}
 use Rattle.nvm_plan.specs.JobPart.{job_part_in}
-use Rattle.nvm_plan.specs.UnitPlace.{IsUnitPlace}
-use Rattle.nvm_store.specs.declared.place.Place.{Place}
 use Rattle.nvm_store.specs.HistoryEntry.{HistoryEntry}
-use Rattle.nvm_store.specs.Place.{IsCovered}
 use Rattle.nvm_store.specs.Point.{point}
 use Rattle.nvm_audit.specs.declared.audit_fault.AuditFault.{AuditFault}
 use Rattle.nvm_audit.specs.declared.audit_fault.AuditFault.TheVariants.{EntryUnclaimed, EntryWrong}
 use Rattle.nvm_audit.specs.FirstFailed.{IsFirstFailed}
-use Rattle.nvm_audit.specs.Inside.Audited.{Leads, IsFirstAmong, IsKnownUnit, checks_of_entry}
+use Rattle.nvm_audit.specs.Inside.Audited.{Leads, IsFirstAmong, checks_of_entry}
 use Rattle.nvm_audit.specs.LawfulUnit.{IsClaimed}
-use Rattle.nvm_audit.specs.UnitChecks.{UnitCheck, entry_right, entry_claimed, IsEntryRight, PassesInUnit, entry_checks, spot, fault_in}
+use Rattle.nvm_audit.specs.UnitChecks.{UnitCheck, entry_right, entry_claimed, IsEntryRight, PassesInUnit, entry_checks, spot}
 use Rattle.nvm_audit.specs.UnitView.{UnitView}
-use Rattle.nvm_audit.proofs.Places.{stands_read}
 use Rattle.nvm_audit.proofs.Standing.{below, one_there, read_is}
-use mathlib.Core.Bool.{true≢false}
 
 -- What was found of the entry by its job is what is asked of it.
 pub right_by : (u : UnitView) (place : ℕ) (entry : HistoryEntry) (job : Job) (right : Bool) → IsAt u.jobs entry.job job
     → IsTrue right ↔ ((job_part_in u.namespace job u.unit ≡ Some entry.operation)
     × IsSuccess (statuses_of entry.operation (point u.namespace.block_size u.history place)))
     → IsTrue right ↔ IsEntryRight u place entry
-right_by u place entry job right its tells =
-    (λ t. let h = tells.0 t in record { part = record { job = job; its = its; part = h.0 }; success = h.1 },
-    λ r.
-    let same = one_there u.jobs entry.job r.part.job job r.part.its its in
-    tells.1 (subst (λ (j : Job). job_part_in u.namespace j u.unit ≡ Some entry.operation) same r.part.part, r.success))
+right_by u place entry job right its tells = (
+  λ t. let h = tells.0 t in record { part = record { job = job; its = its; part = h.0 }; success = h.1 },
+  λ r.
+      let same = one_there u.jobs entry.job r.part.job job r.part.its its in
+      tells.1 (subst (λ (j : Job). job_part_in u.namespace j u.unit ≡ Some entry.operation) same r.part.part, r.success),
+)
 
 pub wrong_entry : (u : UnitView) (place : ℕ) (entry : HistoryEntry) (number : ℕ) → number ≡ entry.job → ¬ (IsEntryRight u place entry)
     → IsFirstAmong u (checks_of_entry place entry) (EntryWrong number (spot u.unit place))

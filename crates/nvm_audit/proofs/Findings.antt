@@ -1,14 +1,14 @@
 -- What is found of a part on the blocks at its point, as what the unit's checks ask.
-use Rattle.std.proofs.Common.{◌≡◌, ◌≢◌, ◌⊎◌, ℕ, ◌+◌, ◌<◌, ◌≤◌, List, length, set, get_or, if◌then◌else◌, Bool, true, false, Option, Some, None, IsSome, IsTrue, refl, sym, ap, subst, ◌∙◌, arith, inl, inr, length-set}
+use Rattle.std.proofs.Common.{◌≡◌, ◌≢◌, ℕ, ◌+◌, ◌<◌, ◌≤◌, List, length, set, get_or, Option, Some, None, IsSome, refl, sym, ap, subst, ◌∙◌, arith, inl, inr, length-set}
 use Rattle.std.proofs.lemmas.Bool.{cases_lt}
 use mathlib.Core.Bool.{true≢false}
 use Rattle.nvm_record.specs.declared.block.Block.{Block}
 use Rattle.nvm_record.specs.Deeds.{FailsOn}
 use Rattle.nvm_record.specs.Lists.{IsAt}
 use Rattle.nvm_record.specs.Medium.{Medium}
-use Rattle.nvm_record.specs.Step.{Deed, Operation, writes, zeroes, uncorrectable, reads, compares, pairs, deallocates, range_of, data_on, data_of}
+use Rattle.nvm_record.specs.Step.{Deed, Operation, writes, zeroes, uncorrectable, reads, compares, pairs, deallocates, range_of, data_on}
 use Rattle.nvm_geometry.specs.Namespace.{Namespace}
-use Rattle.nvm_geometry.specs.Parts.{part_in, meets}
+use Rattle.nvm_geometry.specs.Parts.{part_in}
 use Rattle.nvm_plan.specs.declared.job.Job.{Job}
 use Rattle.nvm_plan.specs.declared.part.PartResult.{PartResult}
 use Rattle.nvm_plan.specs.declared.part.PartResult.TheVariants.{Done, Failed, Looked, NoMemory, Full}
@@ -18,7 +18,7 @@ use Rattle.nvm_store.specs.HistoryEntry.{HistoryEntry}
 use Rattle.nvm_store.specs.Point.{point}
 use Rattle.nvm_audit.specs.declared.judging.Finding.{Finding}
 use Rattle.nvm_audit.specs.declared.judging.Finding.TheVariants.{Right, StatusWrong, DataWrong}
-use Rattle.nvm_audit.specs.Inside.Audited.{IsKnownUnit, IsJudged, EndedRight, AreJudgedBelow, IsJudgedDownTo, IsLastAt, AreByPoint}
+use Rattle.nvm_audit.specs.Inside.Audited.{IsKnownUnit, IsJudged, AreJudgedBelow, IsJudgedDownTo, IsLastAt, AreByPoint}
 use Rattle.nvm_audit.specs.Inside.Judging.{EndsRight, IsFound}
 use Rattle.nvm_audit.specs.Recordable.{IsLongAsRead}
 use Rattle.nvm_audit.specs.RecordedPart.{RecordedPart}
@@ -42,12 +42,14 @@ module _ (size limit : ℕ) (history : List HistoryEntry) (op : Operation) (p : 
   rests : p.part.point ≤ length history → (result : PartResult) → result ≢ Done
       → EndsRight limit op (point size history p.part.point) p result → HasRightStatus size limit history op p result
   rests within Done other h = absurd (other refl)
-  rests within Failed other h =
-      (h.0, record {
-        within = within;
-        statuses = h.1;
-        payload = no_data (range_of op (point size history p.part.point)) op.deed h.0;
-      })
+  rests within Failed other h = (
+    h.0,
+    record {
+      within = within;
+      statuses = h.1;
+      payload = no_data (range_of op (point size history p.part.point)) op.deed h.0;
+    },
+  )
   rests within Looked other h = record { within = within; statuses = h; payload = refl }
   rests within NoMemory other h = h
   rests within Full other h = h
@@ -101,10 +103,11 @@ module _ (u : UnitView) (p : RecordedPart) (job : Job) (op : Operation) (its : I
       (HasRightData u.namespace op (point u.namespace.block_size u.history p.part.point) p)
       → IsJudged u p f
   judged_by Right h = (λ other. gives_status other h.0, gives_data h.1)
-  judged_by StatusWrong h =
-      (λ done. h (done_ends u.namespace.block_size u.limit u.history (part_in u.namespace op p.part.unit) p
-      (point u.namespace.block_size u.history p.part.point) p.part.result done),
-      λ s. h (needs_status s))
+  judged_by StatusWrong h = (
+    λ done. h (done_ends u.namespace.block_size u.limit u.history (part_in u.namespace op p.part.unit) p
+        (point u.namespace.block_size u.history p.part.point) p.part.result done),
+    λ s. h (needs_status s),
+  )
   judged_by DataWrong h = (λ other. gives_status other h.0, λ d. h.1 (needs_data d))
 
 -- A job that has a part does an operation.
@@ -168,8 +171,8 @@ judging_goes_on u n at k next findings f is old one last =
       there = last.there;
       before = λ j p g stands low marked. elim (at_set findings k f j g marked) [
         | inl here ↦
-          let same = old.there k p is (subst (λ (i : ℕ). IsAt u.parts i p) here.0 stands) in
-          absurd (omega (arith, low, same))
+            let same = old.there k p is (subst (λ (i : ℕ). IsAt u.parts i p) here.0 stands) in
+            absurd (omega (arith, low, same))
         | inr there ↦ old.before j p g stands low there.1
       ];
       done = λ j p g from stands here marked. elim (at_set findings k f j g marked) [

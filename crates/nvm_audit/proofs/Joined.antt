@@ -1,5 +1,5 @@
 -- The entries and the parts of a unit together.
-use Rattle.std.proofs.Common.{[], ◌++◌, Option, Some, None, MatchOption}
+use Rattle.std.proofs.Common.{[], Option, Some, None, MatchOption}
 use Rattle.std.specs.List.{AllByRecursion}
 use Rattle.nvm_audit.specs.declared.audit_fault.AuditFault.{AuditFault}
 use Rattle.nvm_audit.specs.Inside.Audited.{IsFirstAmong}

@@ -33,6 +33,9 @@ pub mod Findings
 pub mod Entered
 pub mod Scans
 pub mod Joined
+pub mod Gathers
+pub mod Known
+pub mod ShownParts
 pub mod Claiming
 pub mod Judged
 pub mod Fronts

@@ -1,10 +1,10 @@
 -- The parts of a unit looked at in their order.
-use Rattle.std.proofs.Common.{◌≡◌, ◌≢◌, ◌⊎◌, ◌↔◌, ℕ, zero, suc, ◌+◌, ◌<◌, ◌≤◌, List, [], ◌∷◌, ◌++◌, length, take, drop, set, replicate, get_or, true, false, not, Option, Some, None, IsTrue, refl, sym, ap, subst, ◌∙◌, arith, inl, inr, length-set}
+use Rattle.std.proofs.Common.{◌≡◌, ◌≢◌, ◌⊎◌, ℕ, zero, suc, ◌+◌, ◌<◌, ◌≤◌, List, [], ◌∷◌, ◌++◌, length, take, drop, set, replicate, get_or, Option, Some, None, refl, sym, ap, subst, ◌∙◌, arith, inl, inr, length-set}
 use Rattle.std.proofs.lemmas.List.{drop_more, drop_all, length-replicate}
 use Rattle.std.specs.List.{AllByRecursion}
 use mathlib.Core.Bool.{true≢false}
 use Rattle.nvm_record.specs.declared.block.Block.{Block}
-use Rattle.nvm_record.specs.Deeds.{is_look, IsAct, success_of}
+use Rattle.nvm_record.specs.Deeds.{IsAct, success_of}
 use Rattle.nvm_record.specs.Lists.{IsAt}
 use Rattle.nvm_record.specs.Medium.{Medium}
 use Rattle.nvm_record.specs.Status.{IsSuccess}
@@ -18,22 +18,18 @@ use Rattle.nvm_store.specs.HistoryEntry.{HistoryEntry}
 use Rattle.nvm_store.specs.Point.{point}
 use Rattle.nvm_audit.specs.declared.audit_fault.AuditFault.{AuditFault}
 use Rattle.nvm_audit.specs.declared.audit_fault.AuditFault.TheVariants.{PointPast, PointBack, StatusWrong, DataWrong}
-use Rattle.nvm_audit.specs.declared.judging.Finding.{Finding}
-use Rattle.nvm_audit.specs.declared.judging.Finding.TheVariants.{Right, StatusWrong as StatusFound, DataWrong as DataFound}
-use Rattle.nvm_audit.specs.FirstFailed.{IsFirstFailed}
-use Rattle.nvm_audit.specs.Inside.Audited.{Leads, IsFirstAmong, IsKnownUnit, IsJudged, EndedRight}
+use Rattle.nvm_audit.specs.Inside.Audited.{Leads, IsFirstAmong, IsKnownUnit, EndedRight}
 use Rattle.nvm_audit.specs.Inside.Scanned.{IsLeastOf, IsScannedTo, checks_of_part}
-use Rattle.nvm_audit.specs.LawfulUnit.{IsClaimed, HasMadeEntry, MadeEntry}
 use Rattle.nvm_audit.specs.PointOrder.{least_after, IsNotBefore}
 use Rattle.nvm_audit.specs.Recordable.{most_workers}
 use Rattle.nvm_audit.specs.RecordedPart.{RecordedPart}
 use Rattle.nvm_audit.specs.Resting.{HasRightStatus}
-use Rattle.nvm_audit.specs.UnitChecks.{UnitCheck, point_there, point_on, status_right, payload_right, HasItsPoint, HasItsStatus, HasItsData, IsEntryRight, PassesInUnit, entry_checks, part_checks, spot, fault_in}
+use Rattle.nvm_audit.specs.UnitChecks.{point_there, point_on, status_right, payload_right, HasItsPoint, HasItsStatus, HasItsData, IsEntryRight, PassesInUnit, entry_checks, part_checks, spot}
 use Rattle.nvm_audit.specs.UnitView.{UnitView}
 use Rattle.nvm_audit.proofs.Entered.{first_of_front, leads_all, leads_over}
 use Rattle.nvm_audit.proofs.Judged.{part_of_whole}
-use Rattle.nvm_audit.proofs.Places.{at_left, at_end, at_push, at_set, at_replicate, taken, get_or_there}
-use Rattle.nvm_audit.proofs.Standing.{none_stands, below, one_there, read_there, read_is}
+use Rattle.nvm_audit.proofs.Places.{at_left, at_end, at_push, at_set, at_replicate, taken}
+use Rattle.nvm_audit.proofs.Standing.{none_stands, read_there, read_is}
 
 module _ {A : Type 0} (P : A → Type 0) where
   pub all_there : (xs : List A) → ((k : ℕ) (x : A) → IsAt xs k x → P x) → AllByRecursion P xs
@@ -161,11 +157,11 @@ scan_begins u least is =
     record {
       workers = ap length is ∙ length-replicate {A = ℕ} 64 0;
       each = λ worker n at.
-      let zero : n ≡ 0 = at_replicate 64 0 worker n (subst (λ (xs : List ℕ). IsAt xs worker n) is at) in
-      record {
-        above = λ k e stands same. absurd (none_stands k e stands);
-        one = λ some. absurd (omega (arith, some, zero));
-      };
+          let zero : n ≡ 0 = at_replicate 64 0 worker n (subst (λ (xs : List ℕ). IsAt xs worker n) is at) in
+          record {
+            above = λ k e stands same. absurd (none_stands k e stands);
+            one = λ some. absurd (omega (arith, some, zero));
+          };
       leads = leads_all (PassesInUnit u) (part_checks [] u.parts);
     }
 
@@ -182,30 +178,30 @@ least_of_more : (before : List RecordedPart) (p : RecordedPart) (least : List �
     → (worker n : ℕ) → IsAt (set least p.worker (least_after p.part p.part.result)) worker n → IsLeastOf (before ++ p ∷ []) worker n
 least_of_more before p least old on worker n at = elim (at_set least p.worker (least_after p.part p.part.result) worker n at) [
   | inl here ↦
-    let mine = here.0 in
-    let value = here.1 in
-    let least_is = no_less p p.part.result in
-    record {
-      above = λ k e stands same. elim (at_push before p k e stands) [
-        | inl first ↦
-          let low = there_all (λ earlier. IsNotBefore earlier p) before on k e first (sym mine ∙ sym same) in
-          omega (arith, low, least_is, value)
-        | inr last ↦
-          let also : least_after e.part e.part.result ≡ least_after p.part p.part.result =
-          ap (λ (q : RecordedPart). least_after q.part q.part.result) last.1 in
-          omega (arith, also, value)
-      ];
-      one = λ some. (length before, p, at_end before p, sym mine, sym value);
-    }
+      let mine = here.0 in
+      let value = here.1 in
+      let least_is = no_less p p.part.result in
+      record {
+        above = λ k e stands same. elim (at_push before p k e stands) [
+          | inl first ↦
+              let low = there_all (λ earlier. IsNotBefore earlier p) before on k e first (sym mine ∙ sym same) in
+              omega (arith, low, least_is, value)
+          | inr last ↦
+              let also : least_after e.part e.part.result ≡ least_after p.part p.part.result =
+              ap (λ (q : RecordedPart). least_after q.part q.part.result) last.1 in
+              omega (arith, also, value)
+        ];
+        one = λ some. (length before, p, at_end before p, sym mine, sym value);
+      }
   | inr there ↦
-    let before_it = old worker n there.1 in
-    record {
-      above = λ k e stands same. elim (at_push before p k e stands) [
-        | inl first ↦ before_it.above k e first same
-        | inr last ↦ absurd (there.0 (sym same ∙ ap (λ (q : RecordedPart). q.worker) last.1))
-      ];
-      one = λ some. let w = before_it.one some in (w.0, w.1, at_left before (p ∷ []) w.0 w.1 w.2, w.3, w.4);
-    }
+      let before_it = old worker n there.1 in
+      record {
+        above = λ k e stands same. elim (at_push before p k e stands) [
+          | inl first ↦ before_it.above k e first same
+          | inr last ↦ absurd (there.0 (sym same ∙ ap (λ (q : RecordedPart). q.worker) last.1))
+        ];
+        one = λ some. let w = before_it.one some in (w.0, w.1, at_left before (p ∷ []) w.0 w.1 w.2, w.3, w.4);
+      }
 ]
 
 pub scan_goes_on : (u : UnitView) (k : ℕ) (p : RecordedPart) (least : List ℕ) (worker next : ℕ) → k < length u.parts → p ≡ get_or u.parts k p
@@ -218,9 +214,9 @@ scan_goes_on u k p least worker next low read passed worker_is next_is old =
     record {
       workers = length-set least worker next ∙ old.workers;
       each = λ who n at.
-      subst (λ (ps : List RecordedPart). IsLeastOf ps who n) (sym front)
-      (least_of_more (take k u.parts) p least old.each passed.1.0 who n
-      (subst (λ (xs : List ℕ). IsAt xs who n) (ap (λ (w : ℕ). set least w next) worker_is ∙ ap (λ (v : ℕ). set least p.worker v) next_is) at));
+          subst (λ (ps : List RecordedPart). IsLeastOf ps who n) (sym front)
+          (least_of_more (take k u.parts) p least old.each passed.1.0 who n
+          (subst (λ (xs : List ℕ). IsAt xs who n) (ap (λ (w : ℕ). set least w next) worker_is ∙ ap (λ (v : ℕ). set least p.worker v) next_is) at));
       leads =
           subst (λ (ps : List RecordedPart). Leads (PassesInUnit u) (part_checks ps (drop (k + 1) u.parts)) (part_checks [] u.parts)) (sym front)
           (leads_over (PassesInUnit u) (checks_of_part (take k u.parts) p) (part_checks (take k u.parts ++ p ∷ []) (drop (k + 1) u.parts))

@@ -16,3 +16,5 @@ pub mod Search
 pub mod Occurrences
 -- The parts of all units, by unit.
 pub mod Grouped
+-- The parts that name a unit.
+pub mod Gathered

@@ -18,7 +18,7 @@ const MOST_WORKERS: usize = 64;
 /// What is wrong with a part of which this was found at its point, where `least` is the lowest point that its worker may
 /// have now, if anything is.
 fn part_fault(
-    u: &ShownUnit<'_>,
+    u: &ShownUnit<'_, '_>,
     part: &DonePart<'_>,
     finding: Finding,
     least: u32,
@@ -55,7 +55,7 @@ fn part_fault(
 }
 
 /// What is wrong with the first part of the unit of which anything is, by worker and in the worker's order.
-pub(crate) fn scan(u: &ShownUnit<'_>, findings: &Vec<Finding>) -> Option<AuditFault>
+pub(crate) fn scan(u: &ShownUnit<'_, '_>, findings: &Vec<Finding>) -> Option<AuditFault>
     requires known { IsKnownUnit (view_of_shown u.now) }
     requires walked { IsWalkedWhole (view_of_shown u.now) findings.now.items }
     ensures { MatchOption result

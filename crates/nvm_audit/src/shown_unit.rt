@@ -5,7 +5,7 @@ use nvm_store::{History, Limit};
 
 /// All that a record shows of one unit.
 #[derive(Clone, Copy, Debug)]
-pub(crate) struct ShownUnit<'a> {
+pub(crate) struct ShownUnit<'a, 'p> {
     pub geometry: &'a Geometry,
     pub limit: Limit,
     /// The record's jobs.
@@ -14,5 +14,5 @@ pub(crate) struct ShownUnit<'a> {
     pub unit: u16,
     pub history: &'a History,
     /// The parts that name the unit, by worker and in the worker's order.
-    pub parts: &'a Vec<DonePart<'a>>,
+    pub parts: &'p Vec<DonePart<'a>>,
 }

@@ -23,7 +23,7 @@ use nvm_store::laws::{next_point, success_on_held};
 use std::alloc::Global;
 
 /// What is found of the part of this number, on the blocks at its point.
-fn finding(u: &ShownUnit<'_>, k: usize, blocks: &UnitBlocks) -> Finding
+fn finding(u: &ShownUnit<'_, '_>, k: usize, blocks: &UnitBlocks) -> Finding
     requires known { IsKnownUnit (view_of_shown u.now) }
     requires there { k < length u.now.parts.now.items }
     requires lies { IsUnitPlace u.now.geometry.now u.now.unit (place_of blocks.now) }
@@ -38,7 +38,7 @@ fn finding(u: &ShownUnit<'_>, k: usize, blocks: &UnitBlocks) -> Finding
 
 /// Judges the parts at a point, on its blocks, and puts down what is found of each.
 fn judge_at(
-    u: &ShownUnit<'_>,
+    u: &ShownUnit<'_, '_>,
     by_point: &ByPoint,
     n: usize,
     blocks: &UnitBlocks,
@@ -64,7 +64,7 @@ fn judge_at(
 
 /// What is wrong with the entry at this place, after which the blocks aren't changed yet, if anything is.
 fn entry_fault(
-    u: &ShownUnit<'_>,
+    u: &ShownUnit<'_, '_>,
     place: usize,
     is_claimed: bool,
     blocks: &UnitBlocks,
@@ -108,7 +108,7 @@ fn entry_fault(
 /// Changes the blocks by the entry at this place, which is right.
 fn advance(
     alloc: Global,
-    u: &ShownUnit<'_>,
+    u: &ShownUnit<'_, '_>,
     place: usize,
     blocks: &mut UnitBlocks,
 ) -> Result<(), NoMemory>
@@ -131,7 +131,7 @@ fn advance(
 /// Judges the parts at this place and the entry there, and goes on behind it.
 fn step(
     alloc: Global,
-    u: &ShownUnit<'_>,
+    u: &ShownUnit<'_, '_>,
     by_point: &ByPoint,
     claimed: &Vec<bool>,
     place: usize,
@@ -161,7 +161,7 @@ fn step(
 /// looks for the first entry that is wrong or that no part made.
 pub(crate) fn walk(
     alloc: Global,
-    u: &ShownUnit<'_>,
+    u: &ShownUnit<'_, '_>,
     by_point: &ByPoint,
     claimed: &Vec<bool>,
     findings: &mut Vec<Finding>,

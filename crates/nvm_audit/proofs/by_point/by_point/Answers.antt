@@ -1,7 +1,6 @@
-use Rattle.std.proofs.Common.{◌≡◌, ◌∷◌, [], ◌++◌, ◌+◌, ◌<◌, ◌≤◌, ℕ, List, length, replicate, take, get_or, set, sym, ap, subst, ◌∙◌, rules, arith}
+use Rattle.std.proofs.Common.{◌≡◌, ◌∷◌, [], ◌++◌, ◌<◌, length, take, sym, ap, rules, arith}
 use Rattle.std.proofs.lemmas.List.{length-take-le}
 use Rattle.nvm_audit.specs.RecordedPart.{RecordedPart}
-use Rattle.nvm_audit.specs.Inside.Audited.{AreByPoint}
 use Rattle.nvm_audit.proofs.Chained.{none_by_point}
 use Rattle.nvm_audit.proofs.Places.{taken}
 use Rattle.nvm_audit.proofs.by_point.by_point.Goals as goal

@@ -1,4 +1,4 @@
-use Rattle.std.proofs.Common.{◌≡◌, ◌∷◌, [], ◌++◌, ◌+◌, ◌<◌, ◌≤◌, ℕ, length, get_or, set, sym, ap, subst, ◌∙◌, rules, arith}
+use Rattle.std.proofs.Common.{◌≡◌, ◌∷◌, [], ◌++◌, ◌+◌, ◌<◌, ◌≤◌, ℕ, length, get_or, set, sym, ap, subst, ◌∙◌, rules}
 use Rattle.nvm_audit.specs.Inside.Audited.{AreByPoint}
 use Rattle.nvm_audit.proofs.Chained.{put_here, put_past}
 use Rattle.nvm_audit.proofs.by_point.put_last.Goals as goal

@@ -1,4 +1,4 @@
-use Rattle.std.proofs.Common.{◌≡◌, Option, Some, sym, ap, ◌∙◌}
+use Rattle.std.proofs.Common.{Some, sym, ap, ◌∙◌}
 use Rattle.nvm_record.specs.Step.{Operation}
 use Rattle.nvm_store.specs.Contents.{place_of}
 use Rattle.nvm_audit.proofs.Judged.{some_is}
@@ -12,6 +12,7 @@ act_is_right-requires c =
 pub returns-in-Some-Act : goal.returns-in-Some-Act
 returns-in-Some-Act c = λ m held.
     let part = rw c.in-Some-Act.field-0-is at c.in-Some-Act.ensures.part in
-    let tells = c.act_is_right.ensures m held in
-    (λ t. (part ∙ ap (λ (op : Operation). Some op) (tells.0 t).0, (tells.0 t).1),
-    λ h. tells.1 (some_is (sym part ∙ h.0), h.1))
+    let tells = c.act_is_right.ensures m held in (
+      λ t. (part ∙ ap (λ (op : Operation). Some op) (tells.0 t).0, (tells.0 t).1),
+      λ h. tells.1 (some_is (sym part ∙ h.0), h.1),
+    )

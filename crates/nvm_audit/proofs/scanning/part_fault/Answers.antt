@@ -1,4 +1,4 @@
-use Rattle.std.proofs.Common.{◌≡◌, ◌≤◌, ℕ, length, refl, sym, ap, subst, ◌∙◌, rules, arith}
+use Rattle.std.proofs.Common.{◌≡◌, refl, sym, ap, subst, ◌∙◌, arith}
 use mathlib.Core.Bool.{true≢false}
 use Rattle.nvm_audit.specs.declared.judging.Finding.{Finding}
 use Rattle.nvm_audit.specs.Inside.Audited.{view_of_shown, IsJudged}

@@ -1,10 +1,8 @@
-use Rattle.std.proofs.Common.{◌≡◌, ◌<◌, ◌≤◌, ◌+◌, ℕ, length, take, get_or, refl, sym, ap, subst, ◌∙◌, rules, arith}
-use Rattle.nvm_record.specs.Lists.{IsAt}
-use Rattle.nvm_audit.specs.Inside.Audited.{view_of_shown, IsJudged}
-use Rattle.nvm_audit.specs.Inside.Scanned.{IsLeastOf}
+use Rattle.std.proofs.Common.{◌≡◌, ◌<◌, length, take, refl, ap, rules, arith}
+use Rattle.nvm_audit.specs.Inside.Audited.{view_of_shown}
 use Rattle.nvm_audit.specs.RecordedPart.{RecordedPart}
 use Rattle.nvm_audit.proofs.Places.{stands_read}
-use Rattle.nvm_audit.proofs.Scans.{scan_begins, scan_goes_on, scan_faults, scan_ends, least_there, few_entries}
+use Rattle.nvm_audit.proofs.Scans.{scan_begins, scan_goes_on, scan_faults, least_there, few_entries}
 use Rattle.nvm_audit.proofs.scanning.scan.Goals as goal
 
 pub loop-k-init : goal.loop-k-init

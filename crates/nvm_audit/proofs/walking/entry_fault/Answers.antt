@@ -1,11 +1,10 @@
-use Rattle.std.proofs.Common.{◌≡◌, ◌<◌, ◌↔◌, ℕ, length, IsTrue, refl, sym, ap, subst, ◌∙◌, rules, arith}
+use Rattle.std.proofs.Common.{◌≡◌, ◌<◌, ℕ, length, refl, sym, ap, subst, ◌∙◌, rules, arith}
 use mathlib.Core.Bool.{true≢false}
 use Rattle.nvm_record.specs.Lists.{IsAt}
 use Rattle.nvm_store.specs.HistoryEntry.{HistoryEntry}
 use Rattle.nvm_store.specs.Point.{point}
-use Rattle.nvm_audit.specs.LawfulUnit.{IsClaimed}
-use Rattle.nvm_audit.specs.Inside.Audited.{view_of_shown, IsFirstAmong, checks_of_entry}
-use Rattle.nvm_audit.specs.UnitChecks.{IsEntryRight, PassesInUnit}
+use Rattle.nvm_audit.specs.Inside.Audited.{view_of_shown}
+use Rattle.nvm_audit.specs.UnitChecks.{IsEntryRight}
 use Rattle.nvm_audit.proofs.Entered.{right_by, wrong_entry, unclaimed_entry}
 use Rattle.nvm_audit.proofs.Places.{stands_read}
 use Rattle.nvm_audit.proofs.Standing.{one_there}
@@ -76,6 +75,7 @@ returns c = λ entry at.
     (stands_read u.jobs c.entry.inside.job c.index.result.now (omega (arith, low, number)) c.index.ensures) in
     let tells = right_by u c.args.place mine c.index.result.now _ job
     (c.if-not-entry_is_right.ensures (point u.namespace.block_size u.history c.args.place) c.requires.held) in
-    let same = one_there u.history c.args.place mine entry stands at in
-    (subst (λ (e : HistoryEntry). IsEntryRight u c.args.place e) same (tells.0 refl),
-    ((c.requires.claimed entry at).0 c.if-not-is_claimed.false, tt))
+    let same = one_there u.history c.args.place mine entry stands at in (
+      subst (λ (e : HistoryEntry). IsEntryRight u c.args.place e) same (tells.0 refl),
+      ((c.requires.claimed entry at).0 c.if-not-is_claimed.false, tt),
+    )

@@ -1,10 +1,8 @@
-use Rattle.std.proofs.Common.{◌≡◌, ◌+◌, ◌-◌, ◌<◌, ◌≤◌, ℕ, length, get_or, sym, ap, subst, ◌∙◌, rules, arith}
-use Rattle.nvm_record.specs.Lists.{IsAt}
+use Rattle.std.proofs.Common.{◌≡◌, ◌+◌, ◌-◌, ℕ, sym, subst, arith}
 use Rattle.nvm_store.specs.Contents.{Holds}
 use Rattle.nvm_store.specs.Point.{point}
-use Rattle.nvm_audit.specs.Inside.Audited.{view_of_shown, IsJudged, IsLastAt}
-use Rattle.nvm_audit.specs.RecordedPart.{RecordedPart}
-use Rattle.nvm_audit.proofs.Findings.{judging_begins, judging_goes_on, judging_ends, last_of_point, one_before}
+use Rattle.nvm_audit.specs.Inside.Audited.{view_of_shown}
+use Rattle.nvm_audit.proofs.Findings.{judging_begins, judging_goes_on, last_of_point, one_before}
 use Rattle.nvm_audit.proofs.walking.judge_at.Goals as goal
 
 pub loop-at-init : goal.loop-at-init

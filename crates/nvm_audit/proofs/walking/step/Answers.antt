@@ -1,5 +1,4 @@
-use Rattle.std.proofs.Common.{◌≡◌, ◌<◌, ◌+◌, ℕ, length, drop, sym, ap, subst, ◌∙◌, rules, arith}
-use Rattle.nvm_record.specs.Lists.{IsAt}
+use Rattle.std.proofs.Common.{arith}
 use Rattle.nvm_audit.specs.Inside.Audited.{view_of_shown}
 use Rattle.nvm_audit.proofs.Entered.{leads_to_next, leads_to_fault}
 use Rattle.nvm_audit.proofs.Places.{stands_read, get_or_there}
