@@ -1,17 +1,20 @@
 -- Counting how often jobs were done, one done job after the other.
-use Rattle.std.proofs.Common.{◌≡◌, ℕ, zero, suc, ◌+◌, ◌-◌, ◌<◌, nat_eq, List, [], ◌∷◌, ◌++◌, Bool, true, false, length, map, take, get_or, replicate, refl, sym, ap, subst, ◌∙◌, arith}
+use Rattle.std.proofs.Common.{◌≡◌, ℕ, zero, suc, ◌+◌, ◌-◌, ◌<◌, ◌≤◌, nat_eq, List, [], ◌∷◌, ◌++◌, Bool, true, false, length, map, take, get_or, replicate, All, refl, sym, ap, subst, ◌∙◌, arith}
 use Rattle.std.proofs.Math.ListN.{set}
 use Rattle.std.proofs.lemmas.Bool.{eqb-true, eqb-false}
 use Rattle.std.proofs.lemmas.List.{length-replicate, take_all}
 use Rattle.std.proofs.lemmas.List.Sums.{count_by_more_no, count_by_more_yes, sum_by_more}
-use Rattle.std.specs.List.{count_by}
+use Rattle.std.specs.List.{count_by, sum_by}
 use mathlib.Core.Option.{some, some-injective}
 use Rattle.nvm_record.specs.Lists.{IsAt}
 use Rattle.nvm_audit.specs.declared.occurrences.Occurrence.{Occurrence}
-use Rattle.nvm_audit.specs.Inside.Occurrences.{IsOccurrence, IsCounted, AreCounted}
+use Rattle.nvm_audit.specs.declared.version.Version.{Version}
+use Rattle.nvm_audit.specs.declared.version.Version.TheVariants.{One, Two}
+use Rattle.nvm_audit.specs.Inside.Occurrences.{most_entries, IsOccurrence, IsCounted, AreCounted}
 use Rattle.nvm_audit.specs.LawfulRecord.{times_done}
+use Rattle.nvm_audit.specs.Recordable.{HoldsLimit}
 use Rattle.nvm_audit.specs.RecordedJob.{RecordedJob}
-use Rattle.nvm_audit.proofs.Standing.{none_stands, below, read_there, read_is}
+use Rattle.nvm_audit.proofs.Standing.{none_stands, below, read_there, read_is, all_at}
 
 module _ {A : Type 0} where
   pub at_set_same : (xs : List A) (i : ℕ) (x : A) → i < length xs → IsAt (set xs i x) i x
@@ -77,13 +80,18 @@ module _ (all : List (List RecordedJob)) (found : List Occurrence) (work : List 
             is = counted.is;
           })
 
+-- The first ones are summed, and then the next one.
+pub one_more_summed : {A : Type 0} → (f : A → ℕ) (xs : List A) (i : ℕ) (x : A) → IsAt xs i x
+    → sum_by f (take i xs) + f x ≡ sum_by f (take (i + 1) xs)
+one_more_summed f xs i x at =
+    let sum = sum_by_more f xs i x (below xs i x at) in
+    let same = ap f (read_is xs i x x at) in
+    omega (arith, sum, same)
+
 -- What the first workers did is counted, and then the next one's.
 pub one_more_worker : (done : List (List RecordedJob)) (i : ℕ) (work : List RecordedJob) (number : ℕ) → IsAt done i work
     → times_done number (take i done) + count_by (is_job number) work ≡ times_done number (take (i + 1) done)
-one_more_worker done i work number at =
-    let sum = sum_by_more (λ (w : List RecordedJob). count_by (is_job number) w) done i work (below done i work at) in
-    let same = ap (λ (w : List RecordedJob). count_by (is_job number) w) (read_is done i work work at) in
-    omega (arith, sum, same)
+one_more_worker done i work number at = one_more_summed (λ (w : List RecordedJob). count_by (is_job number) w) done i work at
 
 module _ {A : Type 0} where
   -- what was read of a list that was lent
@@ -106,8 +114,16 @@ module _ {A B : Type 0} where
   at_map f (y ∷ ys) zero x e = ap (λ (z : A). some (f z)) (some-injective y x e)
   at_map f (y ∷ ys) (suc i) x e = at_map f ys i x e
 
+  pub read_in_map : (f : A → B) (xs : List A) (i : ℕ) (d : A) → i < length xs → IsAt (map f xs) i (f (get_or xs i d))
+  read_in_map f xs i d lt = at_map f xs i (get_or xs i d) (read_there xs i d lt)
+
   pub item_in_map : (f : A → B) (xs ys : List A) (i : ℕ) (x : A) → xs ≡ ys → i < length xs → x ≡ get_or xs i x → IsAt (map f ys) i (f x)
   item_in_map f xs ys i x same lt read = at_map f ys i x (item_at xs ys i x same lt read)
+
+-- What is short of each is short of the one that stands there.
+pub short_there : {A B : Type 0} → (f : A → List B) (n : ℕ) (xs : List A) (i : ℕ) (x : A) → All (λ y. length (f y) ≤ n) xs → IsAt xs i x
+    → length (f x) ≤ n
+short_there f n xs i x all at = all_at (λ y. length (f y) ≤ n) xs all i x at
 
 -- a list that was made as long
 pub resized : {A : Type 0} → (n : ℕ) (xs old : List A) (x : A) (len : ℕ) → xs ≡ take n old ++ replicate (n - len) x → old ≡ [] → len ≡ 0
@@ -117,3 +133,8 @@ resized n xs old x len is none short =
     is ∙ ap (λ ys. take n ys ++ replicate (n - len) x) none ∙ ap (λ ys. ys ++ replicate (n - len) x) (take_all n [] (omega arith))
     ∙ ap (λ (k : ℕ). replicate k x) (omega (arith, short)) in
     (ap length same ∙ length-replicate n x, λ i lt. subst (λ ys. IsAt ys i x) (sym same) (at_replicate n x i lt))
+
+-- The limit is no higher in either version.
+pub low_limit : (version : Version) (limit : ℕ) → HoldsLimit version limit → limit ≤ most_entries
+low_limit One limit held = let low = held.1 in omega (arith, low)
+low_limit Two limit held = held.1

@@ -1,19 +1,20 @@
 -- The parts by unit, one part after the other.
 use Rattle.std.proofs.Common.{◌≡◌, ℕ, zero, suc, ◌+◌, ◌<◌, nat_eq, List, [], ◌∷◌, ◌++◌, Bool, true, false, length, map, take, set, cond, get_or, refl, sym, ap, subst, inl, inr, ◌∙◌, append_assoc, append-nil, arith, length-set}
 use Rattle.std.proofs.lemmas.Bool.{eqb-true, eqb-false, cases_eq}
-use Rattle.std.proofs.lemmas.List.{map-set, map-append, length-append}
+use Rattle.std.proofs.lemmas.List.{length-map, map-set, map-append, length-append}
 use Rattle.std.proofs.lemmas.Grind.{flat_map-append}
 use Rattle.std.proofs.lemmas.List.Elements.{filter-append}
 use Rattle.std.specs.List.{flat_map}
 use mathlib.Core.Option.{some, some-injective}
 use Rattle.nvm_record.specs.Lists.{IsAt}
 use Rattle.nvm_plan.specs.declared.part.Part.{Part}
-use Rattle.nvm_audit.specs.Inside.Grouped.{in_group, AreGrouped}
+use Rattle.nvm_audit.specs.Inside.Gathered.{naming}
+use Rattle.nvm_audit.specs.Inside.Grouped.{AreGrouped}
 use Rattle.nvm_audit.specs.RecordedJob.{RecordedJob}
 use Rattle.nvm_audit.specs.RecordedPart.{RecordedPart, recorded_part, parts_left, parts_of_work, parts_of_workers}
 use Rattle.nvm_audit.proofs.Counting.{at_set_same, at_set_other, item_in_map}
 use Rattle.nvm_audit.proofs.Places.{at_left, at_end, taken}
-use Rattle.nvm_audit.proofs.Standing.{none_stands, below, read_there, read_is}
+use Rattle.nvm_audit.proofs.Standing.{none_stands, below, one_there, read_there, read_is}
 
 -- One part more is behind the others of its unit.
 pub one_more_in : (units : ℕ) (parts : List RecordedPart) (p : RecordedPart) (groups : List (List RecordedPart)) (group : List RecordedPart)
@@ -31,24 +32,24 @@ one_more_in units parts p groups group old there =
     low_here : p.part.unit < units
     low_here = let lt = below groups p.part.unit group there in omega (arith, lt, old.long)
 
-    is_group : group ≡ in_group p.part.unit parts
+    is_group : group ≡ naming p.part.unit parts
     is_group = some-injective _ _ (sym there ∙ old.each p.part.unit low_here)
 
-    with_it : (unit : ℕ) (b : Bool) → nat_eq p.part.unit unit ≡ b → in_group unit (parts ++ p ∷ []) ≡ in_group unit parts ++ cond b (p ∷ []) []
-    with_it unit b is = filter-append (test unit) parts (p ∷ []) ∙ ap (λ (c : Bool). in_group unit parts ++ cond c (p ∷ []) []) is
+    with_it : (unit : ℕ) (b : Bool) → nat_eq p.part.unit unit ≡ b → naming unit (parts ++ p ∷ []) ≡ naming unit parts ++ cond b (p ∷ []) []
+    with_it unit b is = filter-append (test unit) parts (p ∷ []) ∙ ap (λ (c : Bool). naming unit parts ++ cond c (p ∷ []) []) is
 
     by : (unit : ℕ) → unit < units → (b : Bool) → nat_eq p.part.unit unit ≡ b
-        → IsAt (set groups p.part.unit (group ++ p ∷ [])) unit (in_group unit (parts ++ p ∷ []))
+        → IsAt (set groups p.part.unit (group ++ p ∷ [])) unit (naming unit (parts ++ p ∷ []))
     by unit low true same =
         let is : p.part.unit ≡ unit = eqb-true p.part.unit unit same in
         subst (λ (ps : List RecordedPart). IsAt (set groups p.part.unit (group ++ p ∷ [])) unit ps)
-        (ap (λ (ps : List RecordedPart). ps ++ p ∷ []) (is_group ∙ ap (λ (n : ℕ). in_group n parts) is) ∙ sym (with_it unit true same))
+        (ap (λ (ps : List RecordedPart). ps ++ p ∷ []) (is_group ∙ ap (λ (n : ℕ). naming n parts) is) ∙ sym (with_it unit true same))
         (subst (λ (n : ℕ). IsAt (set groups p.part.unit (group ++ p ∷ [])) n (group ++ p ∷ [])) is
         (at_set_same groups p.part.unit (group ++ p ∷ []) (below groups p.part.unit group there)))
     by unit low false apart =
         subst (λ (ps : List RecordedPart). IsAt (set groups p.part.unit (group ++ p ∷ [])) unit ps)
-        (sym (with_it unit false apart ∙ append-nil (in_group unit parts)))
-        (at_set_other groups p.part.unit unit (group ++ p ∷ []) (in_group unit parts) (λ same. eqb-false p.part.unit unit apart (sym same)) (old.each unit low))
+        (sym (with_it unit false apart ∙ append-nil (naming unit parts)))
+        (at_set_other groups p.part.unit unit (group ++ p ∷ []) (naming unit parts) (λ same. eqb-false p.part.unit unit apart (sym same)) (old.each unit low))
 
 -- Each part of the job, and whether it is the last.
 pub left_at : (worker : ℕ) (d : RecordedJob) (parts : List Part) (i : ℕ) (part : Part) (last : Bool) → IsAt parts i part
@@ -134,3 +135,12 @@ module _ {A : Type 0} (f : A → List RecordedPart) where
             (subst (λ (g : List RecordedPart). IsAt (map f groups ++ f new ∷ []) (length (map f groups)) g) none (at_end (map f groups) (f new)))
         | inr other ↦ at_left (map f groups) (f new ∷ []) unit [] (old.each unit (omega (arith, low, other)))
       ]
+
+  -- What was read at the place of a unit are the parts that name it.
+  pub group_is : (units : ℕ) (parts : List RecordedPart) (groups : List A) (unit : ℕ) (group e : A) → AreGrouped units parts (map f groups)
+      → unit < units → group ≡ get_or groups unit e → f group ≡ naming unit parts
+  group_is units parts groups unit group e grouped low read =
+      let same = length-map groups f in
+      let there : unit < length groups = omega (arith, low, grouped.long, same) in
+      one_there (map f groups) unit (f group) (naming unit parts)
+      (item_in_map f groups groups unit group refl there (read ∙ get_or_same groups unit e group there)) (grouped.each unit low)

@@ -43,3 +43,4 @@ pub mod Endings
 pub mod Searching
 pub mod Counting
 pub mod Groups
+pub mod OneDone

@@ -1,24 +1,12 @@
 ghost use Rattle.std.specs.Prelude.{◌≡◌, ℕ, ◌+◌, ◌<◌, ◌≤◌, ◌++◌, ◌∷◌, [], IfOk, OnOk, List, length, map, Bool};
 ghost use Rattle.nvm_audit.specs.Inside.Grouped.{AreGrouped, HasUnits, HaveUnits, AllHaveUnits};
-ghost use Rattle.nvm_audit.specs.RecordedPart.{RecordedPart, recorded_part, parts_left, parts_of_work, parts_of_workers};
+ghost use Rattle.nvm_audit.specs.RecordedPart.{RecordedPart, parts_left, parts_of_work, parts_of_workers};
 
 use crate::done_job::DoneJob;
 use crate::done_part::DonePart;
-use nvm_plan::Part;
+use crate::gathering::part_of;
 use nvm_record::NoMemory;
 use std::alloc::Global;
-
-/// A part that a worker did of a job.
-fn part_of<'a>(worker: u16, done: &'a DoneJob, part: Part, is_last: bool) -> DonePart<'a>
-    ensures { result ≡ recorded_part worker done.now part is_last }
-{
-    DonePart {
-        worker,
-        done,
-        part,
-        is_last,
-    }
-}
 
 /// No parts yet, for each of so many units.
 fn no_groups<'a>(alloc: Global, units: usize) -> Result<Vec<Vec<DonePart<'a>>>, NoMemory>

@@ -11,8 +11,15 @@ ghost use Rattle.nvm_plan.specs.Reply as reply;
 ghost use Rattle.nvm_plan.specs.Shape as shape;
 ghost use Rattle.nvm_plan.specs.Shape.{EndsAtLast, HasEnding, HasOutcomeShape, MayShow};
 ghost use Rattle.nvm_audit.specs.Inside.Kinds.{IsOfKind};
+ghost use Rattle.nvm_audit.specs.Inside.Occurrences.{AreCounted, HasShapeOnce};
+ghost use Rattle.nvm_audit.specs.Inside.Search.{IsFound};
+ghost use Rattle.nvm_audit.specs.LawfulRecord.{times_done};
+ghost use Rattle.nvm_audit.specs.RecordChecks.{shape_checks};
 
+use crate::audit_fault::AuditFault;
 use crate::done_job::DoneJob;
+use crate::occurrences::Occurrence;
+use crate::record::Record;
 use nvm_geometry::Geometry;
 use nvm_plan::laws::{parts_of_jobs, ready_jobs, shapes_by_plan};
 use nvm_plan::{Body, Job, JobUnits, Part, PartResult, Plan, job_units, plan};
@@ -239,8 +246,8 @@ fn has_ending(geometry: &Geometry, job: &Job, parts: &[Part], told: Statuses) ->
     }
 }
 
-/// Whether what was done of the job has the shape of its outcome. It takes no memory, and a constant number of steps for each
-/// part; those of a Dataset Management cost a walk over its ranges.
+/// Whether what was done of the job has the shape of its outcome. It takes no memory, and a constant number of steps for
+/// each part; each part of a Dataset Management costs a walk over its ranges.
 pub(crate) fn has_shape(geometry: &Geometry, job: &Job, done: &DoneJob) -> bool
     ensures { IsTrue result
         ↔ HasOutcomeShape geometry.now job.now done.now.parts done.now.statuses done.now.payload }
@@ -256,4 +263,31 @@ pub(crate) fn has_shape(geometry: &Geometry, job: &Job, done: &DoneJob) -> bool
                 && done.payload.is_some() == gives_data(&job.body, done.statuses)
         }
     }
+}
+
+/// Whether what was done of the job, where it was done once, has the shape of its outcome.
+fn has_shape_once(geometry: &Geometry, job: &Job, occurrence: Occurrence<'_>) -> bool
+    ensures { IsTrue result ↔ HasShapeOnce geometry.now job.now occurrence.entry }
+{
+    match occurrence {
+        Occurrence::Once(done) => has_shape(geometry, job, done),
+        Occurrence::Never | Occurrence::Often => true,
+    }
+}
+
+/// The first job of which what was done hasn't the shape of its outcome, as an audit names it, where each job was done once.
+pub(crate) fn shape_fault(r: &Record, found: &Vec<Occurrence<'_>>) -> Option<AuditFault>
+    requires counted { AreCounted (length r.now.jobs) r.now.done found.now.items }
+    requires once { (number : ℕ) → number < length r.now.jobs → times_done number r.now.done ≡ 1 }
+    ensures { IsFound r.now (shape_checks (length r.now.jobs)) result }
+{
+    for number in 0..r.jobs.len() {
+        if !has_shape_once(&r.geometry, &r.jobs[number], found[number]) {
+            return Some(AuditFault::StatusWrong {
+                job: number as u32,
+                spot: None,
+            });
+        }
+    }
+    None
 }

@@ -1,18 +1,15 @@
 -- The parts that a record shows, grouped by the units that they name.
-use Rattle.std.specs.Prelude.{◌≡◌, ℕ, ◌<◌, nat_eq, List, length, filter}
+use Rattle.std.specs.Prelude.{◌≡◌, ℕ, ◌<◌, List, length}
 use Rattle.nvm_record.specs.Lists.{IsAt}
 use Rattle.nvm_plan.specs.declared.part.Part.{Part}
+use Rattle.nvm_audit.specs.Inside.Gathered.{naming}
 use Rattle.nvm_audit.specs.RecordedJob.{RecordedJob}
 use Rattle.nvm_audit.specs.RecordedPart.{RecordedPart}
-
--- those of these parts that name the unit
-abbrev pub in_group : ℕ → List RecordedPart → List RecordedPart
-in_group unit parts = filter (λ p. nat_eq p.part.unit unit) parts
 
 -- There is a group for each of so many units: those of these parts that name the unit, in their order.
 pub record AreGrouped (units : ℕ) (parts : List RecordedPart) (groups : List (List RecordedPart)) : Type 0 where
   pub long : length groups ≡ units
-  pub each : (unit : ℕ) → unit < units → IsAt groups unit (in_group unit parts)
+  pub each : (unit : ℕ) → unit < units → IsAt groups unit (naming unit parts)
 
 -- Each of the job's parts names one of so many units.
 abbrev pub HasUnits : ℕ → RecordedJob → Type 0

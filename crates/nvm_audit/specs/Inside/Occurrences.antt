@@ -1,6 +1,9 @@
 -- How often the jobs of a record were done.
 use Rattle.std.specs.Prelude.{◌≡◌, ℕ, ◌<◌, ◌≤◌, List, length}
 use Rattle.nvm_record.specs.Lists.{IsAt}
+use Rattle.nvm_geometry.specs.Namespace.{Namespace}
+use Rattle.nvm_plan.specs.declared.job.Job.{Job}
+use Rattle.nvm_plan.specs.Shape.{HasOutcomeShape}
 use Rattle.nvm_audit.specs.declared.occurrences.Occurrence.{Occurrence}
 use Rattle.nvm_audit.specs.declared.occurrences.Occurrence.TheVariants.{Never, Once, Often}
 use Rattle.nvm_audit.specs.LawfulRecord.{times_done}
@@ -35,4 +38,15 @@ pub record AreCounted (jobs : ℕ) (done : List (List RecordedJob)) (found : Lis
 -- Each done job is of one of so many jobs.
 abbrev pub AreOfJobs : ℕ → List (List RecordedJob) → Type 0
 AreOfJobs jobs done =
-    (worker : ℕ) (work : List RecordedJob) (place : ℕ) (d : RecordedJob) → IsAt done worker work → IsAt work place d → d.job < jobs
+    (worker : ℕ) (work : List RecordedJob) (place : ℕ) (d : RecordedJob) → IsAt done worker work → IsAt work place d
+    → d.job < jobs
+
+-- What was done of the job, where it was done once, has the shape of its outcome.
+abbrev pub HasShapeOnce : Namespace → Job → Occurrence → Type 0
+HasShapeOnce ns job Never = Unit {0}
+HasShapeOnce ns job (Once d) = HasOutcomeShape ns job d.now.parts d.now.statuses d.now.payload
+HasShapeOnce ns job Often = Unit {0}
+
+-- a unit's history has at most so many entries, whatever its limit
+abbrev pub most_entries : ℕ
+most_entries = 4194304

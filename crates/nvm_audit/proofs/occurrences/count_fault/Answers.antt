@@ -1,4 +1,4 @@
-use Rattle.std.proofs.Common.{◌≡◌, ℕ, ◌<◌, [], ◌∷◌, length, refl, subst, inl, inr, below_more, arith}
+use Rattle.std.proofs.Common.{ℕ, [], ◌∷◌, length, refl, subst, inl, inr, below_more, arith}
 use Rattle.std.specs.List.{AllByRecursion}
 use Rattle.nvm_audit.specs.declared.occurrences.Occurrence.{Occurrence}
 use Rattle.nvm_audit.specs.Inside.Occurrences.{IsOccurrence}

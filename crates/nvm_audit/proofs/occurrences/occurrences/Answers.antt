@@ -1,4 +1,4 @@
-use Rattle.std.proofs.Common.{◌≡◌, ℕ, ◌<◌, ◌≤◌, List, length, map, take, subst, refl, ◌∙◌, ap, arith}
+use Rattle.std.proofs.Common.{ℕ, List, length, map, take, subst, refl, ◌∙◌, ap, arith}
 use Rattle.std.proofs.lemmas.List.{length-map, take_all}
 use Rattle.nvm_audit.specs.declared.occurrences.Occurrence.TheVariants.{Never}
 use Rattle.nvm_audit.specs.Inside.Occurrences.{IsCounted}

@@ -1,4 +1,4 @@
-use Rattle.std.proofs.Common.{◌≡◌, ℕ, ◌<◌, List, length, map, take}
+use Rattle.std.proofs.Common.{◌≡◌, ℕ, ◌<◌, length, map, take}
 use Rattle.nvm_audit.specs.Inside.Occurrences.{IsCounted}
 use Rattle.nvm_audit.specs.LawfulRecord.{times_done}
 use Rattle.nvm_audit.proofs.occurrences.occurrences.Given as goal
