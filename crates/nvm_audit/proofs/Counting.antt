@@ -17,12 +17,12 @@ use Rattle.nvm_audit.specs.RecordedJob.{RecordedJob}
 use Rattle.nvm_audit.proofs.Standing.{none_stands, below, read_there, read_is, all_at}
 
 module _ {A : Type 0} where
-  at_set_same : (xs : List A) (i : ℕ) (x : A) → i < length xs → IsAt (set xs i x) i x
+  pub at_set_same : (xs : List A) (i : ℕ) (x : A) → i < length xs → IsAt (set xs i x) i x
   at_set_same [] i x lt = absurd (omega arith)
   at_set_same (y ∷ ys) zero x lt = refl
   at_set_same (y ∷ ys) (suc i) x lt = at_set_same ys i x (omega arith)
 
-  at_set_other : (xs : List A) (i j : ℕ) (x y : A) → (j ≡ i → ⊥) → IsAt xs j y → IsAt (set xs i x) j y
+  pub at_set_other : (xs : List A) (i j : ℕ) (x y : A) → (j ≡ i → ⊥) → IsAt xs j y → IsAt (set xs i x) j y
   at_set_other [] i j x y off at = at
   at_set_other (z ∷ zs) zero zero x y off at = absurd (off refl)
   at_set_other (z ∷ zs) zero (suc j) x y off at = at

@@ -42,4 +42,5 @@ pub mod Fronts
 pub mod Endings
 pub mod Searching
 pub mod Counting
+pub mod Groups
 pub mod OneDone

@@ -23,7 +23,7 @@ module _ (r : RecordView) where
       let one = once number (omega (arith, lt)) in
       (omega (arith, one), (omega (arith, one), tt)))
 
-  once_each : AllByRecursion (Passes r) (count_checks (length r.jobs)) → (number : ℕ) → number < length r.jobs
+  pub once_each : AllByRecursion (Passes r) (count_checks (length r.jobs)) → (number : ℕ) → number < length r.jobs
       → times_done number r.done ≡ 1
   once_each all number lt =
       let found = list_of (Passes r) (λ number. job_done number ∷ job_once number ∷ []) 0 (length r.jobs) all number
@@ -37,7 +37,7 @@ module _ (r : RecordView) where
       mapped (Passes r) shape_right (range_with_len 0 (length r.jobs))
       (of_range (HaveShapesOf r) 0 (length r.jobs) (λ number worker work k d there at is. shapes worker work k d there at))
 
-  shape_each : IsRecordable r → AllByRecursion (Passes r) (shape_checks (length r.jobs)) → HaveShapes r
+  pub shape_each : IsRecordable r → AllByRecursion (Passes r) (shape_checks (length r.jobs)) → HaveShapes r
   shape_each held all worker work k d there at =
       let does = all_at (IsRecordableWork r) r.done held.done worker work there in
       let one = all_at (IsRecordableDone r) work does.each k d at in

@@ -14,5 +14,7 @@ pub mod Kinds
 pub mod Search
 -- How often each job was done.
 pub mod Occurrences
+-- The parts of all units, by unit.
+pub mod Grouped
 -- The parts that name a unit.
 pub mod Gathered

@@ -6,7 +6,8 @@ use Rattle.nvm_store.specs.HistoryEntry.{HistoryEntry}
 use Rattle.nvm_audit.specs.RecordedPart.{RecordedPart, parts_in_unit}
 use Rattle.nvm_audit.specs.RecordView.{RecordView}
 
--- The namespace, the limit and the jobs are the whole record's; then the unit's number, its history, and the parts that name it.
+-- The namespace, the limit and the jobs are the whole record's; then the unit's number, its history, and the parts that name
+-- it.
 pub record UnitView : Type 0 where
   pub namespace : Namespace
   pub limit : ℕ

@@ -9,7 +9,7 @@ use nvm_record::NoMemory;
 use std::alloc::Global;
 
 /// A part that a worker did of a job.
-fn part_of<'a>(worker: u16, done: &'a DoneJob, part: Part, is_last: bool) -> DonePart<'a>
+pub(crate) fn part_of<'a>(worker: u16, done: &'a DoneJob, part: Part, is_last: bool) -> DonePart<'a>
     ensures { result ≡ recorded_part worker done.now part is_last }
 {
     DonePart {

@@ -49,7 +49,8 @@ pub(crate) fn fault_shown(
 /// parts that name it, by worker and in the worker's order. It costs one pass over all that was done, and what the unit's own
 /// entries and parts cost.
 ///
-/// Each done job has to have the shape of an outcome, which an audit has looked at before.
+/// Each done job has to have the shape of an outcome, which an audit has looked at before. Where memory is refused nothing is
+/// known of the unit.
 pub fn unit_fault(alloc: Global, record: &Record, unit: u16) -> Result<Option<AuditFault>, NoMemory>
     requires there { unit < length «record».now.units }
     requires shapes { HaveShapes «record».now }
@@ -87,8 +88,8 @@ pub(crate) fn fault_of_parts<'a>(
 
 /// What is known of each unit of a record whose done jobs have the shapes of outcomes.
 fn known_units()
-    ensures { (r : RecordView) (unit : ℕ) (history : List HistoryEntry) → IsRecordable r → HaveShapes r → IsAt r.units unit history
-        → IsKnownUnit (view_of_unit r unit history) }
+    ensures { (r : RecordView) (unit : ℕ) (history : List HistoryEntry) → IsRecordable r → HaveShapes r
+        → IsAt r.units unit history → IsKnownUnit (view_of_unit r unit history) }
 {
     parts_of_jobs();
     shapes_by_plan();

@@ -45,7 +45,8 @@ fn judge_at(
     findings: &mut Vec<Finding>,
 )
     requires known { IsKnownUnit (view_of_shown u.now) }
-    requires by_point { AreByPoint (length u.now.history.now.items) u.now.parts.now.items by_point.now.last.items by_point.now.before.items }
+    requires by_point { AreByPoint (length u.now.history.now.items) u.now.parts.now.items by_point.now.last.items
+        by_point.now.before.items }
     requires within { n ≤ length u.now.history.now.items }
     requires lies { IsUnitPlace u.now.geometry.now u.now.unit (place_of blocks.now) }
     requires held { Holds blocks.now (point u.now.geometry.now.block_size u.now.history.now.items n) }
@@ -139,7 +140,8 @@ fn step(
     findings: &mut Vec<Finding>,
 ) -> Result<Option<AuditFault>, NoMemory>
     requires known { IsKnownUnit (view_of_shown u.now) }
-    requires by_point { AreByPoint (length u.now.history.now.items) u.now.parts.now.items by_point.now.last.items by_point.now.before.items }
+    requires by_point { AreByPoint (length u.now.history.now.items) u.now.parts.now.items by_point.now.last.items
+        by_point.now.before.items }
     requires claimed { AreClaims u.now.history.now.items u.now.parts.now.items claimed.now.items }
     requires there { place < length u.now.history.now.items }
     requires walked { IsWalkedTo (view_of_shown u.now) place blocks.old findings.old.items }
@@ -167,7 +169,8 @@ pub(crate) fn walk(
     findings: &mut Vec<Finding>,
 ) -> Result<Option<AuditFault>, NoMemory>
     requires known { IsKnownUnit (view_of_shown u.now) }
-    requires by_point { AreByPoint (length u.now.history.now.items) u.now.parts.now.items by_point.now.last.items by_point.now.before.items }
+    requires by_point { AreByPoint (length u.now.history.now.items) u.now.parts.now.items by_point.now.last.items
+        by_point.now.before.items }
     requires claimed { AreClaims u.now.history.now.items u.now.parts.now.items claimed.now.items }
     requires long { length findings.old.items ≡ length u.now.parts.now.items }
     ensures { IfOk result (λ found. MatchOption found (IsWalkedWhole (view_of_shown u.now) findings.new.items)

@@ -89,7 +89,8 @@ pub record AreByPoint (entries : ℕ) (parts : List RecordedPart) (last before :
   pub points : length last ≡ entries + 1
   pub numbers : length before ≡ length parts
   pub at_point : (n at : ℕ) → IsAt last n at → IsLastAt parts n (length parts) at
-  pub earlier : (k at : ℕ) (p : RecordedPart) → IsAt before k at → IsAt parts k p → p.part.point ≤ entries → IsLastAt parts p.part.point k at
+  pub earlier : (k at : ℕ) (p : RecordedPart) → IsAt before k at → IsAt parts k p → p.part.point ≤ entries
+      → IsLastAt parts p.part.point k at
 
 -- The parts with this point are judged from the last one down to that before which `at` parts stand; those with lower points are.
 pub record IsJudgedDownTo (u : UnitView) (n at : ℕ) (findings : List Finding) : Type 0 where
@@ -97,7 +98,8 @@ pub record IsJudgedDownTo (u : UnitView) (n at : ℕ) (findings : List Finding) 
   pub within : at ≤ length u.parts
   pub there : (k : ℕ) (p : RecordedPart) → at ≡ k + 1 → IsAt u.parts k p → p.part.point ≡ n
   pub before : AreJudgedBelow u n findings
-  pub done : (k : ℕ) (p : RecordedPart) (f : Finding) → at ≤ k → IsAt u.parts k p → p.part.point ≡ n → IsAt findings k f → IsJudged u p f
+  pub done : (k : ℕ) (p : RecordedPart) (f : Finding) → at ≤ k → IsAt u.parts k p → p.part.point ≡ n → IsAt findings k f
+      → IsJudged u p f
 
 -- What is so of the checks that are left is so of all: where they all pass, all do, and the first of them that fails is the
 -- first of all.
