@@ -1,5 +1,5 @@
 //! Workers that draw numbers, and runs of LBAs 0 to 31 with blocks of 512 bytes, in 4 units of 8 LBAs each.
-mod asked;
+mod audited;
 mod threads;
 
 ghost use Rattle.std.specs.Prelude.{◌≡◌, ◌≢◌, [], IfOk};
