@@ -8,3 +8,5 @@ pub mod JobsHeld
 pub mod EntriesHeld
 pub mod DoneHeld
 pub mod RecordsHeld
+pub mod Returning
+pub mod CommandsReturn
