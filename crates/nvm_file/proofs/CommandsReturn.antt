@@ -17,7 +17,7 @@ use Rattle.nvm_audit.specs.declared.version.Version.TheVariants.{One, Two}
 use Rattle.nvm_file.specs.CommandReading.{fields_in, fields_with, op_in}
 
 -- what the entry of the command says
-pub fields_by : Command → EntryFields
+abbrev pub fields_by : Command → EntryFields
 fields_by c =
     record {
       cid = c.cid; nsid = c.nsid; fuse = c.fuse; op = c.op; slba = c.slba; nlb = c.nlb;
@@ -45,7 +45,7 @@ entry_is_plain c none = rw none refl
 
 -- A command without ranges: its entry says its fields, where it is taken for the same opcode.
 pub plain_back : (c : Command) → carries_ranges c.op ≡ false → HasFieldsInRange c → fields_with c.op (entry_of c) ≡ fields_by c
-unfolding fields_by behind_nsid
+unfolding behind_nsid
 plain_back c none range =
     let cid : little_number 2 (drop 2 (plain_entry c)) ≡ c.cid =
         little_number-reads_back 2 c.cid (little_bytes 4 c.nsid ++ behind_nsid c) range.cid in

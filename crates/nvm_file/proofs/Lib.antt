@@ -10,3 +10,4 @@ pub mod DoneHeld
 pub mod RecordsHeld
 pub mod Returning
 pub mod CommandsReturn
+pub mod CommandsAgain
