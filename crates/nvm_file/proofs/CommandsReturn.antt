@@ -11,7 +11,7 @@ use Rattle.nvm_record.specs.declared.op.Fuse.TheVariants.{Normal, First, Second,
 use Rattle.nvm_record.specs.declared.op.Op.{Op}
 use Rattle.nvm_record.specs.declared.op.Op.TheVariants.{Write, Read, WriteUncorrectable, Compare, WriteZeroes, Dataset, Other}
 use Rattle.nvm_record.specs.Entry.{HasFieldsInRange, IsUnknownDataset, IsWhole, entry_of, range_bits}
-use Rattle.nvm_record.specs.Op.{bits_of, carries_ranges, deallocate_of, fuse_of, op_of, opcode_of, IsProperOp}
+use Rattle.nvm_record.specs.Op.{attributes_of, bits_of, carries_ranges, deallocate_of, fuse_of, op_of, opcode_of, IsProperOp}
 use Rattle.nvm_audit.specs.declared.version.Version.{Version}
 use Rattle.nvm_audit.specs.declared.version.Version.TheVariants.{One, Two}
 use Rattle.nvm_file.specs.CommandReading.{fields_in, fields_with, op_in}
@@ -113,3 +113,45 @@ unfolding fields_in
 fields_back version c none known range =
     ap (λ (o : Op). fields_with o (entry_of c)) (op_back version c.op (deallocate_of (slice_index (entry_of c) 44)) none known)
     ∙ plain_back c none range
+
+-- the entry of the command, were its opcode this one
+abbrev entry_for : Op → Command → List ℕ
+entry_for op c =
+    opcode_of op ∷ bits_of c.fuse ∷ (little_bytes 2 c.cid ++ (little_bytes 4 c.nsid ++ (replicate 32 0
+    ++ (cond (carries_ranges op) (range_bits c.payload ∷ 0 ∷ 0 ∷ 0 ∷ attributes_of op ∷ 0 ∷ 0 ∷ 0 ∷ []) (little_bytes 8 c.slba)
+    ++ (cond (carries_ranges op) (0 ∷ 0 ∷ []) (little_bytes 2 c.nlb) ++ replicate 14 0)))))
+
+-- what it says then
+abbrev fields_for : Op → Command → EntryFields
+fields_for op c =
+    record {
+      cid = c.cid; nsid = c.nsid; fuse = c.fuse; op = op; slba = c.slba; nlb = c.nlb;
+      nr = cond (carries_ranges op) (range_bits c.payload) 0
+    }
+
+deallocate_back : (deallocate : Bool) → deallocate_of (attributes_of (Dataset deallocate)) ≡ deallocate
+deallocate_back true = refl
+deallocate_back false = refl
+
+behind_nsid_of_ranges : Bool → Command → List ℕ
+behind_nsid_of_ranges deallocate c =
+    replicate 32 0 ++ (range_bits c.payload ∷ 0 ∷ 0 ∷ 0 ∷ attributes_of (Dataset deallocate) ∷ 0 ∷ 0 ∷ 0 ∷ 0 ∷ 0 ∷ replicate 14 0)
+
+ranges_back : (c : Command) (deallocate : Bool) → c.slba ≡ 0 → c.nlb ≡ 0 → HasFieldsInRange c
+    → fields_in Two (entry_for (Dataset deallocate) c) ≡ fields_for (Dataset deallocate) c
+unfolding fields_in behind_nsid_of_ranges
+ranges_back c deallocate slba nlb range =
+    let cid : little_number 2 (drop 2 (entry_for (Dataset deallocate) c)) ≡ c.cid =
+        little_number-reads_back 2 c.cid (little_bytes 4 c.nsid ++ behind_nsid_of_ranges deallocate c) range.cid in
+    let nsid : little_number 4 (drop 4 (entry_for (Dataset deallocate) c)) ≡ c.nsid =
+        little_number-reads_back 4 c.nsid (behind_nsid_of_ranges deallocate c) range.nsid in
+    λ i. record {
+      cid = cid i; nsid = nsid i; fuse = fuse_back c.fuse i; op = Dataset (deallocate_back deallocate i);
+      slba = sym slba i; nlb = sym nlb i; nr = range_bits c.payload
+    }
+
+-- The entry of a Dataset Management says its fields, in the second version.
+pub dataset_back : (c : Command) (deallocate : Bool) → c.op ≡ Dataset deallocate → c.slba ≡ 0 → c.nlb ≡ 0 → HasFieldsInRange c
+    → fields_in Two (entry_of c) ≡ fields_by c
+dataset_back c deallocate op slba nlb range =
+    subst (λ (o : Op). fields_in Two (entry_for o c) ≡ fields_for o c) (sym op) (ranges_back c deallocate slba nlb range)
