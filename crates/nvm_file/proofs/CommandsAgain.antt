@@ -37,7 +37,7 @@ entry_again : (c : Command) → (carries_ranges c.op ≡ true → c.nlb ≡ 0) �
 unfolding entry_with
 entry_again c none =
     ap (λ (t : List ℕ). opcode_of c.op ∷ bits_of c.fuse ∷ (little_bytes 2 c.cid ++ (little_bytes 4 c.nsid ++ (replicate 32 0 ++ t))))
-        (tail_again (carries_ranges c.op) (range_bits c.payload) (attributes_of c.op) c.slba c.nlb none)
+    (tail_again (carries_ranges c.op) (range_bits c.payload) (attributes_of c.op) c.slba c.nlb none)
 
 pub submission_again : (total : ℕ) (version : Version) (standing : Standing) (c : Command) (rest : List ℕ)
     → fields_in version (entry_of c) ≡ fields_by c → (carries_ranges c.op ≡ true → c.nlb ≡ 0) → may_stand standing (fields_by c) ≡ true
@@ -45,7 +45,7 @@ pub submission_again : (total : ℕ) (version : Version) (standing : Standing) (
 unfolding submission_at is_just
 submission_again total version standing c rest fields none stands =
     let same : bytes_eq (entry_of c) (entry_with (fields_by c)) ≡ true =
-        (bytes_eq-Decides (entry_of c) (entry_with (fields_by c))).1 (sym (entry_again c none)) in
+    (bytes_eq-Decides (entry_of c) (entry_with (fields_by c))).1 (sym (entry_again c none)) in
     let test = and_from (bytes_eq (entry_of c) (entry_with (fields_by c))) (may_stand standing (fields_by c)) same stands in
     rw (bytes_return total 64 (entry_of c) rest (entry_length c), fields, test) refl
 

@@ -20,8 +20,13 @@ use Rattle.nvm_file.specs.CommandReading.{fields_in, fields_with, op_in}
 abbrev pub fields_by : Command → EntryFields
 fields_by c =
     record {
-      cid = c.cid; nsid = c.nsid; fuse = c.fuse; op = c.op; slba = c.slba; nlb = c.nlb;
-      nr = cond (carries_ranges c.op) (range_bits c.payload) 0
+      cid = c.cid;
+      nsid = c.nsid;
+      fuse = c.fuse;
+      op = c.op;
+      slba = c.slba;
+      nlb = c.nlb;
+      nr = cond (carries_ranges c.op) (range_bits c.payload) 0;
     }
 
 fuse_back : (fuse : Fuse) → fuse_of (bits_of fuse % 4) ≡ fuse
@@ -48,16 +53,22 @@ pub plain_back : (c : Command) → carries_ranges c.op ≡ false → HasFieldsIn
 unfolding behind_nsid
 plain_back c none range =
     let cid : little_number 2 (drop 2 (plain_entry c)) ≡ c.cid =
-        little_number-reads_back 2 c.cid (little_bytes 4 c.nsid ++ behind_nsid c) range.cid in
+    little_number-reads_back 2 c.cid (little_bytes 4 c.nsid ++ behind_nsid c) range.cid in
     let nsid : little_number 4 (drop 4 (plain_entry c)) ≡ c.nsid = little_number-reads_back 4 c.nsid (behind_nsid c) range.nsid in
     let slba : little_number 8 (drop 40 (plain_entry c)) ≡ c.slba =
-        little_number-reads_back 8 c.slba (little_bytes 2 c.nlb ++ replicate 14 0) range.slba in
+    little_number-reads_back 8 c.slba (little_bytes 2 c.nlb ++ replicate 14 0) range.slba in
     let nlb : little_number 2 (drop 48 (plain_entry c)) ≡ c.nlb = little_number-reads_back 2 c.nlb (replicate 14 0) range.nlb in
     let place : cond (carries_ranges c.op) 0 (little_number 8 (drop 40 (plain_entry c))) ≡ c.slba = rw none slba in
     let count : cond (carries_ranges c.op) 0 (little_number 2 (drop 48 (plain_entry c))) ≡ c.nlb = rw none nlb in
     let nr : cond (carries_ranges c.op) (slice_index (plain_entry c) 40) 0 ≡ cond (carries_ranges c.op) (range_bits c.payload) 0 = rw none refl in
     let same : fields_with c.op (plain_entry c) ≡ fields_by c = λ i. record {
-      cid = cid i; nsid = nsid i; fuse = fuse_back c.fuse i; op = c.op; slba = place i; nlb = count i; nr = nr i
+      cid = cid i;
+      nsid = nsid i;
+      fuse = fuse_back c.fuse i;
+      op = c.op;
+      slba = place i;
+      nlb = count i;
+      nr = nr i;
     } in
     ap (fields_with c.op) (entry_is_plain c none) ∙ same
 
@@ -125,8 +136,13 @@ entry_for op c =
 abbrev fields_for : Op → Command → EntryFields
 fields_for op c =
     record {
-      cid = c.cid; nsid = c.nsid; fuse = c.fuse; op = op; slba = c.slba; nlb = c.nlb;
-      nr = cond (carries_ranges op) (range_bits c.payload) 0
+      cid = c.cid;
+      nsid = c.nsid;
+      fuse = c.fuse;
+      op = op;
+      slba = c.slba;
+      nlb = c.nlb;
+      nr = cond (carries_ranges op) (range_bits c.payload) 0;
     }
 
 deallocate_back : (deallocate : Bool) → deallocate_of (attributes_of (Dataset deallocate)) ≡ deallocate
@@ -142,12 +158,17 @@ ranges_back : (c : Command) (deallocate : Bool) → c.slba ≡ 0 → c.nlb ≡ 0
 unfolding fields_in behind_nsid_of_ranges
 ranges_back c deallocate slba nlb range =
     let cid : little_number 2 (drop 2 (entry_for (Dataset deallocate) c)) ≡ c.cid =
-        little_number-reads_back 2 c.cid (little_bytes 4 c.nsid ++ behind_nsid_of_ranges deallocate c) range.cid in
+    little_number-reads_back 2 c.cid (little_bytes 4 c.nsid ++ behind_nsid_of_ranges deallocate c) range.cid in
     let nsid : little_number 4 (drop 4 (entry_for (Dataset deallocate) c)) ≡ c.nsid =
-        little_number-reads_back 4 c.nsid (behind_nsid_of_ranges deallocate c) range.nsid in
+    little_number-reads_back 4 c.nsid (behind_nsid_of_ranges deallocate c) range.nsid in
     λ i. record {
-      cid = cid i; nsid = nsid i; fuse = fuse_back c.fuse i; op = Dataset (deallocate_back deallocate i);
-      slba = sym slba i; nlb = sym nlb i; nr = range_bits c.payload
+      cid = cid i;
+      nsid = nsid i;
+      fuse = fuse_back c.fuse i;
+      op = Dataset (deallocate_back deallocate i);
+      slba = sym slba i;
+      nlb = sym nlb i;
+      nr = range_bits c.payload;
     }
 
 -- The entry of a Dataset Management says its fields, in the second version.

@@ -11,3 +11,4 @@ pub mod RecordsHeld
 pub mod Returning
 pub mod CommandsReturn
 pub mod CommandsAgain
+pub mod WholeCommandsAgain

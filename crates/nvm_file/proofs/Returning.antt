@@ -42,6 +42,6 @@ module _ {A : Type 0} where
   items_return text P item returns place [] rest all = refl
   items_return text P item returns place (x ∷ xs) rest all =
       let regrouped : flat_map text (x ∷ xs) ++ rest ≡ text x ++ (flat_map text xs ++ rest) =
-          ap (λ (w : List ℕ). w ++ rest) (flat_map-cons text x xs) ∙ append_assoc (text x) (flat_map text xs) rest in
+      ap (λ (w : List ℕ). w ++ rest) (flat_map-cons text x xs) ∙ append_assoc (text x) (flat_map text xs) rest in
       ap (items_at item place (suc (length xs))) regrouped
       ∙ rw (returns place x (flat_map text xs ++ rest) all.0, items_return text P item returns (place + 1) xs rest all.1) refl
