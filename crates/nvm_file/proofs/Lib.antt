@@ -22,3 +22,7 @@ pub mod HeadSpellings
 pub mod CommandSpellings
 pub mod RecordSpellings
 pub mod FieldsAgain
+pub mod Returning
+pub mod CommandsReturn
+pub mod CommandsAgain
+pub mod WholeCommandsAgain

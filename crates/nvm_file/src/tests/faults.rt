@@ -6,12 +6,24 @@ use std::test::*;
 
 /// The fault of the first version's file with other bytes from an offset on.
 fn fault_with(alloc: Global, at: usize, bytes: &[u8]) -> Result<Option<RecordFault>, Fail> {
-    let mut file = worked_bytes(alloc, false)?;
-    for i in 0..bytes.len() {
-        file[at + i] = bytes[i];
+    let whole = worked_bytes(alloc, false)?;
+    let mut file = Vec::new(alloc);
+    for (place, byte) in whole.iter().enumerate() {
+        file.push(other_byte(*byte, place, at, bytes))?;
     }
     let file = Payload::new(alloc, file)?;
     Ok(read_record(alloc, &file).err())
+}
+
+/// The byte at this place, where other bytes stand from an offset on.
+fn other_byte(byte: u8, place: usize, at: usize, bytes: &[u8]) -> u8 {
+    if place < at {
+        return byte;
+    }
+    match bytes.get(place - at) {
+        Some(other) => *other,
+        None => byte,
+    }
 }
 
 /// A value that isn't allowed in the field that begins at `at`.
@@ -19,53 +31,65 @@ fn bad(at: u64) -> Option<RecordFault> {
     Some(RecordFault::BadValue { at })
 }
 
+/// A byte at an offset that isn't allowed there, and the field that is named.
+const BAD_BYTES: [(usize, u8, u64); 26] = [
+    // no LBA, another block size
+    (4, 0, 4),
+    (12, 1, 4),
+    // no worker, 65 of them
+    (26, 0, 26),
+    (26, 65, 26),
+    // host 0, host 65, a kind of job that there isn't
+    (32, 0, 32),
+    (32, 65, 32),
+    (34, 2, 34),
+    // a pair of a command that is no first, and bits that no field names
+    (34, 1, 35),
+    (36, 4, 35),
+    (43, 1, 35),
+    (98, 0x80, 35),
+    // more entries than the limit, another worker's pass, no such job, no such kind
+    (678, 101, 678),
+    (682, 1, 682),
+    (684, 2, 684),
+    (688, 0, 688),
+    (688, 5, 688),
+    // no block, more blocks than the unit has, blocks of the next unit
+    (697, 0, 697),
+    (697, 9, 697),
+    (689, 8, 697),
+    // no such job, more parts than units, no such unit, no such results
+    (1229, 2, 1229),
+    (1233, 5, 1233),
+    (1235, 4, 1235),
+    (1241, 6, 1241),
+    // no data of a Write, no such flag, no data of a Read of another namespace, which is refused
+    (1244, 1, 1244),
+    (1260, 2, 1260),
+    (618, 2, 1260),
+];
+
 #[test]
 fn a_bad_value_says_its_field(rt: HostRuntime) -> Result<(), Fail> {
     let alloc = rt.alloc();
-    // no LBA, another block size, an offset without a boundary
-    assert_eq!(rt; fault_with(alloc, 4, &[0])?, bad(4));
-    assert_eq!(rt; fault_with(alloc, 12, &[1])?, bad(4));
+    for (at, value, field) in &BAD_BYTES {
+        assert_eq!(rt; fault_with(alloc, *at, &[*value])?, bad(*field));
+    }
+    Ok(())
+}
+
+#[test]
+fn bad_values_of_more_bytes_say_their_field(rt: HostRuntime) -> Result<(), Fail> {
+    let alloc = rt.alloc();
+    // an offset without a boundary, more than 4,194,304 jobs
     assert_eq!(rt; fault_with(alloc, 16, &[0, 0, 1])?, bad(4));
-    // no worker, 65 of them, more than 4,194,304 jobs
-    assert_eq!(rt; fault_with(alloc, 26, &[0])?, bad(26));
-    assert_eq!(rt; fault_with(alloc, 26, &[65])?, bad(26));
     assert_eq!(rt; fault_with(alloc, 28, &[1, 0, 0x40])?, bad(28));
-    // host 0, host 65, a kind of job that there isn't
-    assert_eq!(rt; fault_with(alloc, 32, &[0])?, bad(32));
-    assert_eq!(rt; fault_with(alloc, 32, &[65])?, bad(32));
-    assert_eq!(rt; fault_with(alloc, 34, &[2])?, bad(34));
-    // a pair of a command that is no first, and bits that no field names
-    assert_eq!(rt; fault_with(alloc, 34, &[1])?, bad(35));
-    assert_eq!(rt; fault_with(alloc, 36, &[4])?, bad(35));
-    assert_eq!(rt; fault_with(alloc, 43, &[1])?, bad(35));
-    assert_eq!(rt; fault_with(alloc, 98, &[0x80])?, bad(35));
-    // a pair of an unknown opcode
+    // a pair of an unknown opcode, a first whose second isn't one
     assert_eq!(rt; fault_with(alloc, 34, &[1, 9, 1])?, bad(35));
-    // a first whose second isn't one
     assert_eq!(rt; fault_with(alloc, 34, &[1, 1, 1])?, bad(611));
-    // more entries than the limit, another worker's pass, no such job, no such kind
-    assert_eq!(rt; fault_with(alloc, 678, &[101])?, bad(678));
-    assert_eq!(rt; fault_with(alloc, 682, &[1])?, bad(682));
-    assert_eq!(rt; fault_with(alloc, 684, &[2])?, bad(684));
-    assert_eq!(rt; fault_with(alloc, 688, &[0])?, bad(688));
-    assert_eq!(rt; fault_with(alloc, 688, &[5])?, bad(688));
-    // no block, more blocks than the unit has, blocks of the next unit
-    assert_eq!(rt; fault_with(alloc, 697, &[0])?, bad(697));
-    assert_eq!(rt; fault_with(alloc, 697, &[9])?, bad(697));
-    assert_eq!(rt; fault_with(alloc, 689, &[8])?, bad(697));
-    // no such job, more parts than units, no such unit, no such results
-    assert_eq!(rt; fault_with(alloc, 1229, &[2])?, bad(1229));
-    assert_eq!(rt; fault_with(alloc, 1233, &[5])?, bad(1233));
-    assert_eq!(rt; fault_with(alloc, 1235, &[4])?, bad(1235));
-    assert_eq!(rt; fault_with(alloc, 1241, &[0])?, bad(1241));
-    assert_eq!(rt; fault_with(alloc, 1241, &[6])?, bad(1241));
-    // any point and any status, but no data of a Write, and no such flag
-    assert_eq!(rt; fault_with(alloc, 1237, &[0xff, 0xff, 0xff, 0xff])?, None);
-    assert_eq!(rt; fault_with(alloc, 1242, &[0xff, 0xff])?, None);
-    assert_eq!(rt; fault_with(alloc, 1244, &[1])?, bad(1244));
-    assert_eq!(rt; fault_with(alloc, 1260, &[2])?, bad(1260));
-    // no data of a Read that a check refuses: of another namespace
-    assert_eq!(rt; fault_with(alloc, 618, &[2])?, bad(1260));
+    // any point and any status
+    assert_eq!(rt; fault_with(alloc, 1237, &[0xff; 4])?, None);
+    assert_eq!(rt; fault_with(alloc, 1242, &[0xff; 2])?, None);
     Ok(())
 }
 

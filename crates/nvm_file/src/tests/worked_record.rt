@@ -2,6 +2,7 @@ use super::worked_bytes;
 use crate::{RecordFault, read_record};
 use nvm_audit::Version;
 use nvm_record::Payload;
+use std::alloc::Global;
 use std::test::*;
 
 #[test]
@@ -36,22 +37,28 @@ const STARTS: [usize; 45] = [
     1253, 1257, 1258, 1259, 1260, 1261, 1773,
 ];
 
+/// The fault of the first bytes of the file, so many.
+fn fault_of_cut(alloc: Global, file: &Payload, length: usize) -> Result<Option<RecordFault>, Fail> {
+    let cut = file.part(0, length.min(file.len()))?;
+    Ok(read_record(alloc, &cut).err())
+}
+
 #[test]
 fn a_cut_file_says_which_field_is_not_whole(rt: HostRuntime) -> Result<(), Fail> {
     let alloc = rt.alloc();
     let file = Payload::new(alloc, worked_bytes(alloc, false)?)?;
     for length in 0..3 {
-        let cut = file.part(0, length)?;
-        assert_eq!(rt; read_record(alloc, &cut).err(), Some(RecordFault::BadName));
+        assert_eq!(rt;
+            fault_of_cut(alloc, &file, length)?,
+            Some(RecordFault::BadName)
+        );
     }
-    let cut = file.part(0, 3)?;
-    assert_eq!(rt; read_record(alloc, &cut).err(), Some(RecordFault::Version));
+    assert_eq!(rt; fault_of_cut(alloc, &file, 3)?, Some(RecordFault::Version));
     for k in 0..44 {
         for length in STARTS[k]..STARTS[k + 1] {
-            let cut = file.part(0, length)?;
             let at = STARTS[k] as u64;
             assert_eq!(rt;
-                read_record(alloc, &cut).err(),
+                fault_of_cut(alloc, &file, length)?,
                 Some(RecordFault::Truncated { at })
             );
         }
