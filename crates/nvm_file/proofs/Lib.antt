@@ -21,7 +21,6 @@ pub mod DoneSpellings
 pub mod HeadSpellings
 pub mod CommandSpellings
 pub mod RecordSpellings
-pub mod FieldsAgain
 pub mod Returning
 pub mod CommandsReturn
 pub mod CommandsAgain
