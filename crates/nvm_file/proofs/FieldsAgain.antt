@@ -1,13 +1,13 @@
 -- Fields that were spelled are read again.
-use Rattle.std.proofs.Common.{◌≡◌, ℕ, zero, suc, ◌+◌, ◌^◌, ◌<◌, ◌≤◌, ◌||◌, cond, false, ltb, List, [], ◌∷◌, ◌++◌, length, take, drop, length-append, append_assoc, Result, Ok, Err, refl, sym, ap, ◌∙◌, arith}
+use Rattle.std.proofs.Common.{◌≡◌, ℕ, suc, ◌+◌, ◌^◌, ◌<◌, ◌≤◌, false, ltb, List, [], ◌∷◌, ◌++◌, length, length-append, append_assoc, Result, Ok, refl, ap, ◌∙◌, arith}
 use Rattle.std.specs.List.{AllByRecursion, flat_map}
 use Rattle.std.proofs.lemmas.Bool.{le-ltb, lt-ltb}
 use Rattle.std.proofs.lemmas.List.{drop_at, take_at}
 use Rattle.std.proofs.lemmas.List.Concat.{flat_map-cons}
-use Rattle.byteorder.specs.Endian.{little_bytes, little_number}
+use Rattle.byteorder.specs.Endian.{little_bytes}
 use Rattle.byteorder.specs.Numbers.{length-bytes_low_first, little_number-reads_back}
 use Rattle.nvm_file.specs.declared.record_fault.RecordFault.{RecordFault}
-use Rattle.nvm_file.specs.Fields.{◌>>=◌, bytes_at, number_at, number_in, number_below, items_at}
+use Rattle.nvm_file.specs.Fields.{bytes_at, number_at, number_in, number_below, items_at}
 
 not_short : (piece rest : List ℕ) (n : ℕ) → length piece ≡ n → ltb (length (piece ++ rest)) n ≡ false
 not_short piece rest n long = le-ltb _ _ (omega (arith, length-append piece rest, long))
