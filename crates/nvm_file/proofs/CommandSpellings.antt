@@ -1,5 +1,5 @@
 -- Commands and jobs that were read are spelled so.
-use Rattle.std.proofs.Common.{◌≡◌, ℕ, zero, suc, ◌+◌, ◌-◌, ◌*◌, ◌%◌, ◌<◌, ◌≤◌, ◌==◌, ◌&&◌, Bool, true, false, cond, List, [], ◌∷◌, ◌++◌, length, replicate, slice_index, Result, Ok, Err, refl, sym, ap, subst, ◌∙◌, arith}
+use Rattle.std.proofs.Common.{◌≡◌, ℕ, zero, suc, ◌+◌, ◌*◌, ◌%◌, ◌<◌, ◌≤◌, ◌&&◌, Bool, true, false, cond, List, [], ◌∷◌, ◌++◌, length, replicate, slice_index, Ok, refl, sym, ap, subst, ◌∙◌, arith}
 use Rattle.std.specs.Str.{bytes_eq}
 use Rattle.std.proofs.lemmas.Bool.{and_parts}
 use Rattle.std.proofs.lemmas.Slice.Eq.{bytes_eq-Decides}
@@ -19,10 +19,10 @@ use Rattle.nvm_file.specs.declared.frame.Frame.{Frame}
 use Rattle.nvm_file.specs.declared.record_fault.RecordFault.TheVariants.{BadValue}
 use Rattle.nvm_file.specs.declared.standing.Standing.{Standing}
 use Rattle.nvm_file.specs.declared.standing.Standing.TheVariants.{Alone, FirstOfPair, SecondOfPair}
-use Rattle.nvm_file.specs.CommandReading.{op_in, fields_with, fields_in, place_of_fields, entry_with, is_just, may_stand, submission_at, may_follow, command_with, command_at}
+use Rattle.nvm_file.specs.CommandReading.{op_in, fields_in, place_of_fields, entry_with, is_just, may_stand, submission_at, may_follow, command_with, command_at}
 use Rattle.nvm_file.specs.JobReading.{single_at, pair_at, body_at, job_at}
 use Rattle.nvm_file.specs.JobSpelling.{body_kind, commands_bytes, job_bytes}
-use Rattle.nvm_file.specs.Fields.{◌>>=◌, offset, bytes_at, number_in}
+use Rattle.nvm_file.specs.Fields.{offset, bytes_at, number_in}
 use Rattle.nvm_file.proofs.FieldSpellings.{Takes, and_then, spelled_as, in_takes, run_are, run_takes}
 use Rattle.nvm_file.proofs.NumberBytes.{IsBytes}
 use Rattle.nvm_file.proofs.Readings.{bind_ok, has_length, took, ok_is, in_range as is_in}

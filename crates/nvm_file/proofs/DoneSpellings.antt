@@ -1,5 +1,5 @@
 -- What was read of a worker's jobs is spelled so.
-use Rattle.std.proofs.Common.{◌≡◌, ℕ, zero, suc, ◌%◌, ◌≤◌, ◌==◌, cond, List, [], ◌∷◌, ◌++◌, length, Option, Some, None, Result, Ok, Err, refl, sym, ap, subst, ◌∙◌, inl, inr, arith}
+use Rattle.std.proofs.Common.{◌≡◌, ℕ, zero, suc, ◌≤◌, ◌==◌, cond, List, [], ◌∷◌, ◌++◌, length, Option, Some, None, Ok, refl, sym, ap, subst, arith}
 use Rattle.std.specs.Prelude.{slice_get}
 use Rattle.std.specs.List.{flat_map}
 use Rattle.byteorder.specs.Endian.{little_bytes}
@@ -16,11 +16,11 @@ use Rattle.nvm_audit.specs.Recordable.{most_jobs}
 use Rattle.nvm_audit.specs.RecordedJob.{RecordedJob}
 use Rattle.nvm_file.specs.declared.frame.Frame.{Frame}
 use Rattle.nvm_file.specs.DoneReading.{result_of, part_at, parts_at, status_at, one_status_at, two_statuses_at, statuses_at, answer_at, answer_behind, payload_at, answer_length, done_of, done_of_number, done_at, work_at}
-use Rattle.nvm_file.specs.WorkSpelling.{done_bytes, done_front, part_bytes, payload_bytes, result_byte, status_bytes, statuses_bytes, work_bytes}
-use Rattle.nvm_file.specs.Fields.{◌>>=◌, bytes_at, number_at, number_in, number_below, items_at}
+use Rattle.nvm_file.specs.WorkSpelling.{done_bytes, part_bytes, payload_bytes, result_byte, status_bytes, statuses_bytes, work_bytes}
+use Rattle.nvm_file.specs.Fields.{bytes_at, number_at, number_in, number_below}
 use Rattle.nvm_file.proofs.FieldSpellings.{Takes, and_then, spelled_as, number_takes, in_takes, below_takes, run_takes, items_take, how_many, counted_takes, small_byte}
 use Rattle.nvm_file.proofs.NumberBytes.{IsBytes}
-use Rattle.nvm_file.proofs.Readings.{bind_ok, chosen, ok_is, in_range as is_in}
+use Rattle.nvm_file.proofs.Readings.{bind_ok, ok_is, in_range as is_in}
 
 code_again : (code : ℕ) → 1 ≤ code → code ≤ 5 → little_bytes 1 code ≡ result_byte (result_of code) ∷ []
 code_again zero low high = absurd (omega (arith, low))

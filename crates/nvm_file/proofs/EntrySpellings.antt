@@ -1,6 +1,5 @@
 -- Entries of a unit's history that were read are spelled so.
-use Rattle.std.proofs.Common.{◌≡◌, ℕ, zero, suc, ◌*◌, ◌%◌, ◌≤◌, List, [], ◌∷◌, ◌++◌, length, take, drop, take-append-drop, Result, Ok, Err, refl, sym, ap, subst, ◌∙◌, arith}
-use Rattle.std.specs.List.{flat_map}
+use Rattle.std.proofs.Common.{◌≡◌, ℕ, zero, suc, ◌*◌, ◌%◌, ◌≤◌, List, [], ◌∷◌, ◌++◌, length, take, drop, take-append-drop, Ok, refl, sym, ap, subst, ◌∙◌, arith}
 use Rattle.byteorder.specs.Endian.{little_bytes}
 use Rattle.nvm_record.specs.declared.lba_range.LbaRange.{LbaRange}
 use Rattle.nvm_record.specs.Ranges.{most_ranges}
@@ -13,8 +12,8 @@ use Rattle.nvm_audit.specs.declared.version.Version.TheVariants.{One, Two}
 use Rattle.nvm_file.specs.declared.frame.Frame.{Frame}
 use Rattle.nvm_file.specs.declared.record_fault.RecordFault.TheVariants.{BadValue}
 use Rattle.nvm_file.specs.EntryReading.{lies_in, range_in, write_at, zeroes_at, uncorrectable_at, fused_at, deallocate_at, last_kind, operation_of_kind, operation_at, entry_at, place_of, history_at}
-use Rattle.nvm_file.specs.EntrySpelling.{change_bytes, cut_bytes, entry_bytes, entry_front, extent_bytes, history_bytes, kind_of}
-use Rattle.nvm_file.specs.Fields.{◌>>=◌, offset, bytes_at, number_at, number_in, number_below, items_at}
+use Rattle.nvm_file.specs.EntrySpelling.{change_bytes, cut_bytes, entry_bytes, history_bytes, kind_of}
+use Rattle.nvm_file.specs.Fields.{offset, bytes_at, number_at, number_in, number_below, items_at}
 use Rattle.nvm_file.proofs.FieldSpellings.{Takes, and_then, spelled_as, number_takes, in_takes, below_takes, run_takes, items_take, how_many, counted_takes}
 use Rattle.nvm_file.proofs.NumberBytes.{IsBytes}
 use Rattle.nvm_file.proofs.Readings.{bind_ok, took, ok_is, in_range as is_in}

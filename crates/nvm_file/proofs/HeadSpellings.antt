@@ -1,5 +1,5 @@
 -- What was read before the jobs is spelled so.
-use Rattle.std.proofs.Common.{◌≡◌, ◌⊎◌, inl, inr, ℕ, ◌+◌, ◌-◌, ◌==◌, cond, List, [], ◌∷◌, ◌++◌, take, drop, take-append-drop, Result, Ok, Err, refl, sym, ap, subst, ◌∙◌, arith}
+use Rattle.std.proofs.Common.{◌≡◌, inl, inr, ℕ, ◌+◌, ◌-◌, ◌==◌, cond, List, [], ◌∷◌, ◌++◌, take, drop, take-append-drop, Ok, Err, refl, sym, ap, subst, ◌∙◌, arith}
 use Rattle.std.specs.Str.{bytes_eq}
 use Rattle.std.proofs.lemmas.Bool.{eqb-true}
 use Rattle.std.proofs.lemmas.Slice.Eq.{bytes_eq-Decides}
@@ -13,7 +13,7 @@ use Rattle.nvm_file.specs.declared.record_fault.RecordFault.{RecordFault}
 use Rattle.nvm_file.specs.declared.record_fault.RecordFault.TheVariants as fault
 use Rattle.nvm_file.specs.HeadReading.{record_name, digit_at, version_at, is_geometry, numbers_at, judged, limit_less_one_at, most_entries, limit_at, frame_with, head_at}
 use Rattle.nvm_file.specs.HeadSpelling.{limit_bytes, name_of, namespace_bytes}
-use Rattle.nvm_file.specs.Fields.{◌>>=◌, number_at, number_in}
+use Rattle.nvm_file.specs.Fields.{number_at, number_in}
 use Rattle.nvm_file.proofs.FieldSpellings.{Takes, and_then, spelled_as, dropped, number_takes, in_takes}
 use Rattle.nvm_file.proofs.NumberBytes.{IsBytes}
 use Rattle.nvm_file.proofs.Readings.{bind_ok, chosen, ok_is, took}

@@ -1,5 +1,5 @@
 -- A record that was read is spelled so.
-use Rattle.std.proofs.Common.{◌≡◌, ℕ, List, [], ◌∷◌, ◌++◌, length, append-nil, append_assoc, Result, Ok, Err, refl, sym, ap, subst, ◌∙◌}
+use Rattle.std.proofs.Common.{◌≡◌, ℕ, List, [], ◌∷◌, ◌++◌, length, append-nil, append_assoc, Ok, refl, sym, ap, ◌∙◌}
 use Rattle.std.specs.List.{flat_map}
 use Rattle.byteorder.specs.Endian.{little_bytes}
 use Rattle.nvm_geometry.specs.Boundaries.{units_of}
@@ -8,7 +8,6 @@ use Rattle.nvm_store.specs.HistoryEntry.{HistoryEntry}
 use Rattle.nvm_audit.specs.RecordedJob.{RecordedJob}
 use Rattle.nvm_audit.specs.RecordView.{RecordView}
 use Rattle.nvm_file.specs.declared.frame.Frame.{Frame}
-use Rattle.nvm_file.specs.declared.record_fault.RecordFault.{RecordFault}
 use Rattle.nvm_file.specs.DoneReading.{work_at}
 use Rattle.nvm_file.specs.EntryReading.{history_at}
 use Rattle.nvm_file.specs.EntrySpelling.{history_bytes}
@@ -18,11 +17,10 @@ use Rattle.nvm_file.specs.JobSpelling.{job_bytes}
 use Rattle.nvm_file.specs.Reading.{jobs_at, units_at, workers_at, record_with, whole, body_of, record_at}
 use Rattle.nvm_file.specs.Spelling.{record_bytes}
 use Rattle.nvm_file.specs.WorkSpelling.{work_bytes}
-use Rattle.nvm_file.specs.Fields.{◌>>=◌, items_at}
 use Rattle.nvm_file.proofs.CommandSpellings.{job_takes}
 use Rattle.nvm_file.proofs.DoneSpellings.{work_takes}
 use Rattle.nvm_file.proofs.EntrySpellings.{history_takes}
-use Rattle.nvm_file.proofs.FieldSpellings.{Takes, and_then, how_many, items_take, spelled_as}
+use Rattle.nvm_file.proofs.FieldSpellings.{Takes, and_then, how_many, items_take}
 use Rattle.nvm_file.proofs.HeadSpellings.{front_of, head_takes}
 use Rattle.nvm_file.proofs.NumberBytes.{IsBytes}
 use Rattle.nvm_file.proofs.Readings.{bind_ok}
