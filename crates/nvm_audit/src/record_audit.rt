@@ -48,18 +48,23 @@ fn found_in_units(
         .collect(rt, alloc)
 }
 
-/// What is first found wrong in the units, by their numbers, if anything is. The parts are grouped by unit in one pass, and then
-/// a unit costs what its own entries and parts cost.
-fn first_in_units(alloc: Global, record: &Record) -> Result<Option<AuditFault>, NoMemory>
+/// What is first found wrong in the units, by their numbers, if anything is. The parts are grouped by unit in one pass, and
+/// then a unit costs what its own entries and parts cost. Where memory was refused for a unit before, nothing is known.
+fn first_in_units(
+    rt: &(impl Threads + Sync),
+    alloc: Global,
+    record: &Record,
+) -> Result<Option<AuditFault>, NoMemory>
     requires { AllByRecursion (Passes «record».now)
         (count_checks (length «record».now.jobs) ++ shape_checks (length «record».now.jobs)) }
     ensures { IfOk result (λ found. MatchOption found (IsLawfulRecord «record».now) (IsFirstFault «record».now)) }
 {
     no_check_fails_for_lawful_records();
-    let units = record.geometry.units();
-    let parts = parts_by_unit(alloc, usize::from(units), &record.done)?;
-    for unit in 0..units {
-        match fault_of_parts(alloc, record, unit, &parts[unit as usize])? {
+    let units = usize::from(record.geometry.units());
+    let parts = parts_by_unit(alloc, units, &record.done)?;
+    let found = found_in_units(rt, alloc, record, &parts)?;
+    for unit in 0..found.len() {
+        match found[unit]? {
             Some(fault) => return Ok(Some(fault)),
             None => {}
         }
@@ -68,20 +73,28 @@ fn first_in_units(alloc: Global, record: &Record) -> Result<Option<AuditFault>, 
 }
 
 /// What is first found wrong in the record, if anything is.
-fn first_fault(alloc: Global, record: &Record) -> Result<Option<AuditFault>, NoMemory>
+fn first_fault(
+    rt: &(impl Threads + Sync),
+    alloc: Global,
+    record: &Record,
+) -> Result<Option<AuditFault>, NoMemory>
     ensures { IfOk result (λ found. MatchOption found (IsLawfulRecord «record».now) (IsFirstFault «record».now)) }
 {
     match job_fault(alloc, record)? {
         Some(fault) => Ok(Some(fault)),
-        None => first_in_units(alloc, record),
+        None => first_in_units(rt, alloc, record),
     }
 }
 
 /// Whether the record is lawful: what there was in it, or the first fault.
 ///
-/// It replays each unit's history once, and judges each part at its point. All is linear in the record; a unit that was never
-/// used costs a constant. After `NoMemory` nothing is known of the record.
-pub fn audit(alloc: Global, record: &Record) -> Result<Verdict, AuditFault>
+/// It replays each unit's history once, the units in several threads, and judges each part at its point. All is linear in
+/// the record; a unit that was never used costs a constant. After `NoMemory` nothing is known of the record.
+pub fn audit(
+    rt: &(impl Threads + Sync),
+    alloc: Global,
+    record: &Record,
+) -> Result<Verdict, AuditFault>
     ensures lawful { IfOk result (λ _. IsLawfulRecord «record».now) }
     ensures numbers { IfOk result (IsVerdict «record».now) }
     ensures fault { IfErr result (λ fault. IsFirstFault «record».now fault ⊎ (fault ≡ NoMemoryFault)) }
@@ -90,7 +103,7 @@ pub fn audit(alloc: Global, record: &Record) -> Result<Verdict, AuditFault>
         → MatchResult result (λ _. ⊥) (λ answer. (answer ≡ fault) ⊎ (answer ≡ NoMemoryFault)) }
 {
     one_check_is_the_first_fault();
-    match first_fault(alloc, record)? {
+    match first_fault(rt, alloc, record)? {
         Some(fault) => Err(fault),
         None => Ok(verdict(record)),
     }

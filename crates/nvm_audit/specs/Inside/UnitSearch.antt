@@ -1,5 +1,5 @@
 -- What a search through the units of a record finds, each unit by itself.
-use Rattle.std.specs.Prelude.{◌≡◌, ℕ, ◌<◌, List, length, IfOk, MatchOption, Option, Result}
+use Rattle.std.specs.Prelude.{ℕ, ◌<◌, List, length, MatchOption, Option}
 use Rattle.nvm_record.specs.Lists.{IsAt}
 use Rattle.nvm_store.specs.HistoryEntry.{HistoryEntry}
 use Rattle.nvm_audit.specs.declared.audit_fault.AuditFault.{AuditFault}

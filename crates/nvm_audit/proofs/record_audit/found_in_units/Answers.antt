@@ -1,4 +1,4 @@
-use Rattle.std.proofs.Common.{◌≡◌, ℕ, ◌<◌, ◌-◌, List, length, map, IfOk, Option, sym, ap, subst, ◌∙◌, arith}
+use Rattle.std.proofs.Common.{◌≡◌, ℕ, ◌-◌, List, length, map, IfOk, sym, ap, subst, ◌∙◌, arith}
 use Rattle.std.specs.List.{AllZip, range_with_len}
 use denote.Param.Members.{lent}
 use Rattle.rayon.specs.Numbers.{nat_range}
