@@ -44,3 +44,4 @@ pub mod Searching
 pub mod Counting
 pub mod Groups
 pub mod OneDone
+pub mod UnitsFound

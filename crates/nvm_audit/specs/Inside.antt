@@ -18,3 +18,5 @@ pub mod Occurrences
 pub mod Grouped
 -- The parts that name a unit.
 pub mod Gathered
+-- Units that are audited each by itself.
+pub mod UnitSearch

@@ -69,8 +69,8 @@ fn put_work<'a>(
     Ok(())
 }
 
-/// The parts that name each of so many units, at the place of the unit's number: by worker, and in the worker's order. It is one
-/// pass over all that was done.
+/// The parts that name each of so many units, at the place of the unit's number: by worker, and in the worker's order. It is
+/// one pass over all that was done.
 pub(crate) fn parts_by_unit<'a>(
     alloc: Global,
     units: usize,

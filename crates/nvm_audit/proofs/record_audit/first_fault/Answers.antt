@@ -4,7 +4,7 @@ use Rattle.nvm_audit.proofs.FirstFaults.{first_in_front}
 use Rattle.nvm_audit.proofs.record_audit.first_fault.Goals as goal
 
 pub returns-in-Some : goal.returns-in-Some
-returns-in-Some c =
+returns-in-Some g c =
     let r = c.args.record.now in
     let found = rw c.in-Some.is at c.in_ok-fault.ensures in
     record {

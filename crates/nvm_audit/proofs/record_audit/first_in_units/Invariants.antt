@@ -7,6 +7,6 @@ use Rattle.nvm_audit.proofs.record_audit.first_in_units.Given as goal
 
 -- Nothing is wrong in the units before.
 abbrev pub invariant-loop-unit : goal.invariant-loop-unit
-invariant-loop-unit l =
+invariant-loop-unit g l =
     (i : ℕ) (history : List HistoryEntry) → i < l.unit → IsAt l.fn.record.units i history
     → HasNoUnitFault (view_of_unit l.fn.record i history)

@@ -22,7 +22,7 @@ fn each_write_has_its_entry(rt: HostRuntime) -> Result<(), Fail> {
     for history in &record.units {
         assert_eq!(rt; history.len(), 1600);
     }
-    assert!(rt; is_lawful(alloc, &record)?);
+    assert!(rt; is_lawful(&rt, alloc, &record)?);
     Ok(())
 }
 
@@ -37,7 +37,7 @@ fn a_full_history_takes_no_more(rt: HostRuntime) -> Result<(), Fail> {
     let record = jobs.record(&rt, alloc, 64, 1000, &Open)?;
     assert_eq!(rt; successes(&record), 1000);
     assert_eq!(rt; record.units[0].len(), 1000);
-    assert!(rt; is_lawful(alloc, &record)?);
+    assert!(rt; is_lawful(&rt, alloc, &record)?);
     Ok(())
 }
 
@@ -53,7 +53,7 @@ fn one_of_many_pairs_succeeds(rt: HostRuntime) -> Result<(), Fail> {
     let record = jobs.record(&rt, alloc, 64, 64, &Open)?;
     assert_eq!(rt; successes(&record), 1);
     assert_eq!(rt; record.units[0].len(), 1);
-    assert!(rt; is_lawful(alloc, &record)?);
+    assert!(rt; is_lawful(&rt, alloc, &record)?);
     Ok(())
 }
 
@@ -75,7 +75,7 @@ fn one_worker_does_all_in_order(rt: HostRuntime) -> Result<(), Fail> {
     for (number, done) in (0u32..).zip(record.done[0].iter()) {
         assert_eq!(rt; done.job, number);
     }
-    assert!(rt; is_lawful(alloc, &record)?);
+    assert!(rt; is_lawful(&rt, alloc, &record)?);
     Ok(())
 }
 
@@ -85,7 +85,7 @@ fn no_jobs_leave_no_entries(rt: HostRuntime) -> Result<(), Fail> {
     let record = Fitting::new(alloc)?.record(&rt, alloc, 3, 1, &Open)?;
     assert_eq!(rt; record.done.len(), 3);
     assert_eq!(rt; record.units.len(), 4);
-    assert!(rt; is_lawful(alloc, &record)?);
+    assert!(rt; is_lawful(&rt, alloc, &record)?);
     Ok(())
 }
 

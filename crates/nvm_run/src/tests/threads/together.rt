@@ -66,7 +66,7 @@ fn two_workers_act_at_once(rt: HostRuntime) -> Result<(), Fail> {
     let record = jobs.record(&rt, alloc, 2, 1, &gate)?;
     gate.was_seen()?;
     assert_eq!(rt; successes(&record), 2);
-    assert!(rt; is_lawful(alloc, &record)?);
+    assert!(rt; is_lawful(&rt, alloc, &record)?);
     Ok(())
 }
 
@@ -88,6 +88,6 @@ fn others_go_on_while_a_unit_is_held(rt: HostRuntime) -> Result<(), Fail> {
     let record = jobs.record(&rt, alloc, 4, 100, &gate)?;
     gate.was_seen()?;
     assert_eq!(rt; successes(&record), 31);
-    assert!(rt; is_lawful(alloc, &record)?);
+    assert!(rt; is_lawful(&rt, alloc, &record)?);
     Ok(())
 }
