@@ -14,7 +14,7 @@ least_after part Looked = part.point
 least_after part NoMemory = part.point
 least_after part Full = part.point
 
--- The later part's point isn't behind the earlier part of the same worker.
+-- The later part's point isn't before what the earlier part of the same worker leaves.
 abbrev pub IsNotBefore : RecordedPart → RecordedPart → Type 0
 IsNotBefore earlier later = later.worker ≡ earlier.worker → least_after earlier.part earlier.part.result ≤ later.part.point
 

@@ -15,7 +15,7 @@ pub enum AuditFault {
     /// The job was done more than once.
     #[error("JobTwice")]
     JobTwice { job: u32 },
-    /// The worker that an entry names has no part of the job there that was done.
+    /// The worker that an entry names has no part of the job there that was done at the entry's place.
     #[error("EntryUnclaimed")]
     EntryUnclaimed { job: u32, spot: Spot },
     /// An entry isn't its job's part in the unit, or doesn't succeed after the entries before it.

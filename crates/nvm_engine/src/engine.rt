@@ -31,8 +31,8 @@ use std::thread::Threads;
 /// the settings say, and says what to show: for each command the line of its completion, in the order of the jobs and not in
 /// that of the workers. The lines are those of the run's record, which is lawful.
 ///
-/// The gate is told of the course of the jobs. A job that finds no memory ends with 0/06, a pair's second command with 0/09,
-/// and has its lines as any other.
+/// The gate is told of the course of the jobs. A job that finds no memory ends with 0/06 and has its lines as any other; a pair
+/// ends with 0/06 and 0/09 before its part, and with 0/00 and 0/06 in it.
 ///
 /// The first fault is answered: more than 64 files, then one of the settings, then one of a file, or
 /// `NoMemory` where a growth outside a command was refused. All workers have ended then, and nothing is shown.
