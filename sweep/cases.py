@@ -11,7 +11,7 @@ from dataclasses import dataclass, field
 from model import Model
 
 # How an assertion prints the want of memory that a call gave.
-GIVEN_FOR_MEMORY = re.compile(r'"(nvmu|nvq|unit_bench): no memory"|Err\((NoMemory|AllocError|AllocFailed \{ \.\. \})\)')
+GIVEN_FOR_MEMORY = re.compile(r'"(nvmu|nvq|unit_bench): no memory"|(Err|Some)\((NoMemory|AllocError|AllocFailed \{ \.\. \})\)')
 
 
 # How a run is called that had the memory for its commands, and none for a thread.
@@ -143,7 +143,7 @@ class Test:
     def refused(self, end, whole, refusals):
         if self.is_passed(end):
             return "passed"
-        error = re.match(r"error: .*\b(AllocError|AllocFailed|NoMemory)\b.*\n.*\n\Z", end.err)
+        error = re.match(r"error: .*\b(AllocError|AllocFailed|NoMemory|OutOfMemory)\b.*\n.*\n\Z", end.err)
         if error and end.status == 101:
             return "no memory"
         if end.status == 101 and re.match(r'(error: ")?there was no memory"?\n', end.err):

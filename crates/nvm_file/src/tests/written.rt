@@ -66,7 +66,7 @@ fn a_full_writer_has_a_front(rt: HostRuntime) -> Result<(), Fail> {
     for room in [0, 1, 27, 99, 100, 678, 1772] {
         let mut writer = SmallWriter {
             room,
-            taken: Vec::new(alloc),
+            taken: Vec::with_capacity(alloc, room)?,
         };
         assert!(rt; write_record(&mut writer, &record).is_err());
         assert_eq!(rt; writer.taken.len(), room);
@@ -82,7 +82,7 @@ fn a_buffer_is_a_writer(rt: HostRuntime) -> Result<(), Fail> {
     let mut buffered = BufWriter::new(alloc, Vec::new(alloc))?;
     write_record(&mut buffered, &record)?;
     let Ok(bytes) = buffered.into_inner() else {
-        return Err(Fail::from("a vector takes all"));
+        return Err(Fail::from("there was no memory"));
     };
     assert_eq!(rt; bytes, worked_bytes(alloc, true)?);
     Ok(())
