@@ -48,7 +48,7 @@ class Run:
     def has_threads(self):
         return False
 
-    def threads(self):
+    def thread_growths(self):
         """How many threads do its commands. Where one can't be made, the program does that one's work by itself."""
         return 1 if self.model else 0
 
@@ -130,7 +130,7 @@ class Test:
     def has_threads(self):
         return "::threads::" in self.name
 
-    def threads(self):
+    def thread_growths(self):
         return 0
 
     def whole(self, end):
