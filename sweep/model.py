@@ -41,10 +41,20 @@ class Namespace:
     limit: int = 100
 
     def unit(self, lba):
-        """The number of the LBA's unit: how many boundaries are at most it."""
+        """The number of the LBA's unit: how many boundaries are at most it, 0 not among them."""
         if self.nabsn == 0:
             return 0
-        return sum(boundary > 0 for boundary in range(self.nabo, lba + 1, self.nabsn + 1))
+        return len(range(self.nabo, lba + 1, self.nabsn + 1)) - (self.nabo == 0)
+
+    def units(self):
+        """The first LBA and the number of blocks of each unit."""
+        return units_of(self.nsze, self.nabsn, self.nabo)
+
+
+@lru_cache(64)
+def units_of(nsze, nabsn, nabo):
+    begins = sorted({0, *(range(nabo, nsze, nabsn + 1) if nabsn else ())})
+    return tuple((begin, end - begin) for begin, end in zip(begins, [*begins[1:], nsze]))
 
 
 @dataclass(frozen=True)
@@ -59,8 +69,12 @@ class Command:
     ranges: tuple = ()  # of a Dataset Management: first and blocks of each
     deallocate: bool = False
 
+    def is_known(self):
+        """Whether the opcode is one of the profile. A record of the first version knows no Dataset Management."""
+        return self.opcode in NAMES and (self.opcode != DATASET or bool(self.ranges))
+
     def name(self):
-        return NAMES.get(self.opcode, f"op-{self.opcode:02x}")
+        return NAMES[self.opcode] if self.is_known() else f"op-{self.opcode:02x}"
 
 
 def commands(file, block):
@@ -94,7 +108,7 @@ def bodies(listed):
 
 
 def is_pair(first, second):
-    return (first.fuse, second.fuse) == (FIRST, SECOND) and {first.opcode, second.opcode} <= NAMES.keys()
+    return (first.fuse, second.fuse) == (FIRST, SECOND) and first.is_known() and second.is_known()
 
 
 def jobs(files, block):
@@ -109,7 +123,7 @@ def refusal(namespace, body):
     end = max([first + blocks for first, blocks in lead.ranges], default=lead.first + lead.blocks)
     if len(body) == 1:
         table = [
-            (lead.opcode not in NAMES, ["0/01"]),
+            (not lead.is_known(), ["0/01"]),
             (lead.fuse == RESERVED, ["0/02"]),
             (lead.fuse != NORMAL, ["0/0a"]),
             (lead.nsid != 1, ["0/0b"]),
@@ -146,14 +160,18 @@ class World:
         return replace(self, blocks=whole, changes=counts)
 
 
+def cleared_ranges(command):
+    """The LBAs of each range that a Dataset Management deallocates."""
+    return [range(first, first + blocks) for first, blocks in command.ranges if blocks and command.deallocate]
+
+
 def parts(namespace, command):
     """Each unit that the command's range meets, or one of its ranges that are to be deallocated, with the first and the
     number of the blocks in it."""
     if command.opcode == DATASET:
-        lbas = {lba for first, blocks in command.ranges for lba in range(first, first + blocks) if command.deallocate}
-        for unit in sorted(set(map(namespace.unit, lbas))):
-            whole = [lba for lba in range(namespace.nsze) if namespace.unit(lba) == unit]
-            yield unit, whole[0], len(whole)
+        met = {unit for lbas in cleared_ranges(command) for unit in range(namespace.unit(lbas[0]), namespace.unit(lbas[-1]) + 1)}
+        for unit in sorted(met):
+            yield unit, *namespace.units()[unit]
         return
     for unit, lbas in groupby(range(command.first, command.first + command.blocks), namespace.unit):
         lbas = list(lbas)
