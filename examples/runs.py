@@ -4,9 +4,9 @@ The namespace has 32 blocks of 512 bytes in units of eight, or 65,536 in units o
 to four blocks.
 """
 
+from recording import ran, run_words
 
-def settings(nsze, nabsn):
-    return f"--nsze {nsze} --block 512 --nabsn {nabsn} --nabo 0 --nawun 7 --nacwu 3 --workers 1".split()
+OPTIONS = {"nsze": 32, "block": 512, "nabsn": 7, "nabo": 0, "nawun": 7, "nacwu": 3, "workers": 1, "limit": 100}
 
 
 # A range that ends far above 2^64.
@@ -239,12 +239,10 @@ def runs(run):
         run.keep("run.list", text)
         run.expect(["nvq", "assemble", "run.list", name])
 
-    def ran(limit, *files, nsze=32, nabsn=7, **told):
-        run.expect(["nvmu", "run", *settings(nsze, nabsn), f"--limit={limit}", "--out=record", *files], **told)
-
     def answered(limit, asked, lines, **changed):
         assembled("run.nvq", "\n".join(asked))
-        ran(limit, "run.nvq", out="".join(f"1 {cid} {line}\n" for cid, line in enumerate(lines, 1)), **changed)
+        told = "".join(f"1 {cid} {line}\n" for cid, line in enumerate(lines, 1))
+        ran(run, {**OPTIONS, "limit": limit, **changed}, "run.nvq", lines=told)
 
     for limit, asked, lines in RUNS:
         answered(limit, asked.split(" / "), lines.split(" / "))
@@ -252,19 +250,17 @@ def runs(run):
         answered(limit, asked, lines, nsze=65_536, nabsn=nabsn)
     assembled("empty.nvq", "")
     assembled("turns.nvq", TURNS)
-    ran(100, *["empty.nvq"] * 62, "turns.nvq", "turns.nvq", out=TURNS_LINES)
+    ran(run, OPTIONS, *["empty.nvq"] * 62, "turns.nvq", "turns.nvq", lines=TURNS_LINES)
     assembled("whole.nvq", CUT)
-    with open(f"{run.folder}/whole.nvq", "rb") as file:
-        whole = file.read()
+    whole = run.kept("whole.nvq")
     for length, fault in CUTS:
         run.keep("cut.nvq", whole[:length])
-        ran(100, "empty.nvq", "cut.nvq", status=1, err=f"nvmu: host 2: {fault}\n")
+        run.expect(run_words(OPTIONS, "empty.nvq", "cut.nvq"), 1, err=f"nvmu: host 2: {fault}\n")
     for length, lines in CUTS_LINES.items():
         run.keep("cut.nvq", whole[:length])
-        ran(100, "empty.nvq", "cut.nvq", out=lines)
+        ran(run, OPTIONS, "empty.nvq", "cut.nvq", lines=lines)
     assembled("bits.nvq", BITS)
-    with open(f"{run.folder}/bits.nvq", "rb") as file:
-        bits = bytearray(file.read())
+    bits = bytearray(run.kept("bits.nvq"))
     # The entry is at 1,092, and its range behind it. FUSE stays 0, and the number of ranges 1.
     bits[1093] = 0xFC
     for at in [*range(8, 40), *range(41, 68)]:
@@ -272,4 +268,4 @@ def runs(run):
     for byte, left in BITS_LEFT.items():
         bits[1092 + 44] = byte
         run.keep("bits.nvq", bytes(bits))
-        ran(100, "bits.nvq", out=f"1 1 write 0/00\n1 2 dataset 0/00\n1 3 read 0/00 {left}\n")
+        ran(run, OPTIONS, "bits.nvq", lines=f"1 1 write 0/00\n1 2 dataset 0/00\n1 3 read 0/00 {left}\n")

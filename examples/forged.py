@@ -1,0 +1,147 @@
+"""Records that no run made: forged, cut and spoiled ones, of both versions, and what their audit answers."""
+
+from dataclasses import replace
+
+from auditor import verdict
+from host_files import compare, file_of, pair, read, unknown, write
+from model import DATASET, Command, Namespace
+from recorded import jobs_of, recorded
+from records import (
+    DONE,
+    FAILED,
+    KIND_WRITE,
+    LOOKED,
+    Done,
+    Entry,
+    Job,
+    Record,
+    RecordFault,
+    record_of,
+    spelled,
+)
+
+SPACE = Namespace(nabsn=7)
+ROW = [file_of([write(0, 0x41), read(0, 1)])]
+HOSTS = [file_of([write(0, 0x41), read(0, 1)]), file_of([write(0, 0x42)])]
+BLOCK = b"\x41" * 512
+# Two workers: the second did the Write of the second host, before the first did both jobs of the first.
+ENTRIES = (Entry(1, 1, KIND_WRITE, 0, 1, b"\x42" * 512), Entry(0, 0, KIND_WRITE, 0, 1, BLOCK))
+WRITTEN = Done(0, ((0, 1, DONE),), ((0, 0),))
+OTHER = Done(1, ((0, 0, DONE),), ((0, 0),))
+SEEN = Done(2, ((0, 2, LOOKED),), ((0, 0),), BLOCK)
+TWO = Record(2, SPACE, 2, jobs_of(HOSTS, 512), (ENTRIES, (), (), ()), ((WRITTEN, SEEN), (OTHER,)))
+
+
+def seen(**changed):
+    """The record of two workers with another Read."""
+    return replace(TWO, done=((WRITTEN, replace(SEEN, **changed)), (OTHER,)))
+
+
+def changes(*entries):
+    return replace(TWO, units=(entries, (), (), ()))
+
+
+def one(asked, done, units=((), (), (), ())):
+    """The record of one job, by one worker."""
+    return Record(2, SPACE, 1, jobs_of([file_of(asked)], 512), units, ((done,),))
+
+
+def pair_at(*results):
+    return one(pair(compare(0, 0), write(0, 0x55)), Done(0, results, ((0, 0), (0, 0))))
+
+
+WRONG = b"\x42" * 512
+# Records, and the line of each.
+FORGED = [
+    (TWO, "lawful jobs 3 units 4 changes 2 refused 0"),
+    (seen(data=WRONG), "unlawful DataWrong job 2 unit 0 place 2"),
+    (seen(parts=((0, 1, LOOKED),)), "unlawful PointBack job 2 unit 0 place 1"),
+    (replace(TWO, done=((WRITTEN,), (OTHER,))), "unlawful JobMissing job 2 unit - place -"),
+    (replace(TWO, done=((WRITTEN, SEEN), (OTHER, SEEN))), "unlawful JobTwice job 2 unit - place -"),
+    (changes(replace(ENTRIES[0], worker=0), ENTRIES[1]), "unlawful EntryUnclaimed job 1 unit 0 place 0"),
+    (changes(ENTRIES[0], replace(ENTRIES[1], data=b"\x43" + BLOCK[1:])), "unlawful EntryWrong job 0 unit 0 place 1"),
+    (seen(parts=((0, 3, LOOKED),)), "unlawful PointPast job 2 unit 0 place 3"),
+    (seen(statuses=((2, 0x81),), data=None), "unlawful StatusWrong job 2 unit 0 place 2"),
+    (replace(TWO, done=((replace(WRITTEN, statuses=((0, 0x80),)), SEEN), (OTHER,))), "unlawful StatusWrong job 0 unit - place -"),
+    (pair_at((0, 0, FAILED)), "unlawful StatusWrong job 0 unit 0 place 0"),
+    # Each has a fault that is looked for later, too.
+    (replace(seen(data=WRONG), done=((WRITTEN,), ())), "unlawful JobMissing job 1 unit - place -"),
+    (replace(TWO, done=((SEEN, SEEN), (OTHER,))), "unlawful JobMissing job 0 unit - place -"),
+    (replace(TWO, done=((WRITTEN, replace(SEEN, statuses=((0, 0x80),))), (OTHER, WRITTEN))), "unlawful JobTwice job 0 unit - place -"),
+    (replace(seen(parts=()), units=((ENTRIES[1],), (), (), ())), "unlawful StatusWrong job 2 unit - place -"),
+    (replace(seen(data=WRONG), units=(ENTRIES[::-1], (), (), ())), "unlawful EntryUnclaimed job 0 unit 0 place 0"),
+    (replace(seen(parts=((0, 9, LOOKED),)), units=(ENTRIES[:1], (), (), ())), "unlawful PointPast job 0 unit 0 place 1"),
+    (replace(seen(data=WRONG), units=((replace(ENTRIES[0], blocks=2, data=WRONG * 2), ENTRIES[1]), (), (), ())), "unlawful EntryWrong job 1 unit 0 place 0"),
+    (seen(parts=((0, 0, LOOKED),), data=WRONG), "unlawful PointBack job 2 unit 0 place 0"),
+    (seen(parts=((0, 3, LOOKED),), data=WRONG), "unlawful PointPast job 2 unit 0 place 3"),
+    (one([write(0, 0x41)], Done(0, ((0, 0, DONE),), ((0, 0),))), "unlawful PointPast job 0 unit 0 place 0"),
+    (one([write(0, 0x41)], Done(0, (), ((0, 6),))), "lawful jobs 1 units 4 changes 0 refused 1"),
+    (one([write(0, 0x41)], Done(0, ((0, 0, 4),), ((0, 6),))), "lawful jobs 1 units 4 changes 0 refused 1"),
+    (one([write(0, 0x41)], Done(0, ((0, 0, 5),), ((0, 6),))), "unlawful StatusWrong job 0 unit 0 place 0"),
+    (one([write(0, 0x41)], Done(0, ((0, 0, 2),), ((0, 6),))), "unlawful StatusWrong job 0 unit - place -"),
+    (one([read(0, 1)], Done(0, ((0, 4_294_967_295, 3),), ((0, 0),), bytes(512))), "unlawful PointPast job 0 unit 0 place 4294967295"),
+    (one([read(0, 1)], Done(0, ((0, 0, 3),), ((255, 255),))), "unlawful StatusWrong job 0 unit 0 place 0"),
+    (one([unknown(0, 1)], Done(0, (), ((0, 1),))), "lawful jobs 1 units 4 changes 0 refused 0"),
+]
+
+# A record of the first version knows no Dataset Management.
+UNKNOWN = Job(1, (Command(DATASET, 0, 1, 1, 0, 1, ()),))
+OLD = Record(1, SPACE, 1, (UNKNOWN,), ((), (), (), ()), ((Done(0, (), ((0, 1),)),),))
+SPOILS = (0x00, 0x01, 0x7F, 0x80, 0xFF)
+
+
+def audited(run, file, told=None):
+    """Holds the audit of a file to the model, and to the line that was worked out by hand."""
+    try:
+        line, status = verdict(record_of(file)), 0
+    except RecordFault as fault:
+        line, status = f"nvmu: record: {fault}", 1
+    if told is not None:
+        run.hold("the model of a record", line, told)
+    status = 2 if line.startswith("unlawful") else status
+    run.keep("forged", file)
+    out, err = ("", f"{line}\n") if status == 1 else (f"{line}\n", "")
+    run.expect(["nvmu", "audit", "forged"], status, out=out, err=err, files={"forged": file})
+
+
+def forged(run):
+    for record, told in FORGED:
+        for version in (1, 2):
+            audited(run, spelled(replace(record, version=version)), told)
+    audited(run, spelled(OLD), "lawful jobs 1 units 4 changes 0 refused 0")
+    row = recorded(SPACE, ROW)
+    for version, at in ((1, 1261), (2, 1263)):
+        file = bytearray(spelled(replace(row, version=version)))
+        run.hold("its length", len(file), at + 512)
+        file[at] = 0x42
+        audited(run, bytes(file), "unlawful DataWrong job 1 unit 0 place 1")
+    told = "lawful jobs 2 units 4 changes 1 refused 0"
+    for limit, version in ((1, 1), (65_536, 1), (1, 2), (65_537, 2), (4_194_304, 2)):
+        audited(run, spelled(replace(row, version=version, namespace=replace(SPACE, limit=limit))), told)
+    for limit in (0, 4_194_305):
+        audited(run, spelled(replace(row, namespace=replace(SPACE, limit=limit))), "nvmu: record: bad value at 24")
+
+
+def spoiled(run):
+    """The record of a Write and a Read, cut to each length of interest, and spoiled at each byte outside its data."""
+    for version in (1, 2):
+        file = spelled(replace(recorded(SPACE, ROW), version=version))
+        data = 2 * version - 2
+        # Where the Write's data, the entry's and the Read's stand.
+        runs = [range(begin + data, begin + data + 512) for begin in (99, 701, 1261)]
+        outside = [at for at in range(len(file)) if not any(at in them for them in runs)]
+        for length in [*outside, *(them[it] for them in runs for it in (0, 1, 511))]:
+            audited(run, file[:length])
+        audited(run, file + b"\0", f"nvmu: record: trailing at {len(file)}")
+        for at in outside:
+            for byte in SPOILS:
+                audited(run, file[:at] + bytes([byte]) + file[at + 1 :])
+    file = spelled(recorded(SPACE, ROW))
+    audited(run, file[:26], "nvmu: record: truncated at 24")
+    audited(run, b"NVR3" + file[4:], "nvmu: record: unknown version")
+    audited(run, b"NVR", "nvmu: record: unknown version")
+    audited(run, b"NVQ1", "nvmu: record: bad name")
+    audited(run, b"", "nvmu: record: bad name")
+    # A forged count of jobs, in a file of few bytes.
+    audited(run, file[:30] + b"\x00\x00\x40\x00", "nvmu: record: truncated at 34")
+    audited(run, file[:30] + b"\x01\x00\x40\x00", "nvmu: record: bad value at 30")

@@ -1,0 +1,185 @@
+"""Runs that were worked out by hand, each with all that is printed of it: commands, lines and verdict.
+
+The namespace has 32 blocks of 512 bytes in units of eight, and pairs have up to four blocks, where nothing else is said.
+"""
+
+from host_files import compare, dataset, file_of, pair, read, uncorrectable, unknown, write, zeroes
+from recording import ran, run_words
+from records import MOST_LIMIT
+
+OPTIONS = {"nsze": 32, "block": 512, "nabsn": 7, "nabo": 0, "nawun": 7, "nacwu": 3, "workers": 1, "limit": 100}
+LAST = 2**64 - 1
+
+
+def equal(make, first, blocks, filler, **more):
+    """A command of equal bytes."""
+    return make(first, *[filler] * blocks, **more)
+
+
+def both(first, blocks, compared, written):
+    return pair(equal(compare, first, blocks, compared), equal(write, first, blocks, written))
+
+
+FIRST, SECOND = {"fuse": 1}, {"fuse": 2}
+
+# The options that are other ones, the commands of each host, and what is printed.
+ROWS = {
+    "a Write and a Read": ({}, [[write(0, 0x41), read(0, 1)]], """1 1 write 0/00
+1 2 read 0/00 512*41
+lawful jobs 2 units 4 changes 1 refused 0
+"""),
+    "no commands": ({}, [[]], "lawful jobs 0 units 4 changes 0 refused 0\n"),
+    "a Read of nothing written": ({}, [[read(31, 1)]], """1 1 read 0/00 512*00
+lawful jobs 1 units 4 changes 0 refused 0
+"""),
+    "a Write over a boundary": ({}, [[equal(write, 6, 4, 0x42), read(5, 6)]], """1 1 write 0/00
+1 2 read 0/00 512*00,2048*42,512*00
+lawful jobs 2 units 4 changes 2 refused 0
+"""),
+    "a pair": ({}, [[*both(4, 4, 0, 0x55), read(7, 2)]], """1 1 compare 0/00
+1 2 write 0/00
+1 3 read 0/00 512*55,512*00
+lawful jobs 2 units 4 changes 1 refused 0
+"""),
+    "a pair over a boundary": ({}, [[*both(5, 4, 0, 0x55), read(5, 4)]], """1 1 compare 0/14
+1 2 write 0/09
+1 3 read 0/00 2048*00
+lawful jobs 2 units 4 changes 0 refused 0
+"""),
+    "a pair of too many blocks": ({}, [[*both(0, 5, 0, 0x55), read(0, 5)]], """1 1 compare 0/14
+1 2 write 0/09
+1 3 read 0/00 2560*00
+lawful jobs 2 units 4 changes 0 refused 0
+"""),
+    "a pair that fails": (
+        {},
+        [[write(0, 0x41), *pair(compare(0, 0x41, end=b"\x42"), write(0, 0x43)), read(0, 1)]],
+        """1 1 write 0/00
+1 2 compare 2/85
+1 3 write 0/09
+1 4 read 0/00 512*41
+lawful jobs 3 units 4 changes 1 refused 0
+""",
+    ),
+    "a first before a pair": ({}, [[compare(0, 0, **FIRST), *both(0, 1, 0, 0x61)]], """1 1 compare 0/0a
+1 2 compare 0/00
+1 3 write 0/00
+lawful jobs 2 units 4 changes 1 refused 0
+"""),
+    "a second before a first": ({}, [[write(0, 0x61, **SECOND), compare(0, 0, **FIRST)]], """1 1 write 0/0a
+1 2 compare 0/0a
+lawful jobs 2 units 4 changes 0 refused 0
+"""),
+    "pairs that are none": (
+        {},
+        [[*pair(compare(0, 0), write(1, 0x62)), *pair(write(0, 0x62), write(0, 0x62))]],
+        """1 1 compare 0/02
+1 2 write 0/02
+1 3 write 0/02
+1 4 write 0/02
+lawful jobs 2 units 4 changes 0 refused 0
+""",
+    ),
+    "the farthest range": ({}, [[read(LAST, 65_536)]], """1 1 read 0/80
+lawful jobs 1 units 4 changes 0 refused 0
+"""),
+    "marks": (
+        {},
+        [[uncorrectable(7, 1), read(6, 3), *both(7, 1, 0, 0x63), zeroes(7, 1), read(7, 1)]],
+        """1 1 uncorrectable 0/00
+1 2 read 2/81
+1 3 compare 2/81
+1 4 write 0/09
+1 5 zeroes 0/00
+1 6 read 0/00 512*00
+lawful jobs 5 units 4 changes 2 refused 0
+""",
+    ),
+    "a full history": ({"limit": 1}, [[write(0, 0x41), write(1, 0x42), read(0, 2)]], """1 1 write 0/00
+1 2 write 0/06
+1 3 read 0/00 512*41,512*00
+lawful jobs 3 units 4 changes 1 refused 1
+"""),
+    "a history that is full in the second part": (
+        {"limit": 1},
+        [[write(8, 0x41), equal(write, 6, 4, 0x42), read(6, 4)]],
+        """1 1 write 0/00
+1 2 write 0/06
+1 3 read 0/00 1024*42,512*41,512*00
+lawful jobs 3 units 4 changes 2 refused 1
+""",
+    ),
+    "pairs at the limit": (
+        {"limit": 1},
+        [[write(0, 0x41), *both(0, 1, 0x41, 0x43), *both(0, 1, 0x40, 0x43)]],
+        """1 1 write 0/00
+1 2 compare 0/00
+1 3 write 0/06
+1 4 compare 2/85
+1 5 write 0/09
+lawful jobs 3 units 4 changes 1 refused 1
+""",
+    ),
+    "two hosts": ({}, [[write(0, 0x41), read(0, 1)], [write(0, 0x42)]], """1 1 write 0/00
+2 1 write 0/00
+1 2 read 0/00 512*42
+lawful jobs 3 units 4 changes 2 refused 0
+"""),
+    "checks": ({}, [[unknown(0, 1), write(0, 0x41, fuse=3), read(0, 1, nsid=2)]], """1 1 op-7f 0/01
+1 2 write 0/02
+1 3 read 0/0b
+lawful jobs 3 units 4 changes 0 refused 0
+"""),
+    "deallocated blocks": ({}, [[equal(write, 6, 4, 0x42), dataset((7, 2)), read(6, 4)]], """1 1 write 0/00
+1 2 dataset 0/00
+1 3 read 0/00 512*42,1024*00,512*42
+lawful jobs 3 units 4 changes 4 refused 0
+"""),
+    "marks and Dataset Managements": (
+        {},
+        [[uncorrectable(7, 1), dataset((7, 1), deallocate=False), read(7, 1), dataset((7, 1)), read(7, 1)]],
+        """1 1 uncorrectable 0/00
+1 2 dataset 0/00
+1 3 read 2/81
+1 4 dataset 0/00
+1 5 read 0/00 512*00
+lawful jobs 5 units 4 changes 2 refused 0
+""",
+    ),
+    "a Deallocate in a full unit": ({"limit": 1}, [[write(8, 0x41), dataset((0, 1), (8, 1)), read(8, 1)]], """1 1 write 0/00
+1 2 dataset 0/06
+1 3 read 0/00 512*41
+lawful jobs 3 units 4 changes 2 refused 1
+"""),
+    "the highest limit": ({"limit": MOST_LIMIT[2]}, [[write(0, 0x41), read(0, 1)]], """1 1 write 0/00
+1 2 read 0/00 512*41
+lawful jobs 2 units 4 changes 1 refused 0
+"""),
+}
+
+
+def rows(run):
+    for title, (changed, hosts, told) in ROWS.items():
+        names = [f"row-{host}" for host in range(1, len(hosts) + 1)]
+        for name, asked in zip(names, hosts):
+            run.keep(name, file_of(asked))
+        ran(run, {**OPTIONS, **changed}, *names, told=told)
+    run.keep("row-1", file_of([write(0, 0x41), write(1, 0x42)])[:700])
+    run.keep("record", b"old")
+    run.expect(run_words(OPTIONS, "row-1"), 1, err="nvmu: host 1: truncated at 644\n", files={"record": b"old"})
+    run.refuse(run_words({**OPTIONS, "limit": MOST_LIMIT[2] + 1}, "row-1"))
+    units(run)
+
+
+def units(run):
+    """4,096 units, each with one change; then with a spoiled byte in the entries of two."""
+    run.keep("many", file_of([write(16 * unit, 0x41) for unit in range(4096)]))
+    options = {**OPTIONS, "nsze": 65_536, "nabsn": 15, "nawun": 15, "nacwu": 15}
+    lines = "".join(f"1 {cid} write 0/00\n" for cid in range(1, 4097))
+    ran(run, options, "many", told=f"{lines}lawful jobs 4096 units 4096 changes 4096 refused 0\n")
+    file = bytearray(run.kept("record"))
+    # 34 bytes, each job 579, and each unit 4 bytes, an entry of 19 and its block.
+    for unit in (4000, 9):
+        file[34 + 4096 * 579 + unit * 535 + 23] ^= 1
+        run.keep("spoiled", bytes(file))
+        run.expect(["nvmu", "audit", "spoiled"], 2, out=f"unlawful EntryWrong job {unit} unit {unit} place 0\n")

@@ -1,0 +1,234 @@
+"""The words of nvmu: which value each gives, which file is which host's, and what is refused; and runs by several workers."""
+
+import os
+import stat
+import threading
+
+from auditor import text
+from host_files import compare, dataset, file_of, pair, read, uncorrectable, unknown, write, zeroes
+from model import Namespace
+from outs import obeys_permissions
+from recorded import jobs_of
+from recording import OPTIONS, ran, run_words
+from records import MOST_LIMIT, record_of
+
+LAST = 2**64 - 1
+# Boundaries at 4, 14 and 24.
+COMMANDS = [
+    write(32, 0x41),
+    read(33, 1),
+    *pair(compare(4, *[0] * 6), write(4, *[0x42] * 6)),
+    *pair(compare(4, *[0x42] * 7), write(4, *[0x43] * 7)),
+    *pair(compare(3, 0, 0x42), write(3, 0x44, 0x44)),
+    *pair(compare(13, 0, 0), write(13, 0x44, 0x44)),
+    *pair(compare(32, 0x42), write(32, 0x45)),
+    *pair(compare(32, 0x41, nsid=2), write(32, 0x45)),
+    write(24, 0x46),
+    zeroes(25, 2),
+    write(24, 0x47),
+    uncorrectable(14, 1),
+    read(14, 1),
+    read(24, 2),
+    unknown(0, 1, cid=65_535),
+    read(0, 1, fuse=1),
+    read(0, 1, fuse=3, cid=0),
+    dataset((13, 2), (3, 1)),
+    read(3, 12),
+    dataset((33, 0), (24, 1), (4, 1)),
+    read(3, 2),
+]
+LINES = """1 1 write 0/00
+1 2 read 0/80
+1 3 compare 0/00
+1 4 write 0/00
+1 5 compare 0/14
+1 6 write 0/09
+1 7 compare 0/14
+1 8 write 0/09
+1 9 compare 0/14
+1 10 write 0/09
+1 11 compare 2/85
+1 12 write 0/09
+1 13 compare 0/0b
+1 14 write 0/09
+1 15 write 0/00
+1 16 zeroes 0/00
+1 17 write 0/06
+1 18 uncorrectable 0/00
+1 19 read 2/81
+1 20 read 0/00 512*46,512*00
+1 65535 op-7f 0/01
+1 22 read 0/0a
+1 0 read 0/02
+1 24 dataset 0/00
+1 25 read 0/00 512*00,3072*42,2560*00
+1 26 dataset 0/06
+1 27 read 0/00 1024*00
+"""
+HOST_VERDICT = "lawful jobs 21 units 4 changes 9 refused 2\n"
+# What four hosts ask for, all of them alike and each on blocks of its own, so that the lines are the same whichever worker does
+# what: with the numbers of the host and the command in the place of the dots.
+SEVERAL = {
+    "write": (lambda own: [write(own, own + 1)], ". . write 0/00\n"),
+    "pair": (
+        lambda own: pair(compare(own + 4, 0), write(own + 4, 0x42)),
+        ". . compare 0/00\n. . write 0/00\n",
+    ),
+    "failed pair": (
+        lambda own: pair(compare(own + 8, 1), write(own + 8, 0x43)),
+        ". . compare 2/85\n. . write 0/09\n",
+    ),
+    "range": (lambda own: [zeroes(own * 2 + 12, 2)], ". . zeroes 0/00\n"),
+    "read": (lambda own: [read(28, 4)], ". . read 0/00 2048*00\n"),
+    "far": (lambda own: [write(own + 32, 0x44, 0x45)], ". . write 0/80\n"),
+    "unknown": (lambda own: [unknown(own, 1)], ". . op-7f 0/01\n"),
+}
+SEVERAL_VERDICT = "lawful jobs 28 units 5 changes 12 refused 0\n"
+# Numbers that nvmu takes: of each option at the ends of what it can be, and in between at values that no two have alike.
+TAKEN = [
+    *({name: value} for name in ("nawun", "nacwu", "nabo") for value in (0, 9)),
+    *({"nsze": value} for value in (1, 40_954)),
+    *({"block": value} for value in (512, 4096)),
+    *({"workers": value} for value in (1, 2, 3, 63, 64)),
+    *({"limit": value} for value in (1, 2, 65_535, 65_536, 65_537, 16_777_216 // 5, MOST_LIMIT[2])),
+    {"nsze": 65_536, "nabsn": 65_535, "nabo": 65_535, "nawun": 65_535, "nacwu": 65_535},
+    {"nsze": 65_535, "block": 4096, "nabsn": 65_534, "nabo": 65_533, "nawun": 65_532, "nacwu": 65_531},
+    {"nsze": 258, "nabsn": 65_535, "nabo": 256, "nawun": 259, "nacwu": 513, "workers": 5, "limit": 66_051},
+    {"nabsn": 0, "nabo": 0, "nawun": 65_535, "nacwu": 65_534},
+    {"nabsn": 0, "nabo": 0, "nawun": 65_533, "nacwu": 65_535},
+]
+NOT_TAKEN = {
+    "workers": [0, 65, "x"],
+    "limit": [0, 4_194_305, 2**32 + 1],
+    "nsze": [-1, "x", 2**64, ""],
+    "block": [2**32, 2**32 + 512],
+    "nabsn": [65_536],
+    "nabo": [65_536],
+    "nawun": [65_536],
+    "nacwu": [65_536],
+}
+# Numbers that make no geometry.
+NO_GEOMETRY = [
+    ("Size", {"nsze": 0}),
+    ("Size", {"nsze": LAST}),
+    ("Size", {"nsze": 65_537}),
+    ("BlockSize", {"block": 1000}),
+    ("OffsetWithoutBoundary", {"nabsn": 0}),
+    ("OffsetAboveBoundary", {"nabo": 10}),
+    ("OffsetAboveBoundary", {"nabo": 65_535}),
+    ("WriteUnitAboveBoundary", {"nawun": 10}),
+    ("PairUnitAboveBoundary", {"nacwu": 10}),
+    ("TooManyUnits", {"nsze": 40_955}),
+    ("TooManyUnits", {"nsze": 65_536, "nabsn": 1, "nabo": 0, "nawun": 1, "nacwu": 1}),
+]
+
+# Three files whose names aren't in the order of their hosts.
+ORDERS = [("b", "a"), ("a", "b"), ("a", "a"), ("c", "a", "b"), ("b", "c", "a"), ("a", "c", "c")]
+
+
+def words_of_nvmu(run):
+    def words(*files, left_out=None, **changed):
+        return run_words({**OPTIONS, **changed}, *files, left_out=left_out)
+
+    run.keep("host.nvq", file_of(COMMANDS))
+    run.keep("none.nvq", file_of([]))
+    ran(run, OPTIONS, "host.nvq", told=LINES + HOST_VERDICT)
+    apart = [word for option in words()[2:] for word in option.split("=")]
+    run.expect(["nvmu", "run", "host.nvq", *apart], out=LINES + HOST_VERDICT)
+    run.keep("large.nvq", file_of([write(0, 0x41, 0x42), dataset((1, 1)), read(0, 2)], 4096))
+    lines = "1 1 write 0/00\n1 2 dataset 0/00\n1 3 read 0/00 4096*41,4096*00\n"
+    ran(run, {**OPTIONS, "block": 4096}, "large.nvq", lines=lines)
+    # Files in their order, before and after options, and one of them twice.
+    for host, filler in (("a", 0x41), ("b", 0x42), ("c", 0x43)):
+        run.keep(host, file_of([write(0, filler), read(0, 1)]))
+    turns = "1 1 write 0/00\n2 1 write 0/00\n1 2 read 0/00 512*42\n2 2 read 0/00 512*42\n"
+    ran(run, OPTIONS, "a", "b", lines=turns)
+    run.expect([*words("a")[:2], "a", *words("b")[2:]], out=turns + "lawful jobs 4 units 4 changes 2 refused 0\n")
+    for names in ORDERS:
+        ran(run, OPTIONS, *names)
+    ran(run, OPTIONS, *["none.nvq", "b"] * 31, "a", "c")
+    ran(run, OPTIONS, *["none.nvq"] * 64)
+    for changed in TAKEN:
+        ran(run, {**OPTIONS, **changed}, "none.nvq")
+    for fault, changed in NO_GEOMETRY:
+        run.expect(words("none.nvq", **changed), 1, err=f"nvmu: geometry: {fault}\n")
+    for name, values in NOT_TAKEN.items():
+        for value in values:
+            run.refuse(words("none.nvq", **{name: value}))
+    for name in [*OPTIONS, "out"]:
+        run.refuse(words("none.nvq", left_out=name))
+    run.refuse(words())
+    run.refuse([*words("none.nvq"), "--nsze", "33"])
+    for given in ([], ["walk"], ["run", "--bogus"], [b"\xff"], ["audit"], ["audit", "a", "b"], ["audit", "--bogus", "a"]):
+        run.refuse(["nvmu", *given])
+    for given in (["--help"], ["run", "--help"], ["audit", "--help"]):
+        run.expect(["nvmu", *given], out=run.SOME)
+
+
+def files_of_nvmu(run):
+    """Files that can't be read, that end early, and that are no regular ones."""
+    run.keep("none.nvq", file_of([]))
+    run.keep("host.nvq", file_of(COMMANDS))
+    run.keep("cut.nvq", file_of(COMMANDS)[:700])
+    run.keep("wrong", b"NVR1")
+    run.keep("hidden", file_of([]))
+    os.chmod(os.path.join(run.folder, "hidden"), 0)
+    for files, fault in (
+        (["missing"], "cannot read missing"),
+        (["host.nvq", "missing"], "cannot read missing"),
+        (["wrong", "missing"], "cannot read missing"),
+        (["host.nvq", "."], "cannot read ."),
+        (["hidden"], "cannot read hidden"),
+        (["host.nvq", "/proc/self/mem"], "cannot read /proc/self/mem"),
+        (["none.nvq"] * 64 + ["missing"], "cannot read missing"),
+        (["host.nvq", "wrong"], "host 2: bad name"),
+        (["/dev/null"], "host 1: bad name"),
+        (["cut.nvq", "wrong"], "host 1: truncated at 644"),
+        (["host.nvq", "none.nvq", "cut.nvq"], "host 3: truncated at 644"),
+        (["none.nvq"] * 65, "too many hosts"),
+    ):
+        run.expect(run_words(OPTIONS, *files), 1, err=f"nvmu: {fault}\n", preexec_fn=obeys_permissions)
+    for name in ("missing", ".", "hidden", "/proc/self/mem", "host.nvq/record"):
+        run.expect(["nvmu", "audit", name], 1, err=f"nvmu: cannot read {name}\n", preexec_fn=obeys_permissions)
+    # A pipe whose writer stops: what came through is the whole file.
+    pipe = os.path.join(run.folder, "pipe")
+    os.mkfifo(pipe)
+    for content, told in (
+        (file_of(COMMANDS), {"out": LINES + HOST_VERDICT}),
+        (file_of(COMMANDS)[:700], {"status": 1, "err": "nvmu: host 1: truncated at 644\n"}),
+        (b"", {"status": 1, "err": "nvmu: host 1: bad name\n"}),
+    ):
+        writer = threading.Thread(target=written, args=(pipe, content), daemon=True)
+        writer.start()
+        run.expect(run_words(OPTIONS, "pipe"), **told)
+        writer.join(60)
+    run.hold("pipe", stat.S_ISFIFO(os.lstat(pipe).st_mode), True)
+    os.remove(pipe)
+
+
+def written(path, content):
+    with open(path, "wb") as file:
+        file.write(content)
+
+
+def several_workers(run):
+    """Runs whose lines don't depend on which worker does what, by several numbers of workers. Their records are lawful."""
+    hosts = range(1, 5)
+    lines, cids = "", dict.fromkeys(hosts, 0)
+    for _commands, each in SEVERAL.values():
+        for host in hosts:
+            for line in each.splitlines():
+                cids[host] += 1
+                lines += f"{host} {cids[host]} {line[4:]}\n"
+    names = [f"several-{host}" for host in hosts]
+    for host, name in zip(hosts, names):
+        run.keep(name, file_of([command for commands, _lines in SEVERAL.values() for command in commands(host - 1)]))
+    handed = jobs_of([run.kept(name) for name in names], 512)
+    options = {"nsze": 33, "block": 512, "nabsn": 7, "nabo": 0, "nawun": 7, "nacwu": 3, "limit": 100}
+    for workers in (1, 2, 4, 64):
+        run.expect(run_words({**options, "workers": workers}, *names), out=lines + SEVERAL_VERDICT)
+        record = record_of(run.kept("record"))
+        found = (record.version, record.namespace, record.workers, record.jobs)
+        run.hold(f"what {workers} workers did", found, (2, Namespace(**options), workers, handed))
+        run.hold(f"the record of {workers} workers", text(record), lines + SEVERAL_VERDICT)
+        run.expect(["nvmu", "audit", "record"], out=SEVERAL_VERDICT)
