@@ -1,17 +1,17 @@
 //! The program `nvmu`: reads the words of its command line and the hosts' files, has their commands done by workers, and
-//! writes what they show.
+//! writes the record of that and what it shows. Or it audits a record.
 #![tactic(auto)]
 
 ghost use Rattle.std.specs.Prelude.{◌≡◌, ◌⊎◌, IfOk, IfErr, map, string_bytes};
-ghost use Rattle.nvmu.specs.Runs.{IsShownOn, IsFaultOn};
+ghost use Rattle.nvmu.specs.Runs.{IsShownOn, IsFaultOn, IsJudgedFile, IsJudgeFaultOn, IsRunFaultOn};
 
 mod files;
 mod words;
 
-use crate::files::read_files;
+use crate::files::{bytes_of, read_files, write_file};
 use crate::words::{Asked, read_words};
-use nvm_engine::{Fault, Settings, Shown, execute};
-use nvm_front::{WordFault, tell, texts_of, words_given, write};
+use nvm_engine::{Fault, Settings, Shown, audit_bytes, execute};
+use nvm_front::{FileFault, WordFault, tell, texts_of, words_given, write};
 use nvm_unit::Open;
 use std::process::ExitCode;
 use std::rt::{Env, Files};
@@ -22,16 +22,11 @@ fn main(rt: HostRuntime) -> ExitCode {
     ExitCode::from(status_of(&rt))
 }
 
-/// Does what the words of the command line ask for, and gives the exit status: 0, or 1 after a fault.
+/// Does what the words of the command line ask for, and gives the exit status: 0, 2 where a record isn't lawful, or 1 after a
+/// fault.
 fn status_of<R: AllocGlobal + Env + Files + Print + Eprint + Threads + Wait + Sync>(rt: &R) -> u8 {
     match asked(rt) {
-        Ok(
-            Asked::Run {
-                settings,
-                out: _out,
-                files,
-            },
-        ) => match run(rt, &settings, files.as_slice()) {
+        Ok(asked) => match shown(rt, &asked) {
             Ok(shown) => written(rt, shown),
             Err(fault) => failed(rt, fault),
         },
@@ -49,6 +44,38 @@ fn asked<R: AllocGlobal + Env>(rt: &R) -> Result<Asked, WordFault> {
     read_words(rt.alloc(), texts.as_slice())
 }
 
+/// Does what is asked, up to what goes to standard output.
+fn shown<R: AllocGlobal + Files + Print + Threads + Wait + Sync>(
+    rt: &R,
+    asked: &Asked,
+) -> Result<Shown, Fault> {
+    match asked {
+        Asked::Run {
+            settings,
+            out,
+            files,
+        } => recorded(rt, settings, out.as_str(), files.as_slice()),
+        Asked::Audit { path } => audit(rt, path.as_str()),
+    }
+}
+
+/// Reads the files at these paths, has their commands done, and writes the record of that.
+fn recorded<R: AllocGlobal + Files + Print + Threads + Wait + Sync>(
+    rt: &R,
+    settings: &Settings,
+    out: &str,
+    paths: &[String],
+) -> Result<Shown, Fault>
+    ensures shown { IfOk result (IsShownOn settings.now (map (λ path. string_bytes path) paths.now)) }
+    ensures fault { IfErr result (IsRunFaultOn settings.now out.now (map (λ path. string_bytes path) paths.now)) }
+{
+    let shown = run(rt, settings, paths)?;
+    if let Some(record) = &shown.record {
+        write_file(rt, out, record)?;
+    }
+    Ok(shown)
+}
+
 /// Reads the files at these paths and has their commands done.
 fn run<R: AllocGlobal + Files + Threads + Wait + Sync>(
     rt: &R,
@@ -62,13 +89,23 @@ fn run<R: AllocGlobal + Files + Threads + Wait + Sync>(
     execute(rt, rt.alloc(), settings, files.as_slice(), &Open)
 }
 
+/// Reads the record at a path and audits it.
+fn audit<R: AllocGlobal + Files + Threads + Sync>(rt: &R, path: &str) -> Result<Shown, Fault>
+    ensures shown { IfOk result IsJudgedFile }
+    ensures fault { IfErr result (IsJudgeFaultOn path.now) }
+{
+    let bytes = bytes_of(rt, path)?;
+    audit_bytes(rt, rt.alloc(), &bytes)
+}
+
 /// Writes the text to standard output. Where that fails, the status is 1.
-fn written<R: AllocGlobal + Files + Print>(rt: &R, shown: Shown) -> u8
+fn written<R: AllocGlobal + Files + Print + Eprint>(rt: &R, shown: Shown) -> u8
     ensures { (result ≡ shown.status) ⊎ (result ≡ 1) }
 {
     match write(rt, "-", shown.text.as_slice()) {
         Ok(()) => shown.status,
-        Err(_) => 1,
+        Err(FileFault::NoMemory) => failed(rt, Fault::NoMemory),
+        Err(FileFault::Refused) => 1,
     }
 }
 
