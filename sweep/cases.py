@@ -4,11 +4,15 @@ A case has `whole`, which looks at a run with nothing refused, and `refused`, wh
 growths refused: it says in a word how that ended. Both raise ValueError where it is no right end.
 """
 
+import os
 import re
 import signal
 from dataclasses import dataclass, field
 
+from auditor import text, verdict
 from model import Model
+from recorded import jobs_of, recorded, wants_of
+from records import RecordFault, record_of, spelled
 
 # How an assertion prints the want of memory that a call gave.
 GIVEN_FOR_MEMORY = re.compile(r'"(nvmu|nvq|unit_bench): no memory"|(Err|Some)\((NoMemory|AllocError|AllocFailed \{ \.\. \})\)')
@@ -30,6 +34,42 @@ class End:
         return self.status, self.out, self.err, self.files
 
 
+class Recording:
+    """What a run of these host files, host 1's first, may write and print: a lawful record, and its text."""
+
+    name = "record"
+
+    def __init__(self, namespace, files, workers=1):
+        self.model = Model(namespace, files)
+        self.namespace, self.files, self.workers = namespace, files, workers
+        self.jobs = jobs_of(files, namespace.block)
+
+    def units(self):
+        return len(self.namespace.units())
+
+    def wants(self, end):
+        """In how many jobs memory was wanted. Where the run can't end so, it raises ValueError."""
+        if list(end.files) != [self.name]:
+            raise ValueError(f"it left {list(end.files)}")
+        try:
+            record = record_of(end.files[self.name])
+        except RecordFault as fault:
+            raise ValueError(f"the record has a fault: {fault}") from fault
+        if (record.version, record.namespace, record.workers, record.jobs) != (2, self.namespace, self.workers, self.jobs):
+            raise ValueError("the record is of another run")
+        line = verdict(record)
+        if not line.startswith("lawful "):
+            raise ValueError(f"the record is {line}")
+        if end.out != text(record):
+            raise ValueError("what is shown isn't the text of the record")
+        wants = wants_of(record)
+        if self.workers == 1 and end.files[self.name] != spelled(recorded(self.namespace, self.files, wants)):
+            raise ValueError("one worker leaves another record")
+        if len(wants) not in self.model.wants(end.out.removesuffix(f"{line}\n")):
+            raise ValueError(f"{len(wants)} jobs of the record want memory, and others by the lines")
+        return len(wants)
+
+
 @dataclass
 class Run:
     """A program on a command line."""
@@ -41,69 +81,38 @@ class Run:
     out: str = None  # the whole of standard output, or None for the help of `clap`, or a text of the model
     err: str = None  # the whole of standard error, or None for what `clap` says
     files: dict = field(default_factory=dict)  # what it writes, by the file's name
-    model: Model = None  # of a run of host files
+    before: dict = field(default_factory=dict)  # what stands there before, and stays where it ends in a fault
+    model: Recording = None  # of a run of host files
+    units: int = 0  # of the record that it audits
     input: str = None  # the path of its standard input
     row = 5  # this many growths, one after the other, are refused in a further run
 
     def has_threads(self):
-        return False
+        return self.thread_growths() > 1
 
     def thread_growths(self):
-        """How many threads do its commands. Where one can't be made, the program does that one's work by itself."""
-        return 1 if self.model else 0
+        """How many threads do its commands and its audit, which has two for each processor. Where one can't be made, the
+        program does that one's work by itself."""
+        units = self.model.units() if self.model else self.units
+        workers = self.model.workers if self.model else 0
+        return workers + max(0, min(units, 2 * os.cpu_count()) - 1)
 
     def whole(self, end):
         if end.status != self.status:
             raise ValueError(f"the status isn't {self.status}")
-        if end.files != self.files:
+        if self.model:
+            if self.model.wants(end):
+                raise ValueError("a command wants memory")
+            if end.err:
+                raise ValueError("it says something on standard error")
+            return
+        if end.files != {**self.before, **self.files}:
             raise ValueError(f"it left {list(end.files)}, or another content than that of {list(self.files)}")
-        if self.model and 0 not in self.model.wants(end.out):
-            raise ValueError("a command wants memory")
         if self.is_said_by_clap():
             if bool(end.out) == bool(self.status) or bool(end.err) != bool(self.status):
                 raise ValueError("what it says isn't on the one stream where it belongs")
-        elif end.err != (self.err or "") or not self.model and end.out != (self.out or ""):
+        elif end.err != (self.err or "") or end.out != (self.out or ""):
             raise ValueError(f"it isn't {self.out or self.err!r}, on the stream where it belongs")
-
-    def is_said_by_clap(self):
-        return (self.out, self.err, self.model) == (None, None, None)
-
-    def refused(self, end, whole, refusals):
-        if end.said() == (1, "", f"{self.program}: no memory\n", {}):
-            return "no memory"
-        # `clap` goes on where it is refused the memory to measure how similar two words are.
-        if self.is_said_by_clap() and end.said() == whole.said():
-            return "as before"
-        if not self.model or end.status or end.err or end.files != self.files:
-            raise ValueError("it is another end")
-        # A command that is refused a growth asks for no more, and what is outside ends the program.
-        wants = self.model.wants(end.out)
-        if refusals not in wants:
-            if refusals == 1 and end.said() == whole.said():
-                return WITHOUT_A_THREAD
-            raise ValueError(f"{sorted(wants)} commands want memory, where {refusals} growths were refused")
-        return "with 0/06"
-
-
-@dataclass
-class Threads(Run):
-    """A run by several workers, whose text doesn't depend on how they take turns. Which growth is that of a thread does."""
-
-    workers: int = 1
-
-    def has_threads(self):
-        return True
-
-    def refused(self, end, whole, refusals):
-        if end.said() == (1, "", f"{self.program}: no memory\n", {}):
-            return "no memory"
-        if end.status or end.err or end.files != self.files:
-            raise ValueError("it is another end")
-        wants = self.model.wants(end.out)
-        for threads in range(self.workers + 1):
-            if refusals - threads in wants:
-                return "with 0/06, or without a thread"
-        raise ValueError(f"{sorted(wants)} commands want memory, where {refusals} growths were refused")
 
     def is_passed(self, end):
         try:
@@ -111,6 +120,25 @@ class Threads(Run):
         except ValueError:
             return False
         return True
+
+    def is_said_by_clap(self):
+        return (self.out, self.err, self.model) == (None, None, None)
+
+    def refused(self, end, whole, refusals):
+        if end.said() == (1, "", f"{self.program}: no memory\n", self.before):
+            return "no memory"
+        # `clap` goes on where it is refused the memory to measure how similar two words are.
+        if self.is_said_by_clap() and end.said() == whole.said():
+            return "as before"
+        if self.units and end.said() == whole.said() and refusals <= self.thread_growths():
+            return WITHOUT_A_THREAD
+        if not self.model or end.status or end.err:
+            raise ValueError("it is another end")
+        # A command that is refused a growth asks for no more, and what is outside ends the program, but for threads.
+        wants = self.model.wants(end)
+        if not 0 <= refusals - wants <= self.thread_growths():
+            raise ValueError(f"{wants} commands want memory, where {refusals} growths were refused")
+        return "with 0/06" if wants else WITHOUT_A_THREAD
 
 
 @dataclass
@@ -126,6 +154,7 @@ class Test:
     name: str
     words: list
     input = row = None
+    before = {}
 
     def has_threads(self):
         return "::threads::" in self.name

@@ -2,22 +2,30 @@
 
 import os
 import random
+from dataclasses import replace
 
-from cases import Run, Threads
+from auditor import verdict
+from cases import Recording, Run
 from host_files import compare, dataset, file_of, mixed, pair, read, uncorrectable, unknown, write, zeroes
-from model import Model, Namespace
+from model import Namespace
+from recorded import recorded
+from records import record_of, spelled
 
 # Units of 8 blocks, the first of which has 3.
 EIGHTS = {"nabsn": 7, "nabo": 3}
 LAST = 2**64 - 1
 
 
-def words(paths, **changed):
+# What stands where the record is written.
+BEFORE = {Recording.name: b"old" * 10}
+
+
+def words(paths, out=Recording.name, **changed):
     """The command line of a run of these files on 32 blocks, but for the changed options."""
     options = {"nsze": 32, "block": 512, "nabsn": 0, "nabo": 0, "nawun": 7, "nacwu": 3, "workers": 1, "limit": 100}
     options.update(changed)
     given = [word for name in options for word in (f"--{name}", str(options[name]))]
-    return ["run", *given, "--out", "record", *paths]
+    return ["run", *given, "--out", out, *paths]
 
 
 def single_commands():
@@ -195,6 +203,15 @@ def by_chance(seed):
     return seed, [mixed(10 * seed + host, dice.randint(1, 60 // hosts), nsze) for host in range(hosts)], options
 
 
+def spoiled(file):
+    """The record with another byte at the end of the first history with data."""
+    record = record_of(file)
+    unit, place = next((unit, place) for unit, it in enumerate(record.units) for place, entry in enumerate(it) if entry.data)
+    entries = list(record.units[unit])
+    entries[place] = replace(entries[place], data=entries[place].data[:-1] + b"\xee")
+    return spelled(replace(record, units=(*record.units[:unit], tuple(entries), *record.units[unit + 1 :])))
+
+
 def runs(folder):
     def kept(name, file):
         path = os.path.join(folder, name.replace(" ", "-"))
@@ -202,17 +219,23 @@ def runs(folder):
             it.write(file)
         return path
 
-    def lines(name, files, **changed):
+    def lines(name, files, workers=1, before=BEFORE, **changed):
         paths = [kept(f"{name}-{host}", file) for host, file in enumerate(files, 1)]
-        return Run(name, "nvmu", words(paths, **changed), model=Model(Namespace(**changed), files))
-
-    def by_workers(name, files, workers, **changed):
-        paths = [kept(f"{name}-{host}", file) for host, file in enumerate(files, 1)]
-        model = Model(Namespace(**changed), files)
-        return Threads(name, "nvmu", words(paths, workers=workers, **changed), model=model, workers=workers)
+        model = Recording(Namespace(**changed), files, workers)
+        return Run(name, "nvmu", words(paths, workers=workers, **changed), before=before, model=model)
 
     def fault(name, line, paths, **changed):
-        return Run(name, "nvmu", words(paths, **changed), 1, err=f"nvmu: {line}\n")
+        return Run(name, "nvmu", words(paths, **changed), 1, err=f"nvmu: {line}\n", before=BEFORE)
+
+    def audited(name, file, fault=None):
+        """The audit of a record, or of a file that is none."""
+        path = kept(f"record-{name}", file)
+        if fault:
+            return Run(name, "nvmu", ["audit", path], 1, err=f"nvmu: record: {fault}\n")
+        record = record_of(file)
+        line = verdict(record)
+        status, units = 0 if line.startswith("lawful") else 2, len(record.namespace.units())
+        return Run(name, "nvmu", ["audit", path], status, out=f"{line}\n", units=units)
 
     def refused(name, given, status=1):
         return Run(name, "nvmu", given, status)
@@ -223,8 +246,12 @@ def runs(folder):
     nothing = kept("nothing", none)
     many = kept("many", b"NVQ1" + file_of([unknown(0, 1)])[4:] * 65_536 + b"0")
     missing = os.path.join(folder, "missing")
+    done = spelled(recorded(Namespace(nabsn=7, limit=5), [served, pairs(), ranges()]))
+    old = spelled(recorded(Namespace(limit=5), [pairs()]))
+    old = b"NVR1" + old[4:24] + (4).to_bytes(2, "little") + old[28:]
     return [
         lines("single commands", [served]),
+        lines("single commands and no record before", [served], before={}),
         lines("single commands over units", [served], **EIGHTS),
         lines("a full history", [served], limit=4),
         lines("a history full at once", [served], limit=1),
@@ -246,10 +273,10 @@ def runs(folder):
         lines("sixty commands", [mixed(1, 60, 32, 4096)], block=4096, limit=15),
         lines("sixty commands over units", [mixed(2, 60, 32)], **EIGHTS, limit=8),
         *(lines(f"by chance, {seed}", files, **options) for seed, files, options in map(by_chance, range(1, 6))),
-        by_workers("two workers", hosts_apart(4), 2, nsze=16, nabsn=3, nawun=3),
-        by_workers("four workers on one unit", hosts_apart(6), 4, nsze=24),
-        by_workers("sixty-four workers", hosts_apart(3), 64, nsze=12, nabsn=7),
-        by_workers("two workers and no commands", [none], 2),
+        lines("two workers", hosts_apart(4), 2, nsze=16, nabsn=3, nawun=3),
+        lines("four workers on one unit", hosts_apart(6), 4, nsze=24),
+        lines("sixty-four workers", hosts_apart(3), 64, nsze=12, nabsn=7),
+        lines("two workers and no commands", [none], 2),
         lines("no commands", [none]),
         lines("no commands of two hosts", [none, none]),
         fault("an empty file", "host 1: bad name", [empty]),
@@ -263,6 +290,20 @@ def runs(folder):
         fault("no blocks", "geometry: Size", [empty], nsze=0),
         fault("blocks of 1000 bytes", "geometry: BlockSize", [whole], block=1000),
         fault("too many units", "geometry: TooManyUnits", [whole], nsze=65_536, nabsn=1, nawun=1, nacwu=1),
+        fault("a record that can't be written", "cannot write missing/record", [whole], out="missing/record"),
+        audited("an audit of many jobs", done),
+        audited("an audit of one unit", spelled(recorded(Namespace(), [served]))),
+        audited("an audit of the first version", old),
+        audited("an audit of no jobs", spelled(recorded(Namespace(nabsn=7), [none]))),
+        audited("an audit of a spoiled record", spoiled(done)),
+        audited("a cut record", done[:-1], f"truncated at {len(done) - 1}"),
+        audited("a byte more than a record", done + b"0", f"trailing at {len(done)}"),
+        audited("no record", served, "bad name"),
+        audited("a record of a later version", b"NVR3", "unknown version"),
+        audited("no workers", done[:28] + bytes(2) + done[30:], "bad value at 28"),
+        Run("a missing record", "nvmu", ["audit", missing], 1, err=f"nvmu: cannot read {missing}\n"),
+        refused("an audit of two files", ["audit", "a", "b"]),
+        refused("help on the audit", ["audit", "--help"], 0),
         refused("no words", []),
         refused("an unknown option", ["run", "--bogus", "1"]),
         refused("an option that is almost one", ["run", "--nsz", "1"]),
