@@ -1,6 +1,6 @@
 """Runs of nvmu whose text and whose record are known to the byte, by the model in sweep/."""
 
-from auditor import text, verdict
+from auditor import text
 from model import Namespace
 from recorded import recorded
 from records import spelled
@@ -25,7 +25,7 @@ def ran(run, options, *names, lines=None, told=None):
     """Holds a run to its record and its text, and the audit of the record to its line. `lines` are those of the commands, and
     `told` with the verdict too, as they were worked out by hand."""
     record, shown = expected(run, options, names)
-    line = f"{verdict(record)}\n"
+    line = f"{shown.splitlines()[-1]}\n"
     if lines is not None:
         told = lines + line
     if told is not None:
