@@ -204,9 +204,10 @@ fn audit_command<'a>(alloc: Global) -> Result<Command<'a>, Error> {
         .required(true)
         .value_name("REC")
         .help("The record of a run");
-    Command::new(alloc, "audit")
-        .about("Says whether a record is lawful, and if not, what is its first fault")
-        .arg(record)
+    let command = Command::new(alloc, "audit").about(
+        "Says whether a record is lawful, and if not, what is its first fault",
+    );
+    Ok(command.arg(record)?)
 }
 
 /// A required option.
