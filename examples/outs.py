@@ -29,8 +29,9 @@ LIMIT_OF_FILE = 100_000
 
 
 def obeys_permissions():
-    """A child that is root has no right to pass over permissions: PR_CAPBSET_DROP of CAP_DAC_OVERRIDE."""
-    ctypes.CDLL(None).prctl(24, 1, 0, 0, 0)
+    """A child that is root has no right to pass over permissions: PR_CAPBSET_DROP of CAP_DAC_OVERRIDE and CAP_DAC_READ_SEARCH."""
+    for right in (1, 2):
+        ctypes.CDLL(None).prctl(24, right, 0, 0, 0)
 
 
 def killed_early():

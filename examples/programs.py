@@ -19,7 +19,7 @@ from host_files import Asked, compare, dataset, file_of, read, uncorrectable, un
 from outs import outs_of_nvmu, outs_of_nvq, shown_nowhere
 from rows import rows
 from runs import runs
-from words import files_of_nvmu, several_workers, words_of_nvmu
+from words import files_of_nvmu, files_that_stop, several_workers, words_of_nvmu
 
 # Stands for a text that isn't empty: clap words its own.
 SOME = object()
@@ -247,8 +247,8 @@ def words_of_unit_bench(run):
         run.expect(["unit_bench", *given.split()], out=f"changes {given.split()[3]}\n", err=SOME)
 
 
-TABLES = [lists, words_of_nvq, outs_of_nvq, words_of_nvmu, files_of_nvmu, several_workers, outs_of_nvmu, shown_nowhere]
-TABLES += [runs, rows, forged, spoiled, words_of_unit_bench]
+TABLES = [lists, words_of_nvq, outs_of_nvq, words_of_nvmu, files_of_nvmu, files_that_stop, several_workers]
+TABLES += [outs_of_nvmu, shown_nowhere, runs, rows, forged, spoiled, words_of_unit_bench]
 
 
 def tried():

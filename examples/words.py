@@ -2,6 +2,7 @@
 
 import os
 import stat
+import subprocess
 import threading
 
 from auditor import text
@@ -204,6 +205,27 @@ def files_of_nvmu(run):
         writer.join(60)
     run.hold("pipe", stat.S_ISFIFO(os.lstat(pipe).st_mode), True)
     os.remove(pipe)
+
+
+def files_that_stop(run):
+    """Files of which only a front can be read: the record that stood there stays."""
+    library = os.path.join(run.folder, "stop_reading.so")
+    source = os.path.join(os.path.dirname(os.path.realpath(__file__)), "stop_reading.c")
+    subprocess.run(["gcc", "-O2", "-Wall", "-shared", "-fPIC", "-o", library, source], check=True)
+    run.keep("a", file_of([write(0, 0x41), read(0, 1)]))
+    run.keep("b", file_of([write(0, 0x42), read(0, 1)]))
+    ran(run, OPTIONS, "a", "b")
+    record = run.kept("record")
+    run.keep("old", record)
+    length = len(run.kept("a"))
+    for after in (0, 3, 4, 68, length - 1, length, length + 4, 2 * length - 1, 2 * length):
+        # The end of a file is read, too.
+        name = "a" if after <= length else "b"
+        how = {"env": {**os.environ, "LD_PRELOAD": library, "STOP_AFTER": str(after)}}
+        run.expect(run_words(OPTIONS, "a", "b"), 1, err=f"nvmu: cannot read {name}\n", files={"record": record}, **how)
+    for after in (0, 3, 4, 34, len(record) - 1, len(record)):
+        how = {"env": {**os.environ, "LD_PRELOAD": library, "STOP_AFTER": str(after)}}
+        run.expect(["nvmu", "audit", "old"], 1, err="nvmu: cannot read old\n", files={"old": record}, **how)
 
 
 def written(path, content):

@@ -91,11 +91,11 @@ class Run:
         return self.thread_growths() > 1
 
     def thread_growths(self):
-        """How many threads do its commands and its audit, which has two for each processor. Where one can't be made, the
-        program does that one's work by itself."""
+        """How many growths are those of threads: one of each that does commands, and two of each that audits, of which there are
+        two for each processor. Where a thread can't be made, the program does its work by itself."""
         units = self.model.units() if self.model else self.units
         workers = self.model.workers if self.model else 0
-        return workers + max(0, min(units, 2 * os.cpu_count()) - 1)
+        return workers + 2 * max(0, min(units, 2 * os.cpu_count()) - 1)
 
     def whole(self, end):
         if end.status != self.status:
@@ -130,15 +130,16 @@ class Run:
         # `clap` goes on where it is refused the memory to measure how similar two words are.
         if self.is_said_by_clap() and end.said() == whole.said():
             return "as before"
+        without = WITHOUT_A_THREAD if refusals == 1 else "with fewer threads"
         if self.units and end.said() == whole.said() and refusals <= self.thread_growths():
-            return WITHOUT_A_THREAD
+            return without
         if not self.model or end.status or end.err:
             raise ValueError("it is another end")
         # A command that is refused a growth asks for no more, and what is outside ends the program, but for threads.
         wants = self.model.wants(end)
         if not 0 <= refusals - wants <= self.thread_growths():
             raise ValueError(f"{wants} commands want memory, where {refusals} growths were refused")
-        return "with 0/06" if wants else WITHOUT_A_THREAD
+        return "with 0/06" if wants else without
 
 
 @dataclass
