@@ -91,11 +91,12 @@ class Run:
         return self.thread_growths() > 1
 
     def thread_growths(self):
-        """How many growths are those of threads: one of each that does commands, and two of each that audits, of which there are
-        two for each processor. Where a thread can't be made, the program does its work by itself."""
+        """At most how many growths are those of threads: one of each that does commands, and three of each that audits, of which
+        there are two for each processor. Where a thread can't be made, the program does its work by itself. Which growths are
+        those of the audit's threads changes from run to run, so this counts more than there can be in one."""
         units = self.model.units() if self.model else self.units
         workers = self.model.workers if self.model else 0
-        return workers + 2 * max(0, min(units, 2 * os.cpu_count()) - 1)
+        return workers + 3 * max(0, min(units, 2 * os.cpu_count()) - 1)
 
     def whole(self, end):
         if end.status != self.status:

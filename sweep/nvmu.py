@@ -2,14 +2,11 @@
 
 import os
 import random
-from dataclasses import replace
 
-from auditor import verdict
+from audits import audits
 from cases import Recording, Run
 from host_files import compare, dataset, file_of, mixed, pair, read, uncorrectable, unknown, write, zeroes
 from model import Namespace
-from recorded import recorded
-from records import record_of, spelled
 
 # Units of 8 blocks, the first of which has 3.
 EIGHTS = {"nabsn": 7, "nabo": 3}
@@ -203,15 +200,6 @@ def by_chance(seed):
     return seed, [mixed(10 * seed + host, dice.randint(1, 60 // hosts), nsze) for host in range(hosts)], options
 
 
-def spoiled(file):
-    """The record with another byte at the end of the first history with data."""
-    record = record_of(file)
-    unit, place = next((unit, place) for unit, it in enumerate(record.units) for place, entry in enumerate(it) if entry.data)
-    entries = list(record.units[unit])
-    entries[place] = replace(entries[place], data=entries[place].data[:-1] + b"\xee")
-    return spelled(replace(record, units=(*record.units[:unit], tuple(entries), *record.units[unit + 1 :])))
-
-
 def runs(folder):
     def kept(name, file):
         path = os.path.join(folder, name.replace(" ", "-"))
@@ -227,16 +215,6 @@ def runs(folder):
     def fault(name, line, paths, **changed):
         return Run(name, "nvmu", words(paths, **changed), 1, err=f"nvmu: {line}\n", before=BEFORE)
 
-    def audited(name, file, fault=None):
-        """The audit of a record, or of a file that is none."""
-        path = kept(f"record-{name}", file)
-        if fault:
-            return Run(name, "nvmu", ["audit", path], 1, err=f"nvmu: record: {fault}\n")
-        record = record_of(file)
-        line = verdict(record)
-        status, units = 0 if line.startswith("lawful") else 2, len(record.namespace.units())
-        return Run(name, "nvmu", ["audit", path], status, out=f"{line}\n", units=units)
-
     def refused(name, given, status=1):
         return Run(name, "nvmu", given, status)
 
@@ -246,9 +224,6 @@ def runs(folder):
     nothing = kept("nothing", none)
     many = kept("many", b"NVQ1" + file_of([unknown(0, 1)])[4:] * 65_536 + b"0")
     missing = os.path.join(folder, "missing")
-    done = spelled(recorded(Namespace(nabsn=7, limit=5), [served, pairs(), ranges()]))
-    old = spelled(recorded(Namespace(limit=5), [pairs()]))
-    old = b"NVR1" + old[4:24] + (4).to_bytes(2, "little") + old[28:]
     return [
         lines("single commands", [served]),
         lines("single commands and no record before", [served], before={}),
@@ -291,17 +266,7 @@ def runs(folder):
         fault("blocks of 1000 bytes", "geometry: BlockSize", [whole], block=1000),
         fault("too many units", "geometry: TooManyUnits", [whole], nsze=65_536, nabsn=1, nawun=1, nacwu=1),
         fault("a record that can't be written", "cannot write missing/record", [whole], out="missing/record"),
-        audited("an audit of many jobs", done),
-        audited("an audit of one unit", spelled(recorded(Namespace(), [served]))),
-        audited("an audit of the first version", old),
-        audited("an audit of no jobs", spelled(recorded(Namespace(nabsn=7), [none]))),
-        audited("an audit of a spoiled record", spoiled(done)),
-        audited("a cut record", done[:-1], f"truncated at {len(done) - 1}"),
-        audited("a byte more than a record", done + b"0", f"trailing at {len(done)}"),
-        audited("no record", served, "bad name"),
-        audited("a record of a later version", b"NVR3", "unknown version"),
-        audited("no workers", done[:28] + bytes(2) + done[30:], "bad value at 28"),
-        Run("a missing record", "nvmu", ["audit", missing], 1, err=f"nvmu: cannot read {missing}\n"),
+        *audits(kept, missing, [served, pairs(), ranges()], none),
         refused("an audit of two files", ["audit", "a", "b"]),
         refused("help on the audit", ["audit", "--help"], 0),
         refused("no words", []),
