@@ -10,9 +10,10 @@ from records import record_of, spelled
 
 
 def spoiled(file):
-    """The record with another byte at the end of the first history with data."""
+    """The record with another byte at the end of the last unit with data. What is refused to the audit of a unit behind the
+    first fault's wouldn't be told."""
     record = record_of(file)
-    unit, place = next((unit, place) for unit, it in enumerate(record.units) for place, entry in enumerate(it) if entry.data)
+    *_, (unit, place) = ((unit, place) for unit, it in enumerate(record.units) for place, entry in enumerate(it) if entry.data)
     entries = list(record.units[unit])
     entries[place] = replace(entries[place], data=entries[place].data[:-1] + b"\xee")
     return spelled(replace(record, units=(*record.units[:unit], tuple(entries), *record.units[unit + 1 :])))

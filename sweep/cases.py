@@ -84,6 +84,7 @@ class Run:
     before: dict = field(default_factory=dict)  # what stands there before, and stays where it ends in a fault
     model: Recording = None  # of a run of host files
     units: int = 0  # of the record that it audits
+    hides_wants: bool = False  # it ends in a fault that comes after its commands, and shows nothing of them
     input: str = None  # the path of its standard input
     row = 5  # this many growths, one after the other, are refused in a further run
 
@@ -91,11 +92,12 @@ class Run:
         return self.thread_growths() > 1
 
     def thread_growths(self):
-        """At most how many growths are those of threads: one of each that does commands, and three of each that audits, of which
-        there are two for each processor. Where a thread can't be made, the program does its work by itself. Which growths are
+        """At most how many growths are those of threads: one of a worker that is alone, two of each of several, and three of each
+        thread that audits, of which there are two for each processor. Where a thread can't be made, the program does its work by itself. Which growths are
         those of the audit's threads changes from run to run, so this counts more than there can be in one."""
         units = self.model.units() if self.model else self.units
         workers = self.model.workers if self.model else 0
+        workers = 2 * workers if workers > 1 else workers
         return workers + 3 * max(0, min(units, 2 * os.cpu_count()) - 1)
 
     def whole(self, end):
@@ -129,7 +131,7 @@ class Run:
         if end.said() == (1, "", f"{self.program}: no memory\n", self.before):
             return "no memory"
         # `clap` goes on where it is refused the memory to measure how similar two words are.
-        if self.is_said_by_clap() and end.said() == whole.said():
+        if (self.hides_wants or self.is_said_by_clap()) and end.said() == whole.said():
             return "as before"
         without = WITHOUT_A_THREAD if refusals == 1 else "with fewer threads"
         if self.units and end.said() == whole.said() and refusals <= self.thread_growths():

@@ -212,8 +212,8 @@ def runs(folder):
         model = Recording(Namespace(**changed), files, workers)
         return Run(name, "nvmu", words(paths, workers=workers, **changed), before=before, model=model)
 
-    def fault(name, line, paths, **changed):
-        return Run(name, "nvmu", words(paths, **changed), 1, err=f"nvmu: {line}\n", before=BEFORE)
+    def fault(name, line, paths, hides_wants=False, **changed):
+        return Run(name, "nvmu", words(paths, **changed), 1, err=f"nvmu: {line}\n", before=BEFORE, hides_wants=hides_wants)
 
     def refused(name, given, status=1):
         return Run(name, "nvmu", given, status)
@@ -265,7 +265,7 @@ def runs(folder):
         fault("no blocks", "geometry: Size", [empty], nsze=0),
         fault("blocks of 1000 bytes", "geometry: BlockSize", [whole], block=1000),
         fault("too many units", "geometry: TooManyUnits", [whole], nsze=65_536, nabsn=1, nawun=1, nacwu=1),
-        fault("a record that can't be written", "cannot write missing/record", [whole], out="missing/record"),
+        fault("a record that can't be written", "cannot write missing/record", [whole], True, out="missing/record"),
         *audits(kept, missing, [served, pairs(), ranges()], none),
         refused("an audit of two files", ["audit", "a", "b"]),
         refused("help on the audit", ["audit", "--help"], 0),
