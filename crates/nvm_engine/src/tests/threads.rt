@@ -1,12 +1,18 @@
-//! Workers that act at one time.
-use crate::{Settings, Workers, execute};
+//! Runs by workers, and audits of their records.
+use crate::{Fault, Settings, Shown, Workers, audit_bytes, execute};
+use nvm_file::write_record;
 use nvm_record::{Command, Fuse, Op, Payload, host_bytes};
 use nvm_store::Limit;
-use nvm_unit::Gate;
+use nvm_unit::{Gate, Open};
 use std::alloc::Global;
+use std::sync::Wait;
 use std::sync::atomic::{AtomicU64, Ordering};
 use std::test::Fail;
-use std::thread::yield_now;
+use std::thread::{Threads, yield_now};
+
+/// What is shown of a run of the host's file.
+const TEXT: &[u8; 74] =
+    b"1 1 zeroes 0/00\n1 2 zeroes 0/00\nlawful jobs 2 units 4 changes 2 refused 0\n";
 
 /// A change waits so many turns at most.
 const MOST_TURNS: u32 = 1_000_000;
@@ -86,10 +92,78 @@ fn two_workers_act_at_once(rt: HostRuntime) -> Result<(), Fail> {
     let Ok(shown) = execute(&rt, alloc, &settings(2)?, files.as_slice(), &gate) else {
         return Err(Fail::new("there was no memory"));
     };
-    let is_whole = shown.text.as_slice() == b"1 1 zeroes 0/00\n1 2 zeroes 0/00\n".as_slice();
+    let is_whole = shown.text.as_slice() == TEXT.as_slice();
     // Where a growth is refused a job may end with 0/06, or one thread do both.
     if !is_whole || gate.seen.load(Ordering::SeqCst) != 1 {
         return Err(Fail::new("there was no memory"));
     }
     Ok(())
+}
+
+/// What one worker's run of the host's file shows. Where a growth was refused it isn't that.
+fn shown_of_run<R: Threads + Wait + Sync>(rt: &R, alloc: Global) -> Result<Shown, Fail> {
+    let files = vec![in alloc; host_file(alloc)?]?;
+    let Ok(shown) = execute(rt, alloc, &settings(1)?, files.as_slice(), &Open) else {
+        return Err(Fail::new("there was no memory"));
+    };
+    if shown.text.as_slice() != TEXT.as_slice() {
+        return Err(Fail::new("there was no memory"));
+    }
+    Ok(shown)
+}
+
+/// The file of that run's record.
+fn record_file<R: Threads + Wait + Sync>(rt: &R, alloc: Global) -> Result<Vec<u8>, Fail> {
+    let shown = shown_of_run(rt, alloc)?;
+    let Some(record) = &shown.record else {
+        return Err(Fail::new("a run gives its record"));
+    };
+    let mut bytes = Vec::new(alloc);
+    if write_record(&mut bytes, record).is_err() {
+        return Err(Fail::new("there was no memory"));
+    }
+    Ok(bytes)
+}
+
+/// What the audit of a file says, and the status.
+fn audited<R: Threads + Sync>(rt: &R, alloc: Global, bytes: Vec<u8>) -> Result<Shown, Fail> {
+    match audit_bytes(rt, alloc, &Payload::new(alloc, bytes)?) {
+        Ok(shown) => Ok(shown),
+        Err(Fault::NoMemory) => Err(Fail::new("there was no memory")),
+        Err(_) => Err(Fail::new("the bytes are no record")),
+    }
+}
+
+#[test]
+fn a_run_gives_a_record_that_is_lawful(rt: HostRuntime) -> Result<(), Fail> {
+    let bytes = record_file(&rt, rt.alloc())?;
+    let shown = audited(&rt, rt.alloc(), bytes)?;
+    assert!(rt; shown.text.as_slice() == b"lawful jobs 2 units 4 changes 2 refused 0\n".as_slice());
+    assert!(rt; shown.status == 0);
+    Ok(())
+}
+
+#[test]
+fn another_status_is_unlawful(rt: HostRuntime) -> Result<(), Fail> {
+    let mut bytes = record_file(&rt, rt.alloc())?;
+    // Behind the status code of the last job stands the flag of its data.
+    let place = bytes.len().saturating_sub(2);
+    if let Some(code) = bytes.get_mut(place) {
+        *code = 0x80;
+    }
+    let shown = audited(&rt, rt.alloc(), bytes)?;
+    assert!(rt; shown.text.as_slice() == b"unlawful StatusWrong job 1 unit - place -\n".as_slice());
+    assert!(rt; shown.status == 2);
+    Ok(())
+}
+
+#[test]
+fn a_cut_record_is_truncated(rt: HostRuntime) -> Result<(), Fail> {
+    let alloc = rt.alloc();
+    let bytes = Payload::copy_of(alloc, b"NVR2")?;
+    match audit_bytes(&rt, alloc, &bytes) {
+        Err(Fault::NoMemory) => Err(Fail::new("there was no memory")),
+        Err(Fault::RecordTruncated { at: 4 }) => Ok(()),
+        _ => Err(Fail::new("the record is truncated at 4")),
+    }
 }
