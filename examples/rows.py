@@ -3,6 +3,8 @@
 The namespace has 32 blocks of 512 bytes in units of eight, and pairs have up to four blocks, where nothing else is said.
 """
 
+import os
+
 from host_files import compare, dataset, file_of, pair, read, uncorrectable, unknown, write, zeroes
 from recording import ran, run_words
 from records import MOST_LIMIT
@@ -171,15 +173,22 @@ def rows(run):
     units(run)
 
 
+def one_core():
+    """A child has one processor, for which the audit makes fewer threads."""
+    os.sched_setaffinity(0, {min(os.sched_getaffinity(0))})
+
+
 def units(run):
-    """4,096 units, each with one change; then with a spoiled byte in the entries of two."""
+    """4,096 units, each with one change; then with a spoiled byte in the entries of two. Audited on one core and on all."""
     run.keep("many", file_of([write(16 * unit, 0x41) for unit in range(4096)]))
     options = {**OPTIONS, "nsze": 65_536, "nabsn": 15, "nawun": 15, "nacwu": 15}
     lines = "".join(f"1 {cid} write 0/00\n" for cid in range(1, 4097))
     ran(run, options, "many", told=f"{lines}lawful jobs 4096 units 4096 changes 4096 refused 0\n")
+    run.expect(["nvmu", "audit", "record"], out="lawful jobs 4096 units 4096 changes 4096 refused 0\n", preexec_fn=one_core)
     file = bytearray(run.kept("record"))
     # 34 bytes, each job 579, and each unit 4 bytes, an entry of 19 and its block.
     for unit in (4000, 9):
         file[34 + 4096 * 579 + unit * 535 + 23] ^= 1
         run.keep("spoiled", bytes(file))
-        run.expect(["nvmu", "audit", "spoiled"], 2, out=f"unlawful EntryWrong job {unit} unit {unit} place 0\n")
+        for how in ({}, {"preexec_fn": one_core}):
+            run.expect(["nvmu", "audit", "spoiled"], 2, out=f"unlawful EntryWrong job {unit} unit {unit} place 0\n", **how)
