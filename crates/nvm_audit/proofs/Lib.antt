@@ -3,6 +3,7 @@ pub mod Mapped
 pub mod Standing
 pub mod EachPasses
 pub mod UnitChecksPass
+pub mod Complete
 pub mod RecordChecksPass
 pub mod OneFirst
 pub mod FewDone

@@ -30,6 +30,7 @@ use Rattle.nvm_audit.specs.RecordedJob.{RecordedJob}
 use Rattle.nvm_audit.specs.RecordedPart.{RecordedPart, parts_in_unit}
 use Rattle.nvm_audit.specs.RecordView.{RecordView}
 use Rattle.nvm_audit.specs.Resting.{IsRightAtItsPoint}
+use Rattle.nvm_audit.proofs.Complete.{complete_where_held}
 use Rattle.nvm_audit.proofs.DoneParts.{no_data}
 use Rattle.nvm_audit.proofs.Standing.{none_stands, alone, read_there, all_at}
 use Rattle.nvm_audit.proofs.Unrefused.{unrefused}
@@ -273,6 +274,7 @@ module _ (pairs_kept : KeepsPairs) (looks_kept : KeepsLooks) (acts : ActsSucceed
   pub lawful : HasJust r unit (entry_alone r.namespace op unit ∷ []) → IsLawfulRecord r
   lawful just =
       record {
+        complete = complete_where_held r held;
         once = once;
         shapes =
             λ worker work k d there at.

@@ -27,7 +27,6 @@ use Rattle.nvm_store.specs.PlacedRun.{RunStep, changes, answers, entries_in, cal
 use Rattle.nvm_store.specs.Point.{point, RestsOn}
 use Rattle.nvm_audit.specs.LawfulRecord.{IsLawfulRecord}
 use Rattle.nvm_audit.specs.LawfulUnit.{IsLawfulUnit}
-use Rattle.nvm_audit.specs.Recordable.{IsRecordable, IsRecordableJob}
 use Rattle.nvm_audit.specs.RecordedCalls.{IsCallOfPart, BeginsWithStep, AreStepsOf, parts_by, IsPlacedRunOf}
 use Rattle.nvm_audit.specs.RecordedPart.{RecordedPart, parts_in_unit, told_of}
 use Rattle.nvm_audit.specs.RecordView.{RecordView}
@@ -251,7 +250,7 @@ ends looks ns limit history whole p Looked is right can =
 ends looks ns limit history whole p NoMemory is right can = absurd (cc is)
 ends looks ns limit history whole p Full is right can = absurd (cc is)
 
-module _ (looks : KeepsLooks) (has_part : HasPart) (covers : CoversParts) (shapes : ShapesByPlan) (r : RecordView) (held : IsRecordable r)
+module _ (looks : KeepsLooks) (has_part : HasPart) (covers : CoversParts) (shapes : ShapesByPlan) (r : RecordView)
     (lawful : IsLawfulRecord r) (unit : ℕ) (history : List HistoryEntry) (there : IsAt r.units unit history) where
   abbrev parts : List RecordedPart
   parts = parts_in_unit unit r.done
@@ -288,7 +287,7 @@ module _ (looks : KeepsLooks) (has_part : HasPart) (covers : CoversParts) (shape
       let told = ends looks r.namespace r.limit history rests.whole p p.part.result is rests.status of_its.result in
       let free = unrefused r.namespace rests.does.job rests.whole rests.does.ready in
       let part = has_part r.namespace rests.does.job rests.whole p.part.unit free.0 free.1 of_its.met in
-      let fits = (all_at (IsRecordableJob r) r.jobs held.jobs p.done.job rests.does.job rests.does.its).fits in
+      let fits = all_at (FitsNamespace r.namespace) r.jobs lawful.complete.jobs p.done.job rests.does.job rests.does.its in
       let unit_is : p.part.unit ≡ unit = (comes_from unit r.done k p at).1 in
       let lies = subst (λ (u : ℕ). IsUnitPlace r.namespace u its.place) (sym unit_is) its.lies in
       record {
