@@ -16,7 +16,6 @@ pub mod PartsShown
 pub mod PointReplies
 pub mod JobOutcomes
 pub mod FirstFaults
-pub mod DoneStatus
 pub mod PartsFrom
 pub mod NoJobs
 pub mod Unrefused

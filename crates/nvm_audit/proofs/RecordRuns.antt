@@ -236,7 +236,7 @@ module _ (ns : Namespace) (jobs : List Job) (history : List HistoryEntry) where
       (λ i j a b x y lt. order (suc i) (suc j) a b x y (omega (arith, lt))) l r)
       p.part.result refl (λ i q at. order 0 (suc i) p q refl at (omega arith)) steps h
 
--- A part that is a call rests on its point, with the data of the step, and looks or fails.
+-- A part that is a call was told what the step gives, and looks or fails.
 ends : KeepsLooks → (ns : Namespace) (limit : ℕ) (history : List HistoryEntry) (whole : Operation) (p : RecordedPart) (result : PartResult)
     → is_call result ≡ true → HasRightStatus ns.block_size limit history (part_in ns whole p.part.unit) p result
     → IsTrue (can_have whole.deed result)
@@ -244,9 +244,9 @@ ends : KeepsLooks → (ns : Namespace) (limit : ℕ) (history : List HistoryEntr
     × (IsLook (part_in ns whole p.part.unit).deed
     ⊎ IsFailedPair (part_in ns whole p.part.unit) (point ns.block_size history p.part.point))
 ends looks ns limit history whole p Done is right can = absurd (cc is)
-ends looks ns limit history whole p Failed is right can = (right.1.statuses, inr right.0)
+ends looks ns limit history whole p Failed is right can = (right.1, inr right.0)
 ends looks ns limit history whole p Looked is right can =
-    (right.statuses, inl (subst (λ (b : Bool). IsTrue b) (sym (looks ns whole p.part.unit)) can))
+    (right, inl (subst (λ (b : Bool). IsTrue b) (sym (looks ns whole p.part.unit)) can))
 ends looks ns limit history whole p NoMemory is right can = absurd (cc is)
 ends looks ns limit history whole p Full is right can = absurd (cc is)
 
