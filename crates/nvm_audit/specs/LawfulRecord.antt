@@ -38,9 +38,9 @@ HaveShapes r =
     (worker : ℕ) (work : List RecordedJob) (k : ℕ) (d : RecordedJob) → IsAt r.done worker work → IsAt work k d
     → HasItsShape r.namespace r.jobs d
 
--- Nothing is left out of the record: the namespace has no fault, the limit and the workers are as many as there can be, and the
--- jobs fit the namespace. Each unit has a history, within the limit. Each worker has what it did, with the whole data of each
--- Read.
+-- Nothing is left out of the record. The namespace has no fault, and the limit and the number of workers are in their ranges.
+-- The jobs fit the namespace. Each unit has a history, within the limit. Each worker has what it did, with the whole data of
+-- each Read.
 pub record IsComplete (r : RecordView) : Type 0 where
   pub namespace : IsValid r.namespace
   pub limit : IsLimit r.limit
