@@ -3,7 +3,6 @@ use Rattle.std.proofs.Common.{◌≡◌, ◌⊎◌, ℕ, List, length, not, Opti
 use Rattle.std.proofs.lemmas.Bool.{cases_eq}
 use Rattle.std.proofs.lemmas.Option.{none-some, same_Some}
 use Rattle.nvm_record.specs.declared.block.Block.{Block}
-use Rattle.nvm_record.specs.declared.status.Statuses.{Statuses}
 use Rattle.nvm_record.specs.Deeds.{is_look, FailsOn, success_of}
 use Rattle.nvm_record.specs.Lists.{IsAt}
 use Rattle.nvm_record.specs.Medium.{Medium}
@@ -16,7 +15,7 @@ use Rattle.nvm_plan.specs.declared.part.PartResult.TheVariants.{Done, Failed, Lo
 use Rattle.nvm_plan.specs.JobPart.{ready_operation, job_part_in}
 use Rattle.nvm_plan.specs.Shape.{HasOutcomeShape}
 use Rattle.nvm_store.specs.HistoryEntry.{HistoryEntry}
-use Rattle.nvm_store.specs.Point.{point, RestsOn}
+use Rattle.nvm_store.specs.Point.{point}
 use Rattle.nvm_audit.specs.LawfulRecord.{times_done, HasItsShape}
 use Rattle.nvm_audit.specs.LawfulUnit.{IsPartOfItsJob, MadeEntry, IsClaimed, HasMadeEntry}
 use Rattle.nvm_audit.specs.PointOrder.{least_after, IsNotBefore}
@@ -81,20 +80,13 @@ fails_on blocks (compares payload) = inr (λ h. h)
 fails_on blocks (pairs payload new) = is_false (compares_equal blocks payload)
 fails_on blocks (deallocates ranges) = inr (λ h. h)
 
-rests_on : (size : ℕ) (history : List HistoryEntry) (n : ℕ) (op : Operation) (told : Statuses) (read : Option (List ℕ))
-    → IsDecided (RestsOn size history n op told read)
-rests_on size history n op told read =
-    with_it (λ h. record { within = h.0; statuses = h.1.0; payload = h.1.1 }) (λ h. (h.within, (h.statuses, h.payload)))
-    (both (at_most n (length history))
-    (both (statuses told (statuses_of op (point size history n))) (payloads read (data_of op (point size history n)))))
-
 right_status : (size limit : ℕ) (history : List HistoryEntry) (op : Operation) (p : RecordedPart) (result : PartResult)
     → IsDecided (HasRightStatus size limit history op p result)
-right_status size limit history op p Done = rests_on size history p.part.point op (success_of op.deed) None
+right_status size limit history op p Done = statuses (success_of op.deed) (statuses_of op (point size history p.part.point))
 right_status size limit history op p Failed =
-    both (fails_on (range_of op (point size history p.part.point)) op.deed) (rests_on size history p.part.point op (told_of p) None)
-right_status size limit history op p Looked =
-    rests_on size history p.part.point op (told_of p) (data_of op (point size history p.part.point))
+    both (fails_on (range_of op (point size history p.part.point)) op.deed)
+    (statuses (told_of p) (statuses_of op (point size history p.part.point)))
+right_status size limit history op p Looked = statuses (told_of p) (statuses_of op (point size history p.part.point))
 right_status size limit history op p NoMemory =
     where_so (is_true (not (is_look op.deed)))
     (both (success (statuses_of op (point size history p.part.point))) (below p.part.point limit))

@@ -16,7 +16,7 @@ use Rattle.nvm_audit.specs.RecordedPart.{RecordedPart, parts_in_unit}
 use Rattle.nvm_audit.specs.RecordView.{RecordView}
 use Rattle.nvm_audit.proofs.Standing.{below}
 
-pub success_told : (blocks : List Block) (deed : Deed) → IsTrue (not (is_look deed)) → IsSuccess (statuses_on blocks deed)
+success_told : (blocks : List Block) (deed : Deed) → IsTrue (not (is_look deed)) → IsSuccess (statuses_on blocks deed)
     → success_of deed ≡ statuses_on blocks deed
 success_told blocks (writes payload) act h = refl
 success_told blocks zeroes act h = refl
@@ -26,7 +26,7 @@ success_told blocks (compares payload) act h = absurd (cc act)
 success_told blocks (pairs payload new) act h = λ i. Two (sym h.0 i) (sym h.1 i)
 success_told blocks (deallocates ranges) act h = refl
 
-pub no_data : (blocks : List Block) (deed : Deed) → IsTrue (not (is_look deed)) → None ≡ data_on blocks deed
+no_data : (blocks : List Block) (deed : Deed) → IsTrue (not (is_look deed)) → None ≡ data_on blocks deed
 no_data blocks (writes payload) act = refl
 no_data blocks zeroes act = refl
 no_data blocks uncorrectable act = refl

@@ -2,11 +2,9 @@
 use Rattle.std.proofs.Common.{◌≡◌, ◌≢◌, ℕ, ◌+◌, ◌<◌, ◌≤◌, List, length, set, get_or, Option, Some, None, IsSome, refl, sym, ap, subst, ◌∙◌, arith, inl, inr, length-set}
 use Rattle.std.proofs.lemmas.Bool.{cases_lt}
 use mathlib.Core.Bool.{true≢false}
-use Rattle.nvm_record.specs.declared.block.Block.{Block}
-use Rattle.nvm_record.specs.Deeds.{FailsOn}
 use Rattle.nvm_record.specs.Lists.{IsAt}
 use Rattle.nvm_record.specs.Medium.{Medium}
-use Rattle.nvm_record.specs.Step.{Deed, Operation, writes, zeroes, uncorrectable, reads, compares, pairs, deallocates, range_of, data_on}
+use Rattle.nvm_record.specs.Step.{Operation}
 use Rattle.nvm_geometry.specs.Namespace.{Namespace}
 use Rattle.nvm_geometry.specs.Parts.{part_in}
 use Rattle.nvm_plan.specs.declared.job.Job.{Job}
@@ -29,35 +27,18 @@ use Rattle.nvm_audit.proofs.Judged.{some_is}
 use Rattle.nvm_audit.proofs.Places.{at_set, stands_read, get_or_there}
 use Rattle.nvm_audit.proofs.Standing.{below, one_there}
 
-no_data : (blocks : List Block) (deed : Deed) → FailsOn blocks deed → None ≡ data_on blocks deed
-no_data blocks (writes payload) h = refl
-no_data blocks zeroes h = refl
-no_data blocks uncorrectable h = refl
-no_data blocks reads h = absurd h
-no_data blocks (compares payload) h = refl
-no_data blocks (pairs payload new) h = refl
-no_data blocks (deallocates ranges) h = refl
-
 module _ (size limit : ℕ) (history : List HistoryEntry) (op : Operation) (p : RecordedPart) where
-  rests : p.part.point ≤ length history → (result : PartResult) → result ≢ Done
-      → EndsRight limit op (point size history p.part.point) p result → HasRightStatus size limit history op p result
-  rests within Done other h = absurd (other refl)
-  rests within Failed other h = (
-    h.0,
-    record {
-      within = within;
-      statuses = h.1;
-      payload = no_data (range_of op (point size history p.part.point)) op.deed h.0;
-    },
-  )
-  rests within Looked other h = record { within = within; statuses = h; payload = refl }
-  rests within NoMemory other h = h
-  rests within Full other h = h
+  rests : (result : PartResult) → result ≢ Done → EndsRight limit op (point size history p.part.point) p result → HasRightStatus size limit history op p result
+  rests Done other h = absurd (other refl)
+  rests Failed other h = h
+  rests Looked other h = h
+  rests NoMemory other h = h
+  rests Full other h = h
 
   ends_so : (result : PartResult) → HasRightStatus size limit history op p result → EndsRight limit op (point size history p.part.point) p result
   ends_so Done h = tt
-  ends_so Failed h = (h.0, h.1.statuses)
-  ends_so Looked h = h.statuses
+  ends_so Failed h = h
+  ends_so Looked h = h
   ends_so NoMemory h = h
   ends_so Full h = h
 
@@ -65,7 +46,7 @@ module _ (size limit : ℕ) (history : List HistoryEntry) (op : Operation) (p : 
   done_ends m result is = subst (λ (r : PartResult). EndsRight limit op m p r) (sym is) tt
 
 module _ (u : UnitView) (p : RecordedPart) (job : Job) (op : Operation) (its : IsAt u.jobs p.done.job job)
-    (ready : ready_operation u.namespace job ≡ Some op) (within : p.part.point ≤ length u.history) where
+    (ready : ready_operation u.namespace job ≡ Some op) where
   same_whole : (other : Job) (whole : Operation) → IsAt u.jobs p.done.job other → ready_operation u.namespace other ≡ Some whole → whole ≡ op
   same_whole other whole at also =
       let same = one_there u.jobs p.done.job other job at its in
@@ -78,7 +59,7 @@ module _ (u : UnitView) (p : RecordedPart) (job : Job) (op : Operation) (its : I
       record {
         whole = op;
         does = record { job = job; its = its; ready = ready };
-        status = rests u.namespace.block_size u.limit u.history (part_in u.namespace op p.part.unit) p within p.part.result other h;
+        status = rests u.namespace.block_size u.limit u.history (part_in u.namespace op p.part.unit) p p.part.result other h;
       }
 
   needs_status : HasItsStatus u p
@@ -138,14 +119,14 @@ module _ (u : UnitView) (known : IsKnownUnit u) (k : ℕ) (p : RecordedPart) (at
         whole = λ bytes e. subst (λ (j : Job). IsLongAsRead u.namespace j bytes) is (part.whole bytes e);
       }
 
-  pub found : (job : Job) (f : Finding) → IsReadJob u p job → p.part.point ≤ length u.history
+  pub found : (job : Job) (f : Finding) → IsReadJob u p job
       → ((op : Operation) → ready_operation u.namespace job ≡ Some op
       → IsFound f (EndsRight u.limit (part_in u.namespace op p.part.unit) (point u.namespace.block_size u.history p.part.point) p p.part.result)
       (HasRightData u.namespace op (point u.namespace.block_size u.history p.part.point) p))
       → IsJudged u p f
-  found job f read within tells =
+  found job f read tells =
       let whole = does_some u.namespace (ready_operation u.namespace job) p.part.unit read.there in
-      judged_by u p job whole.0 read.its whole.1 within f (tells whole.0 whole.1)
+      judged_by u p job whole.0 read.its whole.1 f (tells whole.0 whole.1)
 
 -- The parts at a point are judged from the last one on: at first none is.
 pub judging_begins : (u : UnitView) (n at : ℕ) (findings : List Finding) → length findings ≡ length u.parts

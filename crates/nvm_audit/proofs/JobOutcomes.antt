@@ -24,7 +24,7 @@ use Rattle.nvm_plan.specs.declared.part.PartResult.TheVariants.{Done, Failed, Lo
 use Rattle.nvm_store.specs.HistoryEntry.{HistoryEntry}
 use Rattle.nvm_store.specs.Point.{point}
 use Rattle.nvm_audit.specs.LawfulRecord.{IsLawfulRecord}
-use Rattle.nvm_audit.specs.Recordable.{IsRecordable, IsRecordableDone, IsRecordableWork}
+use Rattle.nvm_audit.specs.Recordable.{IsRecordableDone}
 use Rattle.nvm_audit.specs.RecordedJob.{RecordedJob}
 use Rattle.nvm_audit.specs.RecordedPart.{RecordedPart, recorded_part, parts_left}
 use Rattle.nvm_audit.specs.RecordView.{RecordView}
@@ -32,6 +32,8 @@ use Rattle.nvm_audit.specs.ReplyAtPoint.{reply_at, IsReplyAtPoint, AreRepliesOf}
 use Rattle.nvm_audit.specs.Resting.{DoesOperation, HasRightData}
 use Rattle.nvm_audit.proofs.Decided.{IsDecided, is_true}
 use Rattle.nvm_audit.proofs.EachPasses as each
+use Rattle.nvm_audit.proofs.Held as held
+use Rattle.nvm_audit.proofs.Held.{KnowsUnits, FewUnits, HasStatuses}
 use Rattle.nvm_audit.proofs.OneActs.{KeepsPairs}
 use Rattle.nvm_audit.proofs.PartsShown.{before_last, at_last, shown, in_front, behind}
 use Rattle.nvm_audit.proofs.PointReplies as replies
@@ -119,10 +121,14 @@ units_split [] last left = refl
 units_split (p ∷ ps) last left = ap (λ (l : List ℕ). p.unit ∷ l) (units_split ps last left)
 
 module _ (steps : StepsAreReplies) (outcomes : KnowsOutcomes) (knows : KnowsReady) (keeps : KeepsPairs) (in_line : StandInLine)
-    (its_range : MeetsItsRange) (r : RecordView) (held : IsRecordable r) (lawful : IsLawfulRecord r) (worker : ℕ) (work : List RecordedJob)
+    (its_range : MeetsItsRange) (known : KnowsUnits) (few : FewUnits) (statuses : HasStatuses) (r : RecordView) (lawful : IsLawfulRecord r) (worker : ℕ)
+    (work : List RecordedJob)
     (k : ℕ) (d : RecordedJob) (there : IsAt r.done worker work) (at : IsAt work k d) where
   kept : IsRecordableDone r d
-  kept = all_at (IsRecordableDone r) work (all_at (IsRecordableWork r) r.done held.done worker work there).each k d at
+  kept =
+      let its = lawful.shapes worker work k d there at in
+      held.done known few statuses r its.job d its.its its.shape
+      (λ op bytes ready e. lawful.complete.reads worker work k d its.job op bytes there at its.its ready e)
 
   abbrev history_of : Part → List HistoryEntry
   history_of part = get_or r.units part.unit []
@@ -148,9 +154,9 @@ module _ (steps : StepsAreReplies) (outcomes : KnowsOutcomes) (knows : KnowsRead
         → Stands (parts_left worker d d.parts) (recorded_part worker d part is_last) → RightAt (recorded_part worker d part is_last)
     right_at part is_last among left =
         let p = recorded_part worker d part is_last in
-        let known : part.unit < units_of r.namespace =
+        let in_namespace : part.unit < units_of r.namespace =
         all_at (λ (q : Part). q.unit < units_of r.namespace) d.parts kept.units among.0 part among.1 in
-        let lt : part.unit < length r.units = subst (λ (n : ℕ). part.unit < n) (sym held.all_units) known in
+        let lt : part.unit < length r.units = subst (λ (n : ℕ). part.unit < n) (sym lawful.complete.all_units) in_namespace in
         let history = history_of part in
         let unit : IsAt r.units part.unit history = read_there r.units part.unit [] lt in
         let among_units = shown r.done worker work k d left.0 p there at left.1 in

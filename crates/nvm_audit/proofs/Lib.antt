@@ -3,6 +3,7 @@ pub mod Mapped
 pub mod Standing
 pub mod EachPasses
 pub mod UnitChecksPass
+pub mod Complete
 pub mod RecordChecksPass
 pub mod OneFirst
 pub mod FewDone
@@ -15,7 +16,6 @@ pub mod PartsShown
 pub mod PointReplies
 pub mod JobOutcomes
 pub mod FirstFaults
-pub mod DoneStatus
 pub mod PartsFrom
 pub mod NoJobs
 pub mod Unrefused

@@ -8,6 +8,7 @@ use Rattle.nvm_audit.specs.Recordable.{IsRecordable, IsRecordableDone, IsRecorda
 use Rattle.nvm_audit.specs.RecordedJob.{RecordedJob}
 use Rattle.nvm_audit.specs.RecordedPart.{RecordedPart, parts_in_unit}
 use Rattle.nvm_audit.specs.RecordView.{RecordView}
+use Rattle.nvm_audit.proofs.Complete.{complete_where_held}
 use Rattle.nvm_audit.proofs.PartsFrom.{comes_from}
 use Rattle.nvm_audit.proofs.Standing.{none_stands, all_at}
 
@@ -35,6 +36,7 @@ no_part r held none unit i p there =
 pub no_jobs_are_lawful : (r : RecordView) → IsRecordable r → r.jobs ≡ [] → IsLawfulRecord r
 no_jobs_are_lawful r held none =
     record {
+      complete = complete_where_held r held;
       once = λ number lt. let nothing : number < 0 = subst (λ (l : List Job). number < length l) none lt in absurd (omega arith);
       shapes = λ worker work k d there here. absurd (no_done r held none worker work k d there here);
       units =

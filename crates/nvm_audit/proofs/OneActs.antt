@@ -8,7 +8,7 @@ use Rattle.nvm_record.specs.Deeds.{is_look, is_read, is_pair, IsAct, IsSingle, s
 use Rattle.nvm_record.specs.Lists.{IsAt}
 use Rattle.nvm_record.specs.Medium.{Medium}
 use Rattle.nvm_record.specs.Status.{IsSuccess, successful_completion}
-use Rattle.nvm_record.specs.Step.{Deed, Operation, statuses_of, range_of, writes, zeroes, uncorrectable, reads, compares, pairs, deallocates}
+use Rattle.nvm_record.specs.Step.{Deed, Operation, statuses_of, writes, zeroes, uncorrectable, reads, compares, pairs, deallocates}
 use Rattle.nvm_geometry.specs.Boundaries.{units_of}
 use Rattle.nvm_geometry.specs.Namespace.{Namespace}
 use Rattle.nvm_geometry.specs.Parts.{units_met, part_in}
@@ -30,7 +30,7 @@ use Rattle.nvm_audit.specs.RecordedJob.{RecordedJob}
 use Rattle.nvm_audit.specs.RecordedPart.{RecordedPart, parts_in_unit}
 use Rattle.nvm_audit.specs.RecordView.{RecordView}
 use Rattle.nvm_audit.specs.Resting.{IsRightAtItsPoint}
-use Rattle.nvm_audit.proofs.DoneParts.{no_data}
+use Rattle.nvm_audit.proofs.Complete.{complete_where_held}
 use Rattle.nvm_audit.proofs.Standing.{none_stands, alone, read_there, all_at}
 use Rattle.nvm_audit.proofs.Unrefused.{unrefused}
 
@@ -204,13 +204,8 @@ module _ (pairs_kept : KeepsPairs) (looks_kept : KeepsLooks) (acts : ActsSucceed
           does = record { job = one.job; its = here; ready = one.ready };
           within = omega arith;
           status =
-              record {
-                within = omega arith;
-                statuses =
-                    success_alone (part_in r.namespace op unit).deed single
-                    ∙ sym (acts (part_in r.namespace op unit) (point r.namespace.block_size history 0) its_act single);
-                payload = no_data (range_of (part_in r.namespace op unit) (point r.namespace.block_size history 0)) (part_in r.namespace op unit).deed its_act;
-              };
+              success_alone (part_in r.namespace op unit).deed single
+              ∙ sym (acts (part_in r.namespace op unit) (point r.namespace.block_size history 0) its_act single);
           payload = λ bytes e. absurd (none-some bytes e);
         }
 
@@ -273,6 +268,7 @@ module _ (pairs_kept : KeepsPairs) (looks_kept : KeepsLooks) (acts : ActsSucceed
   pub lawful : HasJust r unit (entry_alone r.namespace op unit ∷ []) → IsLawfulRecord r
   lawful just =
       record {
+        complete = complete_where_held r held;
         once = once;
         shapes =
             λ worker work k d there at.

@@ -96,7 +96,7 @@ module _ (ns : Namespace) (limit : ℕ) (op : Operation) (history : List History
       → IsReplyTo op.deed (its_reply result)
   is_reply steps Done e can right =
       steps.done ns op (point ns.block_size history p.part.point) p.part can e
-      (subst IsSuccess right.statuses (success_succeeds (part_in ns op p.part.unit).deed))
+      (subst IsSuccess right (success_succeeds (part_in ns op p.part.unit).deed))
   is_reply steps Failed e can right = steps.failed ns op (point ns.block_size history p.part.point) p.part e right.0
   is_reply steps Looked e can right = steps.looked ns op (point ns.block_size history p.part.point) p.part can e
   is_reply steps NoMemory e can right = steps.no_memory op.deed p.part e
@@ -105,9 +105,9 @@ module _ (ns : Namespace) (limit : ℕ) (op : Operation) (history : List History
   -- A part with others after it succeeded.
   pub goes_on_succeeds : (result : PartResult) → IsTrue (goes_on result) → told_of p ≡ One successful_completion → IsRight result
       → IsSuccess (its_reply result).statuses
-  goes_on_succeeds Done on told right = subst IsSuccess right.statuses (success_succeeds (part_in ns op p.part.unit).deed)
+  goes_on_succeeds Done on told right = subst IsSuccess right (success_succeeds (part_in ns op p.part.unit).deed)
   goes_on_succeeds Failed on told right = absurd (cc on)
-  goes_on_succeeds Looked on told right = subst IsSuccess (sym told ∙ right.statuses) refl
+  goes_on_succeeds Looked on told right = subst IsSuccess (sym told ∙ right) refl
   goes_on_succeeds NoMemory on told right = absurd (cc on)
   goes_on_succeeds Full on told right = absurd (cc on)
 
@@ -118,9 +118,9 @@ module _ (ns : Namespace) (limit : ℕ) (op : Operation) (history : List History
       let same = keeps ns op p.part.unit in
       may
       ∙ ap (λ (b : Bool). cond b (Two successful_completion successful_completion) (One successful_completion)) (sym same)
-      ∙ right.statuses
-  last_decides keeps Failed may right = right.1.statuses
-  last_decides keeps Looked may right = right.statuses
+      ∙ right
+  last_decides keeps Failed may right = right.1
+  last_decides keeps Looked may right = right
   last_decides keeps NoMemory may right = may
   last_decides keeps Full may right = may
 

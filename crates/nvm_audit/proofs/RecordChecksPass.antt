@@ -10,6 +10,7 @@ use Rattle.nvm_audit.specs.RecordView.{RecordView}
 use Rattle.nvm_audit.specs.UnitChecks.{unit_checks, HasNoUnitFault}
 use Rattle.nvm_audit.specs.UnitView.{view_of_unit}
 use Rattle.nvm_audit.proofs.EachPasses.{joined, in_front, behind, mapped, unmapped, each_list, list_of, of_range, at_number}
+use Rattle.nvm_audit.proofs.Complete.{complete_where_held}
 use Rattle.nvm_audit.proofs.Standing.{none_stands, all_at, below}
 use Rattle.nvm_audit.proofs.UnitChecksPass.{lawful_unit, no_unit_fault}
 use mathlib.Core.Option.{some-injective}
@@ -95,6 +96,7 @@ module _ (r : RecordView) where
       let counted = in_front (Passes r) (count_checks (length r.jobs)) (shape_checks (length r.jobs)) jobs in
       let shaped = behind (Passes r) (count_checks (length r.jobs)) (shape_checks (length r.jobs)) jobs in
       record {
+        complete = complete_where_held r held;
         once = once_each counted;
         shapes = shape_each held shaped;
         units =

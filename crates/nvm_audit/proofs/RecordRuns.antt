@@ -27,7 +27,6 @@ use Rattle.nvm_store.specs.PlacedRun.{RunStep, changes, answers, entries_in, cal
 use Rattle.nvm_store.specs.Point.{point, RestsOn}
 use Rattle.nvm_audit.specs.LawfulRecord.{IsLawfulRecord}
 use Rattle.nvm_audit.specs.LawfulUnit.{IsLawfulUnit}
-use Rattle.nvm_audit.specs.Recordable.{IsRecordable, IsRecordableJob}
 use Rattle.nvm_audit.specs.RecordedCalls.{IsCallOfPart, BeginsWithStep, AreStepsOf, parts_by, IsPlacedRunOf}
 use Rattle.nvm_audit.specs.RecordedPart.{RecordedPart, parts_in_unit, told_of}
 use Rattle.nvm_audit.specs.RecordView.{RecordView}
@@ -237,7 +236,7 @@ module _ (ns : Namespace) (jobs : List Job) (history : List HistoryEntry) where
       (λ i j a b x y lt. order (suc i) (suc j) a b x y (omega (arith, lt))) l r)
       p.part.result refl (λ i q at. order 0 (suc i) p q refl at (omega arith)) steps h
 
--- A part that is a call rests on its point, with the data of the step, and looks or fails.
+-- A part that is a call was told what the step gives, and looks or fails.
 ends : KeepsLooks → (ns : Namespace) (limit : ℕ) (history : List HistoryEntry) (whole : Operation) (p : RecordedPart) (result : PartResult)
     → is_call result ≡ true → HasRightStatus ns.block_size limit history (part_in ns whole p.part.unit) p result
     → IsTrue (can_have whole.deed result)
@@ -245,13 +244,13 @@ ends : KeepsLooks → (ns : Namespace) (limit : ℕ) (history : List HistoryEntr
     × (IsLook (part_in ns whole p.part.unit).deed
     ⊎ IsFailedPair (part_in ns whole p.part.unit) (point ns.block_size history p.part.point))
 ends looks ns limit history whole p Done is right can = absurd (cc is)
-ends looks ns limit history whole p Failed is right can = (right.1.statuses, inr right.0)
+ends looks ns limit history whole p Failed is right can = (right.1, inr right.0)
 ends looks ns limit history whole p Looked is right can =
-    (right.statuses, inl (subst (λ (b : Bool). IsTrue b) (sym (looks ns whole p.part.unit)) can))
+    (right, inl (subst (λ (b : Bool). IsTrue b) (sym (looks ns whole p.part.unit)) can))
 ends looks ns limit history whole p NoMemory is right can = absurd (cc is)
 ends looks ns limit history whole p Full is right can = absurd (cc is)
 
-module _ (looks : KeepsLooks) (has_part : HasPart) (covers : CoversParts) (shapes : ShapesByPlan) (r : RecordView) (held : IsRecordable r)
+module _ (looks : KeepsLooks) (has_part : HasPart) (covers : CoversParts) (shapes : ShapesByPlan) (r : RecordView)
     (lawful : IsLawfulRecord r) (unit : ℕ) (history : List HistoryEntry) (there : IsAt r.units unit history) where
   abbrev parts : List RecordedPart
   parts = parts_in_unit unit r.done
@@ -288,7 +287,7 @@ module _ (looks : KeepsLooks) (has_part : HasPart) (covers : CoversParts) (shape
       let told = ends looks r.namespace r.limit history rests.whole p p.part.result is rests.status of_its.result in
       let free = unrefused r.namespace rests.does.job rests.whole rests.does.ready in
       let part = has_part r.namespace rests.does.job rests.whole p.part.unit free.0 free.1 of_its.met in
-      let fits = (all_at (IsRecordableJob r) r.jobs held.jobs p.done.job rests.does.job rests.does.its).fits in
+      let fits = all_at (FitsNamespace r.namespace) r.jobs lawful.complete.jobs p.done.job rests.does.job rests.does.its in
       let unit_is : p.part.unit ≡ unit = (comes_from unit r.done k p at).1 in
       let lies = subst (λ (u : ℕ). IsUnitPlace r.namespace u its.place) (sym unit_is) its.lies in
       record {

@@ -2,13 +2,11 @@
 use Rattle.std.proofs.Common.{◌≡◌, ◌≢◌, ◌⊎◌, ℕ, zero, suc, ◌+◌, ◌<◌, ◌≤◌, List, [], ◌∷◌, ◌++◌, length, take, drop, set, replicate, get_or, Option, Some, None, refl, sym, ap, subst, ◌∙◌, arith, inl, inr, length-set}
 use Rattle.std.proofs.lemmas.List.{drop_more, drop_all, length-replicate}
 use Rattle.std.specs.List.{AllByRecursion}
-use mathlib.Core.Bool.{true≢false}
-use Rattle.nvm_record.specs.declared.block.Block.{Block}
-use Rattle.nvm_record.specs.Deeds.{IsAct, success_of}
+use Rattle.nvm_record.specs.Deeds.{success_of}
 use Rattle.nvm_record.specs.Lists.{IsAt}
 use Rattle.nvm_record.specs.Medium.{Medium}
 use Rattle.nvm_record.specs.Status.{IsSuccess}
-use Rattle.nvm_record.specs.Step.{Deed, Operation, writes, zeroes, uncorrectable, reads, compares, pairs, deallocates, range_of, data_on, statuses_of}
+use Rattle.nvm_record.specs.Step.{Operation, statuses_of}
 use Rattle.nvm_geometry.specs.Namespace.{Namespace}
 use Rattle.nvm_geometry.specs.Parts.{part_in}
 use Rattle.nvm_plan.specs.declared.part.PartResult.{PartResult}
@@ -51,15 +49,6 @@ entries_right u (d ∷ ds) n zero place e all is at =
     (subst (λ (m : ℕ). IsEntryRight u m d) same all.0)
 entries_right u (d ∷ ds) n (suc i) place e all is at = entries_right u ds (n + 1) i place e all.1.1 (omega (arith, is)) at
 
-no_data_of_act : (blocks : List Block) (deed : Deed) → IsAct deed → None ≡ data_on blocks deed
-no_data_of_act blocks (writes payload) act = refl
-no_data_of_act blocks zeroes act = refl
-no_data_of_act blocks uncorrectable act = refl
-no_data_of_act blocks reads act = absurd (true≢false (sym act))
-no_data_of_act blocks (compares payload) act = refl
-no_data_of_act blocks (pairs payload new) act = refl
-no_data_of_act blocks (deallocates ranges) act = refl
-
 abbrev pub ToldAlike : Type 0
 ToldAlike = (op : Operation) (m : Medium) → IsSuccess (statuses_of op m) → statuses_of op m ≡ success_of op.deed
 
@@ -68,17 +57,10 @@ some_whole : (ns : Namespace) (o : Option Operation) (unit : ℕ) (part : Operat
 some_whole ns None unit part e = cc
 some_whole ns (Some op) unit part e = (op, refl)
 
-rests_there : ToldAlike → (size limit : ℕ) (history : List HistoryEntry) (p : RecordedPart) (part : Operation)
-    → p.part.point ≤ length history → IsSuccess (statuses_of part (point size history p.part.point)) → IsAct part.deed
-    → HasRightStatus size limit history part p Done
-rests_there told size limit history p part within success act =
-    let m = point size history p.part.point in
-    record { within = within; statuses = sym (told part m success); payload = no_data_of_act (range_of part m) part.deed act }
-
 -- A part that was done ended right where its entry is.
-done_right : ToldAlike → (u : UnitView) (p : RecordedPart) → IsKnownUnit u → AllByRecursion (PassesInUnit u) (entry_checks 0 u.history)
+done_right : ToldAlike → (u : UnitView) (p : RecordedPart) → AllByRecursion (PassesInUnit u) (entry_checks 0 u.history)
     → p.part.unit ≡ u.unit → HasItsPoint u p → p.part.result ≡ Done → HasItsStatus u p
-done_right told u p known all unit has done =
+done_right told u p all unit has done =
     let made = has.made done in
     let n = p.part.point in
     let entry = made.0 in
@@ -90,7 +72,6 @@ done_right told u p known all unit has done =
     let same : entry.operation ≡ part_in u.namespace op p.part.unit =
     part_of_whole u.namespace (ready_operation u.namespace job) u.unit entry.operation op right.part.part whole.1
     ∙ ap (λ (i : ℕ). part_in u.namespace op i) (sym unit) in
-    let act = subst (λ (x : Operation). IsAct x.deed) same (known.entries n entry made.1).act in
     let success = subst (λ (x : Operation). IsSuccess (statuses_of x m)) same right.success in
     let part = part_in u.namespace op p.part.unit in
     record {
@@ -102,7 +83,7 @@ done_right told u p known all unit has done =
       };
       status =
           subst (λ (r : PartResult). HasRightStatus u.namespace.block_size u.limit u.history part p r) (sym done)
-          (rests_there told u.namespace.block_size u.limit u.history p part has.within success act);
+          (sym (told part m success));
     }
 
 is_done : (r : PartResult) → (r ≡ Done) ⊎ (r ≢ Done)
@@ -112,10 +93,10 @@ is_done Looked = inr (λ e. cc)
 is_done NoMemory = inr (λ e. cc)
 is_done Full = inr (λ e. cc)
 
-pub status_of : ToldAlike → (u : UnitView) (p : RecordedPart) → IsKnownUnit u → AllByRecursion (PassesInUnit u) (entry_checks 0 u.history)
+pub status_of : ToldAlike → (u : UnitView) (p : RecordedPart) → AllByRecursion (PassesInUnit u) (entry_checks 0 u.history)
     → p.part.unit ≡ u.unit → HasItsPoint u p → EndedRight u p → HasItsStatus u p
-status_of told u p known all unit has ended = elim (is_done p.part.result) [
-  | inl done ↦ done_right told u p known all unit has done
+status_of told u p all unit has ended = elim (is_done p.part.result) [
+  | inl done ↦ done_right told u p all unit has done
   | inr other ↦ ended other
 ]
 

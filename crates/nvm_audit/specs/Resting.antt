@@ -1,6 +1,6 @@
 -- When what was recorded of a part is right at its point of the unit's history (own). A point is how many entries the
 -- history had.
-use Rattle.std.specs.Prelude.{◌≡◌, ℕ, ◌<◌, ◌≤◌, List, length, Some, None}
+use Rattle.std.specs.Prelude.{◌≡◌, ℕ, ◌<◌, ◌≤◌, List, length, Some}
 use Rattle.nvm_record.specs.Deeds.{IsAct, IsFailedPair, success_of}
 use Rattle.nvm_record.specs.Lists.{IsAt}
 use Rattle.nvm_record.specs.Medium.{Medium}
@@ -13,7 +13,7 @@ use Rattle.nvm_plan.specs.declared.part.PartResult.{PartResult}
 use Rattle.nvm_plan.specs.declared.part.PartResult.TheVariants.{Done, Failed, Looked, NoMemory, Full}
 use Rattle.nvm_plan.specs.JobPart.{ready_operation}
 use Rattle.nvm_store.specs.HistoryEntry.{HistoryEntry}
-use Rattle.nvm_store.specs.Point.{point, RestsOn}
+use Rattle.nvm_store.specs.Point.{point}
 use Rattle.nvm_audit.specs.RecordedPart.{RecordedPart, told_of}
 
 -- The job of this number is done by this operation: no check refuses it.
@@ -22,16 +22,15 @@ pub record DoesOperation (ns : Namespace) (jobs : List Job) (number : ℕ) (whol
   pub its : IsAt jobs number job
   pub ready : ready_operation ns job ≡ Some whole
 
--- What was recorded of a part that ended so is right, by its unit's history. One that was done, one that looked, and a pair
--- whose comparison failed rest on their point. One that found no memory, or the history at its limit, doesn't: nothing was
--- done, and it would have succeeded there, since a pair compares before either is looked at; memory is asked
--- for only below the limit. Of a look that found no memory nothing is known.
+-- How a part ended is right, by its unit's history: its statuses, and nothing of its data. One that was done succeeds at its
+-- point. One that looked was told what the step gives there, and so was a pair whose comparison fails there. One that found no
+-- memory, or the history at its limit, did nothing, and would have succeeded there: a pair compares before it asks for either.
+-- Memory is asked for only below the limit. Of a look that found no memory nothing is known.
 abbrev pub HasRightStatus : ℕ → ℕ → List HistoryEntry → Operation → RecordedPart → PartResult → Type 0
-HasRightStatus size limit history op p Done = RestsOn size history p.part.point op (success_of op.deed) None
+HasRightStatus size limit history op p Done = success_of op.deed ≡ statuses_of op (point size history p.part.point)
 HasRightStatus size limit history op p Failed =
-    IsFailedPair op (point size history p.part.point) × RestsOn size history p.part.point op (told_of p) None
-HasRightStatus size limit history op p Looked =
-    RestsOn size history p.part.point op (told_of p) (data_of op (point size history p.part.point))
+    IsFailedPair op (point size history p.part.point) × (told_of p ≡ statuses_of op (point size history p.part.point))
+HasRightStatus size limit history op p Looked = told_of p ≡ statuses_of op (point size history p.part.point)
 HasRightStatus size limit history op p NoMemory =
     IsAct op.deed → IsSuccess (statuses_of op (point size history p.part.point)) × (p.part.point < limit)
 HasRightStatus size limit history op p Full =

@@ -5,7 +5,6 @@ ghost use Rattle.nvm_record.specs.Deeds.{IsAct, IsSingle, success_of};
 ghost use Rattle.nvm_record.specs.Lists.{IsAt};
 ghost use Rattle.nvm_record.specs.Medium.{zero_medium};
 ghost use Rattle.nvm_record.specs.Step.{Operation};
-ghost use Rattle.nvm_geometry.specs.Boundaries.{units_of};
 ghost use Rattle.nvm_geometry.specs.Faults.{IsValid};
 ghost use Rattle.nvm_geometry.specs.Namespace.{Namespace};
 ghost use Rattle.nvm_geometry.specs.Parts.{units_met};
@@ -25,7 +24,7 @@ ghost use Rattle.nvm_audit.specs.declared.audit_fault.AuditFault.TheVariants.{No
 ghost use Rattle.nvm_audit.specs.declared.version.Version.{Version as FileVersion};
 ghost use Rattle.nvm_audit.specs.LawfulRecord.{IsLawfulRecord};
 ghost use Rattle.nvm_audit.specs.OneAct.{entry_alone, IsOfOneAct, HasJust};
-ghost use Rattle.nvm_audit.specs.Recordable.{most_workers, most_jobs, HoldsLimit, HoldsBody, HoldsWholeReads, IsRecordable, IsRecordableJob, IsRecordableEntry, IsRecordableDone};
+ghost use Rattle.nvm_audit.specs.Recordable.{most_jobs, HoldsLimit, HoldsBody, IsRecordable, IsRecordableJob, IsRecordableEntry, IsRecordableDone};
 ghost use Rattle.nvm_audit.specs.RecordChecks.{HasNoFault, IsFirstFault};
 ghost use Rattle.nvm_audit.specs.RecordedCalls.{IsPlacedRunOf};
 ghost use Rattle.nvm_audit.specs.RecordedJob.{RecordedJob};
@@ -66,14 +65,10 @@ pub fn what_jobs_make_can_be_held()
     each_command_has_a_status();
 }
 
-/// A lawful record can be held where its jobs can, its numbers are in their ranges, and the data of its Reads is whole.
+/// A lawful record can be held in a file of its version that has room for its limit, has its commands, and holds so many jobs.
 pub fn lawful_records_can_be_held()
-    ensures { (r : RecordView) → IsLawfulRecord r → IsValid r.namespace → HoldsLimit r.version r.limit
-        → length r.units ≡ units_of r.namespace
-        → ((unit : ℕ) (history : List HistoryEntry) → IsAt r.units unit history → length history ≤ r.limit)
-        → 1 ≤ r.workers → r.workers ≤ most_workers → length r.done ≡ r.workers
-        → All (IsRecordableJob r) r.jobs → length r.jobs ≤ most_jobs → All (λ work. length work ≤ most_jobs) r.done
-        → HoldsWholeReads r → IsRecordable r }
+    ensures { (r : RecordView) → IsLawfulRecord r → HoldsLimit r.version r.limit
+        → All (λ job. HoldsBody r.version job.body) r.jobs → length r.jobs ≤ most_jobs → IsRecordable r }
 {
     parts_of_jobs();
     parts_keep_their_kind();
@@ -134,8 +129,7 @@ pub fn one_act_can_be_held()
 /// between them, at its point, each part that looked or whose pair failed, with each worker's parts in the worker's order; and
 /// that is a run of the step from zero bytes, in which every entry succeeds and each part has the answer that it got.
 pub fn lawful_units_are_runs()
-    ensures { (r : RecordView) (unit : ℕ) (history : List HistoryEntry) → IsRecordable r → IsLawfulRecord r
-        → IsAt r.units unit history
+    ensures { (r : RecordView) (unit : ℕ) (history : List HistoryEntry) → IsLawfulRecord r → IsAt r.units unit history
         → (run : List RunStep) × IsPlacedRunOf r.namespace r.jobs history (parts_in_unit unit r.done) run
         × IsRunFrom r.namespace.block_size (zero_medium r.namespace.block_size) run }
 {
@@ -170,17 +164,19 @@ pub fn each_worker_did_few_jobs()
         → length work ≤ length r.jobs }
 {}
 
-/// In a lawful record that can be held, what is recorded of a done job is its outcome: of the replies to its parts, each of
-/// them what its unit's step gives at the part's point, the statuses follow, and a Read's data is theirs joined.
+/// In a lawful record, what is recorded of a done job is its outcome: of the replies to its parts, each of them what its unit's
+/// step gives at the part's point, the statuses follow, and a Read's data is theirs joined.
 pub fn done_jobs_are_outcomes()
-    ensures { (r : RecordView) (worker k : ℕ) (work : List RecordedJob) (d : RecordedJob) → IsRecordable r
-        → IsLawfulRecord r → IsAt r.done worker work → IsAt work k d
+    ensures { (r : RecordView) (worker k : ℕ) (work : List RecordedJob) (d : RecordedJob) → IsLawfulRecord r
+        → IsAt r.done worker work → IsAt work k d
         → (replies : List Reply) × AreRepliesOf r d replies }
 {
     answers_of_the_step_are_replies();
+    each_command_has_a_status();
     outcomes_by_plan();
     parts_keep_their_kind();
     pieces_stand_in_line();
     ready_jobs();
+    units_met_are_those_reached();
     whole_ranges_are_reached();
 }

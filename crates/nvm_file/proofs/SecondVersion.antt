@@ -8,7 +8,7 @@ use Rattle.nvm_store.specs.HistoryEntry.{HistoryEntry}
 use Rattle.nvm_store.specs.Limit.{IsLimit}
 use Rattle.nvm_audit.specs.declared.version.Version.{Version}
 use Rattle.nvm_audit.specs.declared.version.Version.TheVariants.{One, Two}
-use Rattle.nvm_audit.specs.LawfulRecord.{IsLawfulRecord}
+use Rattle.nvm_audit.specs.LawfulRecord.{IsComplete, IsLawfulRecord}
 use Rattle.nvm_audit.specs.Recordable.{HoldsBody, HoldsKind, HoldsLimit, IsRecordable, IsRecordableDone, IsRecordableEntry, IsRecordableHistory, IsRecordableWork}
 use Rattle.nvm_audit.specs.RecordedJob.{RecordedJob}
 use Rattle.nvm_audit.specs.RecordView.{RecordView}
@@ -105,8 +105,36 @@ same_in_second r is =
     }) (sym is)
 
 -- A record is lawful exactly where its second version is: the version isn't looked at.
+second_complete : (r : RecordView) → IsComplete r → IsComplete (second_version r)
+second_complete r h =
+    record {
+      namespace = h.namespace;
+      limit = h.limit;
+      some_worker = h.some_worker;
+      few_workers = h.few_workers;
+      jobs = h.jobs;
+      all_units = h.all_units;
+      within = h.within;
+      all_workers = h.all_workers;
+      reads = h.reads;
+    }
+
+first_complete : (r : RecordView) → IsComplete (second_version r) → IsComplete r
+first_complete r h =
+    record {
+      namespace = h.namespace;
+      limit = h.limit;
+      some_worker = h.some_worker;
+      few_workers = h.few_workers;
+      jobs = h.jobs;
+      all_units = h.all_units;
+      within = h.within;
+      all_workers = h.all_workers;
+      reads = h.reads;
+    }
+
 pub second_lawful : (r : RecordView) → IsLawfulRecord r → IsLawfulRecord (second_version r)
-second_lawful r h = record { once = h.once; shapes = h.shapes; units = h.units }
+second_lawful r h = record { complete = second_complete r h.complete; once = h.once; shapes = h.shapes; units = h.units }
 
 pub first_lawful : (r : RecordView) → IsLawfulRecord (second_version r) → IsLawfulRecord r
-first_lawful r h = record { once = h.once; shapes = h.shapes; units = h.units }
+first_lawful r h = record { complete = first_complete r h.complete; once = h.once; shapes = h.shapes; units = h.units }

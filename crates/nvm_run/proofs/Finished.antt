@@ -1,20 +1,21 @@
 -- The record of what all workers did.
-use Rattle.std.proofs.Common.{◌≡◌, ℕ, suc, ◌+◌, ◌<◌, ◌≤◌, List, [], ◌∷◌, ◌++◌, length, length-append, map, get_or, All, AllPairs, refl, sym, ap, ◌∙◌, subst, arith, count_by, nat_eq, cond}
+use Rattle.std.proofs.Common.{◌≡◌, ℕ, suc, ◌+◌, ◌<◌, List, [], ◌∷◌, ◌++◌, length, length-append, map, get_or, All, AllPairs, refl, sym, ap, ◌∙◌, subst, arith, count_by, nat_eq, cond}
 use Rattle.std.proofs.lemmas.List.{length-map, get_or_append_left}
-use Rattle.std.proofs.lemmas.List.Elements.{All-head, All-tail}
 use Rattle.std.proofs.lemmas.List.Sums.{sum_by-cons}
 use Rattle.std.proofs.Math.ListN.{get_or-map}
 use Rattle.nvm_record.specs.Lists.{IsAt}
+use Rattle.nvm_geometry.specs.Faults.{IsValid}
 use Rattle.nvm_geometry.specs.Namespace.{Namespace}
 use Rattle.nvm_plan.specs.declared.job.Job.{Job}
+use Rattle.nvm_plan.specs.Fits.{FitsNamespace}
 use Rattle.nvm_store.specs.HistoryEntry.{HistoryEntry}
+use Rattle.nvm_store.specs.Limit.{IsLimit}
 use Rattle.nvm_unit.specs.Ends.{views_of}
 use Rattle.nvm_unit.specs.Passes.{UnitName}
 use Rattle.nvm_space.specs.Closing.{EndsWhole}
 use Rattle.nvm_space.specs.Ports.{PortState, AreAllPortsOf, IsPortOf, new_port}
-use Rattle.nvm_space.specs.Spaces.{SpaceName, IsLaidOut}
+use Rattle.nvm_space.specs.Spaces.{SpaceName, IsLaidOut, IsPortCount}
 use Rattle.nvm_audit.specs.LawfulRecord.{times_done}
-use Rattle.nvm_audit.specs.Recordable.{most_jobs}
 use Rattle.nvm_audit.specs.RecordedJob.{RecordedJob}
 use Rattle.nvm_run.specs.Claims.{ClaimState, IsClaims, IsDrawn, HasEnded, HaveEnded, AreDoneOnce, times, times_in}
 use Rattle.nvm_run.specs.Counters.{CounterName, ClaimView, AreAllClaimsOf, lists_of}
@@ -22,7 +23,7 @@ use Rattle.nvm_run.specs.declared.worker.Worker.{Worker}
 use Rattle.nvm_run.specs.DoneJobs.{HaveDone}
 use Rattle.nvm_run.specs.Inside.Gathering.{run_record, IsOfWorkers}
 use Rattle.nvm_run.specs.Inside.Working.{AllHaveWorked, AreTheirs, numbers_of}
-use Rattle.nvm_run.proofs.Places.{at_read, at_one, at_some, at_map, at_map_back, all_at, all_from_at}
+use Rattle.nvm_run.proofs.Places.{at_one, at_map, at_map_back, all_at, all_from_at}
 
 -- How often a job was done is how often its number comes.
 times_of_numbers : (x : ℕ) (work : List RecordedJob) → times x (numbers_of work) ≡ count_by (λ d. nat_eq d.job x) work
@@ -70,34 +71,6 @@ rises_so work drawn last is rises i j d lt below =
     let less : get_or (numbers ++ last ∷ []) i d.job < get_or (numbers ++ last ∷ []) j d.job = pairs i j d.job lt (omega arith) in
     omega arith
 
--- Numbers that rise and lie below n are at most n.
-few_below : (n low : ℕ) (xs : List ℕ) → low ≤ n → All (λ x. low ≤ x) xs → All (λ x. x < n) xs → AllPairs (λ x y. x < y) xs → low + length xs ≤ n
-few_below n low [] le above below rises = omega arith
-few_below n low (x ∷ xs) le above below rises =
-    let first : low ≤ x = All-head (λ y. low ≤ y) x xs above in
-    let last : x < n = All-head (λ y. y < n) x xs below in
-    let rest : suc x + length xs ≤ n =
-    few_below n (suc x) xs (omega arith) (λ k d lt. let h : x < get_or xs k d = rises 0 (suc k) d (omega arith) (omega arith) in omega arith)
-    (All-tail (λ y. y < n) x xs below) (λ i j d lt in'. rises (suc i) (suc j) d (omega arith) (omega arith)) in
-    omega arith
-
-few_done : (jobs : ℕ) (work : List RecordedJob) → All (λ x. x < jobs) (numbers_of work) → AllPairs (λ d e. d.job < e.job) work → length work ≤ jobs
-few_done jobs work below rises =
-    let numbers = numbers_of work in
-    let count : length numbers ≡ length work = length-map work (λ e. e.job) in
-    let pairs : AllPairs (λ x y. x < y) numbers =
-    λ i j d lt in'.
-    let one = at_some work i (omega (arith, count)) in
-    let other = at_some work j (omega (arith, count)) in
-    let less : (get_or work i one.0).job < (get_or work j one.0).job = rises i j one.0 lt (omega (arith, count)) in
-    let here : get_or numbers i d ≡ one.0.job = at_read numbers i one.0.job d (at_map (λ (e : RecordedJob). e.job) work i one.0 one.1) in
-    let there : get_or numbers j d ≡ other.0.job = at_read numbers j other.0.job d (at_map (λ (e : RecordedJob). e.job) work j other.0 other.1) in
-    let mine : (get_or work i one.0).job ≡ one.0.job = ap (λ (e : RecordedJob). e.job) (at_read work i one.0 one.0 one.1) in
-    let theirs : (get_or work j one.0).job ≡ other.0.job = ap (λ (e : RecordedJob). e.job) (at_read work j other.0 one.0 other.1) in
-    omega arith in
-    let all : 0 + length numbers ≤ jobs = few_below jobs 0 numbers (omega arith) (λ k d lt. omega arith) below pairs in
-    omega arith
-
 module _ (counter : CounterName) (s : SpaceName) (jobs : List Job) (workers : List Worker) (claims : List ClaimView) (ports : List PortState) (done : List (List RecordedJob))
     (worked : AllHaveWorked counter s jobs workers) (theirs : AreTheirs workers claims ports done) where
   pub claims_are_all : counter.workers ≡ s.ports → AreAllClaimsOf counter claims
@@ -136,23 +109,24 @@ module _ (counter : CounterName) (s : SpaceName) (jobs : List Job) (workers : Li
         (subst (λ (cs : List ClaimView). HaveEnded counter.jobs (map numbers_of (map (λ (w : Worker). w.done.items) workers)) (lists_of cs)) (sym theirs.claims)
         (have_ended counter.jobs workers (λ i w at. ((worked.each i w at).jobs_alone, (worked.each i w at).ended))))
 
-    its_work : (w : ℕ) (work : List RecordedJob) → IsAt done w work → AllPairs (λ d e. d.job < e.job) work × (length work ≤ length jobs)
-    its_work w work at =
+    its_rise : (w : ℕ) (work : List RecordedJob) → IsAt done w work → AllPairs (λ d e. d.job < e.job) work
+    its_rise w work at =
         let back = at_map_back (λ (x : Worker). x.done.items) workers w work (subst (λ (ws : List (List RecordedJob)). IsAt ws w work) theirs.done at) in
         let its = worked.each w back.0 back.1 in
         let claim : IsAt claims w back.0.claim = subst (λ (cs : List ClaimView). IsAt cs w back.0.claim) (sym theirs.claims) (at_map (λ (x : Worker). x.claim) workers w back.0 back.1) in
         let is : IsDrawn counter.jobs word back.0.claim.drawn =
         all_at (IsDrawn counter.jobs word) (lists_of claims) w back.0.claim.drawn drawn.each (at_map (λ (c : ClaimView). c.drawn) claims w back.0.claim claim) in
         let rises : AllPairs (λ d e. d.job < e.job) back.0.done.items = rises_so back.0.done.items back.0.claim.drawn its.ended.last its.ended.after is.rises in
-        let few : length back.0.done.items ≤ counter.jobs = few_done counter.jobs back.0.done.items its.jobs_alone rises in
-        subst (λ (ds : List RecordedJob). AllPairs (λ d e. d.job < e.job) ds × (length ds ≤ length jobs)) (sym back.2) (rises, subst (λ (n : ℕ). length back.0.done.items ≤ n) count few)
+        subst (λ (ds : List RecordedJob). AllPairs (λ d e. d.job < e.job) ds) (sym back.2) rises
 
     pub of_workers : ((n : ℕ) (state : ClaimState) (dones : List (List ℕ)) → IsClaims n state → 0 < length state.lists → HaveEnded n dones state.lists → AreDoneOnce n dones)
-        → (ns : Namespace) (limit count_of_workers : ℕ) (units : List (List HistoryEntry)) → 0 < count_of_workers → length jobs ≤ most_jobs
+        → (ns : Namespace) (limit count_of_workers : ℕ) (units : List (List HistoryEntry)) → IsValid ns → IsLimit limit → IsPortCount count_of_workers
+        → All (FitsNamespace ns) jobs
         → s.namespace ≡ ns → s.limit ≡ limit → s.ports ≡ count_of_workers → IsLaidOut s → length units ≡ length s.units
         → ((k : ℕ) (unit : UnitName) (history : List HistoryEntry) → IsAt s.units k unit → IsAt units k history → EndsWhole k unit ports history)
         → IsOfWorkers (run_record ns limit count_of_workers jobs units done)
-    of_workers law ns limit n units some few same_namespace same_limit same_count laid all ends =
+    of_workers law ns limit n units valid sound some fit same_namespace same_limit same_count laid all ends =
+        let some_worker : 0 < n = some.0 in
         let lists : length (lists_of claims) ≡ s.ports = length-map claims (λ c. c.drawn) ∙ ap length theirs.claims ∙ length-map workers (λ w. w.claim) ∙ worked.count in
         let once : AreDoneOnce counter.jobs (map numbers_of done) =
         law counter.jobs (record { word = word; lists = lists_of claims }) (map numbers_of done) drawn (omega (arith, lists, same_count)) ended in
@@ -160,18 +134,20 @@ module _ (counter : CounterName) (s : SpaceName) (jobs : List Job) (workers : Li
           space = s;
           ports = ports;
           gathered = record {
+            valid = subst IsValid (sym same_namespace) valid;
+            sound = subst IsLimit (sym same_limit) sound;
+            count = subst IsPortCount (sym same_count) some;
+            fit = subst (λ (space : Namespace). All (FitsNamespace space) jobs) (sym same_namespace) fit;
             namespace = sym same_namespace;
             limit = sym same_limit;
             laid = laid;
             all = ports_are_all;
             once = λ x lt. sym (times_of_all x done) ∙ once.below x (omega (arith, count));
+            each_port = sym same_count;
             workers = ap length theirs.done ∙ length-map workers (λ w. w.done.items) ∙ worked.count;
             done = have_done;
             units = all;
             ends = ends;
           };
-          workers = same_count;
-          rises = all_from_at (λ (work : List RecordedJob). AllPairs (λ d e. d.job < e.job) work) done (λ w work at. (its_work w work at).0);
-          few = all_from_at (λ (work : List RecordedJob). length work ≤ most_jobs) done
-              (λ w work at. let h : length work ≤ length jobs = (its_work w work at).1 in omega arith);
+          rises = all_from_at (λ (work : List RecordedJob). AllPairs (λ d e. d.job < e.job) work) done its_rise;
         }

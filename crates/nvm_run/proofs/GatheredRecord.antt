@@ -1,14 +1,19 @@
 -- A gathered record is lawful.
-use Rattle.std.proofs.Common.{◌≡◌, ℕ, ◌<◌, List, length, subst, sym, arith}
+use Rattle.std.proofs.Common.{◌≡◌, ℕ, ◌<◌, ◌≤◌, List, All, length, subst, sym, ap, ◌∙◌, arith}
 use Rattle.nvm_record.specs.Lists.{IsAt}
+use Rattle.nvm_geometry.specs.Boundaries.{units_of}
+use Rattle.nvm_geometry.specs.Faults.{IsValid}
 use Rattle.nvm_geometry.specs.Namespace.{Namespace}
+use Rattle.nvm_plan.specs.Fits.{FitsNamespace}
 use Rattle.nvm_store.specs.HistoryEntry.{HistoryEntry}
+use Rattle.nvm_store.specs.Limit.{IsLimit}
 use Rattle.nvm_unit.specs.declared.views.PassView.{PassView}
 use Rattle.nvm_unit.specs.Ends.{views_of}
 use Rattle.nvm_space.specs.Ports.{PortState, new_port}
 use Rattle.nvm_space.specs.Spaces.{SpaceName}
-use Rattle.nvm_audit.specs.LawfulRecord.{IsLawfulRecord, HasItsShape}
+use Rattle.nvm_audit.specs.LawfulRecord.{IsComplete, IsLawfulRecord, HasItsShape}
 use Rattle.nvm_audit.specs.LawfulUnit.{IsLawfulUnit}
+use Rattle.nvm_audit.specs.Recordable.{most_workers, HoldsWholeReads}
 use Rattle.nvm_audit.specs.RecordedJob.{RecordedJob}
 use Rattle.nvm_audit.specs.RecordedPart.{parts_in_unit}
 use Rattle.nvm_audit.specs.RecordView.{RecordView}
@@ -43,5 +48,27 @@ module _ (answers : AnswerLaws) (marks : MarkLaws) (histories : HistoryLaws) (s 
       (subst (λ (n : ℕ). IsLawfulUnit s.namespace n r.jobs k history (parts_in_unit k r.done)) (sym gathered.limit)
       (unit_lawful answers marks histories s ports r shown gathered k unit.0 history unit.1 at))
 
-  pub record_lawful : IsLawfulRecord r
-  record_lawful = record { once = gathered.once; shapes = job_shaped; units = unit_so }
+  within : (unit : ℕ) (history : List HistoryEntry) → IsAt r.units unit history → length history ≤ r.limit
+  within unit history at =
+      let below : unit < length r.units = at_below r.units unit history at in
+      let name = some_there s.units unit (omega (arith, gathered.units)) in
+      let few : length history ≤ name.0.bounds.limit = (gathered.ends unit name.0 history name.1 at).whole.lawful.within in
+      let same : name.0.bounds.limit ≡ r.limit = (gathered.laid.each unit name.0 name.1).limit ∙ sym gathered.limit in
+      omega (arith, few, same)
+
+  complete : HoldsWholeReads r → IsComplete r
+  complete whole =
+      record {
+        namespace = subst IsValid (sym gathered.namespace) gathered.valid;
+        limit = subst IsLimit (sym gathered.limit) gathered.sound;
+        some_worker = let some : 0 < s.ports = gathered.count.0 in omega (arith, gathered.each_port);
+        few_workers = subst (λ (n : ℕ). n ≤ most_workers) (sym gathered.each_port) gathered.count.1;
+        jobs = subst (λ (ns : Namespace). All (FitsNamespace ns) r.jobs) (sym gathered.namespace) gathered.fit;
+        all_units = gathered.units ∙ gathered.laid.count ∙ ap units_of (sym gathered.namespace);
+        within = within;
+        all_workers = gathered.workers ∙ sym gathered.each_port;
+        reads = whole;
+      }
+
+  pub record_lawful : HoldsWholeReads r → IsLawfulRecord r
+  record_lawful whole = record { complete = complete whole; once = gathered.once; shapes = job_shaped; units = unit_so }

@@ -1,11 +1,10 @@
 -- What a record shows of a part is right at its point, in each history that begins with what the part's pass had seen.
 use Rattle.std.proofs.Common.{◌≡◌, ℕ, ◌<◌, ◌≤◌, List, length, subst, refl, sym, ap, ◌∙◌, arith, inl, inr, Bool, true, false, not, IsTrue, Option, Some, None, Result, Ok, Err}
-use Rattle.nvm_record.specs.declared.block.Block.{Block}
 use Rattle.nvm_record.specs.Deeds.{IsAct, IsLook, IsFailedPair, is_look}
 use Rattle.nvm_record.specs.Lists.{IsAt}
 use Rattle.nvm_record.specs.Medium.{Medium}
 use Rattle.nvm_record.specs.Status.{IsSuccess}
-use Rattle.nvm_record.specs.Step.{Deed, Operation, writes, zeroes, uncorrectable, reads, compares, pairs, deallocates, statuses_of, data_of, data_on, range_of}
+use Rattle.nvm_record.specs.Step.{Operation, statuses_of, data_of}
 use Rattle.nvm_geometry.specs.Namespace.{Namespace}
 use Rattle.nvm_geometry.specs.Parts.{part_in}
 use Rattle.nvm_plan.specs.declared.job.Job.{Job}
@@ -36,16 +35,6 @@ record IsRight (size limit : ℕ) (history : List HistoryEntry) (op : Operation)
   pub within : x.part.point ≤ length history
   pub status : HasRightStatus size limit history op x x.part.result
   pub payload : (bytes : List ℕ) → read ≡ Some bytes → data_of op (point size history x.part.point) ≡ Some bytes
-
--- An act reads nothing.
-act_reads_none : (blocks : List Block) (deed : Deed) → IsAct deed → None ≡ data_on blocks deed
-act_reads_none blocks (writes payload) act = refl
-act_reads_none blocks zeroes act = refl
-act_reads_none blocks uncorrectable act = refl
-act_reads_none blocks reads act = absurd (cc act)
-act_reads_none blocks (compares payload) act = absurd (cc act)
-act_reads_none blocks (pairs payload new) act = refl
-act_reads_none blocks (deallocates ranges) act = refl
 
 -- No look is an act.
 look_or_act : (look : Bool) → IsTrue look → IsTrue (not look) → ⊥
@@ -82,11 +71,7 @@ module _ (laws : AnswerLaws) (x : RecordedPart) (number unit : ℕ) (op : Operat
       let within : rests.0 ≤ length history = rests.1 in
       let success = subst (λ (k : ℕ). IsSuccess (statuses_of op (medium k))) here rests.2.2 in
       unread result.Done rests.0 (ap (λ (y : Part). y.result) part) here within
-      (record {
-        within = omega arith;
-        statuses = sym (laws.told_alike op (medium x.part.point) success);
-        payload = act_reads_none (range_of op (medium x.part.point)) op.deed acts;
-      })
+      (sym (laws.told_alike op (medium x.part.point) success))
   change_right (Failed n statuses) acts makes part told =
       let rests = laws.change_at (Failed n statuses) p q number op history makes begins in
       let at : n ≡ x.part.point = ap (λ (y : Part). y.point) part in
@@ -96,7 +81,7 @@ module _ (laws : AnswerLaws) (x : RecordedPart) (number unit : ℕ) (op : Operat
       subst (λ (k : ℕ). RestsOn p.bounds.place.size history k op statuses None) at
       (laws.failed_at n statuses p q number op history makes begins) in
       unread result.Failed rests.0 (ap (λ (y : Part). y.result) part) here rests.1
-      (fails, record { within = failed.within; statuses = sym told ∙ failed.statuses; payload = failed.payload })
+      (fails, sym told ∙ failed.statuses)
   change_right (NoMemory n) acts makes part told =
       let rests = laws.change_at (NoMemory n) p q number op history makes begins in
       let here : rests.0 ≡ x.part.point = sym rests.2.0 ∙ ap (λ (y : Part). y.point) part in
@@ -118,8 +103,7 @@ module _ (laws : AnswerLaws) (x : RecordedPart) (number unit : ℕ) (op : Operat
       let rests : RestsOn p.bounds.place.size history x.part.point op (told_by observed.answer) (read_by observed.answer) =
       subst (λ (k : ℕ). RestsOn p.bounds.place.size history k op (told_by observed.answer) (read_by observed.answer))
       (ap (λ (y : Part). y.point) part) (laws.observed_at observed p q op history observes begins) in
-      let right : EndsRight result.Looked =
-      record { within = rests.within; statuses = sym told ∙ rests.statuses; payload = refl } in
+      let right : EndsRight result.Looked = sym told ∙ rests.statuses in
       record {
         within = rests.within;
         status = subst (λ (e : PartResult). EndsRight e) (ap (λ (y : Part). y.result) part) right;

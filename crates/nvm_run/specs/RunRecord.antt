@@ -1,25 +1,18 @@
 -- The record of a run (own).
-use Rattle.std.specs.Prelude.{◌≡◌, ℕ, ◌<◌, List, map, AllPairs}
+use Rattle.std.specs.Prelude.{◌≡◌, ℕ, ◌<◌, List, AllPairs}
 use Rattle.nvm_record.specs.Lists.{IsAt}
 use Rattle.nvm_geometry.specs.Namespace.{Namespace}
 use Rattle.nvm_plan.specs.declared.job.Job.{Job}
-use Rattle.nvm_plan.specs.Outcome.{IsOutcome}
 use Rattle.nvm_plan.specs.Reply.{Reply}
 use Rattle.nvm_audit.specs.declared.version.Version.TheVariants.{Two}
 use Rattle.nvm_audit.specs.LawfulRecord.{IsLawfulRecord}
 use Rattle.nvm_audit.specs.RecordedJob.{RecordedJob}
 use Rattle.nvm_audit.specs.RecordView.{RecordView}
-
--- What is recorded of a done job is the outcome of replies to its parts, so the data of a Read is that of its parts, joined.
-pub record HasItsOutcome (ns : Namespace) (jobs : List Job) (d : RecordedJob) : Type 0 where
-  pub job : Job
-  pub its : IsAt jobs d.job job
-  pub replies : List Reply
-  pub outcome : IsOutcome ns job replies d.statuses d.payload
-  pub listed : d.parts ≡ map (λ reply. reply.part) replies
+use Rattle.nvm_audit.specs.ReplyAtPoint.{AreRepliesOf}
 
 -- The record is that of a run of just these jobs by so many workers, on this namespace, where a unit's history may have `most`
--- entries. It is lawful. Each worker did its jobs in the order of their numbers, so one worker alone does all in their order.
+-- entries. It is lawful. What it has of each job is the outcome of the replies to the job's parts, each at its point. Each worker
+-- did its jobs in the order of their numbers, so one worker alone does all in their order.
 pub record IsRecordOfRun (ns : Namespace) (most count : ℕ) (asked : List Job) (r : RecordView) : Type 0 where
   pub version : r.version ≡ Two
   pub namespace : r.namespace ≡ ns
@@ -28,5 +21,5 @@ pub record IsRecordOfRun (ns : Namespace) (most count : ℕ) (asked : List Job) 
   pub jobs : r.jobs ≡ asked
   pub lawful : IsLawfulRecord r
   pub outcomes : (worker : ℕ) (work : List RecordedJob) (k : ℕ) (d : RecordedJob) → IsAt r.done worker work → IsAt work k d
-      → HasItsOutcome ns asked d
+      → (replies : List Reply) × AreRepliesOf r d replies
   pub rises : (worker : ℕ) (work : List RecordedJob) → IsAt r.done worker work → AllPairs (λ d e. d.job < e.job) work

@@ -7,7 +7,7 @@ ghost use Rattle.nvm_audit.specs.RecordView.{RecordView};
 ghost use Rattle.nvm_run.specs.Claims.{ClaimState, IsClaims, opening_claims, Draws, IsReached, HaveEnded, AreDoneOnce};
 ghost use Rattle.nvm_run.specs.Gathered.{IsGathered};
 
-use crate::shown::parts_show_what_was_done;
+use crate::shown::{done_reads_are_whole, parts_show_what_was_done};
 use nvm_record::laws::success_is_told_alike;
 use nvm_store::laws::act_succeeds_unless_failed_pair;
 use nvm_unit::laws::{
@@ -43,4 +43,5 @@ pub fn gathered_records_are_lawful()
     success_is_told_alike();
     act_succeeds_unless_failed_pair();
     parts_show_what_was_done();
+    done_reads_are_whole();
 }

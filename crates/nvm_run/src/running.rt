@@ -1,4 +1,4 @@
-ghost use Rattle.std.specs.Prelude.{◌≡◌, ℕ, ◌≤◌, List, All, length, map, IfOk, IfErr};
+ghost use Rattle.std.specs.Prelude.{ℕ, ◌≤◌, List, All, length, map, IfOk, IfErr};
 ghost use Rattle.nvm_record.specs.Lists.{IsAt};
 ghost use Rattle.nvm_record.specs.Medium.{zero_medium};
 ghost use Rattle.nvm_plan.specs.Fits.{FitsNamespace};
@@ -16,9 +16,8 @@ ghost use Rattle.nvm_run.specs.RunRecord.{IsRecordOfRun};
 use crate::counter::Counter;
 use crate::laws::{each_job_is_done_once, gathered_records_are_lawful};
 use crate::run_fault::RunFault;
-use crate::shown::done_reads_are_whole;
 use crate::workers::all_work;
-use nvm_audit::laws::{lawful_records_can_be_held, lawful_units_are_runs};
+use nvm_audit::laws::{done_jobs_are_outcomes, lawful_records_can_be_held, lawful_units_are_runs};
 use nvm_audit::{DoneJob, Record, Version};
 use nvm_geometry::Geometry;
 use nvm_plan::Job;
@@ -58,13 +57,10 @@ pub fn run<R: Threads + Wait + Sync, G: Gate + Sync>(
         × IsRunFrom r.namespace.block_size (zero_medium r.namespace.block_size) steps) }
     ensures fault { IfErr result (IsRunFault workers) }
 {
-    done_reads_are_whole();
+    done_jobs_are_outcomes();
     gathered_records_are_lawful();
     lawful_records_can_be_held();
     lawful_units_are_runs();
-    // For the proof alone: that the geometry and the limit are sound.
-    let _nsze = geometry.nsze();
-    let _entries = limit.entries();
     let (units, done) = done_by_workers(rt, alloc, geometry, &jobs, workers, limit, gate)?;
     Ok(Record {
         version: Version::Two,
@@ -95,6 +91,9 @@ fn done_by_workers<R: Threads + Wait + Sync, G: Gate + Sync>(
     ensures fault { IfErr result (IsRunFault workers) }
 {
     each_job_is_done_once();
+    // For the proof alone: that the geometry and the limit are sound.
+    let _nsze = geometry.nsze();
+    let _entries = limit.entries();
     let (counter, claims) = Counter::new(alloc, jobs.len() as u32, workers)?;
     let Ok((space, ports)) = Space::new(alloc, geometry, workers, limit) else {
         return Err(RunFault::NoMemory);

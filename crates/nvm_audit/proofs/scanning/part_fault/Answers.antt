@@ -41,7 +41,7 @@ returns-in-Right c = λ before least.
     let high = c.if-part-least.false in
     let on = not_back before p c.args.least least (omega (arith, high, place)) in
     let judged = subst (λ (f : Finding). IsJudged u p f) c.in-Right.is (c.requires.judged h.0) in
-    (has, (on, (status_of c.success_is_told_alike.ensures u p c.requires.known c.requires.entries c.requires.unit has judged.0, (judged.1, tt))))
+    (has, (on, (status_of c.success_is_told_alike.ensures u p c.requires.entries c.requires.unit has judged.0, (judged.1, tt))))
 
 pub returns-in-StatusWrong : goal.returns-in-StatusWrong
 returns-in-StatusWrong c = λ before least.
@@ -70,4 +70,4 @@ returns-in-DataWrong c = λ before least.
     let on = not_back before p c.args.least least (omega (arith, high, place)) in
     let judged = subst (λ (f : Finding). IsJudged u p f) c.in-DataWrong.is (c.requires.judged h.0) in
     wrong_data u before p c.done.inside.job c.part.inside.part.point number place has on
-    (status_of c.success_is_told_alike.ensures u p c.requires.known c.requires.entries c.requires.unit has judged.0) judged.1
+    (status_of c.success_is_told_alike.ensures u p c.requires.entries c.requires.unit has judged.0) judged.1

@@ -1,4 +1,4 @@
-use Rattle.std.proofs.Common.{◌≡◌, ◌<◌, ◌≤◌, ℕ, length, sym, ap, subst, ◌∙◌, rules, arith}
+use Rattle.std.proofs.Common.{◌≡◌, ◌<◌, ℕ, length, sym, ap, subst, ◌∙◌, rules, arith}
 use Rattle.nvm_plan.specs.UnitPlace.{IsUnitPlace}
 use Rattle.nvm_store.specs.Contents.{place_of, Holds}
 use Rattle.nvm_store.specs.Point.{point}
@@ -57,8 +57,7 @@ returns c = λ p at within held.
     ap (λ (d : RecordedJob). d.job) c.done.view_is ∙ ap (λ (q : RecordedPart). q.done.job) c.p.view_is in
     let its = read_job u c.requires.known c.args.k mine stands c.done.inside.job job number c.index.ensures in
     let same = one_there u.parts c.args.k p mine at stands in
-    let below = subst (λ (q : RecordedPart). q.part.point ≤ length u.history) same within in
     let holds = subst (λ (q : RecordedPart). Holds c.args.blocks.now (point u.namespace.block_size u.history q.part.point)) same held in
     subst (λ (q : RecordedPart). IsJudged u q c.judge_part.result) (sym same)
-    (found u c.requires.known c.args.k mine stands job c.judge_part.result its below
+    (found u c.requires.known c.args.k mine stands job c.judge_part.result its
     (λ op ready. c.judge_part.ensures op (point u.namespace.block_size u.history mine.part.point) ready holds))

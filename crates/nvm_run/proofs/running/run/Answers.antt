@@ -1,6 +1,5 @@
 use Rattle.std.proofs.Common.{List, map, subst}
 use Rattle.nvm_plan.specs.declared.job.Job.{Job}
-use Rattle.nvm_store.specs.Limit.{IsLimit}
 use Rattle.nvm_run.specs.Inside.Gathering.{run_record, IsOfWorkers}
 use Rattle.nvm_run.proofs.WholeRun.{record_of_run, run_is_recordable}
 use Rattle.nvm_run.proofs.running.run.Goals as goal
@@ -13,8 +12,7 @@ invariant_of-result g c =
     let r = run_record c.args.geometry c.args.limit c.args.workers jobs units done in
     let of : IsOfWorkers r = subst (λ (js : List Job). IsOfWorkers (run_record c.args.geometry c.args.limit c.args.workers js units done)) c.deref.ensures.value c.in_ok-units.ensures.gathered in
     run_is_recordable c.args.geometry c.args.limit c.args.workers jobs units done of c.lawful_records_can_be_held.ensures
-    (c.gathered_records_are_lawful.ensures of.space of.ports r of.gathered) c.nsze-nsze.ensures.valid (subst IsLimit c.entries-entries.ensures.value c.entries-entries.ensures.valid) c.in_ok-units.ensures.taken c.requires.few c.requires.fit
-    c.requires.known (c.done_reads_are_whole.ensures.gathered of.space of.ports r of.gathered)
+    (c.gathered_records_are_lawful.ensures of.space of.ports r of.gathered) c.requires.few c.requires.known
 
 pub returns-clause-record : goal.returns-clause-record
 returns-clause-record g c =
@@ -23,7 +21,8 @@ returns-clause-record g c =
     let done = map (λ work. work.items) c.in_ok-units.done.items in
     let r = run_record c.args.geometry c.args.limit c.args.workers jobs units done in
     let of : IsOfWorkers r = subst (λ (js : List Job). IsOfWorkers (run_record c.args.geometry c.args.limit c.args.workers js units done)) c.deref.ensures.value c.in_ok-units.ensures.gathered in
-    record_of_run c.args.geometry c.args.limit c.args.workers jobs units done of (c.gathered_records_are_lawful.ensures of.space of.ports r of.gathered)
+    record_of_run c.args.geometry c.args.limit c.args.workers jobs units done of c.done_jobs_are_outcomes.ensures
+    (c.gathered_records_are_lawful.ensures of.space of.ports r of.gathered)
 
 pub returns-clause-one_thread : goal.returns-clause-one_thread
 returns-clause-one_thread g c unit history at =
@@ -32,8 +31,4 @@ returns-clause-one_thread g c unit history at =
     let done = map (λ work. work.items) c.in_ok-units.done.items in
     let r = run_record c.args.geometry c.args.limit c.args.workers jobs units done in
     let of : IsOfWorkers r = subst (λ (js : List Job). IsOfWorkers (run_record c.args.geometry c.args.limit c.args.workers js units done)) c.deref.ensures.value c.in_ok-units.ensures.gathered in
-    let lawful = c.gathered_records_are_lawful.ensures of.space of.ports r of.gathered in
-    let holds = run_is_recordable c.args.geometry c.args.limit c.args.workers jobs units done of c.lawful_records_can_be_held.ensures
-    lawful c.nsze-nsze.ensures.valid (subst IsLimit c.entries-entries.ensures.value c.entries-entries.ensures.valid) c.in_ok-units.ensures.taken c.requires.few c.requires.fit
-    c.requires.known (c.done_reads_are_whole.ensures.gathered of.space of.ports r of.gathered) in
-    c.lawful_units_are_runs.ensures r unit history holds lawful at
+    c.lawful_units_are_runs.ensures r unit history (c.gathered_records_are_lawful.ensures of.space of.ports r of.gathered) at
