@@ -45,3 +45,4 @@ pub mod Counting
 pub mod Groups
 pub mod OneDone
 pub mod UnitsFound
+pub mod BeforeUnits

@@ -11,6 +11,7 @@ pub mod UnitView
 pub mod FirstFailed
 pub mod UnitChecks
 pub mod RecordChecks
+pub mod NamedUnit
 pub mod Verdict
 pub mod RecordedCalls
 pub mod ReplyAtPoint

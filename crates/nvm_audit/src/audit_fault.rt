@@ -1,5 +1,6 @@
 ghost use Rattle.std.specs.Prelude.{◌≡◌};
 ghost use Rattle.nvm_audit.specs.declared.audit_fault.AuditFault.TheVariants.{NoMemory};
+ghost use Rattle.nvm_audit.specs.NamedUnit as spec;
 
 use std::alloc::{AllocError, AllocFailed};
 use thiserror::Error;
@@ -39,6 +40,25 @@ pub enum AuditFault {
     /// Memory was asked for and refused: nothing is known of the record.
     #[error("no memory")]
     NoMemory,
+}
+
+impl AuditFault {
+    /// Whether the fault names a unit. Then nothing is wrong with the jobs by themselves.
+    pub fn names_unit(self) -> bool
+        ensures { result ≡ spec.names_unit self }
+    {
+        match self {
+            AuditFault::JobMissing { .. } | AuditFault::JobTwice { .. } | AuditFault::NoMemory => {
+                false
+            }
+            AuditFault::EntryUnclaimed { .. }
+            | AuditFault::EntryWrong { .. }
+            | AuditFault::PointPast { .. }
+            | AuditFault::PointBack { .. }
+            | AuditFault::DataWrong { .. } => true,
+            AuditFault::StatusWrong { spot, .. } => spot.is_some(),
+        }
+    }
 }
 
 /// Where in a unit something is wrong.

@@ -1,6 +1,6 @@
 //! What holds of records by their definition alone. Each law is a call that does nothing and whose contract is the law.
 
-ghost use Rattle.std.specs.Prelude.{◌≡◌, ◌⊎◌, ℕ, ◌*◌, ◌<◌, ◌≤◌, List, [], ◌∷◌, All, length, Some, None};
+ghost use Rattle.std.specs.Prelude.{◌≡◌, ◌⊎◌, ℕ, ◌*◌, ◌<◌, ◌≤◌, List, [], ◌∷◌, All, length, Some, None, true};
 ghost use Rattle.nvm_record.specs.Deeds.{IsAct, IsSingle, success_of};
 ghost use Rattle.nvm_record.specs.Lists.{IsAt};
 ghost use Rattle.nvm_record.specs.Medium.{zero_medium};
@@ -22,7 +22,8 @@ ghost use Rattle.nvm_store.specs.Point.{RestsOn};
 ghost use Rattle.nvm_audit.specs.declared.audit_fault.AuditFault.{AuditFault};
 ghost use Rattle.nvm_audit.specs.declared.audit_fault.AuditFault.TheVariants.{NoMemory};
 ghost use Rattle.nvm_audit.specs.declared.version.Version.{Version as FileVersion};
-ghost use Rattle.nvm_audit.specs.LawfulRecord.{IsLawfulRecord};
+ghost use Rattle.nvm_audit.specs.LawfulRecord.{HaveShapes, IsLawfulRecord};
+ghost use Rattle.nvm_audit.specs.NamedUnit.{names_unit};
 ghost use Rattle.nvm_audit.specs.OneAct.{entry_alone, IsOfOneAct, HasJust};
 ghost use Rattle.nvm_audit.specs.Recordable.{most_jobs, HoldsLimit, HoldsBody, IsRecordable, IsRecordableJob, IsRecordableEntry, IsRecordableDone};
 ghost use Rattle.nvm_audit.specs.RecordChecks.{HasNoFault, IsFirstFault};
@@ -156,6 +157,13 @@ pub fn one_check_is_the_first_fault()
         → fault ≡ other }
     ensures none { (r : RecordView) (fault : AuditFault) → IsLawfulRecord r → ¬ (IsFirstFault r fault) }
     ensures memory { (r : RecordView) → ¬ (IsFirstFault r NoMemory) }
+{}
+
+/// Where an audit answers a fault that names a unit, or a verdict, each done job has its shape: what `unit_fault` asks.
+pub fn faults_of_units_come_after_shapes()
+    ensures named { (r : RecordView) (fault : AuditFault) → IsRecordable r → IsFirstFault r fault ⊎ (fault ≡ NoMemory)
+        → names_unit fault ≡ true → HaveShapes r }
+    ensures lawful { (r : RecordView) → IsLawfulRecord r → HaveShapes r }
 {}
 
 /// In a lawful record no worker did more jobs than there are.

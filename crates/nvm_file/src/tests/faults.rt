@@ -1,18 +1,22 @@
 use super::worked_bytes;
-use crate::{RecordFault, read_record};
+use crate::{RecordFault, read_record, write_record};
 use nvm_record::Payload;
 use std::alloc::Global;
 use std::test::*;
 
 /// The fault of the first version's file with other bytes from an offset on.
 fn fault_with(alloc: Global, at: usize, bytes: &[u8]) -> Result<Option<RecordFault>, Fail> {
-    let whole = worked_bytes(alloc, false)?;
-    let mut file = Vec::new(alloc);
+    let file = with_other(alloc, &worked_bytes(alloc, false)?, at, bytes)?;
+    Ok(read_record(alloc, &file).err())
+}
+
+/// The file with other bytes from an offset on.
+fn with_other(alloc: Global, whole: &Vec<u8>, at: usize, bytes: &[u8]) -> Result<Payload, Fail> {
+    let mut file = Vec::with_capacity(alloc, whole.len())?;
     for (place, byte) in whole.iter().enumerate() {
         file.push(other_byte(*byte, place, at, bytes))?;
     }
-    let file = Payload::new(alloc, file)?;
-    Ok(read_record(alloc, &file).err())
+    Ok(Payload::new(alloc, file)?)
 }
 
 /// The byte at this place, where other bytes stand from an offset on.
@@ -108,15 +112,31 @@ fn other_names_and_bytes_behind_are_refused(rt: HostRuntime) -> Result<(), Fail>
     Ok(())
 }
 
+/// Whether the file is refused, or is the spelling of what is read of it.
+fn is_refused_or_written(alloc: Global, file: &Payload) -> Result<bool, Fail> {
+    match read_record(alloc, file) {
+        Ok(record) => {
+            let mut written = Vec::new(alloc);
+            write_record(&mut written, &record)?;
+            Ok(written.as_slice() == file.as_slice())
+        }
+        Err(RecordFault::NoMemory) => Err(Fail::new("there was no memory")),
+        Err(_) => Ok(true),
+    }
+}
+
 #[test]
-fn a_spoiled_byte_is_refused_by_name(rt: HostRuntime) -> Result<(), Fail> {
+fn a_spoiled_byte_is_refused_or_written_again(rt: HostRuntime) -> Result<(), Fail> {
     let alloc = rt.alloc();
-    let values = [0x00, 0x01, 0x7f, 0x80, 0xff];
-    for at in 0..1773 {
-        for value in &values {
-            let fault = fault_with(alloc, at, &[*value])?;
-            if fault == Some(RecordFault::NoMemory) {
-                return Err(Fail::new("there was no memory"));
+    for second in [false, true] {
+        let whole = worked_bytes(alloc, second)?;
+        for (at, whole_byte) in whole.iter().enumerate() {
+            // Bytes of data may be any.
+            if *whole_byte != 0x41 {
+                for value in &[0x00, 0x01, 0x7f, 0x80, 0xff] {
+                    let file = with_other(alloc, &whole, at, &[*value])?;
+                    assert!(rt; is_refused_or_written(alloc, &file)?);
+                }
             }
         }
     }
