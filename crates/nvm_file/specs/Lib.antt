@@ -16,5 +16,6 @@ pub mod EntrySpelling
 pub mod WorkSpelling
 pub mod Spelling
 pub mod Handed
+pub mod Fits
 pub mod Upgrade
 pub mod Inside
