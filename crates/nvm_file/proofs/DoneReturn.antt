@@ -1,5 +1,5 @@
 -- What a worker did is read of its spelling.
-use Rattle.std.proofs.Common.{◌≡◌, ℕ, ◌+◌, ◌*◌, ◌^◌, ◌<◌, ◌≤◌, cond, Bool, true, List, [], ◌∷◌, ◌++◌, length, All, Option, Some, None, IsTrue, Result, Ok, refl, sym, ap, subst, ◌∙◌, append_assoc, arith}
+use Rattle.std.proofs.Common.{◌≡◌, ℕ, ◌^◌, ◌<◌, ◌≤◌, List, ◌∷◌, ◌++◌, length, All, Option, Some, None, Ok, refl, sym, ap, ◌∙◌, append_assoc, arith}
 use Rattle.std.specs.Prelude.{slice_get}
 use Rattle.std.specs.List.{AllByRecursion, flat_map}
 use Rattle.std.proofs.lemmas.List.Elements.{recursion_from_All}
@@ -7,9 +7,7 @@ use Rattle.byteorder.specs.Endian.{little_bytes}
 use Rattle.nvm_record.specs.declared.status.Status.{Status}
 use Rattle.nvm_record.specs.declared.status.Statuses.{Statuses}
 use Rattle.nvm_record.specs.declared.status.Statuses.TheVariants as statuses
-use Rattle.nvm_record.specs.Deeds.{is_read}
 use Rattle.nvm_record.specs.Lists.{IsAt}
-use Rattle.nvm_record.specs.Step.{Operation}
 use Rattle.nvm_geometry.specs.Boundaries.{units_of}
 use Rattle.nvm_plan.specs.declared.job.Body.{Body}
 use Rattle.nvm_plan.specs.declared.job.Body.TheVariants.{Single, Pair}
@@ -24,7 +22,7 @@ use Rattle.nvm_audit.specs.RecordedJob.{RecordedJob}
 use Rattle.nvm_file.specs.declared.frame.Frame.{Frame}
 use Rattle.nvm_file.specs.DoneReading.{result_of, part_at, parts_at, status_at, one_status_at, two_statuses_at, statuses_at, answer_at, answer_behind, payload_at, read_length, answer_length, done_of, done_of_number, done_at, work_at}
 use Rattle.nvm_file.specs.Fields.{number_in}
-use Rattle.nvm_file.specs.Fits.{DoneFits, PartFits, StatusFits, StatusesFit}
+use Rattle.nvm_file.specs.Fits.{StatusFits, StatusesFit}
 use Rattle.nvm_file.specs.WorkSpelling.{done_bytes, part_bytes, payload_bytes, result_byte, status_bytes, statuses_bytes, work_bytes}
 use Rattle.nvm_file.proofs.Places.{got_at}
 use Rattle.nvm_file.proofs.Returning.{byte_returns, bytes_return, items_return, number_below_returns, number_in_returns, number_returns, read_then}

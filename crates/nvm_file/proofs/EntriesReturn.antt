@@ -1,5 +1,5 @@
 -- A unit's history is read of its spelling.
-use Rattle.std.proofs.Common.{◌≡◌, ◌⊎◌, ℕ, ◌+◌, ◌*◌, ◌<◌, ◌≤◌, Bool, true, false, cond, ◌&&◌, ltb, leb, not, IsTrue, List, [], ◌∷◌, ◌++◌, length, All, Result, Ok, inl, inr, refl, sym, ap, subst, ◌∙◌, append_assoc, take, drop, arith}
+use Rattle.std.proofs.Common.{◌≡◌, ℕ, ◌+◌, ◌*◌, ◌<◌, ◌≤◌, true, ◌&&◌, ltb, leb, List, [], ◌∷◌, ◌++◌, length, All, Ok, inl, inr, refl, sym, ap, subst, ◌∙◌, take, drop, arith}
 use Rattle.std.specs.List.{AllByRecursion, flat_map}
 use Rattle.std.proofs.lemmas.Bool.{and_from, le-leb, lt-ltb, false≢true}
 use Rattle.std.proofs.lemmas.List.{take_at, drop_at, length-append}
@@ -15,11 +15,11 @@ use Rattle.nvm_store.specs.Operation.{write_operation, zeroes_operation, uncorre
 use Rattle.nvm_store.specs.Place.{IsCovered, IsWithin}
 use Rattle.nvm_audit.specs.declared.version.Version.{Version}
 use Rattle.nvm_audit.specs.declared.version.Version.TheVariants.{One, Two}
-use Rattle.nvm_audit.specs.Recordable.{HoldsKind, IsDeallocateOfUnit}
+use Rattle.nvm_audit.specs.Recordable.{HoldsKind}
 use Rattle.nvm_file.specs.declared.frame.Frame.{Frame}
 use Rattle.nvm_file.specs.EntryReading.{lies_in, range_in, write_at, zeroes_at, uncorrectable_at, fused_at, deallocate_at, last_kind, operation_at, entry_at, place_of, history_at}
 use Rattle.nvm_file.specs.EntrySpelling.{change_bytes, cut_bytes, entry_bytes, extent_bytes, history_bytes, kind_of}
-use Rattle.nvm_file.specs.Fields.{items_at, number_in}
+use Rattle.nvm_file.specs.Fields.{number_in}
 use Rattle.nvm_file.proofs.Returning.{bytes_return, items_return, number_below_returns, number_in_returns, number_returns, read_then}
 
 -- All LBAs of the place have fields that hold them.

@@ -1,5 +1,5 @@
 -- What stands before the jobs is read of its spelling.
-use Rattle.std.proofs.Common.{◌≡◌, ℕ, ◌+◌, ◌-◌, ◌≤◌, List, ◌++◌, Result, Ok, refl, ap, ◌∙◌, append_assoc, arith}
+use Rattle.std.proofs.Common.{◌≡◌, ℕ, ◌+◌, ◌-◌, ◌≤◌, List, ◌++◌, Ok, refl, ap, ◌∙◌, append_assoc, arith}
 use Rattle.byteorder.specs.Endian.{little_bytes}
 use Rattle.nvm_geometry.specs.Faults.{IsValid}
 use Rattle.nvm_geometry.specs.Namespace.{Namespace}

@@ -1,6 +1,6 @@
 -- A record is read of its spelling.
-use Rattle.std.proofs.Common.{◌≡◌, ℕ, ◌+◌, ◌<◌, ◌≤◌, List, [], ◌∷◌, ◌++◌, length, append-nil, append_assoc, All, get_or, Result, Ok, refl, sym, ap, subst, ◌∙◌, arith}
-use Rattle.std.specs.List.{AllByRecursion, flat_map}
+use Rattle.std.proofs.Common.{◌≡◌, ℕ, ◌+◌, ◌<◌, ◌≤◌, List, [], ◌++◌, length, append-nil, append_assoc, All, get_or, Ok, refl, sym, ap, subst, ◌∙◌, arith}
+use Rattle.std.specs.List.{flat_map}
 use Rattle.std.proofs.lemmas.List.Elements.{recursion_from_All}
 use Rattle.byteorder.specs.Endian.{little_bytes}
 use Rattle.nvm_record.specs.Lists.{IsAt}
@@ -14,7 +14,7 @@ use Rattle.nvm_store.specs.declared.place.Place.{Place}
 use Rattle.nvm_store.specs.HistoryEntry.{HistoryEntry}
 use Rattle.nvm_audit.specs.declared.version.Version.{Version}
 use Rattle.nvm_audit.specs.declared.version.Version.TheVariants.{One, Two}
-use Rattle.nvm_audit.specs.Recordable.{HoldsBody, HoldsLimit, IsRecordable, IsRecordableDone, IsRecordableHistory, IsRecordableWork, most_jobs}
+use Rattle.nvm_audit.specs.Recordable.{HoldsBody, HoldsLimit, IsRecordable, IsRecordableHistory, IsRecordableWork}
 use Rattle.nvm_audit.specs.RecordedJob.{RecordedJob}
 use Rattle.nvm_audit.specs.RecordView.{RecordView}
 use Rattle.nvm_file.specs.declared.frame.Frame.{Frame}

@@ -1,7 +1,7 @@
 -- The numbers of a record fit the fields that its file has for them (own). What holds the other numbers of a record within their
 -- fields, as a limit or a first LBA, already stands in what a record file can hold. Each `Record` fits, by the types of its
 -- numbers.
-use Rattle.std.specs.Prelude.{ℕ, ◌^◌, ◌<◌, All}
+use Rattle.std.specs.Prelude.{◌^◌, ◌<◌, All}
 use Rattle.nvm_record.specs.declared.status.Status.{Status}
 use Rattle.nvm_record.specs.declared.status.Statuses.{Statuses}
 use Rattle.nvm_record.specs.declared.status.Statuses.TheVariants.{One, Two}

@@ -1,8 +1,5 @@
 pub mod Fields
-pub mod Rest
 pub mod HeadReading
-pub mod Head
-pub mod Frames
 pub mod CommandReading
 pub mod JobReading
 pub mod EntryReading

@@ -1,9 +1,9 @@
 ghost use Rattle.std.specs.Prelude.{◌≡◌};
 ghost use Rattle.nvm_file.specs.Fields.{Gives};
-ghost use Rattle.nvm_file.specs.Frames.{IsSoundFrame};
+ghost use Rattle.nvm_file.specs.Inside.Frames.{IsSoundFrame};
 ghost use Rattle.nvm_file.specs.Reading as spec;
 ghost use Rattle.nvm_file.specs.Reading.{record_at};
-ghost use Rattle.nvm_file.specs.Rest.{left_of};
+ghost use Rattle.nvm_file.specs.Inside.Rest.{left_of};
 
 use crate::done_job::workers_of;
 use crate::entry::units_of;

@@ -1,4 +1,4 @@
-use Rattle.std.proofs.Common.{ap, sym, subst, ◌≡◌, List, ℕ}
+use Rattle.std.proofs.Common.{sym, subst, List, ℕ}
 use Rattle.std.proofs.lemmas.List.Elements.{recursion_from_All}
 use Rattle.nvm_file.specs.RecordFile.{IsRecordFile}
 use Rattle.nvm_file.proofs.RecordSpellings.{record_takes}
