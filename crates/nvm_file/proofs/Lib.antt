@@ -30,3 +30,4 @@ pub mod JobsReturn
 pub mod EntriesReturn
 pub mod DoneReturn
 pub mod RecordsReturn
+pub mod SecondVerdict

@@ -19,7 +19,8 @@ use nvm_record::Payload;
 use nvm_record::laws::opcodes_are_proper;
 use std::alloc::Global;
 
-/// Reads a record file of either version, from its front. What is read is spelled just so, each byte of it.
+/// Reads a record file of either version, from its front. What is read is spelled just so, each byte of it, and the spelling of
+/// each record is read as just that record: see [`spellings_are_files`](crate::laws::spellings_are_files).
 ///
 /// The data of commands and of entries are parts of the bytes; that of Reads is copied. Memory is taken for the lists, never
 /// for more items than the bytes that follow could hold, whatever a count says.

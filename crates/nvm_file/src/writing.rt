@@ -25,7 +25,7 @@ use jobs::write_jobs;
 /// Writes the record as a file of its version, piece by piece. It takes no memory of its own, however large the record is. Most
 /// pieces are of a few bytes, so hand it a [`BufWriter`](std::io::BufWriter) where each write costs. It doesn't flush.
 ///
-/// What was handed over whole is a file of the record: it is read as just that record.
+/// What was handed over whole is a file of the record, by [`spellings_are_files`]: it is read as just that record.
 ///
 /// Where the writer fails, its error is answered, and it has taken a front of the file. A `Vec` is a writer too, which fails
 /// where memory is refused.
