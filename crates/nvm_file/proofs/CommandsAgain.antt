@@ -1,11 +1,10 @@
 -- The command at the front of the bytes that begin with its spelling is read.
-use Rattle.std.proofs.Common.{◌≡◌, ◌⊎◌, ℕ, ◌+◌, ◌*◌, Bool, true, false, cond, ◌&&◌, IsTrue, List, [], ◌∷◌, ◌++◌, length, replicate, Result, Ok, refl, sym, ap, subst, ◌∙◌, append_assoc}
+use Rattle.std.proofs.Common.{◌≡◌, ℕ, Bool, true, false, cond, List, [], ◌∷◌, ◌++◌, length, replicate, Ok, refl, sym, ap, ◌∙◌, append_assoc}
 use Rattle.std.proofs.lemmas.Bool.{and_from}
 use Rattle.std.proofs.lemmas.Slice.Eq.{bytes_eq-Decides}
 use Rattle.std.specs.Str.{bytes_eq}
 use Rattle.byteorder.specs.Endian.{little_bytes}
 use Rattle.nvm_record.specs.declared.command.Command.{Command}
-use Rattle.nvm_record.specs.declared.entry.EntryFields.{EntryFields}
 use Rattle.nvm_record.specs.Entry.{data_length, entry_of, range_bits, spelling_of}
 use Rattle.nvm_record.specs.Op.{attributes_of, bits_of, carries_ranges, opcode_of}
 use Rattle.nvm_audit.specs.declared.version.Version.{Version}

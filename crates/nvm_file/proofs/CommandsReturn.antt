@@ -1,5 +1,5 @@
 -- A command that is spelled is read again, in each version that has it.
-use Rattle.std.proofs.Common.{◌≡◌, ◌⊎◌, ℕ, ◌+◌, ◌*◌, ◌-◌, ◌/◌, ◌%◌, ◌^◌, ◌<◌, ◌≤◌, Bool, true, false, cond, not, ◌&&◌, eqb, IsTrue, List, [], ◌∷◌, ◌++◌, length, drop, replicate, Result, Ok, Err, inl, inr, refl, sym, ap, subst, ◌∙◌, append_assoc, arith}
+use Rattle.std.proofs.Common.{◌≡◌, ◌⊎◌, ℕ, ◌%◌, Bool, true, false, cond, eqb, List, [], ◌∷◌, ◌++◌, drop, replicate, inl, inr, refl, sym, ap, subst, ◌∙◌}
 use Rattle.std.specs.Prelude.{slice_index}
 use Rattle.std.proofs.lemmas.Bool.{eqb-true}
 use Rattle.byteorder.specs.Endian.{little_bytes, little_number}
@@ -10,7 +10,7 @@ use Rattle.nvm_record.specs.declared.op.Fuse.{Fuse}
 use Rattle.nvm_record.specs.declared.op.Fuse.TheVariants.{Normal, First, Second, Reserved}
 use Rattle.nvm_record.specs.declared.op.Op.{Op}
 use Rattle.nvm_record.specs.declared.op.Op.TheVariants.{Write, Read, WriteUncorrectable, Compare, WriteZeroes, Dataset, Other}
-use Rattle.nvm_record.specs.Entry.{HasFieldsInRange, IsUnknownDataset, IsWhole, entry_of, range_bits}
+use Rattle.nvm_record.specs.Entry.{HasFieldsInRange, entry_of, range_bits}
 use Rattle.nvm_record.specs.Op.{attributes_of, bits_of, carries_ranges, deallocate_of, fuse_of, op_of, opcode_of, IsProperOp}
 use Rattle.nvm_audit.specs.declared.version.Version.{Version}
 use Rattle.nvm_audit.specs.declared.version.Version.TheVariants.{One, Two}

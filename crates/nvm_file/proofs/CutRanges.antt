@@ -1,10 +1,12 @@
 -- The ranges of a Deallocate, one after the other.
-use Rattle.std.proofs.Common.{◌≡◌, ℕ, ◌+◌, ◌<◌, ◌≤◌, List, [], ◌∷◌, ◌++◌, length, take, sym, ap, subst, ◌∙◌, append-nil, arith}
+use Rattle.std.proofs.Common.{◌≡◌, ℕ, ◌+◌, ◌*◌, ◌<◌, ◌≤◌, List, [], ◌∷◌, ◌++◌, length, take, refl, sym, ap, subst, ◌∙◌, append-nil, arith}
 use Rattle.std.specs.List.{flat_map}
+use Rattle.std.proofs.lemmas.List.{length-append}
 use Rattle.std.proofs.lemmas.List.Concat.{flat_map-append, flat_map-cons}
 use Rattle.std.proofs.lemmas.List.FromFn.{length-map-range_with_len, take-map-range_with_len, map-range_with_len_more}
 use Rattle.byteorder.specs.Endian.{little_bytes}
-use Rattle.nvm_record.specs.Ranges.{most_ranges, range_at, range_count, ranges_of}
+use Rattle.nvm_record.specs.declared.lba_range.LbaRange.{LbaRange}
+use Rattle.nvm_record.specs.Ranges.{data_of_ranges, most_ranges, range_at, range_bytes, range_count, range_length, ranges_of}
 use Rattle.nvm_file.specs.EntrySpelling.{cut_bytes}
 
 -- the bytes of one range more
@@ -27,6 +29,14 @@ all_ranges payload = take-map-range_with_len (range_at payload) 0 (range_count p
 -- how many there are
 pub count_of_ranges : (payload : List ℕ) → length (ranges_of payload) ≡ range_count payload
 count_of_ranges payload = length-map-range_with_len (range_at payload) 0 (range_count payload)
+
+-- how long their data is
+pub length_of_ranges : (rs : List LbaRange) → length (data_of_ranges rs) ≡ length rs * range_length
+length_of_ranges [] = refl
+length_of_ranges (r ∷ rs) =
+    let one : length (range_bytes r) ≡ 16 = refl in
+    let more = length_of_ranges rs in
+    ap length (flat_map-cons range_bytes r rs) ∙ omega (arith, length-append (range_bytes r) (data_of_ranges rs), one, more)
 
 -- A slice with just these bytes is written as the ranges that the bytes hold.
 pub ranges_of_slice : (slice payload : List ℕ) → slice ≡ payload

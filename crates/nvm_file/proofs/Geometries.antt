@@ -1,6 +1,6 @@
--- Where the test of a namespace's numbers holds, they are valid.
-use Rattle.std.proofs.Common.{◌≡◌, ◌≢◌, ℕ, ◌≤◌, Bool, true, false, ◌&&◌, ◌||◌, cond, eqb, ltb, leb, inl, inr, refl, arith}
-use Rattle.std.proofs.lemmas.Bool.{eqb-true, ltb-true, leb-true, eqb-false, and_parts, or_cases}
+-- The test of a namespace's numbers holds where they are valid, and nowhere else.
+use Rattle.std.proofs.Common.{◌≡◌, ◌≢◌, ℕ, ◌≤◌, Bool, true, false, ◌&&◌, ◌||◌, cond, eqb, ltb, leb, inl, inr, refl, sym, subst, arith}
+use Rattle.std.proofs.lemmas.Bool.{and_from, and_parts, eqb-false, eqb-true, le-leb, leb-true, lt-ltb, ltb-true, or_cases}
 use Rattle.nvm_record.specs.BlockSize.{IsBlockSize}
 use Rattle.nvm_geometry.specs.Faults.{IsValid, most_blocks, most_units}
 use Rattle.nvm_geometry.specs.Namespace.{Namespace}
@@ -60,3 +60,27 @@ is_valid ns h =
       pair_unit = k.pair;
       units = leb-true (units_of ns) most_units c.1;
     }
+
+size_back : (n : ℕ) → IsBlockSize n → (eqb n 512 || eqb n 4096) ≡ true
+size_back n (inl e) = subst (λ (m : ℕ). (eqb m 512 || eqb m 4096) ≡ true) (sym e) refl
+size_back n (inr e) = subst (λ (m : ℕ). (eqb m 512 || eqb m 4096) ≡ true) (sym e) refl
+
+keeps_back : (ns : Namespace) → IsValid ns → keeps_boundary ns ≡ true
+keeps_back ns valid = by (eqb ns.nabsn 0) refl
+  where
+    by : (b : Bool) → eqb ns.nabsn 0 ≡ b
+        → cond b (eqb ns.nabo 0) (leb ns.nabo ns.nabsn && (leb ns.nawun ns.nabsn && leb ns.nacwu ns.nabsn)) ≡ true
+    by true e = subst (λ (m : ℕ). eqb m 0 ≡ true) (sym (valid.no_boundary (eqb-true ns.nabsn 0 e))) refl
+    by false e =
+        let some : ns.nabsn ≢ 0 = eqb-false ns.nabsn 0 e in
+        and_from (leb ns.nabo ns.nabsn) (leb ns.nawun ns.nabsn && leb ns.nacwu ns.nabsn) (le-leb ns.nabo ns.nabsn valid.offset)
+        (and_from (leb ns.nawun ns.nabsn) (leb ns.nacwu ns.nabsn) (le-leb ns.nawun ns.nabsn (valid.write_unit some))
+        (le-leb ns.nacwu ns.nabsn (valid.pair_unit some)))
+
+-- and it holds of numbers that are.
+pub is_valid_back : (ns : Namespace) → IsValid ns → is_geometry ns ≡ true
+is_valid_back ns valid =
+    and_from (ltb 0 ns.nsze && leb ns.nsze most_blocks) ((eqb ns.block_size 512 || eqb ns.block_size 4096) && (keeps_boundary ns && leb (units_of ns) most_units))
+    (and_from (ltb 0 ns.nsze) (leb ns.nsze most_blocks) (lt-ltb 0 ns.nsze valid.some) (le-leb ns.nsze most_blocks valid.size))
+    (and_from (eqb ns.block_size 512 || eqb ns.block_size 4096) (keeps_boundary ns && leb (units_of ns) most_units) (size_back ns.block_size valid.block_size)
+    (and_from (keeps_boundary ns) (leb (units_of ns) most_units) (keeps_back ns valid) (le-leb (units_of ns) most_units valid.units)))

@@ -6,7 +6,7 @@ use Rattle.nvm_audit.specs.Recordable.{HoldsLimit, most_jobs, most_workers}
 use Rattle.nvm_file.specs.declared.frame.Frame.{Frame}
 use Rattle.nvm_file.specs.declared.record_fault.RecordFault.TheVariants as fault
 use Rattle.nvm_file.specs.Fields.{◌>>=◌, number_in}
-use Rattle.nvm_file.specs.Frames.{IsSoundFrame}
+use Rattle.nvm_file.specs.Inside.Frames.{IsSoundFrame}
 use Rattle.nvm_file.specs.HeadReading.{frame_with, head_at, is_geometry, judged, limit_at, numbers_at, version_at}
 use Rattle.nvm_file.proofs.Geometries.{is_valid}
 use Rattle.nvm_file.proofs.Readings.{bind_ok, in_range, ok_is, took}

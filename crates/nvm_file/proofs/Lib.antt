@@ -25,3 +25,9 @@ pub mod Returning
 pub mod CommandsReturn
 pub mod CommandsAgain
 pub mod WholeCommandsAgain
+pub mod HeadsReturn
+pub mod JobsReturn
+pub mod EntriesReturn
+pub mod DoneReturn
+pub mod RecordsReturn
+pub mod SecondVerdict

@@ -1,5 +1,7 @@
 -- What stands at a place of a list.
-use Rattle.std.proofs.Common.{◌≡◌, ℕ, zero, suc, ◌<◌, List, [], ◌∷◌, length, map, get_or, refl, sym, arith}
+use Rattle.std.proofs.Common.{◌≡◌, ℕ, zero, suc, ◌<◌, List, [], ◌∷◌, length, map, get_or, Some, refl, sym, ap, ◌∙◌, arith}
+use Rattle.std.specs.Prelude.{slice_get}
+use Rattle.std.proofs.lemmas.Option.{slice_get-get_or}
 use mathlib.Core.Option.{some-injective, some-ne-none}
 use Rattle.nvm_record.specs.Lists.{IsAt}
 
@@ -22,3 +24,6 @@ pub read_at : {A : Type 0} (xs : List A) (k : ℕ) (x d : A) → IsAt xs k x →
 read_at [] k x d at = absurd (some-ne-none x (sym at))
 read_at (y ∷ ys) zero x d at = some-injective y x at
 read_at (y ∷ ys) (suc k) x d at = read_at ys k x d at
+
+pub got_at : {A : Type 0} (xs : List A) (k : ℕ) (x : A) → IsAt xs k x → slice_get xs k ≡ Some x
+got_at xs k x at = slice_get-get_or xs k x (below_length xs k x at) ∙ ap (λ y. Some y) (read_at xs k x x at)

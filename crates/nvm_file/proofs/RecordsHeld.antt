@@ -16,7 +16,7 @@ use Rattle.nvm_file.specs.declared.frame.Frame.{Frame}
 use Rattle.nvm_file.specs.DoneReading.{done_at, work_at}
 use Rattle.nvm_file.specs.EntryReading.{entry_at, history_at, place_of}
 use Rattle.nvm_file.specs.Fields.{items_at, number_in}
-use Rattle.nvm_file.specs.Frames.{IsSoundFrame}
+use Rattle.nvm_file.specs.Inside.Frames.{IsSoundFrame}
 use Rattle.nvm_file.specs.JobReading.{job_at}
 use Rattle.nvm_file.specs.Reading.{jobs_at, record_with, units_at, workers_at}
 use Rattle.nvm_file.proofs.CommandsHeld.{IsProperEach}

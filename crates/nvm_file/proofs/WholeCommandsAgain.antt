@@ -1,15 +1,14 @@
 -- Each command that a record of the version can hold is read of its spelling.
-use Rattle.std.proofs.Common.{◌≡◌, ◌⊎◌, ℕ, ◌+◌, ◌*◌, ◌-◌, ◌/◌, ◌%◌, ◌≤◌, Bool, true, false, cond, ◌&&◌, leb, List, ◌++◌, length, Result, Ok, inl, inr, refl, sym, ap, subst, ◌∙◌, arith}
-use Rattle.std.proofs.lemmas.Bool.{and_from, cases_Bool, le-leb}
+use Rattle.std.proofs.Common.{◌≡◌, ◌⊎◌, ℕ, ◌+◌, ◌*◌, ◌-◌, ◌/◌, ◌%◌, ◌≤◌, Bool, true, false, cond, leb, List, ◌++◌, length, Ok, inl, inr, refl, sym, ap, subst, ◌∙◌, arith}
+use Rattle.std.proofs.lemmas.Bool.{and_from, le-leb}
 use Rattle.std.proofs.lemmas.Slice.Eq.{bytes_eq-Decides}
 use Rattle.std.specs.Str.{bytes_eq}
 use Rattle.nvm_record.specs.declared.command.Command.{Command}
-use Rattle.nvm_record.specs.declared.lba_range.LbaRange.{LbaRange}
 use Rattle.nvm_record.specs.declared.op.Op.{Op}
 use Rattle.nvm_record.specs.declared.op.Op.TheVariants.{Write, Read, WriteUncorrectable, Compare, WriteZeroes, Dataset, Other}
 use Rattle.nvm_record.specs.Entry.{HasDataOf, HasFieldsInRange, HasRanges, IsUnknownDataset, IsWhole, data_length, entry_of, spelling_of}
 use Rattle.nvm_record.specs.Op.{carries_ranges, IsProperOp}
-use Rattle.nvm_record.specs.Ranges.{data_of_ranges, most_ranges, range_count, range_length, ranges_of}
+use Rattle.nvm_record.specs.Ranges.{data_of_ranges, most_ranges, range_count, ranges_of}
 use Rattle.nvm_audit.specs.declared.version.Version.{Version}
 use Rattle.nvm_audit.specs.declared.version.Version.TheVariants.{One, Two}
 use Rattle.nvm_audit.specs.Recordable.{HoldsCommand}
@@ -18,13 +17,7 @@ use Rattle.nvm_file.specs.declared.standing.Standing.{Standing}
 use Rattle.nvm_file.specs.CommandReading.{command_at, fields_in, may_follow, may_stand}
 use Rattle.nvm_file.proofs.CommandsAgain.{command_again}
 use Rattle.nvm_file.proofs.CommandsReturn.{dataset_back, fields_back, fields_by}
-
--- How long the data of ranges is, and how many ranges data holds.
-abbrev pub RangesHaveLength : Type 0
-RangesHaveLength = (rs : List LbaRange) → length (data_of_ranges rs) ≡ length rs * range_length
-
-abbrev pub RangesAreCounted : Type 0
-RangesAreCounted = (payload : List ℕ) → length (ranges_of payload) ≡ range_count payload
+use Rattle.nvm_file.proofs.CutRanges.{count_of_ranges, length_of_ranges}
 
 data_is : (size : ℕ) (op : Op) (c : Command) (nr : ℕ) → carries_ranges op ≡ false → HasDataOf size op c
     → length c.payload ≡ data_length size op c.nlb nr
@@ -66,9 +59,9 @@ bits_say : (len count : ℕ) → count ≡ len / 16 → len ≡ count * 16 → 1
     → len ≡ ((len / 16 - 1) % 256 + 1) * 16
 bits_say len count c e some few = omega (arith, c, e, some, few)
 
-module _ (lengths : RangesHaveLength) (counted : RangesAreCounted) (frame : Frame) (standing : Standing) (c : Command) (rest : List ℕ)
+module _ (frame : Frame) (standing : Standing) (c : Command) (rest : List ℕ)
     (range : HasFieldsInRange c) (stands : may_stand standing (fields_by c) ≡ true) where
-  plain_again : carries_ranges c.op ≡ false → IsWhole frame.geometry.block_size c ⊎ IsUnknownDataset c → HoldsCommand frame.version c
+  pub plain_again : carries_ranges c.op ≡ false → IsWhole frame.geometry.block_size c ⊎ IsUnknownDataset c → HoldsCommand frame.version c
       → command_at frame standing (spelling_of c ++ rest) ≡ Ok (c, rest)
   plain_again none whole known =
       let size = frame.geometry.block_size in
@@ -80,7 +73,7 @@ module _ (lengths : RangesHaveLength) (counted : RangesAreCounted) (frame : Fram
       not_both true f t = absurd cc
       not_both false f t = absurd cc
 
-  dataset_again : (deallocate : Bool) → frame.version ≡ Two → c.op ≡ Dataset deallocate → HasRanges c
+  pub dataset_again : (deallocate : Bool) → frame.version ≡ Two → c.op ≡ Dataset deallocate → HasRanges c
       → command_at frame standing (spelling_of c ++ rest) ≡ Ok (c, rest)
   dataset_again deallocate two op h =
       let size = frame.geometry.block_size in
@@ -88,7 +81,7 @@ module _ (lengths : RangesHaveLength) (counted : RangesAreCounted) (frame : Fram
       let fields : fields_in frame.version (entry_of c) ≡ fields_by c =
       subst (λ (v : Version). fields_in v (entry_of c) ≡ fields_by c) (sym two) (dataset_back c deallocate op h.slba h.nlb range) in
       let whole : length c.payload ≡ range_count c.payload * 16 =
-      ap length h.plain ∙ lengths (ranges_of c.payload) ∙ ap (λ (n : ℕ). n * 16) (counted c.payload) in
+      ap length h.plain ∙ length_of_ranges (ranges_of c.payload) ∙ ap (λ (n : ℕ). n * 16) (count_of_ranges c.payload) in
       let bits = bits_say (length c.payload) (range_count c.payload) refl whole h.some h.few in
       let len : length c.payload ≡ data_length size c.op c.nlb (fields_by c).nr =
       subst (λ (o : Op). length c.payload ≡ data_length size o c.nlb (cond (carries_ranges o) ((length c.payload / 16 - 1) % 256) 0))

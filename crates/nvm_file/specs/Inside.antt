@@ -1,2 +1,5 @@
--- What private functions' contracts say of a record that is written.
+-- What private functions' contracts say of a file that is read, and of a record that is written.
+pub mod Rest
+pub mod Head
+pub mod Frames
 pub mod Short

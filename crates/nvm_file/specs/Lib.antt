@@ -1,8 +1,5 @@
 pub mod Fields
-pub mod Rest
 pub mod HeadReading
-pub mod Head
-pub mod Frames
 pub mod CommandReading
 pub mod JobReading
 pub mod EntryReading
@@ -16,5 +13,6 @@ pub mod EntrySpelling
 pub mod WorkSpelling
 pub mod Spelling
 pub mod Handed
+pub mod Fits
 pub mod Upgrade
 pub mod Inside

@@ -5,7 +5,7 @@ ghost use Rattle.nvm_plan.specs.Profile as profile;
 ghost use Rattle.nvm_file.specs.CommandReading as spec;
 ghost use Rattle.nvm_file.specs.CommandReading.{NamesOnePlace, command_at, command_with, fields_in, may_follow, may_stand, submission_at};
 ghost use Rattle.nvm_file.specs.Fields.{Gives};
-ghost use Rattle.nvm_file.specs.Rest.{left_of};
+ghost use Rattle.nvm_file.specs.Inside.Rest.{left_of};
 
 use crate::fields::{cut_short, refused};
 use crate::frame::Frame;

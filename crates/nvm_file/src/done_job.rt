@@ -5,7 +5,7 @@ ghost use Rattle.nvm_file.specs.DoneReading as spec;
 ghost use Rattle.nvm_file.specs.DoneReading.{answer_at, answer_behind, done_at, done_of, one_status_at, part_at, parts_at, payload_at, result_of, status_at, statuses_at, two_statuses_at, work_at};
 ghost use Rattle.nvm_file.specs.Fields.{Gives, items_at, number_in};
 ghost use Rattle.nvm_file.specs.Reading.{workers_at};
-ghost use Rattle.nvm_file.specs.Rest.{left_of};
+ghost use Rattle.nvm_file.specs.Inside.Rest.{left_of};
 
 use crate::fields::{
     cut_short, refused, room_for, u8_in, u8_of, u16_below, u16_in, u32_in, u32_of,

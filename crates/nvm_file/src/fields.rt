@@ -1,7 +1,7 @@
 //! Numbers and bytes, read from the front of what is left of a file of `total` bytes.
 ghost use Rattle.std.specs.Prelude.{◌≡◌, ◌<◌};
 ghost use Rattle.nvm_file.specs.Fields.{Gives, bytes_at, number_at, number_in, number_below, offset};
-ghost use Rattle.nvm_file.specs.Rest.{left_of};
+ghost use Rattle.nvm_file.specs.Inside.Rest.{left_of};
 ghost use Rattle.nvm_file.specs.declared.record_fault.RecordFault.TheVariants.{Truncated as CutShort, BadValue as Refused};
 
 use crate::record_fault::RecordFault;

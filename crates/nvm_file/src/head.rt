@@ -4,9 +4,9 @@ ghost use Rattle.nvm_geometry.specs.Faults.{HasNoFault};
 ghost use Rattle.nvm_store.specs.Limit.{IsLimit};
 ghost use Rattle.nvm_audit.specs.Recordable.{HoldsLimit, most_entries_of_two_bytes};
 ghost use Rattle.nvm_file.specs.Fields.{Gives, number_in};
-ghost use Rattle.nvm_file.specs.Head.{frame_by, namespace_with};
+ghost use Rattle.nvm_file.specs.Inside.Head.{frame_by, namespace_with};
 ghost use Rattle.nvm_file.specs.HeadReading.{digit_at, head_at, judged, limit_at, limit_less_one_at, most_entries, numbers_at, version_at};
-ghost use Rattle.nvm_file.specs.Rest.{left_of};
+ghost use Rattle.nvm_file.specs.Inside.Rest.{left_of};
 
 use crate::fields::{refused, u16_in, u16_of, u32_in, u32_of, u64_of};
 use crate::frame::Frame;

@@ -4,7 +4,7 @@ ghost use Rattle.nvm_file.specs.Fields.{Gives};
 ghost use Rattle.nvm_file.specs.JobReading as spec;
 ghost use Rattle.nvm_file.specs.JobReading.{job_at, pair_at, single_at};
 ghost use Rattle.nvm_file.specs.Reading.{jobs_at};
-ghost use Rattle.nvm_file.specs.Rest.{left_of};
+ghost use Rattle.nvm_file.specs.Inside.Rest.{left_of};
 
 use crate::command::command_of;
 use crate::fields::{room_for, u8_in, u16_in};

@@ -5,6 +5,7 @@
 //! the second. [`laws`] have what holds of records and their files.
 #![tactic(auto)]
 
+mod act;
 mod command;
 mod done_job;
 mod entry;

@@ -1,9 +1,9 @@
 ghost use Rattle.std.specs.Prelude.{◌≡◌};
 ghost use Rattle.nvm_file.specs.Fields.{Gives};
-ghost use Rattle.nvm_file.specs.Frames.{IsSoundFrame};
+ghost use Rattle.nvm_file.specs.Inside.Frames.{IsSoundFrame};
 ghost use Rattle.nvm_file.specs.Reading as spec;
 ghost use Rattle.nvm_file.specs.Reading.{record_at};
-ghost use Rattle.nvm_file.specs.Rest.{left_of};
+ghost use Rattle.nvm_file.specs.Inside.Rest.{left_of};
 
 use crate::done_job::workers_of;
 use crate::entry::units_of;
@@ -19,7 +19,8 @@ use nvm_record::Payload;
 use nvm_record::laws::opcodes_are_proper;
 use std::alloc::Global;
 
-/// Reads a record file of either version, from its front. What is read is spelled just so, each byte of it.
+/// Reads a record file of either version, from its front. What is read is spelled just so, each byte of it, and the spelling of
+/// each record is read as just that record: see [`spellings_are_files`](crate::laws::spellings_are_files).
 ///
 /// The data of commands and of entries are parts of the bytes; that of Reads is copied. Memory is taken for the lists, never
 /// for more items than the bytes that follow could hold, whatever a count says.

@@ -1,8 +1,11 @@
 ghost use Rattle.std.specs.Prelude.{OnErr, OnOk};
 ghost use Rattle.std.specs.Io.KnownBytes.{Appends};
+ghost use Rattle.nvm_file.specs.Fits.{FitsItsFields};
 ghost use Rattle.nvm_file.specs.Handed.{TakesFront};
+ghost use Rattle.nvm_file.specs.RecordFile.{IsRecordFile};
 ghost use Rattle.nvm_file.specs.Spelling.{record_bytes};
 
+use crate::laws::spellings_are_files;
 use nvm_audit::Record;
 use std::io;
 use std::io::Write;
@@ -22,12 +25,17 @@ use jobs::write_jobs;
 /// Writes the record as a file of its version, piece by piece. It takes no memory of its own, however large the record is. Most
 /// pieces are of a few bytes, so hand it a [`BufWriter`](std::io::BufWriter) where each write costs. It doesn't flush.
 ///
+/// What was handed over whole is a file of the record, by [`spellings_are_files`]: it is read as just that record.
+///
 /// Where the writer fails, its error is answered, and it has taken a front of the file. A `Vec` is a writer too, which fails
 /// where memory is refused.
 pub fn write_record<W: Write>(writer: &mut W, run: &Record) -> io::Result<()>
     ensures whole { OnOk result (Appends (W.contents writer.old) (W.contents writer.new) (record_bytes run.now)) }
     ensures front { OnErr result (TakesFront (W.contents writer.old) (W.contents writer.new) (record_bytes run.now)) }
+    ensures fits { OnOk result (FitsItsFields run.now) }
+    ensures file { OnOk result (IsRecordFile (record_bytes run.now) run.now) }
 {
+    spellings_are_files();
     write_head(writer, run)?;
     write_jobs(writer, &run.jobs)?;
     write_units(writer, &run.units)?;

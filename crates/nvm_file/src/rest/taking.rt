@@ -1,12 +1,12 @@
 ghost use Rattle.std.specs.Prelude.{◌≡◌, ◌≤◌, IfOk, drop, length, take};
-ghost use Rattle.nvm_file.specs.Rest.{left_of};
+ghost use Rattle.nvm_file.specs.Inside.Rest.{left_of};
 
 use super::Rest;
 use nvm_record::{NoMemory, Payload};
 
 impl<'a> Rest<'a> {
     /// The whole file.
-    #[tactic(auto, unfolding(crate::specs::Rest::left_of))]
+    #[tactic(auto, unfolding(crate::specs::Inside::Rest::left_of))]
     pub fn whole(file: &'a Payload) -> Rest<'a>
         ensures { left_of result ≡ file.now }
     {
@@ -14,7 +14,7 @@ impl<'a> Rest<'a> {
     }
 
     /// How many bytes are left.
-    #[tactic(auto, unfolding(crate::specs::Rest::left_of))]
+    #[tactic(auto, unfolding(crate::specs::Inside::Rest::left_of))]
     pub fn len(self) -> usize
         ensures { result ≡ length (left_of self.entry) }
     {
@@ -22,7 +22,7 @@ impl<'a> Rest<'a> {
     }
 
     /// The bytes that are left.
-    #[tactic(auto, unfolding(crate::specs::Rest::left_of))]
+    #[tactic(auto, unfolding(crate::specs::Inside::Rest::left_of))]
     pub fn as_slice(self) -> &'a [u8]
         ensures { result.now ≡ left_of self.entry }
     {
@@ -30,7 +30,7 @@ impl<'a> Rest<'a> {
     }
 
     /// The next `count` bytes.
-    #[tactic(auto, unfolding(crate::specs::Rest::left_of))]
+    #[tactic(auto, unfolding(crate::specs::Inside::Rest::left_of))]
     pub fn front(self, count: usize) -> &'a [u8]
         requires { count ≤ length (left_of self) }
         ensures bytes { result.now ≡ take count (left_of self.entry) }
@@ -41,7 +41,7 @@ impl<'a> Rest<'a> {
     }
 
     /// What is left behind the next `count` bytes.
-    #[tactic(auto, unfolding(crate::specs::Rest::left_of))]
+    #[tactic(auto, unfolding(crate::specs::Inside::Rest::left_of))]
     pub fn after(self, count: usize) -> Rest<'a>
         requires { count ≤ length (left_of self) }
         ensures { left_of result ≡ drop count (left_of self.entry) }
@@ -54,7 +54,7 @@ impl<'a> Rest<'a> {
     }
 
     /// The next `count` bytes, shared.
-    #[tactic(auto, unfolding(crate::specs::Rest::left_of))]
+    #[tactic(auto, unfolding(crate::specs::Inside::Rest::left_of))]
     pub fn share(self, count: usize) -> Result<Payload, NoMemory>
         requires { count ≤ length (left_of self) }
         ensures { IfOk result (λ p. p ≡ take count (left_of self.entry)) }

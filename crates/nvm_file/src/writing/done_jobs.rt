@@ -1,6 +1,7 @@
 ghost use Rattle.std.specs.Prelude.{◌≡◌, All, OnErr, OnOk, map};
 ghost use Rattle.std.specs.Io.KnownBytes.{Appends};
 ghost use Rattle.std.specs.List.{flat_map};
+ghost use Rattle.nvm_file.specs.Fits.{DoneFits, PartFits, StatusesFit};
 ghost use Rattle.nvm_file.specs.Handed.{TakesFront};
 ghost use Rattle.nvm_file.specs.Inside.Short.{IsShortDone, IsShortWork};
 ghost use Rattle.nvm_file.specs.WorkSpelling as spec;
@@ -22,6 +23,7 @@ pub fn write_workers<W: Write>(writer: &mut W, workers: &[Vec<DoneJob>]) -> io::
         (flat_map work_bytes (map (λ work. work.items) workers.now))) }
     ensures front { OnErr result (TakesFront (W.contents writer.old) (W.contents writer.new)
         (flat_map work_bytes (map (λ work. work.items) workers.now))) }
+    ensures fit { OnOk result (All (λ work. All DoneFits work.items) workers.now) }
 {
     for work in workers {
         write_work(writer, work)?;
@@ -34,6 +36,7 @@ fn write_work<W: Write>(writer: &mut W, work: &[DoneJob]) -> io::Result<()>
     requires { IsShortWork work.now }
     ensures whole { OnOk result (Appends (W.contents writer.old) (W.contents writer.new) (work_bytes work.now)) }
     ensures front { OnErr result (TakesFront (W.contents writer.old) (W.contents writer.new) (work_bytes work.now)) }
+    ensures fit { OnOk result (All DoneFits work.now) }
 {
     hand(writer, &count_bytes(work.len()))?;
     for done in work {
@@ -46,6 +49,7 @@ fn write_done<W: Write>(writer: &mut W, done: &DoneJob) -> io::Result<()>
     requires { IsShortDone done.now }
     ensures whole { OnOk result (Appends (W.contents writer.old) (W.contents writer.new) (done_bytes done.now)) }
     ensures front { OnErr result (TakesFront (W.contents writer.old) (W.contents writer.new) (done_bytes done.now)) }
+    ensures fits { OnOk result (DoneFits done.now) }
 {
     hand(writer, &done_front(done))?;
     write_parts(writer, &done.parts)?;
@@ -68,6 +72,7 @@ fn write_parts<W: Write>(writer: &mut W, parts: &[Part]) -> io::Result<()>
     ensures whole { OnOk result (Appends (W.contents writer.old) (W.contents writer.new) (flat_map spec.part_bytes parts.now)) }
     ensures front { OnErr result (TakesFront (W.contents writer.old) (W.contents writer.new)
         (flat_map spec.part_bytes parts.now)) }
+    ensures fit { OnOk result (All PartFits parts.now) }
 {
     for part in parts {
         hand(writer, &part_bytes(*part))?;
@@ -77,7 +82,8 @@ fn write_parts<W: Write>(writer: &mut W, parts: &[Part]) -> io::Result<()>
 
 /// The unit's number, the point, and how the part ended.
 fn part_bytes(part: Part) -> [u8; 7]
-    ensures { result ≡ spec.part_bytes part }
+    ensures bytes { result ≡ spec.part_bytes part }
+    ensures fits { PartFits part }
 {
     let mut bytes = [0; 7];
     LittleEndian::write_u16(&mut bytes, part.unit);
@@ -101,6 +107,7 @@ fn result_code(end: PartResult) -> u8
 fn write_statuses<W: Write>(writer: &mut W, statuses: Statuses) -> io::Result<()>
     ensures whole { OnOk result (Appends (W.contents writer.old) (W.contents writer.new) (statuses_bytes statuses)) }
     ensures front { OnErr result (TakesFront (W.contents writer.old) (W.contents writer.new) (statuses_bytes statuses)) }
+    ensures fit { StatusesFit statuses }
 {
     match statuses {
         Statuses::One(status) => hand(writer, &[status.sct, status.sc]),

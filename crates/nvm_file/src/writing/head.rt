@@ -1,6 +1,7 @@
 ghost use Rattle.std.specs.Prelude.{◌≡◌, OnErr, OnOk};
 ghost use Rattle.std.specs.Io.KnownBytes.{Appends};
 ghost use Rattle.nvm_audit.specs.Recordable.{HoldsLimit};
+ghost use Rattle.nvm_file.specs.Fits.{NumbersFit};
 ghost use Rattle.nvm_file.specs.Handed.{TakesFront};
 ghost use Rattle.nvm_file.specs.HeadSpelling as spec;
 ghost use Rattle.nvm_file.specs.HeadSpelling.{head_bytes, limit_bytes, name_of};
@@ -18,6 +19,7 @@ use std::io::Write;
 pub fn write_head<W: Write>(writer: &mut W, run: &Record) -> io::Result<()>
     ensures whole { OnOk result (Appends (W.contents writer.old) (W.contents writer.new) (head_bytes run.now)) }
     ensures front { OnErr result (TakesFront (W.contents writer.old) (W.contents writer.new) (head_bytes run.now)) }
+    ensures fit { OnOk result (NumbersFit run.now.namespace) }
 {
     hand(writer, name(run.version))?;
     hand(writer, &namespace_bytes(run.geometry))?;
@@ -37,7 +39,8 @@ fn name(version: Version) -> &'static [u8]
 
 /// The numbers of the namespace.
 fn namespace_bytes(geometry: Geometry) -> [u8; 20]
-    ensures { result ≡ spec.namespace_bytes geometry }
+    ensures bytes { result ≡ spec.namespace_bytes geometry }
+    ensures fit { NumbersFit geometry }
 {
     let mut bytes = [0; 20];
     LittleEndian::write_u64(&mut bytes, geometry.nsze());

@@ -1,7 +1,8 @@
-ghost use Rattle.std.specs.Prelude.{◌≡◌, ◌<◌, ◌^◌, OnErr, OnOk, length};
+ghost use Rattle.std.specs.Prelude.{◌≡◌, ◌<◌, ◌^◌, All, OnErr, OnOk, length};
 ghost use Rattle.std.specs.Io.KnownBytes.{Appends};
-ghost use Rattle.nvm_record.specs.Entry.{spelling_of};
+ghost use Rattle.nvm_record.specs.Entry.{HasFieldsInRange, spelling_of};
 ghost use Rattle.nvm_file.specs.Counted.{counted};
+ghost use Rattle.nvm_file.specs.Fits.{BodyFits, JobFits};
 ghost use Rattle.nvm_file.specs.Handed.{TakesFront};
 ghost use Rattle.nvm_file.specs.JobSpelling as spec;
 ghost use Rattle.nvm_file.specs.JobSpelling.{body_kind, commands_bytes, job_bytes};
@@ -19,6 +20,7 @@ pub fn write_jobs<W: Write>(writer: &mut W, jobs: &[Job]) -> io::Result<()>
     requires { length jobs.now < 2 ^ 32 }
     ensures whole { OnOk result (Appends (W.contents writer.old) (W.contents writer.new) (counted job_bytes jobs.now)) }
     ensures front { OnErr result (TakesFront (W.contents writer.old) (W.contents writer.new) (counted job_bytes jobs.now)) }
+    ensures fit { OnOk result (All JobFits jobs.now) }
 {
     hand(writer, &count_bytes(jobs.len()))?;
     for job in jobs {
@@ -30,6 +32,7 @@ pub fn write_jobs<W: Write>(writer: &mut W, jobs: &[Job]) -> io::Result<()>
 fn write_job<W: Write>(writer: &mut W, job: &Job) -> io::Result<()>
     ensures whole { OnOk result (Appends (W.contents writer.old) (W.contents writer.new) (job_bytes job.now)) }
     ensures front { OnErr result (TakesFront (W.contents writer.old) (W.contents writer.new) (job_bytes job.now)) }
+    ensures fits { OnOk result (JobFits job.now) }
 {
     hand(writer, &job_front(job))?;
     write_commands(writer, &job.body)
@@ -57,6 +60,7 @@ fn kind(body: &Body) -> u8
 fn write_commands<W: Write>(writer: &mut W, body: &Body) -> io::Result<()>
     ensures whole { OnOk result (Appends (W.contents writer.old) (W.contents writer.new) (commands_bytes body.now)) }
     ensures front { OnErr result (TakesFront (W.contents writer.old) (W.contents writer.new) (commands_bytes body.now)) }
+    ensures fits { OnOk result (BodyFits body.now) }
 {
     match body {
         Body::Single(command) => write_command(writer, command),
@@ -71,6 +75,7 @@ fn write_commands<W: Write>(writer: &mut W, body: &Body) -> io::Result<()>
 fn write_command<W: Write>(writer: &mut W, command: &Command) -> io::Result<()>
     ensures whole { OnOk result (Appends (W.contents writer.old) (W.contents writer.new) (spelling_of command.now)) }
     ensures front { OnErr result (TakesFront (W.contents writer.old) (W.contents writer.new) (spelling_of command.now)) }
+    ensures fits { HasFieldsInRange command.now }
 {
     hand(writer, &command_bytes(command))?;
     hand(writer, command.payload.as_slice())

@@ -1,4 +1,4 @@
-use Rattle.nvm_file.specs.Rest.{left_of}
+use Rattle.nvm_file.specs.Inside.Rest.{left_of}
 use Rattle.nvm_file.specs.DoneReading.{work_at}
 use Rattle.nvm_file.specs.Reading.{workers_at}
 use Rattle.std.proofs.Common.{Global, Vec, map}

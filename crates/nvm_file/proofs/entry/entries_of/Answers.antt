@@ -1,5 +1,5 @@
 use Rattle.std.proofs.lemmas.Result.{err_from_is_err_and}
-use Rattle.nvm_file.specs.Rest.{left_of}
+use Rattle.nvm_file.specs.Inside.Rest.{left_of}
 use Rattle.nvm_file.specs.EntryReading.{entry_at}
 use Rattle.nvm_file.specs.Fields.{items_at}
 use Rattle.nvm_file.proofs.ItemLoops.{begins, goes_on, ends, is_done}

@@ -1,4 +1,4 @@
-use Rattle.nvm_file.specs.Rest.{left_of}
+use Rattle.nvm_file.specs.Inside.Rest.{left_of}
 use Rattle.nvm_file.specs.EntryReading.{entry_at}
 use Rattle.nvm_file.specs.Fields.{items_at}
 use Rattle.nvm_file.proofs.ItemLoops.{GoesOn}

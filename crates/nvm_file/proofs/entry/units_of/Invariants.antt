@@ -1,4 +1,4 @@
-use Rattle.nvm_file.specs.Rest.{left_of}
+use Rattle.nvm_file.specs.Inside.Rest.{left_of}
 use Rattle.nvm_file.specs.EntryReading.{history_at}
 use Rattle.nvm_file.specs.Reading.{units_at}
 use Rattle.std.proofs.Common.{Global, Vec, map}

@@ -1,4 +1,4 @@
-use Rattle.nvm_file.specs.Rest.{left_of}
+use Rattle.nvm_file.specs.Inside.Rest.{left_of}
 use Rattle.nvm_file.specs.JobReading.{job_at}
 use Rattle.nvm_file.specs.Reading.{jobs_at}
 use Rattle.nvm_file.proofs.ItemLoops.{GoesOn}

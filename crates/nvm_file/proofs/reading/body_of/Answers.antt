@@ -1,5 +1,5 @@
 use Rattle.std.proofs.Common.{map}
-use Rattle.nvm_file.specs.Rest.{left_of}
+use Rattle.nvm_file.specs.Inside.Rest.{left_of}
 use Rattle.nvm_file.proofs.RecordsHeld.{record_held}
 use Rattle.nvm_file.proofs.reading.body_of.Goals as goal
 

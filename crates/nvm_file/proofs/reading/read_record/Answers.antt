@@ -1,5 +1,5 @@
-use Rattle.nvm_file.specs.Head.{frame_by}
-use Rattle.nvm_file.specs.Rest.{left_of}
+use Rattle.nvm_file.specs.Inside.Head.{frame_by}
+use Rattle.nvm_file.specs.Inside.Rest.{left_of}
 use Rattle.nvm_file.proofs.HeadsHeld.{head_held}
 use Rattle.nvm_file.proofs.reading.read_record.Goals as goal
 

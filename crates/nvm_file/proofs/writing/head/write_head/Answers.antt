@@ -19,7 +19,7 @@ returns-in_err-hand-2-clause-front g c =
     let after = limit_bytes r.version r.limit ++ little_bytes 2 r.workers in
     on_err c.from_residual-in_err-hand-2.result (subst (TakesFront _ _) (ap head_bytes c.run.view_is)
     (behind _ _ _ _ (name_of r.version) (namespace_bytes r.geometry ++ after) c.name.ensures c.in_ok-hand.ensures.whole
-    (first_of _ _ _ (namespace_bytes r.geometry) after c.namespace_bytes.ensures c.in_err-hand-2.ensures.front)))
+    (first_of _ _ _ (namespace_bytes r.geometry) after c.namespace_bytes.ensures.bytes c.in_err-hand-2.ensures.front)))
 
 pub returns-in_err-write_limit-clause-front : goal.returns-in_err-write_limit-clause-front
 returns-in_err-write_limit-clause-front g c =
@@ -28,7 +28,7 @@ returns-in_err-write_limit-clause-front g c =
     let workers = little_bytes 2 r.workers in
     on_err c.from_residual-in_err-write_limit.result (subst (TakesFront _ _) (ap head_bytes c.run.view_is)
     (behind _ _ _ _ (name_of r.version) (namespace_bytes r.geometry ++ (limit ++ workers)) c.name.ensures c.in_ok-hand.ensures.whole
-    (behind _ _ _ _ (namespace_bytes r.geometry) (limit ++ workers) c.namespace_bytes.ensures c.in_ok-hand-2.ensures.whole
+    (behind _ _ _ _ (namespace_bytes r.geometry) (limit ++ workers) c.namespace_bytes.ensures.bytes c.in_ok-hand-2.ensures.whole
     (first_of _ _ _ limit workers refl c.in_err-write_limit.ensures.front))))
 
 pub returns-clause-whole : goal.returns-clause-whole
@@ -38,7 +38,7 @@ returns-clause-whole g c =
     let workers = little_bytes 2 r.workers in
     on_ok_then c.hand-3.result (λ taken. subst (Appends _ _) (ap head_bytes c.run.view_is)
     (both _ _ _ _ (name_of r.version) (namespace_bytes r.geometry ++ (limit ++ workers)) c.name.ensures c.in_ok-hand.ensures.whole
-    (both _ _ _ _ (namespace_bytes r.geometry) (limit ++ workers) c.namespace_bytes.ensures c.in_ok-hand-2.ensures.whole
+    (both _ _ _ _ (namespace_bytes r.geometry) (limit ++ workers) c.namespace_bytes.ensures.bytes c.in_ok-hand-2.ensures.whole
     (both _ _ _ _ limit workers refl c.in_ok-write_limit.ensures.whole
     (subst (Appends _ _) c.two_bytes.ensures taken))))) c.hand-3.ensures.whole
 
@@ -49,6 +49,6 @@ returns-clause-front g c =
     let workers = little_bytes 2 r.workers in
     on_err_then c.hand-3.result (λ failed. subst (TakesFront _ _) (ap head_bytes c.run.view_is)
     (behind _ _ _ _ (name_of r.version) (namespace_bytes r.geometry ++ (limit ++ workers)) c.name.ensures c.in_ok-hand.ensures.whole
-    (behind _ _ _ _ (namespace_bytes r.geometry) (limit ++ workers) c.namespace_bytes.ensures c.in_ok-hand-2.ensures.whole
+    (behind _ _ _ _ (namespace_bytes r.geometry) (limit ++ workers) c.namespace_bytes.ensures.bytes c.in_ok-hand-2.ensures.whole
     (behind _ _ _ _ limit workers refl c.in_ok-write_limit.ensures.whole
     (subst (TakesFront _ _) c.two_bytes.ensures failed))))) c.hand-3.ensures.front

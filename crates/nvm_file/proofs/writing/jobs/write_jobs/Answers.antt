@@ -1,7 +1,9 @@
-use Rattle.std.proofs.Common.{◌≡◌, ◌+◌, ◌++◌, length, take, arith}
+use Rattle.std.proofs.Common.{◌≡◌, ◌+◌, ◌++◌, length, take, subst, arith}
 use Rattle.std.specs.List.{flat_map}
+use Rattle.std.proofs.lemmas.List.Elements.{All-more}
 use Rattle.std.proofs.lemmas.Grind.{common_steps}
 use Rattle.byteorder.specs.Endian.{little_bytes}
+use Rattle.nvm_file.specs.Fits.{JobFits}
 use Rattle.nvm_file.specs.JobSpelling.{job_bytes}
 use Rattle.nvm_file.proofs.Taking.{within, loop_front, loop_next}
 use Rattle.nvm_file.proofs.writing.jobs.write_jobs.Goals as goal
@@ -19,7 +21,7 @@ returns-in_err-write_job-clause-front g c =
     let item = job_bytes c.job-item.result in
     let next : flat_map job_bytes (take (i + 1) jobs) ≡ flat_map job_bytes (take i jobs) ++ item = grind (arith, common_steps) in
     loop_front c.from_residual-in_err-write_job.result job_bytes jobs i _ _ _ (little_bytes 4 (length jobs)) item next
-    c.loop-job.invariant c.in_err-write_job.ensures.front
+    c.loop-job.invariant.written c.in_err-write_job.ensures.front
 
 pub loop-job-preserved : goal.loop-job-preserved
 loop-job-preserved g c =
@@ -27,4 +29,7 @@ loop-job-preserved g c =
     let i = c.loop-job.job-index in
     let item = job_bytes c.job-item.result in
     let next : flat_map job_bytes (take (i + 1) jobs) ≡ flat_map job_bytes (take i jobs) ++ item = grind (arith, common_steps) in
-    loop_next job_bytes jobs i _ _ _ (little_bytes 4 (length jobs)) item next c.loop-job.invariant c.in_ok-write_job.ensures.whole
+    record {
+      written = loop_next job_bytes jobs i _ _ _ (little_bytes 4 (length jobs)) item next c.loop-job.invariant.written c.in_ok-write_job.ensures.whole;
+      fit = All-more JobFits jobs i c.job-item.result c.loop-job-test.true c.loop-job.invariant.fit (subst JobFits c.job-item.is c.in_ok-write_job.ensures.fits);
+    }

@@ -1,9 +1,9 @@
 use Rattle.std.proofs.lemmas.Result.{err_from_is_err_and}
-use Rattle.nvm_file.specs.Rest.{left_of}
+use Rattle.nvm_file.specs.Inside.Rest.{left_of}
 use Rattle.nvm_file.specs.EntryReading.{range_in}
 use Rattle.nvm_file.specs.Fields.{items_at}
 use Rattle.nvm_file.proofs.ItemLoops.{begins, goes_on, ends, is_done}
-use Rattle.nvm_file.proofs.entry.ranges_of.Goals as goal
+use Rattle.nvm_file.proofs.act.ranges_of.Goals as goal
 
 pub loop-init : goal.loop-init
 loop-init c = rw c.in_ok-ranges.ensures.items (begins (λ _. range_in c.args.total c.args.place.now) c.args.count (left_of c.args.from))

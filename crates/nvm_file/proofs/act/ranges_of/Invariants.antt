@@ -1,8 +1,8 @@
-use Rattle.nvm_file.specs.Rest.{left_of}
+use Rattle.nvm_file.specs.Inside.Rest.{left_of}
 use Rattle.nvm_file.specs.EntryReading.{range_in}
 use Rattle.nvm_file.specs.Fields.{items_at}
 use Rattle.nvm_file.proofs.ItemLoops.{GoesOn}
-use Rattle.nvm_file.proofs.entry.ranges_of.Given as goal
+use Rattle.nvm_file.proofs.act.ranges_of.Given as goal
 
 abbrev pub invariant-loop : goal.invariant-loop
 invariant-loop l =
