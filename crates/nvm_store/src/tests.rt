@@ -19,7 +19,7 @@ fn size() -> Result<BlockSize, Fail>
     Ok(size)
 }
 
-/// A block of this byte. A byte that is handed in costs the prover less than an array that is spelled out.
+/// A block of this byte.
 fn block(byte: u8) -> [u8; BLOCK] {
     [byte; BLOCK]
 }
