@@ -18,3 +18,8 @@ fn size() -> Result<BlockSize, Fail>
     let size = BlockSize::new(512).ok_or("no block has 512 bytes")?;
     Ok(size)
 }
+
+/// A block of this byte.
+fn block(byte: u8) -> [u8; BLOCK] {
+    [byte; BLOCK]
+}

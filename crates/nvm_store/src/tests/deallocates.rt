@@ -1,13 +1,9 @@
 //! What a Deallocate clears, keeps and copies.
-use super::{BLOCK, size};
+use super::{BLOCK, block, size};
 use crate::{Act, ActRef, Look, UnitBlocks, judge, judge_look};
 use nvm_record::{LbaRange, Payload, PayloadRef, Status, ranges_data};
 use std::alloc::Global;
 use std::test::Fail;
-
-const ZEROES: [u8; BLOCK] = [0; BLOCK];
-
-const ONES: [u8; BLOCK] = [1; BLOCK];
 
 /// The data of the ranges, each given by its first LBA and its number of blocks.
 fn data_of(alloc: Global, ranges: &[(u64, u32)]) -> Result<Payload, Fail> {
@@ -41,26 +37,41 @@ fn change(alloc: Global, unit: &mut UnitBlocks, act: ActRef<'_>) -> Result<(), F
     Ok(unit.change(alloc, act)?)
 }
 
-/// Whether the block at the LBA has these bytes.
-fn has(unit: &UnitBlocks, first: u64, bytes: &[u8]) -> bool {
+/// Whether all bytes of the block at the LBA are this one.
+fn has(unit: &UnitBlocks, first: u64, byte: u8) -> bool {
     let look = Look::Compare {
         first,
         blocks: 1,
-        payload: bytes,
+        payload: &block(byte),
     };
     unit.covers_look(look) && judge_look(unit, look) == Status::SUCCESSFUL_COMPLETION
 }
 
-/// The 8 blocks from LBA 8, all of which have bytes of 1, but for two that are marked.
-fn ones(alloc: Global) -> Result<UnitBlocks, Fail> {
-    let payload = Payload::copy_of(alloc, &[1; 8 * BLOCK])?;
-    let mut unit = UnitBlocks::zeroed(alloc, 8, 8, size()?)?;
+/// Whether all bytes of the blocks at these LBAs are this one.
+fn all_have(unit: &UnitBlocks, lbas: &[u64], byte: u8) -> bool {
+    for first in lbas {
+        if !has(unit, *first, byte) {
+            return false;
+        }
+    }
+    true
+}
+
+/// Writes this byte to all of the 8 blocks from LBA 8.
+fn write_all(alloc: Global, unit: &mut UnitBlocks, byte: u8) -> Result<(), Fail> {
+    let payload = Payload::copy_of(alloc, &[byte; 8 * BLOCK])?;
     let write = ActRef::Write {
         first: 8,
         blocks: 8,
         payload: payload.lend(),
     };
-    change(alloc, &mut unit, write)?;
+    change(alloc, unit, write)
+}
+
+/// The 8 blocks from LBA 8, all of which have bytes of 1, but for two that are marked.
+fn ones(alloc: Global) -> Result<UnitBlocks, Fail> {
+    let mut unit = UnitBlocks::zeroed(alloc, 8, 8, size()?)?;
+    write_all(alloc, &mut unit, 1)?;
     let mark = ActRef::Uncorrectable {
         first: 10,
         blocks: 2,
@@ -85,10 +96,8 @@ fn what_the_ranges_have_is_cleared(rt: HostRuntime) -> Result<(), Fail> {
     let mut unit = ones(rt.alloc())?;
     let ranges = data_of(rt.alloc(), &RANGES)?;
     change(rt.alloc(), &mut unit, deallocate(ranges.lend()))?;
-    for first in [8, 9, 10, 11, 12, 14, 15] {
-        assert!(rt; has(&unit, first, &ZEROES));
-    }
-    assert!(rt; has(&unit, 13, &ONES));
+    assert!(rt; all_have(&unit, &[8, 9, 10, 11, 12, 14, 15], 0));
+    assert!(rt; has(&unit, 13, 1));
     Ok(())
 }
 
@@ -100,28 +109,35 @@ fn keeps(act: &Act, bytes: &[u8]) -> bool {
     }
 }
 
+/// The Deallocate that owns the ranges.
+fn owned(alloc: Global, ranges: &[(u64, u32)]) -> Result<Act, Fail> {
+    let ranges = data_of(alloc, ranges)?;
+    Ok(deallocate(ranges.lend()).to_act(alloc)?)
+}
+
+/// Whether the act is the Deallocate of the ranges.
+fn is_of(alloc: Global, act: &Act, ranges: &[(u64, u32)]) -> Result<bool, Fail> {
+    let ranges = data_of(alloc, ranges)?;
+    Ok(deallocate(ranges.lend()).is(act))
+}
+
 #[test]
 fn an_act_has_its_ranges_cut(rt: HostRuntime) -> Result<(), Fail> {
-    let ranges = data_of(rt.alloc(), &RANGES)?;
-    let cut = data_of(rt.alloc(), &[(11, 2), (9, 3), (14, 2), (8, 1)])?;
-    let turned = data_of(rt.alloc(), &[(9, 3), (11, 2), (14, 2), (8, 1)])?;
-    let fewer = data_of(rt.alloc(), &[(11, 2), (9, 3), (14, 2)])?;
-    let act = deallocate(ranges.lend()).to_act(rt.alloc())?;
-    for (lent, is_same) in [
-        (&ranges, true),
-        (&cut, true),
-        (&turned, false),
-        (&fewer, false),
-    ] {
-        assert_eq!(rt; deallocate(lent.lend()).is(&act), is_same);
-    }
+    let act = owned(rt.alloc(), &RANGES)?;
+    let cut = [(11, 2), (9, 3), (14, 2), (8, 1)];
+    assert!(rt; is_of(rt.alloc(), &act, &RANGES)?);
+    assert!(rt; is_of(rt.alloc(), &act, &cut)?);
+    let turned = [(9, 3), (11, 2), (14, 2), (8, 1)];
+    assert!(rt; !is_of(rt.alloc(), &act, &turned)?);
+    assert!(rt; !is_of(rt.alloc(), &act, &cut[..3])?);
     assert!(rt; act.as_ref().is(&act));
     let zeroes = ActRef::Zeroes {
         first: 8,
         blocks: 8,
     };
     assert!(rt; !zeroes.is(&act));
-    assert!(rt; keeps(&act, cut.as_slice()));
+    let kept = data_of(rt.alloc(), &cut)?;
+    assert!(rt; keeps(&act, kept.as_slice()));
     Ok(())
 }
 
@@ -143,22 +159,28 @@ fn no_block_of_the_unit_is_not_covered(rt: HostRuntime) -> Result<(), Fail> {
     Ok(())
 }
 
+/// Does the Deallocate of these ranges, and says whether memory was there.
+fn deallocates(alloc: Global, unit: &mut UnitBlocks, ranges: &[(u64, u32)]) -> Result<bool, Fail> {
+    let ranges = data_of(alloc, ranges)?;
+    let act = deallocate(ranges.lend());
+    if !unit.covers(act) {
+        return Err(Fail::new("the unit doesn't cover the act"));
+    }
+    if !judge(unit, act).is_success() {
+        return Err(Fail::new("the act fails"));
+    }
+    Ok(unit.change(alloc, act).is_ok())
+}
+
 #[test]
 fn where_memory_is_refused_all_is_as_it_was(rt: HostRuntime) -> Result<(), Fail> {
     let mut unit = ones(rt.alloc())?;
     let before = unit.share()?;
-    let ranges = data_of(rt.alloc(), &[(14, 2), (8, 2)])?;
-    let act = deallocate(ranges.lend());
-    assert!(rt; unit.covers(act));
-    assert!(rt; judge(&unit, act).is_success());
-    let left = unit.change(rt.alloc(), act).is_err();
-    for first in [8, 9, 14, 15] {
-        assert!(rt; has(&unit, first, if left { &ONES } else { &ZEROES }));
-        assert!(rt; has(&before, first, &ONES));
-    }
-    for first in [12, 13] {
-        assert!(rt; has(&unit, first, &ONES));
-    }
-    assert!(rt; !has(&unit, 10, &ZEROES));
+    let cleared = deallocates(rt.alloc(), &mut unit, &[(14, 2), (8, 2)])?;
+    let byte = if cleared { 0 } else { 1 };
+    assert!(rt; all_have(&unit, &[8, 9, 14, 15], byte));
+    assert!(rt; all_have(&before, &[8, 9, 14, 15], 1));
+    assert!(rt; all_have(&unit, &[12, 13], 1));
+    assert!(rt; !has(&unit, 10, 0));
     Ok(())
 }

@@ -2,9 +2,9 @@ ghost use Rattle.std.specs.Prelude.{OnOk};
 ghost use Rattle.nvm_store.specs.History.{IsLawfulHistory};
 ghost use Rattle.nvm_store.specs.Place.{place_at};
 
-use super::{BLOCK, size};
+use super::{BLOCK, block, size};
 use crate::laws::{acts_and_looks, lawful_with_one_more};
-use crate::{ActRef, Entry, History, Look, judge, judge_look, replay};
+use crate::{ActRef, Entry, History, Look, UnitBlocks, judge, judge_look, replay};
 use nvm_record::{BlockSize, LbaRange, Payload, Status, ranges_data};
 use std::alloc::Global;
 use std::test::Fail;
@@ -32,32 +32,64 @@ fn push(alloc: Global, size: BlockSize, history: &mut History, act: ActRef<'_>) 
     Ok(())
 }
 
-/// A Write of two blocks.
-fn write_at(first: u64, payload: &Payload) -> ActRef<'_> {
-    ActRef::Write {
+/// Adds a Write of two blocks of this byte.
+fn push_write(
+    alloc: Global,
+    size: BlockSize,
+    history: &mut History,
+    first: u64,
+    byte: u8,
+) -> Result<(), Fail>
+    requires { IsLawfulHistory (place_at 8 4 size) history.old.items }
+    ensures { OnOk result (IsLawfulHistory (place_at 8 4 size) history.new.items) }
+{
+    let payload = Payload::copy_of(alloc, &[byte; 2 * BLOCK])?;
+    let write = ActRef::Write {
         first,
         blocks: 2,
         payload: payload.lend(),
-    }
+    };
+    push(alloc, size, history, write)
+}
+
+/// Adds the Deallocate of the range on all 4 blocks.
+fn push_deallocate(
+    alloc: Global,
+    size: BlockSize,
+    history: &mut History,
+    range: LbaRange,
+) -> Result<(), Fail>
+    requires { IsLawfulHistory (place_at 8 4 size) history.old.items }
+    ensures { OnOk result (IsLawfulHistory (place_at 8 4 size) history.new.items) }
+{
+    let ranges = ranges_data(alloc, &[range])?;
+    let deallocate = ActRef::Deallocate {
+        first: 8,
+        blocks: 4,
+        ranges: ranges.lend(),
+    };
+    push(alloc, size, history, deallocate)
+}
+
+/// Whether all bytes of the block at the LBA are this one.
+fn has(unit: &UnitBlocks, first: u64, byte: u8) -> bool {
+    let look = Look::Compare {
+        first,
+        blocks: 1,
+        payload: &block(byte),
+    };
+    unit.covers_look(look) && judge_look(unit, look) == Status::SUCCESSFUL_COMPLETION
 }
 
 #[test]
 fn replay_does_the_entries_in_order(rt: HostRuntime) -> Result<(), Fail> {
     let size = size()?;
     let mut history = Vec::new(rt.alloc());
-    for (first, byte) in [(8, 1), (9, 2)] {
-        let payload = Payload::copy_of(rt.alloc(), &[byte; 2 * BLOCK])?;
-        push(rt.alloc(), size, &mut history, write_at(first, &payload))?;
-    }
+    push_write(rt.alloc(), size, &mut history, 8, 1)?;
+    push_write(rt.alloc(), size, &mut history, 9, 2)?;
     let unit = replay(rt.alloc(), 8, 4, size, &history)?;
     for (first, byte) in [(8, 1), (9, 2), (10, 2), (11, 0)] {
-        let look = Look::Compare {
-            first,
-            blocks: 1,
-            payload: &[byte; BLOCK],
-        };
-        assert!(rt; unit.covers_look(look));
-        assert_eq!(rt; judge_look(&unit, look), Status::SUCCESSFUL_COMPLETION);
+        assert!(rt; has(&unit, first, byte), "at {first}");
     }
     Ok(())
 }
@@ -66,28 +98,15 @@ fn replay_does_the_entries_in_order(rt: HostRuntime) -> Result<(), Fail> {
 fn replay_clears_what_was_deallocated(rt: HostRuntime) -> Result<(), Fail> {
     let size = size()?;
     let mut history = Vec::new(rt.alloc());
-    let payload = Payload::copy_of(rt.alloc(), &[1; 2 * BLOCK])?;
-    push(rt.alloc(), size, &mut history, write_at(8, &payload))?;
+    push_write(rt.alloc(), size, &mut history, 8, 1)?;
     let range = LbaRange {
         first: 0,
         blocks: 9,
     };
-    let ranges = ranges_data(rt.alloc(), &[range])?;
-    let deallocate = ActRef::Deallocate {
-        first: 8,
-        blocks: 4,
-        ranges: ranges.lend(),
-    };
-    push(rt.alloc(), size, &mut history, deallocate)?;
+    push_deallocate(rt.alloc(), size, &mut history, range)?;
     let unit = replay(rt.alloc(), 8, 4, size, &history)?;
     for (first, byte) in [(8, 0), (9, 1), (10, 0)] {
-        let look = Look::Compare {
-            first,
-            blocks: 1,
-            payload: &[byte; BLOCK],
-        };
-        assert!(rt; unit.covers_look(look));
-        assert_eq!(rt; judge_look(&unit, look), Status::SUCCESSFUL_COMPLETION);
+        assert!(rt; has(&unit, first, byte), "at {first}");
     }
     Ok(())
 }
