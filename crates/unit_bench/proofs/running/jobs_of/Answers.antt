@@ -1,4 +1,4 @@
-use Rattle.std.proofs.Common.{◌≡◌, ℕ, ◌*◌, ◌≤◌, List, [], ◌∷◌, length, get_or, All, arith, sym, subst}
+use Rattle.std.proofs.Common.{ℕ, ◌*◌, ◌≤◌, List, [], ◌∷◌, length, get_or, All, arith, sym, subst}
 use Rattle.std.proofs.lemmas.List.Elements.{All-from_recursion}
 use Rattle.nvm_record.specs.Entry.{IsWhole}
 use Rattle.nvm_record.specs.declared.command.Command.{Command}
