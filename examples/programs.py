@@ -19,7 +19,7 @@ from host_files import Asked, compare, dataset, file_of, read, uncorrectable, un
 from outs import outs_of_nvmu, outs_of_nvq, shown_nowhere
 from rows import rows
 from runs import runs
-from words import files_of_nvmu, files_that_stop, several_workers, words_of_nvmu
+from words import SEVERAL, files_of_nvmu, files_that_stop, several_workers, words_of_nvmu
 
 # Stands for a text that isn't empty: clap words its own.
 SOME = object()
@@ -138,8 +138,10 @@ dataset 7+2
 compare 0 2 63*01,64*02,65*03,128*07,129*08,1*09,574*0a
 """
 
-BENCH = "unit_bench: expected unit or mutex, 1 to 1024 units, 1 to 63 threads, 1 to 4194304 changes, 1 to 65536 blocks\n"
+BENCH = "unit_bench: expected unit or mutex, 1 to 1024 units, 1 to 63 threads, 1 to 4194304 changes, 1 to 65536 blocks, "
+BENCH += "or run, 0 to 65535 for the boundary, 1 to 64 workers, a host file\n"
 NO_BENCH = ["", "unit 1 1 1", "unit 1 1 1 1 1", "lock 1 1 1 1", "unit 0 1 1 1", "unit 1025 1 1 1", "unit 1 64 1 1"]
+NO_BENCH += ["run 0 0 file", "run 0 65 file", "run 65536 1 file", "run 1 1 file", "run 0 1", "run 0 1 file 1"]
 NO_BENCH += ["unit 1 1 4194305 1", "unit 1 1 1 65537", "unit 1 1 1 x", "unit 1 1 0 1", "mutex 1 0 1 1", "mutex 1 1 1 0"]
 BENCHES = ["unit 2 3 101 5", "mutex 2 3 101 5", "unit 1 1 1 1", "mutex 1024 63 1 1", "mutex 1 1 1 65536"]
 
@@ -245,6 +247,14 @@ def words_of_unit_bench(run):
         run.expect(["unit_bench", *given.split()], 1, err=BENCH)
     for given in BENCHES:
         run.expect(["unit_bench", *given.split()], out=f"changes {given.split()[3]}\n", err=SOME)
+    commands = [command for commands, _lines in SEVERAL.values() for command in commands(0)]
+    run.keep("measured", file_of(commands))
+    for boundary in (0, 15):
+        for workers in (1, 2, 64):
+            run.expect(["unit_bench", "run", str(boundary), str(workers), "measured"], out=f"jobs {len(SEVERAL)}\n", err=SOME)
+    run.keep("no-file", b"NVQ2")
+    for name in ("absent", "no-file"):
+        run.expect(["unit_bench", "run", "0", "1", name], 1, err="unit_bench: no host file\n")
 
 
 TABLES = [lists, words_of_nvq, outs_of_nvq, words_of_nvmu, files_of_nvmu, files_that_stop, several_workers]

@@ -1,1 +1,2 @@
 mod Newcomers
+mod Reading

@@ -1,2 +1,3 @@
 -- What only the program itself cites.
+pub mod Runs
 pub mod Words

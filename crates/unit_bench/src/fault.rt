@@ -8,7 +8,7 @@ use thiserror::Error;
 #[derive(Clone, Copy, Debug, Error)]
 pub enum Fault {
     /// The words aren't what is expected.
-    #[error("unit_bench: expected unit or mutex, 1 to 1024 units, 1 to 63 threads, 1 to 4194304 changes, 1 to 65536 blocks")]
+    #[error("unit_bench: expected unit or mutex, 1 to 1024 units, 1 to 63 threads, 1 to 4194304 changes, 1 to 65536 blocks, or run, 0 to 65535 for the boundary, 1 to 64 workers, a host file")]
     Words,
     /// A change was refused for another reason than memory.
     #[error("unit_bench: a change was refused")]
@@ -16,6 +16,9 @@ pub enum Fault {
     /// The units have other changes than those that were asked for.
     #[error("unit_bench: the units have other changes")]
     OtherChanges,
+    /// The host file can't be read, or isn't one.
+    #[error("unit_bench: no host file")]
+    NoHostFile,
     /// The clock couldn't be read.
     #[error("unit_bench: no clock")]
     NoClock,

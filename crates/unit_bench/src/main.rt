@@ -1,10 +1,12 @@
-//! The program `unit_bench`: has blocks changed by threads, in shared units or behind mutexes, and says how long
-//! it took.
+//! The program `unit_bench`: has blocks changed by threads, in shared units or behind mutexes, or the jobs of a host file done by
+//! workers, and says how long it took.
 #![tactic(auto)]
 
 mod fault;
 mod measuring;
 mod mutex_writer;
+mod run_words;
+mod running;
 mod share;
 mod unit_writer;
 mod words;
@@ -13,15 +15,18 @@ mod writer;
 use crate::fault::Fault;
 use crate::measuring::{Measured, measure};
 use crate::mutex_writer::MutexWriter;
+use crate::run_words::{is_run, read_run_words};
+use crate::running::{MeasuredRun, measure_run};
 use crate::unit_writer::UnitWriter;
 use crate::words::{Target, read_words};
+use nvm_record::Payload;
 use std::io::ErrorKind;
 use std::process::ExitCode;
-use std::rt::{Clock, Env};
+use std::rt::{Clock, Env, Files};
 use std::sync::Wait;
 use std::thread::Threads;
 use std::time::CpuClock;
-use std::{env, io};
+use std::{env, fs, io};
 
 fn main(rt: HostRuntime) -> ExitCode {
     match run(&rt) {
@@ -33,9 +38,8 @@ fn main(rt: HostRuntime) -> ExitCode {
     }
 }
 
-/// Measures what the words of the command line ask for, and prints the number of changes on standard output, and
-/// the nanoseconds that they took on standard error: by the wall's clock, and of processor time.
-fn run<R: AllocGlobal + Env + Print + Eprint + Threads + Wait + Sync + Clock + CpuClock>(
+/// Measures what the words of the command line ask for.
+fn run<R: AllocGlobal + Env + Files + Print + Eprint + Threads + Wait + Sync + Clock + CpuClock>(
     rt: &R,
 ) -> Result<(), Fault> {
     let words = match words_given(rt) {
@@ -43,7 +47,20 @@ fn run<R: AllocGlobal + Env + Print + Eprint + Threads + Wait + Sync + Clock + C
         Err(error) if error.kind() == ErrorKind::OutOfMemory => return Err(Fault::NoMemory),
         Err(_) => return Err(Fault::Words),
     };
-    let asked = read_words(words.as_slice())?;
+    if is_run(words.as_slice()) {
+        show_run(rt, words.as_slice())
+    } else {
+        show_changes(rt, words.as_slice())
+    }
+}
+
+/// Prints the number of changes on standard output, and the nanoseconds that they took on standard error: by the wall's clock, and of
+/// processor time.
+fn show_changes<R: AllocGlobal + Print + Eprint + Threads + Wait + Sync + Clock + CpuClock>(
+    rt: &R,
+    words: &[String],
+) -> Result<(), Fault> {
+    let asked = read_words(words)?;
     let measured = match asked.target {
         Target::Unit => measure::<UnitWriter, R>(rt, rt.alloc(), &asked)?,
         Target::Mutex => measure::<MutexWriter, R>(rt, rt.alloc(), &asked)?,
@@ -55,6 +72,32 @@ fn run<R: AllocGlobal + Env + Print + Eprint + Threads + Wait + Sync + Clock + C
     } = measured;
     let (wall, processor) = (wall.as_nanos(), processor.as_nanos());
     println!(rt; "changes {changes}").map_err(|_| Fault::Unwritten)?;
+    eprintln!(rt; "{wall} {processor}").map_err(|_| Fault::Unwritten)?;
+    Ok(())
+}
+
+/// Prints the number of jobs on standard output, and what their run took on standard error, as [`show_changes`] does.
+fn show_run<R: AllocGlobal + Files + Print + Eprint + Threads + Wait + Sync + Clock + CpuClock>(
+    rt: &R,
+    words: &[String],
+) -> Result<(), Fault> {
+    let asked = read_run_words(words)?;
+    let [_, _, _, path] = words else {
+        return Err(Fault::Words);
+    };
+    let bytes = match fs::read(rt, path.as_str()) {
+        Ok(bytes) => bytes,
+        Err(error) if error.kind() == ErrorKind::OutOfMemory => return Err(Fault::NoMemory),
+        Err(_) => return Err(Fault::NoHostFile),
+    };
+    let file = Payload::new(rt.alloc(), bytes)?;
+    let MeasuredRun {
+        jobs,
+        wall,
+        processor,
+    } = measure_run(rt, rt.alloc(), &asked, &file)?;
+    let (wall, processor) = (wall.as_nanos(), processor.as_nanos());
+    println!(rt; "jobs {jobs}").map_err(|_| Fault::Unwritten)?;
     eprintln!(rt; "{wall} {processor}").map_err(|_| Fault::Unwritten)?;
     Ok(())
 }

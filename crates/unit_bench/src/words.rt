@@ -35,10 +35,10 @@ pub fn read_words(words: &[String]) -> Result<Asked, Fault>
     };
     Ok(Asked {
         target: target_of(target.as_str())?,
-        units: number_of(units.as_str(), 1024)?,
-        threads: number_of(threads.as_str(), 63)?,
-        changes: number_of(changes.as_str(), 4_194_304)?,
-        blocks: number_of(blocks.as_str(), 65_536)?,
+        units: number_of(units.as_str(), 1, 1024)?,
+        threads: number_of(threads.as_str(), 1, 63)?,
+        changes: number_of(changes.as_str(), 1, 4_194_304)?,
+        blocks: number_of(blocks.as_str(), 1, 65_536)?,
     })
 }
 
@@ -51,12 +51,12 @@ fn target_of(word: &str) -> Result<Target, Fault> {
     }
 }
 
-/// The number from 1 to `most` that the word spells.
-fn number_of(word: &str, most: u32) -> Result<u32, Fault>
-    ensures { IfOk result (λ n. (1 ≤ n) × (n ≤ most)) }
+/// The number from `least` to `most` that the word spells.
+pub fn number_of(word: &str, least: u32, most: u32) -> Result<u32, Fault>
+    ensures { IfOk result (λ n. (least ≤ n) × (n ≤ most)) }
 {
     match word.parse::<u32>() {
-        Ok(number) if 1 <= number && number <= most => Ok(number),
+        Ok(number) if least <= number && number <= most => Ok(number),
         _ => Err(Fault::Words),
     }
 }
