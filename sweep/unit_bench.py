@@ -37,7 +37,7 @@ def runs(folder):
         return Measuring(" ".join(words), "unit_bench", words, out=f"changes {changes}\n", threads=threads)
 
     line = "unit_bench: expected unit or mutex, 1 to 1024 units, 1 to 63 threads, 1 to 4194304 changes, 1 to 65536 blocks, "
-    line += "or run, 0 to 65535 for the boundary, 1 to 64 workers, a host file\n"
+    line += "or run, 0 or 15 to 65535 for the boundary, 1 to 64 workers, a host file\n"
     return [
         *(measuring(target, 2, threads, 7, 3) for target in ("unit", "mutex") for threads in (1, 3)),
         Run("other words", "unit_bench", ["lock", "1", "1", "1", "1"], 1, err=line),

@@ -1,5 +1,5 @@
--- The faults of a run, in the order in which they are looked for: the number of files, the options, the
--- files by their hosts' numbers.
+-- The program's faults for those of files; and the faults of a run, in the order in which they are looked for: the number of files,
+-- the options, the files by their hosts' numbers.
 use Rattle.std.specs.Prelude.{◌≡◌, ◌⊎◌, ℕ, ◌+◌, ◌≤◌, ◌<◌, List, [], ◌∷◌, length}
 use Rattle.nvm_record.specs.HostFile.{IsHostFileFault, IsHostFile}
 use Rattle.nvm_record.specs.declared.command.Command.{Command}

@@ -29,8 +29,8 @@ pub fn each_job_is_done_once()
         → IsClaims jobs s → 0 < length s.lists → HaveEnded jobs dones s.lists → AreDoneOnce jobs dones }
 {}
 
-/// A record that is gathered from what the workers did by their ports, and from the histories with which the units of
-/// their space end, is lawful.
+/// A record that is gathered from what the workers did by their ports, and from the histories with which the units of their space
+/// end, is lawful. The space is one that there can be, with a port for each worker, and the jobs fit its namespace.
 pub fn gathered_records_are_lawful()
     ensures { (s : SpaceName) (ports : List PortState) (r : RecordView) → IsGathered s ports r → IsLawfulRecord r }
 {

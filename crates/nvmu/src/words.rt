@@ -1,5 +1,4 @@
 ghost use Rattle.std.specs.Prelude.{◌≡◌, IfOk, IfSome, length};
-ghost use Rattle.nvm_engine.specs.Settings.{AreInRange};
 ghost use Rattle.nvmu.specs.Words.{IsAsked};
 
 use clap::builder::ValueParser;
@@ -146,9 +145,7 @@ fn owned(alloc: Global, texts: &[&str]) -> Result<Vec<String>, AllocError>
 }
 
 /// The options that are numbers.
-fn settings_of(run: &ArgMatches<'_>) -> Option<Settings>
-    ensures { IfSome result AreInRange }
-{
+fn settings_of(run: &ArgMatches<'_>) -> Option<Settings> {
     let workers = Workers::new(run.get_one::<u16>("workers")?)?;
     let limit = Limit::new(run.get_one::<u32>("limit")?)?;
     Some(Settings {

@@ -22,7 +22,7 @@ use std::sync::Wait;
 use std::thread::Threads;
 use std::time::{CpuClock, Duration, Instant};
 
-/// A unit's history may have so many entries.
+/// A unit's history may have so many entries: as many as a host file has commands, so none is full.
 const MOST_ENTRIES: u32 = 65_536;
 
 /// A run, and what it took.
@@ -47,7 +47,9 @@ pub fn measure_run<R: Threads + Wait + Sync + Clock + CpuClock>(
     ensures { IfOk result (λ m. (jobs : List Job) × IsOfFile asked.now.geometry.block_size file.now jobs × (m.jobs ≡ length jobs)) }
 {
     let jobs = jobs_of(alloc, asked.geometry.block_size(), file)?;
-    let limit = Limit::new(MOST_ENTRIES).ok_or(Fault::Refused)?;
+    let Some(limit) = Limit::new(MOST_ENTRIES) else {
+        unreachable!("there is such a limit")
+    };
     let begin = Instant::now(rt).map_err(|_| Fault::NoClock)?;
     let before = rt.process_cpu_time().map_err(|_| Fault::NoClock)?;
     let ran = run(rt, alloc, asked.geometry, jobs, asked.workers, limit, &Open);

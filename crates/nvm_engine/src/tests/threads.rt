@@ -106,10 +106,13 @@ fn shown_of_run<R: Threads + Wait + Sync>(rt: &R, alloc: Global) -> Result<Shown
     let Ok(shown) = execute(rt, alloc, &settings(1)?, files.as_slice(), &Open) else {
         return Err(Fail::new("there was no memory"));
     };
-    if shown.text.as_slice() != TEXT.as_slice() {
-        return Err(Fail::new("there was no memory"));
+    if shown.text.as_slice() == TEXT.as_slice() {
+        return Ok(shown);
     }
-    Ok(shown)
+    if shown.text.as_slice().ends_with(b" refused 0\n") {
+        return Err(Fail::new("other lines are shown"));
+    }
+    Err(Fail::new("there was no memory"))
 }
 
 /// The file of that run's record.
