@@ -15,6 +15,5 @@ pub mod JobSpelling
 pub mod EntrySpelling
 pub mod WorkSpelling
 pub mod Spelling
-pub mod Handed
 pub mod Upgrade
 pub mod Inside

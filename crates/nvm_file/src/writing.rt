@@ -1,6 +1,6 @@
 ghost use Rattle.std.specs.Prelude.{OnErr, OnOk};
 ghost use Rattle.std.specs.Io.KnownBytes.{Appends};
-ghost use Rattle.nvm_file.specs.Handed.{TakesFront};
+ghost use Rattle.nvm_write.specs.Handed.{TakesFront};
 ghost use Rattle.nvm_file.specs.Spelling.{record_bytes};
 
 use nvm_audit::Record;
@@ -10,7 +10,6 @@ use std::io::Write;
 mod bytes;
 mod done_jobs;
 mod entries;
-mod handing;
 mod head;
 mod jobs;
 

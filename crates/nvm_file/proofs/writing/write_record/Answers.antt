@@ -3,13 +3,13 @@ use Rattle.std.specs.List.{flat_map}
 use Rattle.nvm_audit.specs.Shown.{shown_by}
 use Rattle.nvm_file.specs.Counted.{counted}
 use Rattle.nvm_file.specs.EntrySpelling.{history_bytes}
-use Rattle.nvm_file.specs.Handed.{TakesFront}
+use Rattle.nvm_write.specs.Handed.{TakesFront}
 use Rattle.nvm_file.specs.HeadSpelling.{head_bytes}
 use Rattle.nvm_file.specs.JobSpelling.{job_bytes}
 use Rattle.nvm_file.specs.Spelling.{record_bytes}
 use Rattle.nvm_file.specs.WorkSpelling.{work_bytes}
 use Rattle.nvm_file.proofs.Lengths.{short_units, short_works}
-use Rattle.nvm_file.proofs.Taking.{behind, first_of, on_err, on_err_then, within}
+use Rattle.nvm_write.proofs.Taking.{behind, first_of, on_err, on_err_then, within}
 use Rattle.nvm_file.proofs.writing.write_record.Goals as goal
 
 pub returns-in_err-write_head-clause-front : goal.returns-in_err-write_head-clause-front

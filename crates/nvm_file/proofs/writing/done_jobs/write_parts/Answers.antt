@@ -2,7 +2,7 @@ use Rattle.std.proofs.Common.{◌≡◌, ◌+◌, [], ◌++◌, take, arith}
 use Rattle.std.specs.List.{flat_map}
 use Rattle.std.proofs.lemmas.Grind.{common_steps}
 use Rattle.nvm_file.specs.WorkSpelling.{part_bytes}
-use Rattle.nvm_file.proofs.Taking.{loop_front}
+use Rattle.nvm_write.proofs.Taking.{loop_front}
 use Rattle.nvm_file.proofs.writing.done_jobs.write_parts.Goals as goal
 
 pub returns-in_err-hand-clause-front : goal.returns-in_err-hand-clause-front
