@@ -7,10 +7,12 @@ use Rattle.nvm_record.specs.declared.host_fault.HostFault.{HostFault}
 use Rattle.nvm_record.specs.declared.host_fault.HostFault.TheVariants as of_file
 use Rattle.nvm_geometry.specs.Faults as numbers
 use Rattle.nvm_plan.specs.Fits.{most_hosts}
+use Rattle.nvm_file.specs.declared.record_fault.RecordFault.{RecordFault}
+use Rattle.nvm_file.specs.declared.record_fault.RecordFault.TheVariants as of_record
 use Rattle.nvm_engine.specs.Settings.{IsNamespace, advertised}
 use Rattle.nvm_engine.specs.declared.settings.Settings.{Settings}
 use Rattle.nvm_engine.specs.declared.fault.Fault.{Fault}
-use Rattle.nvm_engine.specs.declared.fault.Fault.TheVariants.{Geometry, TooManyHosts, HostBadName, HostTruncated, HostTooMany, NoMemory}
+use Rattle.nvm_engine.specs.declared.fault.Fault.TheVariants.{Geometry, TooManyHosts, HostBadName, HostTruncated, HostTooMany, RecordBadName, RecordUnknownVersion, RecordTruncated, RecordTrailing, RecordBadValue, NoMemory}
 
 -- the program's fault for one of a host's file
 abbrev pub fault_of_host : ℕ → HostFault → Fault
@@ -18,6 +20,15 @@ fault_of_host host of_file.BadName = HostBadName host
 fault_of_host host (of_file.Truncated at) = HostTruncated host at
 fault_of_host host of_file.TooMany = HostTooMany host
 fault_of_host host of_file.NoMemory = NoMemory
+
+-- the program's fault for one of a record's file
+abbrev pub fault_of_record : RecordFault → Fault
+fault_of_record of_record.BadName = RecordBadName
+fault_of_record of_record.Version = RecordUnknownVersion
+fault_of_record (of_record.Truncated at) = RecordTruncated at
+fault_of_record (of_record.Trailing at) = RecordTrailing at
+fault_of_record (of_record.BadValue at) = RecordBadValue at
+fault_of_record of_record.NoMemory = NoMemory
 
 -- The first fault of the options.
 abbrev pub IsGeometryFault : Settings → Fault → Type 0

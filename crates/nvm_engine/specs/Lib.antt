@@ -2,5 +2,8 @@ pub mod Settings
 pub mod Fault
 pub mod Lines
 pub mod RecordLines
+pub mod VerdictLine
+pub mod Printed
 pub mod Shown
+pub mod Judged
 pub mod Inside

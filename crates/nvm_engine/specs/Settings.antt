@@ -1,15 +1,14 @@
 -- What the options of a run may be, and the namespace that they describe.
-use Rattle.std.specs.Prelude.{◌≤◌}
 use Rattle.nvm_geometry.specs.Faults.{HasNoFault}
 use Rattle.nvm_geometry.specs.Namespace.{Namespace, namespace_of}
+use Rattle.nvm_store.specs.Limit.{IsLimit}
 use Rattle.nvm_run.specs.Counters.{IsWorkerCount}
 use Rattle.nvm_engine.specs.declared.settings.Settings.{Settings}
 
 -- What the options --workers and --limit take.
 pub record AreInRange (s : Settings) : Type 0 where
   pub workers : IsWorkerCount s.workers
-  pub limit : 1 ≤ s.limit
-  pub limit_end : s.limit ≤ 65536
+  pub limit : IsLimit s.limit
 
 -- the numbers that the options give the namespace
 abbrev pub advertised : Settings → Namespace

@@ -13,7 +13,6 @@ ghost use Rattle.nvm_engine.specs.Settings.{IsNamespace, advertised};
 ghost use Rattle.nvm_engine.specs.Shown.{AreHostFiles, IsShown};
 
 use crate::fault::Fault;
-use crate::record_text::text_of;
 use crate::settings::Settings;
 use crate::shown::Shown;
 use nvm_audit::Record;
@@ -28,8 +27,7 @@ use std::sync::Wait;
 use std::thread::Threads;
 
 /// Does the commands of the hosts' files, of which the first is host 1's, on a namespace of zero bytes by as many workers as
-/// the settings say, and says what to show: for each command the line of its completion, in the order of the jobs and not in
-/// that of the workers. The lines are those of the run's record, which is lawful.
+/// the settings say, and says what to show: the run's record, which is lawful, and its text with the verdict of an audit.
 ///
 /// The gate is told of the course of the jobs. A job that finds no memory ends with 0/06 and has its lines as any other; a pair
 /// ends with 0/06 and 0/09 before its part, and with 0/00 and 0/06 in it.
@@ -43,7 +41,7 @@ pub fn execute<R: Threads + Wait + Sync, G: Gate + Sync>(
     files: &[Payload],
     gate: &G,
 ) -> Result<Shown, Fault>
-    // What is shown is the text of the record of a run of the files' commands, with status 0.
+    // What is shown is the record of a run of the files' commands.
     ensures shown { IfOk result (IsShown settings.now files.now) }
     ensures fault { IfErr result (IsFirstRunFault settings.now files.now) }
 {
@@ -54,12 +52,8 @@ pub fn execute<R: Threads + Wait + Sync, G: Gate + Sync>(
     let hosts = hosts_of(alloc, geometry.block_size(), files)?;
     let jobs = jobs_of(alloc, hosts)?;
     let record = record_of(rt, alloc, geometry, settings, jobs, gate)?;
-    let text = text_of(alloc, &record)?;
-    Ok(Shown {
-        text: text.into_bytes(),
-        rec: None,
-        status: 0,
-    })
+    let shown = Shown::of_record(rt, alloc, record)?;
+    Ok(shown)
 }
 
 /// The geometry, where the settings describe a namespace.

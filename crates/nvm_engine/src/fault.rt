@@ -1,7 +1,8 @@
 ghost use Rattle.std.specs.Prelude.{◌≡◌};
 ghost use Rattle.nvm_engine.specs.declared.fault.Fault.TheVariants.{NoMemory};
-ghost use Rattle.nvm_engine.specs.Fault.{fault_of_host};
+ghost use Rattle.nvm_engine.specs.Fault.{fault_of_host, fault_of_record};
 
+use nvm_file::RecordFault;
 use nvm_geometry::GeometryFault;
 use nvm_record::HostFault;
 use std::alloc::{AllocError, AllocFailed};
@@ -46,9 +47,6 @@ pub enum Fault {
     /// The field at offset `at` of the record has a value that isn't allowed.
     #[error("nvmu: record: bad value at {at}")]
     RecordBadValue { at: u64 },
-    /// The run has no record in format 1.
-    #[error("nvmu: record: no version 1")]
-    RecordNoVersion1,
     /// Memory was asked for and refused, outside a command.
     #[error("nvmu: no memory")]
     NoMemory,
@@ -64,6 +62,20 @@ impl Fault {
             HostFault::Truncated { at } => Fault::HostTruncated { host, at },
             HostFault::TooMany => Fault::HostTooMany { host },
             HostFault::NoMemory => Fault::NoMemory,
+        }
+    }
+
+    /// The fault of a record's file.
+    pub fn of_record(fault: RecordFault) -> Fault
+        ensures { result ≡ fault_of_record fault }
+    {
+        match fault {
+            RecordFault::BadName => Fault::RecordBadName,
+            RecordFault::Version => Fault::RecordUnknownVersion,
+            RecordFault::Truncated { at } => Fault::RecordTruncated { at },
+            RecordFault::Trailing { at } => Fault::RecordTrailing { at },
+            RecordFault::BadValue { at } => Fault::RecordBadValue { at },
+            RecordFault::NoMemory => Fault::NoMemory,
         }
     }
 }

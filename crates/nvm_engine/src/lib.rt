@@ -1,12 +1,14 @@
 //! The engine as one call: the bytes of the hosts' files are read, their commands done by workers on a namespace
-//! of zero bytes, and what is recorded of them is shown as text.
+//! of zero bytes, and what is recorded of them is audited and shown.
 //!
-//! [`execute`] is that call. Which numbers describe a namespace and how many workers there are, [`Settings`] says; why
-//! nothing is shown, [`Fault`].
+//! [`execute`] is that call, and [`audit_bytes`] audits a record's file. Which numbers describe a namespace and how many workers
+//! there are, [`Settings`] says; why nothing is shown, [`Fault`]. [`Shown`] and [`Judged`] write their text to a writer.
 #![tactic(auto)]
 
 mod engine;
 mod fault;
+mod judged;
+mod judging;
 pub mod laws;
 mod lines;
 mod record_text;
@@ -15,10 +17,13 @@ mod shown;
 mod standing;
 #[cfg(test)]
 mod tests;
+mod verdict_line;
 mod workers;
 
 pub use engine::execute;
 pub use fault::Fault;
+pub use judged::Judged;
+pub use judging::audit_bytes;
 pub use settings::Settings;
 pub use shown::Shown;
 pub use workers::Workers;

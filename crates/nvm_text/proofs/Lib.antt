@@ -1,4 +1,3 @@
-pub mod Decimals
 pub mod RunLemmas
 pub mod EqualBytes
 pub mod JoinedRuns

@@ -1,13 +1,10 @@
-ghost use Rattle.std.specs.Prelude.{◌≡◌, ◌≢◌, ◌-◌, ◌<◌, ◌≤◌, ◌++◌, ◌∷◌, ℕ, List, IfOk, OnOk, OnErr, codes, if◌then◌else◌, drop, length, slice_index, string_bytes};
+ghost use Rattle.std.specs.Prelude.{◌≡◌, ◌≢◌, ◌<◌, ◌≤◌, ◌++◌, ℕ, List, IfOk, OnOk, OnErr, codes, if◌then◌else◌, length, slice_index};
 ghost use Rattle.std.specs.Io.KnownBytes.{Appends};
 ghost use Rattle.nvm_write.specs.Handed.{TakesFront};
-ghost use Rattle.nvm_text.specs.Kept.{KeepsText};
 ghost use Rattle.nvm_text.specs.Runs.{runs, run_of};
 ghost use Rattle.nvm_text.specs.Lines.{runs_text, run_text};
 
-use crate::number::{push_decimal, push_hex2};
 use crate::piece::Piece;
-use nvm_record::NoMemory;
 use nvm_write::hand;
 use std::io;
 use std::io::Write;
@@ -58,50 +55,6 @@ fn run_piece(count: usize, byte: u8, is_last: bool) -> Piece
     piece.put_byte(b'*');
     piece.put_decimal(count as u64);
     piece
-}
-
-/// Appends the longest runs of equal bytes, `<count>*<byte>` each, joined by commas. Nothing is
-/// appended for no bytes.
-pub fn push_runs(text: &mut String, bytes: &[u8]) -> Result<(), NoMemory>
-    ensures ok { OnOk result
-        (string_bytes text.new ≡ string_bytes text.old ++ runs_text (runs bytes.now)) }
-    ensures err { OnErr result (KeepsText (string_bytes text.old) (string_bytes text.new)) }
-{
-    if bytes.is_empty() {
-        return Ok(());
-    }
-    let mut rest = push_first_run(text, bytes)?;
-    while !rest.is_empty() {
-        text.push_str(",")?;
-        rest = push_first_run(text, rest)?;
-    }
-    Ok(())
-}
-
-/// Appends the first run, and gives the bytes after it.
-fn push_first_run<'a>(text: &mut String, bytes: &'a [u8]) -> Result<&'a [u8], NoMemory>
-    requires { 0 < length bytes.now }
-    ensures ok { IfOk result (λ rest. (count : ℕ) × (0 < count) × (rest.now ≡ drop count bytes.now)
-        × (runs bytes.now ≡ run_of count (slice_index bytes.now 0) ∷ runs rest.now)
-        × (string_bytes text.new
-        ≡ string_bytes text.old ++ run_text (run_of count (slice_index bytes.now 0)))) }
-    ensures err { OnErr result (KeepsText (string_bytes text.old) (string_bytes text.new)) }
-{
-    let count = run_length(bytes);
-    push_run(text, count, bytes[0])?;
-    Ok(&bytes[count..])
-}
-
-/// Appends one run.
-fn push_run(text: &mut String, count: usize, byte: u8) -> Result<(), NoMemory>
-    ensures ok { OnOk result
-        (string_bytes text.new ≡ string_bytes text.old ++ run_text (run_of count byte)) }
-    ensures err { OnErr result (KeepsText (string_bytes text.old) (string_bytes text.new)) }
-{
-    push_decimal(text, count as u64)?;
-    text.push_str("*")?;
-    push_hex2(text, byte)?;
-    Ok(())
 }
 
 /// How many bytes at the front are equal.

@@ -2,8 +2,9 @@
 use Rattle.std.specs.Prelude.{◌≤◌, length}
 use Rattle.nvm_engine.specs.Settings.{AreInRange}
 use Rattle.nvmu.specs.declared.words.Asked.{Asked}
-use Rattle.nvmu.specs.declared.words.Asked.TheVariants.{Run}
+use Rattle.nvmu.specs.declared.words.Asked.TheVariants.{Run, Audit}
 
--- A run with its options in range, of one host file or more.
+-- A run with its options in range, of one host file or more, or the audit of a record.
 abbrev pub IsAsked : Asked → Type 0
 IsAsked (Run settings out files) = AreInRange settings × (1 ≤ length files.items)
+IsAsked (Audit path) = Unit {0}

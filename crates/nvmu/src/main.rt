@@ -1,17 +1,18 @@
 //! The program `nvmu`: reads the words of its command line and the hosts' files, has their commands done by workers, and
-//! writes what they show.
+//! writes the record of that and its text. Or it audits a record.
 #![tactic(auto)]
 
 ghost use Rattle.std.specs.Prelude.{◌≡◌, ◌⊎◌, IfOk, IfErr, map, string_bytes};
-ghost use Rattle.nvmu.specs.Runs.{IsShownOn, IsFaultOn};
+ghost use Rattle.nvm_engine.specs.VerdictLine.{answer_status};
+ghost use Rattle.nvmu.specs.Runs.{IsShownOn, IsFaultOn, IsJudgedFile, IsJudgeFaultOn, IsRunFaultOn};
 
 mod files;
 mod words;
 
-use crate::files::read_files;
+use crate::files::{bytes_of, read_files, write_file};
 use crate::words::{Asked, read_words};
-use nvm_engine::{Fault, Settings, Shown, execute};
-use nvm_front::{WordFault, tell, texts_of, words_given, write};
+use nvm_engine::{Fault, Judged, Settings, Shown, audit_bytes, execute};
+use nvm_front::{FileFault, Output, WordFault, tell, texts_of, words_given};
 use nvm_unit::Open;
 use std::process::ExitCode;
 use std::rt::{Env, Files};
@@ -22,17 +23,22 @@ fn main(rt: HostRuntime) -> ExitCode {
     ExitCode::from(status_of(&rt))
 }
 
-/// Does what the words of the command line ask for, and gives the exit status: 0, or 1 after a fault.
+/// Does what the words of the command line ask for, and gives the exit status: 0, 2 where a record isn't lawful, or 1 after a
+/// fault.
 fn status_of<R: AllocGlobal + Env + Files + Print + Eprint + Threads + Wait + Sync>(rt: &R) -> u8 {
     match asked(rt) {
         Ok(
             Asked::Run {
                 settings,
-                out: _out,
+                out,
                 files,
             },
-        ) => match run(rt, &settings, files.as_slice()) {
-            Ok(shown) => written(rt, shown),
+        ) => match recorded(rt, &settings, out.as_str(), files.as_slice()) {
+            Ok(shown) => printed(rt, &shown),
+            Err(fault) => failed(rt, fault),
+        },
+        Ok(Asked::Audit { path }) => match audited(rt, path.as_str()) {
+            Ok(judged) => told(rt, &judged),
             Err(fault) => failed(rt, fault),
         },
         Err(fault) => match tell(rt, fault) {
@@ -49,6 +55,21 @@ fn asked<R: AllocGlobal + Env>(rt: &R) -> Result<Asked, WordFault> {
     read_words(rt.alloc(), texts.as_slice())
 }
 
+/// Reads the files at these paths, has their commands done, and writes the record of that.
+fn recorded<R: AllocGlobal + Files + Print + Threads + Wait + Sync>(
+    rt: &R,
+    settings: &Settings,
+    out: &str,
+    paths: &[String],
+) -> Result<Shown, Fault>
+    ensures shown { IfOk result (IsShownOn settings.now (map (λ path. string_bytes path) paths.now)) }
+    ensures fault { IfErr result (IsRunFaultOn settings.now out.now (map (λ path. string_bytes path) paths.now)) }
+{
+    let shown = run(rt, settings, paths)?;
+    write_file(rt, out, shown.record())?;
+    Ok(shown)
+}
+
 /// Reads the files at these paths and has their commands done.
 fn run<R: AllocGlobal + Files + Threads + Wait + Sync>(
     rt: &R,
@@ -62,14 +83,50 @@ fn run<R: AllocGlobal + Files + Threads + Wait + Sync>(
     execute(rt, rt.alloc(), settings, files.as_slice(), &Open)
 }
 
-/// Writes the text to standard output. Where that fails, the status is 1.
-fn written<R: AllocGlobal + Files + Print>(rt: &R, shown: Shown) -> u8
-    ensures { (result ≡ shown.status) ⊎ (result ≡ 1) }
+/// Reads the record at a path and audits it.
+fn audited<R: AllocGlobal + Files + Threads + Sync>(rt: &R, path: &str) -> Result<Judged, Fault>
+    ensures judged { IfOk result IsJudgedFile }
+    ensures fault { IfErr result (IsJudgeFaultOn path.now) }
 {
-    match write(rt, "-", shown.text.as_slice()) {
-        Ok(()) => shown.status,
-        Err(_) => 1,
+    let bytes = bytes_of(rt, path)?;
+    audit_bytes(rt, rt.alloc(), &bytes)
+}
+
+/// Writes the text of a run to standard output. Where that fails, the status is 1.
+fn printed<R: AllocGlobal + Files + Print + Eprint>(rt: &R, shown: &Shown) -> u8
+    ensures { (result ≡ 0) ⊎ (result ≡ 1) }
+{
+    ended(rt, write_shown(rt, shown), shown.status())
+}
+
+/// Writes the line of an audit to standard output. Where that fails, the status is 1.
+fn told<R: AllocGlobal + Files + Print + Eprint>(rt: &R, judged: &Judged) -> u8
+    ensures { (result ≡ answer_status judged.now) ⊎ (result ≡ 1) }
+{
+    ended(rt, write_judged(rt, judged), judged.status())
+}
+
+/// The status where everything was written, or else 1.
+fn ended<R: Eprint>(rt: &R, written: Result<(), FileFault>, status: u8) -> u8
+    ensures { (result ≡ status) ⊎ (result ≡ 1) }
+{
+    match written {
+        Ok(()) => status,
+        Err(FileFault::NoMemory) => failed(rt, Fault::NoMemory),
+        Err(FileFault::Refused) => 1,
     }
+}
+
+fn write_shown<R: AllocGlobal + Files + Print>(rt: &R, shown: &Shown) -> Result<(), FileFault> {
+    let mut output = Output::standard(rt)?;
+    shown.write_text(&mut output)?;
+    output.finish()
+}
+
+fn write_judged<R: AllocGlobal + Files + Print>(rt: &R, judged: &Judged) -> Result<(), FileFault> {
+    let mut output = Output::standard(rt)?;
+    judged.write_line(&mut output)?;
+    output.finish()
 }
 
 /// Prints the fault's line on standard error.

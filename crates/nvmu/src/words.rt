@@ -15,10 +15,14 @@ pub enum Asked {
     /// `nvmu run`: do the commands of the host files, host 1 first.
     Run {
         settings: Settings,
-        /// Where the record goes. The path isn't touched yet.
+        /// Where the record goes.
         out: String,
         /// The host files, at least one.
         files: Vec<String>,
+    },
+    /// `nvmu audit`: say whether the record in the file is lawful.
+    Audit {
+        path: String,
     },
 }
 
@@ -30,7 +34,7 @@ enum Number {
     Of16Bits,
     /// 1 to 64.
     OfWorkers,
-    /// 1 to 65,536.
+    /// 1 to 4,194,304.
     OfChanges,
 }
 
@@ -66,14 +70,14 @@ const NUMBERS: [(&str, Number, &str); 8] = [
     (
         "limit",
         Number::OfChanges,
-        "Most changes of a unit, 1 to 65536",
+        "Most changes of a unit, 1 to 4194304",
     ),
 ];
 
 /// Reads the words after the program's name.
 ///
-/// Every option stands once. `--workers` takes 1 to 64, `--limit` 1 to 65,536, and one host file or more
-/// is named.
+/// Every option of `run` stands once. `--workers` takes 1 to 64, `--limit` 1 to 4,194,304, and one host file or more is named.
+/// `audit` names one record.
 pub fn read_words<'a>(alloc: Global, words: &'a [&'a str]) -> Result<Asked, WordFault>
     ensures { IfOk result IsAsked }
 {
@@ -91,6 +95,7 @@ fn asked_of(alloc: Global, matches: &ArgMatches<'_>) -> Result<Option<Asked>, Wo
 {
     match matches.subcommand() {
         Some(("run", run)) => run_asked(alloc, run),
+        Some(("audit", audit)) => audit_asked(alloc, audit),
         _ => Ok(None),
     }
 }
@@ -118,6 +123,17 @@ fn run_asked(alloc: Global, run: &ArgMatches<'_>) -> Result<Option<Asked>, WordF
     }))
 }
 
+/// What `nvmu audit` is asked, or `None` where the path is missing.
+fn audit_asked(alloc: Global, audit: &ArgMatches<'_>) -> Result<Option<Asked>, WordFault>
+    ensures { IfOk result (λ asked. IfSome asked IsAsked) }
+{
+    let Some(path) = audit.get_str("record") else {
+        return Ok(None);
+    };
+    let path = String::from_str(alloc, path)?;
+    Ok(Some(Asked::Audit { path }))
+}
+
 /// The texts as strings of their own, in their order.
 fn owned(alloc: Global, texts: &[&str]) -> Result<Vec<String>, AllocError>
     ensures { IfOk result (λ strings. length strings.items ≡ length texts.now) }
@@ -135,9 +151,6 @@ fn settings_of(run: &ArgMatches<'_>) -> Option<Settings>
 {
     let workers = Workers::new(run.get_one::<u16>("workers")?)?;
     let limit = Limit::new(run.get_one::<u32>("limit")?)?;
-    if limit.entries() > 65_536 {
-        return None;
-    }
     Some(Settings {
         nsze: run.get_one::<u64>("nsze")?,
         block: run.get_one::<u32>("block")?,
@@ -153,30 +166,29 @@ fn settings_of(run: &ArgMatches<'_>) -> Option<Settings>
 /// The command line of the program.
 fn program<'a>(alloc: Global) -> Result<Command<'a>, Error> {
     let run = run_command(alloc)?;
+    let audit = audit_command(alloc)?;
     Ok(
         Command::new(alloc, "nvmu")
             .bin_name("nvmu")?
-            .about("Executes the NVM commands of hosts on one namespace in memory")
+            .about(
+                "Executes the NVM commands of hosts on one namespace in memory, and audits records of that",
+            )
             .no_binary_name(true)
             .subcommand_required(true)
-            .subcommand(run)?,
+            .subcommand(run)?
+            .subcommand(audit)?,
     )
 }
 
 /// `nvmu run`.
 fn run_command<'a>(alloc: Global) -> Result<Command<'a>, Error> {
     let mut command = Command::new(alloc, "run").about(
-        "Does the commands of the hosts' files and prints a line for each",
+        "Does the commands of the hosts' files, writes a record of that, and prints a line for each",
     );
     for (name, number, help) in &NUMBERS {
         command = command.arg(number_option(alloc, name, *number, help))?;
     }
-    let out = option(
-        alloc,
-        "out",
-        "REC",
-        "Where the record goes: not written yet",
-    );
+    let out = option(alloc, "out", "REC", "Where the record goes");
     let file = Arg::new(alloc, "file")
         .required(true)
         .num_args(1..)
@@ -184,6 +196,17 @@ fn run_command<'a>(alloc: Global) -> Result<Command<'a>, Error> {
         .value_name("FILE")
         .help("The host files, host 1 first");
     Ok(command.arg(out)?.arg(file)?)
+}
+
+/// `nvmu audit`.
+fn audit_command<'a>(alloc: Global) -> Result<Command<'a>, Error> {
+    let record = Arg::new(alloc, "record")
+        .required(true)
+        .value_name("REC")
+        .help("The record of a run");
+    Command::new(alloc, "audit")
+        .about("Says whether a record is lawful, and if not, what is its first fault")
+        .arg(record)
 }
 
 /// A required option.
@@ -202,7 +225,7 @@ fn number_option<'a>(alloc: Global, name: &'a str, number: Number, help: &'a str
         Number::Of32Bits => value_parser!(u32),
         Number::Of16Bits => value_parser!(u16),
         Number::OfWorkers => ValueParser::from(value_parser!(u16).range(1..=64)),
-        Number::OfChanges => ValueParser::from(value_parser!(u32).range(1..=65_536)),
+        Number::OfChanges => ValueParser::from(value_parser!(u32).range(1..=4_194_304)),
     };
     option(alloc, name, "N", help).value_parser(parser)
 }

@@ -86,7 +86,10 @@ fn two_workers_act_at_once(rt: HostRuntime) -> Result<(), Fail> {
     let Ok(shown) = execute(&rt, alloc, &settings(2)?, files.as_slice(), &gate) else {
         return Err(Fail::new("there was no memory"));
     };
-    let is_whole = shown.text.as_slice() == b"1 1 zeroes 0/00\n1 2 zeroes 0/00\n".as_slice();
+    let mut text = Vec::new(alloc);
+    shown.write_text(&mut text)?;
+    let is_whole = text.as_slice()
+        == b"1 1 zeroes 0/00\n1 2 zeroes 0/00\nlawful jobs 2 units 4 changes 2 refused 0\n".as_slice();
     // Where a growth is refused a job may end with 0/06, or one thread do both.
     if !is_whole || gate.seen.load(Ordering::SeqCst) != 1 {
         return Err(Fail::new("there was no memory"));

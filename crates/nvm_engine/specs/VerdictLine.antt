@@ -1,0 +1,49 @@
+-- What is printed of an audit: one line, which tells what there was in a lawful record, or the first fault of another.
+use Rattle.std.specs.Prelude.{ℕ, List, [], ◌++◌, Option, Some, None, Result, Ok, Err, codes, decimal}
+use Rattle.nvm_audit.specs.declared.audit_fault.AuditFault.{AuditFault}
+use Rattle.nvm_audit.specs.declared.audit_fault.AuditFault.TheVariants.{JobMissing, JobTwice, EntryUnclaimed, EntryWrong, PointPast, PointBack, StatusWrong, DataWrong, NoMemory}
+use Rattle.nvm_audit.specs.declared.audit_fault.Spot.{Spot}
+use Rattle.nvm_audit.specs.declared.verdict.Verdict.{Verdict}
+
+-- how much there was of something
+unfoldable pub count_text : List ℕ → ℕ → List ℕ
+count_text of count = of ++ decimal count
+
+-- how many changes there were, and how many jobs were refused
+unfoldable pub changes_text : Verdict → List ℕ
+changes_text v = count_text (codes " changes ") v.changes ++ (count_text (codes " refused ") v.refused ++ codes "\n")
+
+-- how many jobs, units and changes there were, and how many jobs were refused
+abbrev pub lawful_line : Verdict → List ℕ
+lawful_line v = count_text (codes "lawful jobs ") v.jobs ++ (count_text (codes " units ") v.units ++ changes_text v)
+
+-- where in a unit something is wrong, if it is in one
+abbrev pub spot_text : Option Spot → List ℕ
+spot_text None = codes " unit - place -"
+spot_text (Some spot) = count_text (codes " unit ") spot.unit ++ count_text (codes " place ") spot.place
+
+-- the name of a fault, the number of its job, and where it is
+abbrev pub unlawful_with : List ℕ → ℕ → Option Spot → List ℕ
+unlawful_with name job spot = codes "unlawful " ++ (name ++ (count_text (codes " job ") job ++ (spot_text spot ++ codes "\n")))
+
+-- The line of a fault. Want of memory is none of a record, and has no line.
+abbrev pub unlawful_line : AuditFault → List ℕ
+unlawful_line (JobMissing job) = unlawful_with (codes "JobMissing") job None
+unlawful_line (JobTwice job) = unlawful_with (codes "JobTwice") job None
+unlawful_line (EntryUnclaimed job spot) = unlawful_with (codes "EntryUnclaimed") job (Some spot)
+unlawful_line (EntryWrong job spot) = unlawful_with (codes "EntryWrong") job (Some spot)
+unlawful_line (PointPast job spot) = unlawful_with (codes "PointPast") job (Some spot)
+unlawful_line (PointBack job spot) = unlawful_with (codes "PointBack") job (Some spot)
+unlawful_line (StatusWrong job spot) = unlawful_with (codes "StatusWrong") job spot
+unlawful_line (DataWrong job spot) = unlawful_with (codes "DataWrong") job (Some spot)
+unlawful_line NoMemory = []
+
+-- the line of what an audit answers
+abbrev pub answer_line : Result Verdict AuditFault → List ℕ
+answer_line (Ok v) = lawful_line v
+answer_line (Err fault) = unlawful_line fault
+
+-- the exit status after it
+abbrev pub answer_status : Result Verdict AuditFault → ℕ
+answer_status (Ok v) = 0
+answer_status (Err fault) = 2

@@ -1,0 +1,81 @@
+ghost use Rattle.std.specs.Prelude.{◌≡◌, Result, Ok, Err, IfOk, IfErr, MatchResult};
+ghost use Rattle.nvm_audit.specs.LawfulRecord.{IsLawfulRecord};
+ghost use Rattle.nvm_audit.specs.RecordChecks.{IsFirstFault};
+ghost use Rattle.nvm_audit.specs.RecordView.{RecordView};
+ghost use Rattle.nvm_audit.specs.Verdict.{IsVerdict};
+ghost use Rattle.nvm_audit.specs.declared.audit_fault.AuditFault.{AuditFault as FaultOfRecord};
+ghost use Rattle.nvm_audit.specs.declared.verdict.Verdict.{Verdict as Numbers};
+ghost use Rattle.nvm_file.specs.Reading.{record_at};
+ghost use Rattle.nvm_file.specs.RecordFile.{IsRecordFile};
+ghost use Rattle.nvm_engine.specs.Judged.{IsJudged, IsJudgedAs, IsUnreadFault};
+ghost use Rattle.nvm_engine.specs.declared.fault.Fault.TheVariants.{NoMemory as NoMemoryFault};
+
+use crate::fault::Fault;
+use crate::judged::Judged;
+use nvm_audit::{AuditFault, Record, Verdict, audit};
+use nvm_file::read_record;
+use nvm_record::{NoMemory, Payload};
+use std::alloc::{AllocError, Global};
+use std::thread::Threads;
+
+/// Audits the record that a file of either version holds: whether it is lawful, or what is its first fault.
+///
+/// Where the bytes are no record's file, the first fault from the front is answered, with its offset. `NoMemory` is answered where
+/// a growth was refused: nothing is known of the record then.
+pub fn audit_bytes(
+    rt: &(impl Threads + Sync),
+    alloc: Global,
+    bytes: &Payload,
+) -> Result<Judged, Fault>
+    ensures judged { IfOk result (IsJudged bytes.now) }
+    ensures fault { IfErr result (IsUnreadFault bytes.now) }
+    // A lawful record is told to be so, and of another one its first fault is told, unless memory was refused.
+    ensures accepted { (r : RecordView) → IsRecordFile bytes.now r → IsLawfulRecord r
+        → MatchResult result (λ judged. (verdict : Numbers) × (judged ≡ Ok verdict)) (λ fault. fault ≡ NoMemoryFault) }
+    ensures named { (r : RecordView) (first : FaultOfRecord) → IsRecordFile bytes.now r → IsFirstFault r first
+        → MatchResult result (λ judged. judged ≡ Err first) (λ fault. fault ≡ NoMemoryFault) }
+{
+    let record = record_of(alloc, bytes)?;
+    let judged = judged_of(rt, alloc, &record)?;
+    Ok(judged)
+}
+
+/// The record that a file holds.
+fn record_of(alloc: Global, bytes: &Payload) -> Result<Record, Fault>
+    ensures read { IfOk result (λ r. record_at bytes.now ≡ Ok r) }
+    ensures fault { IfErr result (IsUnreadFault bytes.now) }
+{
+    match read_record(alloc, bytes) {
+        Ok(record) => Ok(record),
+        Err(fault) => Err(Fault::of_record(fault)),
+    }
+}
+
+/// What an audit tells of the record.
+fn judged_of(rt: &(impl Threads + Sync), alloc: Global, run: &Record) -> Result<Judged, NoMemory>
+    ensures judged { IfOk result (IsJudgedAs run.now) }
+    ensures accepted { IsLawfulRecord run.now → IfOk result (λ judged. (verdict : Numbers) × (judged ≡ Ok verdict)) }
+    ensures named { (first : FaultOfRecord) → IsFirstFault run.now first → IfOk result (λ judged. judged ≡ Err first) }
+{
+    match audit(rt, alloc, run) {
+        Ok(verdict) => Ok(Judged::lawful(verdict)),
+        Err(AuditFault::NoMemory) => Err(AllocError),
+        Err(fault) => Ok(Judged::unlawful(fault)),
+    }
+}
+
+/// The verdict of a lawful record.
+pub(crate) fn verdict_of(
+    rt: &(impl Threads + Sync),
+    alloc: Global,
+    run: &Record,
+) -> Result<Verdict, NoMemory>
+    requires { IsLawfulRecord run.now }
+    ensures { IfOk result (IsVerdict run.now) }
+{
+    match audit(rt, alloc, run) {
+        Ok(verdict) => Ok(verdict),
+        Err(AuditFault::NoMemory) => Err(AllocError),
+        Err(_) => unreachable!("a lawful record is accepted"),
+    }
+}

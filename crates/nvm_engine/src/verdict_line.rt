@@ -1,0 +1,86 @@
+//! The line that tells how an audit ended.
+ghost use Rattle.std.specs.Prelude.{OnErr, OnOk};
+ghost use Rattle.std.specs.Io.KnownBytes.{Appends};
+ghost use Rattle.nvm_write.specs.Handed.{TakesFront};
+ghost use Rattle.nvm_engine.specs.VerdictLine.{count_text, lawful_line, spot_text, unlawful_line, unlawful_with};
+
+use nvm_audit::{AuditFault, Spot, Verdict};
+use nvm_text::write_decimal;
+use nvm_write::hand;
+use std::io;
+use std::io::Write;
+
+/// Writes the line of a lawful record.
+pub(crate) fn write_lawful<W: Write>(writer: &mut W, verdict: Verdict) -> io::Result<()>
+    ensures whole { OnOk result (Appends (W.contents writer.old) (W.contents writer.new) (lawful_line verdict)) }
+    ensures front { OnErr result (TakesFront (W.contents writer.old) (W.contents writer.new) (lawful_line verdict)) }
+{
+    write_count(writer, b"lawful jobs ", u64::from(verdict.jobs))?;
+    write_count(writer, b" units ", u64::from(verdict.units))?;
+    write_count(writer, b" changes ", verdict.changes)?;
+    write_count(writer, b" refused ", u64::from(verdict.refused))?;
+    hand(writer, b"\n")
+}
+
+/// Writes how much there was of something.
+#[tactic(auto, unfolding(crate::specs::VerdictLine::count_text))]
+fn write_count<W: Write>(writer: &mut W, of: &[u8], count: u64) -> io::Result<()>
+    ensures whole { OnOk result (Appends (W.contents writer.old) (W.contents writer.new) (count_text of.now count)) }
+    ensures front { OnErr result (TakesFront (W.contents writer.old) (W.contents writer.new) (count_text of.now count)) }
+{
+    hand(writer, of)?;
+    write_decimal(writer, count)
+}
+
+/// Writes the line of a record's first fault. Want of memory is none, and has no line.
+pub(crate) fn write_unlawful<W: Write>(writer: &mut W, fault: AuditFault) -> io::Result<()>
+    ensures whole { OnOk result (Appends (W.contents writer.old) (W.contents writer.new) (unlawful_line fault)) }
+    ensures front { OnErr result (TakesFront (W.contents writer.old) (W.contents writer.new) (unlawful_line fault)) }
+{
+    match fault {
+        AuditFault::JobMissing { job } => write_fault(writer, b"JobMissing", job, None),
+        AuditFault::JobTwice { job } => write_fault(writer, b"JobTwice", job, None),
+        AuditFault::EntryUnclaimed { job, spot } => {
+            write_fault(writer, b"EntryUnclaimed", job, Some(spot))
+        }
+        AuditFault::EntryWrong { job, spot } => write_fault(writer, b"EntryWrong", job, Some(spot)),
+        AuditFault::PointPast { job, spot } => write_fault(writer, b"PointPast", job, Some(spot)),
+        AuditFault::PointBack { job, spot } => write_fault(writer, b"PointBack", job, Some(spot)),
+        AuditFault::StatusWrong { job, spot } => write_fault(writer, b"StatusWrong", job, spot),
+        AuditFault::DataWrong { job, spot } => write_fault(writer, b"DataWrong", job, Some(spot)),
+        AuditFault::NoMemory => hand(writer, b""),
+    }
+}
+
+/// Writes the line of the fault of this name.
+fn write_fault<W: Write>(
+    writer: &mut W,
+    name: &[u8],
+    job: u32,
+    spot: Option<Spot>,
+) -> io::Result<()>
+    ensures whole { OnOk result
+        (Appends (W.contents writer.old) (W.contents writer.new) (unlawful_with name.now job spot)) }
+    ensures front { OnErr result
+        (TakesFront (W.contents writer.old) (W.contents writer.new) (unlawful_with name.now job spot)) }
+{
+    hand(writer, b"unlawful ")?;
+    hand(writer, name)?;
+    write_count(writer, b" job ", u64::from(job))?;
+    write_spot(writer, spot)?;
+    hand(writer, b"\n")
+}
+
+/// Writes where in a unit something is wrong.
+fn write_spot<W: Write>(writer: &mut W, spot: Option<Spot>) -> io::Result<()>
+    ensures whole { OnOk result (Appends (W.contents writer.old) (W.contents writer.new) (spot_text spot)) }
+    ensures front { OnErr result (TakesFront (W.contents writer.old) (W.contents writer.new) (spot_text spot)) }
+{
+    match spot {
+        None => hand(writer, b" unit - place -"),
+        Some(spot) => {
+            write_count(writer, b" unit ", u64::from(spot.unit))?;
+            write_count(writer, b" place ", u64::from(spot.place))
+        }
+    }
+}
