@@ -159,7 +159,7 @@ class Audit:
         return states
 
     def points(self, unit, there, states):
-        """Judges the parts in the unit, by worker and in the worker's order."""
+        """Judges the parts in the unit, worker by worker, each one's as it did them."""
         entries = self.record.units[unit]
         earlier, own = defaultdict(int), defaultdict(lambda: -1)
         for worker, done, place in there:
