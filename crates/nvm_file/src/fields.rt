@@ -8,6 +8,7 @@ use crate::record_fault::RecordFault;
 use crate::rest::Rest;
 use byteorder::{ByteOrder, LittleEndian};
 use nvm_record::Payload;
+use std::alloc::Global;
 
 /// The offset in the file at which what is left begins.
 pub fn offset_of(total: usize, rest: Rest<'_>) -> u64
@@ -147,6 +148,7 @@ pub fn u32_below(total: usize, end: u32, rest: Rest<'_>) -> Result<(u32, Rest<'_
 /// A run of so many bytes, shared with the file.
 #[tactic(auto, unfolding(crate::specs::Fields::bytes_at))]
 pub fn data_of(
+    alloc: Global,
     total: usize,
     count: usize,
     rest: Rest<'_>,
@@ -156,7 +158,7 @@ pub fn data_of(
     if rest.len() < count {
         return Err(cut_short(total, rest));
     }
-    let payload = rest.share(count)?;
+    let payload = rest.share(alloc, count)?;
     Ok((payload, rest.after(count)))
 }
 

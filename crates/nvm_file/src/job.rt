@@ -30,7 +30,7 @@ pub fn jobs_of<'a>(
     let mut jobs = Vec::with_capacity(alloc, room)?;
     let mut rest = from;
     for _ in 0..frame.jobs {
-        let (job, after) = job_of(frame, rest)?;
+        let (job, after) = job_of(alloc, frame, rest)?;
         jobs.push(job)?;
         rest = after;
     }
@@ -39,41 +39,54 @@ pub fn jobs_of<'a>(
 
 /// A job: the number of its host, its kind, and its command or commands.
 #[tactic(auto, unfolding(crate::specs::JobReading::job_at))]
-fn job_of<'a>(frame: &Frame, rest: Rest<'a>) -> Result<(Job, Rest<'a>), RecordFault>
+fn job_of<'a>(alloc: Global, frame: &Frame, rest: Rest<'a>) -> Result<(Job, Rest<'a>), RecordFault>
     ensures { Gives (λ x. (x.0, left_of x.1)) result (job_at frame.now (left_of rest.entry)) }
 {
     let (host, rest) = u16_in(frame.total, 1, MOST_HOSTS, rest)?;
     let (kind, rest) = u8_in(frame.total, 0, 1, rest)?;
-    let (body, rest) = body_of(kind, frame, rest)?;
+    let (body, rest) = body_of(alloc, kind, frame, rest)?;
     Ok((Job { host, body }, rest))
 }
 
 /// What the kind says: 0 is a command by itself, and 1 a pair.
-fn body_of<'a>(kind: u8, frame: &Frame, rest: Rest<'a>) -> Result<(Body, Rest<'a>), RecordFault>
+fn body_of<'a>(
+    alloc: Global,
+    kind: u8,
+    frame: &Frame,
+    rest: Rest<'a>,
+) -> Result<(Body, Rest<'a>), RecordFault>
     ensures { Gives (λ x. (x.0, left_of x.1)) result (spec.body_at kind frame.now (left_of rest.entry)) }
 {
     if kind == 0 {
-        single_of(frame, rest)
+        single_of(alloc, frame, rest)
     } else {
-        pair_of(frame, rest)
+        pair_of(alloc, frame, rest)
     }
 }
 
 /// A command by itself.
 #[tactic(auto, unfolding(crate::specs::JobReading::single_at))]
-fn single_of<'a>(frame: &Frame, rest: Rest<'a>) -> Result<(Body, Rest<'a>), RecordFault>
+fn single_of<'a>(
+    alloc: Global,
+    frame: &Frame,
+    rest: Rest<'a>,
+) -> Result<(Body, Rest<'a>), RecordFault>
     ensures { Gives (λ x. (x.0, left_of x.1)) result (single_at frame.now (left_of rest.entry)) }
 {
-    let (command, rest) = command_of(frame, Standing::Alone, rest)?;
+    let (command, rest) = command_of(alloc, frame, Standing::Alone, rest)?;
     Ok((Body::Single(command), rest))
 }
 
 /// The two commands of a fused pair.
 #[tactic(auto, unfolding(crate::specs::JobReading::pair_at))]
-fn pair_of<'a>(frame: &Frame, rest: Rest<'a>) -> Result<(Body, Rest<'a>), RecordFault>
+fn pair_of<'a>(
+    alloc: Global,
+    frame: &Frame,
+    rest: Rest<'a>,
+) -> Result<(Body, Rest<'a>), RecordFault>
     ensures { Gives (λ x. (x.0, left_of x.1)) result (pair_at frame.now (left_of rest.entry)) }
 {
-    let (first, rest) = command_of(frame, Standing::FirstOfPair, rest)?;
-    let (second, rest) = command_of(frame, Standing::SecondOfPair, rest)?;
+    let (first, rest) = command_of(alloc, frame, Standing::FirstOfPair, rest)?;
+    let (second, rest) = command_of(alloc, frame, Standing::SecondOfPair, rest)?;
     Ok((Body::Pair(first, second), rest))
 }

@@ -26,7 +26,8 @@ pub const MOST_COMMANDS: usize = 65_536;
 /// of `size`, or, after that of a Dataset Management, its `nr + 1` ranges of 16 bytes.
 ///
 /// The commands' data are parts of the bytes, but for ranges, which are copied with context attributes of
-/// 0: memory is taken for them and for the list of the commands alone.
+/// 0. Memory is taken for them, for the list of the commands, and for the count of owners that the data of each
+/// has for itself.
 ///
 /// The first fault from the front is answered, or `NoMemory` where a growth was refused before it, or
 /// 2^63 - 1 payloads shared the bytes.

@@ -13,9 +13,13 @@ use std::sync::Arc;
 ///
 /// Payloads share their bytes: a share, or a part of a payload, takes no memory and copies nothing. The
 /// bytes are freed with the last payload that shares them.
+///
+/// Payloads that came from one another by [`Payload::share`] and [`Payload::part`] count their owners in one
+/// word. Threads that share them all the time wait for that word, so a part can have a count of its own
+/// ([`Payload::own_part`]).
 #[derive(Drop)]
 pub struct Payload {
-    whole: Option<Arc<Vec<u8>>>,
+    whole: Option<Arc<Arc<Vec<u8>>>>,
     from: usize,
     to: usize,
 }
@@ -79,12 +83,13 @@ impl Payload {
         }
     }
 
-    /// The bytes of `bytes`, which aren't copied. It takes one small block of memory; where that is
+    /// The bytes of `bytes`, which aren't copied. It takes two small blocks of memory; where one of them is
     /// refused, the bytes are let go of.
     pub fn new(alloc: Global, bytes: Vec<u8>) -> Result<Payload, NoMemory>
         ensures { IfOk result (λ p. p ≡ bytes.items) }
     {
         let to = bytes.len();
+        let bytes = Arc::new(alloc, bytes)?;
         let whole = Arc::new(alloc, bytes)?;
         Ok(Payload {
             whole: Some(whole),
@@ -142,6 +147,25 @@ impl Payload {
         })
     }
 
+    /// The bytes from place `from` up to place `to`, shared, with a count of owners that starts anew. It takes one
+    /// small block of memory, and is refused also where 2^63 - 1 such parts share them already. A part of no
+    /// bytes shares nothing, and takes no memory.
+    pub fn own_part(&self, alloc: Global, from: usize, to: usize) -> Result<Payload, NoMemory>
+        requires ordered { from ≤ to }
+        requires within { to ≤ length self.now }
+        ensures { IfOk result (λ p. p ≡ slice_range self.now from to) }
+    {
+        if from == to {
+            return Ok(Payload::empty());
+        }
+        let whole = new_count(alloc, &self.whole)?;
+        Ok(Payload {
+            whole,
+            from: self.from + from,
+            to: self.from + to,
+        })
+    }
+
     /// The bytes as a `Vec`: the one that holds them, where nobody shares it and they are all of it, and
     /// else a copy.
     pub fn into_vec(self, alloc: Global) -> Result<Vec<u8>, NoMemory>
@@ -154,7 +178,11 @@ impl Payload {
         if from > 0 || to < whole.len() {
             return Vec::from_slice(alloc, &whole[from..to]);
         }
-        match Arc::try_unwrap(whole) {
+        let bytes = match Arc::try_unwrap(whole) {
+            Ok(bytes) => bytes,
+            Err(shared) => return Vec::from_slice(alloc, shared.as_slice()),
+        };
+        match Arc::try_unwrap(bytes) {
             Ok(bytes) => Ok(bytes),
             Err(shared) => Vec::from_slice(alloc, shared.as_slice()),
         }
@@ -175,12 +203,28 @@ impl Payload {
     }
 }
 
-/// One more owner of what is shared.
-fn one_more_owner(whole: &Option<Arc<Vec<u8>>>) -> Result<Option<Arc<Vec<u8>>>, NoMemory>
+/// One more owner of what is shared, in the same count.
+fn one_more_owner(whole: &Option<Arc<Arc<Vec<u8>>>>) -> Result<Option<Arc<Arc<Vec<u8>>>>, NoMemory>
     ensures { IfOk result (λ w. shared_bytes w ≡ shared_bytes whole.now) }
 {
     match whole {
         Some(whole) => Ok(Some(Arc::try_clone(whole)?)),
+        None => Ok(None),
+    }
+}
+
+/// One more owner of what is shared, the first in a count of its own.
+fn new_count(
+    alloc: Global,
+    whole: &Option<Arc<Arc<Vec<u8>>>>,
+) -> Result<Option<Arc<Arc<Vec<u8>>>>, NoMemory>
+    ensures { IfOk result (λ w. shared_bytes w ≡ shared_bytes whole.now) }
+{
+    match whole {
+        Some(whole) => {
+            let bytes = Arc::try_clone(&**whole)?;
+            Ok(Some(Arc::new(alloc, bytes)?))
+        }
         None => Ok(None),
     }
 }

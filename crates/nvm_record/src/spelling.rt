@@ -1,4 +1,4 @@
-ghost use Rattle.std.specs.Prelude.{◌≡◌, ◌++◌, ℕ, IfOk, IfErr, OnOk, OnErr};
+ghost use Rattle.std.specs.Prelude.{◌≡◌, ◌≤◌, ◌++◌, ℕ, IfOk, IfErr, OnOk, OnErr, length, slice_range};
 ghost use Rattle.nvm_record.specs.Entry.{BeginsWith, IsCommandFault, IsSpelling, IsWhole, data_kept, spelling_of};
 ghost use Rattle.nvm_record.specs.Ranges.{ranges_of};
 
@@ -16,11 +16,11 @@ use std::alloc::Global;
 /// Write or a Compare, its data of `nlb + 1` blocks of `size`, or, after that of a Dataset Management, its
 /// `nr + 1` ranges of 16 bytes. What follows is given back.
 ///
-/// The data and what follows are parts of the bytes, so nothing is copied and no memory is taken, but for
-/// ranges: they are copied, with context attributes of 0.
+/// The data and what follows are parts of the bytes, so nothing is copied, but for ranges: they are copied,
+/// with context attributes of 0. Data takes one small block of memory, for a count of owners of its own.
 ///
-/// The first fault is answered, or `NoMemory` where memory for ranges is refused, or 2^63 - 1 payloads
-/// share the bytes already.
+/// The first fault is answered, or `NoMemory` where memory for ranges or for that count is refused, or
+/// 2^63 - 1 payloads share the bytes already.
 pub fn read_command(
     alloc: Global,
     bytes: &Payload,
@@ -40,8 +40,7 @@ pub fn read_command(
         return Err(CommandFault::CutData);
     }
     let end = ENTRY_BYTES + wanted;
-    let found = bytes.part(ENTRY_BYTES, end)?;
-    let payload = kept(alloc, fields.op, found)?;
+    let payload = kept(alloc, fields.op, bytes, ENTRY_BYTES, end)?;
     let rest = bytes.part(end, bytes.len())?;
     let command = Command {
         cid: fields.cid,
@@ -55,15 +54,18 @@ pub fn read_command(
     Ok((command, rest))
 }
 
-/// What a command keeps of its data: all of it, but for the context attributes of ranges.
-fn kept(alloc: Global, op: Op, found: Payload) -> Result<Payload, NoMemory>
-    ensures bytes { IfOk result (λ p. p ≡ data_kept op found) }
-    ensures again { IfOk result (λ p. ranges_of p ≡ ranges_of found) }
+/// What a command keeps of its data, which stands from place `from` up to place `to`: all of it, but for the
+/// context attributes of ranges.
+fn kept(alloc: Global, op: Op, bytes: &Payload, from: usize, to: usize) -> Result<Payload, NoMemory>
+    requires ordered { from ≤ to }
+    requires within { to ≤ length bytes.now }
+    ensures bytes { IfOk result (λ p. p ≡ data_kept op (slice_range bytes.now from to)) }
+    ensures again { IfOk result (λ p. ranges_of p ≡ ranges_of (slice_range bytes.now from to)) }
 {
     if op.carries_ranges() {
-        without_attributes(alloc, found.as_slice())
+        without_attributes(alloc, &bytes.as_slice()[from..to])
     } else {
-        Ok(found)
+        bytes.own_part(alloc, from, to)
     }
 }
 

@@ -3,6 +3,7 @@ ghost use Rattle.nvm_file.specs.Inside.Rest.{left_of};
 
 use super::Rest;
 use nvm_record::{NoMemory, Payload};
+use std::alloc::Global;
 
 impl<'a> Rest<'a> {
     /// The whole file.
@@ -53,13 +54,13 @@ impl<'a> Rest<'a> {
         }
     }
 
-    /// The next `count` bytes, shared.
+    /// The next `count` bytes, shared, with a count of owners of their own.
     #[tactic(auto, unfolding(crate::specs::Inside::Rest::left_of))]
-    pub fn share(self, count: usize) -> Result<Payload, NoMemory>
+    pub fn share(self, alloc: Global, count: usize) -> Result<Payload, NoMemory>
         requires { count ≤ length (left_of self) }
         ensures { IfOk result (λ p. p ≡ take count (left_of self.entry)) }
     {
         let _length = self.file.len();
-        self.file.part(self.from, self.from + count)
+        self.file.own_part(alloc, self.from, self.from + count)
     }
 }

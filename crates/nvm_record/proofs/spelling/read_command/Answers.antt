@@ -1,4 +1,4 @@
-use Rattle.std.proofs.Common.{◌≡◌, ◌+◌, ◌-◌, ◌≤◌, ℕ, length, take, drop, ap, sym, ◌∙◌, arith}
+use Rattle.std.proofs.Common.{◌≡◌, ◌+◌, ◌-◌, ◌≤◌, ℕ, length, slice_range, take, drop, ap, sym, ◌∙◌, arith}
 use Rattle.std.proofs.lemmas.List.{drop-drop, take_rest, length-take-le}
 use Rattle.nvm_record.specs.Entry.{IsEntryOf, called_for, data_kept}
 use Rattle.nvm_record.specs.declared.command.Command.{Command}
@@ -26,7 +26,7 @@ returns-clause-command c =
     } in
     let needed : n ≡ called_for c.args.size c.split_at.result.0.now =
     c.data_length-wanted.ensures ∙ wanted c.args.size c.split_at.result.0.now fields.nr read entry c.entry_fields-fields.ensures.nr in
-    let found : c.in_ok-found.found ≡ take n (drop 64 all) = c.in_ok-found.ensures ∙ ap (λ (k : ℕ). take k (drop 64 all)) (omega arith) in
+    let found : slice_range all 64 (64 + n) ≡ take n (drop 64 all) = ap (λ (k : ℕ). take k (drop 64 all)) (omega arith) in
     let kept : c.in_ok-payload.payload ≡ data_kept fields.op (take n (drop 64 all)) = c.in_ok-payload.ensures.bytes ∙ ap (data_kept fields.op) found in
     let rest : c.in_ok-rest.rest ≡ drop n (drop 64 all) = c.in_ok-rest.ensures ∙ ap (λ (k : ℕ). take (k - (64 + n)) (drop (64 + n) all)) c.len-2.ensures ∙ take_rest all (64 + n) ∙ sym (drop-drop n 64 all) in
     rw rest (begins_with c.args.size all read n (omega arith) (rw (← first) needed) enough (rw (← first) entry) kept)
@@ -48,9 +48,9 @@ returns-clause-whole c =
     } in
     let second : c.split_at.result.1.now ≡ drop 64 all = c.split_at.ensures.back ∙ ap (drop 64) c.as_slice.ensures in
     let enough : n ≤ length (drop 64 all) = rw (← second) (omega arith) in
-    let found : c.in_ok-found.found ≡ take n (drop 64 all) = c.in_ok-found.ensures ∙ ap (λ (k : ℕ). take k (drop 64 all)) (omega arith) in
-    let long : length c.in_ok-found.found ≡ n = ap length found ∙ length-take-le n (drop 64 all) enough in
-    whole c.args.size c.split_at.result.0.now c.in_ok-found.found fields.nr read (record {
+    let found : slice_range all 64 (64 + n) ≡ take n (drop 64 all) = ap (λ (k : ℕ). take k (drop 64 all)) (omega arith) in
+    let long : length (slice_range all 64 (64 + n)) ≡ n = ap length found ∙ length-take-le n (drop 64 all) enough in
+    whole c.args.size c.split_at.result.0.now (slice_range all 64 (64 + n)) fields.nr read (record {
       entry = entry;
       nr = c.entry_fields-fields.ensures.nr;
       byte = omega arith;
