@@ -8,6 +8,7 @@
 //!
 //! [`assemble`] makes a list into the bytes of a host file, and [`list_file`] lists those. Lists that were written by
 //! hand, with their commands and faults, stand in `examples/programs.py`, which holds the built `nvq` to them.
+//! [`push_operands`] and its kin append some of the words of one command, for who lists commands among other things.
 #![tactic(auto)]
 
 mod command_line;
@@ -28,5 +29,6 @@ mod run;
 
 pub use expected::Expected;
 pub use fault::ListFault;
+pub use line_pieces::{push_deallocate, push_fuse, push_operands, push_ranges};
 pub use listing::{list, list_file};
 pub use lists::{assemble, read_list};

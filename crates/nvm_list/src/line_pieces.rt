@@ -6,7 +6,8 @@ ghost use Rattle.nvm_list.specs.Listing.{behind_spaces, range_text, ranges_text}
 use nvm_record::{Command, Fuse, LbaRange, NoMemory, Op, range_count};
 use nvm_text::{push_decimal, push_runs};
 
-/// Appends what the command is on.
+/// Appends what the command is on, each word behind a space: its ranges, or its starting LBA, its number of blocks and its
+/// data. Nothing is promised of the text where memory is refused; so it is of the calls below.
 pub fn push_operands(text: &mut String, command: &Command) -> Result<(), NoMemory>
     ensures { OnOk result (string_bytes text.new
         ≡ string_bytes text.old ++ behind_spaces (spec.operand_words command.now)) }
@@ -45,8 +46,8 @@ fn push_data(text: &mut String, command: &Command) -> Result<(), NoMemory>
     Ok(())
 }
 
-/// Appends the ranges that data holds, joined by commas.
-fn push_ranges(text: &mut String, payload: &[u8]) -> Result<(), NoMemory>
+/// Appends the ranges that data holds, joined by commas: a range definition has 16 bytes.
+pub fn push_ranges(text: &mut String, payload: &[u8]) -> Result<(), NoMemory>
     ensures { OnOk result (string_bytes text.new
         ≡ string_bytes text.old ++ ranges_text (ranges_of payload.now)) }
 {
@@ -72,7 +73,7 @@ fn push_range(text: &mut String, range: LbaRange) -> Result<(), NoMemory>
     Ok(())
 }
 
-/// Appends that ranges are deallocated, if they are.
+/// Appends the word that ranges are deallocated behind a space, if they are.
 pub fn push_deallocate(text: &mut String, op: Op) -> Result<(), NoMemory>
     ensures { OnOk result (string_bytes text.new
         ≡ string_bytes text.old ++ behind_spaces (spec.deallocate_words op)) }
@@ -83,7 +84,7 @@ pub fn push_deallocate(text: &mut String, op: Op) -> Result<(), NoMemory>
     Ok(())
 }
 
-/// Appends the place in a fused operation, if it has one.
+/// Appends the place in a fused operation behind a space, if it has one.
 pub fn push_fuse(text: &mut String, fuse: Fuse) -> Result<(), NoMemory>
     ensures { OnOk result (string_bytes text.new
         ≡ string_bytes text.old ++ behind_spaces (spec.fuse_words fuse)) }
