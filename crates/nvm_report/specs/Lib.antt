@@ -1,0 +1,6 @@
+pub mod Numbered
+pub mod HeadLines
+pub mod JobLines
+pub mod EntryLines
+pub mod DoneLines
+pub mod RecordListing
