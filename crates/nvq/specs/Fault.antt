@@ -1,4 +1,4 @@
--- The faults of lists and of host files, as the program prints them.
+-- The faults of lists, of host files and of records, as the program prints them.
 use Rattle.std.specs.Prelude.{◌≡◌, ◌⊎◌, ℕ, String, List, Err}
 use Rattle.std.specs.Global.{Global}
 use Rattle.nvm_record.specs.declared.host_fault.HostFault.{HostFault}
@@ -7,8 +7,11 @@ use Rattle.nvm_record.specs.HostFile.{IsAnsweredFault}
 use Rattle.nvm_list.specs.Lists.{commands}
 use Rattle.nvm_list.specs.declared.fault.ListFault.{ListFault}
 use Rattle.nvm_list.specs.declared.fault.ListFault.TheVariants as of_list
+use Rattle.nvm_file.specs.Reading.{record_at}
+use Rattle.nvm_file.specs.declared.record_fault.RecordFault.{RecordFault}
+use Rattle.nvm_file.specs.declared.record_fault.RecordFault.TheVariants as of_record
 use Rattle.nvq.specs.declared.fault.Fault.{Fault}
-use Rattle.nvq.specs.declared.fault.Fault.TheVariants.{Line, BadName, Truncated, TooMany, NoMemory}
+use Rattle.nvq.specs.declared.fault.Fault.TheVariants.{Line, BadName, Truncated, TooMany, UnknownVersion, Trailing, BadValue, NoMemory}
 
 -- a list's fault has its line
 abbrev pub fault_of_list : ListFault → Fault
@@ -22,6 +25,15 @@ fault_of_file path (of_file.Truncated at) = Truncated path at
 fault_of_file path of_file.TooMany = TooMany path
 fault_of_file path of_file.NoMemory = NoMemory
 
+-- a record's fault has its path
+abbrev pub fault_of_record : String Global → RecordFault → Fault
+fault_of_record path of_record.BadName = BadName path
+fault_of_record path of_record.Version = UnknownVersion path
+fault_of_record path (of_record.Truncated at) = Truncated path at
+fault_of_record path (of_record.Trailing at) = Trailing path at
+fault_of_record path (of_record.BadValue at) = BadValue path at
+fault_of_record path of_record.NoMemory = NoMemory
+
 -- The fault of a list, or want of memory.
 abbrev pub IsFaultOfList : ℕ → List ℕ → Fault → Type 0
 IsFaultOfList size list e = ((f : ListFault) × (commands size list ≡ Err f) × (e ≡ fault_of_list f)) ⊎ (e ≡ NoMemory)
@@ -29,3 +41,7 @@ IsFaultOfList size list e = ((f : ListFault) × (commands size list ≡ Err f) �
 -- The fault of the host file at a path, or want of memory.
 abbrev pub IsFaultOfFile : String Global → ℕ → List ℕ → Fault → Type 0
 IsFaultOfFile path size file e = (f : HostFault) × IsAnsweredFault size file f × (e ≡ fault_of_file path f)
+
+-- The first fault of the record at a path, or want of memory.
+abbrev pub IsFaultOfRecord : String Global → List ℕ → Fault → Type 0
+IsFaultOfRecord path file e = ((f : RecordFault) × (record_at file ≡ Err f) × (e ≡ fault_of_record path f)) ⊎ (e ≡ NoMemory)

@@ -1,13 +1,15 @@
-ghost use Rattle.std.specs.Prelude.{◌≡◌, List, Ok, IfOk, IfErr, string_bytes};
-ghost use Rattle.nvm_record.specs.HostFile.{IsHostFile};
-ghost use Rattle.nvm_record.specs.declared.command.Command.{Command};
+ghost use Rattle.std.specs.Prelude.{◌≡◌, Ok, IfOk, IfErr, string_bytes};
+ghost use Rattle.nvm_file.specs.Reading.{record_at};
 ghost use Rattle.nvm_list.specs.Lists.{assembled};
-ghost use Rattle.nvm_list.specs.Listing.{listing};
-ghost use Rattle.nvq.specs.Fault.{IsFaultOfList, IsFaultOfFile};
+ghost use Rattle.nvq.specs.Fault.{IsFaultOfList, IsFaultOfFile, IsFaultOfRecord};
+ghost use Rattle.nvq.specs.Listed.{begins_as_record, IsListFault, Lists, ListsCommands, ListsRecord};
 
 use crate::fault::Fault;
+use nvm_audit::Record;
+use nvm_file::read_record;
 use nvm_list::{assemble, list_file};
 use nvm_record::{BlockSize, Payload};
+use nvm_report::list_record;
 use std::alloc::Global;
 
 /// The host file of a list, or the list's fault.
@@ -18,15 +20,59 @@ pub fn file_of(alloc: Global, list: &[u8], size: BlockSize) -> Result<Vec<u8>, F
     Ok(assemble(alloc, list, size)?)
 }
 
-/// The list of the host file at a path, or the file's fault.
+/// What the file at a path holds, as text: a record where it begins with `NVR`, and else the commands of a host file, whose
+/// blocks have `size` bytes. Or the file's fault.
 pub fn list_of(
     alloc: Global,
     path: String,
     file: &Payload,
     size: BlockSize,
 ) -> Result<String, Fault>
-    ensures list { IfOk result (λ list. (cs : List Command) × IsHostFile size file.now cs
-        × (string_bytes list ≡ listing cs)) }
+    ensures list { IfOk result (λ list. Lists size file.now (string_bytes list)) }
+    ensures fault { IfErr result (IsListFault path size file.now) }
+{
+    if is_record(file.as_slice()) {
+        list_of_record(alloc, path, file)
+    } else {
+        list_of_commands(alloc, path, file, size)
+    }
+}
+
+/// Whether the bytes begin as those of a record.
+fn is_record(bytes: &[u8]) -> bool
+    ensures { result ≡ begins_as_record bytes.now }
+{
+    bytes.starts_with(b"NVR")
+}
+
+/// The list of the record at a path, or the file's fault.
+fn list_of_record(alloc: Global, path: String, file: &Payload) -> Result<String, Fault>
+    ensures list { IfOk result (λ list. ListsRecord file.now (string_bytes list)) }
+    ensures fault { IfErr result (IsFaultOfRecord path file.now) }
+{
+    let run = record_of(alloc, path, file)?;
+    Ok(list_record(alloc, &run)?)
+}
+
+/// The record at a path, or the file's fault.
+fn record_of(alloc: Global, path: String, file: &Payload) -> Result<Record, Fault>
+    ensures record { IfOk result (λ run. record_at file.now ≡ Ok run) }
+    ensures fault { IfErr result (IsFaultOfRecord path file.now) }
+{
+    match read_record(alloc, file) {
+        Ok(run) => Ok(run),
+        Err(fault) => Err(Fault::of_record(path, fault)),
+    }
+}
+
+/// The list of the host file at a path, or the file's fault.
+fn list_of_commands(
+    alloc: Global,
+    path: String,
+    file: &Payload,
+    size: BlockSize,
+) -> Result<String, Fault>
+    ensures list { IfOk result (λ list. ListsCommands size file.now (string_bytes list)) }
     ensures fault { IfErr result (IsFaultOfFile path size file.now) }
 {
     match list_file(alloc, file, size) {

@@ -1,7 +1,8 @@
 ghost use Rattle.std.specs.Prelude.{◌≡◌};
 ghost use Rattle.nvq.specs.declared.fault.Fault.TheVariants.{NoMemory};
-ghost use Rattle.nvq.specs.Fault.{fault_of_list, fault_of_file};
+ghost use Rattle.nvq.specs.Fault.{fault_of_list, fault_of_file, fault_of_record};
 
+use nvm_file::RecordFault;
 use nvm_list::{Expected, ListFault};
 use nvm_record::HostFault;
 use std::alloc::{AllocError, AllocFailed};
@@ -19,15 +20,24 @@ pub enum Fault {
     /// A line of the list is no command. Lines count from 1.
     #[error("nvq: line {line}: {expected}")]
     Line { line: u64, expected: Expected },
-    /// The file doesn't begin as a host file.
+    /// The file begins neither as a host file nor as a record.
     #[error("nvq: {path}: bad name")]
     BadName { path: String },
-    /// Something in the host file isn't whole; it begins at offset `at`, in bytes.
+    /// Something in the host file or the record isn't whole; it begins at offset `at`, in bytes.
     #[error("nvq: {path}: truncated at {at}")]
     Truncated { path: String, at: u64 },
     /// The host file has bytes after 65,536 commands.
     #[error("nvq: {path}: too many commands")]
     TooMany { path: String },
+    /// The record is of a version that isn't known.
+    #[error("nvq: {path}: unknown version")]
+    UnknownVersion { path: String },
+    /// Bytes follow the record, from offset `at` on.
+    #[error("nvq: {path}: trailing at {at}")]
+    Trailing { path: String, at: u64 },
+    /// The field at offset `at` of the record has a value that isn't allowed.
+    #[error("nvq: {path}: bad value at {at}")]
+    BadValue { path: String, at: u64 },
     /// Memory was asked for and refused.
     #[error("nvq: no memory")]
     NoMemory,
@@ -43,6 +53,20 @@ impl Fault {
             HostFault::Truncated { at } => Fault::Truncated { path, at },
             HostFault::TooMany => Fault::TooMany { path },
             HostFault::NoMemory => Fault::NoMemory,
+        }
+    }
+
+    /// The fault of a record.
+    pub fn of_record(path: String, fault: RecordFault) -> Fault
+        ensures { result ≡ fault_of_record path fault }
+    {
+        match fault {
+            RecordFault::BadName => Fault::BadName { path },
+            RecordFault::Version => Fault::UnknownVersion { path },
+            RecordFault::Truncated { at } => Fault::Truncated { path, at },
+            RecordFault::Trailing { at } => Fault::Trailing { path, at },
+            RecordFault::BadValue { at } => Fault::BadValue { path, at },
+            RecordFault::NoMemory => Fault::NoMemory,
         }
     }
 }

@@ -1,4 +1,4 @@
-//! The program `nvq`: makes lists of commands, which people write, into host files, and lists those.
+//! The program `nvq`: makes lists of commands, which people write, into host files, and lists those and records.
 #![tactic(auto)]
 
 mod conversion;
@@ -60,7 +60,7 @@ fn run_assemble<R: AllocGlobal + Files + Input + Print>(
     write_bytes(rt, out, &file)
 }
 
-/// Lists a host file on standard output.
+/// Lists a host file or a record on standard output.
 fn run_list<R: AllocGlobal + Files + Input + Print>(
     rt: &R,
     size: BlockSize,

@@ -13,7 +13,7 @@ pub enum Asked {
         list: String,
         out: String,
     },
-    /// `nvq list`: list a host file.
+    /// `nvq list`: list a host file or a record.
     List {
         size: BlockSize,
         file: String,
@@ -81,7 +81,7 @@ fn program<'a>(alloc: Global) -> Result<Command<'a>, Error> {
     Ok(
         Command::new(alloc, "nvq")
             .bin_name("nvq")?
-            .about("Makes lists of NVM commands into host files, and lists those")
+            .about("Makes lists of NVM commands into host files, and lists those and records")
             .no_binary_name(true)
             .subcommand_required(true)
             .subcommand(assemble)?
@@ -104,12 +104,14 @@ fn assemble_command<'a>(alloc: Global) -> Result<Command<'a>, Error> {
 
 /// `nvq list`.
 fn list_command<'a>(alloc: Global) -> Result<Command<'a>, Error> {
-    let command = Command::new(alloc, "list").about("Lists the commands of a host file");
+    let command = Command::new(alloc, "list").about(
+        "Lists the commands of a host file, or a record",
+    );
     let file = file(
         alloc,
         "file",
         "FILE",
-        "The host file, or - for standard input",
+        "The host file or record, or - for standard input",
     );
     Ok(command.arg(block(alloc))?.arg(file)?)
 }

@@ -1,0 +1,40 @@
+-- What is listed of a file, and what is answered in place of it: a file that begins with `NVR` is a record, any other is a
+-- host file.
+use Rattle.std.specs.Prelude.{◌≡◌, ℕ, Bool, true, false, String, List, take, codes, Ok}
+use Rattle.std.specs.Global.{Global}
+use Rattle.std.specs.Str.{bytes_eq}
+use Rattle.nvm_record.specs.HostFile.{IsHostFile}
+use Rattle.nvm_record.specs.declared.command.Command.{Command}
+use Rattle.nvm_audit.specs.RecordView.{RecordView}
+use Rattle.nvm_file.specs.Reading.{record_at}
+use Rattle.nvm_list.specs.Listing.{listing}
+use Rattle.nvm_report.specs.RecordListing.{record_listing}
+use Rattle.nvq.specs.Fault.{IsFaultOfFile, IsFaultOfRecord}
+use Rattle.nvq.specs.declared.fault.Fault.{Fault}
+
+abbrev pub begins_as_record : List ℕ → Bool
+begins_as_record file = bytes_eq (take 3 file) (codes "NVR")
+
+-- The text lists the record that the file holds.
+abbrev pub ListsRecord : List ℕ → List ℕ → Type 0
+ListsRecord file text = (run : RecordView) × (record_at file ≡ Ok run) × (text ≡ record_listing run)
+
+-- The text lists the commands of the host file.
+abbrev pub ListsCommands : ℕ → List ℕ → List ℕ → Type 0
+ListsCommands size file text = (cs : List Command) × IsHostFile size file cs × (text ≡ listing cs)
+
+-- The text lists what the file holds, which is a record or a host file.
+abbrev pub ListsAs : Bool → ℕ → List ℕ → List ℕ → Type 0
+ListsAs true size file text = ListsRecord file text
+ListsAs false size file text = ListsCommands size file text
+
+abbrev pub Lists : ℕ → List ℕ → List ℕ → Type 0
+Lists size file text = ListsAs (begins_as_record file) size file text
+
+-- The fault of a file, which should be a record or a host file, or want of memory.
+abbrev pub IsListFaultAs : Bool → String Global → ℕ → List ℕ → Fault → Type 0
+IsListFaultAs true path size file e = IsFaultOfRecord path file e
+IsListFaultAs false path size file e = IsFaultOfFile path size file e
+
+abbrev pub IsListFault : String Global → ℕ → List ℕ → Fault → Type 0
+IsListFault path size file e = IsListFaultAs (begins_as_record file) path size file e
