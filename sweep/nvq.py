@@ -1,11 +1,15 @@
-"""The runs of the program nvq that are swept: a host file as a list of commands, and back."""
+"""The runs of the program nvq that are swept: a host file as a list of commands, and back; and the listing of a record."""
 
 import os
 import re
+from dataclasses import replace
 
 from cases import Run
 from host_files import compare, dataset, file_of, pair, read, uncorrectable, unknown, write, zeroes
-from model import COMPARE, DATASET, WRITE, commands
+from model import COMPARE, DATASET, WRITE, Namespace, commands
+from record_listing import record_listing
+from recorded import recorded
+from records import spelled
 
 FUSES = ["", " first", " second", " reserved"]
 
@@ -68,6 +72,12 @@ def runs(folder):
     cut, empty = kept("cut.nvq", host[:700]), kept("empty.nvq", b"")
     many = kept("many.nvq", b"NVQ1" + file_of([unknown(0, 1)])[4:] * 65_536 + b"0")
     missing = os.path.join(folder, "missing")
+    of_hosts = recorded(Namespace(nabsn=7, limit=2), [host, file_of([read(6, 4)]), plain])
+    of_nobody = replace(recorded(Namespace(), [file_of([])], workers=3), version=1)
+    spelled_record = spelled(of_hosts)
+    record, first = kept("record", spelled_record), kept("first", spelled(of_nobody))
+    cut_record, more = kept("cut-record", spelled_record[:-1]), kept("more", spelled_record + b"0")
+    no_workers, later = kept("no-workers", spelled_record[:28] + bytes(2) + spelled_record[30:]), kept("later", b"NVR3")
     return [
         done("a list is assembled", ["assemble", list_, "out.nvq"], files={"out.nvq": host}),
         done("a list of large blocks is assembled", [*in_large("assemble"), large_list, "out"], files={"out": large}),
@@ -77,12 +87,19 @@ def runs(folder):
         done("a host file is listed", ["list", file], listing(host, 512)),
         done("a host file of large blocks is listed", [*in_large("list"), large_file], listing(large, 4096)),
         done("standard input is listed", ["list", "-"], listing(host, 512), input=file),
+        done("a record is listed", ["list", record], record_listing(of_hosts)),
+        done("a record of the first version is listed", [*in_large("list"), first], record_listing(of_nobody)),
+        done("a record on standard input is listed", ["list", "-"], record_listing(of_hosts), input=record),
         fault("a wrong line", "line 3: expected data of 512 bytes and not of 511", "assemble", wrong, "out"),
         fault("a missing list", f"cannot read {missing}", "assemble", missing, "out"),
         fault("a folder for the host file", f"cannot write {folder}", "assemble", list_, folder),
         fault("an empty file", f"{empty}: bad name", "list", empty),
         fault("a truncated file", f"{cut}: truncated at 68", "list", cut),
         fault("too many commands", f"{many}: too many commands", "list", many),
+        fault("a cut record", f"{cut_record}: truncated at {len(spelled_record) - 1}", "list", cut_record),
+        fault("a byte more than a record", f"{more}: trailing at {len(spelled_record)}", "list", more),
+        fault("no workers", f"{no_workers}: bad value at 28", "list", no_workers),
+        fault("a record of a later version", f"{later}: unknown version", "list", later),
         fault("a missing file", f"cannot read {missing}", "list", missing),
         refused("no words", []),
         refused("an unknown option", ["list", "--bogus", "1"]),
