@@ -1,4 +1,4 @@
-use crate::Limit;
+use nvm_store::Limit;
 
 #[test]
 fn a_limit_is_1_to_4194304(rt: HostRuntime) {

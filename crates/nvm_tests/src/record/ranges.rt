@@ -1,4 +1,4 @@
-use crate::{LbaRange, RANGE_BYTES, range_count, ranges_data};
+use nvm_record::{LbaRange, RANGE_BYTES, range_count, ranges_data};
 use std::test::Fail;
 
 /// The range of `blocks` blocks from `first`.

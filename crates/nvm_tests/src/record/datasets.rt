@@ -1,4 +1,4 @@
-use crate::{
+use nvm_record::{
     BlockSize, Command, EntryFields, Fuse, HostFault, LbaRange, Op, Payload, command_bytes,
     entry_fields, host_bytes, push_spelling, ranges_data, read_host,
 };

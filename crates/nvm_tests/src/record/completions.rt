@@ -1,4 +1,4 @@
-use crate::{Completion, Status, completion_bytes};
+use nvm_record::{Completion, Status, completion_bytes};
 
 /// By nvme/types.h of libnvme: the status from bit 1 of the last word (NVME_SC_COMPARE_FAILED is 285h), below it
 /// the phase tag.

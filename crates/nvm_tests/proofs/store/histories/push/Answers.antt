@@ -9,7 +9,7 @@ use Rattle.nvm_store.specs.History.{replay_of, CanFollow}
 use Rattle.nvm_store.specs.HistoryEntry.{HistoryEntry}
 use Rattle.nvm_store.specs.declared.place.Place.{Place}
 use Rattle.nvm_store.specs.Place.{place_at, IsCovered}
-use Rattle.nvm_store.proofs.tests.histories.push.Goals as goal
+use Rattle.nvm_tests.proofs.store.histories.push.Goals as goal
 
 pub returns : goal.returns
 returns c =

@@ -1,4 +1,4 @@
-use crate::Geometry;
+use nvm_geometry::Geometry;
 use nvm_record::{LbaRange, ranges_data};
 use std::test::Fail;
 

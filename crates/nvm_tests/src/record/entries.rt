@@ -1,4 +1,4 @@
-use crate::{Command, EntryFields, Fuse, Op, Payload, command_bytes, entry_fields};
+use nvm_record::{Command, EntryFields, Fuse, Op, Payload, command_bytes, entry_fields};
 
 /// The entry of a fused Compare of four blocks from LBA 0102030405060708h, with CID A1B2h and NSID C3D4E5F6h. Bytes
 /// that no field names hold `filler`.

@@ -1,4 +1,4 @@
-use crate::GeometryFault;
+use nvm_geometry::GeometryFault;
 use std::test::Fail;
 
 #[test]

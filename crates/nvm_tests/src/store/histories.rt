@@ -3,9 +3,9 @@ ghost use Rattle.nvm_store.specs.History.{IsLawfulHistory};
 ghost use Rattle.nvm_store.specs.Place.{place_at};
 
 use super::{BLOCK, block, size};
-use crate::laws::{acts_and_looks, lawful_with_one_more};
-use crate::{ActRef, Entry, History, Look, UnitBlocks, judge, judge_look, replay};
 use nvm_record::{BlockSize, LbaRange, Payload, Status, ranges_data};
+use nvm_store::laws::{acts_and_looks, lawful_with_one_more};
+use nvm_store::{ActRef, Entry, History, Look, UnitBlocks, judge, judge_look, replay};
 use std::alloc::Global;
 use std::test::Fail;
 

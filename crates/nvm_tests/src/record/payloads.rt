@@ -1,4 +1,4 @@
-use crate::Payload;
+use nvm_record::Payload;
 use std::test::Fail;
 
 /// Parts and shares are of the same bytes, whatever is let go of first.

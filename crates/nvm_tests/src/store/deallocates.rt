@@ -1,7 +1,7 @@
 //! What a Deallocate clears, keeps and copies.
 use super::{BLOCK, block, size};
-use crate::{Act, ActRef, Look, UnitBlocks, judge, judge_look};
 use nvm_record::{LbaRange, Payload, PayloadRef, Status, ranges_data};
+use nvm_store::{Act, ActRef, Look, UnitBlocks, judge, judge_look};
 use std::alloc::Global;
 use std::test::Fail;
 

@@ -1,4 +1,4 @@
-use crate::HostFault;
+use nvm_record::HostFault;
 use std::test::Fail;
 
 #[test]

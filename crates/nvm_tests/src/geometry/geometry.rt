@@ -1,4 +1,4 @@
-use crate::{Geometry, Piece};
+use nvm_geometry::{Geometry, Piece};
 use std::test::Fail;
 
 /// 32 blocks in units of eight from LBA 4 on, so units of 4, 8, 8, 8 and 4 blocks.

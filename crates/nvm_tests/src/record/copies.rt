@@ -1,4 +1,4 @@
-use crate::{Block, Command, Completion, Fuse, Op, Payload, ReadData, Status};
+use nvm_record::{Block, Command, Completion, Fuse, Op, Payload, ReadData, Status};
 use std::test::Fail;
 
 #[test]
