@@ -4,7 +4,11 @@
 #[cfg(test)]
 mod blocks;
 #[cfg(test)]
+mod file;
+#[cfg(test)]
 mod geometry;
+#[cfg(test)]
+mod plan;
 #[cfg(test)]
 mod record;
 #[cfg(test)]

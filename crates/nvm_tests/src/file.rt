@@ -1,6 +1,4 @@
 //! Files that were written by hand, and what is read of them.
-mod faults;
-mod threads;
 mod worked_record;
 mod written;
 

@@ -1,6 +1,6 @@
-use crate::tests::{command, dataset, job};
-use crate::{Body, Job, fits};
+use crate::plan::{command, dataset, job};
 use nvm_geometry::Geometry;
+use nvm_plan::{Body, Job, fits};
 use nvm_record::{Fuse, Op};
 use std::test::Fail;
 

@@ -1,6 +1,6 @@
 use super::worked_bytes;
-use crate::{read_record, upgrade, write_record};
 use nvm_audit::Record;
+use nvm_file::{UpgradeFault, read_record, upgrade, write_record};
 use nvm_record::Payload;
 use std::alloc::Global;
 use std::io;
@@ -55,6 +55,26 @@ fn an_upgraded_record_is_the_second_version(rt: HostRuntime) -> Result<(), Fail>
     assert_eq!(rt; record, worked_record(alloc, true)?);
     upgrade(&mut record)?;
     assert_eq!(rt; record, worked_record(alloc, true)?);
+    Ok(())
+}
+
+/// The first version keeps opcode 09h as an unknown one, and the second hasn't got that.
+#[test]
+fn an_unknown_opcode_has_no_second_form(rt: HostRuntime) -> Result<(), Fail> {
+    let alloc = rt.alloc();
+    let mut file = Vec::new(alloc);
+    file.extend_from_slice(b"NVR1\x20\0\0\0\0\0\0\0\0\x02\0\0\x07\0\0\0\x07\0\x03\0")?;
+    file.extend_from_slice(&[99, 0, 1, 0, 1, 0, 0, 0])?;
+    file.extend_from_slice(&[1, 0, 0, 9, 0, 1, 0, 1, 0, 0, 0])?;
+    // the rest of the command, and four units without an entry
+    file.extend_from_slice(&[0; 72])?;
+    file.extend_from_slice(&[1, 0, 0, 0, 0, 0, 0, 0, 0, 0, 0, 1, 0])?;
+    let file = Payload::new(alloc, file)?;
+    let mut record = read_record(alloc, &file)?;
+    assert_eq!(rt;
+        upgrade(&mut record).err(),
+        Some(UpgradeFault::Dataset { job: 0 })
+    );
     Ok(())
 }
 

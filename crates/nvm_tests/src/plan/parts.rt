@@ -1,7 +1,7 @@
 //! A job's parts in the units that it meets, and what its host is told.
-use crate::tests::{command, data_of, dataset, job};
-use crate::{Body, Completions, Job, LentPart, job_part_count, job_part_in, job_units};
+use crate::plan::{command, data_of, dataset, job};
 use nvm_geometry::Geometry;
+use nvm_plan::{Body, Completions, Job, LentPart, job_part_count, job_part_in, job_units};
 use nvm_record::{Fuse, Op, ReadData, Status, Statuses};
 use nvm_store::{Act, Look};
 use std::test::Fail;
@@ -22,7 +22,7 @@ fn read_over_two_units(rt: HostRuntime) -> Result<(), Fail> {
         }
         Completions::Two(_, _) => return Err(Fail::new("one completion")),
     }
-    if !crate::fits(&geometry, &job) {
+    if !nvm_plan::fits(&geometry, &job) {
         return Err(Fail::new("the job fits"));
     }
     assert_eq!(rt; job_part_count(&geometry, &job), 2);
@@ -41,7 +41,7 @@ fn read_over_two_units(rt: HostRuntime) -> Result<(), Fail> {
 fn ranges_in_two_units(rt: HostRuntime) -> Result<(), Fail> {
     let geometry = Geometry::new(32, 512, 7, 0, 7, 3).expect(&rt, "a geometry");
     let job = job(dataset(rt.alloc(), true, &[(9, 2), (0, 1), (10, 2)])?);
-    if !crate::fits(&geometry, &job) {
+    if !nvm_plan::fits(&geometry, &job) {
         return Err(Fail::new("the job fits"));
     }
     let cases: [(u16, u64, &[(u64, u32)]); 2] = [(0, 0, &[(0, 1)]), (1, 8, &[(9, 2), (10, 2)])];

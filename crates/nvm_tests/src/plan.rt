@@ -1,10 +1,8 @@
-//! What no clause says: rows of the table of checks and jobs of command lists, worked out by hand.
-mod checks;
+//! Jobs that fit and others, and the parts of jobs, worked out by hand.
 mod fit;
-mod job_list;
 mod parts;
 
-use crate::{Body, Job};
+use nvm_plan::{Body, Job};
 use nvm_record::{Command, Fuse, LbaRange, Op, Payload, ranges_data};
 use std::alloc::{AllocError, Global};
 
