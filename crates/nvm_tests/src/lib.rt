@@ -6,6 +6,8 @@ mod blocks;
 #[cfg(test)]
 mod file;
 #[cfg(test)]
+mod front;
+#[cfg(test)]
 mod geometry;
 #[cfg(test)]
 mod plan;

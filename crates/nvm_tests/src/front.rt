@@ -1,10 +1,11 @@
-use crate::{FileFault, Output};
+//! A file that appears whole or not at all.
+use nvm_front::{FileFault, Output};
 use std::fs;
 use std::io::Write;
 use std::test::Fail;
 
 /// A path of the test's own, and where its file stands until it is whole.
-const PATH: &str = "nvm_front_test";
+const PATH: &str = "nvm_tests_front";
 
 const BESIDE: &str = ".nvm-unfinished-0";
 
