@@ -1,5 +1,5 @@
 use Rattle.std.proofs.Common.{◌≡◌, ◌+◌, All, IfOk, length, vec_len}
-use Rattle.nvm_run.proofs.tests.threads.counter.together.Given as goal
+use Rattle.nvm_thread_tests.proofs.run.threads.counter.together.Given as goal
 
 -- The claims are those of the workers that are no longer left.
 abbrev pub invariant-loop-worker : goal.invariant-loop-worker

@@ -1,7 +1,7 @@
 //! Eight workers, each on a thread, and a thousand jobs.
 ghost use Rattle.std.specs.Prelude.{◌≡◌, [], All, IfOk, length};
 
-use crate::{Claim, Counter};
+use nvm_run::{Claim, Counter};
 use std::alloc::{AllocError, Global};
 use std::test::Fail;
 use std::thread::map_vec;

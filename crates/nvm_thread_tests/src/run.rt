@@ -7,11 +7,11 @@ ghost use Rattle.nvm_record.specs.declared.op.Op.TheVariants.{Other};
 ghost use Rattle.nvm_audit.specs.declared.version.Version.TheVariants.{Two};
 ghost use Rattle.nvm_audit.specs.Recordable.{HoldsBody};
 
-use crate::{RunFault, run};
 use nvm_audit::Record;
 use nvm_geometry::Geometry;
 use nvm_plan::{Body, Job, PartResult, fits};
 use nvm_record::{Command, Fuse, Op, Payload, Status, Statuses};
+use nvm_run::{RunFault, run};
 use nvm_store::Limit;
 use nvm_unit::Gate;
 use std::alloc::Global;

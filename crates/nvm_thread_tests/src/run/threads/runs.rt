@@ -1,8 +1,8 @@
 //! Runs by one worker and by many, and what stands in their records.
 use super::super::audited::is_lawful;
 use super::super::{Fitting, pair, single, successes};
-use crate::{RunFault, run};
 use nvm_record::{Op, Payload};
+use nvm_run::{RunFault, run};
 use nvm_store::Limit;
 use nvm_unit::Open;
 use std::test::Fail;

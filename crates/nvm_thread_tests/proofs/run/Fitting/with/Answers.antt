@@ -4,7 +4,7 @@ use Rattle.nvm_plan.specs.declared.job.Job.{Job}
 use Rattle.nvm_plan.specs.Fits.{FitsNamespace}
 use Rattle.nvm_audit.specs.declared.version.Version.TheVariants.{Two}
 use Rattle.nvm_audit.specs.Recordable.{HoldsBody}
-use Rattle.nvm_run.proofs.tests.Fitting.with.Goals as goal
+use Rattle.nvm_thread_tests.proofs.run.Fitting.with.Goals as goal
 
 pub invariant_of-result : goal.invariant_of-result
 invariant_of-result c =

@@ -6,9 +6,9 @@ mod threads;
 ghost use Rattle.std.specs.Prelude.{◌≡◌, IfOk};
 ghost use Rattle.nvm_unit.specs.Passes.{IsPassOf};
 
-use crate::{Changed, Gate, Pass, Unit};
 use nvm_record::BlockSize;
 use nvm_store::{ActRef, Limit, Place};
+use nvm_unit::{Changed, Gate, Pass, Unit};
 use std::alloc::Global;
 use std::sync::Wait;
 use std::test::Fail;

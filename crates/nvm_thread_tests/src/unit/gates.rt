@@ -1,27 +1,20 @@
-//! What a gate is told, and when.
+//! What a gate is told, and how often.
 use super::{change, two_passes};
-use crate::{Changed, Gate, Unit};
 use nvm_record::Payload;
 use nvm_store::ActRef;
+use nvm_unit::{Changed, Gate};
 use std::sync::atomic::{AtomicU64, Ordering};
 use std::test::Fail;
 
-/// Whether somebody holds the unit.
-fn is_held(unit: &Unit) -> bool {
-    unit.latch.desk.is_held()
-}
-
-/// Counts its calls for job 5 of unit 3 at which the unit was held.
+/// Counts its calls for job 5 of unit 3.
 #[derive(Drop)]
-struct Noting<'a> {
-    unit: &'a Unit,
+struct Counting {
     calls: AtomicU64,
 }
 
-impl Gate for Noting<'_> {
+impl Gate for Counting {
     fn before_put(&self, unit: u16, job: u32) {
-        let held = is_held(self.unit);
-        if unit == 3 && job == 5 && held {
+        if unit == 3 && job == 5 {
             self.calls.fetch_add(1, Ordering::SeqCst);
         }
     }
@@ -30,10 +23,9 @@ impl Gate for Noting<'_> {
 }
 
 #[test]
-fn the_gate_is_called_once_and_under_the_hold(rt: HostRuntime) -> Result<(), Fail> {
+fn the_gate_is_called_once_a_change(rt: HostRuntime) -> Result<(), Fail> {
     let (unit, mut first, _second) = two_passes(rt.alloc(), 1)?;
-    let gate = Noting {
-        unit: &unit,
+    let gate = Counting {
         calls: AtomicU64::new(0),
     };
     let zeroes = ActRef::Zeroes {
@@ -53,6 +45,5 @@ fn the_gate_is_called_once_and_under_the_hold(rt: HostRuntime) -> Result<(), Fai
     let failed = change(rt.alloc(), &rt, &unit, &mut first, failing, &gate)?;
     assert!(rt; matches!(failed, Changed::Failed { point: 1, .. }));
     assert_eq!(rt; gate.calls.load(Ordering::SeqCst), 2);
-    assert!(rt; !is_held(&unit));
     Ok(())
 }

@@ -4,7 +4,7 @@ use Rattle.nvm_unit.specs.Ends.{pass_at, new_passes}
 use Rattle.nvm_unit.specs.Machine.{newcomers_from}
 use Rattle.nvm_unit.specs.Passes.{PassState, UnitName}
 use Rattle.nvm_unit.specs.Views.{newcomer}
-use Rattle.nvm_unit.proofs.tests.two_passes.Goals as goal
+use Rattle.nvm_thread_tests.proofs.unit.two_passes.Goals as goal
 
 -- What is popped from a list of two, the last first.
 popped : (a b x y : PassState) (rest : List PassState) → a ∷ b ∷ [] ≡ (rest ++ x ∷ []) ++ y ∷ [] → (x ≡ a) × (y ≡ b)

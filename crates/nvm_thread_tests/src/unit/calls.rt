@@ -3,9 +3,9 @@ ghost use Rattle.std.specs.Prelude.{◌≡◌};
 ghost use Rattle.nvm_unit.specs.Passes.{IsPassOf};
 
 use super::{BLOCK, change, two_passes};
-use crate::{Changed, Open, Pass, Unit};
 use nvm_record::{LbaRange, Payload, Status, ranges_data};
 use nvm_store::{ActRef, Answer, Look};
+use nvm_unit::{Changed, Open, Pass, Unit};
 use std::alloc::Global;
 use std::sync::Wait;
 use std::test::Fail;
