@@ -50,6 +50,11 @@ def pair_at(*results):
     return one(pair(compare(0, 0), write(0, 0x55)), Done(0, results, ((0, 0), (0, 0))))
 
 
+def pair_failed(compared, *statuses):
+    """The record of a pair on a block of zero bytes, which compared with these bytes and is told to have failed."""
+    return one(pair(compare(0, compared), write(0, 0x55)), Done(0, ((0, 0, FAILED),), statuses))
+
+
 WRONG = b"\x42" * 512
 # Records, and the line of each.
 FORGED = [
@@ -74,6 +79,17 @@ FORGED = [
     (replace(seen(data=WRONG), units=((replace(ENTRIES[0], blocks=2, data=WRONG * 2), ENTRIES[1]), (), (), ())), "unlawful EntryWrong job 1 unit 0 place 0"),
     (seen(parts=((0, 0, LOOKED),), data=WRONG), "unlawful PointBack job 2 unit 0 place 0"),
     (seen(parts=((0, 3, LOOKED),), data=WRONG), "unlawful PointPast job 2 unit 0 place 3"),
+    (changes(replace(ENTRIES[0], worker=0), replace(ENTRIES[1], data=b"\x43" + BLOCK[1:])), "unlawful EntryUnclaimed job 1 unit 0 place 0"),
+    (replace(seen(data=WRONG), units=((ENTRIES[0], replace(ENTRIES[1], data=WRONG)), (), (), ())), "unlawful EntryWrong job 0 unit 0 place 1"),
+    (replace(seen(data=WRONG), done=((WRITTEN, replace(SEEN, data=WRONG)), (replace(OTHER, parts=((0, 9, DONE),)),))), "unlawful EntryUnclaimed job 1 unit 0 place 0"),
+    (
+        replace(TWO, done=((replace(WRITTEN, statuses=((0, 0x80),)), SEEN), (OTHER,)), units=((replace(ENTRIES[0], worker=0), ENTRIES[1]), (), (), ())),
+        "unlawful StatusWrong job 0 unit - place -",
+    ),
+    (pair_failed(0, (0, 0), (0, 0)), "unlawful StatusWrong job 0 unit 0 place 0"),
+    (pair_failed(0, (2, 0x85), (0, 9)), "unlawful StatusWrong job 0 unit 0 place 0"),
+    (pair_failed(1, (0, 0), (0, 0)), "unlawful StatusWrong job 0 unit 0 place 0"),
+    (pair_failed(1, (2, 0x85), (0, 9)), "lawful jobs 1 units 4 changes 0 refused 0"),
     (one([write(0, 0x41)], Done(0, ((0, 0, DONE),), ((0, 0),))), "unlawful PointPast job 0 unit 0 place 0"),
     (one([write(0, 0x41)], Done(0, (), ((0, 6),))), "lawful jobs 1 units 4 changes 0 refused 1"),
     (one([write(0, 0x41)], Done(0, ((0, 0, 4),), ((0, 6),))), "lawful jobs 1 units 4 changes 0 refused 1"),
@@ -88,6 +104,53 @@ FORGED = [
 UNKNOWN = Job(1, (Command(DATASET, 0, 1, 1, 0, 1, ()),))
 OLD = Record(1, SPACE, 1, (UNKNOWN,), ((), (), (), ()), ((Done(0, (), ((0, 1),)),),))
 SPOILS = (0x00, 0x01, 0x7F, 0x80, 0xFF)
+
+# Where each field begins in the first version's record of ROW with a limit of 100, and where the file ends, by hand.
+STARTS = (
+    *(4, 12, 16, 18, 20, 22, 24, 26, 28, 32, 34, 35, 99, 611, 613, 614, 678, 682, 684, 688, 689, 697, 701, 1213, 1217, 1221, 1225, 1229),
+    *(1233, 1235, 1237, 1241, 1242, 1243, 1244, 1245, 1249, 1251, 1253, 1257, 1258, 1259, 1260, 1261, 1773),
+)
+# Bytes at an offset of it that aren't allowed there, and the field that is named, by hand.
+BAD_VALUES = [
+    # no LBA, another block size, an offset without a boundary
+    (4, b"\0", 4),
+    (12, b"\x01", 4),
+    (16, b"\0\0\x01", 4),
+    # no worker, 65 of them, more than 4,194,304 jobs
+    (26, b"\0", 26),
+    (26, b"\x41", 26),
+    (28, b"\x01\0\x40", 28),
+    # host 0, host 65, a kind of job that there isn't
+    (32, b"\0", 32),
+    (32, b"\x41", 32),
+    (34, b"\x02", 34),
+    # a pair of a command that is no first, bits that no field names, a pair of an unknown opcode, a first whose second isn't one
+    (34, b"\x01", 35),
+    (36, b"\x04", 35),
+    (43, b"\x01", 35),
+    (98, b"\x80", 35),
+    (34, b"\x01\x09\x01", 35),
+    (34, b"\x01\x01\x01", 611),
+    # more entries than the limit, another worker's pass, no such job, no such kind
+    (678, b"\x65", 678),
+    (682, b"\x01", 682),
+    (684, b"\x02", 684),
+    (688, b"\0", 688),
+    (688, b"\x05", 688),
+    # no block, more blocks than the unit has, blocks of the next unit
+    (697, b"\0", 697),
+    (697, b"\x09", 697),
+    (689, b"\x08", 697),
+    # no such job, more parts than units, no such unit, no such result
+    (1229, b"\x02", 1229),
+    (1233, b"\x05", 1233),
+    (1235, b"\x04", 1235),
+    (1241, b"\x06", 1241),
+    # data of a Write, no such flag, data of a Read of another namespace, which is refused
+    (1244, b"\x01", 1244),
+    (1260, b"\x02", 1260),
+    (618, b"\x02", 1260),
+]
 
 
 def audited(run, file, told=None):
@@ -136,6 +199,7 @@ def spoiled(run):
         for at in outside:
             for byte in SPOILS:
                 audited(run, file[:at] + bytes([byte]) + file[at + 1 :])
+    by_hand(run)
     file = spelled(recorded(SPACE, ROW))
     audited(run, file[:26], "nvmu: record: truncated at 24")
     audited(run, b"NVR3" + file[4:], "nvmu: record: unknown version")
@@ -145,3 +209,17 @@ def spoiled(run):
     # A forged count of jobs, in a file of few bytes.
     audited(run, file[:30] + b"\x00\x00\x40\x00", "nvmu: record: truncated at 34")
     audited(run, file[:30] + b"\x01\x00\x40\x00", "nvmu: record: bad value at 30")
+
+
+def by_hand(run):
+    """The record of the first version, cut and spoiled, with the fields that were counted out by hand."""
+    file = spelled(replace(recorded(SPACE, ROW), version=1))
+    run.hold("its length", len(file), STARTS[-1])
+    for start, end in zip(STARTS, STARTS[1:]):
+        for length in {start, (start + end) // 2, end - 1}:
+            audited(run, file[:length], f"nvmu: record: truncated at {start}")
+    for at, content, field in BAD_VALUES:
+        audited(run, file[:at] + content + file[at + len(content) :], f"nvmu: record: bad value at {field}")
+    # any point and any status
+    for at, content in ((1237, b"\xff" * 4), (1242, b"\xff" * 2)):
+        audited(run, file[:at] + content + file[at + len(content) :], "unlawful StatusWrong job 0 unit - place -" if at == 1242 else None)

@@ -22,7 +22,7 @@ def both(first, blocks, compared, written):
     return pair(equal(compare, first, blocks, compared), equal(write, first, blocks, written))
 
 
-FIRST, SECOND = {"fuse": 1}, {"fuse": 2}
+FIRST, SECOND, RESERVED = {"fuse": 1}, {"fuse": 2}, {"fuse": 3}
 
 # The options that are other ones, the commands of each host, and what is printed.
 ROWS = {
@@ -132,6 +132,69 @@ lawful jobs 3 units 4 changes 2 refused 0
 1 3 read 0/0b
 lawful jobs 3 units 4 changes 0 refused 0
 """),
+    "checks in their order, each with reasons for later ones": (
+        {},
+        [[
+            unknown(32, 1, nsid=2, **RESERVED),
+            write(32, 0x41, nsid=2, **RESERVED),
+            compare(32, 0, nsid=2, **FIRST),
+            read(32, 1, nsid=2**32 - 1),
+            zeroes(31, 2),
+            read(31, 1),
+        ]],
+        """1 1 op-7f 0/01
+1 2 write 0/02
+1 3 compare 0/0a
+1 4 read 0/0b
+1 5 zeroes 0/80
+1 6 read 0/00 512*00
+lawful jobs 6 units 4 changes 0 refused 0
+""",
+    ),
+    "checks of pairs in their order": (
+        {},
+        [[
+            *pair(equal(compare, 5, 4, 0, nsid=2), zeroes(6, 4)),
+            *pair(compare(32, 0), write(33, 0x41, nsid=2)),
+            *pair(compare(32, 0), write(33, 0x41)),
+            *both(28, 8, 0, 0x41),
+            *both(7, 2, 0, 0x41),
+            read(28, 4),
+        ]],
+        """1 1 compare 0/02
+1 2 zeroes 0/02
+1 3 compare 0/0b
+1 4 write 0/09
+1 5 compare 0/02
+1 6 write 0/02
+1 7 compare 0/80
+1 8 write 0/09
+1 9 compare 0/14
+1 10 write 0/09
+1 11 read 0/00 2048*00
+lawful jobs 6 units 4 changes 0 refused 0
+""",
+    ),
+    "hosts with unlike numbers of jobs": (
+        {},
+        [
+            [compare(0, 0, **FIRST), unknown(0, 1), write(0, 0x41, **SECOND), compare(0, 0, **FIRST), *both(0, 1, 0x42, 0x43)],
+            [],
+            [write(0, 0x41, **SECOND), *both(0, 1, 0, 0x42), compare(0, 0x42, **RESERVED)],
+        ],
+        """1 1 compare 0/0a
+3 1 write 0/0a
+1 2 op-7f 0/01
+3 2 compare 0/00
+3 3 write 0/00
+1 3 write 0/0a
+3 4 compare 0/02
+1 4 compare 0/0a
+1 5 compare 0/00
+1 6 write 0/00
+lawful jobs 8 units 4 changes 2 refused 0
+""",
+    ),
     "deallocated blocks": ({}, [[equal(write, 6, 4, 0x42), dataset((7, 2)), read(6, 4)]], """1 1 write 0/00
 1 2 dataset 0/00
 1 3 read 0/00 512*42,1024*00,512*42

@@ -9,8 +9,6 @@ mod levels;
 mod source;
 mod stored_block;
 mod stretches;
-#[cfg(test)]
-mod tests;
 mod tree;
 
 pub use blocks::Blocks;

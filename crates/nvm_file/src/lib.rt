@@ -18,8 +18,6 @@ mod reading;
 mod record_fault;
 mod rest;
 mod standing;
-#[cfg(test)]
-mod tests;
 mod upgrade_fault;
 mod upgrading;
 mod writing;

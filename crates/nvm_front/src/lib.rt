@@ -7,8 +7,6 @@
 
 mod files;
 mod output;
-#[cfg(test)]
-mod tests;
 mod unfinished;
 mod words;
 

@@ -14,6 +14,3 @@ pub use geometry::{Geometry, MOST_BLOCKS, MOST_UNITS};
 pub use geometry_fault::GeometryFault;
 pub use parts::Parts;
 pub use piece::Piece;
-
-#[cfg(test)]
-mod tests;

@@ -21,8 +21,6 @@ mod part;
 mod place;
 mod profile;
 mod reach;
-#[cfg(test)]
-mod tests;
 mod units;
 
 pub use checks::plan;

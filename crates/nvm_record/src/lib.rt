@@ -42,6 +42,3 @@ pub use status::{Status, Statuses};
 
 /// Memory was asked for and refused.
 pub type NoMemory = std::alloc::AllocError;
-
-#[cfg(test)]
-mod tests;

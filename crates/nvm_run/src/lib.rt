@@ -16,8 +16,6 @@ mod running;
 mod seats;
 mod shown;
 mod steps;
-#[cfg(test)]
-mod tests;
 mod worker;
 mod workers;
 

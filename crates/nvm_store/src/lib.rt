@@ -18,8 +18,6 @@ mod limit;
 mod look;
 mod place;
 mod step;
-#[cfg(test)]
-mod tests;
 mod unit_blocks;
 
 pub use act::Act;

@@ -21,8 +21,6 @@ mod replies;
 mod rule;
 mod seats;
 mod steps;
-#[cfg(test)]
-mod tests;
 mod unit;
 mod unit_fault;
 mod views;

@@ -182,11 +182,3 @@ pub fn close(desk: Desk, token: Token) -> History
     closed.free();
     book.into_history()
 }
-
-#[cfg(test)]
-impl Desk {
-    /// Whether somebody holds the unit.
-    pub fn is_held(&self) -> bool {
-        self.table.shared.peek(0) % 2 == 1
-    }
-}

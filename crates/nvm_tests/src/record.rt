@@ -1,0 +1,8 @@
+//! Bytes that were written by hand, and what is read of them.
+mod completions;
+mod copies;
+mod datasets;
+mod entries;
+mod host_faults;
+mod payloads;
+mod ranges;

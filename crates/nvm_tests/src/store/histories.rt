@@ -1,0 +1,112 @@
+ghost use Rattle.std.specs.Prelude.{OnOk};
+ghost use Rattle.nvm_store.specs.History.{IsLawfulHistory};
+ghost use Rattle.nvm_store.specs.Place.{place_at};
+
+use super::{BLOCK, block, size};
+use nvm_record::{BlockSize, LbaRange, Payload, Status, ranges_data};
+use nvm_store::laws::{acts_and_looks, lawful_with_one_more};
+use nvm_store::{ActRef, Entry, History, Look, UnitBlocks, judge, judge_look, replay};
+use std::alloc::Global;
+use std::test::Fail;
+
+/// Adds the act to a history of the unit of the 4 blocks from LBA 8, if it succeeds after the others.
+fn push(alloc: Global, size: BlockSize, history: &mut History, act: ActRef<'_>) -> Result<(), Fail>
+    requires { IsLawfulHistory (place_at 8 4 size) history.old.items }
+    ensures { OnOk result (IsLawfulHistory (place_at 8 4 size) history.new.items) }
+{
+    lawful_with_one_more();
+    acts_and_looks();
+    let unit = replay(alloc, 8, 4, size, history)?;
+    if !unit.covers(act) {
+        return Err(Fail::new("the unit doesn't cover the act"));
+    }
+    if !judge(&unit, act).is_success() {
+        return Err(Fail::new("the act fails"));
+    }
+    let act = act.to_act(alloc)?;
+    history.push(Entry {
+        pass: 0,
+        job: 0,
+        act,
+    })?;
+    Ok(())
+}
+
+/// Adds a Write of two blocks of this byte.
+fn push_write(
+    alloc: Global,
+    size: BlockSize,
+    history: &mut History,
+    first: u64,
+    byte: u8,
+) -> Result<(), Fail>
+    requires { IsLawfulHistory (place_at 8 4 size) history.old.items }
+    ensures { OnOk result (IsLawfulHistory (place_at 8 4 size) history.new.items) }
+{
+    let payload = Payload::copy_of(alloc, &[byte; 2 * BLOCK])?;
+    let write = ActRef::Write {
+        first,
+        blocks: 2,
+        payload: payload.lend(),
+    };
+    push(alloc, size, history, write)
+}
+
+/// Adds the Deallocate of the range on all 4 blocks.
+fn push_deallocate(
+    alloc: Global,
+    size: BlockSize,
+    history: &mut History,
+    range: LbaRange,
+) -> Result<(), Fail>
+    requires { IsLawfulHistory (place_at 8 4 size) history.old.items }
+    ensures { OnOk result (IsLawfulHistory (place_at 8 4 size) history.new.items) }
+{
+    let ranges = ranges_data(alloc, &[range])?;
+    let deallocate = ActRef::Deallocate {
+        first: 8,
+        blocks: 4,
+        ranges: ranges.lend(),
+    };
+    push(alloc, size, history, deallocate)
+}
+
+/// Whether all bytes of the block at the LBA are this one.
+fn has(unit: &UnitBlocks, first: u64, byte: u8) -> bool {
+    let look = Look::Compare {
+        first,
+        blocks: 1,
+        payload: &block(byte),
+    };
+    unit.covers_look(look) && judge_look(unit, look) == Status::SUCCESSFUL_COMPLETION
+}
+
+#[test]
+fn replay_does_the_entries_in_order(rt: HostRuntime) -> Result<(), Fail> {
+    let size = size()?;
+    let mut history = Vec::new(rt.alloc());
+    push_write(rt.alloc(), size, &mut history, 8, 1)?;
+    push_write(rt.alloc(), size, &mut history, 9, 2)?;
+    let unit = replay(rt.alloc(), 8, 4, size, &history)?;
+    for (first, byte) in [(8, 1), (9, 2), (10, 2), (11, 0)] {
+        assert!(rt; has(&unit, first, byte), "at {first}");
+    }
+    Ok(())
+}
+
+#[test]
+fn replay_clears_what_was_deallocated(rt: HostRuntime) -> Result<(), Fail> {
+    let size = size()?;
+    let mut history = Vec::new(rt.alloc());
+    push_write(rt.alloc(), size, &mut history, 8, 1)?;
+    let range = LbaRange {
+        first: 0,
+        blocks: 9,
+    };
+    push_deallocate(rt.alloc(), size, &mut history, range)?;
+    let unit = replay(rt.alloc(), 8, 4, size, &history)?;
+    for (first, byte) in [(8, 0), (9, 1), (10, 0)] {
+        assert!(rt; has(&unit, first, byte), "at {first}");
+    }
+    Ok(())
+}

@@ -1,0 +1,62 @@
+//! A unit of LBAs 0 to 7 with blocks of 512 bytes, and two passes.
+mod calls;
+mod gates;
+mod threads;
+
+ghost use Rattle.std.specs.Prelude.{◌≡◌, IfOk};
+ghost use Rattle.nvm_unit.specs.Passes.{IsPassOf};
+
+use nvm_record::BlockSize;
+use nvm_store::{ActRef, Limit, Place};
+use nvm_unit::{Changed, Gate, Pass, Unit};
+use std::alloc::Global;
+use std::sync::Wait;
+use std::test::Fail;
+
+const BLOCK: usize = 512;
+
+/// The unit, whose number is 3, and its two passes.
+fn two_passes(alloc: Global, limit: u32) -> Result<(Unit, Pass, Pass), Fail>
+    ensures of { IfOk result (λ u. IsPassOf u.0 u.1 × IsPassOf u.0 u.2) }
+    ensures count { IfOk result (λ u. u.0.bounds.passes ≡ 2) }
+    ensures numbers { IfOk result (λ u. (u.1.view.number ≡ 0) × (u.2.view.number ≡ 1)) }
+{
+    let place = Place {
+        first: 0,
+        blocks: 8,
+        size: BlockSize::BYTES_512,
+    };
+    let limit = Limit::new(limit).ok_or("there is no such limit")?;
+    let Ok((unit, mut passes)) = Unit::new(alloc, 3, place, 2, limit) else {
+        return Err(Fail::new("there was no memory"));
+    };
+    let Some(second) = passes.pop() else {
+        return Err(Fail::new("there is no second pass"));
+    };
+    let Some(first) = passes.pop() else {
+        return Err(Fail::new("there is no first pass"));
+    };
+    Ok((unit, first, second))
+}
+
+/// Does the act as job 5, for which there must be memory.
+fn change<R: Wait, G: Gate>(
+    alloc: Global,
+    rt: &R,
+    unit: &Unit,
+    pass: &mut Pass,
+    act: ActRef<'_>,
+    gate: &G,
+) -> Result<Changed, Fail>
+    requires { IsPassOf unit.now pass.old }
+    ensures of { IsPassOf unit.now pass.new }
+    ensures number { pass.new.view.number ≡ pass.old.view.number }
+{
+    if !unit.covers(act) {
+        return Err(Fail::new("the unit doesn't cover the act"));
+    }
+    match unit.change(rt, alloc, pass, 5, act, gate) {
+        Changed::NoMemory { .. } => Err(Fail::new("there was no memory")),
+        changed => Ok(changed),
+    }
+}
