@@ -1,4 +1,5 @@
 //! Files that were written by hand, and what is read of them.
+mod threads;
 mod worked_record;
 mod written;
 
