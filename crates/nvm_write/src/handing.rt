@@ -1,7 +1,7 @@
 //! Bytes to a writer, of which it is known how many it took where it fails.
 ghost use Rattle.std.specs.Prelude.{OnErr, OnOk};
 ghost use Rattle.std.specs.Io.KnownBytes.{Appends};
-ghost use Rattle.nvm_file.specs.Handed.{TakesFront};
+ghost use Rattle.nvm_write.specs.Handed.{TakesFront};
 
 use std::io;
 use std::io::{Error, ErrorKind, Write};
@@ -31,5 +31,8 @@ pub fn hand<W: Write>(writer: &mut W, bytes: &[u8]) -> io::Result<()>
 
 /// What is answered where the writer takes no more.
 fn taken_none() -> Error {
-    Error::new(ErrorKind::WriteZero, "failed to write the whole record")
+    Error::new(
+        ErrorKind::WriteZero,
+        "failed to write the whole of the bytes",
+    )
 }
