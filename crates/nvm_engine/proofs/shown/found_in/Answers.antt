@@ -5,8 +5,9 @@ use Rattle.nvm_audit.specs.LawfulRecord.{IsLawfulRecord}
 use Rattle.nvm_audit.specs.Recordable.{most_jobs}
 use Rattle.nvm_audit.specs.RecordedJob.{RecordedJob}
 use Rattle.nvm_audit.specs.Shown.{shown_by}
-use Rattle.nvm_engine.proofs.LawfulDone.{of_jobs, each_noted, have_statuses}
-use Rattle.nvm_engine.proofs.record_text.text_of.Goals as goal
+use Rattle.nvm_engine.specs.Inside.Standings.{AreAllNoted}
+use Rattle.nvm_engine.proofs.LawfulDone.{each_noted, of_jobs}
+use Rattle.nvm_engine.proofs.shown.found_in.Goals as goal
 
 pub standings-requires-clause-numbers : goal.standings-requires-clause-numbers
 standings-requires-clause-numbers c =
@@ -20,14 +21,8 @@ standings-requires-clause-few c =
     subst (λ (work : List RecordedJob). length work ≤ most_jobs) (get_or-map (λ work. work.items) c.run.inside.done.items k d)
     (c.run.invariant.done k d.items (rw length-map lt)).few)
 
-pub lines_of-requires-clause-found : goal.lines_of-requires-clause-found
-lines_of-requires-clause-found c =
+pub returns-clause-found : goal.returns-clause-found
+returns-clause-found c =
     let noted = rw (c.as_slice-done.ensures.value) at c.in_ok-found.ensures in
-    rw (c.as_slice-done.ensures.value, c.as_slice-jobs.ensures.value, c.as_slice.ensures.value)
-    (each_noted (shown_by c.run.inside) (subst IsLawfulRecord (sym c.run.view_is) c.requires) c.in_ok-found.found.items
-    (rw length-map noted))
-
-pub lines_of-requires-clause-statuses : goal.lines_of-requires-clause-statuses
-lines_of-requires-clause-statuses c =
-    rw (c.as_slice-done.ensures.value, c.as_slice-jobs.ensures.value)
-    (have_statuses (shown_by c.run.inside) (subst IsLawfulRecord (sym c.run.view_is) c.requires) c.each_command_has_a_status.ensures.shape)
+    subst (λ r. AreAllNoted r c.in_ok-found.found.items) c.run.view_is
+    (each_noted (shown_by c.run.inside) (subst IsLawfulRecord (sym c.run.view_is) c.requires) c.in_ok-found.found.items (rw length-map noted))
