@@ -3,3 +3,4 @@ pub mod Noting
 pub mod Telling
 pub mod LawfulDone
 pub mod OneText
+pub mod Printing

@@ -102,7 +102,7 @@ module _ (done : List (List RecordedJob)) (same : (number : ℕ) (d e : Recorded
       cc
 
 -- where each job was done there is what was told of it
-told_some : (done : List (List RecordedJob)) (number : ℕ) (jobs : List Job)
+pub told_some : (done : List (List RecordedJob)) (number : ℕ) (jobs : List Job)
     → ((k : ℕ) → k < length jobs → (d : RecordedJob) × IsDoneJob done (number + k) d)
     → (told : List Completions) × AreTold done number jobs told
 told_some done number [] each = ([], tt)

@@ -1,42 +1,34 @@
--- What is shown of a record that is audited: the line of its verdict, or of its first fault.
-use Rattle.std.specs.Prelude.{◌≡◌, ◌⊎◌, ℕ, List, None, Err}
+-- What is told of the bytes of a record's file that is audited.
+use Rattle.std.specs.Prelude.{◌≡◌, ◌≢◌, ◌⊎◌, ℕ, List, Result, Ok, Err}
 use Rattle.nvm_audit.specs.LawfulRecord.{IsLawfulRecord}
 use Rattle.nvm_audit.specs.RecordChecks.{IsFirstFault}
 use Rattle.nvm_audit.specs.RecordView.{RecordView}
 use Rattle.nvm_audit.specs.Verdict.{IsVerdict}
 use Rattle.nvm_audit.specs.declared.audit_fault.AuditFault.{AuditFault}
+use Rattle.nvm_audit.specs.declared.audit_fault.AuditFault.TheVariants.{NoMemory as NoMemoryFault}
 use Rattle.nvm_audit.specs.declared.verdict.Verdict.{Verdict}
 use Rattle.nvm_file.specs.Reading.{record_at}
 use Rattle.nvm_file.specs.RecordFile.{IsRecordFile}
 use Rattle.nvm_file.specs.declared.record_fault.RecordFault.{RecordFault}
 use Rattle.nvm_engine.specs.Fault.{fault_of_record}
-use Rattle.nvm_engine.specs.VerdictLine.{lawful_line, unlawful_line}
 use Rattle.nvm_engine.specs.declared.fault.Fault.{Fault}
 use Rattle.nvm_engine.specs.declared.fault.Fault.TheVariants.{NoMemory}
-use Rattle.nvm_engine.specs.declared.shown.Shown.{Shown}
 
--- The record is lawful, and the text is the line of its verdict. The status is 0.
-pub record IsAccepted (r : RecordView) (text : List ℕ) (status : ℕ) : Type 0 where
-  pub lawful : IsLawfulRecord r
-  pub verdict : Verdict
-  pub counted : IsVerdict r verdict
-  pub text_is : text ≡ lawful_line verdict
-  pub status_is : status ≡ 0
+-- The answer is one on the record: it isn't want of memory.
+abbrev pub IsKnown : Result Verdict AuditFault → Type 0
+IsKnown answer = answer ≢ Err NoMemoryFault
 
--- The text is the line of the record's first fault. The status is 2.
-pub record IsRejected (r : RecordView) (text : List ℕ) (status : ℕ) : Type 0 where
-  pub fault : AuditFault
-  pub first : IsFirstFault r fault
-  pub text_is : text ≡ unlawful_line fault
-  pub status_is : status ≡ 2
+-- The record is lawful, with the verdict's numbers; or the fault is its first.
+abbrev pub IsJudgedAs : RecordView → Result Verdict AuditFault → Type 0
+IsJudgedAs r (Ok verdict) = IsLawfulRecord r × IsVerdict r verdict
+IsJudgedAs r (Err fault) = IsFirstFault r fault
 
--- The bytes are a record file, and its record is accepted or rejected. No record is given.
-pub record IsJudged (bytes : List ℕ) (shown : Shown) : Type 0 where
+-- The bytes are the file of a record that is judged so.
+pub record IsJudged (bytes : List ℕ) (answer : Result Verdict AuditFault) : Type 0 where
   pub run : RecordView
   pub file : IsRecordFile bytes run
-  pub judged : IsAccepted run shown.text.items shown.status ⊎ IsRejected run shown.text.items shown.status
-  pub rec : shown.record ≡ None
+  pub judged : IsJudgedAs run answer
 
--- The first fault of the bytes as a record file. Want of memory stands beside it.
-abbrev pub IsJudgeFault : List ℕ → Fault → Type 0
-IsJudgeFault bytes fault = ((of : RecordFault) × (record_at bytes ≡ Err of) × (fault ≡ fault_of_record of)) ⊎ (fault ≡ NoMemory)
+-- It is the first fault of the bytes as a record's file. Want of memory stands beside it.
+abbrev pub IsUnreadFault : List ℕ → Fault → Type 0
+IsUnreadFault bytes fault = ((of : RecordFault) × (record_at bytes ≡ Err of) × (fault ≡ fault_of_record of)) ⊎ (fault ≡ NoMemory)

@@ -3,6 +3,7 @@ pub mod Fault
 pub mod Lines
 pub mod RecordLines
 pub mod VerdictLine
+pub mod Printed
 pub mod Shown
 pub mod Judged
 pub mod Inside

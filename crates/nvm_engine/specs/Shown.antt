@@ -1,5 +1,5 @@
 -- What a run shows of its settings and the hosts' files.
-use Rattle.std.specs.Prelude.{◌≡◌, ◌≤◌, ℕ, List, [], ◌∷◌, ◌++◌, Some, length}
+use Rattle.std.specs.Prelude.{◌≤◌, ℕ, List, [], ◌∷◌, length}
 use Rattle.nvm_record.specs.HostFile.{IsHostFile}
 use Rattle.nvm_record.specs.declared.command.Command.{Command}
 use Rattle.nvm_plan.specs.Jobs.{IsJobList}
@@ -7,14 +7,9 @@ use Rattle.nvm_plan.specs.declared.job.Job.{Job}
 use Rattle.nvm_plan.specs.Fits.{most_hosts}
 use Rattle.nvm_audit.specs.Recordable.{IsRecordable}
 use Rattle.nvm_audit.specs.RecordView.{RecordView}
-use Rattle.nvm_audit.specs.Verdict.{IsVerdict}
-use Rattle.nvm_audit.specs.declared.verdict.Verdict.{Verdict}
 use Rattle.nvm_run.specs.RunRecord.{IsRecordOfRun}
-use Rattle.nvm_engine.specs.RecordLines.{IsTextOf}
 use Rattle.nvm_engine.specs.Settings.{IsNamespace, advertised}
-use Rattle.nvm_engine.specs.VerdictLine.{lawful_line}
 use Rattle.nvm_engine.specs.declared.settings.Settings.{Settings}
-use Rattle.nvm_engine.specs.declared.shown.Shown.{Shown}
 
 -- Each file is the host file of the commands at its place.
 abbrev pub AreHostFiles : ℕ → List (List ℕ) → List (List Command) → Type 0
@@ -24,21 +19,13 @@ AreHostFiles size (file ∷ files) [] = ⊥
 AreHostFiles size (file ∷ files) (host ∷ hosts) = IsHostFile size file host × AreHostFiles size files hosts
 
 -- The record is that of a run of the jobs that the files' commands are, by as many workers as the settings say. It is lawful, and
--- can be held in a file. The text is the record's lines, and the line of its verdict behind them.
-pub record IsShown (s : Settings) (files : List (List ℕ)) (shown : Shown) : Type 0 where
+-- can be held in a file.
+pub record IsShown (s : Settings) (files : List (List ℕ)) (run : RecordView) : Type 0 where
   pub hosts : List (List Command)
   pub jobs : List Job
-  pub run : RecordView
   pub few : length files ≤ most_hosts
   pub namespace : IsNamespace s
   pub commands : AreHostFiles s.block files hosts
   pub order : IsJobList hosts jobs
   pub is : IsRecordOfRun (advertised s) s.limit s.workers jobs run
   pub held : IsRecordable run
-  pub rec : shown.record ≡ Some run
-  pub lines : List ℕ
-  pub of_record : IsTextOf run lines
-  pub verdict : Verdict
-  pub counted : IsVerdict run verdict
-  pub text : shown.text.items ≡ lines ++ lawful_line verdict
-  pub status : shown.status ≡ 0

@@ -1,5 +1,5 @@
 -- What is printed of an audit: one line, which tells what there was in a lawful record, or the first fault of another.
-use Rattle.std.specs.Prelude.{ℕ, List, [], ◌++◌, Option, Some, None, codes, decimal}
+use Rattle.std.specs.Prelude.{ℕ, List, [], ◌++◌, Option, Some, None, Result, Ok, Err, codes, decimal}
 use Rattle.nvm_audit.specs.declared.audit_fault.AuditFault.{AuditFault}
 use Rattle.nvm_audit.specs.declared.audit_fault.AuditFault.TheVariants.{JobMissing, JobTwice, EntryUnclaimed, EntryWrong, PointPast, PointBack, StatusWrong, DataWrong, NoMemory}
 use Rattle.nvm_audit.specs.declared.audit_fault.Spot.{Spot}
@@ -20,11 +20,15 @@ lawful_line v = count_text (codes "lawful jobs ") v.jobs ++ (count_text (codes "
 -- where in a unit something is wrong, if it is in one
 abbrev pub spot_text : Option Spot → List ℕ
 spot_text None = codes " unit - place -"
-spot_text (Some spot) = codes " unit " ++ (decimal spot.unit ++ (codes " place " ++ decimal spot.place))
+spot_text (Some spot) = count_text (codes " unit ") spot.unit ++ count_text (codes " place ") spot.place
+
+-- the number of a fault's job, and where it is
+abbrev pub place_text : ℕ → Option Spot → List ℕ
+place_text job spot = count_text (codes " job ") job ++ (spot_text spot ++ codes "\n")
 
 -- the name of a fault, the number of its job, and where it is
 abbrev pub unlawful_with : List ℕ → ℕ → Option Spot → List ℕ
-unlawful_with name job spot = codes "unlawful " ++ (name ++ (codes " job " ++ (decimal job ++ (spot_text spot ++ codes "\n"))))
+unlawful_with name job spot = codes "unlawful " ++ (name ++ place_text job spot)
 
 -- The line of a fault. Want of memory is none of a record, and has no line.
 abbrev pub unlawful_line : AuditFault → List ℕ
@@ -37,3 +41,13 @@ unlawful_line (PointBack job spot) = unlawful_with (codes "PointBack") job (Some
 unlawful_line (StatusWrong job spot) = unlawful_with (codes "StatusWrong") job spot
 unlawful_line (DataWrong job spot) = unlawful_with (codes "DataWrong") job (Some spot)
 unlawful_line NoMemory = []
+
+-- the line of what an audit answers
+abbrev pub answer_line : Result Verdict AuditFault → List ℕ
+answer_line (Ok v) = lawful_line v
+answer_line (Err fault) = unlawful_line fault
+
+-- the exit status after it
+abbrev pub answer_status : Result Verdict AuditFault → ℕ
+answer_status (Ok v) = 0
+answer_status (Err fault) = 2

@@ -13,11 +13,8 @@ ghost use Rattle.nvm_engine.specs.Settings.{IsNamespace, advertised};
 ghost use Rattle.nvm_engine.specs.Shown.{AreHostFiles, IsShown};
 
 use crate::fault::Fault;
-use crate::judging::verdict_of;
-use crate::record_text::text_of;
 use crate::settings::Settings;
 use crate::shown::Shown;
-use crate::verdict_line::push_lawful;
 use nvm_audit::Record;
 use nvm_geometry::Geometry;
 use nvm_plan::job_laws::{jobs_are_of_their_hosts, jobs_fit, no_more_jobs_than_commands};
@@ -30,9 +27,7 @@ use std::sync::Wait;
 use std::thread::Threads;
 
 /// Does the commands of the hosts' files, of which the first is host 1's, on a namespace of zero bytes by as many workers as
-/// the settings say, and says what to show: for each command the line of its completion, in the order of the jobs and not in
-/// that of the workers, and behind them the line of the verdict. The lines are those of the run's record, which is lawful and
-/// given with them.
+/// the settings say, and says what to show: the run's record, which is lawful, and its text with the verdict of an audit.
 ///
 /// The gate is told of the course of the jobs. A job that finds no memory ends with 0/06 and has its lines as any other; a pair
 /// ends with 0/06 and 0/09 before its part, and with 0/00 and 0/06 in it.
@@ -46,7 +41,7 @@ pub fn execute<R: Threads + Wait + Sync, G: Gate + Sync>(
     files: &[Payload],
     gate: &G,
 ) -> Result<Shown, Fault>
-    // What is shown is the record of a run of the files' commands, and its text and verdict, with status 0.
+    // What is shown is the record of a run of the files' commands.
     ensures shown { IfOk result (IsShown settings.now files.now) }
     ensures fault { IfErr result (IsFirstRunFault settings.now files.now) }
 {
@@ -57,14 +52,8 @@ pub fn execute<R: Threads + Wait + Sync, G: Gate + Sync>(
     let hosts = hosts_of(alloc, geometry.block_size(), files)?;
     let jobs = jobs_of(alloc, hosts)?;
     let record = record_of(rt, alloc, geometry, settings, jobs, gate)?;
-    let mut text = text_of(alloc, &record)?;
-    let verdict = verdict_of(rt, alloc, &record)?;
-    push_lawful(&mut text, verdict)?;
-    Ok(Shown {
-        text: text.into_bytes(),
-        record: Some(record),
-        status: 0,
-    })
+    let shown = Shown::of_record(rt, alloc, record)?;
+    Ok(shown)
 }
 
 /// The geometry, where the settings describe a namespace.

@@ -1,45 +1,49 @@
-ghost use Rattle.std.specs.Prelude.{◌⊎◌, ◌≡◌, IfOk, IfErr, Ok, string_bytes};
+ghost use Rattle.std.specs.Prelude.{◌≡◌, Result, Ok, Err, IfOk, IfErr, MatchResult};
 ghost use Rattle.nvm_audit.specs.LawfulRecord.{IsLawfulRecord};
+ghost use Rattle.nvm_audit.specs.RecordChecks.{IsFirstFault};
+ghost use Rattle.nvm_audit.specs.RecordView.{RecordView};
 ghost use Rattle.nvm_audit.specs.Verdict.{IsVerdict};
-ghost use Rattle.nvm_file.specs.Fields.{Gives};
+ghost use Rattle.nvm_audit.specs.declared.audit_fault.AuditFault.{AuditFault as FaultOfRecord};
+ghost use Rattle.nvm_audit.specs.declared.verdict.Verdict.{Verdict as Numbers};
 ghost use Rattle.nvm_file.specs.Reading.{record_at};
-ghost use Rattle.nvm_engine.specs.Judged.{IsAccepted, IsRejected, IsJudged, IsJudgeFault};
+ghost use Rattle.nvm_file.specs.RecordFile.{IsRecordFile};
+ghost use Rattle.nvm_engine.specs.Judged.{IsJudged, IsJudgedAs, IsUnreadFault};
+ghost use Rattle.nvm_engine.specs.declared.fault.Fault.TheVariants.{NoMemory as NoMemoryFault};
 
 use crate::fault::Fault;
-use crate::shown::Shown;
-use crate::verdict_line::{push_lawful, push_unlawful};
+use crate::judged::Judged;
 use nvm_audit::{AuditFault, Record, Verdict, audit};
 use nvm_file::read_record;
 use nvm_record::{NoMemory, Payload};
 use std::alloc::{AllocError, Global};
 use std::thread::Threads;
 
-/// Audits the record that a file holds, of either version, and says what to show: the line of its verdict and status 0 where it
-/// is lawful, and else the line of its first fault and status 2.
+/// Audits the record that a file of either version holds: whether it is lawful, or what is its first fault.
 ///
-/// Where the bytes are no record file, the first fault from the front is answered, with its offset. `NoMemory` is answered where
+/// Where the bytes are no record's file, the first fault from the front is answered, with its offset. `NoMemory` is answered where
 /// a growth was refused: nothing is known of the record then.
 pub fn audit_bytes(
     rt: &(impl Threads + Sync),
     alloc: Global,
     bytes: &Payload,
-) -> Result<Shown, Fault>
-    ensures shown { IfOk result (IsJudged bytes.now) }
-    ensures fault { IfErr result (IsJudgeFault bytes.now) }
+) -> Result<Judged, Fault>
+    ensures judged { IfOk result (IsJudged bytes.now) }
+    ensures fault { IfErr result (IsUnreadFault bytes.now) }
+    // A lawful record is told to be so, and of another one its first fault is told, unless memory was refused.
+    ensures accepted { (r : RecordView) → IsRecordFile bytes.now r → IsLawfulRecord r
+        → MatchResult result (λ judged. (verdict : Numbers) × (judged ≡ Ok verdict)) (λ fault. fault ≡ NoMemoryFault) }
+    ensures named { (r : RecordView) (first : FaultOfRecord) → IsRecordFile bytes.now r → IsFirstFault r first
+        → MatchResult result (λ judged. judged ≡ Err first) (λ fault. fault ≡ NoMemoryFault) }
 {
-    let record = record_of(alloc, bytes)?;
-    let (text, status) = judged(rt, alloc, &record)?;
-    Ok(Shown {
-        text: text.into_bytes(),
-        record: None,
-        status,
-    })
+    let held = record_of(alloc, bytes)?;
+    let judged = judged_of(rt, alloc, &held)?;
+    Ok(judged)
 }
 
 /// The record that a file holds.
 fn record_of(alloc: Global, bytes: &Payload) -> Result<Record, Fault>
-    ensures record { IfOk result (λ r. record_at bytes.now ≡ Ok r) }
-    ensures fault { IfErr result (IsJudgeFault bytes.now) }
+    ensures read { IfOk result (λ r. record_at bytes.now ≡ Ok r) }
+    ensures fault { IfErr result (IsUnreadFault bytes.now) }
 {
     match read_record(alloc, bytes) {
         Ok(record) => Ok(record),
@@ -47,25 +51,15 @@ fn record_of(alloc: Global, bytes: &Payload) -> Result<Record, Fault>
     }
 }
 
-/// The line of the record's verdict with status 0, or that of its first fault with status 2.
-fn judged(
-    rt: &(impl Threads + Sync),
-    alloc: Global,
-    record: &Record,
-) -> Result<(String, u8), NoMemory>
-    ensures { IfOk result (λ told. IsAccepted «record».now (string_bytes told.0) told.1
-        ⊎ IsRejected «record».now (string_bytes told.0) told.1) }
+/// What an audit tells of the record.
+fn judged_of(rt: &(impl Threads + Sync), alloc: Global, run: &Record) -> Result<Judged, NoMemory>
+    ensures judged { IfOk result (IsJudgedAs run.now) }
+    ensures accepted { IsLawfulRecord run.now → IfOk result (λ judged. (verdict : Numbers) × (judged ≡ Ok verdict)) }
+    ensures named { (first : FaultOfRecord) → IsFirstFault run.now first → IfOk result (λ judged. judged ≡ Err first) }
 {
-    let mut text = String::new(alloc);
-    match audit(rt, alloc, record) {
-        Ok(verdict) => {
-            push_lawful(&mut text, verdict)?;
-            Ok((text, 0))
-        }
-        Err(fault) => {
-            push_unlawful(&mut text, fault)?;
-            Ok((text, 2))
-        }
+    match audit(rt, alloc, run) {
+        Ok(verdict) => Ok(Judged::lawful(verdict)),
+        Err(fault) => Ok(Judged::unlawful(fault)?),
     }
 }
 
@@ -73,12 +67,12 @@ fn judged(
 pub(crate) fn verdict_of(
     rt: &(impl Threads + Sync),
     alloc: Global,
-    record: &Record,
+    run: &Record,
 ) -> Result<Verdict, NoMemory>
-    requires { IsLawfulRecord «record».now }
-    ensures { IfOk result (IsVerdict «record».now) }
+    requires { IsLawfulRecord run.now }
+    ensures { IfOk result (IsVerdict run.now) }
 {
-    match audit(rt, alloc, record) {
+    match audit(rt, alloc, run) {
         Ok(verdict) => Ok(verdict),
         Err(AuditFault::NoMemory) => Err(AllocError),
         Err(_) => unreachable!("a lawful record is accepted"),

@@ -1,12 +1,13 @@
 //! The engine as one call: the bytes of the hosts' files are read, their commands done by workers on a namespace
-//! of zero bytes, and what is recorded of them is shown as text, with the verdict of an audit.
+//! of zero bytes, and what is recorded of them is audited and shown.
 //!
 //! [`execute`] is that call, and [`audit_bytes`] audits a record's file. Which numbers describe a namespace and how many workers
-//! there are, [`Settings`] says; why nothing is shown, [`Fault`].
+//! there are, [`Settings`] says; why nothing is shown, [`Fault`]. [`Shown`] and [`Judged`] write their text to a writer.
 #![tactic(auto)]
 
 mod engine;
 mod fault;
+mod judged;
 mod judging;
 pub mod laws;
 mod lines;
@@ -21,6 +22,7 @@ mod workers;
 
 pub use engine::execute;
 pub use fault::Fault;
+pub use judged::Judged;
 pub use judging::audit_bytes;
 pub use settings::Settings;
 pub use shown::Shown;

@@ -1,47 +1,55 @@
 //! What is printed of a record.
-ghost use Rattle.std.specs.Prelude.{ℕ, ◌≡◌, ◌<◌, List, IfOk, length, map, string_bytes};
+ghost use Rattle.std.specs.Prelude.{ℕ, ◌<◌, List, OnErr, OnOk, length, map};
+ghost use Rattle.std.specs.Io.KnownBytes.{Appends};
+ghost use Rattle.nvm_write.specs.Handed.{TakesFront};
 ghost use Rattle.nvm_audit.specs.LawfulRecord.{IsLawfulRecord};
-ghost use Rattle.nvm_audit.specs.Recordable.{IsRecordable};
-ghost use Rattle.nvm_engine.specs.Inside.Standings.{IsNoted, HaveStatuses};
+ghost use Rattle.nvm_engine.specs.Inside.Standings.{AreAllNoted, IsNoted, HaveStatuses};
 ghost use Rattle.nvm_engine.specs.RecordLines.{AreLinesOf, IsTextOf};
 
-use crate::lines::push_job;
-use crate::standing::{Standing, done_job, standings};
+use crate::lines::write_job;
+use crate::standing::{Standing, done_job};
 use nvm_audit::{DoneJob, Record};
 use nvm_plan::Job;
 use nvm_plan::laws::each_command_has_a_status;
-use nvm_record::NoMemory;
-use std::alloc::Global;
+use std::io;
+use std::io::Write;
 
-/// The text of a record: a line for each command, in the order of the jobs.
-pub(crate) fn text_of(alloc: Global, run: &Record) -> Result<String, NoMemory>
-    requires { IsLawfulRecord run.now }
-    ensures text { IfOk result (λ text. IsTextOf run.now (string_bytes text)) }
-    ensures held { IsRecordable run.now }
+/// Writes the text of a record: a line for each command, in the order of the jobs. Where the done job of each job stands, was found
+/// before.
+pub(crate) fn write_record_text<W: Write>(
+    writer: &mut W,
+    run: &Record,
+    found: &[Standing],
+) -> io::Result<()>
+    requires lawful { IsLawfulRecord run.now }
+    requires found { AreAllNoted run.now found.now }
+    ensures whole { OnOk result ((text : List ℕ) × IsTextOf run.now text
+        × Appends (W.contents writer.old) (W.contents writer.new) text) }
+    ensures front { OnErr result ((text : List ℕ) × IsTextOf run.now text
+        × TakesFront (W.contents writer.old) (W.contents writer.new) text) }
 {
     each_command_has_a_status();
-    let jobs = run.jobs.as_slice();
-    let done = run.done.as_slice();
-    let found = standings(alloc, jobs.len(), done)?;
-    lines_of(alloc, jobs, done, found.as_slice())
+    write_lines(writer, run.jobs.as_slice(), run.done.as_slice(), found)
 }
 
-/// The lines of the jobs, by what is recorded of each: for the job of each number it was found where its done job stands.
-fn lines_of(
-    alloc: Global,
+/// Writes the lines of the jobs, by what is recorded of each: for the job of each number it was found where its done job stands.
+fn write_lines<W: Write>(
+    writer: &mut W,
     jobs: &[Job],
     done: &[Vec<DoneJob>],
     found: &[Standing],
-) -> Result<String, NoMemory>
+) -> io::Result<()>
     requires found { (number : ℕ) → number < length jobs.now
         → IsNoted (map (λ work. work.items) done.now) found.now number }
     requires statuses { HaveStatuses jobs.now (map (λ work. work.items) done.now) }
-    ensures { IfOk result (λ text. AreLinesOf jobs.now (map (λ work. work.items) done.now) (string_bytes text)) }
+    ensures whole { OnOk result ((text : List ℕ) × AreLinesOf jobs.now (map (λ work. work.items) done.now) text
+        × Appends (W.contents writer.old) (W.contents writer.new) text) }
+    ensures front { OnErr result ((text : List ℕ) × AreLinesOf jobs.now (map (λ work. work.items) done.now) text
+        × TakesFront (W.contents writer.old) (W.contents writer.new) text) }
 {
-    let mut text = String::new(alloc);
     for (number, job) in jobs.iter().enumerate() {
         let its = done_job(done, found[number]);
-        push_job(&mut text, job, its.statuses, &its.payload)?;
+        write_job(writer, job, its.statuses, &its.payload)?;
     }
-    Ok(text)
+    Ok(())
 }

@@ -1,12 +1,100 @@
-use nvm_audit::Record;
+ghost use Rattle.std.specs.Prelude.{◌≡◌, ℕ, List, IfOk, OnErr, OnOk};
+ghost use Rattle.std.specs.Io.KnownBytes.{Appends};
+ghost use Rattle.nvm_write.specs.Handed.{TakesFront};
+ghost use Rattle.nvm_audit.specs.LawfulRecord.{IsLawfulRecord};
+ghost use Rattle.nvm_audit.specs.Recordable.{IsRecordable};
+ghost use Rattle.nvm_engine.specs.Inside.Standings.{AreAllNoted};
+ghost use Rattle.nvm_engine.specs.Printed.{IsPrintedOf};
 
-/// What the program shows of a run, or of a record that it audits.
+use crate::judging::verdict_of;
+use crate::record_text::write_record_text;
+use crate::standing::{Standing, standings};
+use crate::verdict_line::write_lawful;
+use nvm_audit::{Record, Verdict};
+use nvm_record::NoMemory;
+use std::alloc::Global;
+use std::io;
+use std::io::Write;
+use std::marker::Model;
+use std::thread::Threads;
+
+/// What a run shows: its record, and the text of that with its verdict.
+///
+/// All that the text needs stands here, so nothing but the writer can fail while it is written. The text itself isn't held, and
+/// no bytes of the record's file.
+///
+/// Contracts see the record, which is lawful.
 #[derive(Debug, Drop)]
 pub struct Shown {
-    /// What goes to standard output.
-    pub text: Vec<u8>,
-    /// The record of a run. There is none where a record was audited.
-    pub record: Option<Record>,
-    /// The exit status: 0, or 2 where the record isn't lawful.
-    pub status: u8,
+    run: Record,
+    /// Where the done job of each job stands.
+    found: Vec<Standing>,
+    verdict: Verdict,
+}
+
+impl Model for Shown {
+    ghost use Rattle.nvm_audit.specs.LawfulRecord.{IsLawfulRecord};
+    ghost use Rattle.nvm_audit.specs.RecordView.{RecordView};
+    ghost use Rattle.nvm_audit.specs.Verdict.{IsVerdict};
+    ghost use Rattle.nvm_engine.specs.Inside.Standings.{AreAllNoted};
+
+    ghost Value = { RecordView };
+
+    ghost view = { λ s. s.run };
+
+    ghost invariant = { λ s. IsLawfulRecord s.run × AreAllNoted s.run s.found.items × IsVerdict s.run s.verdict };
+}
+
+impl Shown {
+    /// What is shown of a record. It is audited here.
+    pub(crate) fn of_record(
+        rt: &(impl Threads + Sync),
+        alloc: Global,
+        run: Record,
+    ) -> Result<Shown, NoMemory>
+        requires { IsLawfulRecord run }
+        ensures same { IfOk result (λ shown. shown ≡ run) }
+        ensures held { IfOk result (λ shown. IsRecordable shown) }
+    {
+        let verdict = verdict_of(rt, alloc, &run)?;
+        let found = found_in(alloc, &run)?;
+        Ok(Shown {
+            run,
+            found,
+            verdict,
+        })
+    }
+
+    /// The record, for its file.
+    pub fn record(&self) -> &Record
+        ensures { result.now ≡ self.now }
+    {
+        &self.run
+    }
+
+    /// Writes what goes to standard output: a line for each command, in the order of the jobs and not in that of the workers, and
+    /// then the line of the verdict. It takes no memory of its own, and doesn't flush.
+    ///
+    /// Where the writer fails, its error is answered, and it has taken a front of the text.
+    pub fn write_text<W: Write>(&self, writer: &mut W) -> io::Result<()>
+        ensures whole { OnOk result ((text : List ℕ) × IsPrintedOf self.now text
+            × Appends (W.contents writer.old) (W.contents writer.new) text) }
+        ensures front { OnErr result ((text : List ℕ) × IsPrintedOf self.now text
+            × TakesFront (W.contents writer.old) (W.contents writer.new) text) }
+    {
+        write_record_text(writer, &self.run, self.found.as_slice())?;
+        write_lawful(writer, self.verdict)
+    }
+}
+
+/// Where the done job of each job of the record stands.
+fn found_in(alloc: Global, run: &Record) -> Result<Vec<Standing>, NoMemory>
+    requires { IsLawfulRecord run.now }
+    ensures found { IfOk result (λ found. AreAllNoted run.now found.items) }
+    ensures held { IsRecordable run.now }
+{
+    let jobs = run.jobs.as_slice();
+    let done = run.done.as_slice();
+    let found = standings(alloc, jobs.len(), done)?;
+    Ok(found)
 }

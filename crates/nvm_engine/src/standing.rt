@@ -10,7 +10,7 @@ use nvm_record::NoMemory;
 use std::alloc::Global;
 
 /// Where a done job stands in a record: which worker did it, and at which place of what that worker did.
-#[derive(Clone, Copy)]
+#[derive(Clone, Copy, Debug)]
 pub(crate) struct Standing {
     pub(crate) worker: u16,
     pub(crate) place: u32,

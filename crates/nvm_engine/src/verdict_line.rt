@@ -1,88 +1,101 @@
 //! The line that tells how an audit ended.
-ghost use Rattle.std.specs.Prelude.{◌≡◌, ◌≢◌, ◌++◌, OnOk, string_bytes};
-ghost use Rattle.nvm_audit.specs.declared.audit_fault.AuditFault.TheVariants.{NoMemory as NoMemoryFault};
-ghost use Rattle.nvm_engine.specs.VerdictLine.{changes_text, count_text, lawful_line, spot_text, unlawful_line, unlawful_with};
+ghost use Rattle.std.specs.Prelude.{OnErr, OnOk};
+ghost use Rattle.std.specs.Io.KnownBytes.{Appends};
+ghost use Rattle.nvm_write.specs.Handed.{TakesFront};
+ghost use Rattle.nvm_engine.specs.VerdictLine.{changes_text, count_text, lawful_line, place_text, spot_text, unlawful_line, unlawful_with};
 
 use nvm_audit::{AuditFault, Spot, Verdict};
-use nvm_record::NoMemory;
-use nvm_text::push_decimal;
-use std::alloc::AllocError;
+use nvm_text::write_decimal;
+use nvm_write::hand;
+use std::io;
+use std::io::Write;
 
-/// Appends the line of a lawful record.
-pub(crate) fn push_lawful(text: &mut String, verdict: Verdict) -> Result<(), NoMemory>
-    ensures { OnOk result (string_bytes text.new ≡ string_bytes text.old ++ lawful_line verdict) }
+/// Writes the line of a lawful record.
+pub(crate) fn write_lawful<W: Write>(writer: &mut W, verdict: Verdict) -> io::Result<()>
+    ensures whole { OnOk result (Appends (W.contents writer.old) (W.contents writer.new) (lawful_line verdict)) }
+    ensures front { OnErr result (TakesFront (W.contents writer.old) (W.contents writer.new) (lawful_line verdict)) }
 {
-    push_count(text, "lawful jobs ", u64::from(verdict.jobs))?;
-    push_count(text, " units ", u64::from(verdict.units))?;
-    push_changes(text, verdict)?;
-    Ok(())
+    write_count(writer, b"lawful jobs ", u64::from(verdict.jobs))?;
+    write_count(writer, b" units ", u64::from(verdict.units))?;
+    write_changes(writer, verdict)
 }
 
-/// Appends how many changes there were, and how many jobs were refused.
+/// Writes how many changes there were, and how many jobs were refused.
 #[tactic(auto, unfolding(crate::specs::VerdictLine::changes_text))]
-fn push_changes(text: &mut String, verdict: Verdict) -> Result<(), NoMemory>
-    ensures { OnOk result (string_bytes text.new ≡ string_bytes text.old ++ changes_text verdict) }
+fn write_changes<W: Write>(writer: &mut W, verdict: Verdict) -> io::Result<()>
+    ensures whole { OnOk result (Appends (W.contents writer.old) (W.contents writer.new) (changes_text verdict)) }
+    ensures front { OnErr result (TakesFront (W.contents writer.old) (W.contents writer.new) (changes_text verdict)) }
 {
-    push_count(text, " changes ", verdict.changes)?;
-    push_count(text, " refused ", u64::from(verdict.refused))?;
-    text.push_str("\n")?;
-    Ok(())
+    write_count(writer, b" changes ", verdict.changes)?;
+    write_count(writer, b" refused ", u64::from(verdict.refused))?;
+    hand(writer, b"\n")
 }
 
-/// Appends how much there was of something.
+/// Writes how much there was of something.
 #[tactic(auto, unfolding(crate::specs::VerdictLine::count_text))]
-fn push_count(text: &mut String, of: &str, count: u64) -> Result<(), NoMemory>
-    ensures { OnOk result (string_bytes text.new ≡ string_bytes text.old ++ count_text of.now count) }
+fn write_count<W: Write>(writer: &mut W, of: &[u8], count: u64) -> io::Result<()>
+    ensures whole { OnOk result (Appends (W.contents writer.old) (W.contents writer.new) (count_text of.now count)) }
+    ensures front { OnErr result (TakesFront (W.contents writer.old) (W.contents writer.new) (count_text of.now count)) }
 {
-    text.push_str(of)?;
-    push_decimal(text, count)?;
-    Ok(())
+    hand(writer, of)?;
+    write_decimal(writer, count)
 }
 
-/// Appends the line of a record's first fault. Want of memory is none: it is answered.
-pub(crate) fn push_unlawful(text: &mut String, fault: AuditFault) -> Result<(), NoMemory>
-    ensures line { OnOk result (string_bytes text.new ≡ string_bytes text.old ++ unlawful_line fault) }
-    ensures known { OnOk result (fault ≢ NoMemoryFault) }
+/// Writes the line of a record's first fault. Want of memory is none, and has no line.
+pub(crate) fn write_unlawful<W: Write>(writer: &mut W, fault: AuditFault) -> io::Result<()>
+    ensures whole { OnOk result (Appends (W.contents writer.old) (W.contents writer.new) (unlawful_line fault)) }
+    ensures front { OnErr result (TakesFront (W.contents writer.old) (W.contents writer.new) (unlawful_line fault)) }
 {
     match fault {
-        AuditFault::JobMissing { job } => push_fault(text, "JobMissing", job, None),
-        AuditFault::JobTwice { job } => push_fault(text, "JobTwice", job, None),
+        AuditFault::JobMissing { job } => write_fault(writer, b"JobMissing", job, None),
+        AuditFault::JobTwice { job } => write_fault(writer, b"JobTwice", job, None),
         AuditFault::EntryUnclaimed { job, spot } => {
-            push_fault(text, "EntryUnclaimed", job, Some(spot))
+            write_fault(writer, b"EntryUnclaimed", job, Some(spot))
         }
-        AuditFault::EntryWrong { job, spot } => push_fault(text, "EntryWrong", job, Some(spot)),
-        AuditFault::PointPast { job, spot } => push_fault(text, "PointPast", job, Some(spot)),
-        AuditFault::PointBack { job, spot } => push_fault(text, "PointBack", job, Some(spot)),
-        AuditFault::StatusWrong { job, spot } => push_fault(text, "StatusWrong", job, spot),
-        AuditFault::DataWrong { job, spot } => push_fault(text, "DataWrong", job, Some(spot)),
-        AuditFault::NoMemory => Err(AllocError),
+        AuditFault::EntryWrong { job, spot } => write_fault(writer, b"EntryWrong", job, Some(spot)),
+        AuditFault::PointPast { job, spot } => write_fault(writer, b"PointPast", job, Some(spot)),
+        AuditFault::PointBack { job, spot } => write_fault(writer, b"PointBack", job, Some(spot)),
+        AuditFault::StatusWrong { job, spot } => write_fault(writer, b"StatusWrong", job, spot),
+        AuditFault::DataWrong { job, spot } => write_fault(writer, b"DataWrong", job, Some(spot)),
+        AuditFault::NoMemory => hand(writer, b""),
     }
 }
 
-/// Appends the line of the fault of this name.
-fn push_fault(text: &mut String, name: &str, job: u32, spot: Option<Spot>) -> Result<(), NoMemory>
-    ensures { OnOk result (string_bytes text.new ≡ string_bytes text.old ++ unlawful_with name.now job spot) }
+/// Writes the line of the fault of this name.
+fn write_fault<W: Write>(
+    writer: &mut W,
+    name: &[u8],
+    job: u32,
+    spot: Option<Spot>,
+) -> io::Result<()>
+    ensures whole { OnOk result
+        (Appends (W.contents writer.old) (W.contents writer.new) (unlawful_with name.now job spot)) }
+    ensures front { OnErr result
+        (TakesFront (W.contents writer.old) (W.contents writer.new) (unlawful_with name.now job spot)) }
 {
-    text.push_str("unlawful ")?;
-    text.push_str(name)?;
-    text.push_str(" job ")?;
-    push_decimal(text, u64::from(job))?;
-    push_spot(text, spot)?;
-    text.push_str("\n")?;
-    Ok(())
+    hand(writer, b"unlawful ")?;
+    hand(writer, name)?;
+    write_place(writer, job, spot)
 }
 
-/// Appends where in a unit something is wrong.
-fn push_spot(text: &mut String, spot: Option<Spot>) -> Result<(), NoMemory>
-    ensures { OnOk result (string_bytes text.new ≡ string_bytes text.old ++ spot_text spot) }
+/// Writes of which job the fault is, and where.
+fn write_place<W: Write>(writer: &mut W, job: u32, spot: Option<Spot>) -> io::Result<()>
+    ensures whole { OnOk result (Appends (W.contents writer.old) (W.contents writer.new) (place_text job spot)) }
+    ensures front { OnErr result (TakesFront (W.contents writer.old) (W.contents writer.new) (place_text job spot)) }
+{
+    write_count(writer, b" job ", u64::from(job))?;
+    write_spot(writer, spot)?;
+    hand(writer, b"\n")
+}
+
+/// Writes where in a unit something is wrong.
+fn write_spot<W: Write>(writer: &mut W, spot: Option<Spot>) -> io::Result<()>
+    ensures whole { OnOk result (Appends (W.contents writer.old) (W.contents writer.new) (spot_text spot)) }
+    ensures front { OnErr result (TakesFront (W.contents writer.old) (W.contents writer.new) (spot_text spot)) }
 {
     let Some(spot) = spot else {
-        text.push_str(" unit - place -")?;
-        return Ok(());
+        return hand(writer, b" unit - place -");
     };
-    text.push_str(" unit ")?;
-    push_decimal(text, u64::from(spot.unit))?;
-    text.push_str(" place ")?;
-    push_decimal(text, u64::from(spot.place))?;
-    Ok(())
+    write_count(writer, b" unit ", u64::from(spot.unit))?;
+    write_count(writer, b" place ", u64::from(spot.place))
 }

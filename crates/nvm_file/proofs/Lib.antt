@@ -8,7 +8,6 @@ pub mod JobsHeld
 pub mod EntriesHeld
 pub mod DoneHeld
 pub mod RecordsHeld
-pub mod Taking
 pub mod CutRanges
 pub mod Places
 pub mod Lengths

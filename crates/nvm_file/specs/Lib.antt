@@ -12,7 +12,6 @@ pub mod JobSpelling
 pub mod EntrySpelling
 pub mod WorkSpelling
 pub mod Spelling
-pub mod Handed
 pub mod Fits
 pub mod Upgrade
 pub mod Inside

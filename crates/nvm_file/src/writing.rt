@@ -1,7 +1,7 @@
 ghost use Rattle.std.specs.Prelude.{OnErr, OnOk};
 ghost use Rattle.std.specs.Io.KnownBytes.{Appends};
 ghost use Rattle.nvm_file.specs.Fits.{FitsItsFields};
-ghost use Rattle.nvm_file.specs.Handed.{TakesFront};
+ghost use Rattle.nvm_write.specs.Handed.{TakesFront};
 ghost use Rattle.nvm_file.specs.RecordFile.{IsRecordFile};
 ghost use Rattle.nvm_file.specs.Spelling.{record_bytes};
 
@@ -13,7 +13,6 @@ use std::io::Write;
 mod bytes;
 mod done_jobs;
 mod entries;
-mod handing;
 mod head;
 mod jobs;
 

@@ -1,8 +1,24 @@
-ghost use Rattle.std.specs.Prelude.{◌≡◌, ◌<◌, ◌++◌, ◌∷◌, [], OnOk, OnErr, decimal, string_bytes};
+ghost use Rattle.std.specs.Prelude.{◌≡◌, ◌<◌, ◌++◌, ◌∷◌, [], OnErr, OnOk, decimal, string_bytes};
+ghost use Rattle.std.specs.Io.KnownBytes.{Appends};
+ghost use Rattle.nvm_write.specs.Handed.{TakesFront};
 ghost use Rattle.nvm_text.specs.Kept.{KeepsText};
 ghost use Rattle.nvm_text.specs.Lines.{hex_digit, hex2};
 
+use crate::piece::Piece;
 use nvm_record::NoMemory;
+use nvm_write::hand;
+use std::io;
+use std::io::Write;
+
+/// Writes a number in decimal digits.
+pub fn write_decimal<W: Write>(writer: &mut W, number: u64) -> io::Result<()>
+    ensures whole { OnOk result (Appends (W.contents writer.old) (W.contents writer.new) (decimal number)) }
+    ensures front { OnErr result (TakesFront (W.contents writer.old) (W.contents writer.new) (decimal number)) }
+{
+    let mut digits = Piece::new();
+    digits.put_decimal(number);
+    hand(writer, digits.as_slice())
+}
 
 /// Appends a number in decimal digits.
 pub fn push_decimal(text: &mut String, number: u64) -> Result<(), NoMemory>

@@ -1,13 +1,64 @@
-ghost use Rattle.std.specs.Prelude.{◌≡◌, ◌≢◌, ◌-◌, ◌<◌, ◌≤◌, ◌++◌, ◌∷◌, ℕ, IfOk, OnOk, OnErr, length, drop, slice_index, string_bytes};
+ghost use Rattle.std.specs.Prelude.{◌≡◌, ◌≢◌, ◌-◌, ◌<◌, ◌≤◌, ◌++◌, ◌∷◌, ℕ, List, IfOk, OnOk, OnErr, codes, if◌then◌else◌, drop, length, slice_index, string_bytes};
+ghost use Rattle.std.specs.Io.KnownBytes.{Appends};
+ghost use Rattle.nvm_write.specs.Handed.{TakesFront};
 ghost use Rattle.nvm_text.specs.Kept.{KeepsText};
 ghost use Rattle.nvm_text.specs.Runs.{runs, run_of};
 ghost use Rattle.nvm_text.specs.Lines.{runs_text, run_text};
 
 use crate::number::{push_decimal, push_hex2};
+use crate::piece::Piece;
 use nvm_record::NoMemory;
+use nvm_write::hand;
+use std::io;
+use std::io::Write;
 
 /// Bytes are compared in chunks of so many.
 const CHUNK: usize = 64;
+
+/// Writes the longest runs of equal bytes, `<count>*<byte>` each, joined by commas. Nothing is
+/// written for no bytes.
+pub fn write_runs<W: Write>(writer: &mut W, bytes: &[u8]) -> io::Result<()>
+    ensures whole { OnOk result
+        (Appends (W.contents writer.old) (W.contents writer.new) (runs_text (runs bytes.now))) }
+    ensures front { OnErr result
+        (TakesFront (W.contents writer.old) (W.contents writer.new) (runs_text (runs bytes.now))) }
+{
+    let mut rest = bytes;
+    while !rest.is_empty() {
+        rest = write_first_run(writer, rest)?;
+    }
+    Ok(())
+}
+
+/// Writes the first run, and gives the bytes after it. Where there are any, a comma follows the run.
+fn write_first_run<'a, W: Write>(writer: &mut W, bytes: &'a [u8]) -> io::Result<&'a [u8]>
+    requires { 0 < length bytes.now }
+    ensures whole { IfOk result (λ rest. (length rest.now < length bytes.now) × (text : List ℕ)
+        × (runs_text (runs bytes.now) ≡ text ++ runs_text (runs rest.now))
+        × Appends (W.contents writer.old) (W.contents writer.new) text) }
+    ensures front { OnErr result
+        (TakesFront (W.contents writer.old) (W.contents writer.new) (runs_text (runs bytes.now))) }
+{
+    let count = run_length(bytes);
+    let rest = &bytes[count..];
+    let is_last = rest.is_empty();
+    hand(writer, run_piece(count, bytes[0], is_last).as_slice())?;
+    Ok(rest)
+}
+
+/// The text of one run, and a comma where it isn't the last.
+fn run_piece(count: usize, byte: u8, is_last: bool) -> Piece
+    ensures { result ≡ run_text (run_of count byte) ++ (if is_last then codes "" else codes ",") }
+{
+    let mut piece = Piece::new();
+    if !is_last {
+        piece.put_byte(b',');
+    }
+    piece.put_hex2(byte);
+    piece.put_byte(b'*');
+    piece.put_decimal(count as u64);
+    piece
+}
 
 /// Appends the longest runs of equal bytes, `<count>*<byte>` each, joined by commas. Nothing is
 /// appended for no bytes.

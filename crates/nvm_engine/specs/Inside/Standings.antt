@@ -1,9 +1,10 @@
 -- Where the done jobs of a record stand, by the numbers of their jobs.
-use Rattle.std.specs.Prelude.{◌≡◌, ℕ, ◌<◌, List}
+use Rattle.std.specs.Prelude.{◌≡◌, ℕ, ◌<◌, List, length}
 use Rattle.nvm_record.specs.Lists.{IsAt}
 use Rattle.nvm_plan.specs.declared.job.Job.{Job}
 use Rattle.nvm_plan.specs.Shape.{IsForEach}
 use Rattle.nvm_audit.specs.RecordedJob.{RecordedJob}
+use Rattle.nvm_audit.specs.RecordView.{RecordView}
 use Rattle.nvm_engine.specs.declared.standing.Standing.{Standing}
 
 -- The done job of this number stands there.
@@ -36,3 +37,7 @@ abbrev pub HaveStatuses : List Job → List (List RecordedJob) → Type 0
 HaveStatuses jobs done =
     (worker : ℕ) (work : List RecordedJob) (place : ℕ) (d : RecordedJob) (job : Job) → IsAt done worker work
     → IsAt work place d → IsAt jobs d.job job → IsForEach job.body d.statuses
+
+-- It is noted of each job of the record where its done job stands.
+abbrev pub AreAllNoted : RecordView → List Standing → Type 0
+AreAllNoted r found = (number : ℕ) → number < length r.jobs → IsNoted r.done found number

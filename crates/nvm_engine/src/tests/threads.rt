@@ -1,5 +1,5 @@
 //! Runs by workers, and audits of their records.
-use crate::{Fault, Settings, Shown, Workers, audit_bytes, execute};
+use crate::{Fault, Judged, Settings, Shown, Workers, audit_bytes, execute};
 use nvm_file::write_record;
 use nvm_record::{Command, Fuse, Op, Payload, host_bytes};
 use nvm_store::Limit;
@@ -92,12 +92,26 @@ fn two_workers_act_at_once(rt: HostRuntime) -> Result<(), Fail> {
     let Ok(shown) = execute(&rt, alloc, &settings(2)?, files.as_slice(), &gate) else {
         return Err(Fail::new("there was no memory"));
     };
-    let is_whole = shown.text.as_slice() == TEXT.as_slice();
+    let text = text_of(alloc, &shown)?;
     // Where a growth is refused a job may end with 0/06, or one thread do both.
-    if !is_whole || gate.seen.load(Ordering::SeqCst) != 1 {
+    if text.as_slice() != TEXT.as_slice() || gate.seen.load(Ordering::SeqCst) != 1 {
         return Err(Fail::new("there was no memory"));
     }
     Ok(())
+}
+
+/// What is written of a run.
+fn text_of(alloc: Global, shown: &Shown) -> Result<Vec<u8>, Fail> {
+    let mut text = Vec::new(alloc);
+    shown.write_text(&mut text)?;
+    Ok(text)
+}
+
+/// What is written of an audit.
+fn line_of(alloc: Global, judged: &Judged) -> Result<Vec<u8>, Fail> {
+    let mut line = Vec::new(alloc);
+    judged.write_line(&mut line)?;
+    Ok(line)
 }
 
 /// What one worker's run of the host's file shows. Where a growth was refused it isn't that.
@@ -106,10 +120,11 @@ fn shown_of_run<R: Threads + Wait + Sync>(rt: &R, alloc: Global) -> Result<Shown
     let Ok(shown) = execute(rt, alloc, &settings(1)?, files.as_slice(), &Open) else {
         return Err(Fail::new("there was no memory"));
     };
-    if shown.text.as_slice() == TEXT.as_slice() {
+    let text = text_of(alloc, &shown)?;
+    if text.as_slice() == TEXT.as_slice() {
         return Ok(shown);
     }
-    if shown.text.as_slice().ends_with(b" refused 0\n") {
+    if text.as_slice().ends_with(b" refused 0\n") {
         return Err(Fail::new("other lines are shown"));
     }
     Err(Fail::new("there was no memory"))
@@ -118,20 +133,17 @@ fn shown_of_run<R: Threads + Wait + Sync>(rt: &R, alloc: Global) -> Result<Shown
 /// The file of that run's record.
 fn record_file<R: Threads + Wait + Sync>(rt: &R, alloc: Global) -> Result<Vec<u8>, Fail> {
     let shown = shown_of_run(rt, alloc)?;
-    let Some(record) = &shown.record else {
-        return Err(Fail::new("a run gives its record"));
-    };
     let mut bytes = Vec::new(alloc);
-    if write_record(&mut bytes, record).is_err() {
+    if write_record(&mut bytes, shown.record()).is_err() {
         return Err(Fail::new("there was no memory"));
     }
     Ok(bytes)
 }
 
-/// What the audit of a file says, and the status.
-fn audited<R: Threads + Sync>(rt: &R, alloc: Global, bytes: Vec<u8>) -> Result<Shown, Fail> {
+/// What the audit of a file says.
+fn audited<R: Threads + Sync>(rt: &R, alloc: Global, bytes: Vec<u8>) -> Result<Judged, Fail> {
     match audit_bytes(rt, alloc, &Payload::new(alloc, bytes)?) {
-        Ok(shown) => Ok(shown),
+        Ok(judged) => Ok(judged),
         Err(Fault::NoMemory) => Err(Fail::new("there was no memory")),
         Err(_) => Err(Fail::new("the bytes are no record")),
     }
@@ -140,9 +152,10 @@ fn audited<R: Threads + Sync>(rt: &R, alloc: Global, bytes: Vec<u8>) -> Result<S
 #[test]
 fn a_run_gives_a_record_that_is_lawful(rt: HostRuntime) -> Result<(), Fail> {
     let bytes = record_file(&rt, rt.alloc())?;
-    let shown = audited(&rt, rt.alloc(), bytes)?;
-    assert!(rt; shown.text.as_slice() == b"lawful jobs 2 units 4 changes 2 refused 0\n".as_slice());
-    assert!(rt; shown.status == 0);
+    let judged = audited(&rt, rt.alloc(), bytes)?;
+    let line = line_of(rt.alloc(), &judged)?;
+    assert!(rt; line.as_slice() == b"lawful jobs 2 units 4 changes 2 refused 0\n".as_slice());
+    assert!(rt; judged.status() == 0);
     Ok(())
 }
 
@@ -154,9 +167,10 @@ fn another_status_is_unlawful(rt: HostRuntime) -> Result<(), Fail> {
     if let Some(code) = bytes.get_mut(place) {
         *code = 0x80;
     }
-    let shown = audited(&rt, rt.alloc(), bytes)?;
-    assert!(rt; shown.text.as_slice() == b"unlawful StatusWrong job 1 unit - place -\n".as_slice());
-    assert!(rt; shown.status == 2);
+    let judged = audited(&rt, rt.alloc(), bytes)?;
+    let line = line_of(rt.alloc(), &judged)?;
+    assert!(rt; line.as_slice() == b"unlawful StatusWrong job 1 unit - place -\n".as_slice());
+    assert!(rt; judged.status() == 2);
     Ok(())
 }
 

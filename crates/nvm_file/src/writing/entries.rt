@@ -7,14 +7,14 @@ ghost use Rattle.nvm_record.specs.Ranges as ranges;
 ghost use Rattle.nvm_store.specs.Act.{operation_of};
 ghost use Rattle.nvm_file.specs.EntrySpelling as spec;
 ghost use Rattle.nvm_file.specs.EntrySpelling.{change_bytes, cut_bytes, entry_bytes, history_bytes, kind_of};
-ghost use Rattle.nvm_file.specs.Handed.{TakesFront};
+ghost use Rattle.nvm_write.specs.Handed.{TakesFront};
 ghost use Rattle.nvm_file.specs.Inside.Short.{IsShortDeed, IsShortHistory};
 
 use super::bytes::{count_bytes, two_bytes};
-use super::handing::hand;
 use byteorder::{ByteOrder, LittleEndian};
 use nvm_record::{LbaRange, range_count};
 use nvm_store::{Act, Entry, History};
+use nvm_write::hand;
 use std::io;
 use std::io::Write;
 

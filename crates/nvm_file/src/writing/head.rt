@@ -2,16 +2,16 @@ ghost use Rattle.std.specs.Prelude.{◌≡◌, OnErr, OnOk};
 ghost use Rattle.std.specs.Io.KnownBytes.{Appends};
 ghost use Rattle.nvm_audit.specs.Recordable.{HoldsLimit};
 ghost use Rattle.nvm_file.specs.Fits.{NumbersFit};
-ghost use Rattle.nvm_file.specs.Handed.{TakesFront};
+ghost use Rattle.nvm_write.specs.Handed.{TakesFront};
 ghost use Rattle.nvm_file.specs.HeadSpelling as spec;
 ghost use Rattle.nvm_file.specs.HeadSpelling.{head_bytes, limit_bytes, name_of};
 
 use super::bytes::{four_bytes, two_bytes};
-use super::handing::hand;
 use byteorder::{ByteOrder, LittleEndian};
 use nvm_audit::{Record, Version};
 use nvm_geometry::Geometry;
 use nvm_store::Limit;
+use nvm_write::hand;
 use std::io;
 use std::io::Write;
 

@@ -3,15 +3,15 @@ ghost use Rattle.std.specs.Io.KnownBytes.{Appends};
 ghost use Rattle.nvm_record.specs.Entry.{HasFieldsInRange, spelling_of};
 ghost use Rattle.nvm_file.specs.Counted.{counted};
 ghost use Rattle.nvm_file.specs.Fits.{BodyFits, JobFits};
-ghost use Rattle.nvm_file.specs.Handed.{TakesFront};
+ghost use Rattle.nvm_write.specs.Handed.{TakesFront};
 ghost use Rattle.nvm_file.specs.JobSpelling as spec;
 ghost use Rattle.nvm_file.specs.JobSpelling.{body_kind, commands_bytes, job_bytes};
 
 use super::bytes::count_bytes;
-use super::handing::hand;
 use byteorder::{ByteOrder, LittleEndian};
 use nvm_plan::{Body, Job};
 use nvm_record::{Command, command_bytes};
+use nvm_write::hand;
 use std::io;
 use std::io::Write;
 

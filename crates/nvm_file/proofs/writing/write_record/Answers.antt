@@ -8,13 +8,13 @@ use Rattle.nvm_audit.specs.Shown.{shown_by}
 use Rattle.nvm_file.specs.Counted.{counted}
 use Rattle.nvm_file.specs.EntrySpelling.{history_bytes}
 use Rattle.nvm_file.specs.Fits.{DoneFits, FitsItsFields, JobFits, NumbersFit}
-use Rattle.nvm_file.specs.Handed.{TakesFront}
+use Rattle.nvm_write.specs.Handed.{TakesFront}
 use Rattle.nvm_file.specs.HeadSpelling.{head_bytes}
 use Rattle.nvm_file.specs.JobSpelling.{job_bytes}
 use Rattle.nvm_file.specs.Spelling.{record_bytes}
 use Rattle.nvm_file.specs.WorkSpelling.{work_bytes}
 use Rattle.nvm_file.proofs.Lengths.{short_units, short_works}
-use Rattle.nvm_file.proofs.Taking.{behind, first_of, on_err, on_err_then, on_ok_then, within}
+use Rattle.nvm_write.proofs.Taking.{behind, first_of, on_err, on_err_then, on_ok_then, within}
 use Rattle.nvm_file.proofs.writing.write_record.Goals as goal
 
 -- The numbers of a record fit where those of its parts do.

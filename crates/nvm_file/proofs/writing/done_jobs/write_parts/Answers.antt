@@ -6,7 +6,7 @@ use Rattle.nvm_plan.specs.declared.part.Part.{Part}
 use Rattle.nvm_plan.specs.declared.part.PartResult.TheVariants.{Done}
 use Rattle.nvm_file.specs.Fits.{PartFits}
 use Rattle.nvm_file.specs.WorkSpelling.{part_bytes}
-use Rattle.nvm_file.proofs.Taking.{loop_front, loop_next}
+use Rattle.nvm_write.proofs.Taking.{loop_front, loop_next}
 use Rattle.nvm_file.proofs.writing.done_jobs.write_parts.Goals as goal
 
 pub returns-in_err-hand-clause-front : goal.returns-in_err-hand-clause-front

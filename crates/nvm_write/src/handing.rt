@@ -1,0 +1,38 @@
+//! Bytes to a writer, of which it is known how many it took where it fails.
+ghost use Rattle.std.specs.Prelude.{OnErr, OnOk};
+ghost use Rattle.std.specs.Io.KnownBytes.{Appends};
+ghost use Rattle.nvm_write.specs.Handed.{TakesFront};
+
+use std::io;
+use std::io::{Error, ErrorKind, Write};
+
+/// Writes all of the bytes, in as many calls as the writer wants. A call that was interrupted is made again.
+pub fn hand<W: Write>(writer: &mut W, bytes: &[u8]) -> io::Result<()>
+    ensures whole { OnOk result (Appends (W.contents writer.old) (W.contents writer.new) bytes.now) }
+    ensures front { OnErr result (TakesFront (W.contents writer.old) (W.contents writer.new) bytes.now) }
+{
+    let mut rest = bytes;
+    for _ in 0..u64::MAX {
+        if rest.is_empty() {
+            return Ok(());
+        }
+        match writer.write(rest) {
+            Ok(0) => return Err(taken_none()),
+            Ok(count) => rest = &rest[count..],
+            Err(error) => {
+                if error.kind() != ErrorKind::Interrupted {
+                    return Err(error);
+                }
+            }
+        }
+    }
+    Err(taken_none())
+}
+
+/// What is answered where the writer takes no more.
+fn taken_none() -> Error {
+    Error::new(
+        ErrorKind::WriteZero,
+        "failed to write the whole of the bytes",
+    )
+}
