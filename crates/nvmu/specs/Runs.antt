@@ -1,17 +1,19 @@
 -- What a run shows, and what an audit does. What stands in a file no definition can say, so the files' bytes are some, as many as
 -- there are files.
-use Rattle.std.specs.Prelude.{◌≡◌, ◌⊎◌, ℕ, List, length}
+use Rattle.std.specs.Prelude.{◌≡◌, ◌⊎◌, ℕ, List, Result, length}
+use Rattle.nvm_audit.specs.RecordView.{RecordView}
+use Rattle.nvm_audit.specs.declared.audit_fault.AuditFault.{AuditFault}
+use Rattle.nvm_audit.specs.declared.verdict.Verdict.{Verdict}
 use Rattle.nvm_engine.specs.Fault.{IsFirstRunFault}
-use Rattle.nvm_engine.specs.Judged.{IsJudged, IsJudgeFault}
+use Rattle.nvm_engine.specs.Judged.{IsJudged, IsUnreadFault}
 use Rattle.nvm_engine.specs.Shown.{IsShown}
 use Rattle.nvm_engine.specs.declared.fault.Fault.{Fault}
 use Rattle.nvm_engine.specs.declared.settings.Settings.{Settings}
-use Rattle.nvm_engine.specs.declared.shown.Shown.{Shown}
 use Rattle.nvmu.specs.Files.{IsReadFault, IsReadingFault, IsWriteFault}
 
--- It is that of a run of the settings on the files at these paths.
-abbrev pub IsShownOn : Settings → List (List ℕ) → Shown → Type 0
-IsShownOn settings paths shown = (files : List (List ℕ)) × (length files ≡ length paths) × IsShown settings files shown
+-- The record is that of a run of the settings on the files at these paths. It goes to its file, and its text to standard output.
+abbrev pub IsShownOn : Settings → List (List ℕ) → RecordView → Type 0
+IsShownOn settings paths run = (files : List (List ℕ)) × (length files ≡ length paths) × IsShown settings files run
 
 -- Some file couldn't be read, or else it is the first fault of a run on them.
 abbrev pub IsFaultOn : Settings → List (List ℕ) → Fault → Type 0
@@ -22,10 +24,10 @@ IsFaultOn settings paths fault =
 abbrev pub IsRunFaultOn : Settings → List ℕ → List (List ℕ) → Fault → Type 0
 IsRunFaultOn settings out paths fault = IsFaultOn settings paths fault ⊎ IsWriteFault out fault
 
--- It is that of an audit of a file's bytes.
-abbrev pub IsJudgedFile : Shown → Type 0
-IsJudgedFile shown = (bytes : List ℕ) × IsJudged bytes shown
+-- It is the answer of an audit of a file's bytes. Its line goes to standard output.
+abbrev pub IsJudgedFile : Result Verdict AuditFault → Type 0
+IsJudgedFile answer = (bytes : List ℕ) × IsJudged bytes answer
 
 -- The file at this path couldn't be read, or else it is the first fault of its bytes as a record.
 abbrev pub IsJudgeFaultOn : List ℕ → Fault → Type 0
-IsJudgeFaultOn path fault = IsReadFault path fault ⊎ ((bytes : List ℕ) × IsJudgeFault bytes fault)
+IsJudgeFaultOn path fault = IsReadFault path fault ⊎ ((bytes : List ℕ) × IsUnreadFault bytes fault)

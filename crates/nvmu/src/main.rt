@@ -1,8 +1,9 @@
 //! The program `nvmu`: reads the words of its command line and the hosts' files, has their commands done by workers, and
-//! writes the record of that and what it shows. Or it audits a record.
+//! writes the record of that and its text. Or it audits a record.
 #![tactic(auto)]
 
 ghost use Rattle.std.specs.Prelude.{◌≡◌, ◌⊎◌, IfOk, IfErr, map, string_bytes};
+ghost use Rattle.nvm_engine.specs.VerdictLine.{answer_status};
 ghost use Rattle.nvmu.specs.Runs.{IsShownOn, IsFaultOn, IsJudgedFile, IsJudgeFaultOn, IsRunFaultOn};
 
 mod files;
@@ -10,8 +11,8 @@ mod words;
 
 use crate::files::{bytes_of, read_files, write_file};
 use crate::words::{Asked, read_words};
-use nvm_engine::{Fault, Settings, Shown, audit_bytes, execute};
-use nvm_front::{FileFault, WordFault, tell, texts_of, words_given, write};
+use nvm_engine::{Fault, Judged, Settings, Shown, audit_bytes, execute};
+use nvm_front::{FileFault, Output, WordFault, tell, texts_of, words_given};
 use nvm_unit::Open;
 use std::process::ExitCode;
 use std::rt::{Env, Files};
@@ -23,12 +24,12 @@ fn main(rt: HostRuntime) -> ExitCode {
 }
 
 /// Does what the words of the command line ask for, and gives the exit status: 0, 2 where a record isn't lawful, or 1 after a
-/// fault.
+/// fault. The room of standard output is taken first, so that no memory is wanted for the text once the record of a run stands.
 fn status_of<R: AllocGlobal + Env + Files + Print + Eprint + Threads + Wait + Sync>(rt: &R) -> u8 {
     match asked(rt) {
-        Ok(asked) => match shown(rt, &asked) {
-            Ok(shown) => written(rt, shown),
-            Err(fault) => failed(rt, fault),
+        Ok(asked) => match Output::standard(rt) {
+            Ok(output) => done(rt, &asked, output),
+            Err(_) => failed(rt, Fault::NoMemory),
         },
         Err(fault) => match tell(rt, fault) {
             Some(status) => status,
@@ -44,18 +45,25 @@ fn asked<R: AllocGlobal + Env>(rt: &R) -> Result<Asked, WordFault> {
     read_words(rt.alloc(), texts.as_slice())
 }
 
-/// Does what is asked, up to what goes to standard output.
-fn shown<R: AllocGlobal + Files + Print + Threads + Wait + Sync>(
+/// Does what is asked, writes what it shows, and gives the exit status.
+fn done<R: AllocGlobal + Files + Print + Eprint + Threads + Wait + Sync>(
     rt: &R,
     asked: &Asked,
-) -> Result<Shown, Fault> {
+    output: Output<'_, R>,
+) -> u8 {
     match asked {
         Asked::Run {
             settings,
             out,
             files,
-        } => recorded(rt, settings, out.as_str(), files.as_slice()),
-        Asked::Audit { path } => audit(rt, path.as_str()),
+        } => match recorded(rt, settings, out.as_str(), files.as_slice()) {
+            Ok(shown) => printed(rt, &shown, output),
+            Err(fault) => failed(rt, fault),
+        },
+        Asked::Audit { path } => match audited(rt, path.as_str()) {
+            Ok(judged) => told(rt, &judged, output),
+            Err(fault) => failed(rt, fault),
+        },
     }
 }
 
@@ -70,9 +78,7 @@ fn recorded<R: AllocGlobal + Files + Print + Threads + Wait + Sync>(
     ensures fault { IfErr result (IsRunFaultOn settings.now out.now (map (λ path. string_bytes path) paths.now)) }
 {
     let shown = run(rt, settings, paths)?;
-    if let Some(record) = &shown.record {
-        write_file(rt, out, record)?;
-    }
+    write_file(rt, out, shown.record())?;
     Ok(shown)
 }
 
@@ -90,23 +96,53 @@ fn run<R: AllocGlobal + Files + Threads + Wait + Sync>(
 }
 
 /// Reads the record at a path and audits it.
-fn audit<R: AllocGlobal + Files + Threads + Sync>(rt: &R, path: &str) -> Result<Shown, Fault>
-    ensures shown { IfOk result IsJudgedFile }
+fn audited<R: AllocGlobal + Files + Threads + Sync>(rt: &R, path: &str) -> Result<Judged, Fault>
+    ensures judged { IfOk result IsJudgedFile }
     ensures fault { IfErr result (IsJudgeFaultOn path.now) }
 {
     let bytes = bytes_of(rt, path)?;
     audit_bytes(rt, rt.alloc(), &bytes)
 }
 
-/// Writes the text to standard output. Where that fails, the status is 1.
-fn written<R: AllocGlobal + Files + Print + Eprint>(rt: &R, shown: Shown) -> u8
-    ensures { (result ≡ shown.status) ⊎ (result ≡ 1) }
+/// Writes the text of a run to standard output, line by line as it is made. Where that fails, the status is 1.
+fn printed<R: Files + Print + Eprint>(rt: &R, shown: &Shown, output: Output<'_, R>) -> u8
+    ensures { (result ≡ 0) ⊎ (result ≡ 1) }
 {
-    match write(rt, "-", shown.text.as_slice()) {
-        Ok(()) => shown.status,
+    ended(rt, write_shown(output, shown), 0)
+}
+
+/// Writes the line of an audit to standard output. Where that fails, the status is 1.
+fn told<R: Files + Print + Eprint>(rt: &R, judged: &Judged, output: Output<'_, R>) -> u8
+    ensures { (result ≡ answer_status judged.now) ⊎ (result ≡ 1) }
+{
+    ended(rt, write_judged(output, judged), judged.status())
+}
+
+/// The status where everything was written, or else 1.
+fn ended<R: Eprint>(rt: &R, written: Result<(), FileFault>, status: u8) -> u8
+    ensures { (result ≡ status) ⊎ (result ≡ 1) }
+{
+    match written {
+        Ok(()) => status,
         Err(FileFault::NoMemory) => failed(rt, Fault::NoMemory),
         Err(FileFault::Refused) => 1,
     }
+}
+
+fn write_shown<R: Files + Print>(
+    mut output: Output<'_, R>,
+    shown: &Shown,
+) -> Result<(), FileFault> {
+    shown.write_text(&mut output)?;
+    output.finish()
+}
+
+fn write_judged<R: Files + Print>(
+    mut output: Output<'_, R>,
+    judged: &Judged,
+) -> Result<(), FileFault> {
+    judged.write_line(&mut output)?;
+    output.finish()
 }
 
 /// Prints the fault's line on standard error.
