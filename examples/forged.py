@@ -1,5 +1,6 @@
 """Records that no run made: forged, cut and spoiled ones, of both versions, and what their audit answers."""
 
+import resource
 from dataclasses import replace
 
 from auditor import verdict
@@ -24,6 +25,8 @@ SPACE = Namespace(nabsn=7)
 ROW = [file_of([write(0, 0x41), read(0, 1)])]
 HOSTS = [file_of([write(0, 0x41), read(0, 1)]), file_of([write(0, 0x42)])]
 BLOCK = b"\x41" * 512
+# The highest count of jobs, entries and done jobs, and so many bytes of memory.
+MOST, MEMORY = 4_194_304, 64 << 20
 # Two workers: the second did the Write of the second host, before the first did both jobs of the first.
 ENTRIES = (Entry(1, 1, KIND_WRITE, 0, 1, b"\x42" * 512), Entry(0, 0, KIND_WRITE, 0, 1, BLOCK))
 WRITTEN = Done(0, ((0, 1, DONE),), ((0, 0),))
@@ -153,7 +156,7 @@ BAD_VALUES = [
 ]
 
 
-def audited(run, file, told=None):
+def audited(run, file, told=None, **how):
     """Holds the audit of a file to the model, and to the line that was worked out by hand."""
     try:
         line, status = verdict(record_of(file)), 0
@@ -164,7 +167,7 @@ def audited(run, file, told=None):
     status = 2 if line.startswith("unlawful") else status
     run.keep("forged", file)
     out, err = ("", f"{line}\n") if status == 1 else (f"{line}\n", "")
-    run.expect(["nvmu", "audit", "forged"], status, out=out, err=err, files={"forged": file})
+    run.expect(["nvmu", "audit", "forged"], status, out=out, err=err, files={"forged": file}, **how)
 
 
 def forged(run):
@@ -206,9 +209,17 @@ def spoiled(run):
     audited(run, b"NVR", "nvmu: record: unknown version")
     audited(run, b"NVQ1", "nvmu: record: bad name")
     audited(run, b"", "nvmu: record: bad name")
-    # A forged count of jobs, in a file of few bytes.
-    audited(run, file[:30] + b"\x00\x00\x40\x00", "nvmu: record: truncated at 34")
     audited(run, file[:30] + b"\x01\x00\x40\x00", "nvmu: record: bad value at 30")
+    # A count of 4,194,304 in a file of few bytes: of jobs, of a unit's entries, of a worker's done jobs.
+    file = spelled(recorded(replace(SPACE, limit=MOST), ROW))
+    audited(run, file[:30] + MOST.to_bytes(4, "little"), "nvmu: record: truncated at 34", preexec_fn=little_memory)
+    for at in (680, 1227):
+        audited(run, file[:at] + MOST.to_bytes(4, "little") + file[at + 4 :], preexec_fn=little_memory)
+
+
+def little_memory():
+    """A child has far less memory than the items of a forged count would take, were it reserved for them."""
+    resource.setrlimit(resource.RLIMIT_AS, (MEMORY, MEMORY))
 
 
 def by_hand(run):
