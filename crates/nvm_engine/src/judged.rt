@@ -53,7 +53,8 @@ impl Judged {
         }
     }
 
-    /// Writes the line of the verdict or of the fault.
+    /// Writes the line of the verdict or of the fault. Where the writer fails, its error is answered, and it has taken a front of
+    /// the line.
     pub fn write_line<W: Write>(&self, writer: &mut W) -> io::Result<()>
         ensures whole { OnOk result (Appends (W.contents writer.old) (W.contents writer.new) (answer_line self.now)) }
         ensures front { OnErr result (TakesFront (W.contents writer.old) (W.contents writer.new) (answer_line self.now)) }

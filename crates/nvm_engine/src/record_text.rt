@@ -14,8 +14,8 @@ use nvm_plan::laws::each_command_has_a_status;
 use std::io;
 use std::io::Write;
 
-/// Writes the text of a record: a line for each command, in the order of the jobs. Where the done job of each job stands, was found
-/// before.
+/// Writes the text of a record: a line for each command, in the order of the jobs. `found` says where the done job of each job
+/// stands.
 pub(crate) fn write_record_text<W: Write>(
     writer: &mut W,
     run: &Record,
@@ -32,7 +32,7 @@ pub(crate) fn write_record_text<W: Write>(
     write_lines(writer, run.jobs.as_slice(), run.done.as_slice(), found)
 }
 
-/// Writes the lines of the jobs, by what is recorded of each: for the job of each number it was found where its done job stands.
+/// Writes the lines of the jobs, in their order, each by the done job to which `found` points.
 fn write_lines<W: Write>(
     writer: &mut W,
     jobs: &[Job],

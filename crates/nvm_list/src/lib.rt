@@ -8,7 +8,7 @@
 //!
 //! [`assemble`] makes a list into the bytes of a host file, and [`list_file`] lists those. Lists that were written by
 //! hand, with their commands and faults, stand in `examples/programs.py`, which holds the built `nvq` to them.
-//! [`push_operands`] and its kin append some of the words of one command, for who lists commands among other things.
+//! [`push_operands`] and its kin append some of the words of one command, for callers that list commands among other things.
 #![tactic(auto)]
 
 mod command_line;

@@ -7,7 +7,7 @@ use nvm_record::{Command, Fuse, LbaRange, NoMemory, Op, range_count};
 use nvm_text::{push_decimal, push_runs};
 
 /// Appends what the command is on, each word behind a space: its ranges, or its starting LBA, its number of blocks and its
-/// data. Nothing is promised of the text where memory is refused; so it is of the calls below.
+/// data. `NoMemory` is answered where a growth was refused; nothing is promised of the text then. So it is with each call below.
 pub fn push_operands(text: &mut String, command: &Command) -> Result<(), NoMemory>
     ensures { OnOk result (string_bytes text.new
         ≡ string_bytes text.old ++ behind_spaces (spec.operand_words command.now)) }
@@ -73,7 +73,7 @@ fn push_range(text: &mut String, range: LbaRange) -> Result<(), NoMemory>
     Ok(())
 }
 
-/// Appends the word that ranges are deallocated behind a space, if they are.
+/// Appends ` deallocate` where the operation has the Deallocate bit.
 pub fn push_deallocate(text: &mut String, op: Op) -> Result<(), NoMemory>
     ensures { OnOk result (string_bytes text.new
         ≡ string_bytes text.old ++ behind_spaces (spec.deallocate_words op)) }
@@ -84,7 +84,7 @@ pub fn push_deallocate(text: &mut String, op: Op) -> Result<(), NoMemory>
     Ok(())
 }
 
-/// Appends the place in a fused operation behind a space, if it has one.
+/// Appends ` first`, ` second` or ` reserved` by the FUSE bits, and nothing for a normal command.
 pub fn push_fuse(text: &mut String, fuse: Fuse) -> Result<(), NoMemory>
     ensures { OnOk result (string_bytes text.new
         ≡ string_bytes text.old ++ behind_spaces (spec.fuse_words fuse)) }

@@ -29,15 +29,15 @@ unfoldable pub namespace_line : Namespace → List ℕ
 namespace_line ns = size_text ns ++ (boundary_text ns ++ (atomic_text ns ++ codes "\n"))
 
 -- how many entries a unit may have, and how many workers there were
-unfoldable pub run_text : ℕ → ℕ → List ℕ
-run_text limit workers = numbered (codes "limit ") limit ++ numbered (codes " workers ") workers
+unfoldable pub limit_text : ℕ → ℕ → List ℕ
+limit_text limit workers = numbered (codes "limit ") limit ++ numbered (codes " workers ") workers
 
 -- how many jobs there were, and how many units there are
-unfoldable pub count_text : ℕ → ℕ → List ℕ
-count_text jobs units = numbered (codes " jobs ") jobs ++ numbered (codes " units ") units
+unfoldable pub totals_text : ℕ → ℕ → List ℕ
+totals_text jobs units = numbered (codes " jobs ") jobs ++ numbered (codes " units ") units
 
 unfoldable pub counts_line : RecordView → List ℕ
-counts_line r = run_text r.limit r.workers ++ (count_text (length r.jobs) (length r.units) ++ codes "\n")
+counts_line r = limit_text r.limit r.workers ++ (totals_text (length r.jobs) (length r.units) ++ codes "\n")
 
 unfoldable pub head_lines : RecordView → List ℕ
 head_lines r = version_line r.version ++ (namespace_line r.namespace ++ counts_line r)

@@ -90,9 +90,9 @@ fn push_counts(text: &mut String, run: &Record) -> Result<(), NoMemory>
 }
 
 /// Appends how many entries a unit may have, and how many workers there were.
-#[tactic(auto, unfolding(crate::specs::HeadLines::run_text))]
+#[tactic(auto, unfolding(crate::specs::HeadLines::limit_text))]
 fn push_run(text: &mut String, limit: u32, workers: u16) -> Result<(), NoMemory>
-    ensures { OnOk result (string_bytes text.new ≡ string_bytes text.old ++ spec.run_text limit workers) }
+    ensures { OnOk result (string_bytes text.new ≡ string_bytes text.old ++ spec.limit_text limit workers) }
 {
     push_numbered(text, "limit ", u64::from(limit))?;
     push_numbered(text, " workers ", u64::from(workers))?;
@@ -100,9 +100,9 @@ fn push_run(text: &mut String, limit: u32, workers: u16) -> Result<(), NoMemory>
 }
 
 /// Appends how many jobs there were, and how many units there are.
-#[tactic(auto, unfolding(crate::specs::HeadLines::count_text))]
+#[tactic(auto, unfolding(crate::specs::HeadLines::totals_text))]
 fn push_count(text: &mut String, jobs: usize, units: usize) -> Result<(), NoMemory>
-    ensures { OnOk result (string_bytes text.new ≡ string_bytes text.old ++ spec.count_text jobs units) }
+    ensures { OnOk result (string_bytes text.new ≡ string_bytes text.old ++ spec.totals_text jobs units) }
 {
     push_numbered(text, " jobs ", jobs as u64)?;
     push_numbered(text, " units ", units as u64)?;

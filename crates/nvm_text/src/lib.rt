@@ -1,10 +1,10 @@
 //! What is printed of commands and their completions: a line for each command, with the data that a
 //! Read answers as runs of equal bytes.
 //!
-//! The functions `write_*` write to a writer, and take no memory of their own. Where the writer fails, it has taken a front of
-//! the text and nothing else. Most pieces are short, so hand it a [`BufWriter`](std::io::BufWriter) where each write costs.
+//! The functions `write_*` write to a writer, and take no memory of their own. Where the writer fails, its error is answered, and
+//! it has taken a front of the text and nothing else. Most pieces are short, so hand it a [`BufWriter`](std::io::BufWriter) where each write costs.
 //!
-//! The functions `push_*` append to a text, as `nvm_list` wants it. Where memory is refused, what the text held still
+//! The functions `push_*` append to a text, as `nvm_list` and `nvm_report` want it. Where memory is refused, what the text held still
 //! stands at its front.
 //!
 //! Texts that were written by hand stand in `examples/programs.py`, which holds the built programs to them.
@@ -21,7 +21,7 @@ mod run;
 
 pub use front::{write_name, write_status};
 pub use line::{write_line, write_told};
-pub use name::push_name;
+pub use name::{push_name, push_status};
 pub use number::{push_decimal, write_decimal};
 pub use piece::Piece;
 pub use run::{push_runs, write_runs};

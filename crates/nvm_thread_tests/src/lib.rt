@@ -1,4 +1,4 @@
-//! Tests of what threads share and of what starts threads, which reach the libraries by what they make public.
+//! Tests of `nvm_unit` and `nvm_run`, which reach them by what they make public.
 #![tactic(auto)]
 
 #[cfg(test)]
