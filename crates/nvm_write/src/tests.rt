@@ -33,10 +33,12 @@ impl Write for SmallWriter {
 
 /// What a writer of so much room answers, and what it takes.
 fn handed(rt: HostRuntime, room: usize) -> Result<(io::Result<()>, Vec<u8>), Fail> {
+    // What it takes has its room before, so that no call of it wants memory.
+    let taken = Vec::with_capacity(rt.alloc(), 16)?;
     let mut writer = SmallWriter {
         room,
         was_interrupted: false,
-        taken: Vec::new(rt.alloc()),
+        taken,
     };
     let answer = hand(&mut writer, b"1 1 write 0/00\n");
     Ok((answer, writer.taken))
