@@ -7,6 +7,9 @@ use std::io;
 use std::io::{Error, ErrorKind, Write};
 
 /// Writes all of the bytes, in as many calls as the writer wants. A call that was interrupted is made again.
+///
+/// Where the writer fails, its error is answered, or `WriteZero` where it takes no more bytes. It has taken a front of the bytes
+/// then, and nothing else.
 pub fn hand<W: Write>(writer: &mut W, bytes: &[u8]) -> io::Result<()>
     ensures whole { OnOk result (Appends (W.contents writer.old) (W.contents writer.new) bytes.now) }
     ensures front { OnErr result (TakesFront (W.contents writer.old) (W.contents writer.new) bytes.now) }
