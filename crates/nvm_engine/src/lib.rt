@@ -15,8 +15,6 @@ mod record_text;
 mod settings;
 mod shown;
 mod standing;
-#[cfg(test)]
-mod tests;
 mod verdict_line;
 mod workers;
 

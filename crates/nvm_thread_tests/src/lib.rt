@@ -1,6 +1,8 @@
-//! Tests of `nvm_unit` and `nvm_run`, which reach them by what they make public.
+//! Tests of `nvm_unit`, `nvm_run` and `nvm_engine`, which reach them by what they make public.
 #![tactic(auto)]
 
+#[cfg(test)]
+mod engine;
 #[cfg(test)]
 mod run;
 #[cfg(test)]

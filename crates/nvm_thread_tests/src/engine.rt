@@ -1,5 +1,5 @@
 //! Runs by workers, and audits of their records.
-use crate::{Fault, Judged, Settings, Shown, Workers, audit_bytes, execute};
+use nvm_engine::{Fault, Judged, Settings, Shown, Workers, audit_bytes, execute};
 use nvm_file::write_record;
 use nvm_record::{Command, Fuse, Op, Payload, host_bytes};
 use nvm_store::Limit;
