@@ -20,6 +20,7 @@ from listings import listings
 from outs import outs_of_nvmu, outs_of_nvq, shown_nowhere
 from rows import rows
 from runs import runs
+from two_owners import two_owners
 from words import SEVERAL, files_of_nvmu, files_that_stop, several_workers, words_of_nvmu
 
 # Stands for a text that isn't empty: clap words its own.
@@ -259,7 +260,7 @@ def words_of_unit_bench(run):
 
 
 TABLES = [lists, words_of_nvq, listings, outs_of_nvq, words_of_nvmu, files_of_nvmu, files_that_stop, several_workers]
-TABLES += [outs_of_nvmu, shown_nowhere, runs, rows, forged, spoiled, words_of_unit_bench]
+TABLES += [outs_of_nvmu, shown_nowhere, runs, rows, forged, spoiled, two_owners, words_of_unit_bench]
 
 
 def tried():
