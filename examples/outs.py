@@ -101,7 +101,7 @@ OUTS = [
     ({"": ("dr-xr-xr-x", None)}, "new", FORBIDDEN, obeys_permissions),
     ({}, "missing/new", MISSING, None),
     ({"old": ("-rw-r--r--", OLD)}, "old/new", NO_FOLDER, None),
-    ({}, "new/", FOLDER, None),
+    ({}, "new/", NO_FOLDER, None),
     ({"folder": ("drwxr-xr-x", None)}, "folder", FOLDER, None),
     ({"old": ("srwxr-xr-x", None)}, "old", "", None),
     # A file that can be written but not replaced is written as it stands.

@@ -219,14 +219,14 @@ def files_of_nvmu(run):
     # A pipe whose writer stops: what came through is the whole file.
     pipe = os.path.join(run.folder, "pipe")
     os.mkfifo(pipe)
-    for content, told in (
+    for content, ended in (
         (file_of(COMMANDS), {"out": LINES + HOST_VERDICT}),
         (file_of(COMMANDS)[:700], {"status": 1, "err": "nvmu: host 1: truncated at 644\n"}),
         (b"", {"status": 1, "err": told("nvmu: host 1: bad name", no_host_file("pipe", b""))}),
     ):
         writer = threading.Thread(target=written, args=(pipe, content), daemon=True)
         writer.start()
-        run.expect(run_words(OPTIONS, "pipe"), **told)
+        run.expect(run_words(OPTIONS, "pipe"), **ended)
         writer.join(60)
     run.hold("pipe", stat.S_ISFIFO(os.lstat(pipe).st_mode), True)
     os.remove(pipe)
@@ -300,8 +300,10 @@ def standard_input(run):
         run.expect(run_words(OPTIONS, *names), 1, given=run.kept("b"), err=told("nvmu: cannot read -", STANDARD_TWICE))
     for words in (run_words(OPTIONS, "-"), ["nvmu", "audit", "-"]):
         run.hold(f"{words}", run.status_of(words, preexec_fn=without_input), (1, b"nvmu: cannot read -\n"))
-    with open(run.folder, "rb", buffering=0, opener=lambda path, _: os.open(path, os.O_RDONLY)) as folder:
-        run.hold("a folder", run.status_of(["nvmu", "audit", "-"], stdin=folder), (1, told("nvmu: cannot read -", FOLDER).encode()))
+    folder = os.open(run.folder, os.O_RDONLY)
+    found = run.status_of(["nvmu", "audit", "-"], stdin=folder)
+    run.hold("a folder", found, (1, told("nvmu: cannot read -", FOLDER).encode()))
+    os.close(folder)
 
 
 def without_input():
