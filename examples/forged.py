@@ -4,6 +4,8 @@ import resource
 from dataclasses import replace
 
 from auditor import verdict
+from hints import of_record
+from hints import told as hinted
 from host_files import compare, file_of, pair, read, unknown, write
 from model import DATASET, Command, Namespace
 from recorded import jobs_of, recorded
@@ -166,7 +168,7 @@ def audited(run, file, told=None, **how):
         run.hold("the model of a record", line, told)
     status = 2 if line.startswith("unlawful") else status
     run.keep("forged", file)
-    out, err = ("", f"{line}\n") if status == 1 else (f"{line}\n", "")
+    out, err = ("", hinted(line, of_record(line, "forged", file))) if status == 1 else (f"{line}\n", "")
     run.expect(["nvmu", "audit", "forged"], status, out=out, err=err, files={"forged": file}, **how)
 
 

@@ -6,6 +6,8 @@ The namespace has 32 blocks of 512 bytes in units of eight, and pairs have up to
 from dataclasses import replace
 
 from forged import FORGED, OLD, OTHER, SPACE, TWO, WRITTEN
+from hints import VERSIONS, no_host_file
+from hints import told as hinted
 from host_files import compare, dataset, file_of, pair, read, uncorrectable, unknown, write, zeroes
 from record_listing import record_listing
 from recorded import recorded
@@ -160,5 +162,6 @@ def faults_of_records(run):
         (b"nvr2" + file[4:], "bad name"),
     ):
         run.keep("wrong", given)
-        run.expect(["nvq", "list", "wrong"], 1, err=f"nvq: wrong: {fault}\n")
-        run.expect(["nvq", "list", "-"], 1, given=given, err=f"nvq: -: {fault}\n")
+        for path in ("wrong", "-"):
+            hint = {"bad name": no_host_file(path, given), "unknown version": VERSIONS}.get(fault, "")
+            run.expect(["nvq", "list", path], 1, given=given, err=hinted(f"nvq: {path}: {fault}", hint))

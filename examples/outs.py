@@ -9,13 +9,28 @@ import socket
 import stat
 import threading
 
+from hints import (
+    FOLDER,
+    FORBIDDEN,
+    GEOMETRY,
+    IS_HOST_FILE,
+    IS_LIST,
+    LOOP,
+    MISSING,
+    NO_FOLDER,
+    NO_READER,
+    NO_SPACE,
+    STANDARD_OUT,
+    TOO_LARGE,
+    told,
+)
 from host_files import file_of, write
 from recording import OPTIONS, expected, run_words
 from records import spelled
 
 REFUSED = (
     "nvq: line 1: expected write, read, compare, zeroes, uncorrectable, dataset, or op- and another opcode in two"
-    " hexadecimal digits\n"
+    " hexadecimal digits\n  the line is: walk\n"
 )
 # What a file holds before the host file of LONG_LIST is written over it, which is longer than what a child with
 # `stopped_early` or `killed_early` can write into a file.
@@ -55,7 +70,8 @@ def mounted():
 
 
 # What stands in a folder, the OUT there, what stands afterwards, and how the child is run. Where it can't write OUT, the
-# third is None. A link has what it names, and what is neither a file nor a link has nothing. The folder itself is "".
+# third is what it says of that, which is "" where the system has no words for it. A link has what it names, and what is
+# neither a file nor a link has nothing. The folder itself is "".
 OUTS = [
     # The file appears whole, in place of what stood there and with its permissions.
     ({}, "new", {"new": NEW}, None),
@@ -71,8 +87,8 @@ OUTS = [
         None,
     ),
     # Or not at all, and nothing is left beside it but by a program that was killed.
-    ({}, "new", None, stopped_early),
-    ({"old": ("-rw-r-----", OLD)}, "old", None, stopped_early),
+    ({}, "new", TOO_LARGE, stopped_early),
+    ({"old": ("-rw-r-----", OLD)}, "old", TOO_LARGE, stopped_early),
     ({}, "new", {".nvm-unfinished-0": ("-rw-r--r--", FRONT)}, killed_early),
     (
         {"old": ("-rw-r-----", OLD)},
@@ -81,13 +97,13 @@ OUTS = [
         killed_early,
     ),
     # What can't be written stays as it was.
-    ({"old": ("-r--r--r--", OLD)}, "old", None, obeys_permissions),
-    ({"": ("dr-xr-xr-x", None)}, "new", None, obeys_permissions),
-    ({}, "missing/new", None, None),
-    ({"old": ("-rw-r--r--", OLD)}, "old/new", None, None),
-    ({}, "new/", None, None),
-    ({"folder": ("drwxr-xr-x", None)}, "folder", None, None),
-    ({"old": ("srwxr-xr-x", None)}, "old", None, None),
+    ({"old": ("-r--r--r--", OLD)}, "old", FORBIDDEN, obeys_permissions),
+    ({"": ("dr-xr-xr-x", None)}, "new", FORBIDDEN, obeys_permissions),
+    ({}, "missing/new", MISSING, None),
+    ({"old": ("-rw-r--r--", OLD)}, "old/new", NO_FOLDER, None),
+    ({}, "new/", NO_FOLDER, None),
+    ({"folder": ("drwxr-xr-x", None)}, "folder", FOLDER, None),
+    ({"old": ("srwxr-xr-x", None)}, "old", "", None),
     # A file that can be written but not replaced is written as it stands.
     ({"old": ("-rw-r-----", OLD)}, "old", {"old": ("-rw-r-----", WHOLE)}, mounted),
     (
@@ -104,9 +120,9 @@ OUTS = [
         None,
     ),
     ({"link": ("lrwxrwxrwx", "new")}, "link", {"link": ("lrwxrwxrwx", "new"), "new": NEW}, None),
-    ({"link": ("lrwxrwxrwx", "link")}, "link", None, None),
+    ({"link": ("lrwxrwxrwx", "link")}, "link", LOOP, None),
     ({"link": ("lrwxrwxrwx", "/dev/null")}, "link", {"link": ("lrwxrwxrwx", "/dev/null")}, None),
-    ({"link": ("lrwxrwxrwx", "/dev/full")}, "link", None, None),
+    ({"link": ("lrwxrwxrwx", "/dev/full")}, "link", NO_SPACE, None),
 ]
 
 
@@ -154,8 +170,8 @@ def resolved(standing_there, whole):
 def outs(run, program, words, whole):
     """Holds a program that writes a file, of these words and the file's path, to the table."""
 
-    def fault(out):
-        return {"status": 1, "err": f"{program}: cannot write {out}\n"}
+    def fault(out, hint):
+        return {"status": 1, "err": told(f"{program}: cannot write {out}", hint)}
 
     folder = os.path.join(run.folder, "outs")
     open_folder = {"": ("drwxr-xr-x", None)}
@@ -163,16 +179,17 @@ def outs(run, program, words, whole):
         os.mkdir(folder)
         for name, (mode, content) in sorted({**open_folder, **before}.items(), reverse=True):
             make(os.path.join(folder, name), mode, content)
-        told = fault(f"outs/{out}") if after is None else {"out": words.shown}
+        is_refused = isinstance(after, str)
+        ended = fault(f"outs/{out}", after) if is_refused else {"out": words.shown}
         if how is killed_early:
-            told = {"status": -signal.SIGXFSZ}
-        run.expect([program, *words(f"outs/{out}")], preexec_fn=how, **told)
-        wanted = resolved(before if after is None else after, whole)
+            ended = {"status": -signal.SIGXFSZ}
+        run.expect([program, *words(f"outs/{out}")], preexec_fn=how, **ended)
+        wanted = resolved(before if is_refused else after, whole)
         run.hold(f"{program}: outs/{out} after {how}", standing(folder), {**open_folder, **wanted})
         os.chmod(folder, 0o755)
         shutil.rmtree(folder)
-    for out in ("/dev/full", "/dev", "/proc/new"):
-        run.expect([program, *words(out)], **fault(out))
+    for out, hint in (("/dev/full", NO_SPACE), ("/dev", FOLDER), ("/proc/new", MISSING)):
+        run.expect([program, *words(out)], **fault(out, hint))
     run.expect([program, *words("/dev/null")], out=words.shown)
     run.hold("/dev/null", stat.S_ISCHR(os.lstat("/dev/null").st_mode), True)
     # A new file gets the owner of the one that it replaces. Only root can give files to others.
@@ -226,12 +243,15 @@ def outs_of_nvmu(run):
     # A run that ends in a fault leaves REC as it was, and makes none.
     run.keep("kept", OLD)
     run.keep("cut.nvq", LONG_FILE[:700])
-    for options, line in ((OPTIONS, "host 1: truncated at 644"), ({**OPTIONS, "nsze": 0}, "geometry: Size")):
+    for options, line, hint in (
+        (OPTIONS, "host 1: truncated at 644", ""),
+        ({**OPTIONS, "nsze": 0}, "geometry: Size", GEOMETRY["Size"]),
+    ):
         for out in ("kept", "unmade"):
-            run.expect(run_words(options, "cut.nvq", out=out), 1, err=f"nvmu: {line}\n", files={"kept": OLD})
+            run.expect(run_words(options, "cut.nvq", out=out), 1, err=told(f"nvmu: {line}", hint), files={"kept": OLD})
         run.hold("no record", os.path.exists(os.path.join(run.folder, "unmade")), False)
     # Files are read, and their faults told, before REC is looked for.
-    run.expect(run_words(OPTIONS, "missing", out="missing/record"), 1, err="nvmu: cannot read missing\n")
+    run.expect(run_words(OPTIONS, "missing", out="missing/record"), 1, err=told("nvmu: cannot read missing", MISSING))
 
 
 def without_output():
@@ -239,14 +259,64 @@ def without_output():
     os.close(1)
 
 
+def closed_pipe():
+    """A pipe that nobody reads."""
+    read, wrote = os.pipe()
+    os.close(read)
+    return wrote
+
+
 def shown_nowhere(run):
-    """Where standard output takes nothing, the status is 1 and the record stands all the same."""
+    """Where standard output takes nothing, the status is 1, a line says so, and the record stands all the same."""
     run.keep("long.nvq", LONG_FILE)
+    run.keep("long.txt", LONG_LIST)
     record, _ = expected(run, OPTIONS, ["long.nvq"])
     run.keep("audited", spelled(record))
-    ways = [({"stdout": os.open("/dev/full", os.O_WRONLY)}, "a full device"), ({"preexec_fn": without_output}, "none")]
-    for how, told in ways:
+    ways = [
+        ({"stdout": os.open("/dev/full", os.O_WRONLY)}, NO_SPACE),
+        ({"stdout": closed_pipe()}, NO_READER),
+        ({"preexec_fn": without_output}, ""),
+    ]
+    for how, hint in ways:
         run.keep("record", b"old")
+        line = told("nvmu: cannot write standard output", hint)
         for words, name in ((run_words(OPTIONS, "long.nvq"), "record"), (["nvmu", "audit", "audited"], "audited")):
-            run.hold(f"{words} with {told}", run.status_of(words, **how), (1, b""))
-            run.hold(f"{name} with {told}", run.kept(name), spelled(record))
+            run.hold(f"{words} with {how}", run.status_of(words, **how), (1, line.encode()))
+            run.hold(f"{name} with {how}", run.kept(name), spelled(record))
+        for words in (["nvmu", "--version"], ["nvmu", "run", "--help"]):
+            run.hold(f"{words} with {how}", run.status_of(words, **how), (1, line.encode()))
+        line = told("nvq: cannot write standard output", hint)
+        for words in (["nvq", "--version"], ["nvq", "--help"]):
+            run.hold(f"{words} with {how}", run.status_of(words, **how), (1, line.encode()))
+        line = told("nvq: cannot write -", hint)
+        for words in (["nvq", "list", "long.nvq"], ["nvq", "assemble", "long.txt", "-"]):
+            run.hold(f"{words} with {how}", run.status_of(words, **how), (1, line.encode()))
+
+
+def outs_that_are_read(run):
+    """A file that is read isn't written over: under its path, another path, a link, or as standard input."""
+    content, text = file_of([write(0, 0x41)]), b"write 0 1 41\n"
+    run.keep("other.nvq", file_of([]))
+    run.keep("read.nvq", content)
+    run.keep("read.list", text)
+    os.link(os.path.join(run.folder, "read.nvq"), os.path.join(run.folder, "hard"))
+    os.symlink("read.nvq", os.path.join(run.folder, "soft"))
+    files = {"read.nvq": content}
+    for out in ("read.nvq", "./read.nvq", os.path.join(run.folder, "read.nvq"), "hard", "soft"):
+        err = told(f"nvmu: cannot write {out}", IS_HOST_FILE)
+        run.expect(run_words(OPTIONS, "other.nvq", "read.nvq", out=out), 1, err=err, files=files)
+        # It is told before anything is read.
+        run.expect(run_words(OPTIONS, "missing", "read.nvq", out=out), 1, err=err, files=files)
+    with open(os.path.join(run.folder, "read.nvq"), "rb") as given:
+        words = run_words(OPTIONS, "-", out="hard")
+        found = run.status_of(words, stdin=given)
+        run.hold(f"{words}", found, (1, told("nvmu: cannot write hard", IS_HOST_FILE).encode()))
+    run.expect(run_words(OPTIONS, "read.nvq", out="-"), 1, err=told("nvmu: cannot write -", STANDARD_OUT))
+    run.hold("no file of that name", os.path.exists(os.path.join(run.folder, "-")), False)
+    # A device is no file that is read.
+    run.expect(run_words(OPTIONS, "read.nvq", out="/dev/null"), out="1 1 write 0/00\nlawful jobs 1 units 4 changes 1 refused 0\n")
+    os.remove(os.path.join(run.folder, "soft"))
+    os.symlink("read.list", os.path.join(run.folder, "soft"))
+    for out in ("read.list", "./read.list", "soft"):
+        err = told(f"nvq: cannot write {out}", IS_LIST)
+        run.expect(["nvq", "assemble", "read.list", out], 1, err=err, files={"read.list": text})

@@ -15,13 +15,23 @@ sys.dont_write_bytecode = True
 sys.path.insert(0, os.path.join(TOP, "sweep"))
 
 from forged import forged, spoiled
+from hints import MISSING, no_host_file, the_line, told
 from host_files import Asked, compare, dataset, file_of, read, uncorrectable, unknown, write, zeroes
 from listings import listings
-from outs import outs_of_nvmu, outs_of_nvq, shown_nowhere
+from outs import outs_of_nvmu, outs_of_nvq, outs_that_are_read, shown_nowhere
 from rows import rows
 from runs import runs
 from two_owners import two_owners
-from words import SEVERAL, files_of_nvmu, files_that_stop, several_workers, words_of_nvmu
+from words import (
+    SEVERAL,
+    files_of_another_kind,
+    files_of_nvmu,
+    files_that_stop,
+    several_workers,
+    standard_input,
+    versions,
+    words_of_nvmu,
+)
 
 # Stands for a text that isn't empty: clap words its own.
 SOME = object()
@@ -182,10 +192,10 @@ class Programs:
         if not right:
             print(f"{words} ended with {[it if isinstance(it, int) else it[:300] for it in found]}")
 
-    def status_of(self, words, **how):
+    def status_of(self, words, stdin=subprocess.DEVNULL, **how):
         """The status of a run, and what it says on standard error."""
         program = os.path.join(TOP, "crates", words[0], "out", words[0])
-        done = subprocess.run([program, *words[1:]], stdin=subprocess.DEVNULL, stderr=subprocess.PIPE, cwd=self.folder, timeout=60, **how)
+        done = subprocess.run([program, *words[1:]], stdin=stdin, stderr=subprocess.PIPE, cwd=self.folder, timeout=60, **how)
         return done.returncode, done.stderr
 
     def hold(self, told, found, wanted):
@@ -207,7 +217,8 @@ def lists(run):
         assembled(text, out=file_of(asked))
     for expected, texts in REFUSED_LINES.items():
         for text in texts:
-            assembled(f"# a list\n\nread 0 1\n{text}\nwalk\n", status=1, err=f"nvq: line 4: {expected}\n")
+            err = told(f"nvq: line 4: {expected}", the_line(text))
+            assembled(f"# a list\n\nread 0 1\n \t{text}\r\nwalk\n", status=1, err=err)
     run.keep("listed", LISTED)
     run.expect(["nvq", "assemble", "listed", "listed.nvq"])
     run.expect(["nvq", "list", "listed.nvq"], out=LISTED)
@@ -219,7 +230,16 @@ def lists(run):
     # The identifier goes round after 65,535, and no more than 65,536 commands are taken.
     many = "# many\n" + "read 0 1\n" * 65_536
     assembled(many, out=file_of([read(0, 1, cid=place % 65_536) for place in range(1, 65_537)]))
-    assembled(f"{many}# no command\n\nwalk\n", status=1, err="nvq: line 65540: expected no more than 65536 commands\n")
+    assembled(f"{many}# no command\n\nwalk\n", status=1, err=told("nvq: line 65540: expected no more than 65536 commands", the_line("walk")))
+    # Where a character ends behind the front of a line that is shown, it isn't; nor is what isn't plain text.
+    for line, hint in (
+        ("walk" + "\u00e9" * 60, the_line("walk" + "\u00e9" * 48)),
+        ("walks" + "\u00e9" * 60, the_line("walks" + "\u00e9" * 47)),
+        ("walk \x1b[2J", ""),
+        (b"walk \xff", ""),
+    ):
+        given = line if isinstance(line, bytes) else line.encode()
+        run.expect(["nvq", "assemble", "-", "-"], 1, given=given, err=told(f"nvq: line 1: {NAME}", hint))
 
 
 def words_of_nvq(run):
@@ -229,13 +249,16 @@ def words_of_nvq(run):
     run.expect(["nvq", "assemble", "a.txt", "-", "--block=4096"], out=large)
     run.expect(["nvq", "list", "--block", "4096", "-"], given=large, out="write 0 1 4096*41\nread 0 1\n")
     run.expect(["nvq", "list", "-"], given=b"NVQ1")
-    for given, fault in ((b"NVQ", "bad name"), (b"NVQ1.", "truncated at 4")):
+    for given, fault, hint in (
+        (b"NVQ", "bad name", no_host_file("wrong.nvq", b"NVQ")),
+        (b"NVQ1.", "truncated at 4", ""),
+    ):
         run.keep("wrong.nvq", given)
-        run.expect(["nvq", "list", "wrong.nvq"], 1, err=f"nvq: wrong.nvq: {fault}\n")
+        run.expect(["nvq", "list", "wrong.nvq"], 1, err=told(f"nvq: wrong.nvq: {fault}", hint))
     many = file_of([unknown(0, 1, cid=0)] * 65_536)
     run.expect(["nvq", "list", "-"], 1, given=many + b"0", err="nvq: -: too many commands\n")
-    run.expect(["nvq", "list", "missing"], 1, err="nvq: cannot read missing\n")
-    run.expect(["nvq", "assemble", "a.txt", "missing/a.nvq"], 1, err="nvq: cannot write missing/a.nvq\n")
+    run.expect(["nvq", "list", "missing"], 1, err=told("nvq: cannot read missing", MISSING))
+    run.expect(["nvq", "assemble", "a.txt", "missing/a.nvq"], 1, err=told("nvq: cannot write missing/a.nvq", MISSING))
     for words in ("", "assemble", "assemble a", "assemble a b c", "walk a b", "list", "list a b", "list --block 1024 a"):
         run.refuse(["nvq", *words.split()])
     for words in ("list --bogus 1 a", "list --block 512 --block 512 a", "list --block"):
@@ -260,6 +283,7 @@ def words_of_unit_bench(run):
 
 
 TABLES = [lists, words_of_nvq, listings, outs_of_nvq, words_of_nvmu, files_of_nvmu, files_that_stop, several_workers]
+TABLES += [versions, standard_input, files_of_another_kind, outs_that_are_read]
 TABLES += [outs_of_nvmu, shown_nowhere, runs, rows, forged, spoiled, two_owners, words_of_unit_bench]
 
 

@@ -6,14 +6,32 @@ import subprocess
 import threading
 
 from auditor import text
+from hints import (
+    FOLDER,
+    FORBIDDEN,
+    GEOMETRY,
+    MISSING,
+    NO_FOLDER,
+    STANDARD_TWICE,
+    many_hosts,
+    no_host_file,
+    no_list,
+    no_record,
+    other_block,
+    told,
+)
 from host_files import compare, dataset, file_of, pair, read, uncorrectable, unknown, write, zeroes
 from model import Namespace
 from outs import obeys_permissions
 from recorded import jobs_of
-from recording import OPTIONS, ran, run_words
-from records import MOST_LIMIT, record_of
+from recording import OPTIONS, expected, ran, run_words
+from records import MOST_LIMIT, record_of, spelled
 
 LAST = 2**64 - 1
+# What `--version` prints behind the program's name.
+VERSION = "0.1.0"
+# What is expected at the front of a list's line.
+NO_COMMAND = "expected write, read, compare, zeroes, uncorrectable, dataset, or op- and another opcode in two hexadecimal digits"
 # Boundaries at 4, 14 and 24.
 COMMANDS = [
     write(32, 0x41),
@@ -152,7 +170,7 @@ def words_of_nvmu(run):
     for changed in TAKEN:
         ran(run, {**OPTIONS, **changed}, "none.nvq")
     for fault, changed in NO_GEOMETRY:
-        run.expect(words("none.nvq", **changed), 1, err=f"nvmu: geometry: {fault}\n")
+        run.expect(words("none.nvq", **changed), 1, err=told(f"nvmu: geometry: {fault}", GEOMETRY[fault]))
     for name, values in NOT_TAKEN.items():
         for value in values:
             run.refuse(words("none.nvq", **{name: value}))
@@ -174,37 +192,129 @@ def files_of_nvmu(run):
     run.keep("wrong", b"NVR1")
     run.keep("hidden", file_of([]))
     os.chmod(os.path.join(run.folder, "hidden"), 0)
-    for files, fault in (
-        (["missing"], "cannot read missing"),
-        (["host.nvq", "missing"], "cannot read missing"),
-        (["wrong", "missing"], "cannot read missing"),
-        (["host.nvq", "."], "cannot read ."),
-        (["hidden"], "cannot read hidden"),
-        (["host.nvq", "/proc/self/mem"], "cannot read /proc/self/mem"),
-        (["none.nvq"] * 64 + ["missing"], "cannot read missing"),
-        (["host.nvq", "wrong"], "host 2: bad name"),
-        (["/dev/null"], "host 1: bad name"),
-        (["cut.nvq", "wrong"], "host 1: truncated at 644"),
-        (["host.nvq", "none.nvq", "cut.nvq"], "host 3: truncated at 644"),
-        (["none.nvq"] * 65, "too many hosts"),
+    for files, fault, hint in (
+        (["missing"], "cannot read missing", MISSING),
+        (["host.nvq", "missing"], "cannot read missing", MISSING),
+        (["wrong", "missing"], "cannot read missing", MISSING),
+        (["host.nvq", "."], "cannot read .", FOLDER),
+        (["hidden"], "cannot read hidden", FORBIDDEN),
+        (["host.nvq", "/proc/self/mem"], "cannot read /proc/self/mem", ""),
+        (["none.nvq"] * 64 + ["missing"], "cannot read missing", MISSING),
+        (["host.nvq", "wrong"], "host 2: bad name", no_host_file("wrong", b"NVR1")),
+        (["/dev/null"], "host 1: bad name", no_host_file("/dev/null", b"")),
+        (["cut.nvq", "wrong"], "host 1: truncated at 644", ""),
+        (["host.nvq", "none.nvq", "cut.nvq"], "host 3: truncated at 644", ""),
+        (["none.nvq"] * 65, "too many hosts", many_hosts(65)),
     ):
-        run.expect(run_words(OPTIONS, *files), 1, err=f"nvmu: {fault}\n", preexec_fn=obeys_permissions)
-    for name in ("missing", ".", "hidden", "/proc/self/mem", "host.nvq/record"):
-        run.expect(["nvmu", "audit", name], 1, err=f"nvmu: cannot read {name}\n", preexec_fn=obeys_permissions)
+        run.expect(run_words(OPTIONS, *files), 1, err=told(f"nvmu: {fault}", hint), preexec_fn=obeys_permissions)
+    for name, hint in (
+        ("missing", MISSING),
+        (".", FOLDER),
+        ("hidden", FORBIDDEN),
+        ("/proc/self/mem", ""),
+        ("host.nvq/record", NO_FOLDER),
+    ):
+        err = told(f"nvmu: cannot read {name}", hint)
+        run.expect(["nvmu", "audit", name], 1, err=err, preexec_fn=obeys_permissions)
     # A pipe whose writer stops: what came through is the whole file.
     pipe = os.path.join(run.folder, "pipe")
     os.mkfifo(pipe)
-    for content, told in (
+    for content, ended in (
         (file_of(COMMANDS), {"out": LINES + HOST_VERDICT}),
         (file_of(COMMANDS)[:700], {"status": 1, "err": "nvmu: host 1: truncated at 644\n"}),
-        (b"", {"status": 1, "err": "nvmu: host 1: bad name\n"}),
+        (b"", {"status": 1, "err": told("nvmu: host 1: bad name", no_host_file("pipe", b""))}),
     ):
         writer = threading.Thread(target=written, args=(pipe, content), daemon=True)
         writer.start()
-        run.expect(run_words(OPTIONS, "pipe"), **told)
+        run.expect(run_words(OPTIONS, "pipe"), **ended)
         writer.join(60)
     run.hold("pipe", stat.S_ISFIFO(os.lstat(pipe).st_mode), True)
     os.remove(pipe)
+
+
+def files_of_another_kind(run):
+    """Each kind of file where another is wanted, and blocks of another size."""
+    # Read as blocks of 512 bytes, the first two have a Write of 258 blocks, and too many commands.
+    large = file_of([write(0, 1), read(0, 1)], 4096)
+    many = file_of([write(0, *[0x41] * 1200)], 4096)
+    small = file_of([write(0, 0x41), *[read(0, 1)] * 7])
+    contents = {
+        "kind.nvq": file_of([]),
+        "kind.nvr": b"NVR2",
+        "kind.list": "# Schritt f\u00fcr Schritt\r\n\twrite 0 1 41\n".encode(),
+        "empty": b"",
+        "short": b"abc",
+        "binary": b"write 0 1 41\0",
+        "later.nvq": b"NVQ2",
+        "late": b"read 0 1\n" * 456 + b"\x01",
+    }
+    for name, content in contents.items():
+        run.keep(name, content)
+        if not content.startswith(b"NVQ1"):
+            err = told("nvmu: host 2: bad name", no_host_file(name, content))
+            run.expect(run_words(OPTIONS, "kind.nvq", name), 1, err=err)
+        if not content.startswith(b"NVR"):
+            run.expect(["nvmu", "audit", name], 1, err=told("nvmu: record: bad name", no_record(name, content)))
+        if not content.startswith((b"NVQ1", b"NVR")):
+            run.expect(["nvq", "list", name], 1, err=told(f"nvq: {name}: bad name", no_host_file(name, content)))
+    for name in ("kind.nvq", "kind.nvr"):
+        content = contents[name]
+        for path in (name, "-"):
+            err = told(f"nvq: line 1: {NO_COMMAND}", no_list(path, content))
+            run.expect(["nvq", "assemble", path, "out.nvq"], 1, given=content, err=err)
+    for content in contents.values():
+        if not content.startswith(b"NVR"):
+            err = told("nvmu: record: bad name", no_record("-", content))
+            run.expect(["nvmu", "audit", "-"], 1, given=content, err=err)
+        if not content.startswith(b"NVQ1"):
+            err = told("nvmu: host 1: bad name", no_host_file("-", content))
+            run.expect(run_words(OPTIONS, "-"), 1, given=content, err=err)
+    for content, block, fault, other in (
+        (large, 512, "truncated at 644", 4096),
+        (many, 512, "too many commands", 4096),
+        (small, 4096, "truncated at 68", 512),
+    ):
+        run.keep("sized.nvq", content)
+        hint = other_block(other)
+        err = told(f"nvmu: host 2: {fault}", hint)
+        run.expect(run_words({**OPTIONS, "block": block}, "kind.nvq", "sized.nvq"), 1, err=err)
+        err = told(f"nvq: sized.nvq: {fault}", hint)
+        run.expect(["nvq", "list", "--block", str(block), "sized.nvq"], 1, err=err)
+
+
+def standard_input(run):
+    """`-` is standard input, as one host's file or as the record; and `./-` a file of that name."""
+    for name, filler in (("a", 0x41), ("b", 0x42), ("-", 0x43)):
+        run.keep(name, file_of([write(0, filler), read(0, 1)]))
+    for names in (["-"], ["a", "-"], ["-", "a"], ["b", "-", "a"]):
+        files = ["b" if name == "-" else name for name in names]
+        record, shown = expected(run, OPTIONS, files)
+        run.expect(run_words(OPTIONS, *names), given=run.kept("b"), out=shown, files={"record": spelled(record)})
+        run.expect(["nvmu", "audit", "-"], given=spelled(record), out=f"{shown.splitlines()[-1]}\n")
+    record, shown = expected(run, OPTIONS, ["-", "a"])
+    run.expect(run_words(OPTIONS, "./-", "a"), out=shown, files={"record": spelled(record)})
+    record, shown = expected(run, OPTIONS, ["a"])
+    run.expect(run_words(OPTIONS, "a", out="./-"), out=shown, files={"-": spelled(record)})
+    os.remove(os.path.join(run.folder, "-"))
+    for names in (["-", "-"], ["a", "-", "missing", "-"]):
+        run.expect(run_words(OPTIONS, *names), 1, given=run.kept("b"), err=told("nvmu: cannot read -", STANDARD_TWICE))
+    for words in (run_words(OPTIONS, "-"), ["nvmu", "audit", "-"]):
+        run.hold(f"{words}", run.status_of(words, preexec_fn=without_input), (1, b"nvmu: cannot read -\n"))
+    folder = os.open(run.folder, os.O_RDONLY)
+    found = run.status_of(["nvmu", "audit", "-"], stdin=folder)
+    run.hold("a folder", found, (1, told("nvmu: cannot read -", FOLDER).encode()))
+    os.close(folder)
+
+
+def without_input():
+    """A child has no standard input."""
+    os.close(0)
+
+
+def versions(run):
+    for program in ("nvmu", "nvq"):
+        run.expect([program, "--version"], out=f"{program} {VERSION}\n")
+        run.expect([program, "-V"], out=f"{program} {VERSION}\n")
 
 
 def files_that_stop(run):

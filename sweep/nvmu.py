@@ -5,13 +5,25 @@ import random
 
 from audits import audits
 from cases import Recording, Run
+from hints import (
+    FOLDER,
+    GEOMETRY,
+    IS_HOST_FILE,
+    MISSING,
+    STANDARD_OUT,
+    STANDARD_TWICE,
+    many_hosts,
+    no_host_file,
+    other_block,
+    told,
+)
 from host_files import compare, dataset, file_of, mixed, pair, read, uncorrectable, unknown, write, zeroes
 from model import Namespace
 
 # Units of 8 blocks, the first of which has 3.
 EIGHTS = {"nabsn": 7, "nabo": 3}
 LAST = 2**64 - 1
-
+LIST = b"write 0 1 41\nread 0 1\n"
 
 # What stands where the record is written.
 BEFORE = {Recording.name: b"old" * 10}
@@ -212,8 +224,9 @@ def runs(folder):
         model = Recording(Namespace(**changed), files, workers)
         return Run(name, "nvmu", words(paths, workers=workers, **changed), before=before, model=model)
 
-    def fault(name, line, paths, hides_wants=False, **changed):
-        return Run(name, "nvmu", words(paths, **changed), 1, err=f"nvmu: {line}\n", before=BEFORE, hides_wants=hides_wants)
+    def fault(name, line, paths, hides_wants=False, hint="", **changed):
+        err = told(f"nvmu: {line}", hint)
+        return Run(name, "nvmu", words(paths, **changed), 1, err=err, before=BEFORE, hides_wants=hides_wants)
 
     def refused(name, given, status=1):
         return Run(name, "nvmu", given, status)
@@ -221,7 +234,7 @@ def runs(folder):
     served = single_commands()
     none = file_of([])
     whole, empty, cut = kept("whole", served), kept("empty", b""), kept("cut", served[:700])
-    nothing = kept("nothing", none)
+    nothing, text, small = kept("nothing", none), kept("text", LIST), kept("small", file_of([write(0, 0x41)]))
     many = kept("many", b"NVQ1" + file_of([unknown(0, 1)])[4:] * 65_536 + b"0")
     missing = os.path.join(folder, "missing")
     return [
@@ -254,18 +267,23 @@ def runs(folder):
         lines("two workers and no commands", [none], 2),
         lines("no commands", [none]),
         lines("no commands of two hosts", [none, none]),
-        fault("an empty file", "host 1: bad name", [empty]),
+        fault("an empty file", "host 1: bad name", [empty], hint=no_host_file(empty, b"")),
+        fault("a list for a host file", "host 1: bad name", [text], hint=no_host_file(text, LIST)),
+        fault("blocks of another size", "host 1: truncated at 68", [small], hint=other_block(512), block=4096),
+        fault("standard input twice", "cannot read -", ["-", "-"], hint=STANDARD_TWICE),
+        fault("a record to standard output", "cannot write -", [whole], hint=STANDARD_OUT, out="-"),
+        fault("a record over a host file", f"cannot write {whole}", [nothing, whole], hint=IS_HOST_FILE, out=whole),
         fault("a truncated file", "host 1: truncated at 644", [cut]),
         fault("too many commands", "host 1: too many commands", [many]),
         fault("a second host's truncated file", "host 2: truncated at 644", [whole, cut, empty]),
-        fault("sixty-five hosts", "too many hosts", [nothing] * 65, nsze=0),
-        fault("a missing file", f"cannot read {missing}", [missing]),
-        fault("a second file that is missing", f"cannot read {missing}", [empty, missing], nsze=0),
-        fault("a folder", f"cannot read {folder}", [folder]),
-        fault("no blocks", "geometry: Size", [empty], nsze=0),
-        fault("blocks of 1000 bytes", "geometry: BlockSize", [whole], block=1000),
-        fault("too many units", "geometry: TooManyUnits", [whole], nsze=65_536, nabsn=1, nawun=1, nacwu=1),
-        fault("a record that can't be written", "cannot write missing/record", [whole], True, out="missing/record"),
+        fault("sixty-five hosts", "too many hosts", [nothing] * 65, hint=many_hosts(65), nsze=0),
+        fault("a missing file", f"cannot read {missing}", [missing], hint=MISSING),
+        fault("a second file that is missing", f"cannot read {missing}", [empty, missing], hint=MISSING, nsze=0),
+        fault("a folder", f"cannot read {folder}", [folder], hint=FOLDER),
+        fault("no blocks", "geometry: Size", [empty], hint=GEOMETRY["Size"], nsze=0),
+        fault("blocks of 1000 bytes", "geometry: BlockSize", [whole], hint=GEOMETRY["BlockSize"], block=1000),
+        fault("too many units", "geometry: TooManyUnits", [whole], hint=GEOMETRY["TooManyUnits"], nsze=65_536, nabsn=1, nawun=1, nacwu=1),
+        fault("a record that can't be written", "cannot write missing/record", [whole], True, MISSING, out="missing/record"),
         *audits(kept, missing, [served, pairs(), ranges()], none),
         refused("an audit of two files", ["audit", "a", "b"]),
         refused("help on the audit", ["audit", "--help"], 0),
@@ -280,4 +298,5 @@ def runs(folder):
         refused("a word that isn't UTF-8", [b"\xff"]),
         refused("help", ["--help"], 0),
         refused("help on the run", ["run", "--help"], 0),
+        refused("the version", ["--version"], 0),
     ]

@@ -5,12 +5,15 @@ import re
 from dataclasses import replace
 
 from cases import Run
+from hints import FOLDER, IS_LIST, MISSING, VERSIONS, no_host_file, no_list, other_block, the_line, told
 from host_files import compare, dataset, file_of, pair, read, uncorrectable, unknown, write, zeroes
 from model import COMPARE, DATASET, WRITE, Namespace, commands
 from record_listing import record_listing
 from recorded import recorded
 from records import spelled
 
+# What is expected at the front of a list's line.
+NO_COMMAND = "expected write, read, compare, zeroes, uncorrectable, dataset, or op- and another opcode in two hexadecimal digits"
 FUSES = ["", " first", " second", " reserved"]
 
 
@@ -53,8 +56,8 @@ def runs(folder):
     def done(name, given, out="", **more):
         return Run(name, "nvq", given, out=out, **more)
 
-    def fault(name, line, *given):
-        return Run(name, "nvq", list(given), 1, err=f"nvq: {line}\n")
+    def fault(name, line, *given, hint=""):
+        return Run(name, "nvq", list(given), 1, err=told(f"nvq: {line}", hint))
 
     def refused(name, given, status=1):
         return Run(name, "nvq", given, status)
@@ -69,7 +72,7 @@ def runs(folder):
     large_file, large_list = kept("large.nvq", large), kept("large.list", listing(large, 4096).encode())
     plain_list = kept("plain.list", b"# a comment\r\n\n" + listing(plain, 512).encode())
     wrong = kept("wrong.list", b"read 0 1\n\nwrite 0 1 511*41\n")
-    cut, empty = kept("cut.nvq", host[:700]), kept("empty.nvq", b"")
+    cut, empty, small = kept("cut.nvq", host[:700]), kept("empty.nvq", b""), kept("small.nvq", file_of([write(0, 0x41)]))
     many = kept("many.nvq", b"NVQ1" + file_of([unknown(0, 1)])[4:] * 65_536 + b"0")
     missing = os.path.join(folder, "missing")
     of_hosts = recorded(Namespace(nabsn=7, limit=2), [host, file_of([read(6, 4)]), plain])
@@ -90,17 +93,20 @@ def runs(folder):
         done("a record is listed", ["list", record], record_listing(of_hosts)),
         done("a record of the first version is listed", [*in_large("list"), first], record_listing(of_nobody)),
         done("a record on standard input is listed", ["list", "-"], record_listing(of_hosts), input=record),
-        fault("a wrong line", "line 3: expected data of 512 bytes and not of 511", "assemble", wrong, "out"),
-        fault("a missing list", f"cannot read {missing}", "assemble", missing, "out"),
-        fault("a folder for the host file", f"cannot write {folder}", "assemble", list_, folder),
-        fault("an empty file", f"{empty}: bad name", "list", empty),
+        fault("a wrong line", "line 3: expected data of 512 bytes and not of 511", "assemble", wrong, "out", hint=the_line("write 0 1 511*41")),
+        fault("a missing list", f"cannot read {missing}", "assemble", missing, "out", hint=MISSING),
+        fault("a host file for a list", f"line 1: {NO_COMMAND}", "assemble", file, "out", hint=no_list(file, host)),
+        fault("a list that is written over", f"cannot write {list_}", "assemble", list_, list_, hint=IS_LIST),
+        fault("a folder for the host file", f"cannot write {folder}", "assemble", list_, folder, hint=FOLDER),
+        fault("an empty file", f"{empty}: bad name", "list", empty, hint=no_host_file(empty, b"")),
+        fault("blocks of another size", f"{small}: truncated at 68", *in_large("list"), small, hint=other_block(512)),
         fault("a truncated file", f"{cut}: truncated at 68", "list", cut),
         fault("too many commands", f"{many}: too many commands", "list", many),
         fault("a cut record", f"{cut_record}: truncated at {len(spelled_record) - 1}", "list", cut_record),
         fault("a byte more than a record", f"{more}: trailing at {len(spelled_record)}", "list", more),
         fault("no workers", f"{no_workers}: bad value at 28", "list", no_workers),
-        fault("a record of a later version", f"{later}: unknown version", "list", later),
-        fault("a missing file", f"cannot read {missing}", "list", missing),
+        fault("a record of a later version", f"{later}: unknown version", "list", later, hint=VERSIONS),
+        fault("a missing file", f"cannot read {missing}", "list", missing, hint=MISSING),
         refused("no words", []),
         refused("an unknown option", ["list", "--bogus", "1"]),
         refused("an unknown word", ["walk"]),

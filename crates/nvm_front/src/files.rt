@@ -1,11 +1,12 @@
 use crate::output::Output;
-use std::fs::OpenFile;
+use std::fs::{Metadata, OpenFile};
 use std::io::{ErrorKind, Read, Write};
+use std::os::unix::fs::MetadataExt;
 use std::rt::Files;
 use std::{fs, io};
 
-/// The path that stands for standard input, or for standard output.
-pub(crate) const STANDARD: &str = "-";
+/// The path that stands for standard input, or for standard output. A file of that name is `./-`.
+pub const STANDARD: &str = "-";
 
 /// A file is read in chunks of so many bytes.
 const CHUNK: usize = 65_536;
@@ -13,8 +14,8 @@ const CHUNK: usize = 65_536;
 /// Why a file or a standard stream wasn't read, or wasn't written.
 #[derive(Clone, Copy, Debug, PartialEq, Eq)]
 pub enum FileFault {
-    /// The system refused it.
-    Refused,
+    /// The system refused it, for a reason of this kind.
+    Refused(ErrorKind),
     /// Memory was asked for and refused.
     NoMemory,
 }
@@ -23,7 +24,7 @@ impl From<io::Error> for FileFault {
     fn from(error: io::Error) -> FileFault {
         match error.kind() {
             ErrorKind::OutOfMemory => FileFault::NoMemory,
-            _ => FileFault::Refused,
+            kind => FileFault::Refused(kind),
         }
     }
 }
@@ -34,16 +35,11 @@ pub fn read_input<R: Files + AllocGlobal + Input>(
     path: &str,
 ) -> Result<Vec<u8>, FileFault> {
     if path != STANDARD {
-        return read_file(rt, path);
+        return Ok(bytes_of(rt, path)?);
     }
     let mut bytes = Vec::new(rt.alloc());
     rt.reader().read_to_end(&mut bytes)?;
     Ok(bytes)
-}
-
-/// The bytes of the file at a path, whatever its name is.
-pub fn read_file<R: Files + AllocGlobal>(rt: &R, path: &str) -> Result<Vec<u8>, FileFault> {
-    Ok(bytes_of(rt, path)?)
 }
 
 /// The bytes of a file. Their room is reserved once, from the file's length, with one byte more for the
@@ -93,4 +89,27 @@ pub fn write<R: Files + AllocGlobal + Print>(
     let mut output = Output::file(rt, path)?;
     output.write_all(bytes)?;
     output.finish()
+}
+
+/// Whether a file that would be written is one that is read, under that path or another. `-` is standard input here.
+/// What isn't there, and what is no regular file, is none that is read. `NoMemory` is the only fault.
+pub fn is_read<R: Files>(rt: &R, out: &str, read: &str) -> Result<bool, FileFault> {
+    let read = if read == STANDARD {
+        "/dev/stdin"
+    } else {
+        read
+    };
+    let (Some(out), Some(read)) = (standing(rt, out)?, standing(rt, read)?) else {
+        return Ok(false);
+    };
+    Ok(out.is_file() && out.dev() == read.dev() && out.ino() == read.ino())
+}
+
+/// What stands at a path, or where its links lead.
+fn standing<R: Files>(rt: &R, path: &str) -> Result<Option<Metadata>, FileFault> {
+    match fs::metadata(rt, path) {
+        Ok(standing) => Ok(Some(standing)),
+        Err(error) if error.kind() == ErrorKind::OutOfMemory => Err(FileFault::NoMemory),
+        Err(_) => Ok(None),
+    }
 }

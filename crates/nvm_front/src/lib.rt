@@ -1,15 +1,22 @@
-//! The front of a program: the words of its command line, files and standard streams, and what is said where words
-//! ask for nothing that can be done. A file that is written appears whole or not at all ([`Output`]).
+//! The front of a program: the words of its command line, files and standard streams, what is said where words
+//! ask for nothing that can be done, and what helps whoever reads a fault. A file that is written appears whole or not at
+//! all ([`Output`]).
 //!
 //! Of words, files and streams no clause can say what they hold, so nothing here has one: `examples/check` holds the
 //! built programs to what they must say.
 #![tactic(auto)]
 
+mod content;
 mod files;
+mod hint;
 mod output;
 mod unfinished;
+mod version;
 mod words;
 
-pub use files::{FileFault, read_file, read_input, write};
-pub use output::Output;
+pub use content::Content;
+pub use files::{FileFault, STANDARD, is_read, read_input, write};
+pub use hint::{no_host_file, no_list, no_namespace, no_record, other_block, refusal};
+pub use output::{Output, tell_unwritten};
+pub use version::VERSION;
 pub use words::{WordFault, missing, tell, texts_of, words_given};

@@ -1,3 +1,4 @@
+use crate::output::tell_unwritten;
 use clap::error::ErrorKind;
 use clap::{Command, Error};
 use std::alloc::{AllocError, AllocFailed, Global};
@@ -71,22 +72,28 @@ pub fn missing(command: &mut Command<'_>) -> WordFault {
     }
 }
 
-/// Says what is wrong with the words on standard error, or gives help on standard output where they ask for it. Gives the
-/// exit status, 0 after help and 1 else, or `None` for want of memory, of which nothing is said yet.
-pub fn tell<R: AllocGlobal + Print + Eprint>(rt: &R, fault: WordFault) -> Option<u8> {
+/// Says what is wrong with the words on standard error, or gives what they ask for on standard output, as help. Gives the exit
+/// status: 0 where they asked for that and had it, and else 1. For want of memory the program's one line says so.
+pub fn tell<R: AllocGlobal + Print + Eprint>(rt: &R, program: &str, fault: WordFault) -> u8 {
     match fault {
-        WordFault::Words(error) => {
-            let is_help = !error.use_stderr();
-            if error.print(rt).is_ok() && is_help {
-                Some(0)
-            } else {
-                Some(1)
-            }
+        WordFault::Words(error) if error.use_stderr() => {
+            let _ = error.print(rt);
+            1
         }
+        WordFault::Words(error) => match error.print(rt) {
+            Ok(()) => 0,
+            Err(error) => {
+                tell_unwritten(rt, program, error.kind());
+                1
+            }
+        },
         WordFault::NotText => {
             let _ = rt.eprintln("error: invalid UTF-8 was detected in one or more arguments");
-            Some(1)
+            1
         }
-        WordFault::NoMemory => None,
+        WordFault::NoMemory => {
+            let _ = eprintln!(rt; "{program}: no memory");
+            1
+        }
     }
 }

@@ -1,7 +1,7 @@
 //! A file that appears whole or not at all.
 use nvm_front::{FileFault, Output};
 use std::fs;
-use std::io::Write;
+use std::io::{ErrorKind, Write};
 use std::test::Fail;
 
 /// A path of the test's own, and where its file stands until it is whole.
@@ -32,7 +32,7 @@ fn appears_whole_or_not_at_all(rt: HostRuntime) -> Result<(), Fail> {
     fs::remove_file(&rt, PATH)?;
     let output = Output::file(&rt, PATH)?;
     fs::create_dir(&rt, PATH)?;
-    assert_eq!(rt; output.finish(), Err(FileFault::Refused));
+    assert_eq!(rt; output.finish(), Err(FileFault::Refused(ErrorKind::IsADirectory)));
     assert!(rt; !fs::exists(&rt, BESIDE)?);
     fs::remove_dir(&rt, PATH)?;
     Ok(())

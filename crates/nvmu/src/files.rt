@@ -1,17 +1,23 @@
 ghost use Rattle.std.specs.Prelude.{◌≡◌, IfOk, IfErr, length, map, string_bytes};
+ghost use Rattle.nvm_engine.specs.declared.fault.Fault.TheVariants.{NoMemory};
 ghost use Rattle.nvmu.specs.Files.{IsReadFault, IsReadingFault, IsWriteFault};
 
+use crate::failure::Failure;
 use nvm_audit::Record;
 use nvm_engine::Fault;
 use nvm_file::write_record;
-use nvm_front::{FileFault, Output, read_file};
+use nvm_front::{FileFault, Output, STANDARD, is_read, read_input, refusal};
 use nvm_record::Payload;
+use std::alloc::{AllocError, Global};
 use std::rt::Files;
 
-/// The bytes of each file, in the files' order. The first that can't be read is the fault.
-pub fn read_files<R: Files + AllocGlobal>(rt: &R, paths: &[String]) -> Result<Vec<Payload>, Fault>
+/// The bytes of each file, in the files' order; `-` is standard input. The first that can't be read is the fault.
+pub fn read_files<R: Files + AllocGlobal + Input>(
+    rt: &R,
+    paths: &[String],
+) -> Result<Vec<Payload>, Failure>
     ensures count { IfOk result (λ files. length files.items ≡ length paths.now) }
-    ensures fault { IfErr result (IsReadingFault (map (λ path. string_bytes path) paths.now)) }
+    ensures fault { IfErr result (λ failure. IsReadingFault (map (λ path. string_bytes path) paths.now) failure.fault) }
 {
     let mut files = Vec::with_capacity(rt.alloc(), paths.len())?;
     for path in paths {
@@ -20,17 +26,54 @@ pub fn read_files<R: Files + AllocGlobal>(rt: &R, paths: &[String]) -> Result<Ve
     Ok(files)
 }
 
-/// The bytes of a file. Want of memory isn't the file's fault.
-pub fn bytes_of<R: Files + AllocGlobal>(rt: &R, path: &str) -> Result<Payload, Fault>
-    ensures { IfErr result (IsReadFault path.now) }
+/// The bytes of a file, or of standard input where the path is `-`. Want of memory isn't the file's fault.
+pub fn bytes_of<R: Files + AllocGlobal + Input>(rt: &R, path: &str) -> Result<Payload, Failure>
+    ensures { IfErr result (λ failure. IsReadFault path.now failure.fault) }
 {
-    match read_file(rt, path) {
+    match read_input(rt, path) {
         Ok(bytes) => Ok(Payload::new(rt.alloc(), bytes)?),
-        Err(FileFault::NoMemory) => Err(Fault::NoMemory),
-        Err(FileFault::Refused) => Err(Fault::CannotRead {
-            path: String::from_str(rt.alloc(), path)?,
-        }),
+        Err(FileFault::NoMemory) => Err(Failure::from(Fault::NoMemory)),
+        Err(FileFault::Refused(kind)) => Err(unread(rt.alloc(), path, refusal(kind))),
     }
+}
+
+/// Refuses a run that would read standard input twice, before anything is read.
+pub fn check_inputs(alloc: Global, paths: &[String]) -> Result<(), Failure>
+    ensures { IfErr result (λ failure. IsReadingFault (map (λ path. string_bytes path) paths.now) failure.fault) }
+{
+    let mut is_taken = false;
+    for path in paths {
+        if path.as_str() == STANDARD {
+            if is_taken {
+                let why = Some("standard input is one host's file, and no second one's");
+                return Err(unread(alloc, path.as_str(), why));
+            }
+            is_taken = true;
+        }
+    }
+    Ok(())
+}
+
+/// Refuses a path for the record at which one of the files to read stands, and `-`, before anything is done.
+pub fn check_output<R: Files + AllocGlobal>(
+    rt: &R,
+    out: &str,
+    paths: &[String],
+) -> Result<(), Failure>
+    ensures { IfErr result (λ failure. IsWriteFault out.now failure.fault) }
+{
+    if out == STANDARD {
+        let why = Some("standard output has the lines: name a file, ./- for one of this name");
+        return Err(unwritten(rt.alloc(), out, why));
+    }
+    for path in paths {
+        match is_read(rt, out, path.as_str()) {
+            Ok(false) => {}
+            Ok(true) => return Err(unwritten(rt.alloc(), out, Some("it is one of the host files"))),
+            Err(_) => return Err(Failure::from(Fault::NoMemory)),
+        }
+    }
+    Ok(())
 }
 
 /// Writes the file of a record. It appears whole or not at all: where it can't be written, what stood at the path stays as it was.
@@ -38,15 +81,13 @@ pub fn write_file<R: Files + AllocGlobal + Print>(
     rt: &R,
     path: &str,
     run: &Record,
-) -> Result<(), Fault>
-    ensures { IfErr result (IsWriteFault path.now) }
+) -> Result<(), Failure>
+    ensures { IfErr result (λ failure. IsWriteFault path.now failure.fault) }
 {
     match written_to(rt, path, run) {
         Ok(()) => Ok(()),
-        Err(FileFault::NoMemory) => Err(Fault::NoMemory),
-        Err(FileFault::Refused) => Err(Fault::CannotWrite {
-            path: String::from_str(rt.alloc(), path)?,
-        }),
+        Err(FileFault::NoMemory) => Err(Failure::from(Fault::NoMemory)),
+        Err(FileFault::Refused(kind)) => Err(unwritten(rt.alloc(), path, refusal(kind))),
     }
 }
 
@@ -58,4 +99,46 @@ fn written_to<R: Files + AllocGlobal + Print>(
     let mut output = Output::file(rt, path)?;
     write_record(&mut output, run)?;
     output.finish()
+}
+
+/// The failure of a file that can't be read, or want of memory for it.
+fn unread(alloc: Global, path: &str, why: Option<&str>) -> Failure
+    ensures { IsReadFault path.now result.fault }
+{
+    match texts(alloc, path, why) {
+        Ok((path, hint)) => Failure {
+            fault: Fault::CannotRead { path },
+            hint,
+        },
+        Err(_) => Failure::from(Fault::NoMemory),
+    }
+}
+
+/// The failure of a file that can't be written, or want of memory for it.
+fn unwritten(alloc: Global, path: &str, why: Option<&str>) -> Failure
+    ensures { IsWriteFault path.now result.fault }
+{
+    match texts(alloc, path, why) {
+        Ok((path, hint)) => Failure {
+            fault: Fault::CannotWrite { path },
+            hint,
+        },
+        Err(_) => Failure::from(Fault::NoMemory),
+    }
+}
+
+/// The path and the hint as strings of their own.
+fn texts(
+    alloc: Global,
+    path: &str,
+    why: Option<&str>,
+) -> Result<(String, Option<String>), AllocError>
+    ensures { IfOk result (λ texts. string_bytes texts.0 ≡ path.now) }
+{
+    let path = String::from_str(alloc, path)?;
+    let hint = match why {
+        Some(why) => Some(String::from_str(alloc, why)?),
+        None => None,
+    };
+    Ok((path, hint))
 }

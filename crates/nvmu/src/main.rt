@@ -6,18 +6,24 @@ ghost use Rattle.std.specs.Prelude.{◌≡◌, ◌⊎◌, IfOk, IfErr, map, stri
 ghost use Rattle.nvm_engine.specs.VerdictLine.{answer_status};
 ghost use Rattle.nvmu.specs.Runs.{IsShownOn, IsFaultOn, IsJudgedFile, IsJudgeFaultOn, IsRunFaultOn};
 
+mod failure;
 mod files;
 mod words;
 
-use crate::files::{bytes_of, read_files, write_file};
+use crate::failure::Failure;
+use crate::files::{bytes_of, check_inputs, check_output, read_files, write_file};
 use crate::words::{Asked, read_words};
 use nvm_engine::{Fault, Judged, Settings, Shown, audit_bytes, execute};
-use nvm_front::{FileFault, Output, WordFault, tell, texts_of, words_given};
+use nvm_front::{FileFault, Output, WordFault, tell, tell_unwritten, texts_of, words_given};
 use nvm_unit::Open;
+use std::io::ErrorKind;
 use std::process::ExitCode;
 use std::rt::{Env, Files};
 use std::sync::Wait;
 use std::thread::Threads;
+
+/// What the program is called in its lines.
+const NAME: &str = "nvmu";
 
 fn main(rt: HostRuntime) -> ExitCode {
     ExitCode::from(status_of(&rt))
@@ -25,16 +31,15 @@ fn main(rt: HostRuntime) -> ExitCode {
 
 /// Does what the words of the command line ask for, and gives the exit status: 0, 2 where a record isn't lawful, or 1 after a
 /// fault. The room of standard output is taken first, so that no memory is wanted for the text once the record of a run stands.
-fn status_of<R: AllocGlobal + Env + Files + Print + Eprint + Threads + Wait + Sync>(rt: &R) -> u8 {
+fn status_of<R: AllocGlobal + Env + Files + Input + Print + Eprint + Threads + Wait + Sync>(
+    rt: &R,
+) -> u8 {
     match asked(rt) {
         Ok(asked) => match Output::standard(rt) {
             Ok(output) => done(rt, &asked, output),
-            Err(_) => failed(rt, Fault::NoMemory),
+            Err(_) => failed(rt, Failure::from(Fault::NoMemory)),
         },
-        Err(fault) => match tell(rt, fault) {
-            Some(status) => status,
-            None => failed(rt, Fault::NoMemory),
-        },
+        Err(fault) => tell(rt, NAME, fault),
     }
 }
 
@@ -46,7 +51,7 @@ fn asked<R: AllocGlobal + Env>(rt: &R) -> Result<Asked, WordFault> {
 }
 
 /// Does what is asked, writes what it shows, and gives the exit status.
-fn done<R: AllocGlobal + Files + Print + Eprint + Threads + Wait + Sync>(
+fn done<R: AllocGlobal + Files + Input + Print + Eprint + Threads + Wait + Sync>(
     rt: &R,
     asked: &Asked,
     output: Output<'_, R>,
@@ -58,50 +63,64 @@ fn done<R: AllocGlobal + Files + Print + Eprint + Threads + Wait + Sync>(
             files,
         } => match recorded(rt, settings, out.as_str(), files.as_slice()) {
             Ok(shown) => printed(rt, &shown, output),
-            Err(fault) => failed(rt, fault),
+            Err(failure) => failed(rt, failure),
         },
         Asked::Audit { path } => match audited(rt, path.as_str()) {
             Ok(judged) => told(rt, &judged, output),
-            Err(fault) => failed(rt, fault),
+            Err(failure) => failed(rt, failure),
         },
     }
 }
 
-/// Reads the files at these paths, has their commands done, and writes the record of that.
-fn recorded<R: AllocGlobal + Files + Print + Threads + Wait + Sync>(
+/// Reads the files at these paths, has their commands done, and writes the record of that. What can be refused before
+/// anything is read is refused then.
+fn recorded<R: AllocGlobal + Files + Input + Print + Threads + Wait + Sync>(
     rt: &R,
     settings: &Settings,
     out: &str,
     paths: &[String],
-) -> Result<Shown, Fault>
+) -> Result<Shown, Failure>
     ensures shown { IfOk result (IsShownOn settings.now (map (λ path. string_bytes path) paths.now)) }
-    ensures fault { IfErr result (IsRunFaultOn settings.now out.now (map (λ path. string_bytes path) paths.now)) }
+    ensures fault { IfErr result (λ failure. IsRunFaultOn settings.now out.now (map (λ path. string_bytes path) paths.now) failure.fault) }
 {
+    check_output(rt, out, paths)?;
     let shown = run(rt, settings, paths)?;
     write_file(rt, out, shown.record())?;
     Ok(shown)
 }
 
 /// Reads the files at these paths and has their commands done.
-fn run<R: AllocGlobal + Files + Threads + Wait + Sync>(
+fn run<R: AllocGlobal + Files + Input + Threads + Wait + Sync>(
     rt: &R,
     settings: &Settings,
     paths: &[String],
-) -> Result<Shown, Fault>
+) -> Result<Shown, Failure>
     ensures shown { IfOk result (IsShownOn settings.now (map (λ path. string_bytes path) paths.now)) }
-    ensures fault { IfErr result (IsFaultOn settings.now (map (λ path. string_bytes path) paths.now)) }
+    ensures fault { IfErr result (λ failure. IsFaultOn settings.now (map (λ path. string_bytes path) paths.now) failure.fault) }
 {
+    check_inputs(rt.alloc(), paths)?;
     let files = read_files(rt, paths)?;
-    execute(rt, rt.alloc(), settings, files.as_slice(), &Open)
+    match execute(rt, rt.alloc(), settings, files.as_slice(), &Open) {
+        Ok(shown) => Ok(shown),
+        Err(fault) => Err(
+            Failure::of_run(rt.alloc(), fault, settings.block, paths, files.as_slice()),
+        ),
+    }
 }
 
 /// Reads the record at a path and audits it.
-fn audited<R: AllocGlobal + Files + Threads + Sync>(rt: &R, path: &str) -> Result<Judged, Fault>
+fn audited<R: AllocGlobal + Files + Input + Threads + Sync>(
+    rt: &R,
+    path: &str,
+) -> Result<Judged, Failure>
     ensures judged { IfOk result IsJudgedFile }
-    ensures fault { IfErr result (IsJudgeFaultOn path.now) }
+    ensures fault { IfErr result (λ failure. IsJudgeFaultOn path.now failure.fault) }
 {
     let bytes = bytes_of(rt, path)?;
-    audit_bytes(rt, rt.alloc(), &bytes)
+    match audit_bytes(rt, rt.alloc(), &bytes) {
+        Ok(judged) => Ok(judged),
+        Err(fault) => Err(Failure::of_audit(rt.alloc(), fault, path, &bytes)),
+    }
 }
 
 /// Writes the text of a run to standard output, line by line as it is made. Where that fails, the status is 1.
@@ -118,15 +137,23 @@ fn told<R: Files + Print + Eprint>(rt: &R, judged: &Judged, output: Output<'_, R
     ended(rt, write_judged(output, judged), judged.status())
 }
 
-/// The status where everything was written, or else 1.
+/// The status where everything was written, or else 1, with a line that says so.
 fn ended<R: Eprint>(rt: &R, written: Result<(), FileFault>, status: u8) -> u8
     ensures { (result ≡ status) ⊎ (result ≡ 1) }
 {
     match written {
         Ok(()) => status,
-        Err(FileFault::NoMemory) => failed(rt, Fault::NoMemory),
-        Err(FileFault::Refused) => 1,
+        Err(FileFault::NoMemory) => failed(rt, Failure::from(Fault::NoMemory)),
+        Err(FileFault::Refused(kind)) => unshown(rt, kind),
     }
+}
+
+/// Says that standard output couldn't be written.
+fn unshown<R: Eprint>(rt: &R, kind: ErrorKind) -> u8
+    ensures { result ≡ 1 }
+{
+    tell_unwritten(rt, NAME, kind);
+    1
 }
 
 fn write_shown<R: Files + Print>(
@@ -145,10 +172,10 @@ fn write_judged<R: Files + Print>(
     output.finish()
 }
 
-/// Prints the fault's line on standard error.
-fn failed<R: Eprint>(rt: &R, fault: Fault) -> u8
+/// Prints the fault's line on standard error, and what helps below it.
+fn failed<R: Eprint>(rt: &R, failure: Failure) -> u8
     ensures { result ≡ 1 }
 {
-    let _ = rt.eprintln(fault);
+    let _ = rt.eprintln(failure);
     1
 }

@@ -4,7 +4,7 @@ ghost use Rattle.nvmu.specs.Words.{IsAsked};
 use clap::builder::ValueParser;
 use clap::{Arg, ArgAction, ArgMatches, Command, Error, value_parser};
 use nvm_engine::{Settings, Workers};
-use nvm_front::{WordFault, missing};
+use nvm_front::{VERSION, WordFault, missing};
 use nvm_store::Limit;
 use std::alloc::{AllocError, Global};
 
@@ -167,6 +167,7 @@ fn program<'a>(alloc: Global) -> Result<Command<'a>, Error> {
     Ok(
         Command::new(alloc, "nvmu")
             .bin_name("nvmu")?
+            .version(VERSION)
             .about(
                 "Executes the NVM commands of hosts on one namespace in memory, and audits records of that",
             )
@@ -191,7 +192,7 @@ fn run_command<'a>(alloc: Global) -> Result<Command<'a>, Error> {
         .num_args(1..)
         .action(ArgAction::Append)
         .value_name("FILE")
-        .help("The host files, host 1 first");
+        .help("The host files, host 1 first; one may be - for standard input");
     Ok(command.arg(out)?.arg(file)?)
 }
 
@@ -200,7 +201,7 @@ fn audit_command<'a>(alloc: Global) -> Result<Command<'a>, Error> {
     let record = Arg::new(alloc, "record")
         .required(true)
         .value_name("REC")
-        .help("The record of a run");
+        .help("The record of a run, or - for standard input");
     let command = Command::new(alloc, "audit").about(
         "Says whether a record is lawful, and if not, what is its first fault",
     );

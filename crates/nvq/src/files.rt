@@ -1,15 +1,19 @@
+use crate::failure::Failure;
 use crate::fault::Fault;
-use nvm_front::{FileFault, read_input, write};
+use nvm_front::{FileFault, STANDARD, is_read, read_input, refusal, write};
+use std::alloc::{AllocError, Global};
 use std::rt::Files;
 
 /// The bytes of a file, or of standard input. Want of memory isn't the file's fault.
-pub fn bytes_of<R: Files + AllocGlobal + Input>(rt: &R, path: &str) -> Result<Vec<u8>, Fault> {
+pub fn bytes_of<R: Files + AllocGlobal + Input>(rt: &R, path: &str) -> Result<Vec<u8>, Failure> {
     match read_input(rt, path) {
         Ok(bytes) => Ok(bytes),
-        Err(FileFault::NoMemory) => Err(Fault::NoMemory),
-        Err(FileFault::Refused) => Err(Fault::CannotRead {
-            path: String::from_str(rt.alloc(), path)?,
-        }),
+        Err(FileFault::NoMemory) => Err(Failure::from(Fault::NoMemory)),
+        Err(FileFault::Refused(kind)) => {
+            let path = String::from_str(rt.alloc(), path)?;
+            let hint = hint(rt.alloc(), refusal(kind));
+            Err(Failure::hinted(Fault::CannotRead { path }, hint))
+        }
     }
 }
 
@@ -18,12 +22,40 @@ pub fn write_bytes<R: Files + AllocGlobal + Print>(
     rt: &R,
     path: &str,
     bytes: &[u8],
-) -> Result<(), Fault> {
+) -> Result<(), Failure> {
     match write(rt, path, bytes) {
         Ok(()) => Ok(()),
-        Err(FileFault::NoMemory) => Err(Fault::NoMemory),
-        Err(FileFault::Refused) => Err(Fault::CannotWrite {
-            path: String::from_str(rt.alloc(), path)?,
-        }),
+        Err(FileFault::NoMemory) => Err(Failure::from(Fault::NoMemory)),
+        Err(FileFault::Refused(kind)) => Err(unwritten(rt.alloc(), path, refusal(kind))?),
+    }
+}
+
+/// Refuses a path to write at which the file to read stands, before anything is read.
+pub fn check_output<R: Files + AllocGlobal>(
+    rt: &R,
+    out: &str,
+    read: &str,
+) -> Result<(), Failure> {
+    if out == STANDARD {
+        return Ok(());
+    }
+    match is_read(rt, out, read) {
+        Ok(false) => Ok(()),
+        Ok(true) => Err(unwritten(rt.alloc(), out, Some("it is the list"))?),
+        Err(_) => Err(Failure::from(Fault::NoMemory)),
+    }
+}
+
+/// The failure of a file that can't be written.
+fn unwritten(alloc: Global, path: &str, why: Option<&str>) -> Result<Failure, AllocError> {
+    let path = String::from_str(alloc, path)?;
+    Ok(Failure::hinted(Fault::CannotWrite { path }, hint(alloc, why)))
+}
+
+/// What helps, as a string of its own.
+fn hint(alloc: Global, why: Option<&str>) -> Result<Option<String>, AllocError> {
+    match why {
+        Some(why) => Ok(Some(String::from_str(alloc, why)?)),
+        None => Ok(None),
     }
 }

@@ -2,13 +2,14 @@
 #![tactic(auto)]
 
 mod conversion;
+mod failure;
 mod fault;
 mod files;
 mod words;
 
 use crate::conversion::{file_of, list_of};
-use crate::fault::Fault;
-use crate::files::{bytes_of, write_bytes};
+use crate::failure::Failure;
+use crate::files::{bytes_of, check_output, write_bytes};
 use crate::words::{Asked, read_words};
 use nvm_front::{WordFault, tell, texts_of, words_given};
 use nvm_record::{BlockSize, Payload};
@@ -24,12 +25,9 @@ fn status_of<R: AllocGlobal + Env + Files + Input + Print + Eprint>(rt: &R) -> u
     match asked(rt) {
         Ok(asked) => match run(rt, asked) {
             Ok(()) => 0,
-            Err(fault) => failed(rt, fault),
+            Err(failure) => failed(rt, failure),
         },
-        Err(fault) => match tell(rt, fault) {
-            Some(status) => status,
-            None => failed(rt, Fault::NoMemory),
-        },
+        Err(fault) => tell(rt, "nvq", fault),
     }
 }
 
@@ -41,7 +39,7 @@ fn asked<R: AllocGlobal + Env>(rt: &R) -> Result<Asked, WordFault> {
 }
 
 /// Does what is asked. After a fault nothing is written.
-fn run<R: AllocGlobal + Files + Input + Print>(rt: &R, asked: Asked) -> Result<(), Fault> {
+fn run<R: AllocGlobal + Files + Input + Print>(rt: &R, asked: Asked) -> Result<(), Failure> {
     match asked {
         Asked::Assemble { size, list, out } => run_assemble(rt, size, list.as_str(), out.as_str()),
         Asked::List { size, file } => run_list(rt, size, file),
@@ -54,10 +52,13 @@ fn run_assemble<R: AllocGlobal + Files + Input + Print>(
     size: BlockSize,
     list: &str,
     out: &str,
-) -> Result<(), Fault> {
+) -> Result<(), Failure> {
+    check_output(rt, out, list)?;
     let text = bytes_of(rt, list)?;
-    let file = file_of(rt.alloc(), &text, size)?;
-    write_bytes(rt, out, &file)
+    match file_of(rt.alloc(), &text, size) {
+        Ok(file) => write_bytes(rt, out, &file),
+        Err(fault) => Err(Failure::of_list(rt.alloc(), fault, list, &text)),
+    }
 }
 
 /// Lists a host file or a record on standard output.
@@ -65,14 +66,17 @@ fn run_list<R: AllocGlobal + Files + Input + Print>(
     rt: &R,
     size: BlockSize,
     file: String,
-) -> Result<(), Fault> {
+) -> Result<(), Failure> {
     let bytes = Payload::new(rt.alloc(), bytes_of(rt, file.as_str())?)?;
-    let text = list_of(rt.alloc(), file, &bytes, size)?;
-    write_bytes(rt, "-", text.as_bytes())
+    let path = String::from_str(rt.alloc(), file.as_str())?;
+    match list_of(rt.alloc(), path, &bytes, size) {
+        Ok(text) => write_bytes(rt, "-", text.as_bytes()),
+        Err(fault) => Err(Failure::of_file(rt.alloc(), fault, file.as_str(), &bytes, size)),
+    }
 }
 
-/// Prints the fault's line on standard error.
-fn failed<R: Eprint>(rt: &R, fault: Fault) -> u8 {
-    let _ = rt.eprintln(fault);
+/// Prints the fault's line on standard error, and what helps below it.
+fn failed<R: Eprint>(rt: &R, failure: Failure) -> u8 {
+    let _ = rt.eprintln(failure);
     1
 }

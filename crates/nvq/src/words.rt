@@ -1,6 +1,6 @@
 use clap::builder::ValueParser;
 use clap::{Arg, ArgMatches, Command, Error};
-use nvm_front::{WordFault, missing};
+use nvm_front::{VERSION, WordFault, missing};
 use nvm_record::BlockSize;
 use std::alloc::Global;
 
@@ -81,6 +81,7 @@ fn program<'a>(alloc: Global) -> Result<Command<'a>, Error> {
     Ok(
         Command::new(alloc, "nvq")
             .bin_name("nvq")?
+            .version(VERSION)
             .about("Makes lists of NVM commands into host files, and lists those and records")
             .no_binary_name(true)
             .subcommand_required(true)

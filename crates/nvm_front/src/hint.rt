@@ -1,0 +1,117 @@
+//! What helps whoever reads a fault. It stands on the line below it, behind two spaces.
+use crate::content::Content;
+use crate::files::STANDARD;
+use nvm_geometry::GeometryFault;
+use nvm_record::{BlockSize, HostFault, Payload, read_host};
+use std::alloc::{AllocError, Global};
+use std::io::ErrorKind;
+
+/// Why the system refused to read or write something. `None` where it doesn't say, or says nothing that helps.
+pub fn refusal(kind: ErrorKind) -> Option<&'static str> {
+    match kind {
+        ErrorKind::NotFound => Some("there is no such file or folder"),
+        ErrorKind::PermissionDenied => Some("its permissions forbid that"),
+        ErrorKind::IsADirectory => Some("it is a folder"),
+        ErrorKind::NotADirectory => Some("a part of its path is no folder"),
+        ErrorKind::StorageFull | ErrorKind::QuotaExceeded => Some("no space is left"),
+        ErrorKind::FileTooLarge => Some("it would be larger than a file may be"),
+        ErrorKind::ReadOnlyFilesystem => Some("nothing can be written there"),
+        ErrorKind::FilesystemLoop => Some("its links lead to themselves"),
+        ErrorKind::InvalidFilename => Some("its name is too long"),
+        ErrorKind::BrokenPipe => Some("its reader has ended"),
+        _ => None,
+    }
+}
+
+/// What a file is, of which a host file was expected at its front.
+pub fn no_host_file(alloc: Global, path: &str, bytes: &[u8]) -> Result<String, AllocError> {
+    let name = name_of(path);
+    match Content::of(bytes) {
+        Content::Empty => format!(in alloc; "{name} is empty, and a host file begins with NVQ1"),
+        Content::Text => {
+            format!(in alloc; "{name} is text: nvq run {path} does the commands of a list, nvq assemble {path} HOSTFILE makes a host file of it")
+        }
+        Content::Record => {
+            format!(in alloc; "{name} is a record: nvmu audit {path} judges it, nvq list {path} shows it")
+        }
+        Content::HostFile | Content::Unknown => {
+            format!(in alloc; "{name} is no host file, which begins with NVQ1")
+        }
+    }
+}
+
+/// What a file is, of which a record was expected at its front.
+pub fn no_record(alloc: Global, path: &str, bytes: &[u8]) -> Result<String, AllocError> {
+    let name = name_of(path);
+    match Content::of(bytes) {
+        Content::Empty => {
+            format!(in alloc; "{name} is empty, and a record begins with NVR1 or NVR2")
+        }
+        Content::Text => {
+            format!(in alloc; "{name} is text, and a record is none: nvmu run writes one, and so does nvq run")
+        }
+        Content::HostFile => {
+            format!(in alloc; "{name} is a host file: nvmu run does its commands and writes a record")
+        }
+        Content::Record | Content::Unknown => {
+            format!(in alloc; "{name} is no record, which begins with NVR1 or NVR2")
+        }
+    }
+}
+
+/// What a file is, of which a command list was expected, where it is none: a host file or a record.
+pub fn no_list(alloc: Global, path: &str, bytes: &[u8]) -> Result<Option<String>, AllocError> {
+    let name = name_of(path);
+    match Content::of(bytes) {
+        Content::HostFile => Ok(Some(
+            format!(in alloc; "{name} is a host file: nvq list {path} makes a list of it")?,
+        )),
+        Content::Record => Ok(Some(
+            format!(in alloc; "{name} is a record: nvq list {path} shows it")?,
+        )),
+        Content::Empty | Content::Text | Content::Unknown => Ok(None),
+    }
+}
+
+/// With which block size a file is a host file, which it isn't with blocks of `block` bytes. `None` where there is no such size.
+pub fn other_block(
+    alloc: Global,
+    file: &Payload,
+    block: u32,
+) -> Result<Option<String>, AllocError> {
+    let other = if block == 512 { 4096 } else { 512 };
+    let Some(size) = BlockSize::new(other) else {
+        return Ok(None);
+    };
+    match read_host(alloc, file, size) {
+        Ok(_) => Ok(Some(
+            format!(in alloc; "it is a host file of blocks of {other} bytes: --block {other}")?,
+        )),
+        Err(HostFault::NoMemory) => Err(AllocError),
+        Err(_) => Ok(None),
+    }
+}
+
+/// What the options must be that describe no namespace.
+pub fn no_namespace(fault: GeometryFault) -> &'static str {
+    match fault {
+        GeometryFault::Size => "--nsze is 1 to 65536",
+        GeometryFault::BlockSize => "--block is 512 or 4096",
+        GeometryFault::OffsetWithoutBoundary => "--nabo is 0 where --nabsn is 0",
+        GeometryFault::OffsetAboveBoundary => "--nabo is at most --nabsn",
+        GeometryFault::WriteUnitAboveBoundary => "--nawun is at most --nabsn where that isn't 0",
+        GeometryFault::PairUnitAboveBoundary => "--nacwu is at most --nabsn where that isn't 0",
+        GeometryFault::TooManyUnits => {
+            "--nabsn cuts --nsze blocks into more than 4096 units: a larger --nabsn makes fewer"
+        }
+    }
+}
+
+/// What a path is called in a sentence.
+fn name_of(path: &str) -> &str {
+    if path == STANDARD {
+        "standard input"
+    } else {
+        path
+    }
+}
