@@ -16,6 +16,7 @@ sys.path.insert(0, os.path.join(TOP, "sweep"))
 
 from forged import forged, spoiled
 from host_files import Asked, compare, dataset, file_of, read, uncorrectable, unknown, write, zeroes
+from lists_run import lists_run
 from listings import listings
 from outs import outs_of_nvmu, outs_of_nvq, shown_nowhere
 from rows import rows
@@ -258,7 +259,7 @@ def words_of_unit_bench(run):
         run.expect(["unit_bench", "run", "0", "1", name], 1, err="unit_bench: no host file\n")
 
 
-TABLES = [lists, words_of_nvq, listings, outs_of_nvq, words_of_nvmu, files_of_nvmu, files_that_stop, several_workers]
+TABLES = [lists, words_of_nvq, listings, lists_run, outs_of_nvq, words_of_nvmu, files_of_nvmu, files_that_stop, several_workers]
 TABLES += [outs_of_nvmu, shown_nowhere, runs, rows, forged, spoiled, words_of_unit_bench]
 
 
