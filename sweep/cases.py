@@ -10,6 +10,7 @@ import signal
 from dataclasses import dataclass, field
 
 from auditor import text, verdict
+from beside import beside
 from model import Model
 from recorded import jobs_of, recorded, wants_of
 from records import RecordFault, record_of, spelled
@@ -35,12 +36,14 @@ class End:
 
 
 class Recording:
-    """What a run of these host files, host 1's first, may write and print: a lawful record, and its text."""
+    """What a run of these host files, host 1's first, may write and print: a lawful record, and its text, or the text beside the
+    lists that they were made of."""
 
     name = "record"
 
-    def __init__(self, namespace, files, workers=1):
+    def __init__(self, namespace, files, workers=1, lists=None):
         self.model = Model(namespace, files)
+        self.lists = lists
         self.namespace, self.files, self.workers = namespace, files, workers
         self.jobs = jobs_of(files, namespace.block)
 
@@ -60,12 +63,13 @@ class Recording:
         line = verdict(record)
         if not line.startswith("lawful "):
             raise ValueError(f"the record is {line}")
-        if end.out != text(record):
+        shown = text(record)
+        if end.out != (shown if self.lists is None else beside(shown, self.lists)):
             raise ValueError("what is shown isn't the text of the record")
         wants = wants_of(record)
         if self.workers == 1 and end.files[self.name] != spelled(recorded(self.namespace, self.files, wants)):
             raise ValueError("one worker leaves another record")
-        if len(wants) not in self.model.wants(end.out.removesuffix(f"{line}\n")):
+        if len(wants) not in self.model.wants(shown.removesuffix(f"{line}\n")):
             raise ValueError(f"{len(wants)} jobs of the record want memory, and others by the lines")
         return len(wants)
 

@@ -1,10 +1,11 @@
-"""The runs of the program nvq that are swept: a host file as a list of commands, and back; and the listing of a record."""
+"""The runs of the program nvq that are swept: a host file as a list of commands, and back; the listing of a record; and lists that
+are run."""
 
 import os
 import re
 from dataclasses import replace
 
-from cases import Run
+from cases import Recording, Run
 from hints import FOLDER, IS_LIST, MISSING, VERSIONS, no_host_file, no_list, other_block, the_line, told
 from host_files import compare, dataset, file_of, pair, read, uncorrectable, unknown, write, zeroes
 from model import COMPARE, DATASET, WRITE, Namespace, commands
@@ -65,6 +66,17 @@ def runs(folder):
     def in_large(word):
         return [word, "--block", "4096"]
 
+    def ran(name, hosts, **more):
+        """A run of the lists of these host files by one worker, in units of eight blocks."""
+        space = Namespace(nsze=32, nabsn=7, nacwu=7, limit=3)
+        lists = [f"# {name}\n\n {listing(file, 512)}" for file in hosts]
+        paths = [kept(f"{name}-{host}".replace(" ", "-"), it.encode()) for host, it in enumerate(lists, 1)]
+        given = ["run", "--nsze", "32", "--limit", "3", "--workers", "1", "--record", Recording.name, *paths]
+        return Run(name, "nvq", given, before=more, model=Recording(space, hosts, lists=lists))
+
+    def not_ran(name, line, *given, **more):
+        return Run(name, "nvq", ["run", "--nsze", "32", "--workers", "1", *given], 1, err=f"nvq: {line}\n", **more)
+
     # It goes to standard output, where the sweep reads text, so all its bytes are of it.
     plain = file_of([write(0, 0x41), read(0, 1), *pair(compare(0, 0x41), write(0, 0x42)), zeroes(1, 2)])
     host, large = file_of(asked()), file_of(asked(), 4096)
@@ -107,6 +119,14 @@ def runs(folder):
         fault("no workers", f"{no_workers}: bad value at 28", "list", no_workers),
         fault("a record of a later version", f"{later}: unknown version", "list", later, hint=VERSIONS),
         fault("a missing file", f"cannot read {missing}", "list", missing, hint=MISSING),
+        ran("lists that are run", [plain, file_of([read(0, 2), dataset((0, 1))])]),
+        ran("a list that is run and a record before", [plain], **{Recording.name: b"old"}),
+        ran("no commands that are run", [file_of([])]),
+        not_ran("a wrong line of a run", f"{wrong}: line 3: expected data of 512 bytes and not of 511", plain_list, wrong),
+        not_ran("a missing list of a run", f"cannot read {missing}", plain_list, missing),
+        not_ran("standard input twice", "standard input is named twice", "-", "-"),
+        not_ran("no boundary for a pair", "geometry: PairUnitAboveBoundary", "--nacwu", "8", plain_list),
+        not_ran("a record that can't be written", "cannot write missing/record", "--record", "missing/record", plain_list, hides_wants=True),
         refused("no words", []),
         refused("an unknown option", ["list", "--bogus", "1"]),
         refused("an unknown word", ["walk"]),
@@ -115,4 +135,6 @@ def runs(folder):
         refused("a word that isn't UTF-8", [b"\xff"]),
         refused("help", ["--help"], 0),
         refused("help on assemble", ["assemble", "--help"], 0),
+        refused("help on a run", ["run", "--help"], 0),
+        refused("workers out of range", ["run", "--workers", "65", plain_list]),
     ]

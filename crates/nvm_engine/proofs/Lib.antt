@@ -4,3 +4,4 @@ pub mod Telling
 pub mod LawfulDone
 pub mod OneText
 pub mod Printing
+pub mod LongTelling

@@ -14,7 +14,7 @@ use Rattle.nvm_audit.specs.declared.verdict.Verdict.{Verdict}
 use Rattle.nvm_engine.specs.Inside.Standings.{IsNoted}
 use Rattle.nvm_engine.specs.Lines.{body_lines, job_lines}
 use Rattle.nvm_engine.specs.Printed.{IsPrintedOf}
-use Rattle.nvm_engine.specs.RecordLines.{IsTold, AreTold, AreLinesOf, IsTextOf}
+use Rattle.nvm_engine.specs.RecordLines.{IsTold, AreLinesOf, IsTextOf}
 use Rattle.nvm_engine.specs.VerdictLine.{lawful_line}
 use Rattle.nvm_engine.specs.declared.standing.Standing.{Standing}
 use Rattle.nvm_engine.proofs.OneText.{told_some}

@@ -4,6 +4,9 @@ pub mod Lines
 pub mod RecordLines
 pub mod VerdictLine
 pub mod Printed
+pub mod StatusNames
+pub mod LongLines
+pub mod LongText
 pub mod Shown
 pub mod Judged
 pub mod Inside

@@ -4,9 +4,12 @@ ghost use Rattle.nvm_write.specs.Handed.{TakesFront};
 ghost use Rattle.nvm_audit.specs.LawfulRecord.{IsLawfulRecord};
 ghost use Rattle.nvm_audit.specs.Recordable.{IsRecordable};
 ghost use Rattle.nvm_engine.specs.Inside.Standings.{AreAllNoted};
+ghost use Rattle.nvm_engine.specs.LongLines.{lists_say};
+ghost use Rattle.nvm_engine.specs.LongText.{IsLongTextOf};
 ghost use Rattle.nvm_engine.specs.Printed.{IsPrintedOf};
 
 use crate::judging::verdict_of;
+use crate::long_text::write_long_record;
 use crate::record_text::write_record_text;
 use crate::standing::{Standing, standings};
 use crate::verdict_line::write_lawful;
@@ -84,6 +87,23 @@ impl Shown {
     {
         write_record_text(writer, &self.run, self.found.as_slice())?;
         write_lawful(writer, self.verdict)
+    }
+
+    /// Writes what [`write_text`](Shown::write_text) does, and under the line of each command one that begins with two spaces:
+    /// what the command's list says of it, and the name and the number of its status. `lists` are the command lists of the run,
+    /// host 1's first, and are left behind the lines that were told of. A command of which no list says anything has no words
+    /// there.
+    ///
+    /// It takes no memory of its own, and doesn't flush. Where the writer fails, its error is answered, and it has taken a front
+    /// of the text.
+    pub fn write_long_text<W: Write>(&self, writer: &mut W, lists: &mut [&[u8]]) -> io::Result<()>
+        ensures whole { OnOk result ((text : List ℕ) × IsLongTextOf (lists_say lists.old) self.now text
+            × Appends (W.contents writer.old) (W.contents writer.new) text) }
+        ensures front { OnErr result ((text : List ℕ) × IsLongTextOf (lists_say lists.old) self.now text
+            × TakesFront (W.contents writer.old) (W.contents writer.new) text) }
+    {
+        let found = self.found.as_slice();
+        write_long_record(writer, &self.run, found, lists, self.verdict)
     }
 }
 

@@ -8,6 +8,7 @@ pub mod Ranges
 pub mod Options
 pub mod Lines
 pub mod Lists
+pub mod Said
 pub mod Listing
 pub mod FirstFault
 pub mod Inside

@@ -8,7 +8,8 @@
 //!
 //! [`assemble`] makes a list into the bytes of a host file, and [`list_file`] lists those. Lists that were written by
 //! hand, with their commands and faults, stand in `examples/programs.py`, which holds the built `nvq` to them.
-//! [`push_operands`] and its kin append some of the words of one command, for callers that list commands among other things.
+//! [`push_operands`] and its kin append some of the words of one command, for callers that list commands among other things, and
+//! [`next_said`] gives what a list says of its commands, one after the other.
 #![tactic(auto)]
 
 mod command_line;
@@ -26,9 +27,11 @@ mod operands;
 mod option_words;
 mod range_word;
 mod run;
+mod said;
 
 pub use expected::Expected;
 pub use fault::ListFault;
 pub use line_pieces::{push_deallocate, push_fuse, push_operands, push_ranges};
 pub use listing::{list, list_file};
 pub use lists::{assemble, read_list};
+pub use said::next_said;

@@ -75,7 +75,7 @@ fn word_length(text: &[u8]) -> usize
 }
 
 /// Whether a byte parts words: a space, a tab or a carriage return does.
-fn is_blank(byte: u8) -> bool
+pub fn is_blank(byte: u8) -> bool
     ensures { result ≡ spec.is_blank byte }
 {
     byte == b' ' || byte == b'\t' || byte == b'\r'

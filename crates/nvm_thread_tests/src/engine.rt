@@ -14,6 +14,11 @@ use std::thread::{Threads, yield_now};
 const TEXT: &[u8; 74] =
     b"1 1 zeroes 0/00\n1 2 zeroes 0/00\nlawful jobs 2 units 4 changes 2 refused 0\n";
 
+/// The same beside the host's command list.
+const LONG_TEXT: &[u8; 159] = b"1 1 zeroes 0/00\n  zeroes  0 1: Successful Completion (0x0)\n\
+1 2 zeroes 0/00\n  zeroes 8 1: Successful Completion (0x0)\n\
+lawful jobs 2 units 4 changes 2 refused 0\n";
+
 /// A change waits so many turns at most.
 const MOST_TURNS: u32 = 1_000_000;
 
@@ -156,6 +161,16 @@ fn a_run_gives_a_record_that_is_lawful(rt: HostRuntime) -> Result<(), Fail> {
     let line = line_of(rt.alloc(), &judged)?;
     assert!(rt; line.as_slice() == b"lawful jobs 2 units 4 changes 2 refused 0\n".as_slice());
     assert!(rt; judged.status() == 0);
+    Ok(())
+}
+
+#[test]
+fn lists_stand_under_the_lines(rt: HostRuntime) -> Result<(), Fail> {
+    let shown = shown_of_run(&rt, rt.alloc())?;
+    let mut lists = [b"# two\n zeroes  0 1 # one\n\nzeroes 8 1\t\r\n".as_slice()];
+    let mut text = Vec::new(rt.alloc());
+    shown.write_long_text(&mut text, &mut lists)?;
+    assert!(rt; text.as_slice() == LONG_TEXT.as_slice());
     Ok(())
 }
 

@@ -1,5 +1,5 @@
 use crate::fault::Fault;
-use nvm_front::{no_host_file, no_list, other_block};
+use nvm_front::{no_host_file, no_list, no_namespace, other_block};
 use nvm_record::{BlockSize, Payload};
 use std::alloc::{AllocError, AllocFailed, Global};
 use std::fmt;
@@ -16,10 +16,23 @@ impl Failure {
     /// The failure of a list that was read from a path. What helps is what the file is instead, or else the line.
     pub fn of_list(alloc: Global, fault: Fault, path: &str, list: &[u8]) -> Failure {
         let hint = match fault {
-            Fault::Line { line, .. } => match no_list(alloc, path, list) {
-                Ok(None) => line_of(alloc, list, line),
-                told => told,
-            },
+            Fault::Line { line, .. } => wrong_line(alloc, path, list, line),
+            _ => Ok(None),
+        };
+        Failure::hinted(fault, hint)
+    }
+
+    /// The failure of lists to run, which were read from these paths.
+    pub fn of_lists(alloc: Global, fault: Fault, paths: &[String], lists: &[Vec<u8>]) -> Failure {
+        let hint = hint_of_lists(alloc, &fault, paths, lists);
+        Failure::hinted(fault, hint)
+    }
+
+    /// The failure of a run of so many lists.
+    pub fn of_run(alloc: Global, fault: Fault, count: usize) -> Failure {
+        let hint = match &fault {
+            Fault::Geometry(fault) => String::from_str(alloc, no_namespace(*fault)).map(Some),
+            Fault::TooManyHosts => too_many(alloc, count),
             _ => Ok(None),
         };
         Failure::hinted(fault, hint)
@@ -53,6 +66,41 @@ impl Failure {
             Err(_) => Failure::from(Fault::NoMemory),
         }
     }
+}
+
+/// What helps where a list has a line that is no command: what the file is instead, or else the line.
+fn wrong_line(
+    alloc: Global,
+    path: &str,
+    list: &[u8],
+    line: u64,
+) -> Result<Option<String>, AllocError> {
+    match no_list(alloc, path, list)? {
+        None => line_of(alloc, list, line),
+        told => Ok(told),
+    }
+}
+
+/// What helps with the fault of lists to run.
+fn hint_of_lists(
+    alloc: Global,
+    fault: &Fault,
+    paths: &[String],
+    lists: &[Vec<u8>],
+) -> Result<Option<String>, AllocError> {
+    let Fault::ListLine { path, line, .. } = fault else {
+        return Ok(None);
+    };
+    for (place, list) in paths.iter().zip(lists) {
+        if place.as_str() == path.as_str() {
+            return wrong_line(alloc, path.as_str(), list.as_slice(), *line);
+        }
+    }
+    Ok(None)
+}
+
+fn too_many(alloc: Global, count: usize) -> Result<Option<String>, AllocError> {
+    Ok(Some(format!(in alloc; "there are {count} lists, and at most 64 can be run")?))
 }
 
 /// The front of a list's line, from the first that is no blank. Lines count from 1. `None` where it isn't plain text.

@@ -3,6 +3,7 @@ ghost use Rattle.nvq.specs.declared.fault.Fault.TheVariants.{NoMemory};
 ghost use Rattle.nvq.specs.Fault.{fault_of_list, fault_of_file, fault_of_record};
 
 use nvm_file::RecordFault;
+use nvm_geometry::GeometryFault;
 use nvm_list::{Expected, ListFault};
 use nvm_record::HostFault;
 use std::alloc::{AllocError, AllocFailed};
@@ -13,31 +14,72 @@ use thiserror::Error;
 pub enum Fault {
     /// A file couldn't be read.
     #[error("nvq: cannot read {path}")]
-    CannotRead { path: String },
+    CannotRead {
+        path: String,
+    },
     /// A file couldn't be written.
     #[error("nvq: cannot write {path}")]
-    CannotWrite { path: String },
+    CannotWrite {
+        path: String,
+    },
     /// A line of the list is no command. Lines count from 1.
     #[error("nvq: line {line}: {expected}")]
-    Line { line: u64, expected: Expected },
+    Line {
+        line: u64,
+        expected: Expected,
+    },
+    /// A line of the list at a path is no command. Lines count from 1.
+    #[error("nvq: {path}: line {line}: {expected}")]
+    ListLine {
+        path: String,
+        line: u64,
+        expected: Expected,
+    },
+    /// Standard input is more than one list of a run.
+    #[error("nvq: standard input is named twice")]
+    InputTwice,
+    /// The record of a run would go to standard output, where the lines go.
+    #[error("nvq: the record can't go to standard output")]
+    RecordAmongLines,
+    /// The options describe no namespace.
+    #[error("nvq: geometry: {0}")]
+    Geometry(GeometryFault),
+    /// There are more than 64 lists.
+    #[error("nvq: too many hosts")]
+    TooManyHosts,
     /// The file begins neither as a host file nor as a record.
     #[error("nvq: {path}: bad name")]
-    BadName { path: String },
+    BadName {
+        path: String,
+    },
     /// Something in the host file or the record isn't whole; it begins at offset `at`, in bytes.
     #[error("nvq: {path}: truncated at {at}")]
-    Truncated { path: String, at: u64 },
+    Truncated {
+        path: String,
+        at: u64,
+    },
     /// The host file has bytes after 65,536 commands.
     #[error("nvq: {path}: too many commands")]
-    TooMany { path: String },
+    TooMany {
+        path: String,
+    },
     /// The record is of a version that isn't known.
     #[error("nvq: {path}: unknown version")]
-    UnknownVersion { path: String },
+    UnknownVersion {
+        path: String,
+    },
     /// Bytes follow the record, from offset `at` on.
     #[error("nvq: {path}: trailing at {at}")]
-    Trailing { path: String, at: u64 },
+    Trailing {
+        path: String,
+        at: u64,
+    },
     /// The field at offset `at` of the record has a value that isn't allowed.
     #[error("nvq: {path}: bad value at {at}")]
-    BadValue { path: String, at: u64 },
+    BadValue {
+        path: String,
+        at: u64,
+    },
     /// Memory was asked for and refused.
     #[error("nvq: no memory")]
     NoMemory,

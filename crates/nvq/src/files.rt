@@ -31,11 +31,7 @@ pub fn write_bytes<R: Files + AllocGlobal + Print>(
 }
 
 /// Refuses a path to write at which the file to read stands, before anything is read.
-pub fn check_output<R: Files + AllocGlobal>(
-    rt: &R,
-    out: &str,
-    read: &str,
-) -> Result<(), Failure> {
+pub fn check_output<R: Files + AllocGlobal>(rt: &R, out: &str, read: &str) -> Result<(), Failure> {
     if out == STANDARD {
         return Ok(());
     }
@@ -47,7 +43,7 @@ pub fn check_output<R: Files + AllocGlobal>(
 }
 
 /// The failure of a file that can't be written.
-fn unwritten(alloc: Global, path: &str, why: Option<&str>) -> Result<Failure, AllocError> {
+pub fn unwritten(alloc: Global, path: &str, why: Option<&str>) -> Result<Failure, AllocError> {
     let path = String::from_str(alloc, path)?;
     Ok(Failure::hinted(Fault::CannotWrite { path }, hint(alloc, why)))
 }

@@ -1,27 +1,34 @@
-//! The program `nvq`: makes lists of commands, which people write, into host files, and lists those and records.
+//! The program `nvq`: runs lists of commands, which people write, makes them into host files, and lists those and records.
 #![tactic(auto)]
 
 mod conversion;
 mod failure;
 mod fault;
 mod files;
+mod running;
+mod running_words;
 mod words;
 
 use crate::conversion::{file_of, list_of};
 use crate::failure::Failure;
 use crate::files::{bytes_of, check_output, write_bytes};
+use crate::running::run_lists;
 use crate::words::{Asked, read_words};
 use nvm_front::{WordFault, tell, texts_of, words_given};
 use nvm_record::{BlockSize, Payload};
 use std::process::ExitCode;
 use std::rt::{Env, Files};
+use std::sync::Wait;
+use std::thread::Threads;
 
 fn main(rt: HostRuntime) -> ExitCode {
     ExitCode::from(status_of(&rt))
 }
 
 /// Does what the words of the command line ask for, and gives the exit status: 0, or 1 after a fault.
-fn status_of<R: AllocGlobal + Env + Files + Input + Print + Eprint>(rt: &R) -> u8 {
+fn status_of<R: AllocGlobal + Env + Files + Input + Print + Eprint + Threads + Wait + Sync>(
+    rt: &R,
+) -> u8 {
     match asked(rt) {
         Ok(asked) => match run(rt, asked) {
             Ok(()) => 0,
@@ -39,10 +46,14 @@ fn asked<R: AllocGlobal + Env>(rt: &R) -> Result<Asked, WordFault> {
 }
 
 /// Does what is asked. After a fault nothing is written.
-fn run<R: AllocGlobal + Files + Input + Print>(rt: &R, asked: Asked) -> Result<(), Failure> {
+fn run<R: AllocGlobal + Files + Input + Print + Threads + Wait + Sync>(
+    rt: &R,
+    asked: Asked,
+) -> Result<(), Failure> {
     match asked {
         Asked::Assemble { size, list, out } => run_assemble(rt, size, list.as_str(), out.as_str()),
         Asked::List { size, file } => run_list(rt, size, file),
+        Asked::Run(words) => run_lists(rt, &words),
     }
 }
 

@@ -1,3 +1,4 @@
+use crate::running_words::{RunWords, read_run, run_command};
 use clap::builder::ValueParser;
 use clap::{Arg, ArgMatches, Command, Error};
 use nvm_front::{VERSION, WordFault, missing};
@@ -18,6 +19,8 @@ pub enum Asked {
         size: BlockSize,
         file: String,
     },
+    /// `nvq run`: do the commands of lists, host 1's first.
+    Run(RunWords),
 }
 
 /// The sizes that a block can have, as words.
@@ -38,6 +41,7 @@ fn asked_of(alloc: Global, matches: &ArgMatches<'_>) -> Result<Option<Asked>, Wo
     match matches.subcommand() {
         Some(("assemble", words)) => assemble_asked(alloc, words),
         Some(("list", words)) => list_asked(alloc, words),
+        Some(("run", words)) => run_asked(alloc, words),
         _ => Ok(None),
     }
 }
@@ -65,8 +69,16 @@ fn list_asked(alloc: Global, words: &ArgMatches<'_>) -> Result<Option<Asked>, Wo
     Ok(Some(Asked::List { size, file }))
 }
 
+/// What `nvq run` is asked, or `None` where a value is missing.
+fn run_asked(alloc: Global, words: &ArgMatches<'_>) -> Result<Option<Asked>, WordFault> {
+    match read_run(alloc, words)? {
+        Some(run) => Ok(Some(Asked::Run(run))),
+        None => Ok(None),
+    }
+}
+
 /// The size of a block.
-fn size_of(words: &ArgMatches<'_>) -> Option<BlockSize> {
+pub fn size_of(words: &ArgMatches<'_>) -> Option<BlockSize> {
     match words.get_str("block")? {
         "512" => BlockSize::new(512),
         "4096" => BlockSize::new(4096),
@@ -78,15 +90,19 @@ fn size_of(words: &ArgMatches<'_>) -> Option<BlockSize> {
 fn program<'a>(alloc: Global) -> Result<Command<'a>, Error> {
     let assemble = assemble_command(alloc)?;
     let list = list_command(alloc)?;
+    let run = run_command(alloc)?;
     Ok(
         Command::new(alloc, "nvq")
             .bin_name("nvq")?
             .version(VERSION)
-            .about("Makes lists of NVM commands into host files, and lists those and records")
+            .about(
+                "Runs lists of NVM commands, makes them into host files, and lists those and records",
+            )
             .no_binary_name(true)
             .subcommand_required(true)
             .subcommand(assemble)?
-            .subcommand(list)?,
+            .subcommand(list)?
+            .subcommand(run)?,
     )
 }
 
@@ -118,7 +134,7 @@ fn list_command<'a>(alloc: Global) -> Result<Command<'a>, Error> {
 }
 
 /// The option that says how large a block is.
-fn block<'a>(alloc: Global) -> Arg<'a> {
+pub fn block<'a>(alloc: Global) -> Arg<'a> {
     Arg::new(alloc, "block")
         .long("block")
         .value_name("N")

@@ -1,4 +1,4 @@
-use Rattle.std.proofs.Common.{◌≡◌, Ok, sym, subst, ◌∙◌}
+use Rattle.std.proofs.Common.{◌≡◌, subst}
 use Rattle.nvm_audit.specs.RecordChecks.{IsFirstFault}
 use Rattle.nvm_audit.specs.RecordView.{RecordView}
 use Rattle.nvm_engine.proofs.judging.audit_bytes.Goals as goal

@@ -1,4 +1,4 @@
-use Rattle.std.proofs.Common.{inl, inr, ◌≡◌, Result, Err, ap, ◌∙◌, subst, sym}
+use Rattle.std.proofs.Common.{inl, inr, Result, Err, ap, ◌∙◌, subst, sym}
 use Rattle.nvm_audit.specs.declared.audit_fault.AuditFault.{AuditFault}
 use Rattle.nvm_audit.specs.declared.verdict.Verdict.{Verdict}
 use Rattle.nvm_engine.specs.Judged.{IsJudgedAs}

@@ -1,4 +1,3 @@
-use Rattle.std.proofs.Common.{sym, subst}
 use Rattle.nvm_engine.proofs.Printing.{within_lines, behind_lines, all_printed}
 use Rattle.nvm_write.proofs.Taking.{on_err, on_err_then, on_ok_then}
 use Rattle.nvm_engine.proofs.shown.Shown.write_text.Goals as goal

@@ -1,0 +1,97 @@
+//! The line of a command, and under it what its list says and the name of its status.
+ghost use Rattle.std.specs.Prelude.{◌≡◌, ◌++◌, OnErr, OnOk};
+ghost use Rattle.std.specs.Io.KnownBytes.{Appends};
+ghost use Rattle.nvm_write.specs.Handed.{TakesFront};
+ghost use Rattle.nvm_text.specs.Lines.{line};
+ghost use Rattle.nvm_engine.specs.LongLines.{behind_next, lists_say, long_line, named_text, next_of, number_text};
+ghost use Rattle.nvm_engine.specs.StatusNames as spec;
+ghost use Rattle.nvm_engine.specs.StatusNames.{status_digits};
+
+use crate::status_names::status_name;
+use nvm_list::next_said;
+use nvm_record::{Op, ReadData, Status};
+use nvm_text::{Piece, write_told};
+use nvm_write::hand;
+use std::io;
+use std::io::Write;
+
+/// What the list of a host says of its next command. The list goes on behind that.
+pub(crate) fn take_said<'a>(lists: &mut [&'a [u8]], host: u16) -> &'a [u8]
+    ensures said { result.now ≡ next_of (lists_say lists.old) host }
+    ensures left { lists_say lists.new ≡ behind_next (lists_say lists.old) host }
+{
+    let place = usize::from(host).saturating_sub(1);
+    if place >= lists.len() {
+        return &[];
+    }
+    let (said, rest) = next_said(lists[place]);
+    lists[place] = rest;
+    said
+}
+
+/// Writes the line of a host's command, and under it what its list says of it and the name of its status.
+pub(crate) fn write_long_line<W: Write>(
+    writer: &mut W,
+    op: Op,
+    host: u16,
+    cid: u16,
+    status: Status,
+    payload: &Option<ReadData>,
+    said: &[u8],
+) -> io::Result<()>
+    ensures whole { OnOk result (Appends (W.contents writer.old) (W.contents writer.new)
+        (long_line op (record { host = host; cid = cid; status = status; payload = payload.now }) said.now)) }
+    ensures front { OnErr result (TakesFront (W.contents writer.old) (W.contents writer.new)
+        (long_line op (record { host = host; cid = cid; status = status; payload = payload.now }) said.now)) }
+{
+    write_told(writer, op, host, cid, status, payload)?;
+    write_named(writer, said, status)?;
+    write_number(writer, status)
+}
+
+/// Writes what is said of a command, and the name of its status.
+#[tactic(auto, unfolding(crate::specs::LongLines::named_text))]
+fn write_named<W: Write>(writer: &mut W, said: &[u8], status: Status) -> io::Result<()>
+    ensures whole { OnOk result (Appends (W.contents writer.old) (W.contents writer.new) (named_text said.now status)) }
+    ensures front { OnErr result (TakesFront (W.contents writer.old) (W.contents writer.new) (named_text said.now status)) }
+{
+    hand(writer, b"  ")?;
+    hand(writer, said)?;
+    hand(writer, b": ")?;
+    hand(writer, status_name(status))
+}
+
+/// Writes the number of a status in parentheses, and the end of the line.
+#[tactic(auto, unfolding(crate::specs::LongLines::number_text))]
+fn write_number<W: Write>(writer: &mut W, status: Status) -> io::Result<()>
+    ensures whole { OnOk result (Appends (W.contents writer.old) (W.contents writer.new) (number_text status)) }
+    ensures front { OnErr result (TakesFront (W.contents writer.old) (W.contents writer.new) (number_text status)) }
+{
+    hand(writer, b" (0x")?;
+    write_digits(writer, status)?;
+    hand(writer, b")\n")
+}
+
+/// Writes the digits of the number of a status: type * 256 + code, in hexadecimal digits without leading zeroes.
+#[tactic(auto, unfolding(crate::specs::StatusNames::status_digits))]
+fn write_digits<W: Write>(writer: &mut W, status: Status) -> io::Result<()>
+    ensures whole { OnOk result (Appends (W.contents writer.old) (W.contents writer.new) (status_digits status)) }
+    ensures front { OnErr result (TakesFront (W.contents writer.old) (W.contents writer.new) (status_digits status)) }
+{
+    let mut digits = Piece::new();
+    digits.put_hex2(status.sc);
+    digits.put_hex2(status.sct);
+    hand(writer, &digits.as_slice()[leading_zeroes(status)..])
+}
+
+/// How many of the four digits are leading zeroes.
+fn leading_zeroes(status: Status) -> usize
+    ensures { result ≡ spec.leading_zeroes status }
+{
+    match (status.sct, status.sc) {
+        (0, 0..16) => 3,
+        (0, _) => 2,
+        (1..16, _) => 1,
+        _ => 0,
+    }
+}

@@ -1,0 +1,66 @@
+-- The host files of lists have no fault, so a run on them ends with no fault of a file.
+use Rattle.std.proofs.Common.{◌≡◌, ℕ, ◌+◌, List, [], ◌∷◌, ◌++◌, inl, inr, sym, subst}
+use Rattle.nvm_record.specs.HostFile.{IsHostFile}
+use Rattle.nvm_record.specs.declared.command.Command.{Command}
+use Rattle.nvm_record.specs.declared.host_fault.HostFault.TheVariants as of_file
+use Rattle.nvm_record.proofs.OneReading.{no_list}
+use Rattle.nvm_engine.specs.Fault.{IsFileFault, IsFilesFault, IsGeometryFault, IsFirstRunFault}
+use Rattle.nvm_engine.specs.declared.fault.Fault.{Fault as FaultOfRun}
+use Rattle.nvm_engine.specs.declared.fault.Fault.TheVariants as of_run
+use Rattle.nvm_engine.specs.declared.settings.Settings.{Settings}
+use Rattle.nvq.specs.Ran.{IsFileOf, AreFilesOf, IsToldFault}
+
+no_file_fault : (size number : ℕ) (file : List ℕ) (cs : List Command) (fault : FaultOfRun) → IsHostFile size file cs
+    → IsFileFault size number file fault → ⊥
+no_file_fault size number file cs (of_run.HostBadName host) h k = no_list size file cs of_file.BadName h k.1
+no_file_fault size number file cs (of_run.HostTruncated host at) h k = no_list size file cs (of_file.Truncated at) h k.1
+no_file_fault size number file cs (of_run.HostTooMany host) h k = no_list size file cs of_file.TooMany h k.1
+no_file_fault size number file cs (of_run.Geometry fault) h k = k
+no_file_fault size number file cs of_run.TooManyHosts h k = k
+no_file_fault size number file cs (of_run.CannotRead path) h k = k
+no_file_fault size number file cs (of_run.CannotWrite path) h k = k
+no_file_fault size number file cs of_run.RecordBadName h k = k
+no_file_fault size number file cs of_run.RecordUnknownVersion h k = k
+no_file_fault size number file cs (of_run.RecordTruncated at) h k = k
+no_file_fault size number file cs (of_run.RecordTrailing at) h k = k
+no_file_fault size number file cs (of_run.RecordBadValue at) h k = k
+no_file_fault size number file cs of_run.NoMemory h k = k
+
+no_files_fault : (size number : ℕ) (texts files : List (List ℕ)) (fault : FaultOfRun) → AreFilesOf size texts files
+    → IsFilesFault size number files fault → ⊥
+no_files_fault size number [] [] fault h k = k
+no_files_fault size number [] (file ∷ files) fault h k = h
+no_files_fault size number (text ∷ texts) [] fault h k = h
+no_files_fault size number (text ∷ texts) (file ∷ files) fault (here, rest) (inl k) = no_file_fault size number file here.0 fault here.2 k
+no_files_fault size number (text ∷ texts) (file ∷ files) fault (here, rest) (inr k) =
+    no_files_fault size (number + 1) texts files fault rest k.1
+
+geometry_is_told : (s : Settings) (fault : FaultOfRun) → IsGeometryFault s fault → IsToldFault fault
+geometry_is_told s (of_run.Geometry fault) k = tt
+geometry_is_told s of_run.TooManyHosts k = tt
+geometry_is_told s of_run.NoMemory k = tt
+geometry_is_told s (of_run.HostBadName host) k = k
+geometry_is_told s (of_run.HostTruncated host at) k = k
+geometry_is_told s (of_run.HostTooMany host) k = k
+geometry_is_told s (of_run.CannotRead path) k = k
+geometry_is_told s (of_run.CannotWrite path) k = k
+geometry_is_told s of_run.RecordBadName k = k
+geometry_is_told s of_run.RecordUnknownVersion k = k
+geometry_is_told s (of_run.RecordTruncated at) k = k
+geometry_is_told s (of_run.RecordTrailing at) k = k
+geometry_is_told s (of_run.RecordBadValue at) k = k
+
+pub told_alone : (s : Settings) (texts files : List (List ℕ)) (fault : FaultOfRun) → AreFilesOf s.block texts files
+    → IsFirstRunFault s files fault → IsToldFault fault
+told_alone s texts files fault h (inl k) = subst IsToldFault (sym k.1) tt
+told_alone s texts files fault h (inr (inl k)) = geometry_is_told s fault k.1
+told_alone s texts files fault h (inr (inr (inl k))) = absurd (no_files_fault s.block 1 texts files fault h k.2)
+told_alone s texts files fault h (inr (inr (inr k))) = subst IsToldFault (sym k) tt
+
+-- a list more, and its file
+pub one_more : (size : ℕ) (texts files : List (List ℕ)) (text file : List ℕ) → AreFilesOf size texts files → IsFileOf size text file
+    → AreFilesOf size (texts ++ text ∷ []) (files ++ file ∷ [])
+one_more size [] [] text file h k = (k, tt)
+one_more size [] (f ∷ files) text file h k = absurd h
+one_more size (t ∷ texts) [] text file h k = absurd h
+one_more size (t ∷ texts) (f ∷ files) text file (here, rest) k = (here, one_more size texts files text file rest k)
