@@ -4,6 +4,7 @@ import os
 
 from auditor import text
 from beside import beside
+from hints import FOLDER, GEOMETRY, IS_LIST, MISSING, NO_FOLDER, NO_SPACE, no_list, the_line, told
 from host_files import file_of, write
 from model import Namespace
 from recorded import jobs_of, recorded
@@ -101,11 +102,11 @@ def lists_run(run):
 
     def ran(options, names, given=None):
         lists = [given if name == "-" else run.kept(name).decode() for name in names]
-        record, told = expected({**DEFAULTS, **options}, lists)
+        record, shown = expected({**DEFAULTS, **options}, lists)
         asked = words(*names, **{**options, "workers": 1, "record": "kept"})
-        run.expect(asked, out=told, given=(given or "").encode(), files={"kept": spelled(record)})
-        run.expect(["nvmu", "audit", "kept"], out=told.splitlines(True)[-1])
-        return told
+        run.expect(asked, out=shown, given=(given or "").encode(), files={"kept": spelled(record)})
+        run.expect(["nvmu", "audit", "kept"], out=shown.splitlines(True)[-1])
+        return shown
 
     run.keep("each", EACH)
     run.hold("each status", ran({"limit": 2}, ["each"]), EACH_LINES)
@@ -146,32 +147,37 @@ def refused_runs(run):
     run.keep("wrong", "read 0 1\n\nwalk 0 1\n")
     line = "expected write, read, compare, zeroes, uncorrectable, dataset, or op- and another opcode in two hexadecimal digits"
     no_data = "expected data of 512 bytes and not of 4096"
+    many = "there are 65 lists, and at most 64 can be run"
     faults = [
-        (["missing"], {}, "cannot read missing"),
-        (["wrong", "missing"], {}, "cannot read missing"),
-        (["."], {}, "cannot read ."),
-        (["alone", "wrong"], {}, f"wrong: line 3: {line}"),
-        (["large", "wrong"], {}, f"large: line 1: {no_data}"),
-        (["wrong"], {"nsze": 0}, f"wrong: line 3: {line}"),
-        (["none"] * 65, {}, "too many hosts"),
-        (["none"] * 65, {"nsze": 0}, "too many hosts"),
-        (["alone"], {"nsze": 0}, "geometry: Size"),
-        (["alone"], {"nabsn": 0, "nabo": 1}, "geometry: OffsetWithoutBoundary"),
-        (["alone"], {"nabo": 8}, "geometry: OffsetAboveBoundary"),
-        (["alone"], {"nawun": 8}, "geometry: WriteUnitAboveBoundary"),
-        (["alone"], {"nacwu": 8}, "geometry: PairUnitAboveBoundary"),
-        (["alone"], {"nsze": 32_769}, "geometry: TooManyUnits"),
-        (["-", "alone", "-"], {}, "standard input is named twice"),
+        (["missing"], {}, "cannot read missing", MISSING),
+        (["wrong", "missing"], {}, "cannot read missing", MISSING),
+        (["."], {}, "cannot read .", FOLDER),
+        (["alone", "wrong"], {}, f"wrong: line 3: {line}", the_line("walk 0 1")),
+        (["large", "wrong"], {}, f"large: line 1: {no_data}", the_line("write 0 1 4096*41")),
+        (["wrong"], {"nsze": 0}, f"wrong: line 3: {line}", the_line("walk 0 1")),
+        (["alone", "a.nvq"], {}, f"a.nvq: line 1: {line}", no_list("a.nvq", b"NVQ1")),
+        (["none"] * 65, {}, "too many hosts", many),
+        (["none"] * 65, {"nsze": 0}, "too many hosts", many),
+        (["alone"], {"nsze": 0}, "geometry: Size", GEOMETRY["Size"]),
+        (["alone"], {"nabsn": 0, "nabo": 1}, "geometry: OffsetWithoutBoundary", GEOMETRY["OffsetWithoutBoundary"]),
+        (["alone"], {"nabo": 8}, "geometry: OffsetAboveBoundary", GEOMETRY["OffsetAboveBoundary"]),
+        (["alone"], {"nawun": 8}, "geometry: WriteUnitAboveBoundary", GEOMETRY["WriteUnitAboveBoundary"]),
+        (["alone"], {"nacwu": 8}, "geometry: PairUnitAboveBoundary", GEOMETRY["PairUnitAboveBoundary"]),
+        (["alone"], {"nsze": 32_769}, "geometry: TooManyUnits", GEOMETRY["TooManyUnits"]),
+        (["-", "alone", "-"], {}, "standard input is named twice", ""),
     ]
-    for names, options, fault in faults:
-        run.expect(words(*names, **options, record="old"), 1, err=f"nvq: {fault}\n", given=b"read 0 1\n", files={"old": b"old"})
-    run.expect(words("-"), 1, given=b"walk", err=f"nvq: -: line 1: {line}\n")
+    run.keep("a.nvq", file_of([]))
+    for names, options, fault, hint in faults:
+        err = told(f"nvq: {fault}", hint)
+        run.expect(words(*names, **options, record="old"), 1, err=err, given=b"read 0 1\n", files={"old": b"old"})
+    run.expect(words("-"), 1, given=b"walk", err=told(f"nvq: -: line 1: {line}", the_line("walk")))
+    run.expect(words("none", "alone", record="alone"), 1, err=told("nvq: cannot write alone", IS_LIST), files={"alone": run.kept("alone")})
     run.expect(words("alone", record="-"), 1, err="nvq: the record can't go to standard output\n")
-    for name in ("absent/record", ".", "alone/record"):
-        run.expect(words("alone", record=name), 1, err=f"nvq: cannot write {name}\n")
+    for name, why in (("absent/record", MISSING), (".", FOLDER), ("alone/record", NO_FOLDER)):
+        run.expect(words("alone", record=name), 1, err=told(f"nvq: cannot write {name}", why))
     with open("/dev/full", "wb") as full:
         found = run.status_of(words("alone", record="kept"), stdout=full)
-    run.hold("a full standard output", found, (1, b"nvq: cannot write -\n"))
+    run.hold("a full standard output", found, (1, told("nvq: cannot write -", NO_SPACE).encode()))
     run.expect(["nvmu", "audit", "kept"], out=verdict(1, 1))
     numbers = {"workers": [0, 65], "limit": [0, 4_194_305], "nsze": [-1, 2**64], "nabsn": [65_536], "nabo": [65_536]}
     for name, values in {**numbers, "nawun": ["x"], "nacwu": [-1], "block": [1024], "bogus": [1]}.items():

@@ -6,7 +6,7 @@ import re
 from dataclasses import replace
 
 from cases import Recording, Run
-from hints import FOLDER, IS_LIST, MISSING, VERSIONS, no_host_file, no_list, other_block, the_line, told
+from hints import FOLDER, GEOMETRY, IS_LIST, MISSING, VERSIONS, no_host_file, no_list, other_block, the_line, told
 from host_files import compare, dataset, file_of, pair, read, uncorrectable, unknown, write, zeroes
 from model import COMPARE, DATASET, WRITE, Namespace, commands
 from record_listing import record_listing
@@ -74,8 +74,8 @@ def runs(folder):
         given = ["run", "--nsze", "32", "--limit", "3", "--workers", "1", "--record", Recording.name, *paths]
         return Run(name, "nvq", given, before=more, model=Recording(space, hosts, lists=lists))
 
-    def not_ran(name, line, *given, **more):
-        return Run(name, "nvq", ["run", "--nsze", "32", "--workers", "1", *given], 1, err=f"nvq: {line}\n", **more)
+    def not_ran(name, line, *given, hint="", **more):
+        return Run(name, "nvq", ["run", "--nsze", "32", "--workers", "1", *given], 1, err=told(f"nvq: {line}", hint), **more)
 
     # It goes to standard output, where the sweep reads text, so all its bytes are of it.
     plain = file_of([write(0, 0x41), read(0, 1), *pair(compare(0, 0x41), write(0, 0x42)), zeroes(1, 2)])
@@ -122,11 +122,11 @@ def runs(folder):
         ran("lists that are run", [plain, file_of([read(0, 2), dataset((0, 1))])]),
         ran("a list that is run and a record before", [plain], **{Recording.name: b"old"}),
         ran("no commands that are run", [file_of([])]),
-        not_ran("a wrong line of a run", f"{wrong}: line 3: expected data of 512 bytes and not of 511", plain_list, wrong),
-        not_ran("a missing list of a run", f"cannot read {missing}", plain_list, missing),
+        not_ran("a wrong line of a run", f"{wrong}: line 3: expected data of 512 bytes and not of 511", plain_list, wrong, hint=the_line("write 0 1 511*41")),
+        not_ran("a missing list of a run", f"cannot read {missing}", plain_list, missing, hint=MISSING),
         not_ran("standard input twice", "standard input is named twice", "-", "-"),
-        not_ran("no boundary for a pair", "geometry: PairUnitAboveBoundary", "--nacwu", "8", plain_list),
-        not_ran("a record that can't be written", "cannot write missing/record", "--record", "missing/record", plain_list, hides_wants=True),
+        not_ran("no boundary for a pair", "geometry: PairUnitAboveBoundary", "--nacwu", "8", plain_list, hint=GEOMETRY["PairUnitAboveBoundary"]),
+        not_ran("a record that can't be written", "cannot write missing/record", "--record", "missing/record", plain_list, hides_wants=True, hint=MISSING),
         refused("no words", []),
         refused("an unknown option", ["list", "--bogus", "1"]),
         refused("an unknown word", ["walk"]),
