@@ -1,12 +1,15 @@
-//! The program `nvq`: makes lists of commands, which people write, into host files, and lists those and records.
+//! The program `nvq`: makes lists of commands, which people write, into host files, lists those and records, and
+//! draws records.
 #![tactic(auto)]
 
 mod conversion;
+mod drawing;
 mod fault;
 mod files;
 mod words;
 
 use crate::conversion::{file_of, list_of};
+use crate::drawing::run_draw;
 use crate::fault::Fault;
 use crate::files::{bytes_of, write_bytes};
 use crate::words::{Asked, read_words};
@@ -14,13 +17,14 @@ use nvm_front::{WordFault, tell, texts_of, words_given};
 use nvm_record::{BlockSize, Payload};
 use std::process::ExitCode;
 use std::rt::{Env, Files};
+use std::thread::Threads;
 
 fn main(rt: HostRuntime) -> ExitCode {
     ExitCode::from(status_of(&rt))
 }
 
 /// Does what the words of the command line ask for, and gives the exit status: 0, or 1 after a fault.
-fn status_of<R: AllocGlobal + Env + Files + Input + Print + Eprint>(rt: &R) -> u8 {
+fn status_of<R: AllocGlobal + Env + Files + Input + Print + Eprint + Threads + Sync>(rt: &R) -> u8 {
     match asked(rt) {
         Ok(asked) => match run(rt, asked) {
             Ok(()) => 0,
@@ -41,10 +45,14 @@ fn asked<R: AllocGlobal + Env>(rt: &R) -> Result<Asked, WordFault> {
 }
 
 /// Does what is asked. After a fault nothing is written.
-fn run<R: AllocGlobal + Files + Input + Print>(rt: &R, asked: Asked) -> Result<(), Fault> {
+fn run<R: AllocGlobal + Files + Input + Print + Threads + Sync>(
+    rt: &R,
+    asked: Asked,
+) -> Result<(), Fault> {
     match asked {
         Asked::Assemble { size, list, out } => run_assemble(rt, size, list.as_str(), out.as_str()),
         Asked::List { size, file } => run_list(rt, size, file),
+        Asked::Draw { window, file, out } => run_draw(rt, window, file, out.as_str()),
     }
 }
 

@@ -1,5 +1,6 @@
 use clap::builder::ValueParser;
-use clap::{Arg, ArgMatches, Command, Error};
+use clap::{Arg, ArgMatches, Command, Error, value_parser};
+use nvm_draw::Window;
 use nvm_front::{WordFault, missing};
 use nvm_record::BlockSize;
 use std::alloc::Global;
@@ -17,6 +18,12 @@ pub enum Asked {
     List {
         size: BlockSize,
         file: String,
+    },
+    /// `nvq draw`: draw a record.
+    Draw {
+        window: Window,
+        file: String,
+        out: String,
     },
 }
 
@@ -38,6 +45,7 @@ fn asked_of(alloc: Global, matches: &ArgMatches<'_>) -> Result<Option<Asked>, Wo
     match matches.subcommand() {
         Some(("assemble", words)) => assemble_asked(alloc, words),
         Some(("list", words)) => list_asked(alloc, words),
+        Some(("draw", words)) => draw_asked(alloc, words),
         _ => Ok(None),
     }
 }
@@ -65,6 +73,20 @@ fn list_asked(alloc: Global, words: &ArgMatches<'_>) -> Result<Option<Asked>, Wo
     Ok(Some(Asked::List { size, file }))
 }
 
+/// What `nvq draw` is asked, or `None` where a path is missing.
+fn draw_asked(alloc: Global, words: &ArgMatches<'_>) -> Result<Option<Asked>, WordFault> {
+    let (Some(file), Some(out)) = (words.get_str("file"), words.get_str("out")) else {
+        return Ok(None);
+    };
+    let window = Window {
+        unit: words.get_one::<u16>("unit"),
+        from: words.get_one::<u32>("from"),
+    };
+    let file = String::from_str(alloc, file)?;
+    let out = String::from_str(alloc, out)?;
+    Ok(Some(Asked::Draw { window, file, out }))
+}
+
 /// The size of a block.
 fn size_of(words: &ArgMatches<'_>) -> Option<BlockSize> {
     match words.get_str("block")? {
@@ -78,14 +100,18 @@ fn size_of(words: &ArgMatches<'_>) -> Option<BlockSize> {
 fn program<'a>(alloc: Global) -> Result<Command<'a>, Error> {
     let assemble = assemble_command(alloc)?;
     let list = list_command(alloc)?;
+    let draw = draw_command(alloc)?;
     Ok(
         Command::new(alloc, "nvq")
             .bin_name("nvq")?
-            .about("Makes lists of NVM commands into host files, and lists those and records")
+            .about(
+                "Makes lists of NVM commands into host files, lists those and records, and draws records",
+            )
             .no_binary_name(true)
             .subcommand_required(true)
             .subcommand(assemble)?
-            .subcommand(list)?,
+            .subcommand(list)?
+            .subcommand(draw)?,
     )
 }
 
@@ -114,6 +140,24 @@ fn list_command<'a>(alloc: Global) -> Result<Command<'a>, Error> {
         "The host file or record, or - for standard input",
     );
     Ok(command.arg(block(alloc))?.arg(file)?)
+}
+
+/// `nvq draw`.
+fn draw_command<'a>(alloc: Global) -> Result<Command<'a>, Error> {
+    let command = Command::new(alloc, "draw").about("Draws a record as an SVG picture");
+    let unit = Arg::new(alloc, "unit")
+        .long("unit")
+        .value_name("U")
+        .value_parser(value_parser!(u16))
+        .help("First unit that is drawn, of 64");
+    let from = Arg::new(alloc, "from")
+        .long("from")
+        .value_name("P")
+        .value_parser(value_parser!(u32))
+        .help("First place that is drawn, of 64");
+    let record = file(alloc, "file", "REC", "The record, or - for standard input");
+    let out = file(alloc, "out", "OUT", "The picture, or - for standard output");
+    Ok(command.arg(unit)?.arg(from)?.arg(record)?.arg(out)?)
 }
 
 /// The option that says how large a block is.
