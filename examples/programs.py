@@ -14,6 +14,7 @@ TOP = os.path.dirname(HERE)
 sys.dont_write_bytecode = True
 sys.path.insert(0, os.path.join(TOP, "sweep"))
 
+from drawn import pictures
 from forged import forged, spoiled
 from host_files import Asked, compare, dataset, file_of, read, uncorrectable, unknown, write, zeroes
 from listings import listings
@@ -258,7 +259,7 @@ def words_of_unit_bench(run):
         run.expect(["unit_bench", "run", "0", "1", name], 1, err="unit_bench: no host file\n")
 
 
-TABLES = [lists, words_of_nvq, listings, outs_of_nvq, words_of_nvmu, files_of_nvmu, files_that_stop, several_workers]
+TABLES = [lists, words_of_nvq, listings, pictures, outs_of_nvq, words_of_nvmu, files_of_nvmu, files_that_stop, several_workers]
 TABLES += [outs_of_nvmu, shown_nowhere, runs, rows, forged, spoiled, words_of_unit_bench]
 
 
