@@ -7,3 +7,4 @@ pub mod MarkBoxes
 pub mod Rows
 pub mod Key
 pub mod Caption
+pub mod Picture

@@ -1,4 +1,5 @@
-ghost use Rattle.std.specs.Prelude.{◌≤◌, IfOk, length};
+ghost use Rattle.std.specs.Prelude.{◌≡◌, ◌≤◌, IfOk, length};
+ghost use Rattle.nvm_draw.specs.Rows as spec;
 
 use crate::mark::{Mark, is_mark};
 use crate::sheet::{Row, Sheet};
@@ -80,7 +81,9 @@ fn from_for(place: u32, entries: &[Entry]) -> u32 {
 }
 
 /// The entries of a unit.
-pub(crate) fn entries_of<'a>(run: &'a Record, unit: u16) -> &'a [Entry] {
+pub(crate) fn entries_of<'a>(run: &'a Record, unit: u16) -> &'a [Entry]
+    ensures { result.now ≡ spec.entries_of run.now unit }
+{
     match run.units.get(unit as usize) {
         Some(history) => history.as_slice(),
         None => &[],

@@ -1,4 +1,4 @@
-ghost use Rattle.std.specs.Prelude.{◌≡◌, ◌≤◌, ◌++◌, OnOk, length, map, string_bytes};
+ghost use Rattle.std.specs.Prelude.{◌≡◌, ◌≤◌, ◌++◌, OnOk, length, string_bytes, take};
 ghost use Rattle.nvm_draw.specs.Rows as spec;
 
 use crate::deed_box::push_boxes;
@@ -23,21 +23,58 @@ pub(crate) fn push_rows(
     sheet: &Sheet,
 ) -> Result<(), NoMemory>
     requires { length sheet.now.rows.items ≤ 64 }
+    ensures { OnOk result (string_bytes text.new ≡ string_bytes text.old
+        ++ spec.rows_text run.now wrong sheet.now.from sheet.now.columns 0 sheet.now.rows.items) }
 {
-    let top = top(run.workers);
     for (place, row) in sheet.rows.iter().enumerate() {
-        push_row_at(text, wrong, row, top + ROW * place as u64)?;
-        push_row(text, run, wrong, sheet, row)?;
+        push_row_at(
+            text,
+            run,
+            wrong,
+            sheet.from,
+            sheet.columns,
+            place as u64,
+            row,
+        )?;
     }
+    Ok(())
+}
+
+/// Appends the row at a place.
+#[tactic(auto, unfolding(crate::specs::Rows::row_text))]
+fn push_row_at(
+    text: &mut String,
+    run: &Record,
+    wrong: Option<Wrong>,
+    from: u32,
+    columns: u8,
+    place: u64,
+    row: &Row,
+) -> Result<(), NoMemory>
+    requires { place ≤ 64 }
+    ensures { OnOk result (string_bytes text.new
+        ≡ string_bytes text.old ++ spec.row_text run.now wrong from columns place row.now) }
+{
+    let y = top(run.workers) + ROW * place;
+    push_begin(text, wrong, row.unit, y)?;
+    push_row(
+        text,
+        &run.jobs,
+        wrong,
+        from,
+        columns,
+        entries_of(run, row.unit),
+        row,
+    )?;
     Ok(())
 }
 
 /// Begins a row.
 #[tactic(auto, unfolding(crate::specs::Rows::row_begin))]
-fn push_row_at(text: &mut String, wrong: Option<Wrong>, row: &Row, y: u64) -> Result<(), NoMemory>
-    ensures { OnOk result (string_bytes text.new ≡ string_bytes text.old ++ spec.row_begin wrong row.now.unit y) }
+fn push_begin(text: &mut String, wrong: Option<Wrong>, unit: u16, y: u64) -> Result<(), NoMemory>
+    ensures { OnOk result (string_bytes text.new ≡ string_bytes text.old ++ spec.row_begin wrong unit y) }
 {
-    push_class(text, is_wrong_unit(wrong, row.unit))?;
+    push_class(text, is_wrong_unit(wrong, unit))?;
     push_numbered(text, "' transform='translate(0,", y)?;
     text.push_str(")'>\n")?;
     Ok(())
@@ -55,33 +92,38 @@ fn push_class(text: &mut String, is_wrong: bool) -> Result<(), NoMemory>
     Ok(())
 }
 
-/// Appends what stands in a row, and ends it.
+/// Appends what stands in the row of a unit with these entries, and ends it.
+#[tactic(auto, unfolding(crate::specs::Rows::row_body))]
 fn push_row(
     text: &mut String,
-    run: &Record,
+    jobs: &[Job],
     wrong: Option<Wrong>,
-    sheet: &Sheet,
+    from: u32,
+    columns: u8,
+    entries: &[Entry],
     row: &Row,
-) -> Result<(), NoMemory> {
-    let entries = entries_of(run, row.unit);
-    push_band(text, sheet.columns)?;
+) -> Result<(), NoMemory>
+    ensures { OnOk result (string_bytes text.new
+        ≡ string_bytes text.old ++ spec.row_body jobs.now wrong from columns entries.now row.now) }
+{
+    push_band(text, columns)?;
     push_name(text, row.unit, row.lba)?;
-    push_boxes(
-        text,
-        wrong,
-        row.unit,
-        sheet.from,
-        drawn_entries(entries, sheet.from),
-    )?;
-    push_stacks(text, &run.jobs, wrong, at_most(&row.stacks))?;
-    push_more(text, entries, sheet.from, sheet.columns)
+    push_boxes(text, wrong, row.unit, from, drawn_entries(entries, from))?;
+    push_stacks(text, jobs, wrong, drawn_stacks(&row.stacks))?;
+    push_more(text, entries.len() as u64, u64::from(from) + 64, columns)?;
+    Ok(())
 }
 
 /// No more lists of marks than there are points in the window.
-fn at_most(stacks: &[Vec<Mark>]) -> &[Vec<Mark>]
-    ensures { length result.now ≤ 65 }
+fn drawn_stacks(stacks: &[Vec<Mark>]) -> &[Vec<Mark>]
+    ensures value { result.now ≡ take 65 stacks.now }
+    ensures few { length result.now ≤ 65 }
 {
-    &stacks[..stacks.len().min(65)]
+    if stacks.len() > 65 {
+        &stacks[..65]
+    } else {
+        stacks
+    }
 }
 
 /// Appends what lies behind a row's boxes.
@@ -115,19 +157,27 @@ fn push_name(text: &mut String, unit: u16, lba: u64) -> Result<(), NoMemory>
     Ok(())
 }
 
-/// Appends how many entries the unit has behind the window, if it has some, and ends the row.
-fn push_more(text: &mut String, entries: &[Entry], from: u32, columns: u8) -> Result<(), NoMemory> {
-    let end = u64::from(from) + 64;
-    let count = entries.len() as u64;
+/// Appends how many of the entries are at the end of the window or behind it, if some are, and ends the row.
+fn push_more(text: &mut String, count: u64, end: u64, columns: u8) -> Result<(), NoMemory>
+    ensures { OnOk result (string_bytes text.new ≡ string_bytes text.old ++ spec.more_text count end columns) }
+{
     if count > end {
-        push_numbered(
-            text,
-            "<text class='more' y='26' x='",
-            LEFT + row_width(columns),
-        )?;
-        push_numbered(text, "'>+", count - end)?;
-        text.push_str("</text>\n")?;
+        return push_count(text, count - end, columns);
     }
     text.push_str("</g>\n")?;
+    Ok(())
+}
+
+#[tactic(auto, unfolding(crate::specs::Rows::count_text))]
+fn push_count(text: &mut String, count: u64, columns: u8) -> Result<(), NoMemory>
+    ensures { OnOk result (string_bytes text.new ≡ string_bytes text.old ++ spec.count_text count columns) }
+{
+    push_numbered(
+        text,
+        "<text class='more' y='26' x='",
+        LEFT + row_width(columns),
+    )?;
+    push_numbered(text, "'>+", count)?;
+    text.push_str("</text>\n</g>\n")?;
     Ok(())
 }

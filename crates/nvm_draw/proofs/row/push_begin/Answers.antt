@@ -1,7 +1,7 @@
 use Rattle.std.proofs.Common.{ap}
 use Rattle.nvm_draw.specs.Rows.{row_begin, row_class}
 use Rattle.nvm_draw.proofs.Chains.{three, piece_is}
-use Rattle.nvm_draw.proofs.row.push_row_at.Goals as goal
+use Rattle.nvm_draw.proofs.row.push_begin.Goals as goal
 
 pub returns : goal.returns
 unfolding row_begin
