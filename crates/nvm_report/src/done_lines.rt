@@ -87,7 +87,7 @@ fn push_parts(text: &mut String, worker: u64, job: u32, parts: &[Part]) -> Resul
 
 /// Appends the line of one part.
 #[tactic(auto, unfolding(crate::specs::DoneLines::part_line))]
-fn push_part(text: &mut String, worker: u64, job: u32, part: Part) -> Result<(), NoMemory>
+pub fn push_part(text: &mut String, worker: u64, job: u32, part: Part) -> Result<(), NoMemory>
     ensures { OnOk result (string_bytes text.new ≡ string_bytes text.old ++ spec.part_line worker job part) }
 {
     push_doer(text, worker, job)?;

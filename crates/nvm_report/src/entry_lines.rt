@@ -32,7 +32,7 @@ fn push_history(text: &mut String, unit: u64, history: &[Entry]) -> Result<(), N
 
 /// Appends the line of one entry.
 #[tactic(auto, unfolding(crate::specs::EntryLines::entry_line))]
-fn push_entry(text: &mut String, unit: u64, place: u64, entry: &Entry) -> Result<(), NoMemory>
+pub fn push_entry(text: &mut String, unit: u64, place: u64, entry: &Entry) -> Result<(), NoMemory>
     ensures { OnOk result (string_bytes text.new ≡ string_bytes text.old ++ spec.entry_line unit place entry.now) }
 {
     push_place(text, unit, place)?;

@@ -1,7 +1,7 @@
 //! Records of runs as text that people read: what a record holds, one line a fact.
 //!
 //! [`list_record`] lists a record: its head, its jobs, the history of each unit, and what each worker did. Whether the record is
-//! lawful isn't looked at. Listings that were written by hand stand in `examples/listings.py`, which holds the built
+//! lawful isn't looked at. [`push_entry`] and [`push_part`] append one line of it. Listings that were written by hand stand in `examples/listings.py`, which holds the built
 //! `nvq` to them.
 #![tactic(auto)]
 
@@ -12,4 +12,7 @@ mod job_lines;
 mod listing;
 mod numbered;
 
+pub use done_lines::push_part;
+pub use entry_lines::push_entry;
 pub use listing::list_record;
+pub use numbered::push_numbered;

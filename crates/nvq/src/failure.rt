@@ -1,5 +1,5 @@
 use crate::fault::Fault;
-use nvm_front::{no_host_file, no_list, no_namespace, other_block};
+use nvm_front::{no_host_file, no_list, no_namespace, no_record, other_block};
 use nvm_record::{BlockSize, Payload};
 use std::alloc::{AllocError, AllocFailed, Global};
 use std::fmt;
@@ -48,12 +48,20 @@ impl Failure {
     ) -> Failure {
         let hint = match fault {
             Fault::BadName { .. } => no_host_file(alloc, path, file.as_slice()).map(Some),
-            Fault::UnknownVersion { .. } => {
-                String::from_str(alloc, "the fourth byte of a record is 1 or 2").map(Some)
-            }
+            Fault::UnknownVersion { .. } => versions(alloc),
             Fault::Truncated { .. } | Fault::TooMany { .. } => {
                 other_block(alloc, file, size.bytes())
             }
+            _ => Ok(None),
+        };
+        Failure::hinted(fault, hint)
+    }
+
+    /// The failure of a file that was read from a path and should be a record.
+    pub fn of_record(alloc: Global, fault: Fault, path: &str, file: &[u8]) -> Failure {
+        let hint = match fault {
+            Fault::BadName { .. } => no_record(alloc, path, file).map(Some),
+            Fault::UnknownVersion { .. } => versions(alloc),
             _ => Ok(None),
         };
         Failure::hinted(fault, hint)
@@ -79,6 +87,11 @@ fn wrong_line(
         None => line_of(alloc, list, line),
         told => Ok(told),
     }
+}
+
+/// Which versions of records are known.
+fn versions(alloc: Global) -> Result<Option<String>, AllocError> {
+    Ok(Some(String::from_str(alloc, "the fourth byte of a record is 1 or 2")?))
 }
 
 /// What helps with the fault of lists to run.

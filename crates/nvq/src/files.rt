@@ -1,6 +1,9 @@
+use crate::conversion::record_of;
 use crate::failure::Failure;
 use crate::fault::Fault;
+use nvm_audit::Record;
 use nvm_front::{FileFault, STANDARD, is_read, read_input, refusal, write};
+use nvm_record::Payload;
 use std::alloc::{AllocError, Global};
 use std::rt::Files;
 
@@ -17,6 +20,19 @@ pub fn bytes_of<R: Files + AllocGlobal + Input>(rt: &R, path: &str) -> Result<Ve
     }
 }
 
+/// The record at a path, or on standard input.
+pub fn read_as_record<R: Files + AllocGlobal + Input>(
+    rt: &R,
+    path: &str,
+) -> Result<Record, Failure> {
+    let bytes = Payload::new(rt.alloc(), bytes_of(rt, path)?)?;
+    let named = String::from_str(rt.alloc(), path)?;
+    match record_of(rt.alloc(), named, &bytes) {
+        Ok(run) => Ok(run),
+        Err(fault) => Err(Failure::of_record(rt.alloc(), fault, path, bytes.as_slice())),
+    }
+}
+
 /// Writes bytes to a file, or to standard output.
 pub fn write_bytes<R: Files + AllocGlobal + Print>(
     rt: &R,
@@ -30,14 +46,14 @@ pub fn write_bytes<R: Files + AllocGlobal + Print>(
     }
 }
 
-/// Refuses a path to write at which the file to read stands, before anything is read.
+/// Refuses a path to write at which the file to read stands, before anything is read. Below the fault stands why.
 pub fn check_output<R: Files + AllocGlobal>(rt: &R, out: &str, read: &str) -> Result<(), Failure> {
     if out == STANDARD {
         return Ok(());
     }
     match is_read(rt, out, read) {
         Ok(false) => Ok(()),
-        Ok(true) => Err(unwritten(rt.alloc(), out, Some("it is the list"))?),
+        Ok(true) => Err(unwritten(rt.alloc(), out, Some(why))?),
         Err(_) => Err(Failure::from(Fault::NoMemory)),
     }
 }

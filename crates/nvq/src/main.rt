@@ -1,7 +1,10 @@
-//! The program `nvq`: runs lists of commands, which people write, makes them into host files, and lists those and records.
+//! The program `nvq`: runs lists of commands, which people write, makes them into host files, lists those and records, and
+//! explains and draws records.
 #![tactic(auto)]
 
 mod conversion;
+mod drawing;
+mod explaining;
 mod failure;
 mod fault;
 mod files;
@@ -10,6 +13,8 @@ mod running_words;
 mod words;
 
 use crate::conversion::{file_of, list_of};
+use crate::drawing::run_draw;
+use crate::explaining::run_explain;
 use crate::failure::Failure;
 use crate::files::{bytes_of, check_output, write_bytes};
 use crate::running::run_lists;
@@ -54,6 +59,8 @@ fn run<R: AllocGlobal + Files + Input + Print + Threads + Wait + Sync>(
         Asked::Assemble { size, list, out } => run_assemble(rt, size, list.as_str(), out.as_str()),
         Asked::List { size, file } => run_list(rt, size, file),
         Asked::Run(words) => run_lists(rt, &words),
+        Asked::Explain { file } => run_explain(rt, file.as_str()),
+        Asked::Draw { window, file, out } => run_draw(rt, window, file.as_str(), out.as_str()),
     }
 }
 
@@ -64,7 +71,7 @@ fn run_assemble<R: AllocGlobal + Files + Input + Print>(
     list: &str,
     out: &str,
 ) -> Result<(), Failure> {
-    check_output(rt, out, list)?;
+    check_output(rt, out, list, "it is the list")?;
     let text = bytes_of(rt, list)?;
     match file_of(rt.alloc(), &text, size) {
         Ok(file) => write_bytes(rt, out, &file),

@@ -66,7 +66,7 @@ fn names_fit(words: &RunWords) -> Result<(), Fault> {
 fn check_record<R: Files + AllocGlobal>(rt: &R, words: &RunWords) -> Result<(), Failure> {
     if let Some(record) = &words.record {
         for list in &words.lists {
-            check_output(rt, record.as_str(), list.as_str())?;
+            check_output(rt, record.as_str(), list.as_str(), "it is the list")?;
         }
     }
     Ok(())

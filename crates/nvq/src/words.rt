@@ -1,6 +1,7 @@
 use crate::running_words::{RunWords, read_run, run_command};
 use clap::builder::ValueParser;
-use clap::{Arg, ArgMatches, Command, Error};
+use clap::{Arg, ArgMatches, Command, Error, value_parser};
+use nvm_draw::Window;
 use nvm_front::{VERSION, WordFault, missing};
 use nvm_record::BlockSize;
 use std::alloc::Global;
@@ -21,6 +22,16 @@ pub enum Asked {
     },
     /// `nvq run`: do the commands of lists, host 1's first.
     Run(RunWords),
+    /// `nvq explain`: explain a record.
+    Explain {
+        file: String,
+    },
+    /// `nvq draw`: draw a record.
+    Draw {
+        window: Window,
+        file: String,
+        out: String,
+    },
 }
 
 /// The sizes that a block can have, as words.
@@ -42,6 +53,8 @@ fn asked_of(alloc: Global, matches: &ArgMatches<'_>) -> Result<Option<Asked>, Wo
         Some(("assemble", words)) => assemble_asked(alloc, words),
         Some(("list", words)) => list_asked(alloc, words),
         Some(("run", words)) => run_asked(alloc, words),
+        Some(("explain", words)) => explain_asked(alloc, words),
+        Some(("draw", words)) => draw_asked(alloc, words),
         _ => Ok(None),
     }
 }
@@ -77,6 +90,29 @@ fn run_asked(alloc: Global, words: &ArgMatches<'_>) -> Result<Option<Asked>, Wor
     }
 }
 
+/// What `nvq explain` is asked, or `None` where the path is missing.
+fn explain_asked(alloc: Global, words: &ArgMatches<'_>) -> Result<Option<Asked>, WordFault> {
+    let Some(file) = words.get_str("file") else {
+        return Ok(None);
+    };
+    let file = String::from_str(alloc, file)?;
+    Ok(Some(Asked::Explain { file }))
+}
+
+/// What `nvq draw` is asked, or `None` where a path is missing.
+fn draw_asked(alloc: Global, words: &ArgMatches<'_>) -> Result<Option<Asked>, WordFault> {
+    let (Some(file), Some(out)) = (words.get_str("file"), words.get_str("out")) else {
+        return Ok(None);
+    };
+    let window = Window {
+        unit: words.get_one::<u16>("unit"),
+        from: words.get_one::<u32>("from"),
+    };
+    let file = String::from_str(alloc, file)?;
+    let out = String::from_str(alloc, out)?;
+    Ok(Some(Asked::Draw { window, file, out }))
+}
+
 /// The size of a block.
 pub fn size_of(words: &ArgMatches<'_>) -> Option<BlockSize> {
     match words.get_str("block")? {
@@ -91,18 +127,22 @@ fn program<'a>(alloc: Global) -> Result<Command<'a>, Error> {
     let assemble = assemble_command(alloc)?;
     let list = list_command(alloc)?;
     let run = run_command(alloc)?;
+    let explain = explain_command(alloc)?;
+    let draw = draw_command(alloc)?;
     Ok(
         Command::new(alloc, "nvq")
             .bin_name("nvq")?
             .version(VERSION)
             .about(
-                "Runs lists of NVM commands, makes them into host files, and lists those and records",
+                "Runs lists of NVM commands, makes them into host files, lists those and records, and explains and draws records",
             )
             .no_binary_name(true)
             .subcommand_required(true)
+            .subcommand(run)?
             .subcommand(assemble)?
             .subcommand(list)?
-            .subcommand(run)?,
+            .subcommand(explain)?
+            .subcommand(draw)?,
     )
 }
 
@@ -131,6 +171,33 @@ fn list_command<'a>(alloc: Global) -> Result<Command<'a>, Error> {
         "The host file or record, or - for standard input",
     );
     Ok(command.arg(block(alloc))?.arg(file)?)
+}
+
+/// `nvq explain`.
+fn explain_command<'a>(alloc: Global) -> Result<Command<'a>, Error> {
+    let command = Command::new(alloc, "explain").about(
+        "Explains what is wrong with a record, or what there is in a lawful one",
+    );
+    let file = file(alloc, "file", "REC", "The record, or - for standard input");
+    Ok(command.arg(file)?)
+}
+
+/// `nvq draw`.
+fn draw_command<'a>(alloc: Global) -> Result<Command<'a>, Error> {
+    let command = Command::new(alloc, "draw").about("Draws a record as an SVG picture");
+    let unit = Arg::new(alloc, "unit")
+        .long("unit")
+        .value_name("U")
+        .value_parser(value_parser!(u16))
+        .help("First unit that is drawn, of 64");
+    let from = Arg::new(alloc, "from")
+        .long("from")
+        .value_name("P")
+        .value_parser(value_parser!(u32))
+        .help("First place that is drawn, of 64");
+    let record = file(alloc, "file", "REC", "The record, or - for standard input");
+    let out = file(alloc, "out", "OUT", "The picture, or - for standard output");
+    Ok(command.arg(unit)?.arg(from)?.arg(record)?.arg(out)?)
 }
 
 /// The option that says how large a block is.

@@ -1,0 +1,10 @@
+pub mod Sizes
+pub mod Wrong
+pub mod Group
+pub mod Letters
+pub mod EntryBoxes
+pub mod MarkBoxes
+pub mod Rows
+pub mod Key
+pub mod Caption
+pub mod Picture

@@ -1,0 +1,73 @@
+-- How marks are drawn: those of one point below each other, before the entry of that place. Of more than three, the first two stand
+-- there, and the number of the others.
+use Rattle.std.specs.Prelude.{ℕ, ◌+◌, ◌*◌, nat_le, nat_lt, if◌then◌else◌, List, [], ◌∷◌, ◌++◌, length, take, drop, Bool, true, false, ◌||◌, Option, codes}
+use Rattle.nvm_plan.specs.declared.job.Job.{Job}
+use Rattle.nvm_report.specs.Numbered.{numbered}
+use Rattle.nvm_report.specs.DoneLines.{part_line}
+use Rattle.nvm_draw.specs.declared.mark.Mark.{Mark}
+use Rattle.nvm_draw.specs.declared.wrong.Wrong.{Wrong}
+use Rattle.nvm_draw.specs.Group.{group_text, stand_text}
+use Rattle.nvm_draw.specs.Letters.{letter}
+use Rattle.nvm_draw.specs.Wrong.{is_wrong}
+
+-- the mark's line in a listing, which is shown where one points at the mark, and the mark itself
+unfoldable pub titled_text : Mark → List ℕ
+titled_text mark =
+    codes "<title>"
+    ++ (part_line mark.worker mark.job mark.part
+    ++ codes "</title><rect width='18' height='13' rx='6'/><text x='9' y='10'>")
+
+-- a ring where the mark is wrong
+abbrev pub mark_end : Bool → List ℕ
+mark_end true = codes "</text><rect class='ring' x='-3' y='-3' width='24' height='19' rx='8'/></g>\n"
+mark_end false = codes "</text></g>\n"
+
+abbrev pub is_wrong_mark : Option Wrong → Mark → Bool
+is_wrong_mark wrong mark = is_wrong wrong mark.part.unit mark.part.point mark.job
+
+abbrev pub has_wrong_mark : Option Wrong → List Mark → Bool
+has_wrong_mark wrong [] = false
+has_wrong_mark wrong (mark ∷ marks) = is_wrong_mark wrong mark || has_wrong_mark wrong marks
+
+unfoldable pub mark_text : List Job → Option Wrong → ℕ → ℕ → Mark → List ℕ
+mark_text jobs wrong x y mark =
+    group_text (codes "mark") mark.worker x y
+    ++ (titled_text mark ++ (letter jobs mark ++ mark_end (is_wrong_mark wrong mark)))
+
+-- marks below each other, the first of which is on this level
+abbrev pub marks_text : List Job → Option Wrong → ℕ → ℕ → List Mark → List ℕ
+marks_text jobs wrong x level [] = []
+marks_text jobs wrong x level (mark ∷ marks) =
+    mark_text jobs wrong x (15 * level) mark ++ marks_text jobs wrong x (level + 1) marks
+
+abbrev pub mark_lines : List Mark → List ℕ
+mark_lines [] = []
+mark_lines (mark ∷ marks) = part_line mark.worker mark.job mark.part ++ mark_lines marks
+
+-- a number of two digits, or that it is larger
+abbrev pub many_text : ℕ → List ℕ
+many_text count = if nat_lt 99 count then codes "&gt;99" else numbered (codes "+") count
+
+-- the lines of marks, and their number
+unfoldable pub rest_text : List Mark → List ℕ
+rest_text marks =
+    codes "<title>"
+    ++ (mark_lines marks
+    ++ (codes "</title><rect width='18' height='13' rx='2'/><text x='9' y='10'>" ++ many_text (length marks)))
+
+unfoldable pub others_text : Option Wrong → ℕ → List Mark → List ℕ
+others_text wrong x marks =
+    codes "<g class='mark others" ++ (stand_text x 30 ++ (rest_text marks ++ mark_end (has_wrong_mark wrong marks)))
+
+-- the marks of one point
+abbrev pub stack_text : List Job → Option Wrong → ℕ → List Mark → List ℕ
+stack_text jobs wrong x marks =
+    if nat_le (length marks) 3
+    then marks_text jobs wrong x 0 marks
+    else marks_text jobs wrong x 0 (take 2 marks) ++ others_text wrong x (drop 2 marks)
+
+-- the marks of points, the first of which is in this column
+abbrev pub stacks_text : List Job → Option Wrong → ℕ → List (List Mark) → List ℕ
+stacks_text jobs wrong column [] = []
+stacks_text jobs wrong column (stack ∷ stacks) =
+    stack_text jobs wrong (120 + 66 * column + 4) stack ++ stacks_text jobs wrong (column + 1) stacks

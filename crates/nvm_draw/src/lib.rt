@@ -1,0 +1,25 @@
+//! Records of runs as pictures: who wrote what, where, in which order, and where it went wrong.
+//!
+//! [`draw_record`] draws a record as plain SVG. Units are rows, and their entries boxes from left to right in the colour of their
+//! worker. What rests on a point without an entry (reads, compares, pairs that failed) stands as a mark before the entry of that
+//! place. The first fault of an audit is ringed. How a picture looks is shown by `examples/drawn.py`, which holds the built `nvq`
+//! to a model of it.
+#![tactic(auto)]
+
+mod caption;
+mod deed_box;
+mod frame;
+mod group;
+mod key;
+mod layout;
+mod mark;
+mod mark_box;
+mod picture;
+mod row;
+mod sheet;
+mod size;
+mod window;
+mod wrong;
+
+pub use picture::draw_record;
+pub use window::Window;

@@ -1,0 +1,55 @@
+//! How large things are, in pixels.
+ghost use Rattle.std.specs.Prelude.{◌≡◌, ◌≤◌};
+ghost use Rattle.nvm_draw.specs.Sizes as spec;
+
+/// So many units, and so many places of each, are drawn at most.
+pub(crate) const MOST: usize = 64;
+
+/// The left margin, in which units are named.
+pub(crate) const LEFT: u64 = 120;
+
+/// From one entry to the next.
+pub(crate) const STEP: u64 = 66;
+
+/// From a point to the entry behind it: the marks stand there.
+pub(crate) const GAP: u64 = 26;
+
+/// From one unit to the next.
+pub(crate) const ROW: u64 = 56;
+
+/// The text above the picture wants so much.
+const LEAST_WIDTH: u64 = 1000;
+
+/// The width of a row of so many places, without its margins.
+pub(crate) fn row_width(columns: u8) -> u64
+    ensures { result ≡ spec.row_width columns }
+{
+    STEP * u64::from(columns) + GAP
+}
+
+/// The width of a picture of so many places.
+pub(crate) fn width(columns: u8) -> u64
+    ensures { result ≡ spec.width columns }
+{
+    let wanted = LEFT + row_width(columns) + 80;
+    if wanted < LEAST_WIDTH {
+        LEAST_WIDTH
+    } else {
+        wanted
+    }
+}
+
+/// Where the first row begins, below the names of so many workers.
+pub(crate) fn top(workers: u16) -> u64
+    ensures { result ≡ spec.top workers }
+{
+    162 + 22 * ((u64::from(workers) + 7) / 8)
+}
+
+/// The height of a picture of so many workers and rows.
+pub(crate) fn height(workers: u16, rows: usize) -> u64
+    requires { rows ≤ 64 }
+    ensures { result ≡ spec.height workers rows }
+{
+    top(workers) + ROW * rows as u64 + 8
+}

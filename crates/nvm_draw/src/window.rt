@@ -1,0 +1,45 @@
+ghost use Rattle.std.specs.Prelude.{◌≡◌, ◌≤◌, length, take, drop};
+
+use crate::size::MOST;
+use nvm_store::Entry;
+
+/// Which part of a record is drawn: 64 units and 64 places of each.
+#[derive(Clone, Copy, Debug)]
+pub struct Window {
+    /// The number of the first unit that may be drawn. Without it that is unit 0, or the unit of the fault where that is
+    /// above 63.
+    pub unit: Option<u16>,
+    /// The first place that is drawn. Without it that is place 0, or one before that of the fault where that is above 63.
+    pub from: Option<u32>,
+}
+
+/// At most so many entries of a history as are drawn, from a place on.
+pub(crate) fn drawn_entries(history: &[Entry], from: u32) -> &[Entry]
+    ensures value { result.now ≡ take 64 (drop from history.now) }
+    ensures few { length result.now ≤ 64 }
+{
+    front_of(behind(history, from as usize))
+}
+
+/// The entries from a place on.
+fn behind(history: &[Entry], from: usize) -> &[Entry]
+    ensures { result.now ≡ drop from history.now }
+{
+    if from < history.len() {
+        &history[from..]
+    } else {
+        &[]
+    }
+}
+
+/// The first entries, at most as many as are drawn.
+fn front_of(entries: &[Entry]) -> &[Entry]
+    ensures value { result.now ≡ take 64 entries.now }
+    ensures few { length result.now ≤ 64 }
+{
+    if entries.len() > MOST {
+        &entries[..MOST]
+    } else {
+        entries
+    }
+}
