@@ -51,7 +51,7 @@ fn push_doer(text: &mut String, worker: u64, job: u32) -> Result<(), NoMemory>
 
 /// Appends the line of a done job's statuses.
 #[tactic(auto, unfolding(crate::specs::DoneLines::status_line))]
-fn push_ended(text: &mut String, worker: u64, job: u32, statuses: Statuses) -> Result<(), NoMemory>
+pub fn push_ended(text: &mut String, worker: u64, job: u32, statuses: Statuses) -> Result<(), NoMemory>
     ensures { OnOk result (string_bytes text.new ≡ string_bytes text.old ++ spec.status_line worker job statuses) }
 {
     push_doer(text, worker, job)?;
@@ -62,7 +62,7 @@ fn push_ended(text: &mut String, worker: u64, job: u32, statuses: Statuses) -> R
 }
 
 /// Appends one status, or two.
-fn push_statuses(text: &mut String, statuses: Statuses) -> Result<(), NoMemory>
+pub fn push_statuses(text: &mut String, statuses: Statuses) -> Result<(), NoMemory>
     ensures { OnOk result (string_bytes text.new ≡ string_bytes text.old ++ spec.statuses_text statuses) }
 {
     match statuses {
@@ -87,7 +87,7 @@ fn push_parts(text: &mut String, worker: u64, job: u32, parts: &[Part]) -> Resul
 
 /// Appends the line of one part.
 #[tactic(auto, unfolding(crate::specs::DoneLines::part_line))]
-fn push_part(text: &mut String, worker: u64, job: u32, part: Part) -> Result<(), NoMemory>
+pub fn push_part(text: &mut String, worker: u64, job: u32, part: Part) -> Result<(), NoMemory>
     ensures { OnOk result (string_bytes text.new ≡ string_bytes text.old ++ spec.part_line worker job part) }
 {
     push_doer(text, worker, job)?;

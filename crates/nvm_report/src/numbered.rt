@@ -6,7 +6,7 @@ use nvm_text::push_decimal;
 
 /// Appends words, and behind them the number that they speak of.
 #[tactic(auto, unfolding(crate::specs::Numbered::numbered))]
-pub(crate) fn push_numbered(text: &mut String, words: &str, number: u64) -> Result<(), NoMemory>
+pub fn push_numbered(text: &mut String, words: &str, number: u64) -> Result<(), NoMemory>
     ensures { OnOk result (string_bytes text.new ≡ string_bytes text.old ++ numbered words.now number) }
 {
     text.push_str(words)?;

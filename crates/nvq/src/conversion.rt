@@ -55,7 +55,7 @@ fn list_of_record(alloc: Global, path: String, file: &Payload) -> Result<String,
 }
 
 /// The record at a path, or the file's fault.
-fn record_of(alloc: Global, path: String, file: &Payload) -> Result<Record, Fault>
+pub fn record_of(alloc: Global, path: String, file: &Payload) -> Result<Record, Fault>
     ensures record { IfOk result (λ run. record_at file.now ≡ Ok run) }
     ensures fault { IfErr result (IsFaultOfRecord path file.now) }
 {

@@ -2,11 +2,13 @@
 #![tactic(auto)]
 
 mod conversion;
+mod explaining;
 mod fault;
 mod files;
 mod words;
 
 use crate::conversion::{file_of, list_of};
+use crate::explaining::explanation_of;
 use crate::fault::Fault;
 use crate::files::{bytes_of, write_bytes};
 use crate::words::{Asked, read_words};
@@ -14,13 +16,14 @@ use nvm_front::{WordFault, tell, texts_of, words_given};
 use nvm_record::{BlockSize, Payload};
 use std::process::ExitCode;
 use std::rt::{Env, Files};
+use std::thread::Threads;
 
 fn main(rt: HostRuntime) -> ExitCode {
     ExitCode::from(status_of(&rt))
 }
 
 /// Does what the words of the command line ask for, and gives the exit status: 0, or 1 after a fault.
-fn status_of<R: AllocGlobal + Env + Files + Input + Print + Eprint>(rt: &R) -> u8 {
+fn status_of<R: AllocGlobal + Env + Files + Input + Print + Eprint + Threads + Sync>(rt: &R) -> u8 {
     match asked(rt) {
         Ok(asked) => match run(rt, asked) {
             Ok(()) => 0,
@@ -41,10 +44,14 @@ fn asked<R: AllocGlobal + Env>(rt: &R) -> Result<Asked, WordFault> {
 }
 
 /// Does what is asked. After a fault nothing is written.
-fn run<R: AllocGlobal + Files + Input + Print>(rt: &R, asked: Asked) -> Result<(), Fault> {
+fn run<R: AllocGlobal + Files + Input + Print + Threads + Sync>(
+    rt: &R,
+    asked: Asked,
+) -> Result<(), Fault> {
     match asked {
         Asked::Assemble { size, list, out } => run_assemble(rt, size, list.as_str(), out.as_str()),
         Asked::List { size, file } => run_list(rt, size, file),
+        Asked::Explain { file } => run_explain(rt, file),
     }
 }
 
@@ -68,6 +75,16 @@ fn run_list<R: AllocGlobal + Files + Input + Print>(
 ) -> Result<(), Fault> {
     let bytes = Payload::new(rt.alloc(), bytes_of(rt, file.as_str())?)?;
     let text = list_of(rt.alloc(), file, &bytes, size)?;
+    write_bytes(rt, "-", text.as_bytes())
+}
+
+/// Explains a record on standard output.
+fn run_explain<R: AllocGlobal + Files + Input + Print + Threads + Sync>(
+    rt: &R,
+    file: String,
+) -> Result<(), Fault> {
+    let bytes = Payload::new(rt.alloc(), bytes_of(rt, file.as_str())?)?;
+    let text = explanation_of(rt, rt.alloc(), file, &bytes)?;
     write_bytes(rt, "-", text.as_bytes())
 }
 

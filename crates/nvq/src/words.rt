@@ -18,6 +18,8 @@ pub enum Asked {
         size: BlockSize,
         file: String,
     },
+    /// `nvq explain`: explain a record.
+    Explain { file: String },
 }
 
 /// The sizes that a block can have, as words.
@@ -38,6 +40,7 @@ fn asked_of(alloc: Global, matches: &ArgMatches<'_>) -> Result<Option<Asked>, Wo
     match matches.subcommand() {
         Some(("assemble", words)) => assemble_asked(alloc, words),
         Some(("list", words)) => list_asked(alloc, words),
+        Some(("explain", words)) => explain_asked(alloc, words),
         _ => Ok(None),
     }
 }
@@ -65,6 +68,15 @@ fn list_asked(alloc: Global, words: &ArgMatches<'_>) -> Result<Option<Asked>, Wo
     Ok(Some(Asked::List { size, file }))
 }
 
+/// What `nvq explain` is asked, or `None` where a value is missing.
+fn explain_asked(alloc: Global, words: &ArgMatches<'_>) -> Result<Option<Asked>, WordFault> {
+    let Some(file) = words.get_str("file") else {
+        return Ok(None);
+    };
+    let file = String::from_str(alloc, file)?;
+    Ok(Some(Asked::Explain { file }))
+}
+
 /// The size of a block.
 fn size_of(words: &ArgMatches<'_>) -> Option<BlockSize> {
     match words.get_str("block")? {
@@ -78,6 +90,7 @@ fn size_of(words: &ArgMatches<'_>) -> Option<BlockSize> {
 fn program<'a>(alloc: Global) -> Result<Command<'a>, Error> {
     let assemble = assemble_command(alloc)?;
     let list = list_command(alloc)?;
+    let explain = explain_command(alloc)?;
     Ok(
         Command::new(alloc, "nvq")
             .bin_name("nvq")?
@@ -85,7 +98,8 @@ fn program<'a>(alloc: Global) -> Result<Command<'a>, Error> {
             .no_binary_name(true)
             .subcommand_required(true)
             .subcommand(assemble)?
-            .subcommand(list)?,
+            .subcommand(list)?
+            .subcommand(explain)?,
     )
 }
 
@@ -114,6 +128,13 @@ fn list_command<'a>(alloc: Global) -> Result<Command<'a>, Error> {
         "The host file or record, or - for standard input",
     );
     Ok(command.arg(block(alloc))?.arg(file)?)
+}
+
+/// `nvq explain`.
+fn explain_command<'a>(alloc: Global) -> Result<Command<'a>, Error> {
+    let command = Command::new(alloc, "explain").about("Explains what is wrong with a record, or what there is in a lawful one");
+    let file = file(alloc, "file", "REC", "The record, or - for standard input");
+    Ok(command.arg(file)?)
 }
 
 /// The option that says how large a block is.

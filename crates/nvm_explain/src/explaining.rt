@@ -1,0 +1,90 @@
+use crate::around::push_around;
+use crate::entry_story::push_entry_story;
+use crate::job_story::push_job;
+use crate::meaning::push_meaning;
+use crate::part_story::{push_back_story, push_part_story};
+use crate::shape_story::push_shape;
+use crate::summary::push_summary;
+use crate::verdict_line::{push_lawful, push_unlawful};
+use nvm_audit::{AuditFault, Record, Verdict, audit};
+use nvm_record::NoMemory;
+use std::alloc::{AllocError, Global};
+use std::thread::Threads;
+
+/// Audits the record and explains what was found, as text: a line for each fact, in the words of a record's listing.
+///
+/// It is audited once, in several threads. Beside that one unit's history is replayed up to the place of the fault, and what was
+/// done is gone over. `NoMemory` is answered where a growth was refused.
+pub fn explain(
+    rt: &(impl Threads + Sync),
+    alloc: Global,
+    record: &Record,
+) -> Result<String, NoMemory> {
+    explanation(alloc, record, audit(rt, alloc, record))
+}
+
+/// Explains what an audit of the record answered. Want of memory is answered as such.
+pub fn explanation(
+    alloc: Global,
+    record: &Record,
+    answer: Result<Verdict, AuditFault>,
+) -> Result<String, NoMemory> {
+    match answer {
+        Ok(verdict) => lawful_explanation(alloc, record, verdict),
+        Err(AuditFault::NoMemory) => Err(AllocError),
+        Err(fault) => fault_explanation(alloc, record, fault),
+    }
+}
+
+/// What is told of a lawful record.
+fn lawful_explanation(alloc: Global, record: &Record, verdict: Verdict) -> Result<String, NoMemory> {
+    let mut text = String::new(alloc);
+    push_lawful(&mut text, verdict)?;
+    push_summary(&mut text, alloc, record)?;
+    Ok(text)
+}
+
+/// What is told of a record with this first fault.
+fn fault_explanation(alloc: Global, record: &Record, fault: AuditFault) -> Result<String, NoMemory> {
+    let mut text = String::new(alloc);
+    push_unlawful(&mut text, fault)?;
+    push_meaning(&mut text, fault)?;
+    push_story(&mut text, alloc, record, fault)?;
+    Ok(text)
+}
+
+/// Appends what the record shows of the fault.
+fn push_story(
+    text: &mut String,
+    alloc: Global,
+    record: &Record,
+    fault: AuditFault,
+) -> Result<(), NoMemory> {
+    match fault {
+        AuditFault::JobMissing { job } | AuditFault::JobTwice { job } => push_job(text, record, job),
+        AuditFault::StatusWrong { job, spot: None } => {
+            push_job(text, record, job)?;
+            push_shape(text, record, job)
+        }
+        AuditFault::EntryWrong { job, spot } => {
+            push_job(text, record, job)?;
+            push_entry_story(text, alloc, record, job, spot)?;
+            push_around(text, record, job, spot)
+        }
+        AuditFault::EntryUnclaimed { job, spot } | AuditFault::PointPast { job, spot } => {
+            push_job(text, record, job)?;
+            push_around(text, record, job, spot)
+        }
+        AuditFault::PointBack { job, spot } => {
+            push_job(text, record, job)?;
+            push_back_story(text, record, job, spot)?;
+            push_around(text, record, job, spot)
+        }
+        AuditFault::StatusWrong { job, spot: Some(spot) } | AuditFault::DataWrong { job, spot } => {
+            push_job(text, record, job)?;
+            push_part_story(text, alloc, record, job, spot)?;
+            push_around(text, record, job, spot)
+        }
+        AuditFault::NoMemory => Ok(()),
+    }
+}

@@ -1,0 +1,34 @@
+use nvm_audit::AuditFault;
+use nvm_record::NoMemory;
+
+/// Appends the line that says what a fault of this name means.
+pub(crate) fn push_meaning(text: &mut String, fault: AuditFault) -> Result<(), NoMemory> {
+    let meaning = match fault {
+        AuditFault::JobMissing { .. } => "JobMissing: no worker did the job.\n",
+        AuditFault::JobTwice { .. } => "JobTwice: the job was done more than once.\n",
+        AuditFault::EntryUnclaimed { .. } => {
+            "EntryUnclaimed: no part of this worker and this job was done at the entry's place.\n"
+        }
+        AuditFault::EntryWrong { .. } => {
+            "EntryWrong: the entry isn't its job's part in the unit, or it doesn't succeed after the entries before it.\n"
+        }
+        AuditFault::PointPast { .. } => {
+            "PointPast: the part's point is above the number of entries, or its own entry doesn't stand there.\n"
+        }
+        AuditFault::PointBack { .. } => {
+            "PointBack: the part's point lies before one that its worker had passed in the unit.\n"
+        }
+        AuditFault::StatusWrong { spot: None, .. } => {
+            "StatusWrong: no run of the job ends with these parts, these statuses and this data.\n"
+        }
+        AuditFault::StatusWrong { spot: Some(_), .. } => {
+            "StatusWrong: at its point the part doesn't end as it is recorded.\n"
+        }
+        AuditFault::DataWrong { .. } => {
+            "DataWrong: the Read's data isn't what the unit held at the part's point.\n"
+        }
+        AuditFault::NoMemory => "",
+    };
+    text.push_str(meaning)?;
+    Ok(())
+}
