@@ -14,6 +14,7 @@ TOP = os.path.dirname(HERE)
 sys.dont_write_bytecode = True
 sys.path.insert(0, os.path.join(TOP, "sweep"))
 
+from explained import explained
 from forged import forged, spoiled
 from host_files import Asked, compare, dataset, file_of, read, uncorrectable, unknown, write, zeroes
 from listings import listings
@@ -239,7 +240,7 @@ def words_of_nvq(run):
         run.refuse(["nvq", *words.split()])
     for words in ("list --bogus 1 a", "list --block 512 --block 512 a", "list --block"):
         run.refuse(["nvq", *words.split()])
-    for words in ("--help", "assemble --help", "list --help"):
+    for words in ("--help", "assemble --help", "list --help", "explain --help"):
         run.expect(["nvq", *words.split()], out=SOME)
 
 
@@ -258,7 +259,7 @@ def words_of_unit_bench(run):
         run.expect(["unit_bench", "run", "0", "1", name], 1, err="unit_bench: no host file\n")
 
 
-TABLES = [lists, words_of_nvq, listings, outs_of_nvq, words_of_nvmu, files_of_nvmu, files_that_stop, several_workers]
+TABLES = [lists, words_of_nvq, listings, explained, outs_of_nvq, words_of_nvmu, files_of_nvmu, files_that_stop, several_workers]
 TABLES += [outs_of_nvmu, shown_nowhere, runs, rows, forged, spoiled, words_of_unit_bench]
 
 

@@ -2,7 +2,8 @@ use crate::around::push_around;
 use crate::entry_story::push_entry_story;
 use crate::job_story::push_job;
 use crate::meaning::push_meaning;
-use crate::part_story::{push_back_story, push_part_story};
+use crate::back_story::push_back_story;
+use crate::part_story::push_part_story;
 use crate::shape_story::push_shape;
 use crate::summary::push_summary;
 use crate::verdict_line::{push_lawful, push_unlawful};
@@ -18,38 +19,38 @@ use std::thread::Threads;
 pub fn explain(
     rt: &(impl Threads + Sync),
     alloc: Global,
-    record: &Record,
+    run: &Record,
 ) -> Result<String, NoMemory> {
-    explanation(alloc, record, audit(rt, alloc, record))
+    explanation(alloc, run, audit(rt, alloc, run))
 }
 
 /// Explains what an audit of the record answered. Want of memory is answered as such.
 pub fn explanation(
     alloc: Global,
-    record: &Record,
+    run: &Record,
     answer: Result<Verdict, AuditFault>,
 ) -> Result<String, NoMemory> {
     match answer {
-        Ok(verdict) => lawful_explanation(alloc, record, verdict),
+        Ok(verdict) => lawful_explanation(alloc, run, verdict),
         Err(AuditFault::NoMemory) => Err(AllocError),
-        Err(fault) => fault_explanation(alloc, record, fault),
+        Err(fault) => fault_explanation(alloc, run, fault),
     }
 }
 
 /// What is told of a lawful record.
-fn lawful_explanation(alloc: Global, record: &Record, verdict: Verdict) -> Result<String, NoMemory> {
+fn lawful_explanation(alloc: Global, run: &Record, verdict: Verdict) -> Result<String, NoMemory> {
     let mut text = String::new(alloc);
     push_lawful(&mut text, verdict)?;
-    push_summary(&mut text, alloc, record)?;
+    push_summary(&mut text, alloc, run)?;
     Ok(text)
 }
 
 /// What is told of a record with this first fault.
-fn fault_explanation(alloc: Global, record: &Record, fault: AuditFault) -> Result<String, NoMemory> {
+fn fault_explanation(alloc: Global, run: &Record, fault: AuditFault) -> Result<String, NoMemory> {
     let mut text = String::new(alloc);
     push_unlawful(&mut text, fault)?;
     push_meaning(&mut text, fault)?;
-    push_story(&mut text, alloc, record, fault)?;
+    push_story(&mut text, alloc, run, fault)?;
     Ok(text)
 }
 
@@ -57,33 +58,37 @@ fn fault_explanation(alloc: Global, record: &Record, fault: AuditFault) -> Resul
 fn push_story(
     text: &mut String,
     alloc: Global,
-    record: &Record,
+    run: &Record,
     fault: AuditFault,
 ) -> Result<(), NoMemory> {
     match fault {
-        AuditFault::JobMissing { job } | AuditFault::JobTwice { job } => push_job(text, record, job),
+        AuditFault::JobMissing { job } | AuditFault::JobTwice { job } => push_job(text, run, job),
         AuditFault::StatusWrong { job, spot: None } => {
-            push_job(text, record, job)?;
-            push_shape(text, record, job)
+            push_job(text, run, job)?;
+            push_shape(text, run, job)
         }
         AuditFault::EntryWrong { job, spot } => {
-            push_job(text, record, job)?;
-            push_entry_story(text, alloc, record, job, spot)?;
-            push_around(text, record, job, spot)
+            push_job(text, run, job)?;
+            push_entry_story(text, alloc, run, job, spot)?;
+            push_around(text, run, spot, None)
         }
-        AuditFault::EntryUnclaimed { job, spot } | AuditFault::PointPast { job, spot } => {
-            push_job(text, record, job)?;
-            push_around(text, record, job, spot)
+        AuditFault::EntryUnclaimed { job, spot } => {
+            push_job(text, run, job)?;
+            push_around(text, run, spot, None)
+        }
+        AuditFault::PointPast { job, spot } => {
+            push_job(text, run, job)?;
+            push_around(text, run, spot, Some(job))
         }
         AuditFault::PointBack { job, spot } => {
-            push_job(text, record, job)?;
-            push_back_story(text, record, job, spot)?;
-            push_around(text, record, job, spot)
+            push_job(text, run, job)?;
+            push_back_story(text, run, job, spot)?;
+            push_around(text, run, spot, Some(job))
         }
         AuditFault::StatusWrong { job, spot: Some(spot) } | AuditFault::DataWrong { job, spot } => {
-            push_job(text, record, job)?;
-            push_part_story(text, alloc, record, job, spot)?;
-            push_around(text, record, job, spot)
+            push_job(text, run, job)?;
+            push_part_story(text, alloc, run, job, spot)?;
+            push_around(text, run, spot, Some(job))
         }
         AuditFault::NoMemory => Ok(()),
     }

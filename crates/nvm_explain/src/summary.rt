@@ -13,12 +13,12 @@ struct Ended {
 
 /// Appends how many jobs ended with which statuses, how many each worker did, and in how many units there are entries, and entries of
 /// several workers.
-pub(crate) fn push_summary(text: &mut String, alloc: Global, record: &Record) -> Result<(), NoMemory> {
-    let ended = ended_of(alloc, &record.done)?;
+pub(crate) fn push_summary(text: &mut String, alloc: Global, run: &Record) -> Result<(), NoMemory> {
+    let ended = ended_of(alloc, &run.done)?;
     push_all_ended(text, &ended)?;
-    push_workers(text, &record.done)?;
-    push_units(text, &record.units)?;
-    push_contended(text, &record.units)
+    push_workers(text, &run.done)?;
+    push_units(text, &run.units)?;
+    push_contended(text, &run.units)
 }
 
 /// How many jobs ended with which statuses, in the order in which they first occur.
@@ -124,6 +124,11 @@ fn push_contended(text: &mut String, units: &[History]) -> Result<(), NoMemory> 
     Ok(())
 }
 
+/// A count and one more, up to the highest that there is.
+fn with_one_more(count: u64) -> u64 {
+    count.saturating_add(1)
+}
+
 /// How many workers have an entry there.
 fn workers_in(history: &[Entry]) -> u64 {
     let mut seen = [false; 64];
@@ -132,7 +137,7 @@ fn workers_in(history: &[Entry]) -> u64 {
         let worker = entry.pass as usize;
         if worker < 64 && !seen[worker] {
             seen[worker] = true;
-            count += 1;
+            count = with_one_more(count);
         }
     }
     count

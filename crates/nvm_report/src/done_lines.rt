@@ -30,7 +30,7 @@ fn push_work(text: &mut String, worker: u64, work: &[DoneJob]) -> Result<(), NoM
 
 /// Appends the lines of one done job.
 #[tactic(auto, unfolding(crate::specs::DoneLines::done_lines))]
-fn push_done(text: &mut String, worker: u64, done: &DoneJob) -> Result<(), NoMemory>
+pub fn push_done(text: &mut String, worker: u64, done: &DoneJob) -> Result<(), NoMemory>
     ensures { OnOk result (string_bytes text.new ≡ string_bytes text.old ++ spec.done_lines worker done.now) }
 {
     push_ended(text, worker, done.job, done.statuses)?;
@@ -51,7 +51,7 @@ fn push_doer(text: &mut String, worker: u64, job: u32) -> Result<(), NoMemory>
 
 /// Appends the line of a done job's statuses.
 #[tactic(auto, unfolding(crate::specs::DoneLines::status_line))]
-pub fn push_ended(text: &mut String, worker: u64, job: u32, statuses: Statuses) -> Result<(), NoMemory>
+fn push_ended(text: &mut String, worker: u64, job: u32, statuses: Statuses) -> Result<(), NoMemory>
     ensures { OnOk result (string_bytes text.new ≡ string_bytes text.old ++ spec.status_line worker job statuses) }
 {
     push_doer(text, worker, job)?;
