@@ -32,6 +32,7 @@ mark_line spot (Some job) = rest_line spot job
 -- so many entries are told before a place, and so many from it on
 abbrev pub told_before : ℕ
 told_before = 3
+
 abbrev pub told_from : ℕ
 told_from = 4
 

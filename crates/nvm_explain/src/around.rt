@@ -27,7 +27,13 @@ pub(crate) fn push_around(
     let history = &run.units[spot.unit as usize];
     push_place(text, spot.unit, unit_place(&run.geometry, spot.unit))?;
     push_counts(text, history.len(), run.limit.entries())?;
-    push_entries_round(text, spot, job, (spot.place as usize).min(history.len()), history)
+    push_entries_round(
+        text,
+        spot,
+        job,
+        (spot.place as usize).min(history.len()),
+        history,
+    )
 }
 
 /// Appends the unit's first LBA, and how many blocks it has.

@@ -2,8 +2,8 @@ use crate::blocks_at::blocks_at;
 use crate::given::{given_to_act, push_operation};
 use crate::outcome::push_outcome;
 use nvm_audit::{Record, Spot};
-use nvm_plan::{Job, fits, job_part_in};
 use nvm_geometry::Geometry;
+use nvm_plan::{Job, fits, job_part_in};
 use nvm_record::NoMemory;
 use nvm_report::push_entry;
 use nvm_store::{Entry, UnitBlocks};
@@ -74,5 +74,10 @@ fn push_entry_given(text: &mut String, blocks: &UnitBlocks, entry: &Entry) -> Re
         return Ok(());
     }
     let given = given_to_act(blocks, act);
-    push_outcome(text, "the step gives: status ", given.statuses, &given.payload)
+    push_outcome(
+        text,
+        "the step gives: status ",
+        given.statuses,
+        &given.payload,
+    )
 }

@@ -1,8 +1,8 @@
 use crate::around::push_around;
+use crate::back_story::push_back_story;
 use crate::entry_story::push_entry_story;
 use crate::job_story::push_job;
 use crate::meaning::push_meaning;
-use crate::back_story::push_back_story;
 use crate::part_story::push_part_story;
 use crate::shape_story::push_shape;
 use crate::summary::push_summary;
@@ -85,7 +85,11 @@ fn push_story(
             push_back_story(text, run, job, spot)?;
             push_around(text, run, spot, Some(job))
         }
-        AuditFault::StatusWrong { job, spot: Some(spot) } | AuditFault::DataWrong { job, spot } => {
+        AuditFault::StatusWrong {
+            job,
+            spot: Some(spot),
+        }
+        | AuditFault::DataWrong { job, spot } => {
             push_job(text, run, job)?;
             push_part_story(text, alloc, run, job, spot)?;
             push_around(text, run, spot, Some(job))

@@ -40,12 +40,7 @@ fn push_doers(text: &mut String, done: &[Vec<DoneJob>], number: u32) -> Result<(
 }
 
 /// Appends the lines of what a worker did of the job of this number.
-fn push_doer(
-    text: &mut String,
-    worker: u64,
-    work: &[DoneJob],
-    number: u32,
-) -> Result<(), NoMemory>
+fn push_doer(text: &mut String, worker: u64, work: &[DoneJob], number: u32) -> Result<(), NoMemory>
     ensures { OnOk result (string_bytes text.new ≡ string_bytes text.old ++ spec.lines_of_doer number worker work.now) }
 {
     for done in work {
@@ -55,12 +50,7 @@ fn push_doer(
 }
 
 /// Appends the lines of a done job, if it is of this number.
-fn push_if_of(
-    text: &mut String,
-    worker: u64,
-    done: &DoneJob,
-    number: u32,
-) -> Result<(), NoMemory>
+fn push_if_of(text: &mut String, worker: u64, done: &DoneJob, number: u32) -> Result<(), NoMemory>
     ensures { OnOk result (string_bytes text.new
         ≡ string_bytes text.old ++ (if done.now.job == number then done_lines worker done.now else [])) }
 {

@@ -110,8 +110,7 @@ fn shown_of<'a>(
     job: &Job,
     part: &LentPart<'_>,
     done: &'a DoneJob,
-) -> Option<&'a [u8]>
-{
+) -> Option<&'a [u8]> {
     match &done.payload {
         Some(bytes) => recorded_data(size, job, part, bytes.as_slice()),
         None => None,
@@ -125,7 +124,12 @@ fn push_both(text: &mut String, told: ToldPart, bytes: &[u8], given: &Given) -> 
         ≡ string_bytes text.old ++ spec.outcome_lines told (Some bytes.now) given.now) }
 {
     push_outcome_with(text, "recorded: status ", told.told, bytes)?;
-    push_outcome(text, "the step gives: status ", given.statuses, &given.payload)?;
+    push_outcome(
+        text,
+        "the step gives: status ",
+        given.statuses,
+        &given.payload,
+    )?;
     Ok(())
 }
 
@@ -136,7 +140,12 @@ fn push_without(text: &mut String, told: ToldPart, given: &Given) -> Result<(), 
         ≡ string_bytes text.old ++ spec.outcome_lines told None given.now) }
 {
     push_outcome(text, "recorded: status ", told.told, &None)?;
-    push_outcome(text, "the step gives: status ", given.statuses, &given.payload)?;
+    push_outcome(
+        text,
+        "the step gives: status ",
+        given.statuses,
+        &given.payload,
+    )?;
     Ok(())
 }
 

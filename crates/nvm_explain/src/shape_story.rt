@@ -9,8 +9,7 @@ use nvm_record::{NoMemory, Statuses};
 use nvm_report::{push_numbered, push_statuses};
 
 /// Appends with which statuses a check refuses the job, or in which units it has a part.
-pub(crate) fn push_shape(text: &mut String, run: &Record, number: u32) -> Result<(), NoMemory>
-{
+pub(crate) fn push_shape(text: &mut String, run: &Record, number: u32) -> Result<(), NoMemory> {
     match run.jobs.get(number as usize) {
         Some(job) => push_plan(text, &run.geometry, job, plan(&run.geometry, job)),
         None => Ok(()),

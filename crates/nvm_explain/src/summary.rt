@@ -99,7 +99,11 @@ fn with(found: Most, unit: u64, count: u64, least: u64) -> Most {
     }
     let units = found.units.saturating_add(1);
     if count > found.most {
-        Most { units, most: count, unit }
+        Most {
+            units,
+            most: count,
+            unit,
+        }
     } else {
         Most { units, ..found }
     }

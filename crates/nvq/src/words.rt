@@ -19,7 +19,9 @@ pub enum Asked {
         file: String,
     },
     /// `nvq explain`: explain a record.
-    Explain { file: String },
+    Explain {
+        file: String,
+    },
 }
 
 /// The sizes that a block can have, as words.
@@ -132,7 +134,9 @@ fn list_command<'a>(alloc: Global) -> Result<Command<'a>, Error> {
 
 /// `nvq explain`.
 fn explain_command<'a>(alloc: Global) -> Result<Command<'a>, Error> {
-    let command = Command::new(alloc, "explain").about("Explains what is wrong with a record, or what there is in a lawful one");
+    let command = Command::new(alloc, "explain").about(
+        "Explains what is wrong with a record, or what there is in a lawful one",
+    );
     let file = file(alloc, "file", "REC", "The record, or - for standard input");
     Ok(command.arg(file)?)
 }
