@@ -1,4 +1,5 @@
 ghost use Rattle.std.specs.Prelude.{◌≡◌, ◌+◌, ◌≤◌, ◌++◌, OnOk, length, string_bytes};
+ghost use Rattle.nvm_text.specs.Kept.{KeepsText};
 ghost use Rattle.nvm_report.specs.EntryLines.{history_lines};
 ghost use Rattle.nvm_explain.specs.Surroundings as spec;
 
@@ -20,7 +21,9 @@ pub(crate) fn push_around(
     run: &Record,
     spot: Spot,
     job: Option<u32>,
-) -> Result<(), NoMemory> {
+) -> Result<(), NoMemory>
+    ensures { OnOk result (KeepsText (string_bytes text.old) (string_bytes text.new)) }
+{
     if spot.unit >= run.geometry.units() {
         return Ok(());
     }

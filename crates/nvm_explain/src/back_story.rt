@@ -1,4 +1,5 @@
-ghost use Rattle.std.specs.Prelude.{◌<◌, IfSome, length};
+ghost use Rattle.std.specs.Prelude.{◌<◌, IfSome, length, OnOk, string_bytes};
+ghost use Rattle.nvm_text.specs.Kept.{KeepsText};
 
 use crate::told::told_part;
 use nvm_audit::{DoneJob, Record, Spot};
@@ -12,7 +13,9 @@ pub(crate) fn push_back_story(
     run: &Record,
     number: u32,
     spot: Spot,
-) -> Result<(), NoMemory> {
+) -> Result<(), NoMemory>
+    ensures { OnOk result (KeepsText (string_bytes text.old) (string_bytes text.new)) }
+{
     for (worker, work) in run.done.iter().enumerate() {
         match place_in(work, number) {
             Some(place) => return push_passed(text, worker as u64, &work[..place], spot),
@@ -36,23 +39,28 @@ fn place_in(work: &[DoneJob], number: u32) -> Option<usize>
 }
 
 /// Appends the first part in the unit that had passed the point.
-fn push_passed(
-    text: &mut String,
-    worker: u64,
-    work: &[DoneJob],
-    spot: Spot,
-) -> Result<(), NoMemory> {
+fn push_passed(text: &mut String, worker: u64, work: &[DoneJob], spot: Spot) -> Result<(), NoMemory>
+    ensures { OnOk result (KeepsText (string_bytes text.old) (string_bytes text.new)) }
+{
     for done in work {
         match told_part(done, spot.unit) {
             Some(told) => {
                 if has_passed(told.part, spot.place) {
-                    text.push_str("before that: ")?;
-                    return push_part(text, worker, done.job, told.part);
+                    return push_before(text, worker, done.job, told.part);
                 }
             }
             None => {}
         }
     }
+    Ok(())
+}
+
+/// Appends the line of a part that had passed the point.
+fn push_before(text: &mut String, worker: u64, job: u32, part: Part) -> Result<(), NoMemory>
+    ensures { OnOk result (KeepsText (string_bytes text.old) (string_bytes text.new)) }
+{
+    text.push_str("before that: ")?;
+    push_part(text, worker, job, part)?;
     Ok(())
 }
 

@@ -1,3 +1,6 @@
+ghost use Rattle.std.specs.Prelude.{OnOk, string_bytes};
+ghost use Rattle.nvm_text.specs.Kept.{KeepsText};
+
 use crate::blocks_at::blocks_at;
 use crate::given::{given_to_act, push_operation};
 use crate::outcome::push_outcome;
@@ -16,7 +19,9 @@ pub(crate) fn push_entry_story(
     run: &Record,
     number: u32,
     spot: Spot,
-) -> Result<(), NoMemory> {
+) -> Result<(), NoMemory>
+    ensures { OnOk result (KeepsText (string_bytes text.old) (string_bytes text.new)) }
+{
     if spot.unit >= run.geometry.units() {
         return Ok(());
     }
@@ -40,7 +45,9 @@ fn push_own(
     run: &Record,
     number: u32,
     unit: u16,
-) -> Result<(), NoMemory> {
+) -> Result<(), NoMemory>
+    ensures { OnOk result (KeepsText (string_bytes text.old) (string_bytes text.new)) }
+{
     match run.jobs.get(number as usize) {
         Some(job) => push_own_part(text, alloc, &run.geometry, job, unit),
         None => Ok(()),
@@ -54,7 +61,9 @@ fn push_own_part(
     geometry: &Geometry,
     job: &Job,
     unit: u16,
-) -> Result<(), NoMemory> {
+) -> Result<(), NoMemory>
+    ensures { OnOk result (KeepsText (string_bytes text.old) (string_bytes text.new)) }
+{
     if !fits(geometry, job) {
         return Ok(());
     }
@@ -68,7 +77,9 @@ fn push_own_part(
 }
 
 /// Appends the statuses that the step gives an entry on these blocks.
-fn push_entry_given(text: &mut String, blocks: &UnitBlocks, entry: &Entry) -> Result<(), NoMemory> {
+fn push_entry_given(text: &mut String, blocks: &UnitBlocks, entry: &Entry) -> Result<(), NoMemory>
+    ensures { OnOk result (KeepsText (string_bytes text.old) (string_bytes text.new)) }
+{
     let act = entry.act.as_ref();
     if !blocks.covers(act) {
         return Ok(());

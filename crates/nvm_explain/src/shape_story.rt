@@ -1,4 +1,5 @@
 ghost use Rattle.std.specs.Prelude.{◌≡◌, ◌++◌, OnOk, string_bytes};
+ghost use Rattle.nvm_text.specs.Kept.{KeepsText};
 ghost use Rattle.nvm_plan.specs.JobPart as part;
 ghost use Rattle.nvm_explain.specs.ShapeStory as spec;
 
@@ -9,7 +10,9 @@ use nvm_record::{NoMemory, Statuses};
 use nvm_report::{push_numbered, push_statuses};
 
 /// Appends with which statuses a check refuses the job, or in which units it has a part.
-pub(crate) fn push_shape(text: &mut String, run: &Record, number: u32) -> Result<(), NoMemory> {
+pub(crate) fn push_shape(text: &mut String, run: &Record, number: u32) -> Result<(), NoMemory>
+    ensures { OnOk result (KeepsText (string_bytes text.old) (string_bytes text.new)) }
+{
     match run.jobs.get(number as usize) {
         Some(job) => push_plan(text, &run.geometry, job, plan(&run.geometry, job)),
         None => Ok(()),

@@ -1,3 +1,6 @@
+ghost use Rattle.std.specs.Prelude.{OnOk, string_bytes};
+ghost use Rattle.nvm_text.specs.Kept.{KeepsText};
+
 use nvm_audit::{DoneJob, Record};
 use nvm_record::{NoMemory, Statuses};
 use nvm_report::{push_numbered, push_statuses};
@@ -13,7 +16,9 @@ struct Ended {
 
 /// Appends how many jobs ended with which statuses, how many each worker did, and in how many units there are entries, and entries of
 /// several workers.
-pub(crate) fn push_summary(text: &mut String, alloc: Global, run: &Record) -> Result<(), NoMemory> {
+pub(crate) fn push_summary(text: &mut String, alloc: Global, run: &Record) -> Result<(), NoMemory>
+    ensures { OnOk result (KeepsText (string_bytes text.old) (string_bytes text.new)) }
+{
     let ended = ended_of(alloc, &run.done)?;
     push_all_ended(text, &ended)?;
     push_workers(text, &run.done)?;
@@ -45,7 +50,9 @@ fn count_ended(ended: &mut Vec<Ended>, statuses: Statuses) -> Result<(), NoMemor
 }
 
 /// Appends a line for each outcome of jobs.
-fn push_all_ended(text: &mut String, ended: &[Ended]) -> Result<(), NoMemory> {
+fn push_all_ended(text: &mut String, ended: &[Ended]) -> Result<(), NoMemory>
+    ensures { OnOk result (KeepsText (string_bytes text.old) (string_bytes text.new)) }
+{
     for it in ended {
         text.push_str("status ")?;
         push_statuses(text, it.statuses)?;
@@ -56,7 +63,9 @@ fn push_all_ended(text: &mut String, ended: &[Ended]) -> Result<(), NoMemory> {
 }
 
 /// Appends how many jobs each worker did.
-fn push_workers(text: &mut String, done: &[Vec<DoneJob>]) -> Result<(), NoMemory> {
+fn push_workers(text: &mut String, done: &[Vec<DoneJob>]) -> Result<(), NoMemory>
+    ensures { OnOk result (KeepsText (string_bytes text.old) (string_bytes text.new)) }
+{
     for (worker, work) in done.iter().enumerate() {
         push_numbered(text, "worker ", worker as u64)?;
         push_numbered(text, " jobs ", work.len() as u64)?;
@@ -74,7 +83,9 @@ struct Most {
 }
 
 /// Appends in how many units there are entries, and which has most.
-fn push_units(text: &mut String, units: &[History]) -> Result<(), NoMemory> {
+fn push_units(text: &mut String, units: &[History]) -> Result<(), NoMemory>
+    ensures { OnOk result (KeepsText (string_bytes text.old) (string_bytes text.new)) }
+{
     let mut found = Most {
         units: 0,
         most: 0,
@@ -110,7 +121,9 @@ fn with(found: Most, unit: u64, count: u64, least: u64) -> Most {
 }
 
 /// Appends in how many units several workers have entries, and in which most of them.
-fn push_contended(text: &mut String, units: &[History]) -> Result<(), NoMemory> {
+fn push_contended(text: &mut String, units: &[History]) -> Result<(), NoMemory>
+    ensures { OnOk result (KeepsText (string_bytes text.old) (string_bytes text.new)) }
+{
     let mut found = Most {
         units: 0,
         most: 0,
