@@ -15,6 +15,7 @@ sys.dont_write_bytecode = True
 sys.path.insert(0, os.path.join(TOP, "sweep"))
 
 from drawn import pictures
+from explained import explained
 from forged import forged, spoiled
 from hints import MISSING, no_host_file, the_line, told
 from host_files import Asked, compare, dataset, file_of, read, uncorrectable, unknown, write, zeroes
@@ -265,7 +266,7 @@ def words_of_nvq(run):
         run.refuse(["nvq", *words.split()])
     for words in ("list --bogus 1 a", "list --block 512 --block 512 a", "list --block"):
         run.refuse(["nvq", *words.split()])
-    for words in ("--help", "assemble --help", "list --help"):
+    for words in ("--help", "assemble --help", "list --help", "explain --help"):
         run.expect(["nvq", *words.split()], out=SOME)
 
 
@@ -284,7 +285,7 @@ def words_of_unit_bench(run):
         run.expect(["unit_bench", "run", "0", "1", name], 1, err="unit_bench: no host file\n")
 
 
-TABLES = [lists, words_of_nvq, listings, lists_run, pictures, outs_of_nvq, words_of_nvmu, files_of_nvmu, files_that_stop, several_workers]
+TABLES = [lists, words_of_nvq, listings, lists_run, explained, pictures, outs_of_nvq, words_of_nvmu, files_of_nvmu, files_that_stop, several_workers]
 TABLES += [versions, standard_input, files_of_another_kind, outs_that_are_read]
 TABLES += [outs_of_nvmu, shown_nowhere, runs, rows, forged, spoiled, two_owners, words_of_unit_bench]
 

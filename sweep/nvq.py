@@ -9,6 +9,7 @@ from cases import Recording, Run
 from hints import FOLDER, GEOMETRY, IS_LIST, MISSING, VERSIONS, no_host_file, no_list, other_block, the_line, told
 from host_files import compare, dataset, file_of, pair, read, uncorrectable, unknown, write, zeroes
 from model import COMPARE, DATASET, WRITE, Namespace, commands
+from record_explaining import lawful_explanation
 from record_listing import record_listing
 from recorded import recorded
 from records import spelled
@@ -31,6 +32,31 @@ def listing(file, block):
         return f"{it.name()} {place}{FUSES[it.fuse]}{cid}{nsid}\n"
 
     return "".join(line(place, it) for place, it in enumerate(commands(file, block), 1))
+
+
+JOB_0 = "job 0 host 1 cid 1 nsid 1 write 0 1 512*41\nworker 0 job 0 status 0/00\nworker 0 job 0 unit 0 point 0 done\n"
+WRONG_DATA = """unlawful DataWrong job 1 unit 0 place 1
+DataWrong: the Read's data isn't what the unit held at the part's point.
+job 1 host 1 cid 2 nsid 1 read 0 1
+worker 0 job 1 status 0/00
+worker 0 job 1 unit 0 point 1 looked
+worker 0 job 1 data 511*41,1*01
+part: unit 0 point 1 read 0 1
+recorded: status 0/00 data 511*41,1*01
+the step gives: status 0/00 data 512*41
+first difference: LBA 0 byte 511 recorded 01 given 41
+unit 0 first 0 blocks 8 entries 1 limit 100
+unit 0 place 0 worker 0 job 0 write 0 1 512*41
+unit 0 point 1 rests job 1
+"""
+WRONG_ENTRY = f"""unlawful EntryWrong job 0 unit 0 place 0
+EntryWrong: the entry isn't its job's part in the unit, or it doesn't succeed after the entries before it.
+{JOB_0}recorded: unit 0 place 0 worker 0 job 0 write 0 1 511*41,1*01
+the job's part: write 0 1 512*41
+the step gives: status 0/00
+unit 0 first 0 blocks 8 entries 1 limit 100
+unit 0 place 0 worker 0 job 0 write 0 1 511*41,1*01
+"""
 
 
 def asked():
@@ -93,6 +119,10 @@ def runs(folder):
     record, first = kept("record", spelled_record), kept("first", spelled(of_nobody))
     cut_record, more = kept("cut-record", spelled_record[:-1]), kept("more", spelled_record + b"0")
     no_workers, later = kept("no-workers", spelled_record[:28] + bytes(2) + spelled_record[30:]), kept("later", b"NVR3")
+    short = spelled(recorded(Namespace(nabsn=7), [file_of([write(0, 0x41), read(0, 1)])]))
+    # The last byte is the last of the Read's data, and the last of the entry's stands before three units without one.
+    wrong_data = kept("wrong-data", short[:-1] + b"\x01")
+    wrong_entry = kept("wrong-entry", short[:1214] + b"\x01" + short[1215:])
     return [
         done("a list is assembled", ["assemble", list_, "out.nvq"], files={"out.nvq": host}),
         done("a list of large blocks is assembled", [*in_large("assemble"), large_list, "out"], files={"out": large}),
@@ -105,6 +135,11 @@ def runs(folder):
         done("a record is listed", ["list", record], record_listing(of_hosts)),
         done("a record of the first version is listed", [*in_large("list"), first], record_listing(of_nobody)),
         done("a record on standard input is listed", ["list", "-"], record_listing(of_hosts), input=record),
+        done("a record is explained", ["explain", record], lawful_explanation(of_hosts)),
+        done("a record of no jobs is explained", ["explain", "-"], lawful_explanation(of_nobody), input=first),
+        done("a spoiled record is explained", ["explain", wrong_data], WRONG_DATA),
+        done("a record with a wrong entry is explained", ["explain", wrong_entry], WRONG_ENTRY),
+        fault("a cut record to explain", f"{cut_record}: truncated at {len(spelled_record) - 1}", "explain", cut_record),
         fault("a wrong line", "line 3: expected data of 512 bytes and not of 511", "assemble", wrong, "out", hint=the_line("write 0 1 511*41")),
         fault("a missing list", f"cannot read {missing}", "assemble", missing, "out", hint=MISSING),
         fault("a host file for a list", f"line 1: {NO_COMMAND}", "assemble", file, "out", hint=no_list(file, host)),
@@ -137,4 +172,5 @@ def runs(folder):
         refused("help on assemble", ["assemble", "--help"], 0),
         refused("help on a run", ["run", "--help"], 0),
         refused("workers out of range", ["run", "--workers", "65", plain_list]),
+        refused("no record to explain", ["explain"]),
     ]

@@ -30,7 +30,7 @@ fn push_work(text: &mut String, worker: u64, work: &[DoneJob]) -> Result<(), NoM
 
 /// Appends the lines of one done job.
 #[tactic(auto, unfolding(crate::specs::DoneLines::done_lines))]
-fn push_done(text: &mut String, worker: u64, done: &DoneJob) -> Result<(), NoMemory>
+pub fn push_done(text: &mut String, worker: u64, done: &DoneJob) -> Result<(), NoMemory>
     ensures { OnOk result (string_bytes text.new ≡ string_bytes text.old ++ spec.done_lines worker done.now) }
 {
     push_ended(text, worker, done.job, done.statuses)?;
@@ -62,7 +62,7 @@ fn push_ended(text: &mut String, worker: u64, job: u32, statuses: Statuses) -> R
 }
 
 /// Appends one status, or two.
-fn push_statuses(text: &mut String, statuses: Statuses) -> Result<(), NoMemory>
+pub fn push_statuses(text: &mut String, statuses: Statuses) -> Result<(), NoMemory>
     ensures { OnOk result (string_bytes text.new ≡ string_bytes text.old ++ spec.statuses_text statuses) }
 {
     match statuses {

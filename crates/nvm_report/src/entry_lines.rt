@@ -64,7 +64,7 @@ fn push_maker(text: &mut String, worker: u16, job: u32) -> Result<(), NoMemory>
 
 /// Appends what was done, on which blocks or ranges, and with which data.
 #[tactic(auto, unfolding(crate::specs::EntryLines::operation_text))]
-fn push_act(text: &mut String, act: &Act) -> Result<(), NoMemory>
+pub fn push_act(text: &mut String, act: &Act) -> Result<(), NoMemory>
     ensures { OnOk result (string_bytes text.new ≡ string_bytes text.old ++ spec.operation_text (operation_of act.now)) }
 {
     match act {
@@ -96,7 +96,7 @@ fn push_act(text: &mut String, act: &Act) -> Result<(), NoMemory>
 
 /// Appends what was done, the first LBA, and how many blocks it is on.
 #[tactic(auto, unfolding(crate::specs::EntryLines::blocks_text))]
-fn push_blocks(text: &mut String, name: &str, first: u64, blocks: u32) -> Result<(), NoMemory>
+pub fn push_blocks(text: &mut String, name: &str, first: u64, blocks: u32) -> Result<(), NoMemory>
     ensures { OnOk result (string_bytes text.new ≡ string_bytes text.old ++ spec.blocks_text name.now first blocks) }
 {
     text.push_str(name)?;
@@ -117,7 +117,7 @@ fn push_deallocate(text: &mut String, payload: &[u8]) -> Result<(), NoMemory>
 
 /// Appends data as runs.
 #[tactic(auto, unfolding(crate::specs::EntryLines::data_text))]
-fn push_data(text: &mut String, bytes: &[u8]) -> Result<(), NoMemory>
+pub fn push_data(text: &mut String, bytes: &[u8]) -> Result<(), NoMemory>
     ensures { OnOk result (string_bytes text.new ≡ string_bytes text.old ++ spec.data_text bytes.now) }
 {
     text.push_str(" ")?;

@@ -18,7 +18,7 @@ pub(crate) fn push_jobs(text: &mut String, jobs: &[Job]) -> Result<(), NoMemory>
 }
 
 /// Appends a line for each command of a job.
-fn push_body(text: &mut String, number: u64, host: u16, body: &Body) -> Result<(), NoMemory>
+pub fn push_body(text: &mut String, number: u64, host: u16, body: &Body) -> Result<(), NoMemory>
     ensures { OnOk result (string_bytes text.new ≡ string_bytes text.old ++ spec.body_lines number host body.now) }
 {
     match body {

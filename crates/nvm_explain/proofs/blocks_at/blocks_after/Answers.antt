@@ -1,0 +1,25 @@
+use Rattle.std.proofs.Common.{◌≡◌, ◌<◌, List, ap, get_or, length, rules, sym, ◌∙◌}
+use Rattle.std.proofs.lemmas.List.{at_drop_more}
+use Rattle.nvm_record.specs.Step.{medium_after}
+use Rattle.nvm_store.specs.declared.place.Place.{Place}
+use Rattle.nvm_store.specs.History.{replay_from}
+use Rattle.nvm_store.specs.HistoryEntry.{HistoryEntry}
+use Rattle.nvm_explain.proofs.blocks_at.blocks_after.Goals as goal
+
+pub loop-entry-preserved : goal.loop-entry-preserved
+loop-entry-preserved c =
+    let m = c.loop-entry.invariant.medium in
+    let size = c.args.place.size in
+    let entries = c.args.entries.now in
+    let n = c.loop-entry.entry-index in
+    let entry = c.entry-item.result in
+    let stepped = c.in_ok-goes_on.ensures.step m (search rules) c.loop-entry.invariant.held in
+    let here : n < length entries = search rules in
+    let is : get_or entries n entry ≡ entry = sym c.entry-item.is in
+    let more = at_drop_more (λ (es : List HistoryEntry). replay_from size m es) entries n entry here in
+    record {
+      place = search rules;
+      medium = medium_after size entry.operation m;
+      held = rw (ap (λ (p : Place). p.size) c.loop-entry.invariant.place) at stepped;
+      left = rw is at (sym more ∙ c.loop-entry.invariant.left);
+    }

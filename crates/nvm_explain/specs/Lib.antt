@@ -1,0 +1,9 @@
+pub mod Difference
+pub mod Given
+pub mod JobStory
+pub mod Meaning
+pub mod Outcome
+pub mod RecordedData
+pub mod ShapeStory
+pub mod Surroundings
+pub mod PartStory

@@ -1,0 +1,45 @@
+-- What is told of a part: what it does, what is recorded of it, and what the step gives at its point.
+use Rattle.std.specs.Prelude.{ℕ, ◌==◌, ◌&&◌, nat_le, if◌then◌else◌, List, [], ◌++◌, length, Option, Some, None, codes}
+use Rattle.nvm_record.specs.declared.status.Statuses.{Statuses}
+use Rattle.nvm_record.specs.Step.{Operation}
+use Rattle.nvm_plan.specs.declared.job.Body.{Body}
+use Rattle.nvm_plan.specs.declared.part.Part.{Part}
+use Rattle.nvm_report.specs.EntryLines.{operation_text}
+use Rattle.nvm_report.specs.Numbered.{numbered}
+use Rattle.nvm_explain.specs.declared.told.ToldPart.{ToldPart}
+use Rattle.nvm_explain.specs.Difference.{difference_line}
+use Rattle.nvm_explain.specs.Outcome.{outcome_line}
+use Rattle.nvm_explain.specs.RecordedData.{most_blocks, recorded_data}
+
+-- what the part does, in which unit and at which point
+unfoldable pub what_line : Part → Operation → List ℕ
+what_line part op =
+    numbered (codes "part: unit ") part.unit
+    ++ (numbered (codes " point ") part.point ++ (operation_text op ++ codes "\n"))
+
+-- what is recorded of the part, and what the step gives: statuses, and a Read's data
+unfoldable pub outcome_lines : ToldPart → Option (List ℕ) → Statuses → Option (List ℕ) → List ℕ
+outcome_lines told shown statuses payload =
+    outcome_line (codes "recorded: status ") told.told shown ++ outcome_line (codes "the step gives: status ") statuses payload
+
+-- the first byte that differs from these, where as many are given, of blocks in a namespace
+abbrev pub difference_of : ℕ → ℕ → List ℕ → Option (List ℕ) → List ℕ
+difference_of first size recorded None = []
+difference_of first size recorded (Some given) =
+    if length recorded == length given && nat_le first most_blocks then difference_line first size recorded given else []
+
+-- both, with the first byte that differs where data is recorded
+abbrev pub told_lines : ℕ → ℕ → ToldPart → Option (List ℕ) → Statuses → Option (List ℕ) → List ℕ
+told_lines first size told None statuses payload = outcome_lines told None statuses payload
+told_lines first size told (Some shown) statuses payload =
+    outcome_lines told (Some shown) statuses payload ++ difference_of first size shown payload
+
+-- what is recorded of the job's data that is of the part
+abbrev pub shown_of : ℕ → Body → Operation → Option (List ℕ) → Option (List ℕ)
+shown_of size body op None = None
+shown_of size body op (Some bytes) = recorded_data size body op bytes
+
+-- What is told of a part of a job of which this data is recorded, where the step gives these statuses and this data.
+unfoldable pub part_story : ℕ → Body → Option (List ℕ) → ToldPart → Operation → Statuses → Option (List ℕ) → List ℕ
+part_story size body recorded told op statuses payload =
+    what_line told.part op ++ told_lines op.first size told (shown_of size body op recorded) statuses payload

@@ -1,0 +1,29 @@
+ghost use Rattle.std.specs.Prelude.{◌≡◌, IfSome};
+
+use nvm_audit::DoneJob;
+
+/// What was done of the job of this number by the first worker that did it, if one did.
+pub(crate) fn done_of<'a>(all: &'a Vec<Vec<DoneJob>>, number: u32) -> Option<&'a DoneJob>
+    ensures { IfSome result (λ done. done.now.job ≡ number) }
+{
+    for worker in 0..all.len() {
+        match done_in(&all[worker], number) {
+            Some(done) => return Some(done),
+            None => {}
+        }
+    }
+    None
+}
+
+/// What the worker did of the job of this number first, if it did it.
+fn done_in<'a>(work: &'a Vec<DoneJob>, number: u32) -> Option<&'a DoneJob>
+    ensures { IfSome result (λ done. done.now.job ≡ number) }
+{
+    for k in 0..work.len() {
+        let it = &work[k];
+        if it.job == number {
+            return Some(it);
+        }
+    }
+    None
+}

@@ -1,0 +1,27 @@
+//! Records of runs explained: of an unlawful one what went wrong and where, and of a lawful one how much there was in it.
+//!
+//! [`explain`] audits a record and tells the verdict, as an audit prints it. Of a first fault it tells what such a fault means,
+//! the job and what was done of it, the unit's entries round the place, and what the step gives at that point beside what was
+//! recorded there. Explanations that were written by hand stand in `examples/explained.py`, which holds the built `nvq` to them.
+#![tactic(auto)]
+
+mod around;
+mod back_story;
+mod blocks_at;
+mod difference;
+mod doer;
+mod entry_story;
+mod explaining;
+mod given;
+mod hexadecimal;
+mod job_story;
+mod meaning;
+mod outcome;
+mod part_story;
+mod recorded_data;
+mod shape_story;
+mod summary;
+mod told;
+mod verdict_line;
+
+pub use explaining::explain;

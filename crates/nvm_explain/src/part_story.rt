@@ -1,0 +1,276 @@
+ghost use Rattle.std.specs.Prelude.{◌≡◌, ◌↔◌, ◌++◌, IsTrue, OnOk, None, Some, option_map, string_bytes};
+ghost use Rattle.nvm_text.specs.Kept.{KeepsText};
+ghost use Rattle.nvm_record.specs.Medium.{Medium};
+ghost use Rattle.nvm_record.specs.Step.{statuses_of, data_of};
+ghost use Rattle.nvm_plan.specs.LentPart.{part_operation_of};
+ghost use Rattle.nvm_store.specs.ActRef.{lent_operation_of};
+ghost use Rattle.nvm_store.specs.Contents.{Covers, Holds};
+ghost use Rattle.nvm_explain.specs.PartStory as spec;
+
+use crate::blocks_at::blocks_at;
+use crate::difference::push_difference;
+use crate::doer::done_of;
+use crate::given::{Given, given_on, push_operation};
+use crate::outcome::{push_outcome, push_outcome_with};
+use crate::recorded_data::recorded_data;
+use crate::told::{ToldPart, told_part};
+use nvm_audit::{DoneJob, Record, Spot};
+use nvm_geometry::MOST_BLOCKS;
+use nvm_plan::{Job, LentPart, Part, fits, job_part_in};
+use nvm_record::{BlockSize, NoMemory, ReadData};
+use nvm_report::push_numbered;
+use nvm_store::{ActRef, Look, UnitBlocks};
+use std::alloc::Global;
+
+/// Appends what the part of this job in the unit does, what is recorded of it, and what the step gives at its point.
+pub(crate) fn push_part_story(
+    text: &mut String,
+    alloc: Global,
+    run: &Record,
+    number: u32,
+    spot: Spot,
+) -> Result<(), NoMemory>
+    ensures { OnOk result (KeepsText (string_bytes text.old) (string_bytes text.new)) }
+{
+    let Some(job) = run.jobs.get(number as usize) else {
+        return Ok(());
+    };
+    let Some(done) = done_of(&run.done, number) else {
+        return Ok(());
+    };
+    let Some(told) = told_part(done, spot.unit) else {
+        return Ok(());
+    };
+    if !fits(&run.geometry, job) {
+        return Ok(());
+    }
+    let Some(part) = job_part_in(&run.geometry, job, spot.unit) else {
+        return Ok(());
+    };
+    if spot.unit >= run.geometry.units() {
+        return Ok(());
+    }
+    let history = &run.units[spot.unit as usize];
+    let Some(blocks) = blocks_at(alloc, &run.geometry, spot.unit, history, told.part.point)? else {
+        return Ok(());
+    };
+    if is_covered(&blocks, &part) {
+        push_told(text, alloc, job, done, told, &part, &blocks)
+    } else {
+        Ok(())
+    }
+}
+
+/// Appends what the part does, what is recorded of it, and what the step gives on these blocks.
+fn push_told(
+    text: &mut String,
+    alloc: Global,
+    job: &Job,
+    done: &DoneJob,
+    told: ToldPart,
+    part: &LentPart<'_>,
+    blocks: &UnitBlocks,
+) -> Result<(), NoMemory>
+    requires { Covers blocks.now (part_operation_of part.now) }
+    ensures kept { OnOk result (KeepsText (string_bytes text.old) (string_bytes text.new)) }
+    ensures told { OnOk result ((m : Medium) → Holds blocks.now m → string_bytes text.new ≡ string_bytes text.old
+        ++ spec.part_story blocks.now.size job.now.body done.now.payload told (part_operation_of part.now)
+        (statuses_of (part_operation_of part.now) m) (data_of (part_operation_of part.now) m)) }
+{
+    let given = given_on(alloc, blocks, part)?;
+    push_part(
+        text,
+        alloc,
+        blocks.place().size,
+        job,
+        done,
+        told,
+        part,
+        &given,
+    )
+}
+
+/// Appends what the part does, what is recorded of it, and what the step gives.
+#[tactic(auto, unfolding(crate::specs::PartStory::part_story))]
+fn push_part(
+    text: &mut String,
+    alloc: Global,
+    size: BlockSize,
+    job: &Job,
+    done: &DoneJob,
+    told: ToldPart,
+    part: &LentPart<'_>,
+    given: &Given,
+) -> Result<(), NoMemory>
+    ensures { OnOk result (string_bytes text.new ≡ string_bytes text.old
+        ++ spec.part_story size job.now.body done.now.payload told (part_operation_of part.now) given.now.statuses
+        given.now.payload) }
+{
+    push_what(text, alloc, told.part, part)?;
+    push_recorded(text, size, job, &done.payload, told, part, given)?;
+    Ok(())
+}
+
+/// Appends what is recorded of the part, of a job with this data, and what the step gives.
+fn push_recorded(
+    text: &mut String,
+    size: BlockSize,
+    job: &Job,
+    recorded: &Option<ReadData>,
+    told: ToldPart,
+    part: &LentPart<'_>,
+    given: &Given,
+) -> Result<(), NoMemory>
+    ensures { OnOk result (string_bytes text.new ≡ string_bytes text.old
+        ++ spec.told_lines (part_operation_of part.now).first size told
+        (spec.shown_of size job.now.body (part_operation_of part.now) recorded.now) given.now.statuses given.now.payload) }
+{
+    match recorded {
+        Some(bytes) => {
+            let shown = recorded_data(size, job, part, bytes.as_slice());
+            push_compared(text, first_of(part), size, told, shown, given)
+        }
+        None => push_without(text, told, given),
+    }
+}
+
+/// Appends what is recorded of the part, with its data where it has any, and what the step gives.
+fn push_compared(
+    text: &mut String,
+    first: u64,
+    size: BlockSize,
+    told: ToldPart,
+    shown: Option<&[u8]>,
+    given: &Given,
+) -> Result<(), NoMemory>
+    ensures { OnOk result (string_bytes text.new ≡ string_bytes text.old
+        ++ spec.told_lines first size told (option_map (λ bytes. bytes.now) shown.entry) given.now.statuses given.now.payload) }
+{
+    match shown {
+        Some(bytes) => {
+            push_both(text, told, bytes, given)?;
+            push_if_differs(text, first, size, bytes, given)
+        }
+        None => push_without(text, told, given),
+    }
+}
+
+/// Whether the part lies in the unit.
+fn is_covered(blocks: &UnitBlocks, part: &LentPart<'_>) -> bool
+    ensures { IsTrue result ↔ Covers blocks.now (part_operation_of part.now) }
+{
+    match part {
+        LentPart::Act(act) => blocks.covers(*act),
+        LentPart::Look(look) => blocks.covers_look(*look),
+    }
+}
+
+/// Appends what the part does, in which unit and at which point.
+#[tactic(auto, unfolding(crate::specs::PartStory::what_line))]
+fn push_what(
+    text: &mut String,
+    alloc: Global,
+    done: Part,
+    part: &LentPart<'_>,
+) -> Result<(), NoMemory>
+    ensures { OnOk result (string_bytes text.new
+        ≡ string_bytes text.old ++ spec.what_line done (part_operation_of part.now)) }
+{
+    push_numbered(text, "part: unit ", u64::from(done.unit))?;
+    push_numbered(text, " point ", u64::from(done.point))?;
+    push_operation(text, alloc, part)?;
+    text.push_str("\n")?;
+    Ok(())
+}
+
+/// Appends what is recorded of the part, with this data, and what the step gives.
+#[tactic(auto, unfolding(crate::specs::PartStory::outcome_lines))]
+fn push_both(text: &mut String, told: ToldPart, bytes: &[u8], given: &Given) -> Result<(), NoMemory>
+    ensures { OnOk result (string_bytes text.new
+        ≡ string_bytes text.old ++ spec.outcome_lines told (Some bytes.now) given.now.statuses given.now.payload) }
+{
+    push_outcome_with(text, "recorded: status ", told.told, bytes)?;
+    push_outcome(
+        text,
+        "the step gives: status ",
+        given.statuses,
+        &given.payload,
+    )?;
+    Ok(())
+}
+
+/// Appends what is recorded of the part, without data, and what the step gives.
+#[tactic(auto, unfolding(crate::specs::PartStory::outcome_lines))]
+fn push_without(text: &mut String, told: ToldPart, given: &Given) -> Result<(), NoMemory>
+    ensures { OnOk result (string_bytes text.new
+        ≡ string_bytes text.old ++ spec.outcome_lines told None given.now.statuses given.now.payload) }
+{
+    push_outcome(text, "recorded: status ", told.told, &None)?;
+    push_outcome(
+        text,
+        "the step gives: status ",
+        given.statuses,
+        &given.payload,
+    )?;
+    Ok(())
+}
+
+/// Appends the line of the first byte that differs, if data is given and one does.
+fn push_if_differs(
+    text: &mut String,
+    first: u64,
+    size: BlockSize,
+    bytes: &[u8],
+    given: &Given,
+) -> Result<(), NoMemory>
+    ensures { OnOk result (string_bytes text.new
+        ≡ string_bytes text.old ++ spec.difference_of first size bytes.now given.now.payload) }
+{
+    match &given.payload {
+        Some(read) => push_if_as_long(text, first, size, bytes, read.as_slice()),
+        None => Ok(()),
+    }
+}
+
+/// Appends the line of the first byte that differs, if there are as many of both and one does.
+fn push_if_as_long(
+    text: &mut String,
+    first: u64,
+    size: BlockSize,
+    bytes: &[u8],
+    given: &[u8],
+) -> Result<(), NoMemory>
+    ensures { OnOk result (string_bytes text.new
+        ≡ string_bytes text.old ++ spec.difference_of first size bytes.now (Some given.now)) }
+{
+    if bytes.len() == given.len() && first <= MOST_BLOCKS {
+        push_difference(text, first, size, bytes, given)
+    } else {
+        Ok(())
+    }
+}
+
+/// The part's first LBA.
+fn first_of(part: &LentPart<'_>) -> u64
+    ensures { result ≡ (part_operation_of part.now).first }
+{
+    match part {
+        LentPart::Act(act) => first_of_act(*act),
+        LentPart::Look(look) => match look {
+            Look::Read { first, .. } | Look::Compare { first, .. } => *first,
+        },
+    }
+}
+
+/// The act's first LBA.
+fn first_of_act(act: ActRef<'_>) -> u64
+    ensures { result ≡ (lent_operation_of act.entry).first }
+{
+    match act {
+        ActRef::Write { first, .. }
+        | ActRef::Zeroes { first, .. }
+        | ActRef::Uncorrectable { first, .. }
+        | ActRef::Pair { first, .. }
+        | ActRef::Deallocate { first, .. } => first,
+    }
+}

@@ -1,0 +1,174 @@
+"""Records as nvq explains them: rows that were worked out by hand, one of each kind of fault and two of lawful records.
+
+The namespace has 32 blocks of 512 bytes in units of eight, and pairs have up to four blocks.
+"""
+
+from dataclasses import replace
+
+from forged import ENTRIES, OTHER, SEEN, SPACE, TWO, WRITTEN, WRONG, changes, one, pair_failed, seen
+from host_files import compare, file_of, pair, read, write
+from record_explaining import lawful_explanation
+from recorded import recorded
+from records import LOOKED, Done, record_of, spelled
+
+READ = "job 2 host 1 cid 2 nsid 1 read 0 1\n"
+FIRST = "unit 0 place 0 worker 1 job 1 write 0 1 512*42\n"
+SECOND = "unit 0 place 1 worker 0 job 0 write 0 1 512*41\n"
+UNIT = "unit 0 first 0 blocks 8 entries 2 limit 100\n"
+DONE_0 = "worker 0 job 0 status 0/00\nworker 0 job 0 unit 0 point 1 done\n"
+DONE_1 = "worker 1 job 1 status 0/00\nworker 1 job 1 unit 0 point 0 done\n"
+
+# Two Writes of one block by two workers, and a Read of it: the record, what is wrong with it, and its explanation.
+EXPLAINED = [
+    (
+        TWO,
+        "lawful jobs 3 units 4 changes 2 refused 0\nstatus 0/00 jobs 3\nworker 0 jobs 2\nworker 1 jobs 1\n"
+        "units with entries 1 most 2 unit 0\nunits of several workers 1 most 2 unit 0\n",
+    ),
+    (
+        pair_failed(1, (2, 0x85), (0, 9)),
+        "lawful jobs 1 units 4 changes 0 refused 0\nstatus 2/85 0/09 jobs 1\nworker 0 jobs 1\n"
+        "units with entries 0\nunits of several workers 0\n",
+    ),
+    (
+        replace(TWO, done=((WRITTEN,), (OTHER,))),
+        f"unlawful JobMissing job 2 unit - place -\nJobMissing: no worker did the job.\n{READ}",
+    ),
+    (
+        replace(TWO, done=((WRITTEN, SEEN), (OTHER, SEEN))),
+        f"unlawful JobTwice job 2 unit - place -\nJobTwice: the job was done more than once.\n{READ}"
+        "worker 0 job 2 status 0/00\nworker 0 job 2 unit 0 point 2 looked\nworker 0 job 2 data 512*41\n"
+        "worker 1 job 2 status 0/00\nworker 1 job 2 unit 0 point 2 looked\nworker 1 job 2 data 512*41\n",
+    ),
+    (
+        seen(parts=()),
+        "unlawful StatusWrong job 2 unit - place -\n"
+        f"StatusWrong: no run of the job ends with these parts, these statuses and this data.\n{READ}"
+        "worker 0 job 2 status 0/00\nworker 0 job 2 data 512*41\n"
+        "no check refuses the job, which has a part in each of the units: 0\n",
+    ),
+    (
+        one([read(31, 2)], Done(0, (), ((0, 0),))),
+        "unlawful StatusWrong job 0 unit - place -\n"
+        "StatusWrong: no run of the job ends with these parts, these statuses and this data.\n"
+        "job 0 host 1 cid 1 nsid 1 read 31 2\nworker 0 job 0 status 0/00\n"
+        "a check refuses the job: status 0/80\n",
+    ),
+    (
+        changes(ENTRIES[0], replace(ENTRIES[1], data=b"\x43" + ENTRIES[1].data[1:])),
+        "unlawful EntryWrong job 0 unit 0 place 1\n"
+        "EntryWrong: the entry isn't its job's part in the unit, or it doesn't succeed after the entries before it.\n"
+        f"job 0 host 1 cid 1 nsid 1 write 0 1 512*41\n{DONE_0}"
+        "recorded: unit 0 place 1 worker 0 job 0 write 0 1 1*43,511*41\nthe job's part: write 0 1 512*41\n"
+        f"the step gives: status 0/00\n{UNIT}{FIRST}unit 0 place 1 worker 0 job 0 write 0 1 1*43,511*41\n",
+    ),
+    (
+        changes(replace(ENTRIES[0], worker=0), ENTRIES[1]),
+        "unlawful EntryUnclaimed job 1 unit 0 place 0\n"
+        "EntryUnclaimed: no part of this worker and this job was done at the entry's place.\n"
+        f"job 1 host 2 cid 1 nsid 1 write 0 1 512*42\n{DONE_1}{UNIT}unit 0 place 0 worker 0 job 1 write 0 1 512*42\n{SECOND}",
+    ),
+    (
+        seen(parts=((0, 3, LOOKED),)),
+        "unlawful PointPast job 2 unit 0 place 3\n"
+        f"PointPast: the part's point is above the number of entries, or its own entry doesn't stand there.\n{READ}"
+        "worker 0 job 2 status 0/00\nworker 0 job 2 unit 0 point 3 looked\nworker 0 job 2 data 512*41\n"
+        f"{UNIT}{FIRST}{SECOND}unit 0 point 3 rests job 2\n",
+    ),
+    (
+        seen(parts=((0, 1, LOOKED),)),
+        "unlawful PointBack job 2 unit 0 place 1\n"
+        f"PointBack: the part's point lies before one that its worker had passed in the unit.\n{READ}"
+        "worker 0 job 2 status 0/00\nworker 0 job 2 unit 0 point 1 looked\nworker 0 job 2 data 512*41\n"
+        f"before that: worker 0 job 0 unit 0 point 1 done\n{UNIT}{FIRST}unit 0 point 1 rests job 2\n{SECOND}",
+    ),
+    (
+        seen(statuses=((2, 0x81),), data=None),
+        "unlawful StatusWrong job 2 unit 0 place 2\n"
+        f"StatusWrong: at its point the part doesn't end as it is recorded.\n{READ}"
+        "worker 0 job 2 status 2/81\nworker 0 job 2 unit 0 point 2 looked\n"
+        "part: unit 0 point 2 read 0 1\nrecorded: status 2/81\nthe step gives: status 0/00 data 512*41\n"
+        f"{UNIT}{FIRST}{SECOND}unit 0 point 2 rests job 2\n",
+    ),
+    (
+        pair_failed(1, (0, 0), (0, 0)),
+        "unlawful StatusWrong job 0 unit 0 place 0\n"
+        "StatusWrong: at its point the part doesn't end as it is recorded.\n"
+        "job 0 host 1 cid 1 nsid 1 compare 0 1 512*01 first\njob 0 host 1 cid 2 nsid 1 write 0 1 512*55 second\n"
+        "worker 0 job 0 status 0/00 0/00\nworker 0 job 0 unit 0 point 0 failed\n"
+        "part: unit 0 point 0 pair 0 1 512*01 512*55\nrecorded: status 0/00 0/00\nthe step gives: status 2/85 0/09\n"
+        "unit 0 first 0 blocks 8 entries 0 limit 100\nunit 0 point 0 rests job 0\n",
+    ),
+    (
+        seen(data=WRONG),
+        "unlawful DataWrong job 2 unit 0 place 2\n"
+        f"DataWrong: the Read's data isn't what the unit held at the part's point.\n{READ}"
+        "worker 0 job 2 status 0/00\nworker 0 job 2 unit 0 point 2 looked\nworker 0 job 2 data 512*42\n"
+        "part: unit 0 point 2 read 0 1\nrecorded: status 0/00 data 512*42\nthe step gives: status 0/00 data 512*41\n"
+        f"first difference: LBA 0 byte 0 recorded 42 given 41\n{UNIT}{FIRST}{SECOND}unit 0 point 2 rests job 2\n",
+    ),
+]
+
+# A pair, and a Read of two units whose last byte was recorded as 01.
+SPOILED_LIST = [*pair(compare(4, 0, 0, 0, 0), write(4, 0x55, 0x55, 0x55, 0x55)), read(7, 2)]
+SPOILED_EXPLAINED = """unlawful DataWrong job 1 unit 1 place 0
+DataWrong: the Read's data isn't what the unit held at the part's point.
+job 1 host 1 cid 3 nsid 1 read 7 2
+worker 0 job 1 status 0/00
+worker 0 job 1 unit 0 point 1 looked
+worker 0 job 1 unit 1 point 0 looked
+worker 0 job 1 data 512*55,511*00,1*01
+part: unit 1 point 0 read 8 1
+recorded: status 0/00 data 511*00,1*01
+the step gives: status 0/00 data 512*00
+first difference: LBA 8 byte 511 recorded 01 given 00
+unit 1 first 8 blocks 8 entries 0 limit 100
+unit 1 point 0 rests job 1
+"""
+
+# Nine Writes of one block, and a Read after the fifth of them: three entries before the point are told, and four from it on.
+MANY = [write(0, byte) for byte in range(5)] + [read(0, 1)] + [write(0, byte) for byte in range(5, 9)]
+ROUND = """unit 0 first 0 blocks 8 entries 9 limit 100
+unit 0 place 2 worker 0 job 2 write 0 1 512*02
+unit 0 place 3 worker 0 job 3 write 0 1 512*03
+unit 0 place 4 worker 0 job 4 write 0 1 512*04
+unit 0 point 5 rests job 5
+unit 0 place 5 worker 0 job 6 write 0 1 512*05
+unit 0 place 6 worker 0 job 7 write 0 1 512*06
+unit 0 place 7 worker 0 job 8 write 0 1 512*07
+unit 0 place 8 worker 0 job 9 write 0 1 512*08
+"""
+
+
+def with_data_of(record, job, data):
+    """The record with other data of a job that the first worker did."""
+    done = tuple(replace(it, data=data) if it.job == job else it for it in record.done[0])
+    return replace(record, done=(done, *record.done[1:]))
+
+
+def explained(run):
+    def explains(file, told):
+        run.keep("explained", file)
+        run.expect(["nvq", "explain", "explained"], out=told)
+        run.expect(["nvq", "explain", "-"], given=file, out=told)
+
+    for record, told in EXPLAINED:
+        explains(spelled(record), told)
+    file = spelled(recorded(SPACE, [file_of(SPOILED_LIST)]))
+    explains(file, lawful_explanation(record_of(file)))
+    explains(file[:-1] + b"\x01", SPOILED_EXPLAINED)
+    many = with_data_of(recorded(SPACE, [file_of(MANY)]), 5, bytes(512))
+    run.keep("explained", spelled(many))
+    run.expect(
+        ["nvq", "explain", "explained"],
+        out="unlawful DataWrong job 5 unit 0 place 5\nDataWrong: the Read's data isn't what the unit held at the part's point.\n"
+        "job 5 host 1 cid 6 nsid 1 read 0 1\nworker 0 job 5 status 0/00\nworker 0 job 5 unit 0 point 5 looked\n"
+        "worker 0 job 5 data 512*00\npart: unit 0 point 5 read 0 1\nrecorded: status 0/00 data 512*00\n"
+        f"the step gives: status 0/00 data 512*04\nfirst difference: LBA 0 byte 0 recorded 00 given 04\n{ROUND}",
+    )
+    for given, fault in ((b"NVR3", "unknown version"), (file[:-1], f"truncated at {len(file) - 1}"), (b"NVQ1", "bad name")):
+        run.keep("wrong", given)
+        run.expect(["nvq", "explain", "wrong"], 1, err=f"nvq: wrong: {fault}\n")
+    run.expect(["nvq", "explain", "missing"], 1, err="nvq: cannot read missing\n")
+    for words in ("explain", "explain a b", "explain --block 512 a"):
+        run.refuse(["nvq", *words.split()])
