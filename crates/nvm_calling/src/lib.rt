@@ -1,0 +1,13 @@
+//! Callers of the libraries, one module a library: what a maker writes who links it. The page `CALLING.md` of each library
+//! shows its module here, to the byte.
+#![tactic(auto)]
+
+pub mod audit;
+pub mod geometry;
+pub mod plan;
+pub mod run;
+pub mod space;
+pub mod store;
+#[cfg(test)]
+mod tests;
+pub mod unit;

@@ -1,0 +1,61 @@
+ghost use Rattle.std.specs.Prelude.{◌≡◌, ◌↔◌, IfOk, IsTrue};
+ghost use Rattle.nvm_audit.specs.Recordable.{HoldsBody};
+ghost use Rattle.nvm_audit.specs.declared.version.Version.TheVariants.{Two};
+ghost use Rattle.nvm_run.specs.RunRecord.{IsRecordOfRun};
+
+use nvm_audit::Record;
+use nvm_geometry::Geometry;
+use nvm_plan::{Body, Job, fits};
+use nvm_record::Op;
+use nvm_run::{RunFault, run};
+use nvm_store::Limit;
+use nvm_unit::Open;
+use std::alloc::Global;
+use std::sync::Wait;
+use std::thread::Threads;
+
+/// Why jobs were not run.
+#[derive(Clone, Copy, Debug, PartialEq, Eq)]
+pub enum Unrun {
+    /// There are more than 4,194,304 jobs.
+    TooMany,
+    /// The job at this place doesn't fit the namespace, or has opcode 09h as an unknown one.
+    Unfit { place: usize },
+    /// There is no record of the run.
+    Run(RunFault),
+}
+
+/// Runs jobs of whatever origin on a namespace of zero bytes, and gives the record of the run.
+pub fn record_of<R: Threads + Wait + Sync>(
+    rt: &R,
+    alloc: Global,
+    geometry: Geometry,
+    jobs: Vec<Job>,
+    workers: u16,
+    limit: Limit,
+) -> Result<Record, Unrun>
+    ensures { IfOk result (IsRecordOfRun geometry limit workers jobs.items) }
+{
+    if jobs.len() > 4_194_304 {
+        return Err(Unrun::TooMany);
+    }
+    for (place, job) in jobs.iter().enumerate() {
+        if !fits(&geometry, job) || !has_known_opcodes(job) {
+            return Err(Unrun::Unfit { place });
+        }
+    }
+    match run(rt, alloc, geometry, jobs, workers, limit, &Open) {
+        Ok(record) => Ok(record),
+        Err(fault) => Err(Unrun::Run(fault)),
+    }
+}
+
+/// Whether no command of the job has opcode 09h as an unknown one.
+fn has_known_opcodes(job: &Job) -> bool
+    ensures { IsTrue result ↔ HoldsBody Two job.now.body }
+{
+    match &job.body {
+        Body::Single(command) => command.op != Op::Other(0x09),
+        Body::Pair(first, second) => { first.op != Op::Other(0x09) && second.op != Op::Other(0x09) }
+    }
+}
