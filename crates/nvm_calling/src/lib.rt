@@ -3,8 +3,10 @@
 #![tactic(auto)]
 
 pub mod audit;
+pub mod file;
 pub mod geometry;
 pub mod plan;
+pub mod record;
 pub mod run;
 pub mod space;
 pub mod store;

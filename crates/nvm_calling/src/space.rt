@@ -1,8 +1,9 @@
-ghost use Rattle.std.specs.Prelude.{◌≡◌, IfOk, map};
+ghost use Rattle.std.specs.Prelude.{◌≡◌, IfErr, IfOk, map};
 ghost use Rattle.nvm_plan.specs.Fits.{FitsNamespace};
 ghost use Rattle.nvm_space.specs.Ports.{PortState, new_port};
 ghost use Rattle.nvm_space.specs.Shuffle.{AreLawfulHistories};
 ghost use Rattle.nvm_space.specs.Spaces.{SpaceName};
+ghost use Rattle.nvm_space.specs.declared.space_fault.SpaceFault.TheVariants.{NoMemory};
 ghost use Rattle.nvm_space.specs.Trace.{DoesJob};
 ghost use Rattle.nvm_unit.specs.Ends.{views_of};
 
@@ -37,6 +38,7 @@ pub fn job_alone<R: Wait>(
         × DoesJob geometry 0 job.now (views_of (new_port s.units 0).passes) (views_of port.passes) alone.done) }
     ensures histories { IfOk result (λ alone. AreLawfulHistories geometry
         (map (λ history. history.items) alone.histories.items)) }
+    ensures fault { IfErr result (λ fault. fault ≡ NoMemory) }
 {
     units_end_with_lawful_histories();
     let (space, mut ports) = Space::new(alloc, geometry, 1, limit)?;

@@ -2,6 +2,7 @@
 mod audit;
 mod geometry;
 mod plan;
+mod record;
 mod run;
 mod space;
 mod store;

@@ -1,9 +1,8 @@
 use Rattle.std.proofs.Common.{◌≡◌, ℕ, ◌+◌, ◌<◌, List, length, slice_index_or, subst, sym, below_more, arith, rules}
 use Rattle.std.proofs.lemmas.List.{get_or_read}
-use Rattle.nvm_audit.specs.Recordable.{HoldsBody}
-use Rattle.nvm_audit.specs.declared.version.Version.TheVariants.{Two}
 use Rattle.nvm_plan.specs.declared.job.Job.{Job}
-use Rattle.nvm_plan.specs.Fits.{FitsNamespace}
+use Rattle.nvm_space.proofs.Lists.{at_index}
+use Rattle.nvm_calling.specs.Unrun.{CanBeRun}
 use Rattle.nvm_calling.proofs.run.record_of.Goals as goal
 
 -- What holds of each job below a place, and of the job there, holds below the next.
@@ -16,10 +15,17 @@ one_more P jobs place job below is holds before k d lt =
 
 pub loop-place-preserved : goal.loop-place-preserved
 loop-place-preserved g c =
-    let jobs = c.deref-job-items.result.now in
-    let job = c.job-item.result in
+    let jobs = c.args.jobs.now in
+    let job = c.index-jobs-place.result in
     let below : c.loop-place.place < length jobs = omega arith in
-    record {
-      fit = one_more (FitsNamespace c.args.geometry) jobs c.loop-place.place job below c.job-item.is (c.fits.ensures.0 (search rules)) c.loop-place.invariant.fit;
-      known = one_more (λ (j : Job). HoldsBody Two j.body) jobs c.loop-place.place job below c.job-item.is (c.has_known_opcodes.ensures.0 (search rules)) c.loop-place.invariant.known;
-    }
+    one_more (CanBeRun c.args.geometry) jobs c.loop-place.place job below c.index-jobs-place.is (c.can_be_run.ensures.0 (search rules)) c.loop-place.invariant
+
+pub returns-then-not-can_be_run-clause-unrun : goal.returns-then-not-can_be_run-clause-unrun
+returns-then-not-can_be_run-clause-unrun g c =
+    let jobs = c.args.jobs.now in
+    let job = c.index-jobs-place.result in
+    let below : c.loop-place.place < length jobs = omega arith in
+    (job, at_index jobs c.loop-place.place job below c.index-jobs-place.is, λ fits.
+        let yes = c.can_be_run.ensures.1 fits in
+        let no = c.if-not-can_be_run.true in
+        search rules)
