@@ -1,5 +1,5 @@
 ghost use Rattle.std.specs.Prelude.{◌≡◌, ◌+◌, ◌*◌, ◌<◌, ◌≤◌, IfOk, length, map};
-ghost use Rattle.std.specs.List.{flat_map};
+ghost use Rattle.std.specs.List.{All, flat_map};
 ghost use Rattle.nvm_geometry.specs.Parts.{pieces_of};
 
 use nvm_geometry::laws::pieces_stand_in_line;
@@ -28,6 +28,8 @@ pub fn write_parts(
     requires in_range { slba + blocks ≤ geometry.nsze }
     requires payload { length payload.now ≡ blocks * geometry.block_size }
     ensures pieces { IfOk result (λ parts. map (λ part. part.piece) parts.items ≡ pieces_of geometry slba blocks) }
+    ensures sizes { IfOk result (λ parts. All (λ part. length part.payload ≡ part.piece.blocks * geometry.block_size)
+        parts.items) }
     ensures data { IfOk result (λ parts. flat_map (λ part. part.payload) parts.items ≡ payload.now) }
 {
     pieces_stand_in_line();

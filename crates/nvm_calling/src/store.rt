@@ -2,7 +2,7 @@ ghost use Rattle.std.specs.Prelude.{◌≡◌, IfOk};
 ghost use Rattle.nvm_record.specs.Medium.{Medium};
 ghost use Rattle.nvm_record.specs.Step.{medium_after, statuses_of};
 ghost use Rattle.nvm_store.specs.Answer.{IsAnswer};
-ghost use Rattle.nvm_store.specs.Contents.{Covers, Holds};
+ghost use Rattle.nvm_store.specs.Contents.{Covers, Holds, StaysInPlace};
 ghost use Rattle.nvm_store.specs.Operation.{pair_operation, read_operation};
 
 use nvm_record::laws::looks_change_nothing;
@@ -36,6 +36,7 @@ pub fn pair_and_read(
         → done.statuses ≡ statuses_of (pair_operation first blocks compare.now write.now) m) }
     ensures step { IfOk result (λ done. (m : Medium) → Holds unit.now m → Holds done.unit
         (medium_after unit.now.size (pair_operation first blocks compare.now write.now) m)) }
+    ensures place { IfOk result (λ done. StaysInPlace unit.now done.unit) }
     ensures read { IfOk result (λ done. (m : Medium) → Holds done.unit m
         → IsAnswer (read_operation first blocks) m done.read) }
 {

@@ -1,4 +1,4 @@
-use Rattle.std.proofs.Common.{◌≡◌, ◌∙◌, ap, inl, inr}
+use Rattle.std.proofs.Common.{◌∙◌, ap, inl, inr}
 use Rattle.nvm_calling.specs.Ruling.{ruling_of}
 use Rattle.nvm_calling.proofs.audit.rule_on.Goals as goal
 

@@ -1,5 +1,7 @@
-use Rattle.std.proofs.Common.{◌≡◌, ◌∙◌, ℕ, ◌+◌, ◌-◌, ◌*◌, ◌≤◌, List, [], ◌∷◌, ◌++◌, length, map, take, drop, sym, subst, ap, append_assoc, append-nil, arith}
-use Rattle.std.proofs.lemmas.List.{map-append}
+use Rattle.std.proofs.Common.{◌≡◌, ◌∙◌, ℕ, ◌+◌, ◌-◌, ◌*◌, ◌≤◌, List, [], ◌∷◌, ◌++◌, length, map, take, drop, sym, subst, ap, append_assoc, append-nil, All, arith}
+use Rattle.std.proofs.lemmas.List.{map-append, length-take-le, length-drop}
+use Rattle.std.proofs.lemmas.List.Elements.{All-push}
+use Rattle.std.proofs.Math.Nat.{mul-le-mul_right}
 use Rattle.std.proofs.lemmas.Grind.{flat_map-append}
 use Rattle.std.proofs.Math.Seq.{take-add}
 use Rattle.std.specs.List.{flat_map}
@@ -50,6 +52,16 @@ one_part parts more part payload skipped blocks size is before its =
     ∙ (joined_bytes (flat_map (λ p. p.payload) parts) part.payload payload (skipped * size) (blocks * size) before its
     ∙ ap (λ (k : ℕ). take k payload) both))
 
+-- A part has the bytes of its blocks, where all of them are there.
+part_size : (ys payload : List ℕ) (skipped blocks size all : ℕ) → skipped + blocks ≤ all → length payload ≡ all * size
+    → ys ≡ take (skipped * size + blocks * size - skipped * size) (drop (skipped * size) payload) → length ys ≡ blocks * size
+part_size ys payload skipped blocks size all few len is =
+    let within : (skipped + blocks) * size ≤ all * size = mul-le-mul_right size few in
+    let less : skipped * size + blocks * size - skipped * size ≡ blocks * size = omega arith in
+    let room : skipped * size + blocks * size - skipped * size ≤ length (drop (skipped * size) payload) =
+    omega (arith, length-drop (skipped * size) payload, within, len) in
+    ap (λ (zs : List ℕ). length zs) is ∙ (length-take-le _ (drop (skipped * size) payload) room ∙ less)
+
 pub loop-piece-preserved : goal.loop-piece-preserved
 loop-piece-preserved c =
     let parts = c.loop-piece.parts.items in
@@ -60,9 +72,14 @@ loop-piece-preserved c =
     let skipped = c.loop-piece.skipped in
     let line = next_line c.args.slba skipped c.args.blocks piece rest c.loop-piece.invariant.few
     (subst (λ (ps : List Piece). AreInLine (c.args.slba + skipped) (c.args.blocks - skipped) ps) c.in-Some.ensures.steps c.loop-piece.invariant.line) in
+    let P : WritePart → Type 0 = λ p. length p.payload ≡ p.piece.blocks * c.bytes-size.result in
+    let len : length c.args.payload.now ≡ c.args.blocks * c.bytes-size.result =
+    c.requires.payload ∙ ap (λ (n : ℕ). c.args.blocks * n) (sym (c.bytes-size.ensures.value ∙ c.block_size.ensures.value)) in
+    let its = part_size part.payload c.args.payload.now skipped piece.blocks c.bytes-size.result c.args.blocks line.0 len c.in_ok-part.ensures in
     record {
       pieces = one_piece parts _ part rest _ more (ap (λ (ps : List Piece). map (λ p. p.piece) parts ++ ps) (sym c.in-Some.ensures.steps) ∙ c.loop-piece.invariant.pieces);
       few = line.0;
       line = line.1;
+      sizes = subst (λ (ps : List WritePart). All P ps) (sym more) (All-push P parts part c.loop-piece.invariant.sizes its);
       written = one_part parts _ part c.args.payload.now skipped piece.blocks c.bytes-size.result more c.loop-piece.invariant.written c.in_ok-part.ensures;
     }

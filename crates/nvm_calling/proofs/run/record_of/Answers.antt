@@ -1,4 +1,4 @@
-use Rattle.std.proofs.Common.{◌≡◌, ℕ, ◌+◌, ◌<◌, List, length, slice_index_or, subst, sym, below_more, arith, rules}
+use Rattle.std.proofs.Common.{◌≡◌, ℕ, ◌+◌, ◌<◌, List, length, slice_index_or, subst, below_more, arith, rules}
 use Rattle.std.proofs.lemmas.List.{get_or_read}
 use Rattle.nvm_plan.specs.declared.job.Job.{Job}
 use Rattle.nvm_space.proofs.Lists.{at_index}
@@ -24,8 +24,11 @@ pub returns-then-not-can_be_run-clause-unrun : goal.returns-then-not-can_be_run-
 returns-then-not-can_be_run-clause-unrun g c =
     let jobs = c.args.jobs.now in
     let job = c.index-jobs-place.result in
-    let below : c.loop-place.place < length jobs = omega arith in
-    (job, at_index jobs c.loop-place.place job below c.index-jobs-place.is, λ fits.
-        let yes = c.can_be_run.ensures.1 fits in
-        let no = c.if-not-can_be_run.true in
-        search rules)
+    let below : c.loop-place.place < length jobs = omega arith in (
+      job,
+      at_index jobs c.loop-place.place job below c.index-jobs-place.is,
+      λ fits.
+          let yes = c.can_be_run.ensures.1 fits in
+          let no = c.if-not-can_be_run.true in
+          search rules,
+    )

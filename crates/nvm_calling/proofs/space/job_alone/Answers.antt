@@ -1,9 +1,7 @@
-use Rattle.std.proofs.Common.{◌≡◌, ◌<◌, ◌∙◌, ℕ, List, length, map, set, subst, sym, arith}
+use Rattle.std.proofs.Common.{◌<◌, ◌∙◌, List, length, map, set, subst, sym, arith}
 use Rattle.std.proofs.lemmas.List.{length-map}
-use Rattle.nvm_record.specs.Lists.{IsAt}
 use Rattle.nvm_geometry.specs.Namespace.{Namespace}
 use Rattle.nvm_store.specs.HistoryEntry.{HistoryEntry}
-use Rattle.nvm_unit.specs.Passes.{UnitName}
 use Rattle.nvm_space.specs.Closing.{EndsWhole}
 use Rattle.nvm_space.specs.Shuffle.{AreLawfulHistories}
 use Rattle.nvm_space.proofs.Lists.{at_map_back}

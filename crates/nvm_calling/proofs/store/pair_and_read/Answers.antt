@@ -1,5 +1,4 @@
-use Rattle.std.proofs.Common.{◌≡◌, ◌∙◌, ℕ, ◌+◌, List, Bool, true, false, refl, sym, ap, subst, inr, rules}
-use Rattle.nvm_record.specs.Lists.{IsAt}
+use Rattle.std.proofs.Common.{◌≡◌, ◌∙◌, ℕ, ◌+◌, List, Bool, true, false, refl, sym, subst, inr, rules}
 use Rattle.nvm_record.specs.Medium.{Medium, range}
 use Rattle.nvm_record.specs.Deeds.{IsFailedPair}
 use Rattle.nvm_record.specs.Status.{IsSuccess}
