@@ -14,9 +14,16 @@ use Rattle.nvm_calling.specs.declared.run.Unrun.TheVariants.{TooMany, Unfit, Wor
 abbrev pub CanBeRun : Namespace → Job → Type 0
 CanBeRun ns job = FitsNamespace ns job × HoldsBody Two job.body
 
+-- The job at this place can't be run, and each before it can.
+pub record IsFirstUnfit (ns : Namespace) (jobs : List Job) (place : ℕ) : Type 0 where
+  pub job : Job
+  pub its : IsAt jobs place job
+  pub unfit : ¬ (CanBeRun ns job)
+  pub before : (k : ℕ) (other : Job) → k < place → IsAt jobs k other → CanBeRun ns other
+
 -- why so many workers don't run these jobs
 abbrev pub IsUnrun : Namespace → ℕ → List Job → Unrun → Type 0
 IsUnrun ns workers jobs TooMany = most_jobs < length jobs
-IsUnrun ns workers jobs (Unfit place) = (job : Job) × IsAt jobs place job × ¬ (CanBeRun ns job)
+IsUnrun ns workers jobs (Unfit place) = IsFirstUnfit ns jobs place
 IsUnrun ns workers jobs Workers = ¬ (IsWorkerCount workers)
 IsUnrun ns workers jobs NoMemory = Unit {0}

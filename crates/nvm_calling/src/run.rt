@@ -20,7 +20,7 @@ use std::thread::Threads;
 pub enum Unrun {
     /// There are more than 4,194,304 jobs.
     TooMany,
-    /// The job at this place doesn't fit the namespace, or has opcode 09h as an unknown one.
+    /// The job at this place doesn't fit the namespace, or has opcode 09h as an unknown one. Each job before it can be run.
     Unfit { place: usize },
     /// The number of workers is 0 or above 64.
     Workers,
