@@ -1,2 +1,3 @@
+pub mod JobAlone
 pub mod Ruling
 pub mod Unrun

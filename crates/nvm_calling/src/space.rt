@@ -1,11 +1,8 @@
 ghost use Rattle.std.specs.Prelude.{◌≡◌, IfErr, IfOk, map};
+ghost use Rattle.nvm_calling.specs.JobAlone.{IsJobAlone};
 ghost use Rattle.nvm_plan.specs.Fits.{FitsNamespace};
-ghost use Rattle.nvm_space.specs.Ports.{PortState, new_port};
 ghost use Rattle.nvm_space.specs.Shuffle.{AreLawfulHistories};
-ghost use Rattle.nvm_space.specs.Spaces.{SpaceName};
 ghost use Rattle.nvm_space.specs.declared.space_fault.SpaceFault.TheVariants.{NoMemory};
-ghost use Rattle.nvm_space.specs.Trace.{DoesJob};
-ghost use Rattle.nvm_unit.specs.Ends.{views_of};
 
 use nvm_geometry::Geometry;
 use nvm_plan::Job;
@@ -34,9 +31,9 @@ pub fn job_alone<R: Wait>(
     job: &Job,
 ) -> Result<JobAlone, SpaceFault>
     requires { FitsNamespace geometry job.now }
-    ensures does { IfOk result (λ alone. (s : SpaceName) × (s.namespace ≡ geometry) × (port : PortState)
-        × DoesJob geometry 0 job.now (views_of (new_port s.units 0).passes) (views_of port.passes) alone.done) }
-    ensures histories { IfOk result (λ alone. AreLawfulHistories geometry
+    ensures alone { IfOk result (λ alone. IsJobAlone geometry job.now alone.done
+        (map (λ history. history.items) alone.histories.items)) }
+    ensures lawful { IfOk result (λ alone. AreLawfulHistories geometry
         (map (λ history. history.items) alone.histories.items)) }
     ensures fault { IfErr result (λ fault. fault ≡ NoMemory) }
 {
