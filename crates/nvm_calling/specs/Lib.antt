@@ -1,0 +1,3 @@
+pub mod JobAlone
+pub mod Ruling
+pub mod Unrun

@@ -1,0 +1,15 @@
+//! Callers of the libraries, one module a library: what a maker writes who links it. The page `CALLING.md` of each library
+//! shows its module here, to the byte.
+#![tactic(auto)]
+
+pub mod audit;
+pub mod file;
+pub mod geometry;
+pub mod plan;
+pub mod record;
+pub mod run;
+pub mod space;
+pub mod store;
+#[cfg(test)]
+mod tests;
+pub mod unit;

@@ -1,0 +1,45 @@
+ghost use Rattle.std.specs.Prelude.{◌≡◌, IfErr, IfOk, map};
+ghost use Rattle.nvm_calling.specs.JobAlone.{IsJobAlone};
+ghost use Rattle.nvm_plan.specs.Fits.{FitsNamespace};
+ghost use Rattle.nvm_space.specs.Shuffle.{AreLawfulHistories};
+ghost use Rattle.nvm_space.specs.declared.space_fault.SpaceFault.TheVariants.{NoMemory};
+
+use nvm_geometry::Geometry;
+use nvm_plan::Job;
+use nvm_space::laws::units_end_with_lawful_histories;
+use nvm_space::{JobDone, Space, SpaceFault};
+use nvm_store::{History, Limit};
+use nvm_unit::Open;
+use std::alloc::Global;
+use std::sync::Wait;
+
+/// A job that was done on a new namespace, and what that left.
+#[derive(Drop)]
+pub struct JobAlone {
+    /// What its host is told, and the parts that were done.
+    pub done: JobDone,
+    /// The history of each unit, in the order of the units.
+    pub histories: Vec<History>,
+}
+
+/// Does one job on a namespace of zero bytes, by one port. Each unit's history may have as many entries as the limit says.
+pub fn job_alone<R: Wait>(
+    rt: &R,
+    alloc: Global,
+    geometry: Geometry,
+    limit: Limit,
+    job: &Job,
+) -> Result<JobAlone, SpaceFault>
+    requires { FitsNamespace geometry job.now }
+    ensures alone { IfOk result (λ alone. IsJobAlone geometry job.now alone.done
+        (map (λ history. history.items) alone.histories.items)) }
+    ensures lawful { IfOk result (λ alone. AreLawfulHistories geometry
+        (map (λ history. history.items) alone.histories.items)) }
+    ensures fault { IfErr result (λ fault. fault ≡ NoMemory) }
+{
+    units_end_with_lawful_histories();
+    let (space, mut ports) = Space::new(alloc, geometry, 1, limit)?;
+    let done = space.run_job(rt, alloc, &mut ports[0], 0, job, &Open);
+    let histories = space.close(alloc, ports)?;
+    Ok(JobAlone { done, histories })
+}
