@@ -47,7 +47,12 @@ pub fn write_bytes<R: Files + AllocGlobal + Print>(
 }
 
 /// Refuses a path to write at which the file to read stands, before anything is read. Below the fault stands why.
-pub fn check_output<R: Files + AllocGlobal>(rt: &R, out: &str, read: &str) -> Result<(), Failure> {
+pub fn check_output<R: Files + AllocGlobal>(
+    rt: &R,
+    out: &str,
+    read: &str,
+    why: &str,
+) -> Result<(), Failure> {
     if out == STANDARD {
         return Ok(());
     }
