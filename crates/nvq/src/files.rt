@@ -31,11 +31,7 @@ pub fn write_bytes<R: Files + AllocGlobal + Print>(
 }
 
 /// Refuses a path to write at which the file to read stands, before anything is read.
-pub fn check_output<R: Files + AllocGlobal>(
-    rt: &R,
-    out: &str,
-    read: &str,
-) -> Result<(), Failure> {
+pub fn check_output<R: Files + AllocGlobal>(rt: &R, out: &str, read: &str) -> Result<(), Failure> {
     if out == STANDARD {
         return Ok(());
     }
