@@ -67,7 +67,7 @@ def no_record(path, content):
     if content[:4] == b"NVQ1":
         return f"{name} is a host file: nvmu run does its commands and writes a record"
     if is_text(content):
-        return f"{name} is text, and a record is none: nvmu run writes one, and so does nvq run"
+        return f"{name} is text, which no record is: nvmu run and nvq run write records"
     return f"{name} is no record, which begins with NVR1 or NVR2"
 
 

@@ -94,11 +94,7 @@ pub fn write<R: Files + AllocGlobal + Print>(
 /// Whether a file that would be written is one that is read, under that path or another. `-` is standard input here.
 /// What isn't there, and what is no regular file, is none that is read. `NoMemory` is the only fault.
 pub fn is_read<R: Files>(rt: &R, out: &str, read: &str) -> Result<bool, FileFault> {
-    let read = if read == STANDARD {
-        "/dev/stdin"
-    } else {
-        read
-    };
+    let read = if read == STANDARD { "/dev/stdin" } else { read };
     let (Some(out), Some(read)) = (standing(rt, out)?, standing(rt, read)?) else {
         return Ok(false);
     };

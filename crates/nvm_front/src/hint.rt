@@ -29,10 +29,14 @@ pub fn no_host_file(alloc: Global, path: &str, bytes: &[u8]) -> Result<String, A
     match Content::of(bytes) {
         Content::Empty => format!(in alloc; "{name} is empty, and a host file begins with NVQ1"),
         Content::Text => {
-            format!(in alloc; "{name} is text: nvq run {path} does the commands of a list, nvq assemble {path} HOSTFILE makes a host file of it")
+            format!(in alloc;
+                "{name} is text: nvq run {path} does the commands of a list, nvq assemble {path} HOSTFILE makes a host file of it"
+            )
         }
         Content::Record => {
-            format!(in alloc; "{name} is a record: nvmu audit {path} judges it, nvq list {path} shows it")
+            format!(in alloc;
+                "{name} is a record: nvmu audit {path} judges it, nvq list {path} shows it"
+            )
         }
         Content::HostFile | Content::Unknown => {
             format!(in alloc; "{name} is no host file, which begins with NVQ1")
@@ -48,10 +52,14 @@ pub fn no_record(alloc: Global, path: &str, bytes: &[u8]) -> Result<String, Allo
             format!(in alloc; "{name} is empty, and a record begins with NVR1 or NVR2")
         }
         Content::Text => {
-            format!(in alloc; "{name} is text, and a record is none: nvmu run writes one, and so does nvq run")
+            format!(in alloc;
+                "{name} is text, which no record is: nvmu run and nvq run write records"
+            )
         }
         Content::HostFile => {
-            format!(in alloc; "{name} is a host file: nvmu run does its commands and writes a record")
+            format!(in alloc;
+                "{name} is a host file: nvmu run does its commands and writes a record"
+            )
         }
         Content::Record | Content::Unknown => {
             format!(in alloc; "{name} is no record, which begins with NVR1 or NVR2")
@@ -63,12 +71,12 @@ pub fn no_record(alloc: Global, path: &str, bytes: &[u8]) -> Result<String, Allo
 pub fn no_list(alloc: Global, path: &str, bytes: &[u8]) -> Result<Option<String>, AllocError> {
     let name = name_of(path);
     match Content::of(bytes) {
-        Content::HostFile => Ok(Some(
-            format!(in alloc; "{name} is a host file: nvq list {path} makes a list of it")?,
-        )),
-        Content::Record => Ok(Some(
-            format!(in alloc; "{name} is a record: nvq list {path} shows it")?,
-        )),
+        Content::HostFile => Ok(Some(format!(in alloc;
+            "{name} is a host file: nvq list {path} makes a list of it"
+        )?)),
+        Content::Record => Ok(Some(format!(in alloc;
+            "{name} is a record: nvq list {path} shows it"
+        )?)),
         Content::Empty | Content::Text | Content::Unknown => Ok(None),
     }
 }
@@ -84,9 +92,9 @@ pub fn other_block(
         return Ok(None);
     };
     match read_host(alloc, file, size) {
-        Ok(_) => Ok(Some(
-            format!(in alloc; "it is a host file of blocks of {other} bytes: --block {other}")?,
-        )),
+        Ok(_) => Ok(Some(format!(in alloc;
+            "it is a host file of blocks of {other} bytes: --block {other}"
+        )?)),
         Err(HostFault::NoMemory) => Err(AllocError),
         Err(_) => Ok(None),
     }

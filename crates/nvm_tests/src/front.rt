@@ -32,7 +32,10 @@ fn appears_whole_or_not_at_all(rt: HostRuntime) -> Result<(), Fail> {
     fs::remove_file(&rt, PATH)?;
     let output = Output::file(&rt, PATH)?;
     fs::create_dir(&rt, PATH)?;
-    assert_eq!(rt; output.finish(), Err(FileFault::Refused(ErrorKind::IsADirectory)));
+    assert_eq!(rt;
+        output.finish(),
+        Err(FileFault::Refused(ErrorKind::IsADirectory))
+    );
     assert!(rt; !fs::exists(&rt, BESIDE)?);
     fs::remove_dir(&rt, PATH)?;
     Ok(())

@@ -55,14 +55,14 @@ fn hint_of_run(
         Fault::Geometry(fault) => Ok(Some(String::from_str(alloc, no_namespace(*fault))?)),
         Fault::TooManyHosts => {
             let count = files.len();
-            Ok(Some(
-                format!(in alloc; "there are {count} host files, and at most 64 can be")?,
-            ))
+            Ok(Some(format!(in alloc; "there are {count} host files, and at most 64 can be")?))
         }
         Fault::HostBadName { host } => match (of_host(paths, *host), of_host(files, *host)) {
-            (Some(path), Some(file)) => Ok(Some(
-                no_host_file(alloc, path.as_str(), file.as_slice())?,
-            )),
+            (Some(path), Some(file)) => Ok(Some(no_host_file(
+                alloc,
+                path.as_str(),
+                file.as_slice(),
+            )?)),
             _ => Ok(None),
         },
         Fault::HostTruncated { host, .. } | Fault::HostTooMany { host } => {
@@ -84,9 +84,10 @@ fn hint_of_audit(
 ) -> Result<Option<String>, AllocError> {
     match fault {
         Fault::RecordBadName => Ok(Some(no_record(alloc, path, bytes.as_slice())?)),
-        Fault::RecordUnknownVersion => Ok(Some(
-            String::from_str(alloc, "the fourth byte of a record is 1 or 2")?,
-        )),
+        Fault::RecordUnknownVersion => Ok(Some(String::from_str(
+            alloc,
+            "the fourth byte of a record is 1 or 2",
+        )?)),
         _ => Ok(None),
     }
 }

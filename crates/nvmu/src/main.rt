@@ -102,9 +102,13 @@ fn run<R: AllocGlobal + Files + Input + Threads + Wait + Sync>(
     let files = read_files(rt, paths)?;
     match execute(rt, rt.alloc(), settings, files.as_slice(), &Open) {
         Ok(shown) => Ok(shown),
-        Err(fault) => Err(
-            Failure::of_run(rt.alloc(), fault, settings.block, paths, files.as_slice()),
-        ),
+        Err(fault) => Err(Failure::of_run(
+            rt.alloc(),
+            fault,
+            settings.block,
+            paths,
+            files.as_slice(),
+        )),
     }
 }
 
