@@ -1,9 +1,11 @@
-"""The runs of the program nvq that are swept: a host file as a list of commands, and back; and the listing of a record."""
+"""The runs of the program nvq that are swept: a host file as a list of commands, and back; the listing of a record, and its picture."""
 
 import os
 import re
+import subprocess
 from dataclasses import replace
 
+from audits import spoiled
 from cases import Run
 from host_files import compare, dataset, file_of, pair, read, uncorrectable, unknown, write, zeroes
 from model import COMPARE, DATASET, WRITE, Namespace, commands
@@ -12,6 +14,7 @@ from recorded import recorded
 from records import spelled
 
 FUSES = ["", " first", " second", " reserved"]
+PROGRAM = os.path.join(os.path.dirname(os.path.dirname(os.path.realpath(__file__))), "crates", "nvq", "out", "nvq")
 
 
 def listing(file, block):
@@ -27,6 +30,11 @@ def listing(file, block):
         return f"{it.name()} {place}{FUSES[it.fuse]}{cid}{nsid}\n"
 
     return "".join(line(place, it) for place, it in enumerate(commands(file, block), 1))
+
+
+def picture(words):
+    """What the program draws where it has all memory, which examples/drawn.py holds to a model."""
+    return subprocess.run([PROGRAM, "draw", *words, "-"], stdout=subprocess.PIPE, check=True).stdout
 
 
 def asked():
@@ -52,6 +60,10 @@ def runs(folder):
 
     def done(name, given, out="", **more):
         return Run(name, "nvq", given, out=out, **more)
+
+    def drawn(name, *words):
+        units = len(of_hosts.namespace.units())
+        return done(name, ["draw", *words, "out.svg"], files={"out.svg": picture(words)}, units=units)
 
     def fault(name, line, *given):
         return Run(name, "nvq", list(given), 1, err=f"nvq: {line}\n")
@@ -90,6 +102,10 @@ def runs(folder):
         done("a record is listed", ["list", record], record_listing(of_hosts)),
         done("a record of the first version is listed", [*in_large("list"), first], record_listing(of_nobody)),
         done("a record on standard input is listed", ["list", "-"], record_listing(of_hosts), input=record),
+        drawn("a record is drawn", record),
+        drawn("a part of an unlawful record is drawn", "--unit", "0", "--from", "1", kept("spoiled", spoiled(spelled_record))),
+        drawn("a record of the first version is drawn", first),
+        fault("a record that can't be drawn", f"{cut_record}: truncated at {len(spelled_record) - 1}", "draw", cut_record, "out.svg"),
         fault("a wrong line", "line 3: expected data of 512 bytes and not of 511", "assemble", wrong, "out"),
         fault("a missing list", f"cannot read {missing}", "assemble", missing, "out"),
         fault("a folder for the host file", f"cannot write {folder}", "assemble", list_, folder),
