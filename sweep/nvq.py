@@ -1,10 +1,12 @@
-"""The runs of the program nvq that are swept: a host file as a list of commands, and back; the listing of a record; and lists that
-are run."""
+"""The runs of the program nvq that are swept: a host file as a list of commands, and back; the listing of a record, its explanation and
+its picture; and lists that are run."""
 
 import os
 import re
+import subprocess
 from dataclasses import replace
 
+from audits import spoiled
 from cases import Recording, Run
 from hints import FOLDER, GEOMETRY, IS_LIST, MISSING, VERSIONS, no_host_file, no_list, other_block, the_line, told
 from host_files import compare, dataset, file_of, pair, read, uncorrectable, unknown, write, zeroes
@@ -17,6 +19,7 @@ from records import spelled
 # What is expected at the front of a list's line.
 NO_COMMAND = "expected write, read, compare, zeroes, uncorrectable, dataset, or op- and another opcode in two hexadecimal digits"
 FUSES = ["", " first", " second", " reserved"]
+PROGRAM = os.path.join(os.path.dirname(os.path.dirname(os.path.realpath(__file__))), "crates", "nvq", "out", "nvq")
 
 
 def listing(file, block):
@@ -59,6 +62,11 @@ unit 0 place 0 worker 0 job 0 write 0 1 511*41,1*01
 """
 
 
+def picture(words):
+    """What the program draws where it has all memory, which examples/drawn.py holds to a model."""
+    return subprocess.run([PROGRAM, "draw", *words, "-"], stdout=subprocess.PIPE, check=True).stdout
+
+
 def asked():
     return [
         write(0, 0x41, 0x42),
@@ -82,6 +90,10 @@ def runs(folder):
 
     def done(name, given, out="", **more):
         return Run(name, "nvq", given, out=out, **more)
+
+    def drawn(name, *words):
+        units = len(of_hosts.namespace.units())
+        return done(name, ["draw", *words, "out.svg"], files={"out.svg": picture(words)}, units=units)
 
     def fault(name, line, *given, hint=""):
         return Run(name, "nvq", list(given), 1, err=told(f"nvq: {line}", hint))
@@ -140,6 +152,10 @@ def runs(folder):
         done("a spoiled record is explained", ["explain", wrong_data], WRONG_DATA),
         done("a record with a wrong entry is explained", ["explain", wrong_entry], WRONG_ENTRY),
         fault("a cut record to explain", f"{cut_record}: truncated at {len(spelled_record) - 1}", "explain", cut_record),
+        drawn("a record is drawn", record),
+        drawn("a part of an unlawful record is drawn", "--unit", "0", "--from", "1", kept("spoiled", spoiled(spelled_record))),
+        drawn("a record of the first version is drawn", first),
+        fault("a record that can't be drawn", f"{cut_record}: truncated at {len(spelled_record) - 1}", "draw", cut_record, "out.svg"),
         fault("a wrong line", "line 3: expected data of 512 bytes and not of 511", "assemble", wrong, "out", hint=the_line("write 0 1 511*41")),
         fault("a missing list", f"cannot read {missing}", "assemble", missing, "out", hint=MISSING),
         fault("a host file for a list", f"line 1: {NO_COMMAND}", "assemble", file, "out", hint=no_list(file, host)),
