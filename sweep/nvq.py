@@ -115,6 +115,8 @@ def runs(folder):
     def not_ran(name, line, *given, hint="", **more):
         return Run(name, "nvq", ["run", "--nsze", "32", "--workers", "1", *given], 1, err=told(f"nvq: {line}", hint), **more)
 
+    # A record of one unit is audited without a thread.
+    one_unit = ["--nabsn", "0"]
     # It goes to standard output, where the sweep reads text, so all its bytes are of it.
     plain = file_of([write(0, 0x41), read(0, 1), *pair(compare(0, 0x41), write(0, 0x42)), zeroes(1, 2)])
     host, large = file_of(asked()), file_of(asked(), 4096)
@@ -176,8 +178,13 @@ def runs(folder):
         not_ran("a wrong line of a run", f"{wrong}: line 3: expected data of 512 bytes and not of 511", plain_list, wrong, hint=the_line("write 0 1 511*41")),
         not_ran("a missing list of a run", f"cannot read {missing}", plain_list, missing, hint=MISSING),
         not_ran("standard input twice", "standard input is named twice", "-", "-"),
+<<<<<<< HEAD
         not_ran("no boundary for a pair", "geometry: PairUnitAboveBoundary", "--nacwu", "8", plain_list, hint=GEOMETRY["PairUnitAboveBoundary"]),
-        not_ran("a record that can't be written", "cannot write missing/record", "--record", "missing/record", plain_list, hides_wants=True, hint=MISSING),
+        not_ran("a record that can't be written", "cannot write missing/record", *one_unit, "--record", "missing/record", plain_list, hides_wants=True, hint=MISSING),
+=======
+        not_ran("no boundary for a pair", "geometry: PairUnitAboveBoundary", "--nacwu", "8", plain_list),
+        not_ran("a record that can't be written", "cannot write missing/record", *one_unit, "--record", "missing/record", plain_list, hides_wants=True),
+>>>>>>> run
         refused("no words", []),
         refused("an unknown option", ["list", "--bogus", "1"]),
         refused("an unknown word", ["walk"]),

@@ -1,4 +1,4 @@
-use Rattle.std.proofs.Common.{◌≤◌, length, map, take}
+use Rattle.std.proofs.Common.{map, take}
 use Rattle.nvq.specs.Ran.{AreFilesOf}
 use Rattle.nvq.proofs.running.assembled.Given as goal
 
