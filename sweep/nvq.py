@@ -178,13 +178,8 @@ def runs(folder):
         not_ran("a wrong line of a run", f"{wrong}: line 3: expected data of 512 bytes and not of 511", plain_list, wrong, hint=the_line("write 0 1 511*41")),
         not_ran("a missing list of a run", f"cannot read {missing}", plain_list, missing, hint=MISSING),
         not_ran("standard input twice", "standard input is named twice", "-", "-"),
-<<<<<<< HEAD
         not_ran("no boundary for a pair", "geometry: PairUnitAboveBoundary", "--nacwu", "8", plain_list, hint=GEOMETRY["PairUnitAboveBoundary"]),
         not_ran("a record that can't be written", "cannot write missing/record", *one_unit, "--record", "missing/record", plain_list, hides_wants=True, hint=MISSING),
-=======
-        not_ran("no boundary for a pair", "geometry: PairUnitAboveBoundary", "--nacwu", "8", plain_list),
-        not_ran("a record that can't be written", "cannot write missing/record", *one_unit, "--record", "missing/record", plain_list, hides_wants=True),
->>>>>>> run
         refused("no words", []),
         refused("an unknown option", ["list", "--bogus", "1"]),
         refused("an unknown word", ["walk"]),
