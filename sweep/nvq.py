@@ -131,6 +131,7 @@ def runs(folder):
     of_nobody = replace(recorded(Namespace(), [file_of([])], workers=3), version=1)
     spelled_record = spelled(of_hosts)
     record, first = kept("record", spelled_record), kept("first", spelled(of_nobody))
+    of_one_unit = spoiled(spelled(recorded(Namespace(nabsn=7), [plain])))
     cut_record, more = kept("cut-record", spelled_record[:-1]), kept("more", spelled_record + b"0")
     no_workers, later = kept("no-workers", spelled_record[:28] + bytes(2) + spelled_record[30:]), kept("later", b"NVR3")
     short = spelled(recorded(Namespace(nabsn=7), [file_of([write(0, 0x41), read(0, 1)])]))
@@ -155,7 +156,7 @@ def runs(folder):
         done("a record with a wrong entry is explained", ["explain", wrong_entry], WRONG_ENTRY),
         fault("a cut record to explain", f"{cut_record}: truncated at {len(spelled_record) - 1}", "explain", cut_record),
         drawn("a record is drawn", record),
-        drawn("a part of an unlawful record is drawn", "--unit", "0", "--from", "1", kept("spoiled", spoiled(spelled_record))),
+        drawn("a part of an unlawful record is drawn", "--unit", "0", "--from", "1", kept("spoiled", of_one_unit)),
         drawn("a record of the first version is drawn", first),
         fault("a record that can't be drawn", f"{cut_record}: truncated at {len(spelled_record) - 1}", "draw", cut_record, "out.svg"),
         fault("a wrong line", "line 3: expected data of 512 bytes and not of 511", "assemble", wrong, "out", hint=the_line("write 0 1 511*41")),
