@@ -166,7 +166,7 @@ def explained(run):
         "worker 0 job 5 data 512*00\npart: unit 0 point 5 read 0 1\nrecorded: status 0/00 data 512*00\n"
         f"the step gives: status 0/00 data 512*04\nfirst difference: LBA 0 byte 0 recorded 00 given 04\n{ROUND}",
     )
-    for given, fault in ((b"NVR3", "unknown version"), (file[:-1], f"truncated at {len(file) - 1}"), (b"NVQ1", "bad name")):
+    for given, fault in ((b"NVR3", "unknown version"), (file + b"\0", f"trailing at {len(file)}"), (b"NVQ1", "bad name")):
         run.keep("wrong", given)
         run.expect(["nvq", "explain", "wrong"], 1, err=f"nvq: wrong: {fault}\n")
     run.expect(["nvq", "explain", "missing"], 1, err="nvq: cannot read missing\n")
