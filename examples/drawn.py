@@ -7,6 +7,7 @@ from xml.etree import ElementTree
 
 from auditor import verdict
 from forged import FORGED, SPACE, TWO
+from hints import MISSING, no_record, told
 from host_files import compare, dataset, file_of, pair, read, uncorrectable, write, zeroes
 from record_listing import lines
 from recorded import recorded
@@ -216,9 +217,11 @@ def words_of_draw(run):
     picture = run.kept("out.svg")
     run.expect(["nvq", "draw", "-", "-"], given=spelled(TWO), out=picture)
     run.expect(["nvq", "draw", "--unit=0", "--from", "0", "record", "-"], out=picture)
-    run.expect(["nvq", "draw", "missing", "-"], 1, err="nvq: cannot read missing\n")
-    run.expect(["nvq", "draw", "record", "missing/out.svg"], 1, err="nvq: cannot write missing/out.svg\n")
-    run.expect(["nvq", "draw", "-", "out.svg"], 1, given=b"NVQ1", err="nvq: -: bad name\n", files={"out.svg": picture})
+    run.expect(["nvq", "draw", "missing", "-"], 1, err=told("nvq: cannot read missing", MISSING))
+    run.expect(["nvq", "draw", "record", "missing/out.svg"], 1, err=told("nvq: cannot write missing/out.svg", MISSING))
+    run.expect(["nvq", "draw", "record", "record"], 1, err=told("nvq: cannot write record", "it is the record"), files={"record": run.kept("record")})
+    bad = told("nvq: -: bad name", no_record("-", b"NVQ1"))
+    run.expect(["nvq", "draw", "-", "out.svg"], 1, given=b"NVQ1", err=bad, files={"out.svg": picture})
     run.expect(["nvq", "draw", "-", "out.svg"], 1, given=spelled(TWO)[:-1], err=f"nvq: -: truncated at {len(spelled(TWO)) - 1}\n")
     for words in ("draw", "draw a", "draw a b c", "draw --unit 65536 a b", "draw --from -1 a b", "draw --unit x a b", "draw --block 512 a b"):
         run.refuse(["nvq", *words.split()])

@@ -6,6 +6,7 @@ The namespace has 32 blocks of 512 bytes in units of eight, and pairs have up to
 from dataclasses import replace
 
 from forged import ENTRIES, OTHER, SEEN, SPACE, TWO, WRITTEN, WRONG, changes, one, pair_failed, seen
+from hints import MISSING, VERSIONS, no_record, told
 from host_files import compare, file_of, pair, read, write
 from record_explaining import lawful_explanation
 from recorded import recorded
@@ -147,13 +148,13 @@ def with_data_of(record, job, data):
 
 
 def explained(run):
-    def explains(file, told):
+    def explains(file, text):
         run.keep("explained", file)
-        run.expect(["nvq", "explain", "explained"], out=told)
-        run.expect(["nvq", "explain", "-"], given=file, out=told)
+        run.expect(["nvq", "explain", "explained"], out=text)
+        run.expect(["nvq", "explain", "-"], given=file, out=text)
 
-    for record, told in EXPLAINED:
-        explains(spelled(record), told)
+    for record, text in EXPLAINED:
+        explains(spelled(record), text)
     file = spelled(recorded(SPACE, [file_of(SPOILED_LIST)]))
     explains(file, lawful_explanation(record_of(file)))
     explains(file[:-1] + b"\x01", SPOILED_EXPLAINED)
@@ -166,9 +167,13 @@ def explained(run):
         "worker 0 job 5 data 512*00\npart: unit 0 point 5 read 0 1\nrecorded: status 0/00 data 512*00\n"
         f"the step gives: status 0/00 data 512*04\nfirst difference: LBA 0 byte 0 recorded 00 given 04\n{ROUND}",
     )
-    for given, fault in ((b"NVR3", "unknown version"), (file + b"\0", f"trailing at {len(file)}"), (b"NVQ1", "bad name")):
+    for given, fault, hint in (
+        (b"NVR3", "unknown version", VERSIONS),
+        (file + b"\0", f"trailing at {len(file)}", ""),
+        (b"NVQ1", "bad name", no_record("wrong", b"NVQ1")),
+    ):
         run.keep("wrong", given)
-        run.expect(["nvq", "explain", "wrong"], 1, err=f"nvq: wrong: {fault}\n")
-    run.expect(["nvq", "explain", "missing"], 1, err="nvq: cannot read missing\n")
+        run.expect(["nvq", "explain", "wrong"], 1, err=told(f"nvq: wrong: {fault}", hint))
+    run.expect(["nvq", "explain", "missing"], 1, err=told("nvq: cannot read missing", MISSING))
     for words in ("explain", "explain a b", "explain --block 512 a"):
         run.refuse(["nvq", *words.split()])
