@@ -93,7 +93,7 @@ class Drawn:
             yield f"places 0 to {self.place - 1}"
         if any(len(self.record.units[unit]) > self.place + MOST for unit in rows):
             yield f"places from {self.place + MOST} on"
-        if spot and (spot[0] not in rows or not self.place <= spot[1] <= self.place + MOST):
+        if spot and not any(it[4] for unit in rows for it in self.boxes(unit)) and not any(it[3] for unit in rows for it in self.stacks(unit)):
             yield "where the fault is"
 
 
@@ -208,6 +208,7 @@ def pictures(run):
         spoiled = replace(long, units=(long.units[0], tuple(entries), *long.units[2:]))
         drawn(run, f"a fault at place {place}", spoiled)
         drawn(run, f"a fault at place {place}, not drawn", spoiled, from_=0, unit=2)
+        drawn(run, f"a fault at place {place}, of its unit the first places", spoiled, from_=0, unit=0)
     words_of_draw(run)
 
 

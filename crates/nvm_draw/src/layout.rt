@@ -28,7 +28,7 @@ pub(crate) fn sheet_of(
     let (rows, next) = rows_of(alloc, run, &marks, first, from)?;
     let columns = columns_of(run, &rows, from);
     let has_more = has_more(run, &rows, from);
-    let hides_fault = hides(spot, &rows, from);
+    let hides_fault = hides(wrong, &rows, from);
     Ok(Sheet {
         first,
         from,
@@ -250,18 +250,39 @@ fn has_more(run: &Record, rows: &[Row], from: u32) -> bool {
     false
 }
 
-/// Whether a spot isn't drawn.
-fn hides(spot: Option<Spot>, rows: &[Row], from: u32) -> bool {
-    let Some(spot) = spot else {
+/// Whether a fault that is in a unit isn't drawn.
+fn hides(wrong: Option<Wrong>, rows: &[Row], from: u32) -> bool {
+    let Some(Wrong {
+        job,
+        spot: Some(spot),
+    }) = wrong else {
         return false;
     };
-    if spot.place < from || spot.place - from > 64 {
+    if spot.place < from {
         return true;
     }
     for row in rows {
         if row.unit == spot.unit {
-            return false;
+            return !has_place(row, spot.place - from, job);
         }
     }
     true
+}
+
+/// Whether a row has the place so far behind its first. Behind its last place stand marks alone.
+fn has_place(row: &Row, place: u32, job: u32) -> bool {
+    place < 64 || place == 64 && has_mark(&row.stacks, job)
+}
+
+/// Whether a mark of the job stands behind the last place.
+fn has_mark(stacks: &[Vec<Mark>], job: u32) -> bool {
+    let Some(marks) = stacks.get(MOST) else {
+        return false;
+    };
+    for mark in marks {
+        if mark.job == job {
+            return true;
+        }
+    }
+    false
 }

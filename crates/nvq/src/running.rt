@@ -1,5 +1,5 @@
 //! `nvq run`: the commands of lists are done, and told beside the lists.
-ghost use Rattle.std.specs.Prelude.{◌≡◌, ℕ, List, IfOk, IfErr, map};
+ghost use Rattle.std.specs.Prelude.{◌≡◌, ℕ, List, IfOk, IfErr, IfSome, map};
 ghost use Rattle.nvm_engine.specs.Fault.{IsFirstRunFault};
 ghost use Rattle.nvm_engine.specs.Shown.{IsShown};
 ghost use Rattle.nvm_engine.specs.declared.fault.Fault.{Fault as FaultOfRun};
@@ -123,7 +123,7 @@ fn assembled(alloc: Global, words: &RunWords, texts: &[Vec<u8>]) -> Result<Vec<P
     Ok(files)
 }
 
-/// The path of the list at a place.
+/// The path of the list at a place, where there is one.
 fn path_of(words: &RunWords, place: usize) -> &str {
     match words.lists.get(place) {
         Some(path) => path.as_str(),
@@ -152,7 +152,14 @@ fn host_file(alloc: Global, path: &str, text: &[u8], size: BlockSize) -> Result<
 /// What the engine runs with. There are as many workers as processors where no number is given, and 4 where it isn't known how
 /// many processors there are.
 fn settings_of<R: Threads>(rt: &R, words: &RunWords) -> Settings
-    ensures { result.block ≡ words.now.size }
+    ensures block { result.block ≡ words.now.size }
+    ensures nsze { result.nsze ≡ words.now.nsze }
+    ensures nabsn { result.nabsn ≡ words.now.nabsn }
+    ensures nabo { result.nabo ≡ words.now.nabo }
+    ensures nawun { result.nawun ≡ words.now.nawun }
+    ensures nacwu { result.nacwu ≡ words.now.nacwu }
+    ensures limit { result.limit ≡ words.now.limit }
+    ensures workers { IfSome words.now.workers (λ workers. result.workers ≡ workers) }
 {
     let RunWords {
         size,
