@@ -112,7 +112,8 @@ fn meaning(fault: AuditFault) -> &'static str
         AuditFault::JobTwice { .. } => ": the job was done more than once",
         AuditFault::EntryUnclaimed { .. } => ": the entry's worker did no such part there",
         AuditFault::EntryWrong { .. } => ": the entry isn't its job's part, or can't succeed there",
-        AuditFault::PointPast { .. } => ": its point is above the entries, or its own entry isn't there",
+        AuditFault::PointPast { .. } =>
+            ": its point is above the entries, or its own entry isn't there",
         AuditFault::PointBack { .. } => ": the worker had seen a later point there",
         AuditFault::StatusWrong { .. } => ": the job can't have ended as recorded",
         AuditFault::DataWrong { .. } => ": the Read's data isn't what the unit held there",

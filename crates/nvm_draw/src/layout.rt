@@ -252,10 +252,13 @@ fn has_more(run: &Record, rows: &[Row], from: u32) -> bool {
 
 /// Whether a fault that is in a unit isn't drawn.
 fn hides(wrong: Option<Wrong>, rows: &[Row], from: u32) -> bool {
-    let Some(Wrong {
-        job,
-        spot: Some(spot),
-    }) = wrong else {
+    let Some(
+        Wrong {
+            job,
+            spot: Some(spot),
+        },
+    ) = wrong
+    else {
         return false;
     };
     if spot.place < from {
