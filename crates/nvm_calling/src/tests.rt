@@ -1,11 +1,10 @@
 //! Each caller once: on LBAs 0 to 31 with blocks of 512 bytes, in 4 units of 8 LBAs each.
-mod audit;
 mod geometry;
 mod plan;
 mod record;
-mod run;
 mod space;
 mod store;
+mod threads;
 mod unit;
 
 ghost use Rattle.std.specs.Prelude.{◌≡◌, IfOk};

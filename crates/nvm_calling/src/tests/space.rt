@@ -18,6 +18,9 @@ fn a_write_over_a_boundary_has_two_entries(rt: HostRuntime) -> Result<(), Fail> 
     let Completions::One(completion) = &alone.done.completions else {
         return Err(Fail::new("a Write has one completion"));
     };
+    if completion.status == Status::INTERNAL_ERROR {
+        return Err(Fail::new("there was no memory"));
+    }
     assert_eq!(rt; completion.status, Status::SUCCESSFUL_COMPLETION);
     assert_eq!(rt; alone.done.parts.len(), 2);
     assert_eq!(rt; alone.histories.len(), 4);

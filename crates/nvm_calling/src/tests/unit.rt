@@ -34,6 +34,9 @@ fn a_read_sees_the_write_before_it(rt: HostRuntime) -> Result<(), Fail> {
         2,
         &payload,
     );
+    if write == (Changed::NoMemory { point: 0 }) {
+        return Err(Fail::new("there was no memory"));
+    }
     assert_eq!(rt; write, Changed::Done { point: 0 });
     let Ok(Observed { point, answer }) = read else {
         return Err(Fail::new("there was no memory"));

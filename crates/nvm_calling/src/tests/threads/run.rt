@@ -1,5 +1,6 @@
-use super::{long_read, long_write, namespace};
+use super::with_memory;
 use crate::run::{Unrun, record_of};
+use crate::tests::{long_read, long_write, namespace};
 use nvm_store::Limit;
 use std::test::Fail;
 
@@ -13,6 +14,7 @@ fn two_workers_do_two_jobs(rt: HostRuntime) -> Result<(), Fail> {
     let Ok(record) = record_of(&rt, alloc, namespace()?, &jobs, 2, limit) else {
         return Err(Fail::new("there was no memory"));
     };
+    let record = with_memory(record)?;
     assert_eq!(rt; record.jobs.len(), 2);
     assert_eq!(rt; record.done.len(), 2);
     assert_eq!(rt; record.units[0].len(), 1);

@@ -1,7 +1,8 @@
-use super::{long_read, long_write, namespace};
+use super::with_memory;
 use crate::audit::{Ruling, rule_on};
 use crate::file::file_of;
 use crate::run::record_of;
+use crate::tests::{long_read, long_write, namespace};
 use nvm_audit::Record;
 use nvm_file::read_record;
 use nvm_record::Payload;
@@ -18,8 +19,16 @@ fn record<R: Threads + Wait + Sync>(rt: &R, alloc: Global) -> Result<Record, Fai
     jobs.push(long_write(alloc, 1)?)?;
     jobs.push(long_read(1))?;
     match record_of(rt, alloc, namespace()?, &jobs, 1, limit) {
-        Ok(record) => Ok(record),
+        Ok(record) => with_memory(record),
         Err(_) => Err(Fail::new("there was no memory")),
+    }
+}
+
+/// The ruling on a record, for which there must be memory.
+fn ruling<R: Threads + Sync>(rt: &R, alloc: Global, record: &Record) -> Result<Ruling, Fail> {
+    match rule_on(rt, alloc, record) {
+        Ruling::Again => Err(Fail::new("there was no memory")),
+        ruling => Ok(ruling),
     }
 }
 
@@ -39,8 +48,8 @@ fn spoiled(alloc: Global, record: &Record) -> Result<Record, Fail> {
 fn wrong_data_retires_its_unit(rt: HostRuntime) -> Result<(), Fail> {
     let alloc = rt.alloc();
     let record = record(&rt, alloc)?;
-    assert_eq!(rt; rule_on(&rt, alloc, &record), Ruling::Keep);
+    assert_eq!(rt; ruling(&rt, alloc, &record)?, Ruling::Keep);
     let spoiled = spoiled(alloc, &record)?;
-    assert_eq!(rt; rule_on(&rt, alloc, &spoiled), Ruling::Retire { unit: 1 });
+    assert_eq!(rt; ruling(&rt, alloc, &spoiled)?, Ruling::Retire { unit: 1 });
     Ok(())
 }

@@ -1,0 +1,19 @@
+//! What several threads do.
+mod audit;
+mod run;
+
+use nvm_audit::Record;
+use nvm_record::{Status, Statuses};
+use std::test::Fail;
+
+/// The record, unless a job found no memory in it.
+fn with_memory(record: Record) -> Result<Record, Fail> {
+    for work in &record.done {
+        for done in work {
+            if done.statuses == Statuses::One(Status::INTERNAL_ERROR) {
+                return Err(Fail::new("there was no memory"));
+            }
+        }
+    }
+    Ok(record)
+}
