@@ -7,6 +7,7 @@ use nvm_record::{Command, Completion, ReadData, Status, Statuses};
 /// What a host is told of a job: a completion for each of its commands.
 #[derive(Debug, PartialEq, Eq, Drop)]
 pub enum Completions {
+    /// The completion of a command by itself.
     One(Completion),
     /// The first command's, then the second's.
     Two(Completion, Completion),

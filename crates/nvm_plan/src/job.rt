@@ -15,6 +15,7 @@ pub struct Job {
 /// One command, or a fused pair (Base Specification, "Fused Operation").
 #[derive(Debug, PartialEq, Eq, Drop)]
 pub enum Body {
+    /// A command by itself.
     Single(Command),
     /// The first command, then the second.
     Pair(Command, Command),

@@ -6,7 +6,9 @@ use std::alloc::AllocError;
 /// What a logical block holds: its bytes, or the mark that Write Uncorrectable leaves.
 #[derive(Debug, PartialEq, Eq, Drop)]
 pub enum Block {
+    /// Its bytes, as many as a block has.
     Bytes(Payload),
+    /// The mark: what reads or compares the block isn't answered 0/00.
     Uncorrectable,
 }
 

@@ -39,6 +39,7 @@ impl Status {
 /// The statuses of a single command, or of the two commands of a fused pair.
 #[derive(Clone, Copy, Debug, PartialEq, Eq, Hash)]
 pub enum Statuses {
+    /// The command's.
     One(Status),
     /// The first command's, then the second's.
     Two(Status, Status),
