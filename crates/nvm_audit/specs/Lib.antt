@@ -12,6 +12,8 @@ pub mod FirstFailed
 pub mod UnitChecks
 pub mod RecordChecks
 pub mod NamedUnit
+pub mod FaultName
+pub mod FaultPlace
 pub mod Verdict
 pub mod RecordedCalls
 pub mod ReplyAtPoint

@@ -1,5 +1,7 @@
 ghost use Rattle.std.specs.Prelude.{◌≡◌};
 ghost use Rattle.nvm_audit.specs.declared.audit_fault.AuditFault.TheVariants.{NoMemory};
+ghost use Rattle.nvm_audit.specs.FaultName.{name_of};
+ghost use Rattle.nvm_audit.specs.FaultPlace.{job_of, spot_of};
 ghost use Rattle.nvm_audit.specs.NamedUnit as spec;
 
 use std::alloc::{AllocError, AllocFailed};
@@ -57,6 +59,56 @@ impl AuditFault {
             | AuditFault::PointBack { .. }
             | AuditFault::DataWrong { .. } => true,
             AuditFault::StatusWrong { spot, .. } => spot.is_some(),
+        }
+    }
+
+    /// The name of its case, by which it is told: `JobMissing` and so on.
+    pub fn name(self) -> &'static str
+        ensures { result.now ≡ name_of self }
+    {
+        match self {
+            AuditFault::JobMissing { .. } => "JobMissing",
+            AuditFault::JobTwice { .. } => "JobTwice",
+            AuditFault::EntryUnclaimed { .. } => "EntryUnclaimed",
+            AuditFault::EntryWrong { .. } => "EntryWrong",
+            AuditFault::PointPast { .. } => "PointPast",
+            AuditFault::PointBack { .. } => "PointBack",
+            AuditFault::StatusWrong { .. } => "StatusWrong",
+            AuditFault::DataWrong { .. } => "DataWrong",
+            AuditFault::NoMemory => "NoMemory",
+        }
+    }
+
+    /// The number of the job whose fault it is. `NoMemory` alone is of no job.
+    pub fn job(self) -> Option<u32>
+        ensures { result ≡ job_of self }
+    {
+        match self {
+            AuditFault::JobMissing { job }
+            | AuditFault::JobTwice { job }
+            | AuditFault::EntryUnclaimed { job, .. }
+            | AuditFault::EntryWrong { job, .. }
+            | AuditFault::PointPast { job, .. }
+            | AuditFault::PointBack { job, .. }
+            | AuditFault::StatusWrong { job, .. }
+            | AuditFault::DataWrong { job, .. } => Some(job),
+            AuditFault::NoMemory => None,
+        }
+    }
+
+    /// Where in a unit the fault is. One of a job by itself, and `NoMemory`, have no spot.
+    pub fn spot(self) -> Option<Spot>
+        ensures { result ≡ spot_of self }
+    {
+        match self {
+            AuditFault::JobMissing { .. } | AuditFault::JobTwice { .. } | AuditFault::NoMemory =>
+                None,
+            AuditFault::EntryUnclaimed { spot, .. }
+            | AuditFault::EntryWrong { spot, .. }
+            | AuditFault::PointPast { spot, .. }
+            | AuditFault::PointBack { spot, .. }
+            | AuditFault::DataWrong { spot, .. } => Some(spot),
+            AuditFault::StatusWrong { spot, .. } => spot,
         }
     }
 }

@@ -21,6 +21,7 @@ ghost use Rattle.nvm_store.specs.PlacedRun.{RunStep, IsRunFrom};
 ghost use Rattle.nvm_store.specs.Point.{RestsOn};
 ghost use Rattle.nvm_audit.specs.declared.audit_fault.AuditFault.{AuditFault};
 ghost use Rattle.nvm_audit.specs.declared.audit_fault.AuditFault.TheVariants.{NoMemory};
+ghost use Rattle.nvm_audit.specs.declared.record.TheConstants as named;
 ghost use Rattle.nvm_audit.specs.declared.version.Version.{Version as FileVersion};
 ghost use Rattle.nvm_audit.specs.LawfulRecord.{HaveShapes, IsLawfulRecord};
 ghost use Rattle.nvm_audit.specs.NamedUnit.{names_unit};
@@ -44,6 +45,11 @@ use nvm_plan::laws::{
 use nvm_store::laws::{
     placed_runs_are_runs, placed_runs_keep_order, single_act_succeeds, there_is_a_placed_run,
 };
+
+/// [`MOST_JOBS`](crate::MOST_JOBS) is the most jobs that a record has.
+pub fn most_jobs_have_their_number()
+    ensures { named.MOST_JOBS ≡ most_jobs }
+{}
 
 /// What is made of the jobs of a record can be held in it: the part of a job in a unit, as an entry of that unit, and what has
 /// the shape of a job's outcome, with the bytes of a Read's blocks, as a done job.

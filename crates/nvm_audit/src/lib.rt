@@ -31,7 +31,7 @@ mod walking;
 
 pub use audit_fault::{AuditFault, Spot};
 pub use done_job::DoneJob;
-pub use record::Record;
+pub use record::{MOST_JOBS, Record};
 pub use record_audit::audit;
 pub use unit_audit::unit_fault;
 pub use verdict::Verdict;

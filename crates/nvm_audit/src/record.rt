@@ -10,6 +10,9 @@ use nvm_store::{History, Limit};
 use std::cmp::{Eq, PartialEq};
 use std::marker::Model;
 
+/// A record has at most so many jobs, and each of its workers did at most so many.
+pub const MOST_JOBS: u32 = 4_194_304;
+
 /// A finished run: its jobs, the changes of each unit, and what each worker did.
 ///
 /// It holds what a record file of its version can hold, which whoever makes one has to prove: 1 to 64 workers; at most
@@ -23,6 +26,7 @@ use std::marker::Model;
 pub struct Record {
     /// The version of the file in which it was read. A new one is of the second.
     pub version: Version,
+    /// The namespace on which the jobs were done.
     pub geometry: Geometry,
     /// The most entries that a unit's history may have.
     pub limit: Limit,
