@@ -11,10 +11,9 @@ use crate::fields::{
     cut_short, refused, room_for, u8_in, u8_of, u16_below, u16_in, u32_in, u32_of,
 };
 use crate::frame::Frame;
-use crate::head::MOST_JOBS;
 use crate::record_fault::RecordFault;
 use crate::rest::Rest;
-use nvm_audit::DoneJob;
+use nvm_audit::{DoneJob, MOST_JOBS};
 use nvm_geometry::Geometry;
 use nvm_plan::{Body, Job, Part, PartResult, Plan, plan};
 use nvm_record::{Op, ReadData, Status, Statuses};

@@ -12,7 +12,7 @@ use crate::fields::{refused, u16_in, u16_of, u32_in, u32_of, u64_of};
 use crate::frame::Frame;
 use crate::record_fault::RecordFault;
 use crate::rest::Rest;
-use nvm_audit::Version;
+use nvm_audit::{MOST_JOBS, Version};
 use nvm_geometry::Geometry;
 use nvm_store::Limit;
 
@@ -24,9 +24,6 @@ const NUMBERS_AT: u64 = 4;
 
 /// A run has at most so many workers.
 const MOST_WORKERS: u16 = 64;
-
-/// A record has at most so many jobs, and each of its workers did at most so many.
-pub const MOST_JOBS: u32 = 4_194_304;
 
 /// A limit is at most so many entries.
 const MOST_ENTRIES: u32 = 4_194_304;
