@@ -1,6 +1,6 @@
 //! What holds of the histories of all units by their definitions alone. Each law is a call that does nothing
 //! and whose contract is the law.
-ghost use Rattle.std.specs.Prelude.{◌≡◌, ℕ, ◌≤◌, List, length, map, take};
+ghost use Rattle.std.specs.Prelude.{◌≡◌, ℕ, ◌<◌, ◌≤◌, List, get_or, length, map, set, take};
 ghost use Rattle.std.specs.List.{flat_map};
 ghost use Rattle.nvm_record.specs.Lists.{IsAt};
 ghost use Rattle.nvm_record.specs.Medium.{zero_medium};
@@ -14,7 +14,7 @@ ghost use Rattle.nvm_store.specs.PlacedRun.{RunStep, IsRunFrom, HasItsAnswer, an
 ghost use Rattle.nvm_store.specs.Point.{point};
 ghost use Rattle.nvm_unit.specs.Passes.{UnitName};
 ghost use Rattle.nvm_space.specs.Closing.{EndsWhole};
-ghost use Rattle.nvm_space.specs.Ports.{PortState};
+ghost use Rattle.nvm_space.specs.Ports.{PortState, AreAllPortsOf, IsPortOf};
 ghost use Rattle.nvm_space.specs.Spaces.{SpaceName, IsLaidOut};
 ghost use Rattle.nvm_space.specs.Shuffle.{AreLawfulHistories, IsShuffle, StandsAtItsPoint};
 ghost use Rattle.nvm_space.specs.Shuffle.{count_of_unit, entries_of_unit, unit_of_entry};
@@ -85,3 +85,13 @@ pub fn calls_keep_their_answers()
     looks_change_nothing();
     steps_are_local();
 }
+
+/// The ports of a space stay all its ports while calls change them in place. The port at a place is one of the space, and a port
+/// of the space with its number may stand there instead.
+pub fn ports_are_changed_in_place()
+    ensures of { (s : SpaceName) (ports : List PortState) (w : ℕ) (port : PortState) → AreAllPortsOf s ports
+        → w < length ports → port ≡ get_or ports w port → IsPortOf s port }
+    ensures all { (s : SpaceName) (ports : List PortState) (w : ℕ) (port after : PortState) → AreAllPortsOf s ports
+        → w < length ports → port ≡ get_or ports w port → IsPortOf s after → after.number ≡ port.number
+        → AreAllPortsOf s (set ports w after) }
+{}

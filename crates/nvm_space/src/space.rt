@@ -93,6 +93,20 @@ impl Space {
         ))
     }
 
+    /// The namespace that it is.
+    pub fn geometry(&self) -> Geometry
+        ensures { result ≡ self.now.namespace }
+    {
+        self.geometry
+    }
+
+    /// The most entries that a unit's history may have.
+    pub fn limit(&self) -> Limit
+        ensures { result ≡ self.now.limit }
+    {
+        self.limit
+    }
+
     /// Does a job by the port's passes, or refuses it, and says what its host is told. `number` is the job's number,
     /// which the entries bear that it makes. Each part is one step of its unit; the parts are done in the order
     /// of the units, up to the first that doesn't succeed.

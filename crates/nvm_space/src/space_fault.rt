@@ -10,7 +10,7 @@ pub enum SpaceFault {
     /// The number of ports is 0 or above 64.
     #[error("ports")]
     Ports,
-    /// Memory was asked for and refused.
+    /// A growth was refused: for a unit, for the list of units, or for the ports and their passes. Nothing is left.
     #[error("no memory")]
     NoMemory,
 }

@@ -43,6 +43,6 @@ impl Clone for Observed {
 /// Why [`Unit::observe`](crate::Unit::observe) has no answer.
 #[derive(Clone, Copy, Debug, PartialEq, Eq)]
 pub enum ObserveFault {
-    /// Memory for the data was asked for at this point, and refused.
+    /// The growth for a Read's data was refused, at this point. The unit is as it was, and may be looked at again.
     NoMemory { point: u32 },
 }

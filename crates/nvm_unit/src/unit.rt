@@ -102,6 +102,13 @@ impl Unit {
         ))
     }
 
+    /// The LBAs of the unit, and the size of its blocks.
+    pub fn place(&self) -> Place
+        ensures { result ≡ self.now.bounds.place }
+    {
+        self.bounds.place
+    }
+
     /// The whole history of the unit, once nobody uses it any more. The passes are those that
     /// [`Unit::new`] gave with it, in their order. It takes no memory, and waits for nothing.
     pub fn close(self, passes: Vec<Pass>) -> History

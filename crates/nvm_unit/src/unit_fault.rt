@@ -10,7 +10,7 @@ pub enum UnitFault {
     /// The number of passes is 0 or above 64.
     #[error("passes")]
     Passes,
-    /// Memory was asked for and refused.
+    /// A growth was refused: for the unit's blocks, for the table that holds them, or for the list of passes. Nothing is left.
     #[error("no memory")]
     NoMemory,
 }
