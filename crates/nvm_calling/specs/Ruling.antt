@@ -1,19 +1,16 @@
 -- Which ruling follows from the first fault of a record (own).
-use Rattle.std.specs.Prelude.{Some, None}
+use Rattle.std.specs.Prelude.{ℕ, Option, Some, None}
 use Rattle.nvm_audit.specs.declared.audit_fault.AuditFault.{AuditFault}
-use Rattle.nvm_audit.specs.declared.audit_fault.AuditFault.TheVariants.{JobMissing, JobTwice, EntryUnclaimed, EntryWrong, PointPast, PointBack, StatusWrong, DataWrong, NoMemory}
+use Rattle.nvm_audit.specs.declared.audit_fault.Spot.{Spot}
+use Rattle.nvm_audit.specs.FaultPlace.{job_of, spot_of}
 use Rattle.nvm_calling.specs.declared.audit.Ruling.{Ruling}
 use Rattle.nvm_calling.specs.declared.audit.Ruling.TheVariants.{Retire, Stop, Again}
 
--- A fault that names a unit retires it, and one that names a job alone stops all.
+-- A fault that names a unit retires it, and one that names a job alone stops all. Want of memory names neither.
+abbrev pub ruling_with : Option ℕ → Option Spot → Ruling
+ruling_with None spot = Again
+ruling_with (Some job) None = Stop job
+ruling_with (Some job) (Some spot) = Retire spot.unit
+
 abbrev pub ruling_of : AuditFault → Ruling
-ruling_of (JobMissing job) = Stop job
-ruling_of (JobTwice job) = Stop job
-ruling_of (EntryUnclaimed job spot) = Retire spot.unit
-ruling_of (EntryWrong job spot) = Retire spot.unit
-ruling_of (PointPast job spot) = Retire spot.unit
-ruling_of (PointBack job spot) = Retire spot.unit
-ruling_of (StatusWrong job (Some spot)) = Retire spot.unit
-ruling_of (StatusWrong job None) = Stop job
-ruling_of (DataWrong job spot) = Retire spot.unit
-ruling_of NoMemory = Again
+ruling_of fault = ruling_with (job_of fault) (spot_of fault)

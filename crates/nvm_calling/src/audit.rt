@@ -38,19 +38,9 @@ pub fn rule_on(rt: &(impl Threads + Sync), alloc: Global, record: &Record) -> Ru
 fn ruling_after(fault: AuditFault) -> Ruling
     ensures { result ≡ ruling_of fault }
 {
-    match fault {
-        AuditFault::NoMemory => Ruling::Again,
-        AuditFault::EntryUnclaimed { spot, .. }
-        | AuditFault::EntryWrong { spot, .. }
-        | AuditFault::PointPast { spot, .. }
-        | AuditFault::PointBack { spot, .. }
-        | AuditFault::DataWrong { spot, .. }
-        | AuditFault::StatusWrong {
-            spot: Some(spot),
-            ..
-        } => Ruling::Retire { unit: spot.unit },
-        AuditFault::JobMissing { job }
-        | AuditFault::JobTwice { job }
-        | AuditFault::StatusWrong { job, spot: None } => Ruling::Stop { job },
+    match (fault.job(), fault.spot()) {
+        (Some(_), Some(spot)) => Ruling::Retire { unit: spot.unit },
+        (Some(job), None) => Ruling::Stop { job },
+        (None, _) => Ruling::Again,
     }
 }

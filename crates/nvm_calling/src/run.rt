@@ -1,13 +1,10 @@
 ghost use Rattle.std.specs.Prelude.{◌↔◌, IfOk, IfErr, IsTrue};
-ghost use Rattle.nvm_audit.specs.Recordable.{HoldsBody};
-ghost use Rattle.nvm_audit.specs.declared.version.Version.TheVariants.{Two};
 ghost use Rattle.nvm_calling.specs.Unrun.{CanBeRun, IsUnrun};
 ghost use Rattle.nvm_run.specs.RunRecord.{IsRecordOfRun};
 
-use nvm_audit::Record;
+use nvm_audit::{MOST_JOBS, Record, Version};
 use nvm_geometry::Geometry;
-use nvm_plan::{Body, Job, fits};
-use nvm_record::Op;
+use nvm_plan::{Job, fits};
 use nvm_run::{RunFault, run};
 use nvm_store::Limit;
 use nvm_unit::Open;
@@ -18,7 +15,7 @@ use std::thread::Threads;
 /// Why there is no record of a run.
 #[derive(Clone, Copy, Debug, PartialEq, Eq)]
 pub enum Unrun {
-    /// There are more than 4,194,304 jobs.
+    /// There are more jobs than a record has.
     TooMany,
     /// The job at this place doesn't fit the namespace, or has opcode 09h as an unknown one. Each job before it can be run.
     Unfit { place: usize },
@@ -40,7 +37,7 @@ pub fn record_of<R: Threads + Wait + Sync>(
     ensures run { IfOk result (IsRecordOfRun geometry limit workers jobs.now) }
     ensures unrun { IfErr result (IsUnrun geometry workers jobs.now) }
 {
-    if jobs.len() > 4_194_304 {
+    if jobs.len() > MOST_JOBS as usize {
         return Err(Unrun::TooMany);
     }
     for (place, job) in jobs.iter().enumerate() {
@@ -62,15 +59,5 @@ pub fn record_of<R: Threads + Wait + Sync>(
 fn can_be_run(geometry: &Geometry, job: &Job) -> bool
     ensures { IsTrue result ↔ CanBeRun geometry.now job.now }
 {
-    fits(geometry, job) && has_known_opcodes(job)
-}
-
-/// Whether no command of the job has opcode 09h as an unknown one.
-fn has_known_opcodes(job: &Job) -> bool
-    ensures { IsTrue result ↔ HoldsBody Two job.now.body }
-{
-    match &job.body {
-        Body::Single(command) => command.op != Op::Other(0x09),
-        Body::Pair(first, second) => first.op != Op::Other(0x09) && second.op != Op::Other(0x09),
-    }
+    fits(geometry, job) && Version::Two.holds(&job.body)
 }

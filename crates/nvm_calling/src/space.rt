@@ -6,7 +6,7 @@ ghost use Rattle.nvm_space.specs.declared.space_fault.SpaceFault.TheVariants.{No
 
 use nvm_geometry::Geometry;
 use nvm_plan::Job;
-use nvm_space::laws::units_end_with_lawful_histories;
+use nvm_space::laws::{ports_are_changed_in_place, units_end_with_lawful_histories};
 use nvm_space::{JobDone, Space, SpaceFault};
 use nvm_store::{History, Limit};
 use nvm_unit::Open;
@@ -37,6 +37,7 @@ pub fn job_alone<R: Wait>(
         (map (λ history. history.items) alone.histories.items)) }
     ensures fault { IfErr result (λ fault. fault ≡ NoMemory) }
 {
+    ports_are_changed_in_place();
     units_end_with_lawful_histories();
     let (space, mut ports) = Space::new(alloc, geometry, 1, limit)?;
     let done = space.run_job(rt, alloc, &mut ports[0], 0, job, &Open);

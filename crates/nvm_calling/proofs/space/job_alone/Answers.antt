@@ -10,7 +10,6 @@ use Rattle.nvm_space.specs.Spaces.{SpaceName}
 use Rattle.nvm_space.specs.Trace.{DoesJob}
 use Rattle.nvm_space.specs.Shuffle.{AreLawfulHistories}
 use Rattle.nvm_space.proofs.Lists.{at_map_back}
-use Rattle.nvm_space.proofs.PortsKept.{of_space}
 use Rattle.nvm_calling.proofs.space.job_alone.Goals as goal
 
 pub run_job-done-requires-clause-of : goal.run_job-done-requires-clause-of
@@ -19,7 +18,7 @@ run_job-done-requires-clause-of g c =
     let ports = c.in_ok-space.ports.items in
     let all = c.in_ok-space.ensures.all in
     let one : 0 < length ports = omega (arith, all.count, c.in_ok-space.ensures.count) in
-    of_space s ports 0 c.index_mut.result.now all one c.index_mut.ensures.value
+    c.ports_are_changed_in_place.ensures.of s ports 0 c.index_mut.result.now all one c.index_mut.ensures.value
 
 pub returns-clause-lawful : goal.returns-clause-lawful
 returns-clause-lawful g c =
