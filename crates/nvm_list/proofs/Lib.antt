@@ -17,3 +17,5 @@ pub mod OptionListing
 pub mod CommandListing
 pub mod ListListing
 pub mod FirstFaults
+pub mod SaidWords
+pub mod SaidOfCommands

@@ -11,4 +11,5 @@ pub mod Lists
 pub mod Said
 pub mod Listing
 pub mod FirstFault
+pub mod SaidCommands
 pub mod Inside

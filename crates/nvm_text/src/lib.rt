@@ -22,6 +22,6 @@ mod run;
 pub use front::{write_name, write_status};
 pub use line::{write_line, write_told};
 pub use name::{push_name, push_status};
-pub use number::{push_decimal, write_decimal};
+pub use number::{push_decimal, push_hex2, write_decimal};
 pub use piece::Piece;
 pub use run::{push_runs, write_runs};

@@ -2,8 +2,10 @@ ghost use Rattle.std.specs.Prelude.{◌≡◌, ◌<◌, ◌++◌, ◌∷◌, [],
 ghost use Rattle.std.specs.Io.KnownBytes.{Appends};
 ghost use Rattle.nvm_write.specs.Handed.{TakesFront};
 ghost use Rattle.nvm_text.specs.Kept.{KeepsText};
-ghost use Rattle.nvm_text.specs.Lines.{hex_digit, hex2};
+ghost use Rattle.nvm_text.specs.Lines as spec;
+ghost use Rattle.nvm_text.specs.Lines.{hex2};
 
+use crate::digit::hex_digit;
 use crate::piece::Piece;
 use nvm_record::NoMemory;
 use nvm_write::hand;
@@ -46,14 +48,9 @@ pub fn push_hex2(text: &mut String, byte: u8) -> Result<(), NoMemory>
 fn push_digit(text: &mut String, digit: u8) -> Result<(), NoMemory>
     requires { digit < 16 }
     ensures ok { OnOk result
-        (string_bytes text.new ≡ string_bytes text.old ++ hex_digit digit ∷ []) }
+        (string_bytes text.new ≡ string_bytes text.old ++ spec.hex_digit digit ∷ []) }
     ensures err { OnErr result (KeepsText (string_bytes text.old) (string_bytes text.new)) }
 {
-    let code = if digit < 10 {
-        b'0' + digit
-    } else {
-        b'a' - 10 + digit
-    };
-    text.push(code as char)?;
+    text.push(hex_digit(digit) as char)?;
     Ok(())
 }
