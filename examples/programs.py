@@ -22,6 +22,7 @@ from host_files import Asked, compare, dataset, file_of, read, uncorrectable, un
 from lists_run import lists_run
 from listings import listings
 from outs import outs_of_nvmu, outs_of_nvq, outs_that_are_read, shown_nowhere
+from progress import progress
 from rows import rows
 from runs import runs
 from two_owners import two_owners
@@ -287,7 +288,7 @@ def words_of_unit_bench(run):
 
 TABLES = [lists, words_of_nvq, listings, lists_run, explained, pictures, outs_of_nvq, words_of_nvmu, files_of_nvmu, files_that_stop, several_workers]
 TABLES += [versions, standard_input, files_of_another_kind, outs_that_are_read]
-TABLES += [outs_of_nvmu, shown_nowhere, runs, rows, forged, spoiled, two_owners, words_of_unit_bench]
+TABLES += [outs_of_nvmu, shown_nowhere, progress, runs, rows, forged, spoiled, two_owners, words_of_unit_bench]
 
 
 def tried():

@@ -28,11 +28,13 @@ mod unit_audit;
 mod verdict;
 mod version;
 mod walking;
+mod watcher;
 
 pub use audit_fault::{AuditFault, Spot};
 pub use done_job::DoneJob;
 pub use record::{MOST_JOBS, Record};
-pub use record_audit::audit;
+pub use record_audit::{audit, audit_watched};
 pub use unit_audit::unit_fault;
 pub use verdict::Verdict;
 pub use version::Version;
+pub use watcher::{Unwatched, Watcher};

@@ -18,17 +18,19 @@ use crate::laws::{no_check_fails_for_lawful_records, one_check_is_the_first_faul
 use crate::record::Record;
 use crate::unit_audit::fault_of_parts;
 use crate::verdict::Verdict;
+use crate::watcher::{Unwatched, Watcher};
 use nvm_record::NoMemory;
 use rayon::prelude::*;
 use std::alloc::Global;
 use std::thread::Threads;
 
 /// What is found in each unit, in their order, from as many threads as there are processors.
-fn found_in_units(
+fn found_in_units<W: Watcher + Sync>(
     rt: &(impl Threads + Sync),
     alloc: Global,
     record: &Record,
     parts: &Vec<Vec<DonePart<'_>>>,
+    watcher: &W,
 ) -> Result<Vec<Result<Option<AuditFault>, NoMemory>>, NoMemory>
     requires shapes { HaveShapes «record».now }
     requires parts { AreGrouped (length «record».now.units) (parts_of_workers 0 «record».now.done)
@@ -43,17 +45,22 @@ fn found_in_units(
             |unit: u16| -> Result<Option<AuditFault>, NoMemory>
                 requires { CanBeAudited «record».now (map (λ group. group.items) parts.now.items) unit }
                 ensures { IfOk result (IsFoundIn «record».entry.now unit) }
-            { fault_of_parts(alloc, record, unit, &parts[unit as usize]) },
+            {
+                let found = fault_of_parts(alloc, record, unit, &parts[unit as usize]);
+                watcher.after_unit(unit);
+                found
+            },
         )
         .collect(rt, alloc)
 }
 
 /// What is first found wrong in the units, by their numbers, if anything is. The parts are grouped by unit in one pass, and
 /// then a unit costs what its own entries and parts cost. Where memory was refused for a unit before, nothing is known.
-fn first_in_units(
+fn first_in_units<W: Watcher + Sync>(
     rt: &(impl Threads + Sync),
     alloc: Global,
     record: &Record,
+    watcher: &W,
 ) -> Result<Option<AuditFault>, NoMemory>
     requires { AllByRecursion (Passes «record».now)
         (count_checks (length «record».now.jobs) ++ shape_checks (length «record».now.jobs)) }
@@ -62,7 +69,7 @@ fn first_in_units(
     no_check_fails_for_lawful_records();
     let units = usize::from(record.geometry.units());
     let parts = parts_by_unit(alloc, units, &record.done)?;
-    let found = found_in_units(rt, alloc, record, &parts)?;
+    let found = found_in_units(rt, alloc, record, &parts, watcher)?;
     for unit in 0..found.len() {
         match found[unit]? {
             Some(fault) => return Ok(Some(fault)),
@@ -73,16 +80,17 @@ fn first_in_units(
 }
 
 /// What is first found wrong in the record, if anything is.
-fn first_fault(
+fn first_fault<W: Watcher + Sync>(
     rt: &(impl Threads + Sync),
     alloc: Global,
     record: &Record,
+    watcher: &W,
 ) -> Result<Option<AuditFault>, NoMemory>
     ensures { IfOk result (λ found. MatchOption found (IsLawfulRecord «record».now) (IsFirstFault «record».now)) }
 {
     match job_fault(alloc, record)? {
         Some(fault) => Ok(Some(fault)),
-        None => first_in_units(rt, alloc, record),
+        None => first_in_units(rt, alloc, record, watcher),
     }
 }
 
@@ -102,8 +110,26 @@ pub fn audit(
     ensures named { (fault : Fault) → IsFirstFault «record».now fault
         → MatchResult result (λ _. ⊥) (λ answer. (answer ≡ fault) ⊎ (answer ≡ NoMemoryFault)) }
 {
+    audit_watched(rt, alloc, record, &Unwatched)
+}
+
+/// What [`audit`] answers. The watcher is told how far it is.
+pub fn audit_watched<W: Watcher + Sync>(
+    rt: &(impl Threads + Sync),
+    alloc: Global,
+    record: &Record,
+    watcher: &W,
+) -> Result<Verdict, AuditFault>
+    ensures lawful { IfOk result (λ _. IsLawfulRecord «record».now) }
+    ensures numbers { IfOk result (IsVerdict «record».now) }
+    ensures fault { IfErr result (λ fault. IsFirstFault «record».now fault ⊎ (fault ≡ NoMemoryFault)) }
+    ensures accepted { IsLawfulRecord «record».now → IfErr result (λ fault. fault ≡ NoMemoryFault) }
+    ensures named { (fault : Fault) → IsFirstFault «record».now fault
+        → MatchResult result (λ _. ⊥) (λ answer. (answer ≡ fault) ⊎ (answer ≡ NoMemoryFault)) }
+{
     one_check_is_the_first_fault();
-    match first_fault(rt, alloc, record)? {
+    watcher.before_units(record.geometry.units());
+    match first_fault(rt, alloc, record, watcher)? {
         Some(fault) => Err(fault),
         None => Ok(verdict(record)),
     }

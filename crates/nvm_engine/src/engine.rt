@@ -15,7 +15,7 @@ ghost use Rattle.nvm_engine.specs.Shown.{AreHostFiles, IsShown};
 use crate::fault::Fault;
 use crate::settings::Settings;
 use crate::shown::Shown;
-use nvm_audit::Record;
+use nvm_audit::{Record, Unwatched, Watcher};
 use nvm_geometry::Geometry;
 use nvm_plan::job_laws::{jobs_are_of_their_hosts, jobs_fit, no_more_jobs_than_commands};
 use nvm_plan::{Job, MOST_HOSTS, jobs};
@@ -45,6 +45,22 @@ pub fn execute<R: Threads + Wait + Sync, G: Gate + Sync>(
     ensures shown { IfOk result (IsShown settings.now files.now) }
     ensures fault { IfErr result (IsFirstRunFault settings.now files.now) }
 {
+    execute_watched(rt, alloc, settings, files, gate, &Unwatched)
+}
+
+/// What [`execute`] does. The watcher is told how far the audit is.
+pub fn execute_watched<R: Threads + Wait + Sync, G: Gate + Sync, W: Watcher + Sync>(
+    rt: &R,
+    alloc: Global,
+    settings: &Settings,
+    files: &[Payload],
+    gate: &G,
+    watcher: &W,
+) -> Result<Shown, Fault>
+    // What is shown is the record of a run of the files' commands.
+    ensures shown { IfOk result (IsShown settings.now files.now) }
+    ensures fault { IfErr result (IsFirstRunFault settings.now files.now) }
+{
     if files.len() > usize::from(MOST_HOSTS) {
         return Err(Fault::TooManyHosts);
     }
@@ -52,7 +68,7 @@ pub fn execute<R: Threads + Wait + Sync, G: Gate + Sync>(
     let hosts = hosts_of(alloc, geometry.block_size(), files)?;
     let jobs = jobs_of(alloc, hosts)?;
     let record = record_of(rt, alloc, geometry, settings, jobs, gate)?;
-    let shown = Shown::of_record(rt, alloc, record)?;
+    let shown = Shown::of_record(rt, alloc, record, watcher)?;
     Ok(shown)
 }
 

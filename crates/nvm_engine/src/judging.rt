@@ -12,7 +12,7 @@ ghost use Rattle.nvm_engine.specs.declared.fault.Fault.TheVariants.{NoMemory as 
 
 use crate::fault::Fault;
 use crate::judged::Judged;
-use nvm_audit::{AuditFault, Record, Verdict, audit};
+use nvm_audit::{AuditFault, Record, Unwatched, Verdict, Watcher, audit_watched};
 use nvm_file::read_record;
 use nvm_record::{NoMemory, Payload};
 use std::alloc::{AllocError, Global};
@@ -35,8 +35,26 @@ pub fn audit_bytes(
     ensures named { (r : RecordView) (first : FaultOfRecord) → IsRecordFile bytes.now r → IsFirstFault r first
         → MatchResult result (λ judged. judged ≡ Err first) (λ fault. fault ≡ NoMemoryFault) }
 {
+    audit_bytes_watched(rt, alloc, bytes, &Unwatched)
+}
+
+/// What [`audit_bytes`] answers. The watcher is told how far the audit is.
+pub fn audit_bytes_watched<W: Watcher + Sync>(
+    rt: &(impl Threads + Sync),
+    alloc: Global,
+    bytes: &Payload,
+    watcher: &W,
+) -> Result<Judged, Fault>
+    ensures judged { IfOk result (IsJudged bytes.now) }
+    ensures fault { IfErr result (IsUnreadFault bytes.now) }
+    // A lawful record is told to be so, and of another one its first fault is told, unless memory was refused.
+    ensures accepted { (r : RecordView) → IsRecordFile bytes.now r → IsLawfulRecord r
+        → MatchResult result (λ judged. (verdict : Numbers) × (judged ≡ Ok verdict)) (λ fault. fault ≡ NoMemoryFault) }
+    ensures named { (r : RecordView) (first : FaultOfRecord) → IsRecordFile bytes.now r → IsFirstFault r first
+        → MatchResult result (λ judged. judged ≡ Err first) (λ fault. fault ≡ NoMemoryFault) }
+{
     let held = record_of(alloc, bytes)?;
-    let judged = judged_of(rt, alloc, &held)?;
+    let judged = judged_of(rt, alloc, &held, watcher)?;
     Ok(judged)
 }
 
@@ -52,27 +70,33 @@ fn record_of(alloc: Global, bytes: &Payload) -> Result<Record, Fault>
 }
 
 /// What an audit tells of the record.
-fn judged_of(rt: &(impl Threads + Sync), alloc: Global, run: &Record) -> Result<Judged, NoMemory>
+fn judged_of<W: Watcher + Sync>(
+    rt: &(impl Threads + Sync),
+    alloc: Global,
+    run: &Record,
+    watcher: &W,
+) -> Result<Judged, NoMemory>
     ensures judged { IfOk result (IsJudgedAs run.now) }
     ensures accepted { IsLawfulRecord run.now → IfOk result (λ judged. (verdict : Numbers) × (judged ≡ Ok verdict)) }
     ensures named { (first : FaultOfRecord) → IsFirstFault run.now first → IfOk result (λ judged. judged ≡ Err first) }
 {
-    match audit(rt, alloc, run) {
+    match audit_watched(rt, alloc, run, watcher) {
         Ok(verdict) => Ok(Judged::lawful(verdict)),
         Err(fault) => Ok(Judged::unlawful(fault)?),
     }
 }
 
 /// The verdict of a lawful record.
-pub(crate) fn verdict_of(
+pub(crate) fn verdict_of<W: Watcher + Sync>(
     rt: &(impl Threads + Sync),
     alloc: Global,
     run: &Record,
+    watcher: &W,
 ) -> Result<Verdict, NoMemory>
     requires { IsLawfulRecord run.now }
     ensures { IfOk result (IsVerdict run.now) }
 {
-    match audit(rt, alloc, run) {
+    match audit_watched(rt, alloc, run, watcher) {
         Ok(verdict) => Ok(verdict),
         Err(AuditFault::NoMemory) => Err(AllocError),
         Err(_) => unreachable!("a lawful record is accepted"),

@@ -21,10 +21,10 @@ mod status_names;
 mod verdict_line;
 mod workers;
 
-pub use engine::execute;
+pub use engine::{execute, execute_watched};
 pub use fault::Fault;
 pub use judged::Judged;
-pub use judging::audit_bytes;
+pub use judging::{audit_bytes, audit_bytes_watched};
 pub use settings::Settings;
 pub use shown::Shown;
 pub use status_names::status_name;

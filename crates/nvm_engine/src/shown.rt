@@ -13,7 +13,7 @@ use crate::long_text::write_long_record;
 use crate::record_text::write_record_text;
 use crate::standing::{Standing, standings};
 use crate::verdict_line::write_lawful;
-use nvm_audit::{Record, Verdict};
+use nvm_audit::{Record, Verdict, Watcher};
 use nvm_record::NoMemory;
 use std::alloc::Global;
 use std::io;
@@ -50,16 +50,17 @@ impl Model for Shown {
 
 impl Shown {
     /// What is shown of a record. It is audited here.
-    pub(crate) fn of_record(
+    pub(crate) fn of_record<W: Watcher + Sync>(
         rt: &(impl Threads + Sync),
         alloc: Global,
         run: Record,
+        watcher: &W,
     ) -> Result<Shown, NoMemory>
         requires { IsLawfulRecord run }
         ensures same { IfOk result (λ shown. shown ≡ run) }
         ensures held { IfOk result (λ shown. IsRecordable shown) }
     {
-        let verdict = verdict_of(rt, alloc, &run)?;
+        let verdict = verdict_of(rt, alloc, &run, watcher)?;
         let found = found_in(alloc, &run)?;
         Ok(Shown {
             run,

@@ -1,4 +1,5 @@
 use crate::output::Output;
+use crate::progress::Progress;
 use std::fs::{Metadata, OpenFile};
 use std::io::{ErrorKind, Read, Write};
 use std::os::unix::fs::MetadataExt;
@@ -29,13 +30,14 @@ impl From<io::Error> for FileFault {
     }
 }
 
-/// The bytes of the file at a path, or of standard input where the path is `-`.
-pub fn read_input<R: Files + AllocGlobal + Input>(
+/// The bytes of the file at a path, or of standard input where the path is `-`. How far it is, is told of a file.
+pub fn read_input<R: Files + AllocGlobal + Input + Eprint>(
     rt: &R,
     path: &str,
+    progress: &Progress<'_, R>,
 ) -> Result<Vec<u8>, FileFault> {
     if path != STANDARD {
-        return Ok(bytes_of(rt, path)?);
+        return Ok(bytes_of(rt, path, progress)?);
     }
     let mut bytes = Vec::new(rt.alloc());
     rt.reader().read_to_end(&mut bytes)?;
@@ -44,11 +46,15 @@ pub fn read_input<R: Files + AllocGlobal + Input>(
 
 /// The bytes of a file. Their room is reserved once, from the file's length, with one byte more for the
 /// read that meets the end.
-fn bytes_of<R: Files + AllocGlobal>(rt: &R, path: &str) -> io::Result<Vec<u8>> {
+fn bytes_of<R: Files + AllocGlobal + Eprint>(
+    rt: &R,
+    path: &str,
+    progress: &Progress<'_, R>,
+) -> io::Result<Vec<u8>> {
     let mut file = fs::open(rt, path)?;
     let length = file.metadata()?.len() as usize;
     let mut bytes = Vec::with_capacity(rt.alloc(), length.saturating_add(1))?;
-    push_chunks(rt, &mut file, length, &mut bytes)?;
+    push_chunks(rt, &mut file, length, &mut bytes, path, progress)?;
     file.read_to_end(&mut bytes)?;
     Ok(bytes)
 }
@@ -56,18 +62,23 @@ fn bytes_of<R: Files + AllocGlobal>(rt: &R, path: &str) -> io::Result<Vec<u8>> {
 /// Appends what the file gives in as many reads as its length calls for. Each goes through one chunk, since
 /// a read into the room of `bytes` would have it filled with zeroes first. What is left, if the file gives
 /// less in a read or has grown, is left to the caller.
-fn push_chunks<R: AllocGlobal, F: Read>(
+fn push_chunks<R: AllocGlobal + Eprint, F: Read>(
     rt: &R,
     file: &mut F,
     length: usize,
     bytes: &mut Vec<u8>,
+    path: &str,
+    progress: &Progress<'_, R>,
 ) -> io::Result<()> {
     let mut chunk = Vec::new(rt.alloc());
     chunk.resize(length.min(CHUNK), 0)?;
     for _ in 0..length.div_ceil(CHUNK) {
         match file.read(&mut chunk) {
             Ok(0) => return Ok(()),
-            Ok(count) => bytes.extend_from_slice(&chunk[..count])?,
+            Ok(count) => {
+                progress.read(path, bytes.len(), count, length);
+                bytes.extend_from_slice(&chunk[..count])?;
+            }
             Err(error) if error.kind() == ErrorKind::Interrupted => return Ok(()),
             Err(error) => return Err(error),
         }
@@ -77,16 +88,18 @@ fn push_chunks<R: AllocGlobal, F: Read>(
 
 /// Writes bytes to the file at a path, as an [`Output`] does, or to standard output where the path is `-`, which
 /// takes no memory.
-pub fn write<R: Files + AllocGlobal + Print>(
+pub fn write<R: Files + AllocGlobal + Print + Eprint>(
     rt: &R,
     path: &str,
     bytes: &[u8],
+    progress: &Progress<'_, R>,
 ) -> Result<(), FileFault> {
     if path == STANDARD {
+        progress.clear();
         io::writer(rt).write_all(bytes)?;
         return Ok(());
     }
-    let mut output = Output::file(rt, path)?;
+    let mut output = Output::file(rt, path, progress)?;
     output.write_all(bytes)?;
     output.finish()
 }

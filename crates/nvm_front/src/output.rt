@@ -1,5 +1,6 @@
 use crate::files::{FileFault, STANDARD};
 use crate::hint::refusal;
+use crate::progress::Progress;
 use crate::unfinished::Unfinished;
 use std::fs::{OpenFile, OpenOptions};
 use std::io::{BufWriter, ErrorKind, Printer, Write};
@@ -22,31 +23,44 @@ const GATHERED: usize = 65_536;
 /// file, its owner can't be given one, or it is a mount point. After a fault such a file, and standard output, may
 /// have a part of what was written.
 #[derive(Drop)]
-pub struct Output<'a, R: Files + Print> {
+pub struct Output<'a, R: Files + Print + Eprint> {
     writer: BufWriter<Target<'a, R>>,
     unfinished: Option<Unfinished<'a, R>>,
 }
 
-impl<'a, R: Files + AllocGlobal + Print> Output<'a, R> {
+impl<'a, R: Files + AllocGlobal + Print + Eprint> Output<'a, R> {
     /// The file at a path, or standard output where the path is `-`.
-    pub fn new(rt: &'a R, path: &'a str) -> Result<Output<'a, R>, FileFault> {
+    pub fn new(
+        rt: &'a R,
+        path: &'a str,
+        progress: &'a Progress<'a, R>,
+    ) -> Result<Output<'a, R>, FileFault> {
         if path == STANDARD {
-            Output::standard(rt)
+            Output::standard(rt, progress)
         } else {
-            Output::file(rt, path)
+            Output::file(rt, path, progress)
         }
     }
 
-    /// The file at a path, whatever its name is.
-    pub fn file(rt: &'a R, path: &'a str) -> Result<Output<'a, R>, FileFault> {
+    /// The file at a path, whatever its name is. What is written of it is told.
+    pub fn file(
+        rt: &'a R,
+        path: &'a str,
+        progress: &'a Progress<'a, R>,
+    ) -> Result<Output<'a, R>, FileFault> {
         let (file, unfinished) = opened(rt, path)?;
-        let writer = BufWriter::with_capacity(rt.alloc(), GATHERED, Target::File(file))?;
+        let target = Target::new(To::File(file), path, Some(progress));
+        let writer = BufWriter::with_capacity(rt.alloc(), GATHERED, target)?;
         Ok(Output { writer, unfinished })
     }
 
-    /// Standard output.
-    pub fn standard(rt: &'a R) -> Result<Output<'a, R>, FileFault> {
-        let target = Target::Standard(io::writer(rt));
+    /// Standard output. What is written to it is told where it is no terminal.
+    pub fn standard(
+        rt: &'a R,
+        progress: &'a Progress<'a, R>,
+    ) -> Result<Output<'a, R>, FileFault> {
+        let told = progress.tells_of_output().then_some(progress);
+        let target = Target::new(To::Standard(io::writer(rt)), "standard output", told);
         let writer = BufWriter::with_capacity(rt.alloc(), GATHERED, target)?;
         Ok(Output {
             writer,
@@ -55,7 +69,7 @@ impl<'a, R: Files + AllocGlobal + Print> Output<'a, R> {
     }
 }
 
-impl<R: Files + Print> Output<'_, R> {
+impl<R: Files + Print + Eprint> Output<'_, R> {
     /// Writes what is still gathered. Then a file that was written beside its path takes its place, once it stands
     /// on the disk. After a fault nothing is left of it, and what stood at the path stays as it was.
     pub fn finish(self) -> Result<(), FileFault> {
@@ -72,7 +86,7 @@ impl<R: Files + Print> Output<'_, R> {
     }
 }
 
-impl<R: Files + Print> Write for Output<'_, R> {
+impl<R: Files + Print + Eprint> Write for Output<'_, R> {
     fn write(&mut self, bytes: &[u8]) -> io::Result<usize> {
         self.writer.write(bytes)
     }
@@ -86,35 +100,58 @@ impl<R: Files + Print> Write for Output<'_, R> {
     }
 }
 
+/// Where the bytes go, and who is told of them.
+#[derive(Drop)]
+struct Target<'a, R: Files + Print + Eprint> {
+    to: To<'a, R>,
+    name: &'a str,
+    written: usize,
+    told: Option<&'a Progress<'a, R>>,
+}
+
 /// Where the bytes go.
 #[derive(Drop)]
-enum Target<'a, R: Files + Print> {
+enum To<'a, R: Files + Print> {
     File(R::File),
     Standard(Printer<'a, R>),
 }
 
-impl<R: Files + Print> Target<'_, R> {
+impl<'a, R: Files + Print + Eprint> Target<'a, R> {
+    fn new(to: To<'a, R>, name: &'a str, told: Option<&'a Progress<'a, R>>) -> Target<'a, R> {
+        Target {
+            to,
+            name,
+            written: 0,
+            told,
+        }
+    }
+
     /// Waits until the disk has what was written. Some faults of a disk show only then.
     fn sync(&self) -> io::Result<()> {
-        match self {
-            Target::File(file) => file.sync_all(),
-            Target::Standard(_) => Ok(()),
+        match &self.to {
+            To::File(file) => file.sync_all(),
+            To::Standard(_) => Ok(()),
         }
     }
 }
 
-impl<R: Files + Print> Write for Target<'_, R> {
+impl<R: Files + Print + Eprint> Write for Target<'_, R> {
     fn write(&mut self, bytes: &[u8]) -> io::Result<usize> {
-        match self {
-            Target::File(file) => file.write(bytes),
-            Target::Standard(printer) => printer.write(bytes),
+        let count = match &mut self.to {
+            To::File(file) => file.write(bytes)?,
+            To::Standard(printer) => printer.write(bytes)?,
+        };
+        if let Some(progress) = self.told {
+            progress.written(self.name, self.written, count);
         }
+        self.written = self.written.saturating_add(count);
+        Ok(count)
     }
 
     fn flush(&mut self) -> io::Result<()> {
-        match self {
-            Target::File(file) => file.flush(),
-            Target::Standard(printer) => printer.flush(),
+        match &mut self.to {
+            To::File(file) => file.flush(),
+            To::Standard(printer) => printer.flush(),
         }
     }
 }

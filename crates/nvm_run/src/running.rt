@@ -31,8 +31,8 @@ use std::thread::Threads;
 /// Does the jobs on a namespace of zero bytes by so many workers, 1 to 64, each on a thread of its own where one can be made, and
 /// gives the record of the run, which owns the jobs. Each unit's history may have as many entries as the limit says.
 ///
-/// Each worker draws the number of the next job, does it by its own port, has the gate told by `after_job`, and goes on until no
-/// job is left. The record is lawful, and of just these jobs.
+/// The gate is told by `before_jobs` how many there are. Each worker draws the number of the next job, does it by its own port, has
+/// the gate told by `after_job`, and goes on until no job is left. The record is lawful, and of just these jobs.
 ///
 /// `Workers` says that there can't be so many workers. `NoMemory` says that a growth outside a job was refused: all workers
 /// have ended then, and nothing is kept. A job that finds no memory ends with 0/06, and is recorded so. It waits for the units.
@@ -94,6 +94,7 @@ fn done_by_workers<R: Threads + Wait + Sync, G: Gate + Sync>(
     // For the proof alone: that the geometry and the limit are sound.
     let _nsze = geometry.nsze();
     let _entries = limit.entries();
+    gate.before_jobs(jobs.len() as u32);
     let (counter, claims) = Counter::new(alloc, jobs.len() as u32, workers)?;
     let Ok((space, ports)) = Space::new(alloc, geometry, workers, limit) else {
         return Err(RunFault::NoMemory);

@@ -1,10 +1,13 @@
-/// What is told of the course of jobs. Both methods return, and wait for nothing.
+/// What is told of the course of jobs. Each method returns, and waits for nothing.
 pub trait Gate {
     /// The unit of this number, which a change of the job holds, is about to be put back.
     fn before_put(&self, unit: u16, job: u32);
 
     /// The job is done.
     fn after_job(&self, job: u32);
+
+    /// So many jobs are about to be done, which count from 0.
+    fn before_jobs(&self, _jobs: u32) {}
 }
 
 /// A gate that does nothing.

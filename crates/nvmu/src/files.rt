@@ -6,31 +6,36 @@ use crate::failure::Failure;
 use nvm_audit::Record;
 use nvm_engine::Fault;
 use nvm_file::write_record;
-use nvm_front::{FileFault, Output, STANDARD, is_read, read_input, refusal};
+use nvm_front::{FileFault, Output, Progress, STANDARD, is_read, read_input, refusal};
 use nvm_record::Payload;
 use std::alloc::{AllocError, Global};
 use std::rt::Files;
 
 /// The bytes of each file, in the files' order; `-` is standard input. The first that can't be read is the fault.
-pub fn read_files<R: Files + AllocGlobal + Input>(
+pub fn read_files<R: Files + AllocGlobal + Input + Eprint>(
     rt: &R,
     paths: &[String],
+    progress: &Progress<'_, R>,
 ) -> Result<Vec<Payload>, Failure>
     ensures count { IfOk result (λ files. length files.items ≡ length paths.now) }
     ensures fault { IfErr result (λ failure. IsReadingFault (map (λ path. string_bytes path) paths.now) failure.fault) }
 {
     let mut files = Vec::with_capacity(rt.alloc(), paths.len())?;
     for path in paths {
-        files.push(bytes_of(rt, path.as_str())?)?;
+        files.push(bytes_of(rt, path.as_str(), progress)?)?;
     }
     Ok(files)
 }
 
 /// The bytes of a file, or of standard input where the path is `-`. Want of memory isn't the file's fault.
-pub fn bytes_of<R: Files + AllocGlobal + Input>(rt: &R, path: &str) -> Result<Payload, Failure>
+pub fn bytes_of<R: Files + AllocGlobal + Input + Eprint>(
+    rt: &R,
+    path: &str,
+    progress: &Progress<'_, R>,
+) -> Result<Payload, Failure>
     ensures { IfErr result (λ failure. IsReadFault path.now failure.fault) }
 {
-    match read_input(rt, path) {
+    match read_input(rt, path, progress) {
         Ok(bytes) => Ok(Payload::new(rt.alloc(), bytes)?),
         Err(FileFault::NoMemory) => Err(Failure::from(Fault::NoMemory)),
         Err(FileFault::Refused(kind)) => Err(unread(rt.alloc(), path, refusal(kind))),
@@ -77,26 +82,28 @@ pub fn check_output<R: Files + AllocGlobal>(
 }
 
 /// Writes the file of a record. It appears whole or not at all: where it can't be written, what stood at the path stays as it was.
-pub fn write_file<R: Files + AllocGlobal + Print>(
+pub fn write_file<R: Files + AllocGlobal + Print + Eprint>(
     rt: &R,
     path: &str,
     run: &Record,
+    progress: &Progress<'_, R>,
 ) -> Result<(), Failure>
     ensures { IfErr result (λ failure. IsWriteFault path.now failure.fault) }
 {
-    match written_to(rt, path, run) {
+    match written_to(rt, path, run, progress) {
         Ok(()) => Ok(()),
         Err(FileFault::NoMemory) => Err(Failure::from(Fault::NoMemory)),
         Err(FileFault::Refused(kind)) => Err(unwritten(rt.alloc(), path, refusal(kind))),
     }
 }
 
-fn written_to<R: Files + AllocGlobal + Print>(
+fn written_to<R: Files + AllocGlobal + Print + Eprint>(
     rt: &R,
     path: &str,
     run: &Record,
+    progress: &Progress<'_, R>,
 ) -> Result<(), FileFault> {
-    let mut output = Output::file(rt, path)?;
+    let mut output = Output::file(rt, path, progress)?;
     write_record(&mut output, run)?;
     output.finish()
 }

@@ -13,10 +13,11 @@ mod words;
 use crate::failure::Failure;
 use crate::files::{bytes_of, check_inputs, check_output, read_files, write_file};
 use crate::words::{Asked, read_words};
-use nvm_engine::{Fault, Judged, Settings, Shown, audit_bytes, execute};
-use nvm_front::{FileFault, Output, WordFault, tell, tell_unwritten, texts_of, words_given};
-use nvm_unit::Open;
-use std::io::ErrorKind;
+use nvm_engine::{Fault, Judged, Settings, Shown, audit_bytes_watched, execute_watched};
+use nvm_front::{
+    FileFault, Output, Progress, Terminals, WordFault, tell, tell_unwritten, texts_of, words_given,
+};
+use std::io::{ErrorKind, IsTerminal};
 use std::process::ExitCode;
 use std::rt::{Env, Files};
 use std::sync::Wait;
@@ -26,18 +27,24 @@ use std::thread::Threads;
 const NAME: &str = "nvmu";
 
 fn main(rt: HostRuntime) -> ExitCode {
-    ExitCode::from(status_of(&rt))
+    let terminals = Terminals {
+        output: rt.stdout().is_terminal(),
+        error: rt.stderr().is_terminal(),
+    };
+    let progress = Progress::new(&rt, NAME, terminals);
+    ExitCode::from(status_of(&rt, &progress))
 }
 
 /// Does what the words of the command line ask for, and gives the exit status: 0, 2 where a record isn't lawful, or 1 after a
 /// fault. The room of standard output is taken first, so that no memory is wanted for the text once the record of a run stands.
 fn status_of<R: AllocGlobal + Env + Files + Input + Print + Eprint + Threads + Wait + Sync>(
     rt: &R,
+    progress: &Progress<'_, R>,
 ) -> u8 {
     match asked(rt) {
-        Ok(asked) => match Output::standard(rt) {
-            Ok(output) => done(rt, &asked, output),
-            Err(_) => failed(rt, Failure::from(Fault::NoMemory)),
+        Ok(asked) => match Output::standard(rt, progress) {
+            Ok(output) => done(rt, &asked, output, progress),
+            Err(_) => failed(rt, Failure::from(Fault::NoMemory), progress),
         },
         Err(fault) => tell(rt, NAME, fault),
     }
@@ -55,52 +62,55 @@ fn done<R: AllocGlobal + Files + Input + Print + Eprint + Threads + Wait + Sync>
     rt: &R,
     asked: &Asked,
     output: Output<'_, R>,
+    progress: &Progress<'_, R>,
 ) -> u8 {
     match asked {
         Asked::Run {
             settings,
             out,
             files,
-        } => match recorded(rt, settings, out.as_str(), files.as_slice()) {
-            Ok(shown) => printed(rt, &shown, output),
-            Err(failure) => failed(rt, failure),
+        } => match recorded(rt, settings, out.as_str(), files.as_slice(), progress) {
+            Ok(shown) => printed(rt, &shown, output, progress),
+            Err(failure) => failed(rt, failure, progress),
         },
-        Asked::Audit { path } => match audited(rt, path.as_str()) {
-            Ok(judged) => told(rt, &judged, output),
-            Err(failure) => failed(rt, failure),
+        Asked::Audit { path } => match audited(rt, path.as_str(), progress) {
+            Ok(judged) => told(rt, &judged, output, progress),
+            Err(failure) => failed(rt, failure, progress),
         },
     }
 }
 
 /// Reads the files at these paths, has their commands done, and writes the record of that. What can be refused before
 /// anything is read is refused then.
-fn recorded<R: AllocGlobal + Files + Input + Print + Threads + Wait + Sync>(
+fn recorded<R: AllocGlobal + Files + Input + Print + Eprint + Threads + Wait + Sync>(
     rt: &R,
     settings: &Settings,
     out: &str,
     paths: &[String],
+    progress: &Progress<'_, R>,
 ) -> Result<Shown, Failure>
     ensures shown { IfOk result (IsShownOn settings.now (map (λ path. string_bytes path) paths.now)) }
     ensures fault { IfErr result (λ failure. IsRunFaultOn settings.now out.now (map (λ path. string_bytes path) paths.now) failure.fault) }
 {
     check_output(rt, out, paths)?;
-    let shown = run(rt, settings, paths)?;
-    write_file(rt, out, shown.record())?;
+    let shown = run(rt, settings, paths, progress)?;
+    write_file(rt, out, shown.record(), progress)?;
     Ok(shown)
 }
 
 /// Reads the files at these paths and has their commands done.
-fn run<R: AllocGlobal + Files + Input + Threads + Wait + Sync>(
+fn run<R: AllocGlobal + Files + Input + Eprint + Threads + Wait + Sync>(
     rt: &R,
     settings: &Settings,
     paths: &[String],
+    progress: &Progress<'_, R>,
 ) -> Result<Shown, Failure>
     ensures shown { IfOk result (IsShownOn settings.now (map (λ path. string_bytes path) paths.now)) }
     ensures fault { IfErr result (λ failure. IsFaultOn settings.now (map (λ path. string_bytes path) paths.now) failure.fault) }
 {
     check_inputs(rt.alloc(), paths)?;
-    let files = read_files(rt, paths)?;
-    match execute(rt, rt.alloc(), settings, files.as_slice(), &Open) {
+    let files = read_files(rt, paths, progress)?;
+    match execute_watched(rt, rt.alloc(), settings, files.as_slice(), progress, progress) {
         Ok(shown) => Ok(shown),
         Err(fault) => Err(Failure::of_run(
             rt.alloc(),
@@ -113,41 +123,60 @@ fn run<R: AllocGlobal + Files + Input + Threads + Wait + Sync>(
 }
 
 /// Reads the record at a path and audits it.
-fn audited<R: AllocGlobal + Files + Input + Threads + Sync>(
+fn audited<R: AllocGlobal + Files + Input + Eprint + Threads + Sync>(
     rt: &R,
     path: &str,
+    progress: &Progress<'_, R>,
 ) -> Result<Judged, Failure>
     ensures judged { IfOk result IsJudgedFile }
     ensures fault { IfErr result (λ failure. IsJudgeFaultOn path.now failure.fault) }
 {
-    let bytes = bytes_of(rt, path)?;
-    match audit_bytes(rt, rt.alloc(), &bytes) {
+    let bytes = bytes_of(rt, path, progress)?;
+    match audit_bytes_watched(rt, rt.alloc(), &bytes, progress) {
         Ok(judged) => Ok(judged),
         Err(fault) => Err(Failure::of_audit(rt.alloc(), fault, path, &bytes)),
     }
 }
 
 /// Writes the text of a run to standard output, line by line as it is made. Where that fails, the status is 1.
-fn printed<R: Files + Print + Eprint>(rt: &R, shown: &Shown, output: Output<'_, R>) -> u8
+fn printed<R: Files + Print + Eprint>(
+    rt: &R,
+    shown: &Shown,
+    output: Output<'_, R>,
+    progress: &Progress<'_, R>,
+) -> u8
     ensures { (result ≡ 0) ⊎ (result ≡ 1) }
 {
-    ended(rt, write_shown(output, shown), 0)
+    progress.clear();
+    ended(rt, write_shown(output, shown), 0, progress)
 }
 
 /// Writes the line of an audit to standard output. Where that fails, the status is 1.
-fn told<R: Files + Print + Eprint>(rt: &R, judged: &Judged, output: Output<'_, R>) -> u8
+fn told<R: Files + Print + Eprint>(
+    rt: &R,
+    judged: &Judged,
+    output: Output<'_, R>,
+    progress: &Progress<'_, R>,
+) -> u8
     ensures { (result ≡ answer_status judged.now) ⊎ (result ≡ 1) }
 {
-    ended(rt, write_judged(output, judged), judged.status())
+    progress.clear();
+    ended(rt, write_judged(output, judged), judged.status(), progress)
 }
 
 /// The status where everything was written, or else 1, with a line that says so.
-fn ended<R: Eprint>(rt: &R, written: Result<(), FileFault>, status: u8) -> u8
+fn ended<R: Eprint>(
+    rt: &R,
+    written: Result<(), FileFault>,
+    status: u8,
+    progress: &Progress<'_, R>,
+) -> u8
     ensures { (result ≡ status) ⊎ (result ≡ 1) }
 {
+    progress.clear();
     match written {
         Ok(()) => status,
-        Err(FileFault::NoMemory) => failed(rt, Failure::from(Fault::NoMemory)),
+        Err(FileFault::NoMemory) => failed(rt, Failure::from(Fault::NoMemory), progress),
         Err(FileFault::Refused(kind)) => unshown(rt, kind),
     }
 }
@@ -160,7 +189,7 @@ fn unshown<R: Eprint>(rt: &R, kind: ErrorKind) -> u8
     1
 }
 
-fn write_shown<R: Files + Print>(
+fn write_shown<R: Files + Print + Eprint>(
     mut output: Output<'_, R>,
     shown: &Shown,
 ) -> Result<(), FileFault> {
@@ -168,7 +197,7 @@ fn write_shown<R: Files + Print>(
     output.finish()
 }
 
-fn write_judged<R: Files + Print>(
+fn write_judged<R: Files + Print + Eprint>(
     mut output: Output<'_, R>,
     judged: &Judged,
 ) -> Result<(), FileFault> {
@@ -177,9 +206,10 @@ fn write_judged<R: Files + Print>(
 }
 
 /// Prints the fault's line on standard error, and what helps below it.
-fn failed<R: Eprint>(rt: &R, failure: Failure) -> u8
+fn failed<R: Eprint>(rt: &R, failure: Failure, progress: &Progress<'_, R>) -> u8
     ensures { result ≡ 1 }
 {
+    progress.clear();
     let _ = rt.eprintln(failure);
     1
 }

@@ -2,15 +2,17 @@
 use crate::failure::Failure;
 use crate::files::{read_as_record, write_bytes};
 use nvm_explain::explain;
+use nvm_front::Progress;
 use std::rt::Files;
 use std::thread::Threads;
 
 /// Explains the record at a path on standard output.
-pub fn run_explain<R: AllocGlobal + Files + Input + Print + Threads + Sync>(
+pub fn run_explain<R: AllocGlobal + Files + Input + Print + Eprint + Threads + Sync>(
     rt: &R,
     file: &str,
+    progress: &Progress<'_, R>,
 ) -> Result<(), Failure> {
-    let run = read_as_record(rt, file)?;
+    let run = read_as_record(rt, file, progress)?;
     let text = explain(rt, rt.alloc(), &run)?;
-    write_bytes(rt, "-", text.as_bytes())
+    write_bytes(rt, "-", text.as_bytes(), progress)
 }

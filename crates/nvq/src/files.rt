@@ -2,14 +2,18 @@ use crate::conversion::record_of;
 use crate::failure::Failure;
 use crate::fault::Fault;
 use nvm_audit::Record;
-use nvm_front::{FileFault, STANDARD, is_read, read_input, refusal, write};
+use nvm_front::{FileFault, Progress, STANDARD, is_read, read_input, refusal, write};
 use nvm_record::Payload;
 use std::alloc::{AllocError, Global};
 use std::rt::Files;
 
 /// The bytes of a file, or of standard input. Want of memory isn't the file's fault.
-pub fn bytes_of<R: Files + AllocGlobal + Input>(rt: &R, path: &str) -> Result<Vec<u8>, Failure> {
-    match read_input(rt, path) {
+pub fn bytes_of<R: Files + AllocGlobal + Input + Eprint>(
+    rt: &R,
+    path: &str,
+    progress: &Progress<'_, R>,
+) -> Result<Vec<u8>, Failure> {
+    match read_input(rt, path, progress) {
         Ok(bytes) => Ok(bytes),
         Err(FileFault::NoMemory) => Err(Failure::from(Fault::NoMemory)),
         Err(FileFault::Refused(kind)) => {
@@ -21,11 +25,12 @@ pub fn bytes_of<R: Files + AllocGlobal + Input>(rt: &R, path: &str) -> Result<Ve
 }
 
 /// The record at a path, or on standard input.
-pub fn read_as_record<R: Files + AllocGlobal + Input>(
+pub fn read_as_record<R: Files + AllocGlobal + Input + Eprint>(
     rt: &R,
     path: &str,
+    progress: &Progress<'_, R>,
 ) -> Result<Record, Failure> {
-    let bytes = Payload::new(rt.alloc(), bytes_of(rt, path)?)?;
+    let bytes = Payload::new(rt.alloc(), bytes_of(rt, path, progress)?)?;
     let named = String::from_str(rt.alloc(), path)?;
     match record_of(rt.alloc(), named, &bytes) {
         Ok(run) => Ok(run),
@@ -34,12 +39,13 @@ pub fn read_as_record<R: Files + AllocGlobal + Input>(
 }
 
 /// Writes bytes to a file, or to standard output.
-pub fn write_bytes<R: Files + AllocGlobal + Print>(
+pub fn write_bytes<R: Files + AllocGlobal + Print + Eprint>(
     rt: &R,
     path: &str,
     bytes: &[u8],
+    progress: &Progress<'_, R>,
 ) -> Result<(), Failure> {
-    match write(rt, path, bytes) {
+    match write(rt, path, bytes, progress) {
         Ok(()) => Ok(()),
         Err(FileFault::NoMemory) => Err(Failure::from(Fault::NoMemory)),
         Err(FileFault::Refused(kind)) => Err(unwritten(rt.alloc(), path, refusal(kind))?),

@@ -19,27 +19,41 @@ use crate::failure::Failure;
 use crate::files::{bytes_of, check_output, write_bytes};
 use crate::running::run_lists;
 use crate::words::{Asked, read_words};
-use nvm_front::{WordFault, tell, texts_of, words_given};
+use nvm_front::{Progress, Terminals, WordFault, tell, texts_of, words_given};
 use nvm_record::{BlockSize, Payload};
+use std::io::IsTerminal;
 use std::process::ExitCode;
 use std::rt::{Env, Files};
 use std::sync::Wait;
 use std::thread::Threads;
 
+/// What the program is called in its lines.
+const NAME: &str = "nvq";
+
 fn main(rt: HostRuntime) -> ExitCode {
-    ExitCode::from(status_of(&rt))
+    let terminals = Terminals {
+        output: rt.stdout().is_terminal(),
+        error: rt.stderr().is_terminal(),
+    };
+    let progress = Progress::new(&rt, NAME, terminals);
+    ExitCode::from(status_of(&rt, &progress))
 }
 
 /// Does what the words of the command line ask for, and gives the exit status: 0, or 1 after a fault.
 fn status_of<R: AllocGlobal + Env + Files + Input + Print + Eprint + Threads + Wait + Sync>(
     rt: &R,
+    progress: &Progress<'_, R>,
 ) -> u8 {
     match asked(rt) {
-        Ok(asked) => match run(rt, asked) {
-            Ok(()) => 0,
-            Err(failure) => failed(rt, failure),
-        },
-        Err(fault) => tell(rt, "nvq", fault),
+        Ok(asked) => {
+            let ended = run(rt, asked, progress);
+            progress.clear();
+            match ended {
+                Ok(()) => 0,
+                Err(failure) => failed(rt, failure),
+            }
+        }
+        Err(fault) => tell(rt, NAME, fault),
     }
 }
 
@@ -51,44 +65,51 @@ fn asked<R: AllocGlobal + Env>(rt: &R) -> Result<Asked, WordFault> {
 }
 
 /// Does what is asked. After a fault nothing is written.
-fn run<R: AllocGlobal + Files + Input + Print + Threads + Wait + Sync>(
+fn run<R: AllocGlobal + Files + Input + Print + Eprint + Threads + Wait + Sync>(
     rt: &R,
     asked: Asked,
+    progress: &Progress<'_, R>,
 ) -> Result<(), Failure> {
     match asked {
-        Asked::Assemble { size, list, out } => run_assemble(rt, size, list.as_str(), out.as_str()),
-        Asked::List { size, file } => run_list(rt, size, file),
-        Asked::Run(words) => run_lists(rt, &words),
-        Asked::Explain { file } => run_explain(rt, file.as_str()),
-        Asked::Draw { window, file, out } => run_draw(rt, window, file.as_str(), out.as_str()),
+        Asked::Assemble { size, list, out } => {
+            run_assemble(rt, size, list.as_str(), out.as_str(), progress)
+        }
+        Asked::List { size, file } => run_list(rt, size, file, progress),
+        Asked::Run(words) => run_lists(rt, &words, progress),
+        Asked::Explain { file } => run_explain(rt, file.as_str(), progress),
+        Asked::Draw { window, file, out } => {
+            run_draw(rt, window, file.as_str(), out.as_str(), progress)
+        }
     }
 }
 
 /// Makes a list into a host file.
-fn run_assemble<R: AllocGlobal + Files + Input + Print>(
+fn run_assemble<R: AllocGlobal + Files + Input + Print + Eprint>(
     rt: &R,
     size: BlockSize,
     list: &str,
     out: &str,
+    progress: &Progress<'_, R>,
 ) -> Result<(), Failure> {
     check_output(rt, out, list, "it is the list")?;
-    let text = bytes_of(rt, list)?;
+    let text = bytes_of(rt, list, progress)?;
     match file_of(rt.alloc(), &text, size) {
-        Ok(file) => write_bytes(rt, out, &file),
+        Ok(file) => write_bytes(rt, out, &file, progress),
         Err(fault) => Err(Failure::of_list(rt.alloc(), fault, list, &text)),
     }
 }
 
 /// Lists a host file or a record on standard output.
-fn run_list<R: AllocGlobal + Files + Input + Print>(
+fn run_list<R: AllocGlobal + Files + Input + Print + Eprint>(
     rt: &R,
     size: BlockSize,
     file: String,
+    progress: &Progress<'_, R>,
 ) -> Result<(), Failure> {
-    let bytes = Payload::new(rt.alloc(), bytes_of(rt, file.as_str())?)?;
+    let bytes = Payload::new(rt.alloc(), bytes_of(rt, file.as_str(), progress)?)?;
     let path = String::from_str(rt.alloc(), file.as_str())?;
     match list_of(rt.alloc(), path, &bytes, size) {
-        Ok(text) => write_bytes(rt, "-", text.as_bytes()),
+        Ok(text) => write_bytes(rt, "-", text.as_bytes(), progress),
         Err(fault) => Err(Failure::of_file(rt.alloc(), fault, file.as_str(), &bytes, size)),
     }
 }

@@ -10,12 +10,11 @@ use crate::fault::Fault;
 use crate::files::{bytes_of, check_output, unwritten};
 use crate::running_words::RunWords;
 use nvm_audit::Record;
-use nvm_engine::{Fault as RunFault, Settings, Shown, Workers, execute};
+use nvm_engine::{Fault as RunFault, Settings, Shown, Workers, execute_watched};
 use nvm_file::write_record;
-use nvm_front::{FileFault, Output, STANDARD, refusal};
+use nvm_front::{FileFault, Output, Progress, STANDARD, refusal};
 use nvm_list::{ListFault, assemble};
 use nvm_record::{BlockSize, Payload};
-use nvm_unit::Open;
 use std::alloc::Global;
 use std::rt::Files;
 use std::sync::Wait;
@@ -24,21 +23,23 @@ use std::thread::{Threads, available_parallelism};
 /// Does the commands of the lists, keeps the record where that is asked for, and writes the lines to standard output. After a
 /// fault before the first line nothing is written. The room of standard output is taken first, so that no memory is wanted for
 /// the lines once the record stands.
-pub fn run_lists<R: AllocGlobal + Files + Input + Print + Threads + Wait + Sync>(
+pub fn run_lists<R: AllocGlobal + Files + Input + Print + Eprint + Threads + Wait + Sync>(
     rt: &R,
     words: &RunWords,
+    progress: &Progress<'_, R>,
 ) -> Result<(), Failure> {
     names_fit(words)?;
     check_record(rt, words)?;
-    let output = standard(rt)?;
-    let texts = read_lists(rt, words.lists.as_slice())?;
+    let output = standard(rt, progress)?;
+    let texts = read_lists(rt, words.lists.as_slice(), progress)?;
     let mut lists = borrowed(rt.alloc(), texts.as_slice())?;
     let files = files_of(rt.alloc(), words, texts.as_slice())?;
     let settings = settings_of(rt, words);
-    let shown = shown_of(rt, &settings, files.as_slice())?;
+    let shown = shown_of(rt, &settings, files.as_slice(), progress)?;
     if let Some(path) = &words.record {
-        keep(rt, path.as_str(), shown.record())?;
+        keep(rt, path.as_str(), shown.record(), progress)?;
     }
+    progress.clear();
     match print(output, &shown, &mut lists) {
         Ok(()) => Ok(()),
         Err(fault) => Err(unmade(rt.alloc(), STANDARD, fault)),
@@ -73,21 +74,25 @@ fn check_record<R: Files + AllocGlobal>(rt: &R, words: &RunWords) -> Result<(), 
 }
 
 /// Standard output, with its room.
-fn standard<R: AllocGlobal + Files + Print>(rt: &R) -> Result<Output<'_, R>, Fault> {
-    match Output::standard(rt) {
+fn standard<'a, R: AllocGlobal + Files + Print + Eprint>(
+    rt: &'a R,
+    progress: &'a Progress<'a, R>,
+) -> Result<Output<'a, R>, Fault> {
+    match Output::standard(rt, progress) {
         Ok(output) => Ok(output),
         Err(_) => Err(Fault::NoMemory),
     }
 }
 
 /// The text of each list, in their order. The first that can't be read is the fault.
-fn read_lists<R: AllocGlobal + Files + Input>(
+fn read_lists<R: AllocGlobal + Files + Input + Eprint>(
     rt: &R,
     paths: &[String],
+    progress: &Progress<'_, R>,
 ) -> Result<Vec<Vec<u8>>, Failure> {
     let mut texts = Vec::with_capacity(rt.alloc(), paths.len())?;
     for path in paths {
-        texts.push(bytes_of(rt, path.as_str())?)?;
+        texts.push(bytes_of(rt, path.as_str(), progress)?)?;
     }
     Ok(texts)
 }
@@ -200,32 +205,34 @@ fn processors<R: Threads>(rt: &R) -> Workers {
 }
 
 /// Does the commands of the host files of lists, and says what helps where that can't be.
-fn shown_of<R: AllocGlobal + Threads + Wait + Sync>(
+fn shown_of<R: AllocGlobal + Eprint + Threads + Wait + Sync>(
     rt: &R,
     settings: &Settings,
     files: &[Payload],
+    progress: &Progress<'_, R>,
 ) -> Result<Shown, Failure>
     requires { (texts : List (List ℕ)) × AreFilesOf settings.now.block texts files.now }
     ensures { IfOk result (IsShown settings.now files.now) }
 {
-    match done(rt, settings, files) {
+    match done(rt, settings, files, progress) {
         Ok(shown) => Ok(shown),
         Err(fault) => Err(Failure::of_run(rt.alloc(), fault, files.len())),
     }
 }
 
 /// Does the commands of the host files of lists.
-fn done<R: AllocGlobal + Threads + Wait + Sync>(
+fn done<R: AllocGlobal + Eprint + Threads + Wait + Sync>(
     rt: &R,
     settings: &Settings,
     files: &[Payload],
+    progress: &Progress<'_, R>,
 ) -> Result<Shown, Fault>
     requires { (texts : List (List ℕ)) × AreFilesOf settings.now.block texts files.now }
     ensures shown { IfOk result (IsShown settings.now files.now) }
     ensures fault { IfErr result (λ fault. (first : FaultOfRun) × IsFirstRunFault settings.now files.now first
         × (fault ≡ fault_of_run first)) }
 {
-    match execute(rt, rt.alloc(), settings, files, &Open) {
+    match execute_watched(rt, rt.alloc(), settings, files, progress, progress) {
         Ok(shown) => Ok(shown),
         Err(fault) => Err(told(fault)),
     }
@@ -254,25 +261,31 @@ fn told(fault: RunFault) -> Fault
 }
 
 /// Writes the record's file. It appears whole or not at all.
-fn keep<R: AllocGlobal + Files + Print>(rt: &R, path: &str, run: &Record) -> Result<(), Failure> {
-    match written(rt, path, run) {
+fn keep<R: AllocGlobal + Files + Print + Eprint>(
+    rt: &R,
+    path: &str,
+    run: &Record,
+    progress: &Progress<'_, R>,
+) -> Result<(), Failure> {
+    match written(rt, path, run, progress) {
         Ok(()) => Ok(()),
         Err(fault) => Err(unmade(rt.alloc(), path, fault)),
     }
 }
 
-fn written<R: AllocGlobal + Files + Print>(
+fn written<R: AllocGlobal + Files + Print + Eprint>(
     rt: &R,
     path: &str,
     run: &Record,
+    progress: &Progress<'_, R>,
 ) -> Result<(), FileFault> {
-    let mut output = Output::file(rt, path)?;
+    let mut output = Output::file(rt, path, progress)?;
     write_record(&mut output, run)?;
     output.finish()
 }
 
 /// Writes the lines.
-fn print<R: Files + Print>(
+fn print<R: Files + Print + Eprint>(
     mut output: Output<'_, R>,
     shown: &Shown,
     lists: &mut [&[u8]],

@@ -3,8 +3,8 @@ use Rattle.nvm_audit.specs.RecordedPart.{parts_of_workers}
 use Rattle.nvm_audit.proofs.Groups.{group_is}
 use Rattle.nvm_audit.proofs.record_audit.fn.found_in_units.map.Goals as goal
 
-pub fault_of_parts-requires : goal.fault_of_parts-requires
-fault_of_parts-requires c =
+pub fault_of_parts-found-requires : goal.fault_of_parts-found-requires
+fault_of_parts-found-requires g c =
     let r = c.captures.record.now in
     record {
       there = c.requires.there;

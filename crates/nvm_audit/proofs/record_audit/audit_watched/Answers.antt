@@ -1,5 +1,5 @@
 use Rattle.std.proofs.Common.{inl}
-use Rattle.nvm_audit.proofs.record_audit.audit.Goals as goal
+use Rattle.nvm_audit.proofs.record_audit.audit_watched.Goals as goal
 
 pub returns-in-Some-clause-named : goal.returns-in-Some-clause-named
 returns-in-Some-clause-named g c = λ fault first.

@@ -4,7 +4,7 @@ use Rattle.nvm_record.specs.Entry.{IsWhole}
 use Rattle.std.proofs.lemmas.Result.{err_from_is_err_and}
 use Rattle.nvm_geometry.specs.Namespace.{Namespace}
 use Rattle.nvm_engine.proofs.Reading.{few_commands}
-use Rattle.nvm_engine.proofs.engine.execute.Goals as goal
+use Rattle.nvm_engine.proofs.engine.execute_watched.Goals as goal
 
 pub jobs_of-requires-clause-commands : goal.jobs_of-requires-clause-commands
 jobs_of-requires-clause-commands g c =

@@ -1,7 +1,7 @@
 use Rattle.std.proofs.Common.{◌≡◌, subst}
 use Rattle.nvm_audit.specs.RecordChecks.{IsFirstFault}
 use Rattle.nvm_audit.specs.RecordView.{RecordView}
-use Rattle.nvm_engine.proofs.judging.audit_bytes.Goals as goal
+use Rattle.nvm_engine.proofs.judging.audit_bytes_watched.Goals as goal
 
 pub returns-clause-named : goal.returns-clause-named
 returns-clause-named g c = λ r first file h.
