@@ -4,6 +4,7 @@ use Rattle.nvm_audit.specs.declared.audit_fault.AuditFault.{AuditFault}
 use Rattle.nvm_audit.specs.declared.audit_fault.AuditFault.TheVariants.{JobMissing, JobTwice, EntryUnclaimed, EntryWrong, PointPast, PointBack, StatusWrong, DataWrong, NoMemory}
 use Rattle.nvm_audit.specs.declared.audit_fault.Spot.{Spot}
 use Rattle.nvm_audit.specs.declared.verdict.Verdict.{Verdict}
+use Rattle.nvm_audit.specs.FaultName.{name_of}
 use Rattle.nvm_report.specs.Numbered.{numbered}
 use Rattle.nvm_draw.specs.declared.wrong.Wrong.{Wrong}
 use Rattle.nvm_draw.specs.Wrong.{wrong_of}
@@ -15,17 +16,6 @@ lawful_text v =
     ++ (numbered (codes ", units ") v.units
     ++ (numbered (codes ", changes ") v.changes
     ++ (numbered (codes ", refused ") v.refused ++ codes "</text>\n")))
-
-abbrev pub name : AuditFault → List ℕ
-name (JobMissing job) = codes "JobMissing"
-name (JobTwice job) = codes "JobTwice"
-name (EntryUnclaimed job spot) = codes "EntryUnclaimed"
-name (EntryWrong job spot) = codes "EntryWrong"
-name (PointPast job spot) = codes "PointPast"
-name (PointBack job spot) = codes "PointBack"
-name (StatusWrong job spot) = codes "StatusWrong"
-name (DataWrong job spot) = codes "DataWrong"
-name NoMemory = codes "NoMemory"
 
 abbrev pub meaning : AuditFault → List ℕ
 meaning (JobMissing job) = codes ": no worker did the job"
@@ -50,7 +40,7 @@ wrong_text (Some wrong) = numbered (codes ", job ") wrong.job ++ spot_text wrong
 unfoldable pub unlawful_text : AuditFault → List ℕ
 unlawful_text fault =
     codes "<text class='unlawful' x='16' y='52'>unlawful: "
-    ++ (name fault ++ (wrong_text (wrong_of fault) ++ (meaning fault ++ codes "</text>\n")))
+    ++ (name_of fault ++ (wrong_text (wrong_of fault) ++ (meaning fault ++ codes "</text>\n")))
 
 abbrev pub answer_text : Result Verdict AuditFault → List ℕ
 answer_text (Ok verdict) = lawful_text verdict

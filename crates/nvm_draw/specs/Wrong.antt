@@ -2,24 +2,17 @@
 -- of its job.
 use Rattle.std.specs.Prelude.{ℕ, nat_eq, Bool, true, false, ◌&&◌, Option, Some, None}
 use Rattle.nvm_audit.specs.declared.audit_fault.AuditFault.{AuditFault}
-use Rattle.nvm_audit.specs.declared.audit_fault.AuditFault.TheVariants.{JobMissing, JobTwice, EntryUnclaimed, EntryWrong, PointPast, PointBack, StatusWrong, DataWrong, NoMemory}
 use Rattle.nvm_audit.specs.declared.audit_fault.Spot.{Spot}
+use Rattle.nvm_audit.specs.FaultPlace.{job_of, spot_of}
 use Rattle.nvm_draw.specs.declared.wrong.Wrong.{Wrong}
 
-abbrev pub wrong_with : ℕ → Option Spot → Option Wrong
-wrong_with job spot = Some (record { job = job; spot = spot })
+abbrev pub wrong_with : Option ℕ → Option Spot → Option Wrong
+wrong_with None spot = None
+wrong_with (Some job) spot = Some (record { job = job; spot = spot })
 
 -- the job and the spot of a fault
 abbrev pub wrong_of : AuditFault → Option Wrong
-wrong_of (JobMissing job) = wrong_with job None
-wrong_of (JobTwice job) = wrong_with job None
-wrong_of (EntryUnclaimed job spot) = wrong_with job (Some spot)
-wrong_of (EntryWrong job spot) = wrong_with job (Some spot)
-wrong_of (PointPast job spot) = wrong_with job (Some spot)
-wrong_of (PointBack job spot) = wrong_with job (Some spot)
-wrong_of (StatusWrong job spot) = wrong_with job spot
-wrong_of (DataWrong job spot) = wrong_with job (Some spot)
-wrong_of NoMemory = None
+wrong_of fault = wrong_with (job_of fault) (spot_of fault)
 
 abbrev pub is_in : Option Spot → ℕ → ℕ → Bool
 is_in None unit place = true

@@ -57,7 +57,7 @@ fn push_unlawful(text: &mut String, fault: AuditFault) -> Result<(), NoMemory>
     ensures { OnOk result (string_bytes text.new ≡ string_bytes text.old ++ spec.unlawful_text fault) }
 {
     text.push_str("<text class='unlawful' x='16' y='52'>unlawful: ")?;
-    text.push_str(name(fault))?;
+    text.push_str(fault.name())?;
     push_wrong(text, Wrong::of(fault))?;
     text.push_str(meaning(fault))?;
     text.push_str("</text>\n")?;
@@ -84,23 +84,6 @@ fn push_spot(text: &mut String, spot: Option<Spot>) -> Result<(), NoMemory>
     };
     push_numbered(text, ", unit ", u64::from(spot.unit))?;
     push_numbered(text, ", place ", u64::from(spot.place))
-}
-
-/// The name of a fault.
-fn name(fault: AuditFault) -> &'static str
-    ensures { result.now ≡ spec.name fault }
-{
-    match fault {
-        AuditFault::JobMissing { .. } => "JobMissing",
-        AuditFault::JobTwice { .. } => "JobTwice",
-        AuditFault::EntryUnclaimed { .. } => "EntryUnclaimed",
-        AuditFault::EntryWrong { .. } => "EntryWrong",
-        AuditFault::PointPast { .. } => "PointPast",
-        AuditFault::PointBack { .. } => "PointBack",
-        AuditFault::StatusWrong { .. } => "StatusWrong",
-        AuditFault::DataWrong { .. } => "DataWrong",
-        AuditFault::NoMemory => "NoMemory",
-    }
 }
 
 /// What a fault means.

@@ -15,18 +15,13 @@ impl Wrong {
     pub fn of(fault: AuditFault) -> Option<Wrong>
         ensures { result ≡ spec.wrong_of fault }
     {
-        let (job, spot) = match fault {
-            AuditFault::JobMissing { job } => (job, None),
-            AuditFault::JobTwice { job } => (job, None),
-            AuditFault::EntryUnclaimed { job, spot } => (job, Some(spot)),
-            AuditFault::EntryWrong { job, spot } => (job, Some(spot)),
-            AuditFault::PointPast { job, spot } => (job, Some(spot)),
-            AuditFault::PointBack { job, spot } => (job, Some(spot)),
-            AuditFault::StatusWrong { job, spot } => (job, spot),
-            AuditFault::DataWrong { job, spot } => (job, Some(spot)),
-            AuditFault::NoMemory => return None,
+        let Some(job) = fault.job() else {
+            return None;
         };
-        Some(Wrong { job, spot })
+        Some(Wrong {
+            job,
+            spot: fault.spot(),
+        })
     }
 }
 

@@ -1,9 +1,10 @@
 -- What is printed of an audit: one line, which tells what there was in a lawful record, or the first fault of another.
 use Rattle.std.specs.Prelude.{ℕ, List, [], ◌++◌, Option, Some, None, Result, Ok, Err, codes, decimal}
 use Rattle.nvm_audit.specs.declared.audit_fault.AuditFault.{AuditFault}
-use Rattle.nvm_audit.specs.declared.audit_fault.AuditFault.TheVariants.{JobMissing, JobTwice, EntryUnclaimed, EntryWrong, PointPast, PointBack, StatusWrong, DataWrong, NoMemory}
 use Rattle.nvm_audit.specs.declared.audit_fault.Spot.{Spot}
 use Rattle.nvm_audit.specs.declared.verdict.Verdict.{Verdict}
+use Rattle.nvm_audit.specs.FaultName.{name_of}
+use Rattle.nvm_audit.specs.FaultPlace.{job_of, spot_of}
 
 -- how much there was of something
 unfoldable pub count_text : List ℕ → ℕ → List ℕ
@@ -30,17 +31,14 @@ place_text job spot = count_text (codes " job ") job ++ (spot_text spot ++ codes
 abbrev pub unlawful_with : List ℕ → ℕ → Option Spot → List ℕ
 unlawful_with name job spot = codes "unlawful " ++ (name ++ place_text job spot)
 
--- The line of a fault. Want of memory is none of a record, and has no line.
+-- The line of a fault of this job. Want of memory is of none, and has no line.
+abbrev pub unlawful_of : AuditFault → Option ℕ → List ℕ
+unlawful_of fault None = []
+unlawful_of fault (Some job) = unlawful_with (name_of fault) job (spot_of fault)
+
+-- the line of a fault
 abbrev pub unlawful_line : AuditFault → List ℕ
-unlawful_line (JobMissing job) = unlawful_with (codes "JobMissing") job None
-unlawful_line (JobTwice job) = unlawful_with (codes "JobTwice") job None
-unlawful_line (EntryUnclaimed job spot) = unlawful_with (codes "EntryUnclaimed") job (Some spot)
-unlawful_line (EntryWrong job spot) = unlawful_with (codes "EntryWrong") job (Some spot)
-unlawful_line (PointPast job spot) = unlawful_with (codes "PointPast") job (Some spot)
-unlawful_line (PointBack job spot) = unlawful_with (codes "PointBack") job (Some spot)
-unlawful_line (StatusWrong job spot) = unlawful_with (codes "StatusWrong") job spot
-unlawful_line (DataWrong job spot) = unlawful_with (codes "DataWrong") job (Some spot)
-unlawful_line NoMemory = []
+unlawful_line fault = unlawful_of fault (job_of fault)
 
 -- the line of what an audit answers
 abbrev pub answer_line : Result Verdict AuditFault → List ℕ

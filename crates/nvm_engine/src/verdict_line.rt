@@ -46,19 +46,10 @@ pub(crate) fn write_unlawful<W: Write>(writer: &mut W, fault: AuditFault) -> io:
     ensures whole { OnOk result (Appends (W.contents writer.old) (W.contents writer.new) (unlawful_line fault)) }
     ensures front { OnErr result (TakesFront (W.contents writer.old) (W.contents writer.new) (unlawful_line fault)) }
 {
-    match fault {
-        AuditFault::JobMissing { job } => write_fault(writer, b"JobMissing", job, None),
-        AuditFault::JobTwice { job } => write_fault(writer, b"JobTwice", job, None),
-        AuditFault::EntryUnclaimed { job, spot } => {
-            write_fault(writer, b"EntryUnclaimed", job, Some(spot))
-        }
-        AuditFault::EntryWrong { job, spot } => write_fault(writer, b"EntryWrong", job, Some(spot)),
-        AuditFault::PointPast { job, spot } => write_fault(writer, b"PointPast", job, Some(spot)),
-        AuditFault::PointBack { job, spot } => write_fault(writer, b"PointBack", job, Some(spot)),
-        AuditFault::StatusWrong { job, spot } => write_fault(writer, b"StatusWrong", job, spot),
-        AuditFault::DataWrong { job, spot } => write_fault(writer, b"DataWrong", job, Some(spot)),
-        AuditFault::NoMemory => hand(writer, b""),
-    }
+    let Some(job) = fault.job() else {
+        return hand(writer, b"");
+    };
+    write_fault(writer, fault.name().as_bytes(), job, fault.spot())
 }
 
 /// Writes the line of the fault of this name.

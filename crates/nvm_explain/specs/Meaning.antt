@@ -1,24 +1,34 @@
 -- What each fault of a record means, as a line.
-use Rattle.std.specs.Prelude.{ℕ, List, [], Some, None, codes}
+use Rattle.std.specs.Prelude.{ℕ, List, [], ◌++◌, Option, Some, None, codes}
 use Rattle.nvm_audit.specs.declared.audit_fault.AuditFault.{AuditFault}
 use Rattle.nvm_audit.specs.declared.audit_fault.AuditFault.TheVariants.{JobMissing, JobTwice, EntryUnclaimed, EntryWrong, PointPast, PointBack, StatusWrong, DataWrong, NoMemory}
+use Rattle.nvm_audit.specs.FaultName.{name_of}
+use Rattle.nvm_audit.specs.FaultPlace.{job_of}
 
--- Want of memory is no fault of a record.
+-- what stands behind the name
+abbrev pub sense : AuditFault → List ℕ
+sense (JobMissing job) = codes ": no worker did the job.\n"
+sense (JobTwice job) = codes ": the job was done more than once.\n"
+sense (EntryUnclaimed job spot) =
+    codes ": no part of this worker and this job was done at the entry's place.\n"
+sense (EntryWrong job spot) =
+    codes ": the entry isn't its job's part in the unit, or it doesn't succeed after the entries before it.\n"
+sense (PointPast job spot) =
+    codes ": the part's point is above the number of entries, or its own entry doesn't stand there.\n"
+sense (PointBack job spot) =
+    codes ": the part's point lies before one that its worker had passed in the unit.\n"
+sense (StatusWrong job None) =
+    codes ": no run of the job ends with these parts, these statuses and this data.\n"
+sense (StatusWrong job (Some spot)) =
+    codes ": at its point the part doesn't end as it is recorded.\n"
+sense (DataWrong job spot) =
+    codes ": the Read's data isn't what the unit held at the part's point.\n"
+sense NoMemory = []
+
+-- The line of a fault of this job. Want of memory is no fault of a record.
+abbrev pub meaning_with : AuditFault → Option ℕ → List ℕ
+meaning_with fault None = []
+meaning_with fault (Some job) = name_of fault ++ sense fault
+
 abbrev pub meaning : AuditFault → List ℕ
-meaning (JobMissing job) = codes "JobMissing: no worker did the job.\n"
-meaning (JobTwice job) = codes "JobTwice: the job was done more than once.\n"
-meaning (EntryUnclaimed job spot) =
-    codes "EntryUnclaimed: no part of this worker and this job was done at the entry's place.\n"
-meaning (EntryWrong job spot) =
-    codes "EntryWrong: the entry isn't its job's part in the unit, or it doesn't succeed after the entries before it.\n"
-meaning (PointPast job spot) =
-    codes "PointPast: the part's point is above the number of entries, or its own entry doesn't stand there.\n"
-meaning (PointBack job spot) =
-    codes "PointBack: the part's point lies before one that its worker had passed in the unit.\n"
-meaning (StatusWrong job None) =
-    codes "StatusWrong: no run of the job ends with these parts, these statuses and this data.\n"
-meaning (StatusWrong job (Some spot)) =
-    codes "StatusWrong: at its point the part doesn't end as it is recorded.\n"
-meaning (DataWrong job spot) =
-    codes "DataWrong: the Read's data isn't what the unit held at the part's point.\n"
-meaning NoMemory = []
+meaning fault = meaning_with fault (job_of fault)

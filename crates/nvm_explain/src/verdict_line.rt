@@ -41,19 +41,10 @@ fn push_count(text: &mut String, of: &str, count: u64) -> Result<(), NoMemory>
 pub(crate) fn push_unlawful(text: &mut String, fault: AuditFault) -> Result<(), NoMemory>
     ensures { OnOk result (string_bytes text.new ≡ string_bytes text.old ++ unlawful_line fault) }
 {
-    match fault {
-        AuditFault::JobMissing { job } => push_fault(text, "JobMissing", job, None),
-        AuditFault::JobTwice { job } => push_fault(text, "JobTwice", job, None),
-        AuditFault::EntryUnclaimed { job, spot } => {
-            push_fault(text, "EntryUnclaimed", job, Some(spot))
-        }
-        AuditFault::EntryWrong { job, spot } => push_fault(text, "EntryWrong", job, Some(spot)),
-        AuditFault::PointPast { job, spot } => push_fault(text, "PointPast", job, Some(spot)),
-        AuditFault::PointBack { job, spot } => push_fault(text, "PointBack", job, Some(spot)),
-        AuditFault::StatusWrong { job, spot } => push_fault(text, "StatusWrong", job, spot),
-        AuditFault::DataWrong { job, spot } => push_fault(text, "DataWrong", job, Some(spot)),
-        AuditFault::NoMemory => Ok(()),
-    }
+    let Some(job) = fault.job() else {
+        return Ok(());
+    };
+    push_fault(text, fault.name(), job, fault.spot())
 }
 
 /// Appends the line of the fault of this name.
