@@ -5,3 +5,6 @@ pub mod LawfulDone
 pub mod OneText
 pub mod Printing
 pub mod LongTelling
+pub mod NamesApart
+pub mod NumberDigits
+pub mod NamesOfOutcomes

@@ -1,10 +1,10 @@
 //! The line of a command, and under it what its list says and the name of its status.
-ghost use Rattle.std.specs.Prelude.{◌≡◌, ◌++◌, OnErr, OnOk};
+ghost use Rattle.std.specs.Prelude.{◌≡◌, ◌≤◌, ◌+◌, ◌*◌, ◌++◌, OnErr, OnOk, drop, false};
+ghost use Rattle.std.specs.Fmt.{digits};
 ghost use Rattle.std.specs.Io.KnownBytes.{Appends};
 ghost use Rattle.nvm_write.specs.Handed.{TakesFront};
-ghost use Rattle.nvm_text.specs.Lines.{line};
+ghost use Rattle.nvm_text.specs.Lines.{hex2, line};
 ghost use Rattle.nvm_engine.specs.LongLines.{behind_next, lists_say, long_line, named_text, next_of, number_text};
-ghost use Rattle.nvm_engine.specs.StatusNames as spec;
 ghost use Rattle.nvm_engine.specs.StatusNames.{status_digits};
 
 use crate::status_names::status_name;
@@ -81,17 +81,25 @@ fn write_digits<W: Write>(writer: &mut W, status: Status) -> io::Result<()>
     let mut digits = Piece::new();
     digits.put_hex2(status.sc);
     digits.put_hex2(status.sct);
-    hand(writer, &digits.as_slice()[leading_zeroes(status)..])
+    hand(
+        writer,
+        &digits.as_slice()[leading_zeroes(status.sct, status.sc)..],
+    )
 }
 
 /// How many of the four digits are leading zeroes.
-fn leading_zeroes(status: Status) -> usize
-    ensures { result ≡ spec.leading_zeroes status }
+fn leading_zeroes(sct: u8, sc: u8) -> usize
+    ensures others { digits 16 false (sct * 256 + sc) ≡ drop result (hex2 sct ++ hex2 sc) }
+    ensures few { result ≤ 3 }
 {
-    match (status.sct, status.sc) {
-        (0, 0..16) => 3,
-        (0, _) => 2,
-        (1..16, _) => 1,
-        _ => 0,
+    let number = u16::from(sct) * 256 + u16::from(sc);
+    if number < 0x10 {
+        3
+    } else if number < 0x100 {
+        2
+    } else if number < 0x1000 {
+        1
+    } else {
+        0
     }
 }

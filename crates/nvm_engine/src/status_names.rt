@@ -1,4 +1,5 @@
 ghost use Rattle.std.specs.Prelude.{◌≡◌};
+ghost use Rattle.nvm_record.specs.Status.{status};
 ghost use Rattle.nvm_engine.specs.StatusNames as spec;
 
 use nvm_record::Status;
@@ -18,7 +19,7 @@ pub fn status_name(status: Status) -> &'static [u8]
 
 /// The name of a generic status by its code.
 fn generic_name(code: u8) -> &'static [u8]
-    ensures { result.now ≡ spec.generic_name code }
+    ensures { result.now ≡ spec.name_in spec.status_table (status 0 code) }
 {
     match code {
         0x00 => b"Successful Completion",
@@ -36,7 +37,7 @@ fn generic_name(code: u8) -> &'static [u8]
 
 /// The name of a media and data integrity error by its code.
 fn media_name(code: u8) -> &'static [u8]
-    ensures { result.now ≡ spec.media_name code }
+    ensures { result.now ≡ spec.name_in spec.status_table (status 2 code) }
 {
     match code {
         0x81 => b"Unrecovered Read Error",
