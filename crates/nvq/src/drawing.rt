@@ -1,10 +1,7 @@
 //! `nvq draw`: a record, as it was audited, as a picture.
 use crate::failure::Failure;
 use crate::files::{check_output, read_as_record, write_bytes};
-use nvm_audit::{AuditFault, Record, Verdict, audit};
 use nvm_draw::{Window, draw_record};
-use nvm_record::NoMemory;
-use std::alloc::AllocError;
 use std::rt::Files;
 use std::thread::Threads;
 
@@ -17,18 +14,6 @@ pub fn run_draw<R: AllocGlobal + Files + Input + Print + Threads + Sync>(
 ) -> Result<(), Failure> {
     check_output(rt, out, file, "it is the record")?;
     let held = read_as_record(rt, file)?;
-    let answer = answer_of(rt, &held)?;
-    let picture = draw_record(rt.alloc(), &held, &answer, window)?;
+    let picture = draw_record(rt, rt.alloc(), &held, window)?;
     write_bytes(rt, out, picture.as_bytes())
-}
-
-/// What an audit answers of the record: the verdict, or the first fault.
-fn answer_of<R: AllocGlobal + Threads + Sync>(
-    rt: &R,
-    held: &Record,
-) -> Result<Result<Verdict, AuditFault>, NoMemory> {
-    match audit(rt, rt.alloc(), held) {
-        Err(AuditFault::NoMemory) => Err(AllocError),
-        answer => Ok(answer),
-    }
 }
