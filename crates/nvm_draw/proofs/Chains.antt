@@ -24,3 +24,8 @@ piece_is old new a b whole same = whole ∙ ap (λ (x : List ℕ). old ++ x) sam
 
 pub numbered_is : (old new words : List ℕ) (n m : ℕ) → new ≡ old ++ numbered words n → n ≡ m → new ≡ old ++ numbered words m
 numbered_is old new words n m whole same = whole ∙ ap (λ (k : ℕ). old ++ numbered words k) same
+
+pub six : (old m n o p q new a b c d e f : List ℕ) → m ≡ old ++ a → n ≡ m ++ b → o ≡ n ++ c → p ≡ o ++ d → q ≡ p ++ e → new ≡ q ++ f
+    → new ≡ old ++ (a ++ (b ++ (c ++ (d ++ (e ++ f)))))
+six old m n o p q new a b c d e f first second third fourth fifth sixth =
+    two old m new a (b ++ (c ++ (d ++ (e ++ f)))) first (five m n o p q new b c d e f second third fourth fifth sixth)

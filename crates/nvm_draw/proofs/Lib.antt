@@ -1,1 +1,3 @@
 pub mod Chains
+pub mod ByNumber
+pub mod UsedUnits

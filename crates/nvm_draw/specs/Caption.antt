@@ -1,13 +1,23 @@
--- What stands above a picture of what an audit answered.
-use Rattle.std.specs.Prelude.{ℕ, List, [], ◌++◌, Option, Some, None, Result, Ok, Err, codes}
+-- What stands above the rows: what the record is of, what an audit answered, and what isn't drawn.
+use Rattle.std.specs.Prelude.{ℕ, zero, suc, ◌+◌, ◌-◌, min, List, [], ◌++◌, length, Bool, true, false, Option, Some, None, Result, Ok, Err, codes}
 use Rattle.nvm_audit.specs.declared.audit_fault.AuditFault.{AuditFault}
 use Rattle.nvm_audit.specs.declared.audit_fault.AuditFault.TheVariants.{JobMissing, JobTwice, EntryUnclaimed, EntryWrong, PointPast, PointBack, StatusWrong, DataWrong, NoMemory}
 use Rattle.nvm_audit.specs.declared.audit_fault.Spot.{Spot}
 use Rattle.nvm_audit.specs.declared.verdict.Verdict.{Verdict}
 use Rattle.nvm_audit.specs.FaultName.{name_of}
+use Rattle.nvm_audit.specs.RecordView.{RecordView}
 use Rattle.nvm_report.specs.Numbered.{numbered}
+use Rattle.nvm_draw.specs.declared.sheet.Sheet.{Sheet}
 use Rattle.nvm_draw.specs.declared.wrong.Wrong.{Wrong}
 use Rattle.nvm_draw.specs.Wrong.{wrong_of}
+
+-- what the record is of
+unfoldable pub title_text : RecordView → List ℕ
+title_text r =
+    numbered (codes "<text class='title' x='16' y='28'>Record: jobs ") (length r.jobs)
+    ++ (numbered (codes ", workers ") r.workers
+    ++ (numbered (codes ", units ") (length r.units)
+    ++ (numbered (codes ", limit ") r.limit ++ codes "</text>\n")))
 
 -- the numbers of a lawful record
 unfoldable pub lawful_text : Verdict → List ℕ
@@ -45,3 +55,38 @@ unlawful_text fault =
 abbrev pub answer_text : Result Verdict AuditFault → List ℕ
 answer_text (Ok verdict) = lawful_text verdict
 answer_text (Err fault) = unlawful_text fault
+
+-- those before the first that may be drawn, if there are any
+abbrev pub before_text : List ℕ → ℕ → List ℕ
+before_text words zero = []
+before_text words (suc last) = numbered words last
+
+-- the units from the first one on that the picture has no room for, up to the last of so many
+abbrev pub behind_text : Option ℕ → ℕ → List ℕ
+behind_text None units = []
+behind_text (Some next) units = numbered (codes "; units ") next ++ numbered (codes " to ") (units - 1)
+
+-- the places behind the window
+unfoldable pub from_text : ℕ → List ℕ
+from_text from = numbered (codes "; places from ") (from + 64) ++ codes " on"
+
+-- those, where something stands there
+abbrev pub further_text : Bool → ℕ → List ℕ
+further_text false from = []
+further_text true from = from_text from
+
+abbrev pub hidden_text : Bool → List ℕ
+hidden_text false = []
+hidden_text true = codes "; where the fault is"
+
+unfoldable pub cut_units : ℕ → Sheet → List ℕ
+cut_units units sheet =
+    codes "<text class='cut' x='16' y='72'>Not drawn: units without entries and marks"
+    ++ (before_text (codes "; units 0 to ") (min sheet.first units) ++ behind_text sheet.next units)
+
+-- what isn't drawn of the units of a record, which are so many
+unfoldable pub cut_text : ℕ → Sheet → List ℕ
+cut_text units sheet =
+    cut_units units sheet
+    ++ (before_text (codes "; places 0 to ") sheet.from
+    ++ (further_text sheet.has_more sheet.from ++ (hidden_text sheet.hides_fault ++ codes "</text>\n")))

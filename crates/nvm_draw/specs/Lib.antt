@@ -2,9 +2,14 @@ pub mod Sizes
 pub mod Wrong
 pub mod Group
 pub mod Letters
+pub mod Entries
+pub mod Marks
+pub mod Sheet
 pub mod EntryBoxes
 pub mod MarkBoxes
 pub mod Rows
+pub mod Frame
 pub mod Key
 pub mod Caption
 pub mod Picture
+pub mod Inside

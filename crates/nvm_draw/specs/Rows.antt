@@ -1,11 +1,12 @@
 -- How the units of a record are drawn: each as a row, with its number, its first LBA, its entries and its marks.
-use Rattle.std.specs.Prelude.{ℕ, ◌+◌, ◌-◌, ◌*◌, nat_lt, if◌then◌else◌, List, [], ◌∷◌, ◌++◌, length, take, drop, map, slice_get, Bool, true, false, Option, Some, None, codes}
+use Rattle.std.specs.Prelude.{ℕ, ◌+◌, ◌-◌, ◌*◌, nat_lt, if◌then◌else◌, List, [], ◌∷◌, ◌++◌, length, take, drop, map, Bool, true, false, Option, codes}
 use Rattle.nvm_plan.specs.declared.job.Job.{Job}
 use Rattle.nvm_store.specs.HistoryEntry.{HistoryEntry}
 use Rattle.nvm_audit.specs.RecordView.{RecordView}
 use Rattle.nvm_report.specs.Numbered.{numbered}
 use Rattle.nvm_draw.specs.declared.sheet.Row.{Row}
 use Rattle.nvm_draw.specs.declared.wrong.Wrong.{Wrong}
+use Rattle.nvm_draw.specs.Entries.{entries_of}
 use Rattle.nvm_draw.specs.EntryBoxes.{boxes_text}
 use Rattle.nvm_draw.specs.MarkBoxes.{stacks_text}
 use Rattle.nvm_draw.specs.Sizes.{row_width, top}
@@ -50,14 +51,6 @@ row_body jobs wrong from columns entries row =
     ++ (boxes_text wrong row.unit from 0 (take 64 (drop from entries))
     ++ (stacks_text jobs wrong 0 (map (λ stack. stack.items) (take 65 row.stacks.items))
     ++ more_text (length entries) (from + 64) columns)))
-
-abbrev pub history_or_none : Option (List HistoryEntry) → List HistoryEntry
-history_or_none None = []
-history_or_none (Some history) = history
-
--- the entries of a unit
-abbrev pub entries_of : RecordView → ℕ → List HistoryEntry
-entries_of r unit = history_or_none (slice_get r.units unit)
 
 unfoldable pub row_text : RecordView → Option Wrong → ℕ → ℕ → ℕ → Row → List ℕ
 row_text r wrong from columns place row =

@@ -1,4 +1,4 @@
-ghost use Rattle.std.specs.Prelude.{◌≡◌, ◌++◌, OnOk, string_bytes};
+ghost use Rattle.std.specs.Prelude.{◌≡◌, ◌++◌, min, OnOk, string_bytes};
 ghost use Rattle.nvm_draw.specs.Caption as spec;
 
 use crate::sheet::Sheet;
@@ -8,7 +8,10 @@ use nvm_record::NoMemory;
 use nvm_report::push_numbered;
 
 /// Appends what the record is of.
-pub(crate) fn push_title(text: &mut String, run: &Record) -> Result<(), NoMemory> {
+#[tactic(auto, unfolding(crate::specs::Caption::title_text))]
+pub(crate) fn push_title(text: &mut String, run: &Record) -> Result<(), NoMemory>
+    ensures { OnOk result (string_bytes text.new ≡ string_bytes text.old ++ spec.title_text run.now) }
+{
     push_numbered(
         text,
         "<text class='title' x='16' y='28'>Record: jobs ",
@@ -104,31 +107,71 @@ fn meaning(fault: AuditFault) -> &'static str
     }
 }
 
-/// Appends what isn't drawn.
-pub(crate) fn push_cut(text: &mut String, run: &Record, sheet: &Sheet) -> Result<(), NoMemory> {
-    text.push_str("<text class='cut' x='16' y='72'>Not drawn: units without entries and marks")?;
-    push_before(text, "; units 0 to ", u64::from(sheet.first))?;
-    push_units_behind(text, sheet.next, run.units.len() as u64)?;
+/// Appends what isn't drawn of so many units.
+#[tactic(auto, unfolding(crate::specs::Caption::cut_text))]
+pub(crate) fn push_cut(text: &mut String, units: u64, sheet: &Sheet) -> Result<(), NoMemory>
+    ensures { OnOk result (string_bytes text.new ≡ string_bytes text.old ++ spec.cut_text units sheet.now) }
+{
+    push_cut_units(text, units, sheet)?;
     push_before(text, "; places 0 to ", u64::from(sheet.from))?;
-    if sheet.has_more {
-        push_from(text, sheet.from)?;
-    }
-    if sheet.hides_fault {
-        text.push_str("; where the fault is")?;
-    }
+    push_further(text, sheet.has_more, sheet.from)?;
+    push_hidden(text, sheet.hides_fault)?;
     text.push_str("</text>\n")?;
     Ok(())
 }
 
+/// Appends which of so many units aren't drawn.
+#[tactic(auto, unfolding(crate::specs::Caption::cut_units))]
+fn push_cut_units(text: &mut String, units: u64, sheet: &Sheet) -> Result<(), NoMemory>
+    ensures { OnOk result (string_bytes text.new ≡ string_bytes text.old ++ spec.cut_units units sheet.now) }
+{
+    text.push_str("<text class='cut' x='16' y='72'>Not drawn: units without entries and marks")?;
+    push_before(text, "; units 0 to ", lower(sheet.first, units))?;
+    push_units_behind(text, sheet.next, units)?;
+    Ok(())
+}
+
+/// The number of a unit, or that of the last one and 1 more, where that is lower.
+fn lower(unit: u16, units: u64) -> u64
+    ensures { result ≡ min unit units }
+{
+    u64::from(unit).min(units)
+}
+
+/// Appends that places behind the window aren't drawn, where something stands there.
+fn push_further(text: &mut String, has_more: bool, from: u32) -> Result<(), NoMemory>
+    ensures { OnOk result (string_bytes text.new ≡ string_bytes text.old ++ spec.further_text has_more from) }
+{
+    if has_more {
+        return push_from(text, from);
+    }
+    Ok(())
+}
+
 /// Appends that places behind the window aren't drawn.
-fn push_from(text: &mut String, from: u32) -> Result<(), NoMemory> {
+#[tactic(auto, unfolding(crate::specs::Caption::from_text))]
+fn push_from(text: &mut String, from: u32) -> Result<(), NoMemory>
+    ensures { OnOk result (string_bytes text.new ≡ string_bytes text.old ++ spec.from_text from) }
+{
     push_numbered(text, "; places from ", u64::from(from) + 64)?;
     text.push_str(" on")?;
     Ok(())
 }
 
+/// Appends that the fault isn't drawn, where it isn't.
+fn push_hidden(text: &mut String, hides_fault: bool) -> Result<(), NoMemory>
+    ensures { OnOk result (string_bytes text.new ≡ string_bytes text.old ++ spec.hidden_text hides_fault) }
+{
+    if hides_fault {
+        text.push_str("; where the fault is")?;
+    }
+    Ok(())
+}
+
 /// Appends that what is before the first number isn't drawn, where there is something.
-fn push_before(text: &mut String, words: &str, first: u64) -> Result<(), NoMemory> {
+fn push_before(text: &mut String, words: &str, first: u64) -> Result<(), NoMemory>
+    ensures { OnOk result (string_bytes text.new ≡ string_bytes text.old ++ spec.before_text words.now first) }
+{
     if first == 0 {
         return Ok(());
     }
@@ -136,7 +179,9 @@ fn push_before(text: &mut String, words: &str, first: u64) -> Result<(), NoMemor
 }
 
 /// Appends that units from the next one on aren't drawn.
-fn push_units_behind(text: &mut String, next: Option<u16>, units: u64) -> Result<(), NoMemory> {
+fn push_units_behind(text: &mut String, next: Option<u16>, units: u64) -> Result<(), NoMemory>
+    ensures { OnOk result (string_bytes text.new ≡ string_bytes text.old ++ spec.behind_text next units) }
+{
     let Some(next) = next else {
         return Ok(());
     };

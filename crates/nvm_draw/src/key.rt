@@ -13,8 +13,28 @@ const LETTERS: &str =
 ";
 
 /// Appends what the letters and the colours stand for.
-pub(crate) fn push_key(text: &mut String, workers: u16) -> Result<(), NoMemory> {
+#[tactic(auto, unfolding(crate::specs::Key::key_text))]
+pub(crate) fn push_key(text: &mut String, workers: u16) -> Result<(), NoMemory>
+    ensures { OnOk result (string_bytes text.new ≡ string_bytes text.old ++ spec.key_text workers) }
+{
+    push_letters(text)?;
+    push_workers(text, workers)?;
+    Ok(())
+}
+
+/// Appends what the letters stand for.
+#[tactic(auto, unfolding(crate::specs::Key::letters_text))]
+fn push_letters(text: &mut String) -> Result<(), NoMemory>
+    ensures { OnOk result (string_bytes text.new ≡ string_bytes text.old ++ spec.letters_text) }
+{
     text.push_str(LETTERS)?;
+    Ok(())
+}
+
+/// Appends the colours of so many workers.
+fn push_workers(text: &mut String, workers: u16) -> Result<(), NoMemory>
+    ensures { OnOk result (string_bytes text.new ≡ string_bytes text.old ++ spec.workers_text 0 workers) }
+{
     for worker in 0..workers {
         push_worker(text, worker)?;
     }
@@ -49,17 +69,33 @@ pub(crate) fn push_places(
     workers: u16,
     from: u32,
     columns: u8,
-) -> Result<(), NoMemory> {
-    let y = top(workers) - 12;
+) -> Result<(), NoMemory>
+    ensures { OnOk result (string_bytes text.new ≡ string_bytes text.old ++ spec.places_text workers from columns) }
+{
+    push_columns(text, top(workers) - 12, from, columns)
+}
+
+/// Appends the numbers of the places in so many columns.
+fn push_columns(text: &mut String, y: u64, from: u32, columns: u8) -> Result<(), NoMemory>
+    ensures { OnOk result (string_bytes text.new ≡ string_bytes text.old ++ spec.columns_text y from 0 columns) }
+{
     for column in 0..columns {
-        push_place(
-            text,
-            LEFT + STEP * u64::from(column) + GAP + 20,
-            y,
-            u64::from(from) + u64::from(column),
-        )?;
+        push_column(text, y, from, column)?;
     }
     Ok(())
+}
+
+/// Appends the number of the place in a column.
+fn push_column(text: &mut String, y: u64, from: u32, column: u8) -> Result<(), NoMemory>
+    ensures { OnOk result (string_bytes text.new ≡ string_bytes text.old ++ spec.column_text y from column) }
+{
+    let place = u64::from(column);
+    push_place(
+        text,
+        LEFT + STEP * place + GAP + 20,
+        y,
+        u64::from(from) + place,
+    )
 }
 
 /// Appends the number of a place.

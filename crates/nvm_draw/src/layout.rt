@@ -1,13 +1,17 @@
-ghost use Rattle.std.specs.Prelude.{◌≡◌, ◌≤◌, IfOk, length};
-ghost use Rattle.nvm_draw.specs.Rows as spec;
+ghost use Rattle.std.specs.Prelude.{◌≡◌, ◌<◌, ◌≤◌, ◌-◌, nat_eq, nat_lt, min, All, IfOk, length, map, slice_get, take};
+ghost use Rattle.std.specs.List.{list_any};
+ghost use Rattle.nvm_draw.specs.Entries.{entries_of as entries};
+ghost use Rattle.nvm_draw.specs.Inside.Putting.{AreByUnit};
+ghost use Rattle.nvm_draw.specs.Sheet as spec;
+ghost use Rattle.nvm_draw.specs.Sheet.{IsRow, IsSheet};
 
-use crate::mark::{Mark, is_mark};
+use crate::mark::Mark;
+use crate::putting::{marks_of, of_unit, stacks_of};
 use crate::sheet::{Row, Sheet};
 use crate::size::MOST;
 use crate::window::{Window, drawn_entries};
 use crate::wrong::Wrong;
-use nvm_audit::{DoneJob, Record, Spot};
-use nvm_plan::Part;
+use nvm_audit::{Record, Spot};
 use nvm_record::NoMemory;
 use nvm_store::Entry;
 use std::alloc::Global;
@@ -19,15 +23,16 @@ pub(crate) fn sheet_of(
     window: Window,
     wrong: Option<Wrong>,
 ) -> Result<Sheet, NoMemory>
-    ensures { IfOk result (λ sheet. length sheet.rows.items ≤ 64) }
+    ensures few { IfOk result (λ sheet. length sheet.rows.items ≤ 64) }
+    ensures value { IfOk result (λ sheet. IsSheet run.now window wrong sheet) }
 {
     let marks = marks_of(alloc, run)?;
     let spot = spot_of(wrong);
-    let from = first_place(run, window, spot);
-    let first = first_unit(window, spot);
+    let from = first_place(run, window.from, spot);
+    let first = first_unit(window.unit, spot);
     let (rows, next) = rows_of(alloc, run, &marks, first, from)?;
     let columns = columns_of(run, &rows, from);
-    let has_more = has_more(run, &rows, from);
+    let has_more = has_more(run, &marks, &rows, from);
     let hides_fault = hides(wrong, &rows, from);
     Ok(Sheet {
         first,
@@ -41,7 +46,9 @@ pub(crate) fn sheet_of(
 }
 
 /// The spot of the fault, if it has one.
-fn spot_of(wrong: Option<Wrong>) -> Option<Spot> {
+fn spot_of(wrong: Option<Wrong>) -> Option<Spot>
+    ensures { result ≡ spec.spot_of wrong }
+{
     match wrong {
         Some(wrong) => wrong.spot,
         None => None,
@@ -49,51 +56,65 @@ fn spot_of(wrong: Option<Wrong>) -> Option<Spot> {
 }
 
 /// The number of the first unit that may be drawn.
-fn first_unit(window: Window, spot: Option<Spot>) -> u16 {
-    match (window.unit, spot) {
-        (Some(unit), _) => unit,
-        (None, Some(spot)) => first_for(spot.unit),
-        (None, None) => 0,
+fn first_unit(unit: Option<u16>, spot: Option<Spot>) -> u16
+    ensures { result ≡ spec.first_unit unit spot }
+{
+    match unit {
+        Some(unit) => unit,
+        None => unit_for(spot),
     }
 }
 
-/// Unit 0, where this one is drawn then, and else this one.
-fn first_for(unit: u16) -> u16 {
-    if unit < 64 { 0 } else { unit }
+/// Unit 0, where the fault's unit is drawn then, and else that.
+fn unit_for(spot: Option<Spot>) -> u16
+    ensures { result ≡ spec.unit_for spot }
+{
+    match spot {
+        Some(spot) => { if spot.unit < 64 { 0 } else { spot.unit } }
+        None => 0,
+    }
 }
 
 /// The first place that is drawn.
-fn first_place(run: &Record, window: Window, spot: Option<Spot>) -> u32 {
-    match (window.from, spot) {
-        (Some(from), _) => from,
-        (None, Some(spot)) => from_for(spot.place, entries_of(run, spot.unit)),
-        (None, None) => 0,
+fn first_place(run: &Record, from: Option<u32>, spot: Option<Spot>) -> u32
+    ensures { result ≡ spec.first_place run.now from spot }
+{
+    match from {
+        Some(from) => from,
+        None => place_for(run, spot),
     }
 }
 
-/// Place 0, where this one is drawn then. Else half of the window stands before it, or before the end of the unit's entries.
-fn from_for(place: u32, entries: &[Entry]) -> u32 {
-    if place < 64 {
-        return 0;
+/// Place 0, where the fault's place is drawn then. Else half of the window stands before it, or before the end of the unit's entries.
+fn place_for(run: &Record, spot: Option<Spot>) -> u32
+    ensures { result ≡ spec.place_for run.now spot }
+{
+    match spot {
+        Some(spot) => {
+            if spot.place < 64 {
+                0
+            } else {
+                half_before(entries_of(run, spot.unit).len(), spot.place)
+            }
+        }
+        None => 0,
     }
-    let end = entries.len().min(place as usize) as u32;
+}
+
+/// Half of the window before a place, or before the end of so many entries.
+fn half_before(entries: usize, place: u32) -> u32
+    ensures { result ≡ min entries place - 32 }
+{
+    let end = entries.min(place as usize) as u32;
     end.saturating_sub(32)
 }
 
 /// The entries of a unit.
 pub(crate) fn entries_of<'a>(run: &'a Record, unit: u16) -> &'a [Entry]
-    ensures { result.now ≡ spec.entries_of run.now unit }
+    ensures { result.now ≡ entries run.now unit }
 {
     match run.units.get(unit as usize) {
         Some(history) => history.as_slice(),
-        None => &[],
-    }
-}
-
-/// The marks of a unit.
-fn of_unit(marks: &[Vec<Mark>], unit: u16) -> &[Mark] {
-    match marks.get(unit as usize) {
-        Some(marks) => marks.as_slice(),
         None => &[],
     }
 }
@@ -106,7 +127,11 @@ fn rows_of(
     first: u16,
     from: u32,
 ) -> Result<(Vec<Row>, Option<u16>), NoMemory>
-    ensures { IfOk result (λ rows. length rows.0.items ≤ 64) }
+    requires { AreByUnit run.now (map (λ list. list.items) marks.now) }
+    ensures few { IfOk result (λ rows. length rows.0.items ≤ 64) }
+    ensures units { IfOk result (λ rows. map (λ row. row.unit) rows.0.items ≡ take 64 (spec.used_units run.now first)) }
+    ensures each { IfOk result (λ rows. All (IsRow run.now from) rows.0.items) }
+    ensures next { IfOk result (λ rows. rows.1 ≡ slice_get (spec.used_units run.now first) 64) }
 {
     let mut rows = Vec::new(alloc);
     for unit in first..run.geometry.units() {
@@ -121,8 +146,12 @@ fn rows_of(
 }
 
 /// Whether a unit has an entry or a mark.
-fn is_used(run: &Record, marks: &[Vec<Mark>], unit: u16) -> bool {
-    !entries_of(run, unit).is_empty() || !of_unit(marks, unit).is_empty()
+fn is_used(run: &Record, marks: &[Vec<Mark>], unit: u16) -> bool
+    requires marks { AreByUnit run.now (map (λ list. list.items) marks.now) }
+    requires unit { unit < length run.now.units }
+    ensures { result ≡ spec.is_used run.now unit }
+{
+    !entries_of(run, unit).is_empty() || !of_unit(run, marks, unit).is_empty()
 }
 
 /// The row of a unit.
@@ -132,118 +161,80 @@ fn row_of(
     marks: &[Vec<Mark>],
     unit: u16,
     from: u32,
-) -> Result<Row, NoMemory> {
-    let lba = if unit < run.geometry.units() {
-        run.geometry.unit_range(unit).0
-    } else {
-        0
-    };
-    let stacks = stacks_of(alloc, of_unit(marks, unit), from)?;
+) -> Result<Row, NoMemory>
+    requires marks { AreByUnit run.now (map (λ list. list.items) marks.now) }
+    requires unit { unit < length run.now.units }
+    ensures unit { IfOk result (λ row. row.unit ≡ unit) }
+    ensures value { IfOk result (IsRow run.now from) }
+{
+    let (lba, _blocks) = run.geometry.unit_range(unit);
+    let stacks = stacks_of(alloc, of_unit(run, marks, unit), from)?;
     Ok(Row { unit, lba, stacks })
 }
 
-/// The marks of each unit: by worker, and in the worker's order. It is one pass over all that was done.
-fn marks_of(alloc: Global, run: &Record) -> Result<Vec<Vec<Mark>>, NoMemory> {
-    let mut marks = no_marks(alloc, run.units.len())?;
-    let mut worker = 0u16;
-    for work in &run.done {
-        for done in work {
-            put_job(run, worker, done, &mut marks)?;
-        }
-        worker = worker.saturating_add(1);
-    }
-    Ok(marks)
-}
-
-/// So many lists of marks, with none in them.
-fn no_marks(alloc: Global, count: usize) -> Result<Vec<Vec<Mark>>, NoMemory> {
-    let mut lists = Vec::with_capacity(alloc, count)?;
-    for _list in 0..count {
-        lists.push(Vec::new(alloc))?;
-    }
-    Ok(lists)
-}
-
-/// Puts the marks of a done job behind the others of their units.
-fn put_job(
-    run: &Record,
-    worker: u16,
-    done: &DoneJob,
-    marks: &mut [Vec<Mark>],
-) -> Result<(), NoMemory> {
-    for part in &done.parts {
-        put_part(run, worker, done.job, *part, marks)?;
-    }
-    Ok(())
-}
-
-/// Puts the mark of a part behind the others of its unit, unless an entry shows the part.
-fn put_part(
-    run: &Record,
-    worker: u16,
-    job: u32,
-    part: Part,
-    marks: &mut [Vec<Mark>],
-) -> Result<(), NoMemory> {
-    let mark = Mark { worker, job, part };
-    if is_mark(mark, entries_of(run, part.unit)) {
-        put(mark, part.unit as usize, marks)?;
-    }
-    Ok(())
-}
-
-/// Puts a mark behind the others of a list.
-fn put(mark: Mark, place: usize, lists: &mut [Vec<Mark>]) -> Result<(), NoMemory> {
-    if place < lists.len() {
-        lists[place].push(mark)?;
-    }
-    Ok(())
-}
-
-/// The marks of a unit by their points, from the first place that is drawn to the end of the window.
-fn stacks_of(alloc: Global, marks: &[Mark], from: u32) -> Result<Vec<Vec<Mark>>, NoMemory> {
-    let mut stacks = no_marks(alloc, MOST + 1)?;
-    for mark in marks {
-        if mark.part.point >= from {
-            put(*mark, (mark.part.point - from) as usize, &mut stacks)?;
-        }
-    }
-    Ok(stacks)
-}
-
-/// How many places are drawn of the unit with the most.
-fn columns_of(run: &Record, rows: &[Row], from: u32) -> u8 {
+/// How many places are drawn of the row with the most.
+fn columns_of(run: &Record, rows: &[Row], from: u32) -> u8
+    ensures { result ≡ spec.most_places run.now from rows.now }
+{
     let mut columns = 0;
     for row in rows {
-        columns = columns_with(
-            columns,
-            drawn_entries(entries_of(run, row.unit), from).len(),
-        );
-        columns = columns_with(columns, last_stack(&row.stacks));
+        columns = columns.max(places_in(run, row, from));
     }
     columns
 }
 
-/// The larger number, but at most 64.
-fn columns_with(columns: u8, count: usize) -> u8 {
-    columns.max(count.min(MOST) as u8)
+/// How many places are drawn of a row: up to its last entry in the window, and up to its last mark there.
+fn places_in(run: &Record, row: &Row, from: u32) -> u8
+    ensures value { result ≡ spec.places_in run.now from row.now }
+    ensures few { result ≤ 64 }
+{
+    let entries = drawn_entries(entries_of(run, row.unit), from).len();
+    entries.max(last_column(&row.stacks)).min(MOST) as u8
 }
 
-/// The last point that has a mark, or 0.
-fn last_stack(stacks: &[Vec<Mark>]) -> usize {
+/// The column of the last point that has a mark, or 0.
+fn last_column(stacks: &[Vec<Mark>]) -> usize
+    ensures { result ≡ spec.last_column 0 0 (map (λ stack. stack.items) stacks.now) }
+{
     let mut last = 0;
-    for (point, stack) in stacks.iter().enumerate() {
+    for (column, stack) in stacks.iter().enumerate() {
         if !stack.is_empty() {
-            last = point;
+            last = column;
         }
     }
     last
 }
 
-/// Whether a unit that is drawn has an entry behind the window.
-fn has_more(run: &Record, rows: &[Row], from: u32) -> bool {
+/// Whether a unit that is drawn has an entry or a mark behind the window.
+fn has_more(run: &Record, marks: &[Vec<Mark>], rows: &[Row], from: u32) -> bool
+    requires marks { AreByUnit run.now (map (λ list. list.items) marks.now) }
+    requires rows { All (IsRow run.now from) rows.now }
+    ensures { result ≡ list_any (λ row. spec.has_more_in run.now from row.unit) rows.now }
+{
     for row in rows {
-        if entries_of(run, row.unit).len() as u64 > u64::from(from) + 64 {
+        if has_more_in(run, marks, row.unit, from) {
+            return true;
+        }
+    }
+    false
+}
+
+/// Whether a unit has an entry or a mark behind the window.
+fn has_more_in(run: &Record, marks: &[Vec<Mark>], unit: u16, from: u32) -> bool
+    requires marks { AreByUnit run.now (map (λ list. list.items) marks.now) }
+    requires unit { unit < length run.now.units }
+    ensures { result ≡ spec.has_more_in run.now from unit }
+{
+    let last = u64::from(from) + 64;
+    entries_of(run, unit).len() as u64 > last || has_behind(of_unit(run, marks, unit), last)
+}
+
+/// Whether one of the marks is above a point.
+fn has_behind(marks: &[Mark], point: u64) -> bool
+    ensures { result ≡ list_any (λ mark. nat_lt point mark.part.point) marks.now }
+{
+    for mark in marks {
+        if u64::from(mark.part.point) > point {
             return true;
         }
     }
@@ -251,37 +242,58 @@ fn has_more(run: &Record, rows: &[Row], from: u32) -> bool {
 }
 
 /// Whether a fault that is in a unit isn't drawn.
-fn hides(wrong: Option<Wrong>, rows: &[Row], from: u32) -> bool {
-    let Some(
-        Wrong {
-            job,
-            spot: Some(spot),
-        },
-    ) = wrong
-    else {
+fn hides(wrong: Option<Wrong>, rows: &[Row], from: u32) -> bool
+    ensures { result ≡ spec.hides wrong from rows.now }
+{
+    match wrong {
+        Some(wrong) => hides_spot(wrong.job, wrong.spot, rows, from),
+        None => false,
+    }
+}
+
+/// Whether what is of a job in a spot isn't drawn.
+fn hides_spot(job: u32, spot: Option<Spot>, rows: &[Row], from: u32) -> bool
+    ensures { result ≡ spec.hides_spot job spot from rows.now }
+{
+    let Some(spot) = spot else {
         return false;
     };
-    if spot.place < from {
-        return true;
-    }
+    spot.place < from || !shows(rows, spot.unit, spot.place - from, job)
+}
+
+/// Whether one of the rows is the unit's, and has the place so far behind its first.
+fn shows(rows: &[Row], unit: u16, place: u32, job: u32) -> bool
+    ensures { result ≡ spec.shows unit place job rows.now }
+{
     for row in rows {
-        if row.unit == spot.unit {
-            return !has_place(row, spot.place - from, job);
+        if row.unit == unit && has_place(row, place, job) {
+            return true;
         }
     }
-    true
+    false
 }
 
 /// Whether a row has the place so far behind its first. Behind its last place stand marks alone.
-fn has_place(row: &Row, place: u32, job: u32) -> bool {
-    place < 64 || place == 64 && has_mark(&row.stacks, job)
+fn has_place(row: &Row, place: u32, job: u32) -> bool
+    ensures { result ≡ spec.has_place place job row.now }
+{
+    place < 64 || place == 64 && has_mark_behind(&row.stacks, job)
 }
 
 /// Whether a mark of the job stands behind the last place.
-fn has_mark(stacks: &[Vec<Mark>], job: u32) -> bool {
-    let Some(marks) = stacks.get(MOST) else {
-        return false;
-    };
+fn has_mark_behind(stacks: &[Vec<Mark>], job: u32) -> bool
+    ensures { result ≡ spec.has_mark job (slice_get (map (λ stack. stack.items) stacks.now) 64) }
+{
+    match stacks.get(MOST) {
+        Some(marks) => has_mark(marks, job),
+        None => false,
+    }
+}
+
+/// Whether one of the marks is of the job.
+fn has_mark(marks: &[Mark], job: u32) -> bool
+    ensures { result ≡ list_any (λ mark. nat_eq mark.job job) marks.now }
+{
     for mark in marks {
         if mark.job == job {
             return true;

@@ -2,8 +2,7 @@
 //!
 //! [`draw_record`] draws a record as plain SVG. Units are rows, and their entries boxes from left to right in the colour of their
 //! worker. What rests on a point without an entry (reads, compares, pairs that failed) stands as a mark before the entry of that
-//! place. The first fault of an audit is ringed. How a picture looks is shown by `examples/drawn.py`, which holds the built `nvq`
-//! to a model of it.
+//! place. The first fault that an audit finds is ringed.
 #![tactic(auto)]
 
 mod caption;
@@ -15,6 +14,7 @@ mod layout;
 mod mark;
 mod mark_box;
 mod picture;
+mod putting;
 mod row;
 mod sheet;
 mod size;

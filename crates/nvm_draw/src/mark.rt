@@ -1,5 +1,6 @@
 ghost use Rattle.std.specs.Prelude.{◌≡◌, slice_get};
 ghost use Rattle.nvm_draw.specs.Letters as spec;
+ghost use Rattle.nvm_draw.specs.Marks as marks;
 
 use nvm_plan::{Body, Job, Part, PartResult};
 use nvm_record::Op;
@@ -16,14 +17,23 @@ pub(crate) struct Mark {
     pub part: Part,
 }
 
-/// Whether a part has no entry that shows it: it left none, or the entry at its point isn't its worker's and its job's.
-pub(crate) fn is_mark(mark: Mark, history: &[Entry]) -> bool {
-    if mark.part.result != PartResult::Done {
-        return true;
+/// Whether the entry at the part's point shows it: the part was done, and the entry is of its worker and its job.
+pub(crate) fn is_shown(mark: Mark, history: &[Entry]) -> bool
+    ensures { result ≡ marks.is_shown history.now mark }
+{
+    match mark.part.result {
+        PartResult::Done => is_made_by(mark, history),
+        PartResult::Failed | PartResult::Looked | PartResult::NoMemory | PartResult::Full => false,
     }
+}
+
+/// Whether the entry at the part's point is of its worker and its job.
+fn is_made_by(mark: Mark, history: &[Entry]) -> bool
+    ensures { result ≡ marks.is_made_by mark.worker mark.job (slice_get history.now mark.part.point) }
+{
     match history.get(mark.part.point as usize) {
-        Some(entry) => entry.pass != mark.worker || entry.job != mark.job,
-        None => true,
+        Some(entry) => entry.pass == mark.worker && entry.job == mark.job,
+        None => false,
     }
 }
 

@@ -1,6 +1,6 @@
-ghost use Rattle.std.specs.Prelude.{◌≡◌, ◌≤◌, IfOk, length, string_bytes};
+ghost use Rattle.std.specs.Prelude.{◌≡◌, ◌≤◌, ◌++◌, IfOk, OnOk, length, string_bytes};
 ghost use Rattle.nvm_draw.specs.Picture as spec;
-ghost use Rattle.nvm_draw.specs.Picture.{IsPicture};
+ghost use Rattle.nvm_draw.specs.Picture.{IsAnswer, IsPicture};
 
 use crate::caption::{push_answer, push_cut, push_title};
 use crate::frame::push_frame;
@@ -11,59 +11,95 @@ use crate::sheet::Sheet;
 use crate::size::{height, width};
 use crate::window::Window;
 use crate::wrong::Wrong;
-use nvm_audit::{AuditFault, Record, Verdict};
+use nvm_audit::{AuditFault, Record, Verdict, Watcher, audit_watched};
 use nvm_record::NoMemory;
-use std::alloc::Global;
+use std::alloc::{AllocError, Global};
+use std::thread::Threads;
 
-/// The record as a picture, with what an audit answered of it: the text of an SVG file.
+/// Audits the record, in several threads, and draws it with what was found: the text of an SVG file.
 ///
 /// Each unit is a row, with its number and its first LBA. Its entries are boxes in the order of their places, each in the colour of
 /// its worker, with a letter for what was done, the worker's number and the job's. What left no entry (reads, compares, failed
 /// pairs, refused changes) is a mark before the entry at its point. Boxes and marks have the lines of a listing as their titles. What
 /// is of the fault has a red ring. Units without entries and marks aren't drawn, nor is what lies outside of the window, which the
-/// picture says. The record may be unlawful.
+/// picture says. The record may be unlawful. The watcher is told how far the audit is.
 ///
 /// `NoMemory` is answered where a growth was refused.
-pub fn draw_record(
+pub fn draw_record<W: Watcher + Sync>(
+    rt: &(impl Threads + Sync),
     alloc: Global,
     run: &Record,
-    answer: &Result<Verdict, AuditFault>,
     window: Window,
+    watcher: &W,
 ) -> Result<String, NoMemory>
-    ensures { IfOk result (λ text. IsPicture run.now answer.now (string_bytes text)) }
+    ensures { IfOk result (λ text. IsPicture run.now window (string_bytes text)) }
 {
-    let wrong = wrong_in(answer);
-    let sheet = sheet_of(alloc, run, window, wrong)?;
-    let between = between(alloc, run, &sheet)?;
-    let mut text = above(alloc, run, &sheet)?;
-    push_answer(&mut text, answer)?;
-    text.push_str(between.as_str())?;
-    push_rows(&mut text, run, wrong, &sheet)?;
-    text.push_str("</svg>\n")?;
+    let answer = answer_of(rt, alloc, run, watcher)?;
+    let sheet = sheet_of(alloc, run, window, wrong_in(&answer))?;
+    let mut text = String::new(alloc);
+    push_picture(&mut text, run, &answer, &sheet)?;
     Ok(text)
 }
 
-/// What stands above the line of the verdict.
-fn above(alloc: Global, run: &Record, sheet: &Sheet) -> Result<String, NoMemory>
-    requires { length sheet.now.rows.items ≤ 64 }
+/// What an audit answers of the record: the verdict, or the first fault. Want of memory is none.
+fn answer_of<W: Watcher + Sync>(
+    rt: &(impl Threads + Sync),
+    alloc: Global,
+    run: &Record,
+    watcher: &W,
+) -> Result<Result<Verdict, AuditFault>, NoMemory>
+    ensures { IfOk result (IsAnswer run.now) }
 {
-    let mut text = String::new(alloc);
+    match audit_watched(rt, alloc, run, watcher) {
+        Ok(verdict) => Ok(Ok(verdict)),
+        Err(AuditFault::NoMemory) => Err(AllocError),
+        Err(fault) => Ok(Err(fault)),
+    }
+}
+
+/// Appends the picture of a record.
+#[tactic(auto, unfolding(crate::specs::Picture::picture_text))]
+fn push_picture(
+    text: &mut String,
+    run: &Record,
+    answer: &Result<Verdict, AuditFault>,
+    sheet: &Sheet,
+) -> Result<(), NoMemory>
+    requires { length sheet.now.rows.items ≤ 64 }
+    ensures { OnOk result (string_bytes text.new ≡ string_bytes text.old ++ spec.picture_text run.now answer.now sheet.now) }
+{
+    push_above(text, run, sheet)?;
+    push_answer(text, answer)?;
+    push_between(text, run, sheet)?;
+    push_rows(text, run, wrong_in(answer), sheet)?;
+    text.push_str("</svg>\n")?;
+    Ok(())
+}
+
+/// Appends what stands above the line of the verdict.
+#[tactic(auto, unfolding(crate::specs::Picture::above_text))]
+fn push_above(text: &mut String, run: &Record, sheet: &Sheet) -> Result<(), NoMemory>
+    requires { length sheet.now.rows.items ≤ 64 }
+    ensures { OnOk result (string_bytes text.new ≡ string_bytes text.old ++ spec.above_text run.now sheet.now) }
+{
     push_frame(
-        &mut text,
+        text,
         width(sheet.columns),
         height(run.workers, sheet.rows.len()),
     )?;
-    push_title(&mut text, run)?;
-    Ok(text)
+    push_title(text, run)?;
+    Ok(())
 }
 
-/// What stands between the line of the verdict and the rows.
-fn between(alloc: Global, run: &Record, sheet: &Sheet) -> Result<String, NoMemory> {
-    let mut text = String::new(alloc);
-    push_cut(&mut text, run, sheet)?;
-    push_key(&mut text, run.workers)?;
-    push_places(&mut text, run.workers, sheet.from, sheet.columns)?;
-    Ok(text)
+/// Appends what stands between the line of the verdict and the rows.
+#[tactic(auto, unfolding(crate::specs::Picture::between_text))]
+fn push_between(text: &mut String, run: &Record, sheet: &Sheet) -> Result<(), NoMemory>
+    ensures { OnOk result (string_bytes text.new ≡ string_bytes text.old ++ spec.between_text run.now sheet.now) }
+{
+    push_cut(text, run.units.len() as u64, sheet)?;
+    push_key(text, run.workers)?;
+    push_places(text, run.workers, sheet.from, sheet.columns)?;
+    Ok(())
 }
 
 /// Where the fault is, if there is one.

@@ -1,0 +1,151 @@
+ghost use Rattle.std.specs.Prelude.{◌≡◌, ◌<◌, ◌≤◌, IfOk, OnOk, length, map};
+ghost use Rattle.nvm_draw.specs.Inside.Putting as spec;
+ghost use Rattle.nvm_draw.specs.Inside.Putting.{AreByUnit, AreEmpty};
+ghost use Rattle.nvm_draw.specs.Marks.{by_number, mark_of, marks_in, parts_of_job, parts_of_work, parts_of_workers};
+
+use crate::layout::entries_of;
+use crate::mark::{Mark, is_shown};
+use crate::size::MOST;
+use nvm_audit::{DoneJob, Record};
+use nvm_record::NoMemory;
+use std::alloc::Global;
+
+/// The marks of each unit: by worker, and in the worker's order. It is one pass over all that was done.
+pub(crate) fn marks_of(alloc: Global, run: &Record) -> Result<Vec<Vec<Mark>>, NoMemory>
+    ensures { IfOk result (λ marks. AreByUnit run.now (map (λ list. list.items) marks.items)) }
+{
+    let mut marks = no_marks(alloc, run.units.len())?;
+    put_workers(run, &run.done, &mut marks)?;
+    Ok(marks)
+}
+
+/// So many lists of marks, with none in them.
+fn no_marks(alloc: Global, count: usize) -> Result<Vec<Vec<Mark>>, NoMemory>
+    ensures { IfOk result (λ lists. AreEmpty count (map (λ list. list.items) lists.items)) }
+{
+    let mut lists = Vec::with_capacity(alloc, count)?;
+    for _list in 0..count {
+        lists.push(Vec::new(alloc))?;
+    }
+    Ok(lists)
+}
+
+/// Puts the marks of what workers did behind the others of their units.
+fn put_workers(
+    run: &Record,
+    done: &[Vec<DoneJob>],
+    marks: &mut Vec<Vec<Mark>>,
+) -> Result<(), NoMemory>
+    requires { length done.now ≤ 64 }
+    ensures { OnOk result (map (λ list. list.items) marks.new.items
+        ≡ spec.with_parts run.now (parts_of_workers 0 (map (λ work. work.items) done.now)) (map (λ list. list.items) marks.old.items)) }
+{
+    for (worker, work) in done.iter().enumerate() {
+        put_work(run, worker as u16, work, marks)?;
+    }
+    Ok(())
+}
+
+/// Puts the marks of what a worker did behind the others of their units.
+fn put_work(
+    run: &Record,
+    worker: u16,
+    work: &[DoneJob],
+    marks: &mut Vec<Vec<Mark>>,
+) -> Result<(), NoMemory>
+    ensures { OnOk result (map (λ list. list.items) marks.new.items
+        ≡ spec.with_parts run.now (parts_of_work worker work.now) (map (λ list. list.items) marks.old.items)) }
+{
+    for done in work {
+        put_job(run, worker, done, marks)?;
+    }
+    Ok(())
+}
+
+/// Puts the marks of a done job behind the others of their units.
+fn put_job(
+    run: &Record,
+    worker: u16,
+    done: &DoneJob,
+    marks: &mut Vec<Vec<Mark>>,
+) -> Result<(), NoMemory>
+    ensures { OnOk result (map (λ list. list.items) marks.new.items
+        ≡ spec.with_parts run.now (parts_of_job worker done.now) (map (λ list. list.items) marks.old.items)) }
+{
+    for part in &done.parts {
+        let mark = Mark {
+            worker,
+            job: done.job,
+            part: *part,
+        };
+        put_part(run, mark, marks)?;
+    }
+    Ok(())
+}
+
+/// Puts the mark of a part behind the others of its unit, unless an entry shows the part.
+fn put_part(run: &Record, mark: Mark, marks: &mut Vec<Vec<Mark>>) -> Result<(), NoMemory>
+    ensures { OnOk result (map (λ list. list.items) marks.new.items
+        ≡ spec.with_part run.now mark (map (λ list. list.items) marks.old.items)) }
+{
+    if !is_shown(mark, entries_of(run, mark.part.unit)) {
+        put(mark, mark.part.unit as usize, marks)?;
+    }
+    Ok(())
+}
+
+/// Puts a mark behind the others of a list.
+fn put(mark: Mark, place: usize, lists: &mut Vec<Vec<Mark>>) -> Result<(), NoMemory>
+    ensures { OnOk result (map (λ list. list.items) lists.new.items
+        ≡ spec.put_at place mark (map (λ list. list.items) lists.old.items)) }
+{
+    if place < lists.len() {
+        lists[place].push(mark)?;
+    }
+    Ok(())
+}
+
+/// The marks of a unit.
+pub(crate) fn of_unit<'a>(run: &Record, marks: &'a [Vec<Mark>], unit: u16) -> &'a [Mark]
+    requires marks { AreByUnit run.now (map (λ list. list.items) marks.now) }
+    requires unit { unit < length run.now.units }
+    ensures { result.now ≡ marks_in run.now unit }
+{
+    marks[unit as usize].as_slice()
+}
+
+/// The marks of a unit by their points, from the first place that is drawn to the end of the window.
+pub(crate) fn stacks_of(
+    alloc: Global,
+    marks: &[Mark],
+    from: u32,
+) -> Result<Vec<Vec<Mark>>, NoMemory>
+    ensures { IfOk result (λ stacks. map (λ stack. stack.items) stacks.items
+        ≡ by_number (λ mark. mark.part.point) from 65 marks.now) }
+{
+    let mut stacks = no_marks(alloc, MOST + 1)?;
+    put_points(marks, from, &mut stacks)?;
+    Ok(stacks)
+}
+
+/// Puts marks behind the others of their points, the first of which is this one.
+fn put_points(marks: &[Mark], from: u32, stacks: &mut Vec<Vec<Mark>>) -> Result<(), NoMemory>
+    ensures { OnOk result (map (λ list. list.items) stacks.new.items
+        ≡ spec.with_points from marks.now (map (λ list. list.items) stacks.old.items)) }
+{
+    for mark in marks {
+        put_point(*mark, from, stacks)?;
+    }
+    Ok(())
+}
+
+/// Puts a mark behind the others of its point, if it isn't before the first.
+fn put_point(mark: Mark, from: u32, stacks: &mut Vec<Vec<Mark>>) -> Result<(), NoMemory>
+    ensures { OnOk result (map (λ list. list.items) stacks.new.items
+        ≡ spec.with_point from mark (map (λ list. list.items) stacks.old.items)) }
+{
+    if mark.part.point < from {
+        return Ok(());
+    }
+    put(mark, (mark.part.point - from) as usize, stacks)
+}
