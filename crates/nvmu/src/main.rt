@@ -10,12 +10,15 @@ mod failure;
 mod files;
 mod words;
 
-use crate::failure::Failure;
+use crate::failure::{Failure, of_audit, of_run};
 use crate::files::{bytes_of, check_inputs, check_output, read_files, write_file};
 use crate::words::{Asked, read_words};
-use nvm_engine::{Fault, Judged, Settings, Shown, audit_bytes, execute};
-use nvm_front::{FileFault, Output, WordFault, tell, tell_unwritten, texts_of, words_given};
+use nvm_engine::{Judged, Settings, Shown, audit_bytes, execute};
+use nvm_front::{
+    FileFault, Output, WordFault, failed, tell, tell_unwritten, texts_of, words_given,
+};
 use nvm_unit::Open;
+use std::alloc::AllocError;
 use std::io::ErrorKind;
 use std::process::ExitCode;
 use std::rt::{Env, Files};
@@ -37,7 +40,7 @@ fn status_of<R: AllocGlobal + Env + Files + Input + Print + Eprint + Threads + W
     match asked(rt) {
         Ok(asked) => match Output::standard(rt) {
             Ok(output) => done(rt, &asked, output),
-            Err(_) => failed(rt, Failure::from(Fault::NoMemory)),
+            Err(_) => failed(rt, Failure::from(AllocError)),
         },
         Err(fault) => tell(rt, NAME, fault),
     }
@@ -102,13 +105,7 @@ fn run<R: AllocGlobal + Files + Input + Threads + Wait + Sync>(
     let files = read_files(rt, paths)?;
     match execute(rt, rt.alloc(), settings, files.as_slice(), &Open) {
         Ok(shown) => Ok(shown),
-        Err(fault) => Err(Failure::of_run(
-            rt.alloc(),
-            fault,
-            settings.block,
-            paths,
-            files.as_slice(),
-        )),
+        Err(fault) => Err(of_run(rt.alloc(), fault, settings.block, paths, files.as_slice())),
     }
 }
 
@@ -123,7 +120,7 @@ fn audited<R: AllocGlobal + Files + Input + Threads + Sync>(
     let bytes = bytes_of(rt, path)?;
     match audit_bytes(rt, rt.alloc(), &bytes) {
         Ok(judged) => Ok(judged),
-        Err(fault) => Err(Failure::of_audit(rt.alloc(), fault, path, &bytes)),
+        Err(fault) => Err(of_audit(rt.alloc(), fault, path, &bytes)),
     }
 }
 
@@ -147,7 +144,7 @@ fn ended<R: Eprint>(rt: &R, written: Result<(), FileFault>, status: u8) -> u8
 {
     match written {
         Ok(()) => status,
-        Err(FileFault::NoMemory) => failed(rt, Failure::from(Fault::NoMemory)),
+        Err(FileFault::NoMemory) => failed(rt, Failure::from(AllocError)),
         Err(FileFault::Refused(kind)) => unshown(rt, kind),
     }
 }
@@ -174,12 +171,4 @@ fn write_judged<R: Files + Print>(
 ) -> Result<(), FileFault> {
     judged.write_line(&mut output)?;
     output.finish()
-}
-
-/// Prints the fault's line on standard error, and what helps below it.
-fn failed<R: Eprint>(rt: &R, failure: Failure) -> u8
-    ensures { result ≡ 1 }
-{
-    let _ = rt.eprintln(failure);
-    1
 }
