@@ -15,6 +15,7 @@ from hints import (
     GEOMETRY,
     IS_HOST_FILE,
     IS_LIST,
+    IS_OUTPUT,
     LOOP,
     MISSING,
     NO_FOLDER,
@@ -294,7 +295,7 @@ def shown_nowhere(run):
 
 
 def outs_that_are_read(run):
-    """A file that is read isn't written over: under its path, another path, a link, or as standard input."""
+    """A file that is read isn't written over: under its path, another path, a link, or as standard input. Nor is standard output's."""
     content, text = file_of([write(0, 0x41)]), b"write 0 1 41\n"
     run.keep("other.nvq", file_of([]))
     run.keep("read.nvq", content)
@@ -313,6 +314,16 @@ def outs_that_are_read(run):
         run.hold(f"{words}", found, (1, told("nvmu: cannot write hard", IS_HOST_FILE).encode()))
     run.expect(run_words(OPTIONS, "read.nvq", out="-"), 1, err=told("nvmu: cannot write -", STANDARD_OUT))
     run.hold("no file of that name", os.path.exists(os.path.join(run.folder, "-")), False)
+    # Nor is the record written over the lines, where standard output goes to a file. It may go to a device.
+    for words, line in (
+        (run_words(OPTIONS, "read.nvq", out="shown"), "nvmu: cannot write shown"),
+        (run_words(OPTIONS, "read.nvq", out="./shown"), "nvmu: cannot write ./shown"),
+    ):
+        with open(os.path.join(run.folder, "shown"), "wb") as shown:
+            found = run.status_of(words, stdout=shown)
+        run.hold(f"{words} > shown", (found, run.kept("shown")), ((1, told(line, IS_OUTPUT).encode()), b""))
+    with open("/dev/null", "wb") as nowhere:
+        run.hold("twice nowhere", run.status_of(run_words(OPTIONS, "read.nvq", out="/dev/null"), stdout=nowhere), (0, b""))
     # A device is no file that is read.
     run.expect(run_words(OPTIONS, "read.nvq", out="/dev/null"), out="1 1 write 0/00\nlawful jobs 1 units 4 changes 1 refused 0\n")
     os.remove(os.path.join(run.folder, "soft"))

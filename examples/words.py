@@ -298,6 +298,12 @@ def standard_input(run):
     os.remove(os.path.join(run.folder, "-"))
     for names in (["-", "-"], ["a", "-", "missing", "-"]):
         run.expect(run_words(OPTIONS, *names), 1, given=run.kept("b"), err=told("nvmu: cannot read -", STANDARD_TWICE))
+    # /dev/stdin is standard input, too.
+    record, shown = expected(run, OPTIONS, ["a", "b"])
+    run.expect(run_words(OPTIONS, "a", "/dev/stdin"), given=run.kept("b"), out=shown, files={"record": spelled(record)})
+    for names in (["-", "/dev/stdin"], ["/dev/stdin", "a", "-"], ["/dev/stdin", "/dev/stdin"]):
+        err = told(f"nvmu: cannot read {names[-1]}", STANDARD_TWICE)
+        run.expect(run_words(OPTIONS, *names), 1, given=run.kept("b"), err=err)
     for words in (run_words(OPTIONS, "-"), ["nvmu", "audit", "-"]):
         run.hold(f"{words}", run.status_of(words, preexec_fn=without_input), (1, b"nvmu: cannot read -\n"))
     folder = os.open(run.folder, os.O_RDONLY)

@@ -134,6 +134,9 @@ class Run:
     def refused(self, end, whole, refusals):
         if end.said() == (1, "", f"{self.program}: no memory\n", self.before):
             return "no memory"
+        line, _, hint = (self.err or "").partition("\n  ")
+        if hint and end.said() == (self.status, "", f"{line}\n", self.before):
+            return "without the hint"
         # `clap` goes on where it is refused the memory to measure how similar two words are.
         if (self.hides_wants or self.is_said_by_clap()) and end.said() == whole.said():
             return "as before"

@@ -1,5 +1,10 @@
+ghost use Rattle.std.specs.Prelude.{◌≡◌};
+ghost use Rattle.nvm_front.specs.Standard.{names_input};
+
 use crate::output::Output;
 use crate::progress::Progress;
+use nvm_audit::Record;
+use nvm_file::write_record;
 use std::fs::{Metadata, OpenFile};
 use std::io::{ErrorKind, Read, Write};
 use std::os::unix::fs::MetadataExt;
@@ -8,6 +13,9 @@ use std::{fs, io};
 
 /// The path that stands for standard input, or for standard output. A file of that name is `./-`.
 pub const STANDARD: &str = "-";
+
+/// Another path of standard input.
+const INPUT: &str = "/dev/stdin";
 
 /// A file is read in chunks of so many bytes.
 const CHUNK: usize = 65_536;
@@ -104,14 +112,43 @@ pub fn write<R: Files + AllocGlobal + Print + Eprint>(
     output.finish()
 }
 
+/// Writes the file of a record. It appears whole or not at all, as an [`Output`] does.
+pub fn write_run<R: Files + AllocGlobal + Print + Eprint>(
+    rt: &R,
+    path: &str,
+    run: &Record,
+    progress: &Progress<'_, R>,
+) -> Result<(), FileFault> {
+    let mut output = Output::file(rt, path, progress)?;
+    write_record(&mut output, run)?;
+    output.finish()
+}
+
+/// Whether a path names standard input. Each read of it begins where the last one ended.
+pub fn is_input(path: &str) -> bool
+    ensures { result ≡ names_input path.now }
+{
+    path == STANDARD || path == INPUT
+}
+
 /// Whether a file that would be written is one that is read, under that path or another. `-` is standard input here.
 /// What isn't there, and what is no regular file, is none that is read. `NoMemory` is the only fault.
 pub fn is_read<R: Files>(rt: &R, out: &str, read: &str) -> Result<bool, FileFault> {
-    let read = if read == STANDARD { "/dev/stdin" } else { read };
-    let (Some(out), Some(read)) = (standing(rt, out)?, standing(rt, read)?) else {
+    is_one_file(rt, out, if read == STANDARD { INPUT } else { read })
+}
+
+/// Whether a file that would be written is the one that standard output goes to. What isn't there, and what is no regular
+/// file, isn't. `NoMemory` is the only fault.
+pub fn is_output<R: Files>(rt: &R, out: &str) -> Result<bool, FileFault> {
+    is_one_file(rt, out, "/dev/stdout")
+}
+
+/// Whether one regular file stands at both paths.
+fn is_one_file<R: Files>(rt: &R, out: &str, other: &str) -> Result<bool, FileFault> {
+    let (Some(out), Some(other)) = (standing(rt, out)?, standing(rt, other)?) else {
         return Ok(false);
     };
-    Ok(out.is_file() && out.dev() == read.dev() && out.ino() == read.ino())
+    Ok(out.is_file() && out.dev() == other.dev() && out.ino() == other.ino())
 }
 
 /// What stands at a path, or where its links lead.

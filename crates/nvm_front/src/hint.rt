@@ -6,6 +6,9 @@ use nvm_record::{BlockSize, HostFault, Payload, read_host};
 use std::alloc::{AllocError, Global};
 use std::io::ErrorKind;
 
+/// What helps where a record is of a version that isn't known.
+pub const VERSIONS: &str = "the fourth byte of a record is 1 or 2";
+
 /// Why the system refused to read or write something. `None` where it doesn't say, or says nothing that helps.
 pub fn refusal(kind: ErrorKind) -> Option<&'static str> {
     match kind {

@@ -2,11 +2,12 @@
 //! ask for nothing that can be done, and what helps whoever reads a fault. A file that is written appears whole or not at
 //! all ([`Output`]).
 //!
-//! Of words, files and streams no clause can say what they hold, so nothing here has one: `examples/check` holds the
+//! Of words, files and streams no clause can say what they hold, so few functions here have one: `examples/check` holds the
 //! built programs to what they must say.
 #![tactic(auto)]
 
 mod content;
+mod failure;
 mod files;
 mod hint;
 mod output;
@@ -16,9 +17,10 @@ mod version;
 mod words;
 
 pub use content::Content;
-pub use files::{FileFault, STANDARD, is_read, read_input, write};
-pub use hint::{no_host_file, no_list, no_namespace, no_record, other_block, refusal};
+pub use failure::{Failure, failed};
+pub use files::{FileFault, STANDARD, is_input, is_output, is_read, read_input, write, write_run};
+pub use hint::{VERSIONS, no_host_file, no_list, no_namespace, no_record, other_block, refusal};
 pub use output::{Output, tell_unwritten};
 pub use progress::{Progress, Terminals};
 pub use version::VERSION;
-pub use words::{WordFault, missing, tell, texts_of, words_given};
+pub use words::{WordFault, missing, owned, tell, texts_of, words_given};

@@ -1,3 +1,5 @@
+ghost use Rattle.std.specs.Prelude.{◌≡◌, IfOk, length};
+
 use crate::output::tell_unwritten;
 use clap::error::ErrorKind;
 use clap::{Command, Error};
@@ -62,6 +64,17 @@ pub fn texts_of(alloc: Global, words: &[String]) -> Result<Vec<&str>, AllocError
         texts.push(word.as_str())?;
     }
     Ok(texts)
+}
+
+/// The texts as strings of their own, in their order.
+pub fn owned(alloc: Global, texts: &[&str]) -> Result<Vec<String>, AllocError>
+    ensures { IfOk result (λ strings. length strings.items ≡ length texts.now) }
+{
+    let mut strings = Vec::with_capacity(alloc, texts.len())?;
+    for text in texts {
+        strings.push(String::from_str(alloc, text)?)?;
+    }
+    Ok(strings)
 }
 
 /// The fault of words that `clap` took although something is missing in them.

@@ -1,12 +1,12 @@
 ghost use Rattle.std.specs.Prelude.{◌≡◌, IfOk, IfErr, length, map, string_bytes};
-ghost use Rattle.nvm_engine.specs.declared.fault.Fault.TheVariants.{NoMemory};
 ghost use Rattle.nvmu.specs.Files.{IsReadFault, IsReadingFault, IsWriteFault};
 
 use crate::failure::Failure;
 use nvm_audit::Record;
 use nvm_engine::Fault;
-use nvm_file::write_record;
-use nvm_front::{FileFault, Output, Progress, STANDARD, is_read, read_input, refusal};
+use nvm_front::{
+    FileFault, Progress, STANDARD, is_input, is_output, is_read, read_input, refusal, write_run,
+};
 use nvm_record::Payload;
 use std::alloc::{AllocError, Global};
 use std::rt::Files;
@@ -37,18 +37,18 @@ pub fn bytes_of<R: Files + AllocGlobal + Input + Eprint>(
 {
     match read_input(rt, path, progress) {
         Ok(bytes) => Ok(Payload::new(rt.alloc(), bytes)?),
-        Err(FileFault::NoMemory) => Err(Failure::from(Fault::NoMemory)),
+        Err(FileFault::NoMemory) => Err(Failure::from(AllocError)),
         Err(FileFault::Refused(kind)) => Err(unread(rt.alloc(), path, refusal(kind))),
     }
 }
 
-/// Refuses a run that would read standard input twice, before anything is read.
+/// Refuses a run that would read standard input twice, before anything is read. `/dev/stdin` is standard input, too.
 pub fn check_inputs(alloc: Global, paths: &[String]) -> Result<(), Failure>
     ensures { IfErr result (λ failure. IsReadingFault (map (λ path. string_bytes path) paths.now) failure.fault) }
 {
     let mut is_taken = false;
     for path in paths {
-        if path.as_str() == STANDARD {
+        if is_input(path.as_str()) {
             if is_taken {
                 let why = Some("standard input is one host's file, and no second one's");
                 return Err(unread(alloc, path.as_str(), why));
@@ -59,7 +59,8 @@ pub fn check_inputs(alloc: Global, paths: &[String]) -> Result<(), Failure>
     Ok(())
 }
 
-/// Refuses a path for the record at which one of the files to read stands, and `-`, before anything is done.
+/// Refuses a path for the record at which one of the files to read stands or that standard output goes to, and `-`, before
+/// anything is done.
 pub fn check_output<R: Files + AllocGlobal>(
     rt: &R,
     out: &str,
@@ -75,10 +76,18 @@ pub fn check_output<R: Files + AllocGlobal>(
         match is_read(rt, out, path.as_str()) {
             Ok(false) => {}
             Ok(true) => return Err(unwritten(rt.alloc(), out, Some("it is one of the host files"))),
-            Err(_) => return Err(Failure::from(Fault::NoMemory)),
+            Err(_) => return Err(Failure::from(AllocError)),
         }
     }
-    Ok(())
+    match is_output(rt, out) {
+        Ok(false) => Ok(()),
+        Ok(true) => Err(unwritten(
+            rt.alloc(),
+            out,
+            Some("standard output goes there, with the lines"),
+        )),
+        Err(_) => Err(Failure::from(AllocError)),
+    }
 }
 
 /// Writes the file of a record. It appears whole or not at all: where it can't be written, what stood at the path stays as it was.
@@ -90,62 +99,29 @@ pub fn write_file<R: Files + AllocGlobal + Print + Eprint>(
 ) -> Result<(), Failure>
     ensures { IfErr result (λ failure. IsWriteFault path.now failure.fault) }
 {
-    match written_to(rt, path, run, progress) {
+    match write_run(rt, path, run, progress) {
         Ok(()) => Ok(()),
-        Err(FileFault::NoMemory) => Err(Failure::from(Fault::NoMemory)),
+        Err(FileFault::NoMemory) => Err(Failure::from(AllocError)),
         Err(FileFault::Refused(kind)) => Err(unwritten(rt.alloc(), path, refusal(kind))),
     }
 }
 
-fn written_to<R: Files + AllocGlobal + Print + Eprint>(
-    rt: &R,
-    path: &str,
-    run: &Record,
-    progress: &Progress<'_, R>,
-) -> Result<(), FileFault> {
-    let mut output = Output::file(rt, path, progress)?;
-    write_record(&mut output, run)?;
-    output.finish()
-}
-
-/// The failure of a file that can't be read, or want of memory for it.
+/// The failure of a file that can't be read, or want of memory for its path.
 fn unread(alloc: Global, path: &str, why: Option<&str>) -> Failure
     ensures { IsReadFault path.now result.fault }
 {
-    match texts(alloc, path, why) {
-        Ok((path, hint)) => Failure {
-            fault: Fault::CannotRead { path },
-            hint,
-        },
-        Err(_) => Failure::from(Fault::NoMemory),
+    match String::from_str(alloc, path) {
+        Ok(path) => Failure::because(alloc, Fault::CannotRead { path }, why),
+        Err(error) => Failure::from(error),
     }
 }
 
-/// The failure of a file that can't be written, or want of memory for it.
+/// The failure of a file that can't be written, or want of memory for its path.
 fn unwritten(alloc: Global, path: &str, why: Option<&str>) -> Failure
     ensures { IsWriteFault path.now result.fault }
 {
-    match texts(alloc, path, why) {
-        Ok((path, hint)) => Failure {
-            fault: Fault::CannotWrite { path },
-            hint,
-        },
-        Err(_) => Failure::from(Fault::NoMemory),
+    match String::from_str(alloc, path) {
+        Ok(path) => Failure::because(alloc, Fault::CannotWrite { path }, why),
+        Err(error) => Failure::from(error),
     }
-}
-
-/// The path and the hint as strings of their own.
-fn texts(
-    alloc: Global,
-    path: &str,
-    why: Option<&str>,
-) -> Result<(String, Option<String>), AllocError>
-    ensures { IfOk result (λ texts. string_bytes texts.0 ≡ path.now) }
-{
-    let path = String::from_str(alloc, path)?;
-    let hint = match why {
-        Some(why) => Some(String::from_str(alloc, why)?),
-        None => None,
-    };
-    Ok((path, hint))
 }

@@ -10,13 +10,14 @@ mod failure;
 mod files;
 mod words;
 
-use crate::failure::Failure;
+use crate::failure::{Failure, of_audit, of_run};
 use crate::files::{bytes_of, check_inputs, check_output, read_files, write_file};
 use crate::words::{Asked, read_words};
-use nvm_engine::{Fault, Judged, Settings, Shown, audit_bytes_watched, execute_watched};
+use nvm_engine::{Judged, Settings, Shown, audit_bytes_watched, execute_watched};
 use nvm_front::{
-    FileFault, Output, Progress, Terminals, WordFault, tell, tell_unwritten, texts_of, words_given,
+    FileFault, Output, Progress, Terminals, WordFault, failed, tell, tell_unwritten, texts_of, words_given,
 };
+use std::alloc::AllocError;
 use std::io::{ErrorKind, IsTerminal};
 use std::process::ExitCode;
 use std::rt::{Env, Files};
@@ -44,7 +45,7 @@ fn status_of<R: AllocGlobal + Env + Files + Input + Print + Eprint + Threads + W
     match asked(rt) {
         Ok(asked) => match Output::standard(rt, progress) {
             Ok(output) => done(rt, &asked, output, progress),
-            Err(_) => failed(rt, Failure::from(Fault::NoMemory), progress),
+            Err(_) => failed(rt, Failure::from(AllocError)),
         },
         Err(fault) => tell(rt, NAME, fault),
     }
@@ -69,14 +70,22 @@ fn done<R: AllocGlobal + Files + Input + Print + Eprint + Threads + Wait + Sync>
             settings,
             out,
             files,
-        } => match recorded(rt, settings, out.as_str(), files.as_slice(), progress) {
-            Ok(shown) => printed(rt, &shown, output, progress),
-            Err(failure) => failed(rt, failure, progress),
-        },
-        Asked::Audit { path } => match audited(rt, path.as_str(), progress) {
-            Ok(judged) => told(rt, &judged, output, progress),
-            Err(failure) => failed(rt, failure, progress),
-        },
+        } => {
+            let shown = recorded(rt, settings, out.as_str(), files.as_slice(), progress);
+            progress.clear();
+            match shown {
+                Ok(shown) => printed(rt, &shown, output, progress),
+                Err(failure) => failed(rt, failure),
+            }
+        }
+        Asked::Audit { path } => {
+            let judged = audited(rt, path.as_str(), progress);
+            progress.clear();
+            match judged {
+                Ok(judged) => told(rt, &judged, output, progress),
+                Err(failure) => failed(rt, failure),
+            }
+        }
     }
 }
 
@@ -112,13 +121,7 @@ fn run<R: AllocGlobal + Files + Input + Eprint + Threads + Wait + Sync>(
     let files = read_files(rt, paths, progress)?;
     match execute_watched(rt, rt.alloc(), settings, files.as_slice(), progress, progress) {
         Ok(shown) => Ok(shown),
-        Err(fault) => Err(Failure::of_run(
-            rt.alloc(),
-            fault,
-            settings.block,
-            paths,
-            files.as_slice(),
-        )),
+        Err(fault) => Err(of_run(rt.alloc(), fault, settings.block, paths, files.as_slice())),
     }
 }
 
@@ -134,7 +137,7 @@ fn audited<R: AllocGlobal + Files + Input + Eprint + Threads + Sync>(
     let bytes = bytes_of(rt, path, progress)?;
     match audit_bytes_watched(rt, rt.alloc(), &bytes, progress) {
         Ok(judged) => Ok(judged),
-        Err(fault) => Err(Failure::of_audit(rt.alloc(), fault, path, &bytes)),
+        Err(fault) => Err(of_audit(rt.alloc(), fault, path, &bytes)),
     }
 }
 
@@ -147,7 +150,6 @@ fn printed<R: Files + Print + Eprint>(
 ) -> u8
     ensures { (result ≡ 0) ⊎ (result ≡ 1) }
 {
-    progress.clear();
     ended(rt, write_shown(output, shown), 0, progress)
 }
 
@@ -160,7 +162,6 @@ fn told<R: Files + Print + Eprint>(
 ) -> u8
     ensures { (result ≡ answer_status judged.now) ⊎ (result ≡ 1) }
 {
-    progress.clear();
     ended(rt, write_judged(output, judged), judged.status(), progress)
 }
 
@@ -176,7 +177,7 @@ fn ended<R: Eprint>(
     progress.clear();
     match written {
         Ok(()) => status,
-        Err(FileFault::NoMemory) => failed(rt, Failure::from(Fault::NoMemory), progress),
+        Err(FileFault::NoMemory) => failed(rt, Failure::from(AllocError)),
         Err(FileFault::Refused(kind)) => unshown(rt, kind),
     }
 }
@@ -203,13 +204,4 @@ fn write_judged<R: Files + Print + Eprint>(
 ) -> Result<(), FileFault> {
     judged.write_line(&mut output)?;
     output.finish()
-}
-
-/// Prints the fault's line on standard error, and what helps below it.
-fn failed<R: Eprint>(rt: &R, failure: Failure, progress: &Progress<'_, R>) -> u8
-    ensures { result ≡ 1 }
-{
-    progress.clear();
-    let _ = rt.eprintln(failure);
-    1
 }

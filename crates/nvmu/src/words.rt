@@ -1,12 +1,12 @@
-ghost use Rattle.std.specs.Prelude.{◌≡◌, IfOk, IfSome, length};
+ghost use Rattle.std.specs.Prelude.{IfOk, IfSome};
 ghost use Rattle.nvmu.specs.Words.{IsAsked};
 
 use clap::builder::ValueParser;
 use clap::{Arg, ArgAction, ArgMatches, Command, Error, value_parser};
 use nvm_engine::{Settings, Workers};
-use nvm_front::{VERSION, WordFault, missing};
+use nvm_front::{VERSION, WordFault, missing, owned};
 use nvm_store::Limit;
-use std::alloc::{AllocError, Global};
+use std::alloc::Global;
 
 /// What the words of the command line ask for.
 #[derive(Drop)]
@@ -131,17 +131,6 @@ fn audit_asked(alloc: Global, audit: &ArgMatches<'_>) -> Result<Option<Asked>, W
     };
     let path = String::from_str(alloc, path)?;
     Ok(Some(Asked::Audit { path }))
-}
-
-/// The texts as strings of their own, in their order.
-fn owned(alloc: Global, texts: &[&str]) -> Result<Vec<String>, AllocError>
-    ensures { IfOk result (λ strings. length strings.items ≡ length texts.now) }
-{
-    let mut strings = Vec::with_capacity(alloc, texts.len())?;
-    for text in texts {
-        strings.push(String::from_str(alloc, text)?)?;
-    }
-    Ok(strings)
 }
 
 /// The options that are numbers.
