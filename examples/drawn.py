@@ -14,6 +14,7 @@ from recorded import recorded
 from records import DONE, FAILED, FULL, KIND_DEALLOCATE, KIND_PAIR, KIND_UNCORRECTABLE, KIND_WRITE, KIND_ZEROES, LOOKED, NO_MEMORY, spelled
 
 MOST = 64
+TITLED = 16
 DEEDS = {KIND_WRITE: "W", KIND_ZEROES: "Z", KIND_UNCORRECTABLE: "U", KIND_PAIR: "P", KIND_DEALLOCATE: "D"}
 LETTERS = {DONE: "!", FAILED: "F", NO_MEMORY: "M", FULL: "L"}
 LOOKS = {2: "R", 5: "C"}
@@ -31,6 +32,7 @@ class Drawn:
         self.place = from_
         if from_ is None:
             self.place = max(min(spot[1], len(record.units[spot[0]])) - 32, 0) if spot and spot[1] >= MOST else 0
+        self.end = self.place + MOST
         self.listed = set(lines(record))
         self.marks = defaultdict(list)
         for worker, work in enumerate(record.done):
@@ -68,7 +70,9 @@ class Drawn:
             yield from marks
             if others:
                 count = f"+{len(others)}" if len(others) <= 99 else ">99"
-                yield point - self.place, None, count, any(it[3] for it in others), [line for it in others for line in it[4]]
+                more = [f"and {len(others) - TITLED} more"] if len(others) > TITLED else []
+                told = [line for it in others[:TITLED] for line in it[4]]
+                yield point - self.place, None, count, any(it[3] for it in others), told + more
 
     def rows(self):
         for unit in self.used[:MOST]:
@@ -86,12 +90,12 @@ class Drawn:
         rows, spot = self.used[:MOST], self.fault and self.fault[2]
         yield "units without entries and marks"
         if self.first:
-            yield f"units 0 to {self.first - 1}"
+            yield f"units 0 to {min(self.first, len(self.record.units)) - 1}"
         if self.used[MOST:]:
             yield f"units {self.used[MOST]} to {len(self.record.units) - 1}"
         if self.place:
             yield f"places 0 to {self.place - 1}"
-        if any(len(self.record.units[unit]) > self.place + MOST for unit in rows):
+        if any(len(self.record.units[unit]) > self.end or any(mark[3] > self.end for mark in self.marks[unit]) for unit in rows):
             yield f"places from {self.place + MOST} on"
         if spot and not any(it[4] for unit in rows for it in self.boxes(unit)) and not any(it[3] for unit in rows for it in self.stacks(unit)):
             yield "where the fault is"

@@ -1,6 +1,6 @@
 -- How marks are drawn: those of one point below each other, before the entry of that place. Of more than three, the first two stand
 -- there, and the number of the others.
-use Rattle.std.specs.Prelude.{ℕ, ◌+◌, ◌*◌, nat_le, nat_lt, if◌then◌else◌, List, [], ◌∷◌, ◌++◌, length, take, drop, Bool, true, false, ◌||◌, Option, codes}
+use Rattle.std.specs.Prelude.{ℕ, ◌+◌, ◌-◌, ◌*◌, nat_le, nat_lt, if◌then◌else◌, List, [], ◌∷◌, ◌++◌, length, take, drop, Bool, true, false, ◌||◌, Option, codes}
 use Rattle.nvm_plan.specs.declared.job.Job.{Job}
 use Rattle.nvm_report.specs.Numbered.{numbered}
 use Rattle.nvm_report.specs.DoneLines.{part_line}
@@ -48,12 +48,17 @@ mark_lines (mark ∷ marks) = part_line mark.worker mark.job mark.part ++ mark_l
 abbrev pub many_text : ℕ → List ℕ
 many_text count = if nat_lt 99 count then codes "&gt;99" else numbered (codes "+") count
 
--- the lines of marks, and their number
+-- how many lines more there are than the title has
+abbrev pub more_lines : ℕ → List ℕ
+more_lines count = if nat_lt 16 count then numbered (codes "and ") (count - 16) ++ codes " more\n" else []
+
+-- the lines of marks, of the first 16 if there are more, and their number
 unfoldable pub rest_text : List Mark → List ℕ
 rest_text marks =
     codes "<title>"
-    ++ (mark_lines marks
-    ++ (codes "</title><rect width='18' height='13' rx='2'/><text x='9' y='10'>" ++ many_text (length marks)))
+    ++ (mark_lines (take 16 marks)
+    ++ (more_lines (length marks)
+    ++ (codes "</title><rect width='18' height='13' rx='2'/><text x='9' y='10'>" ++ many_text (length marks))))
 
 unfoldable pub others_text : Option Wrong → ℕ → List Mark → List ℕ
 others_text wrong x marks =

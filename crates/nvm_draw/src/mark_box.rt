@@ -1,4 +1,4 @@
-ghost use Rattle.std.specs.Prelude.{◌≡◌, ◌≤◌, ◌++◌, ◌+◌, OnOk, length, map, string_bytes};
+ghost use Rattle.std.specs.Prelude.{◌≡◌, ◌≤◌, ◌++◌, ◌+◌, OnOk, length, map, string_bytes, take};
 ghost use Rattle.nvm_draw.specs.MarkBoxes as spec;
 
 use crate::group::{push_group, push_place};
@@ -11,6 +11,9 @@ use nvm_report::{push_numbered, push_part};
 
 /// So many marks of one point stand below each other; of more, the last is their number.
 const STACK: usize = 3;
+
+/// So many marks have a line in the title of their number; of more, it says how many more there are.
+const TITLED: usize = 16;
 
 /// From one mark to the one below it.
 const LEVEL: u64 = 15;
@@ -120,9 +123,32 @@ fn push_rest(text: &mut String, marks: &[Mark]) -> Result<(), NoMemory>
     ensures { OnOk result (string_bytes text.new ≡ string_bytes text.old ++ spec.rest_text marks.now) }
 {
     text.push_str("<title>")?;
-    push_lines(text, marks)?;
+    push_lines(text, titled(marks))?;
+    push_more_lines(text, marks.len() as u64)?;
     text.push_str("</title><rect width='18' height='13' rx='2'/><text x='9' y='10'>")?;
     push_many(text, marks.len() as u64)?;
+    Ok(())
+}
+
+/// The first marks, at most as many as have a line in a title.
+fn titled(marks: &[Mark]) -> &[Mark]
+    ensures { result.now ≡ take 16 marks.now }
+{
+    if marks.len() > TITLED {
+        &marks[..TITLED]
+    } else {
+        marks
+    }
+}
+
+/// Appends how many marks have no line in the title, if some have none.
+fn push_more_lines(text: &mut String, count: u64) -> Result<(), NoMemory>
+    ensures { OnOk result (string_bytes text.new ≡ string_bytes text.old ++ spec.more_lines count) }
+{
+    if count > 16 {
+        push_numbered(text, "and ", count - 16)?;
+        text.push_str(" more\n")?;
+    }
     Ok(())
 }
 
