@@ -1,9 +1,16 @@
 pub mod Difference
 pub mod Given
+pub mod IfAny
 pub mod JobStory
 pub mod Meaning
 pub mod Outcome
+pub mod Reached
+pub mod UnitAt
 pub mod RecordedData
 pub mod ShapeStory
 pub mod Surroundings
+pub mod Doing
 pub mod PartStory
+pub mod EntryStory
+pub mod BackStory
+pub mod Story

@@ -1,14 +1,24 @@
 -- What is told of a part: what it does, what is recorded of it, and what the step gives at its point.
-use Rattle.std.specs.Prelude.{ℕ, ◌==◌, ◌&&◌, nat_le, if◌then◌else◌, List, [], ◌++◌, length, Option, Some, None, codes}
+use Rattle.std.specs.Prelude.{ℕ, ◌==◌, ◌&&◌, nat_le, if◌then◌else◌, List, [], ◌++◌, length, Option, Some, None, codes, slice_get}
 use Rattle.nvm_record.specs.declared.status.Statuses.{Statuses}
-use Rattle.nvm_record.specs.Step.{Operation}
+use Rattle.nvm_record.specs.Step.{Operation, statuses_of, data_of}
+use Rattle.nvm_geometry.specs.Namespace.{Namespace}
 use Rattle.nvm_plan.specs.declared.job.Body.{Body}
+use Rattle.nvm_plan.specs.declared.job.Job.{Job}
 use Rattle.nvm_plan.specs.declared.part.Part.{Part}
+use Rattle.nvm_plan.specs.JobPart.{job_part_in}
+use Rattle.nvm_store.specs.HistoryEntry.{HistoryEntry}
+use Rattle.nvm_store.specs.Point.{point}
+use Rattle.nvm_audit.specs.RecordedJob.{RecordedJob}
+use Rattle.nvm_audit.specs.RecordView.{RecordView}
 use Rattle.nvm_report.specs.EntryLines.{operation_text}
 use Rattle.nvm_report.specs.Numbered.{numbered}
 use Rattle.nvm_explain.specs.declared.told.ToldPart.{ToldPart}
 use Rattle.nvm_explain.specs.Difference.{difference_line}
+use Rattle.nvm_explain.specs.Doing.{first_done, part_of_done}
+use Rattle.nvm_explain.specs.IfAny.{if_any}
 use Rattle.nvm_explain.specs.Outcome.{outcome_line}
+use Rattle.nvm_explain.specs.Reached.{is_reached}
 use Rattle.nvm_explain.specs.RecordedData.{most_blocks, recorded_data}
 
 -- what the part does, in which unit and at which point
@@ -43,3 +53,26 @@ shown_of size body op (Some bytes) = recorded_data size body op bytes
 unfoldable pub part_story : ℕ → Body → Option (List ℕ) → ToldPart → Operation → Statuses → Option (List ℕ) → List ℕ
 part_story size body recorded told op statuses payload =
     what_line told.part op ++ told_lines op.first size told (shown_of size body op recorded) statuses payload
+
+-- what is told of this part of a job in the unit of this history, where each entry before its point succeeds
+abbrev pub told_at_point : ℕ → List HistoryEntry → Job → RecordedJob → ToldPart → Operation → List ℕ
+told_at_point size history job done told op =
+    if is_reached size history told.part.point
+    then part_story size job.body done.payload told op (statuses_of op (point size history told.part.point))
+    (data_of op (point size history told.part.point)) else []
+
+-- what is told of this part, if the job has one in its unit
+unfoldable pub told_part_lines : Namespace → List HistoryEntry → Job → RecordedJob → ToldPart → List ℕ
+told_part_lines ns history job done told =
+    if_any (told_at_point ns.block_size history job done told) (job_part_in ns job told.part.unit)
+
+-- what is told of the first part that this done job has in the unit of this number, if it has one
+abbrev pub told_done : RecordView → ℕ → Job → RecordedJob → List ℕ
+told_done r unit job done =
+    if_any (λ told. if_any (λ history. told_part_lines r.namespace history job done told) (slice_get r.units unit))
+    (part_of_done unit done)
+
+-- what is told of the part that the job of this number has in the unit of this number
+abbrev pub told_part_story : RecordView → ℕ → ℕ → List ℕ
+told_part_story r number unit =
+    if_any (λ job. if_any (told_done r unit job) (first_done number r.done)) (slice_get r.jobs number)

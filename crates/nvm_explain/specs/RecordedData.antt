@@ -1,5 +1,5 @@
--- Those bytes of a Read's recorded data that are of the blocks of one of its parts (own).
-use Rattle.std.specs.Prelude.{ℕ, ◌+◌, ◌-◌, ◌*◌, nat_le, if◌then◌else◌, List, length, Bool, ◌&&◌, Option, Some, None}
+-- Those bytes of a Read's recorded data that are of the blocks of one of its parts.
+use Rattle.std.specs.Prelude.{ℕ, ◌+◌, ◌-◌, ◌*◌, nat_le, if◌then◌else◌, List, length, ◌&&◌, Option, Some, None}
 use Rattle.nvm_record.specs.Deeds.{is_read}
 use Rattle.nvm_record.specs.Step.{Operation}
 use Rattle.nvm_geometry.specs.Parts.{data_part}

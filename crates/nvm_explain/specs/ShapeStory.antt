@@ -1,13 +1,14 @@
 -- What is told of a job whose outcome has no shape: what the checks say of it.
-use Rattle.std.specs.Prelude.{ℕ, List, [], ◌∷◌, ◌++◌, codes}
+use Rattle.std.specs.Prelude.{ℕ, List, [], ◌∷◌, ◌++◌, Option, Some, None, codes, slice_get}
 use Rattle.nvm_record.specs.declared.status.Statuses.{Statuses}
 use Rattle.nvm_geometry.specs.Namespace.{Namespace}
-use Rattle.nvm_plan.specs.declared.decision.Plan.{Plan}
-use Rattle.nvm_plan.specs.declared.decision.Plan.TheVariants.{Refused, Ready}
 use Rattle.nvm_plan.specs.declared.job.Job.{Job}
+use Rattle.nvm_plan.specs.Checks.{refusal_of}
 use Rattle.nvm_plan.specs.JobPart.{job_units}
+use Rattle.nvm_audit.specs.RecordView.{RecordView}
 use Rattle.nvm_report.specs.DoneLines.{statuses_text}
 use Rattle.nvm_report.specs.Numbered.{numbered}
+use Rattle.nvm_explain.specs.IfAny.{if_any}
 
 -- a word for each unit
 abbrev pub unit_words : List ℕ → List ℕ
@@ -22,7 +23,11 @@ refused_line statuses = codes "a check refuses the job: status " ++ (statuses_te
 unfoldable pub ready_line : List ℕ → List ℕ
 ready_line units = codes "no check refuses the job, which has a part in each of the units:" ++ (unit_words units ++ codes "\n")
 
--- what the checks say of the job, where they decided so
-abbrev pub plan_line : Namespace → Job → Plan → List ℕ
-plan_line ns job (Refused statuses) = refused_line statuses
-plan_line ns job Ready = ready_line (job_units ns job)
+-- what the checks say of the job, of which the first that applies gives these statuses
+abbrev pub plan_line : Namespace → Job → Option Statuses → List ℕ
+plan_line ns job (Some statuses) = refused_line statuses
+plan_line ns job None = ready_line (job_units ns job)
+
+-- what the checks say of the job of this number
+abbrev pub shape_story : RecordView → ℕ → List ℕ
+shape_story r number = if_any (λ job. plan_line r.namespace job (refusal_of r.namespace job)) (slice_get r.jobs number)

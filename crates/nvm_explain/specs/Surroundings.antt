@@ -1,18 +1,19 @@
 -- What is told of a unit round a place of its history: where it lies, and its entries there, in the lines of a record's listing.
-use Rattle.std.specs.Prelude.{◌≡◌, ◌⊎◌, ◌≤◌, ℕ, ◌-◌, List, [], ◌++◌, Option, Some, None, codes, drop, length, take}
-use Rattle.nvm_record.specs.Lists.{IsAt}
-use Rattle.nvm_plan.specs.UnitPlace.{IsUnitPlace}
-use Rattle.nvm_store.specs.declared.place.Place.{Place}
+use Rattle.std.specs.Prelude.{ℕ, ◌-◌, min, List, [], ◌++◌, Option, Some, None, codes, drop, length, slice_get, take}
+use Rattle.nvm_geometry.specs.Namespace.{Namespace}
+use Rattle.nvm_geometry.specs.Parts.{piece_in}
+use Rattle.nvm_geometry.specs.declared.piece.Piece.{Piece}
 use Rattle.nvm_store.specs.HistoryEntry.{HistoryEntry}
 use Rattle.nvm_audit.specs.declared.audit_fault.Spot.{Spot}
 use Rattle.nvm_audit.specs.RecordView.{RecordView}
 use Rattle.nvm_report.specs.EntryLines.{history_lines}
 use Rattle.nvm_report.specs.Numbered.{numbered}
+use Rattle.nvm_explain.specs.IfAny.{if_any}
 
--- the unit's first LBA, and how many blocks it has
-unfoldable pub place_words : ℕ → Place → List ℕ
-place_words unit place =
-    numbered (codes "unit ") unit ++ (numbered (codes " first ") place.first ++ numbered (codes " blocks ") place.blocks)
+-- the unit's number, its first LBA, and how many blocks it has
+unfoldable pub place_words : ℕ → ℕ → ℕ → List ℕ
+place_words unit first blocks =
+    numbered (codes "unit ") unit ++ (numbered (codes " first ") first ++ numbered (codes " blocks ") blocks)
 
 -- how many entries the unit has, and how many it may have
 unfoldable pub entries_words : ℕ → ℕ → List ℕ
@@ -41,3 +42,17 @@ abbrev pub entries_round : Spot → Option ℕ → ℕ → List HistoryEntry →
 entries_round spot job at history =
     history_lines spot.unit (at - told_before) (drop (at - told_before) (take at history))
     ++ (mark_line spot job ++ history_lines spot.unit at (take told_from (drop at history)))
+
+-- the blocks of the whole namespace that lie in the unit
+abbrev pub unit_piece : Namespace → ℕ → Piece
+unit_piece ns unit = piece_in ns 0 ns.nsze unit
+
+-- what is told of the unit of this history: a place behind the history's end is taken for the end
+unfoldable pub unit_surroundings : Namespace → ℕ → Spot → Option ℕ → List HistoryEntry → List ℕ
+unit_surroundings ns limit spot job history =
+    place_words spot.unit (unit_piece ns spot.unit).first (unit_piece ns spot.unit).blocks
+    ++ (entries_words (length history) limit ++ entries_round spot job (min spot.place (length history)) history)
+
+-- what is told of the unit round the place, at which a part of the job rests, if it is one
+abbrev pub surroundings : RecordView → Spot → Option ℕ → List ℕ
+surroundings r spot job = if_any (unit_surroundings r.namespace r.limit spot job) (slice_get r.units spot.unit)

@@ -1,13 +1,15 @@
-ghost use Rattle.std.specs.Prelude.{◌≡◌, ◌+◌, ◌≤◌, ◌++◌, OnOk, length, string_bytes};
-ghost use Rattle.nvm_text.specs.Kept.{KeepsText};
+ghost use Rattle.std.specs.Prelude.{◌≡◌, ◌+◌, ◌<◌, ◌≤◌, ◌++◌, OnOk, length, string_bytes};
+ghost use Rattle.nvm_geometry.specs.Boundaries.{units_of};
 ghost use Rattle.nvm_report.specs.EntryLines.{history_lines};
 ghost use Rattle.nvm_explain.specs.Surroundings as spec;
 
+use crate::looked_up::entries_of;
 use nvm_audit::{Record, Spot};
-use nvm_plan::unit_place;
+use nvm_geometry::Geometry;
+use nvm_geometry::laws::each_unit_has_one_place;
 use nvm_record::NoMemory;
 use nvm_report::{push_entry, push_numbered};
-use nvm_store::{Entry, Place};
+use nvm_store::{Entry, Limit};
 
 /// So many entries are told before a place.
 const BEFORE: usize = 3;
@@ -22,31 +24,59 @@ pub(crate) fn push_around(
     spot: Spot,
     job: Option<u32>,
 ) -> Result<(), NoMemory>
-    ensures { OnOk result (KeepsText (string_bytes text.old) (string_bytes text.new)) }
+    ensures { OnOk result (string_bytes text.new ≡ string_bytes text.old ++ spec.surroundings run.now spot job) }
 {
-    if spot.unit >= run.geometry.units() {
-        return Ok(());
+    match entries_of(run, spot.unit) {
+        Some(history) => push_unit(text, &run.geometry, run.limit, spot, job, history),
+        None => Ok(()),
     }
-    let history = &run.units[spot.unit as usize];
-    push_place(text, spot.unit, unit_place(&run.geometry, spot.unit))?;
-    push_counts(text, history.len(), run.limit.entries())?;
+}
+
+/// Appends where the unit of this history lies and how many entries it has, and its entries round a place.
+#[tactic(auto, unfolding(crate::specs::Surroundings::unit_surroundings))]
+fn push_unit(
+    text: &mut String,
+    geometry: &Geometry,
+    limit: Limit,
+    spot: Spot,
+    job: Option<u32>,
+    history: &[Entry],
+) -> Result<(), NoMemory>
+    requires { spot.unit < units_of geometry.now }
+    ensures { OnOk result (string_bytes text.new
+        ≡ string_bytes text.old ++ spec.unit_surroundings geometry.now limit spot job history.now) }
+{
+    push_place(text, geometry, spot.unit)?;
+    push_counts(text, history.len(), limit.entries())?;
     push_entries_round(
         text,
         spot,
         job,
         (spot.place as usize).min(history.len()),
         history,
-    )
+    )?;
+    Ok(())
 }
 
 /// Appends the unit's first LBA, and how many blocks it has.
+fn push_place(text: &mut String, geometry: &Geometry, unit: u16) -> Result<(), NoMemory>
+    requires { unit < units_of geometry.now }
+    ensures { OnOk result (string_bytes text.new ≡ string_bytes text.old
+        ++ spec.place_words unit (spec.unit_piece geometry.now unit).first (spec.unit_piece geometry.now unit).blocks) }
+{
+    each_unit_has_one_place();
+    let (first, blocks) = geometry.unit_range(unit);
+    push_place_words(text, unit, first, blocks)
+}
+
+/// Appends a first LBA, and how many blocks there are.
 #[tactic(auto, unfolding(crate::specs::Surroundings::place_words))]
-fn push_place(text: &mut String, unit: u16, place: Place) -> Result<(), NoMemory>
-    ensures { OnOk result (string_bytes text.new ≡ string_bytes text.old ++ spec.place_words unit place) }
+fn push_place_words(text: &mut String, unit: u16, first: u64, blocks: u32) -> Result<(), NoMemory>
+    ensures { OnOk result (string_bytes text.new ≡ string_bytes text.old ++ spec.place_words unit first blocks) }
 {
     push_numbered(text, "unit ", u64::from(unit))?;
-    push_numbered(text, " first ", place.first)?;
-    push_numbered(text, " blocks ", u64::from(place.blocks))?;
+    push_numbered(text, " first ", first)?;
+    push_numbered(text, " blocks ", u64::from(blocks))?;
     Ok(())
 }
 

@@ -1,10 +1,10 @@
-ghost use Rattle.std.specs.Prelude.{◌≡◌, ◌≤◌, ◌<◌, ◌+◌, IfOk, IfSome, OnOk, IsTrue};
+ghost use Rattle.std.specs.Prelude.{◌≡◌, ◌≤◌, ◌<◌, ◌+◌, IfOk, IsTrue, MatchOption, false};
 ghost use Rattle.nvm_geometry.specs.Boundaries.{units_of};
-ghost use Rattle.nvm_record.specs.Medium.{Medium};
-ghost use Rattle.nvm_record.specs.Step.{medium_after};
-ghost use Rattle.nvm_store.specs.Contents.{Holds, LiesAt, StaysInPlace};
-ghost use Rattle.nvm_store.specs.History.{replay_of};
-ghost use Rattle.nvm_store.specs.Point.{point};
+ghost use Rattle.nvm_record.specs.Medium.{Medium, zero_medium};
+ghost use Rattle.nvm_record.specs.Step.{medium_after, statuses_of};
+ghost use Rattle.nvm_store.specs.Contents.{Covers, Holds, StaysInPlace};
+ghost use Rattle.nvm_explain.specs.UnitAt.{AreCovered, AreCoveredIn, IsAfter, IsAtPoint};
+ghost use Rattle.nvm_explain.specs.Reached.{all_succeed, is_reached, is_success};
 
 use nvm_geometry::Geometry;
 use nvm_plan::unit_place;
@@ -12,8 +12,8 @@ use nvm_record::NoMemory;
 use nvm_store::{Entry, Place, UnitBlocks, judge};
 use std::alloc::Global;
 
-/// The blocks of the unit of this number at a point of its history, if there is such a point, and each entry before it lies in the
-/// unit and succeeds.
+/// The blocks of the unit of this number at a point of its history, if there is such a point, and each entry before it succeeds.
+#[tactic(auto, using(crate::proofs::Covering::covered_front), unfolding(crate::specs::Reached::is_reached))]
 pub(crate) fn blocks_at(
     alloc: Global,
     geometry: &Geometry,
@@ -21,8 +21,10 @@ pub(crate) fn blocks_at(
     history: &[Entry],
     at: u32,
 ) -> Result<Option<UnitBlocks>, NoMemory>
-    requires { unit < units_of geometry.now }
-    ensures { IfOk result (λ found. IfSome found (λ blocks. Holds blocks (point geometry.now.block_size history.now at))) }
+    requires known { unit < units_of geometry.now }
+    requires covered { AreCoveredIn geometry.now unit history.now }
+    ensures { IfOk result (λ found. MatchOption found (is_reached geometry.now.block_size history.now at ≡ false)
+        (λ blocks. IsAtPoint geometry.now unit history.now at blocks)) }
 {
     let at = at as usize;
     if at > history.len() {
@@ -33,8 +35,7 @@ pub(crate) fn blocks_at(
     blocks_after(alloc, place, &history[..at])
 }
 
-/// The unit's blocks after these entries, from zero bytes, or `None` where one of them doesn't lie in the unit, or doesn't succeed after
-/// those before it.
+/// The unit's blocks after these entries, from zero bytes, or `None` where one of them doesn't succeed after those before it.
 fn blocks_after(
     alloc: Global,
     place: Place,
@@ -42,8 +43,9 @@ fn blocks_after(
 ) -> Result<Option<UnitBlocks>, NoMemory>
     requires some { 0 < place.blocks }
     requires low { place.first + place.blocks ≤ 65536 }
-    ensures place { IfOk result (λ found. IfSome found (LiesAt place)) }
-    ensures replayed { IfOk result (λ found. IfSome found (λ blocks. Holds blocks (replay_of place.size entries.now))) }
+    requires covered { AreCovered place entries.now }
+    ensures { IfOk result (λ found. MatchOption found (all_succeed place.size (zero_medium place.size) entries.now ≡ false)
+        (λ blocks. IsAfter place entries.now blocks)) }
 {
     let mut blocks = UnitBlocks::zeroed(alloc, place.first, place.blocks, place.size)?;
     for entry in entries {
@@ -54,16 +56,16 @@ fn blocks_after(
     Ok(Some(blocks))
 }
 
-/// Makes the entry's step, if it lies in the unit and succeeds, and tells whether it does.
+/// Makes the entry's step, if it succeeds, and tells whether it does.
 fn goes_on(alloc: Global, blocks: &mut UnitBlocks, entry: &Entry) -> Result<bool, NoMemory>
+    requires { Covers blocks.old entry.now.operation }
     ensures place { StaysInPlace blocks.old blocks.new }
+    ensures told { IfOk result (λ goes. (m : Medium) → Holds blocks.old m
+        → goes ≡ is_success (statuses_of entry.now.operation m)) }
     ensures step { IfOk result (λ goes. (m : Medium) → IsTrue goes → Holds blocks.old m
         → Holds blocks.new (medium_after blocks.old.size entry.now.operation m)) }
 {
     let act = entry.act.as_ref();
-    if !act.is(&entry.act) || !blocks.covers(act) {
-        return Ok(false);
-    }
     if !judge(blocks, act).is_success() {
         return Ok(false);
     }

@@ -1,12 +1,12 @@
-ghost use Rattle.std.specs.Prelude.{◌≢◌, ◌++◌, IfOk, OnOk, string_bytes};
+ghost use Rattle.std.specs.Prelude.{◌≡◌, ◌≢◌, ◌++◌, IfOk, OnOk, string_bytes};
 ghost use Rattle.nvm_audit.specs.LawfulRecord.{IsLawfulRecord};
 ghost use Rattle.nvm_audit.specs.RecordChecks.{IsFirstFault};
 ghost use Rattle.nvm_audit.specs.Verdict.{IsVerdict};
 ghost use Rattle.nvm_audit.specs.declared.audit_fault.AuditFault.{AuditFault as Fault};
 ghost use Rattle.nvm_audit.specs.declared.audit_fault.AuditFault.TheVariants.{NoMemory as NoMemoryFault};
 ghost use Rattle.nvm_audit.specs.declared.verdict.Verdict.{Verdict as Numbers};
-ghost use Rattle.nvm_engine.specs.VerdictLine.{lawful_line, unlawful_line};
-ghost use Rattle.nvm_explain.specs.Meaning.{meaning};
+ghost use Rattle.nvm_engine.specs.VerdictLine.{lawful_line};
+ghost use Rattle.nvm_explain.specs.Story.{fault_text, rest_story, story};
 ghost use Rattle.nvm_text.specs.Kept.{KeepsText};
 
 use crate::around::push_around;
@@ -18,7 +18,7 @@ use crate::part_story::push_part_story;
 use crate::shape_story::push_shape;
 use crate::summary::push_summary;
 use crate::verdict_line::{push_lawful, push_unlawful};
-use nvm_audit::{AuditFault, Record, Verdict, audit};
+use nvm_audit::{AuditFault, Record, Spot, Verdict, audit};
 use nvm_record::NoMemory;
 use std::alloc::{AllocError, Global};
 use std::thread::Threads;
@@ -28,11 +28,11 @@ use std::thread::Threads;
 /// It is audited once, in several threads. Beside that one unit's history is replayed up to the place of the fault, and what was
 /// done is gone over. `NoMemory` is answered where a growth was refused.
 pub fn explain(rt: &(impl Threads + Sync), alloc: Global, run: &Record) -> Result<String, NoMemory>
-    // The text begins as the record's verdict, or as its first fault and what that means.
+    // The text begins as the record's verdict, or is that of its first fault.
     ensures lawful { IsLawfulRecord run.now → IfOk result (λ text. (verdict : Numbers)
         × IsVerdict run.now verdict × KeepsText (lawful_line verdict) (string_bytes text)) }
     ensures named { (fault : Fault) → IsFirstFault run.now fault
-        → IfOk result (λ text. KeepsText (unlawful_line fault ++ meaning fault) (string_bytes text)) }
+        → IfOk result (λ text. string_bytes text ≡ fault_text run.now fault) }
 {
     match audit(rt, alloc, run) {
         Ok(verdict) => lawful_explanation(alloc, run, verdict),
@@ -52,7 +52,7 @@ fn lawful_explanation(alloc: Global, run: &Record, verdict: Verdict) -> Result<S
 
 /// What is told of a record with this first fault. Want of memory is none: it is answered.
 fn fault_explanation(alloc: Global, run: &Record, fault: AuditFault) -> Result<String, NoMemory>
-    ensures told { IfOk result (λ text. KeepsText (unlawful_line fault ++ meaning fault) (string_bytes text)) }
+    ensures told { IfOk result (λ text. string_bytes text ≡ fault_text run.now fault) }
     ensures known { IfOk result (λ _. fault ≢ NoMemoryFault) }
 {
     match fault {
@@ -63,7 +63,7 @@ fn fault_explanation(alloc: Global, run: &Record, fault: AuditFault) -> Result<S
 
 /// What is told of a record with this first fault.
 fn told_fault(alloc: Global, run: &Record, fault: AuditFault) -> Result<String, NoMemory>
-    ensures { IfOk result (λ text. KeepsText (unlawful_line fault ++ meaning fault) (string_bytes text)) }
+    ensures { IfOk result (λ text. string_bytes text ≡ fault_text run.now fault) }
 {
     let mut text = String::new(alloc);
     push_unlawful(&mut text, fault)?;
@@ -79,7 +79,7 @@ fn push_story(
     run: &Record,
     fault: AuditFault,
 ) -> Result<(), NoMemory>
-    ensures { OnOk result (KeepsText (string_bytes text.old) (string_bytes text.new)) }
+    ensures { OnOk result (string_bytes text.new ≡ string_bytes text.old ++ story run.now fault) }
 {
     match fault {
         AuditFault::JobMissing { job } | AuditFault::JobTwice { job } => push_job(text, run, job),
@@ -109,11 +109,22 @@ fn push_story(
             job,
             spot: Some(spot),
         }
-        | AuditFault::DataWrong { job, spot } => {
-            push_job(text, run, job)?;
-            push_part_story(text, alloc, run, job, spot)?;
-            push_around(text, run, spot, Some(job))
-        }
+        | AuditFault::DataWrong { job, spot } => push_rest(text, alloc, run, job, spot),
         AuditFault::NoMemory => Ok(()),
     }
+}
+
+/// Appends the job, what the step gives its part, and the unit round the part's point.
+fn push_rest(
+    text: &mut String,
+    alloc: Global,
+    run: &Record,
+    job: u32,
+    spot: Spot,
+) -> Result<(), NoMemory>
+    ensures { OnOk result (string_bytes text.new ≡ string_bytes text.old ++ rest_story run.now job spot) }
+{
+    push_job(text, run, job)?;
+    push_part_story(text, alloc, run, job, spot)?;
+    push_around(text, run, spot, Some(job))
 }

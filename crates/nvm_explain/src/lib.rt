@@ -15,6 +15,7 @@ mod explaining;
 mod given;
 mod hexadecimal;
 mod job_story;
+mod looked_up;
 mod meaning;
 mod outcome;
 mod part_story;

@@ -1,25 +1,28 @@
-ghost use Rattle.std.specs.Prelude.{◌≡◌, ◌↔◌, ◌++◌, IsTrue, OnOk, None, Some, option_map, string_bytes};
-ghost use Rattle.nvm_text.specs.Kept.{KeepsText};
+ghost use Rattle.std.specs.Prelude.{◌≡◌, ◌<◌, ◌++◌, OnOk, None, Some, option_map, string_bytes};
+ghost use Rattle.nvm_geometry.specs.Boundaries.{units_of};
+ghost use Rattle.nvm_plan.specs.Fits.{FitsNamespace};
 ghost use Rattle.nvm_record.specs.Medium.{Medium};
 ghost use Rattle.nvm_record.specs.Step.{statuses_of, data_of};
 ghost use Rattle.nvm_plan.specs.LentPart.{part_operation_of};
 ghost use Rattle.nvm_store.specs.ActRef.{lent_operation_of};
 ghost use Rattle.nvm_store.specs.Contents.{Covers, Holds};
 ghost use Rattle.nvm_explain.specs.PartStory as spec;
+ghost use Rattle.nvm_explain.specs.UnitAt.{AreCoveredIn, IsCoveredIn};
 
 use crate::blocks_at::blocks_at;
 use crate::difference::push_difference;
 use crate::doer::done_of;
 use crate::given::{Given, given_on, push_operation};
+use crate::looked_up::{entries_of, job_of};
 use crate::outcome::{push_outcome, push_outcome_with};
 use crate::recorded_data::recorded_data;
 use crate::told::{ToldPart, told_part};
 use nvm_audit::{DoneJob, Record, Spot};
-use nvm_geometry::MOST_BLOCKS;
-use nvm_plan::{Job, LentPart, Part, fits, job_part_in};
+use nvm_geometry::{Geometry, MOST_BLOCKS};
+use nvm_plan::{Job, LentPart, Part, job_part_in};
 use nvm_record::{BlockSize, NoMemory, ReadData};
 use nvm_report::push_numbered;
-use nvm_store::{ActRef, Look, UnitBlocks};
+use nvm_store::{ActRef, Entry, Look, UnitBlocks};
 use std::alloc::Global;
 
 /// Appends what the part of this job in the unit does, what is recorded of it, and what the step gives at its point.
@@ -30,34 +33,82 @@ pub(crate) fn push_part_story(
     number: u32,
     spot: Spot,
 ) -> Result<(), NoMemory>
-    ensures { OnOk result (KeepsText (string_bytes text.old) (string_bytes text.new)) }
+    ensures { OnOk result (string_bytes text.new ≡ string_bytes text.old ++ spec.told_part_story run.now number spot.unit) }
 {
-    let Some(job) = run.jobs.get(number as usize) else {
+    let Some(job) = job_of(run, number) else {
         return Ok(());
     };
-    let Some(done) = done_of(&run.done, number) else {
-        return Ok(());
-    };
-    let Some(told) = told_part(done, spot.unit) else {
-        return Ok(());
-    };
-    if !fits(&run.geometry, job) {
-        return Ok(());
+    match done_of(&run.done, number) {
+        Some(done) => push_done_story(text, alloc, run, job, done, spot.unit),
+        None => Ok(()),
     }
-    let Some(part) = job_part_in(&run.geometry, job, spot.unit) else {
+}
+
+/// Appends the same of the first part that this done job has in the unit, if it has one.
+fn push_done_story(
+    text: &mut String,
+    alloc: Global,
+    run: &Record,
+    job: &Job,
+    done: &DoneJob,
+    unit: u16,
+) -> Result<(), NoMemory>
+    requires { FitsNamespace run.now.namespace job.now }
+    ensures { OnOk result (string_bytes text.new ≡ string_bytes text.old ++ spec.told_done run.now unit job.now done.now) }
+{
+    let Some(told) = told_part(done, unit) else {
         return Ok(());
     };
-    if spot.unit >= run.geometry.units() {
-        return Ok(());
+    match entries_of(run, unit) {
+        Some(history) => push_told_part(text, alloc, &run.geometry, job, done, told, history),
+        None => Ok(()),
     }
-    let history = &run.units[spot.unit as usize];
-    let Some(blocks) = blocks_at(alloc, &run.geometry, spot.unit, history, told.part.point)? else {
-        return Ok(());
-    };
-    if is_covered(&blocks, &part) {
-        push_told(text, alloc, job, done, told, &part, &blocks)
-    } else {
-        Ok(())
+}
+
+/// Appends the same of this part, in a unit of this history, if the job has a part there.
+#[tactic(auto, unfolding(crate::specs::PartStory::told_part_lines))]
+fn push_told_part(
+    text: &mut String,
+    alloc: Global,
+    geometry: &Geometry,
+    job: &Job,
+    done: &DoneJob,
+    told: ToldPart,
+    history: &[Entry],
+) -> Result<(), NoMemory>
+    requires fits { FitsNamespace geometry.now job.now }
+    requires known { told.part.unit < units_of geometry.now }
+    requires covered { AreCoveredIn geometry.now told.part.unit history.now }
+    ensures { OnOk result (string_bytes text.new
+        ≡ string_bytes text.old ++ spec.told_part_lines geometry.now history.now job.now done.now told) }
+{
+    match job_part_in(geometry, job, told.part.unit) {
+        Some(part) => push_at_point(text, alloc, geometry, job, done, told, history, &part),
+        None => Ok(()),
+    }
+}
+
+/// Appends what the part does, what is recorded of it, and what the step gives at its point, if each entry before it succeeds.
+#[tactic(auto, using(crate::proofs::Covering::covered_here))]
+fn push_at_point(
+    text: &mut String,
+    alloc: Global,
+    geometry: &Geometry,
+    job: &Job,
+    done: &DoneJob,
+    told: ToldPart,
+    history: &[Entry],
+    part: &LentPart<'_>,
+) -> Result<(), NoMemory>
+    requires known { told.part.unit < units_of geometry.now }
+    requires covered { AreCoveredIn geometry.now told.part.unit history.now }
+    requires here { IsCoveredIn geometry.now told.part.unit (part_operation_of part.now) }
+    ensures { OnOk result (string_bytes text.new ≡ string_bytes text.old
+        ++ spec.told_at_point geometry.now.block_size history.now job.now done.now told (part_operation_of part.now)) }
+{
+    match blocks_at(alloc, geometry, told.part.unit, history, told.part.point)? {
+        Some(blocks) => push_told(text, alloc, job, done, told, part, &blocks),
+        None => Ok(()),
     }
 }
 
@@ -72,8 +123,7 @@ fn push_told(
     blocks: &UnitBlocks,
 ) -> Result<(), NoMemory>
     requires { Covers blocks.now (part_operation_of part.now) }
-    ensures kept { OnOk result (KeepsText (string_bytes text.old) (string_bytes text.new)) }
-    ensures told { OnOk result ((m : Medium) → Holds blocks.now m → string_bytes text.new ≡ string_bytes text.old
+    ensures { OnOk result ((m : Medium) → Holds blocks.now m → string_bytes text.new ≡ string_bytes text.old
         ++ spec.part_story blocks.now.size job.now.body done.now.payload told (part_operation_of part.now)
         (statuses_of (part_operation_of part.now) m) (data_of (part_operation_of part.now) m)) }
 {
@@ -152,16 +202,6 @@ fn push_compared(
             push_if_differs(text, first, size, bytes, given)
         }
         None => push_without(text, told, given),
-    }
-}
-
-/// Whether the part lies in the unit.
-fn is_covered(blocks: &UnitBlocks, part: &LentPart<'_>) -> bool
-    ensures { IsTrue result ↔ Covers blocks.now (part_operation_of part.now) }
-{
-    match part {
-        LentPart::Act(act) => blocks.covers(*act),
-        LentPart::Look(look) => blocks.covers_look(*look),
     }
 }
 

@@ -1,8 +1,10 @@
 ghost use Rattle.std.specs.Prelude.{◌≡◌, ◌++◌, OnOk, string_bytes};
-ghost use Rattle.nvm_text.specs.Kept.{KeepsText};
+ghost use Rattle.nvm_plan.specs.Checks.{refusal_of};
 ghost use Rattle.nvm_plan.specs.JobPart as part;
+ghost use Rattle.nvm_plan.specs.Ready.{IsPlan};
 ghost use Rattle.nvm_explain.specs.ShapeStory as spec;
 
+use crate::looked_up::job_of;
 use nvm_audit::Record;
 use nvm_geometry::Geometry;
 use nvm_plan::{Job, JobUnits, Plan, job_units, plan};
@@ -11,9 +13,9 @@ use nvm_report::{push_numbered, push_statuses};
 
 /// Appends with which statuses a check refuses the job, or in which units it has a part.
 pub(crate) fn push_shape(text: &mut String, run: &Record, number: u32) -> Result<(), NoMemory>
-    ensures { OnOk result (KeepsText (string_bytes text.old) (string_bytes text.new)) }
+    ensures { OnOk result (string_bytes text.new ≡ string_bytes text.old ++ spec.shape_story run.now number) }
 {
-    match run.jobs.get(number as usize) {
+    match job_of(run, number) {
         Some(job) => push_plan(text, &run.geometry, job, plan(&run.geometry, job)),
         None => Ok(()),
     }
@@ -26,8 +28,9 @@ fn push_plan(
     job: &Job,
     decided: Plan,
 ) -> Result<(), NoMemory>
+    requires { IsPlan geometry.now job.now decided }
     ensures { OnOk result (string_bytes text.new
-        ≡ string_bytes text.old ++ spec.plan_line geometry.now job.now decided) }
+        ≡ string_bytes text.old ++ spec.plan_line geometry.now job.now (refusal_of geometry.now job.now)) }
 {
     match decided {
         Plan::Refused(statuses) => push_refused(text, statuses),

@@ -1,5 +1,6 @@
 ghost use Rattle.std.specs.Prelude.{◌≡◌, ◌+◌, ◌<◌, ◌==◌, IfSome, length};
 ghost use Rattle.nvm_audit.specs.RecordedPart.{told_of_part};
+ghost use Rattle.nvm_explain.specs.Doing.{part_of_done};
 
 use nvm_audit::DoneJob;
 use nvm_plan::Part;
@@ -15,7 +16,8 @@ pub struct ToldPart {
 
 /// The done job's first part in this unit, if it has one.
 pub(crate) fn told_part(done: &DoneJob, unit: u16) -> Option<ToldPart>
-    ensures { IfSome result (λ told. told.part.unit ≡ unit) }
+    ensures is { result ≡ part_of_done unit done.now }
+    ensures there { IfSome result (λ told. told.part.unit ≡ unit) }
 {
     for place in 0..done.parts.len() {
         let part = done.parts[place];

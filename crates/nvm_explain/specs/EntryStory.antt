@@ -1,0 +1,44 @@
+-- What is told of an entry: how it is recorded, the part that its job has in the unit, and what the step gives it at its place.
+use Rattle.std.specs.Prelude.{ℕ, if◌then◌else◌, List, [], ◌++◌, Option, Some, None, codes, slice_get}
+use Rattle.nvm_record.specs.Step.{Operation}
+use Rattle.nvm_geometry.specs.Namespace.{Namespace}
+use Rattle.nvm_plan.specs.declared.job.Job.{Job}
+use Rattle.nvm_plan.specs.JobPart.{job_part_in}
+use Rattle.nvm_store.specs.HistoryEntry.{HistoryEntry}
+use Rattle.nvm_store.specs.Point.{point}
+use Rattle.nvm_audit.specs.declared.audit_fault.Spot.{Spot}
+use Rattle.nvm_audit.specs.RecordView.{RecordView}
+use Rattle.nvm_report.specs.EntryLines.{entry_line, operation_text}
+use Rattle.nvm_explain.specs.IfAny.{if_any}
+use Rattle.nvm_explain.specs.Outcome.{given_line}
+use Rattle.nvm_explain.specs.Reached.{is_reached}
+
+-- how the entry is recorded
+unfoldable pub recorded_line : Spot → HistoryEntry → List ℕ
+recorded_line spot entry = codes "recorded: " ++ entry_line spot.unit spot.place entry
+
+-- what a part does, if there is one
+abbrev pub part_text : Option Operation → List ℕ
+part_text None = codes " none"
+part_text (Some op) = operation_text op
+
+-- the part that the job has in the unit
+unfoldable pub own_line : Namespace → ℕ → Job → List ℕ
+own_line ns unit job = codes "the job's part:" ++ (part_text (job_part_in ns job unit) ++ codes "\n")
+
+-- what the step gives the entry after those before its place, where each of these succeeds
+abbrev pub entry_given : ℕ → List HistoryEntry → ℕ → HistoryEntry → List ℕ
+entry_given size history place entry =
+    if is_reached size history place then given_line entry.operation (point size history place) else []
+
+-- what is told of this entry of the history, for which the job of this number, if there is one, is named
+unfoldable pub told_entry : RecordView → ℕ → Spot → List HistoryEntry → HistoryEntry → List ℕ
+told_entry r number spot history entry =
+    recorded_line spot entry
+    ++ (if_any (own_line r.namespace spot.unit) (slice_get r.jobs number)
+    ++ entry_given r.namespace.block_size history spot.place entry)
+
+-- what is told of the entry at this place of the unit, if there is one
+abbrev pub entry_story : RecordView → ℕ → Spot → List ℕ
+entry_story r number spot =
+    if_any (λ history. if_any (told_entry r number spot history) (slice_get history spot.place)) (slice_get r.units spot.unit)
