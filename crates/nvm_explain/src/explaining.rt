@@ -18,7 +18,7 @@ use crate::part_story::push_part_story;
 use crate::shape_story::push_shape;
 use crate::summary::push_summary;
 use crate::verdict_line::{push_lawful, push_unlawful};
-use nvm_audit::{AuditFault, Record, Spot, Verdict, audit};
+use nvm_audit::{AuditFault, Record, Spot, Verdict, Watcher, audit_watched};
 use nvm_record::NoMemory;
 use std::alloc::{AllocError, Global};
 use std::thread::Threads;
@@ -26,15 +26,20 @@ use std::thread::Threads;
 /// Audits the record and explains what was found, as text: a line for each fact, in the words of a record's listing.
 ///
 /// It is audited once, in several threads. Beside that one unit's history is replayed up to the place of the fault, and what was
-/// done is gone over. `NoMemory` is answered where a growth was refused.
-pub fn explain(rt: &(impl Threads + Sync), alloc: Global, run: &Record) -> Result<String, NoMemory>
+/// done is gone over. The watcher is told how far the audit is. `NoMemory` is answered where a growth was refused.
+pub fn explain<W: Watcher + Sync>(
+    rt: &(impl Threads + Sync),
+    alloc: Global,
+    run: &Record,
+    watcher: &W,
+) -> Result<String, NoMemory>
     // The text begins as the record's verdict, or is that of its first fault.
     ensures lawful { IsLawfulRecord run.now → IfOk result (λ text. (verdict : Numbers)
         × IsVerdict run.now verdict × KeepsText (lawful_line verdict) (string_bytes text)) }
     ensures named { (fault : Fault) → IsFirstFault run.now fault
         → IfOk result (λ text. string_bytes text ≡ fault_text run.now fault) }
 {
-    match audit(rt, alloc, run) {
+    match audit_watched(rt, alloc, run, watcher) {
         Ok(verdict) => lawful_explanation(alloc, run, verdict),
         Err(fault) => fault_explanation(alloc, run, fault),
     }

@@ -13,6 +13,6 @@ pub fn run_explain<R: AllocGlobal + Files + Input + Print + Eprint + Threads + S
     progress: &Progress<'_, R>,
 ) -> Result<(), Failure> {
     let run = read_as_record(rt, file, progress)?;
-    let text = explain(rt, rt.alloc(), &run)?;
+    let text = explain(rt, rt.alloc(), &run, progress)?;
     write_bytes(rt, "-", text.as_bytes(), progress)
 }
