@@ -8,3 +8,5 @@ pub mod LongTelling
 pub mod NamesApart
 pub mod NumberDigits
 pub mod NamesOfOutcomes
+pub mod JobAtHand
+pub mod LastLine

@@ -102,18 +102,7 @@ module _ (lists : List (List (List ℕ))) (jobs : List Job) (done : List (List R
         )
 
 -- the lines of a record, and the verdict behind them
-module _ (lists : List (List (List ℕ))) (r : RecordView) (verdict : Verdict) (counted : IsVerdict r verdict) where
-  pub printed : (lines : List ℕ) → AreLongLinesOf lists r.jobs r.done lines → IsLongTextOf lists r (lines ++ lawful_line verdict)
-  printed lines of = record { lines = lines; of = of; verdict = verdict; counted = counted; whole = refl }
-
-  pub within_lines : (a b : Option (List ℕ)) → ((text : List ℕ) × AreLongLinesOf lists r.jobs r.done text × TakesFront a b text)
-      → (text : List ℕ) × IsLongTextOf lists r text × TakesFront a b text
-  within_lines a b (lines, of, failed) = (lines ++ lawful_line verdict, printed lines of, takes_within a b lines (lawful_line verdict) failed)
-
-  pub behind_lines : (a b c : Option (List ℕ)) → ((text : List ℕ) × AreLongLinesOf lists r.jobs r.done text × Appends a b text)
-      → TakesFront b c (lawful_line verdict) → (text : List ℕ) × IsLongTextOf lists r text × TakesFront a c text
-  behind_lines a b c (lines, of, taken) failed = (lines ++ lawful_line verdict, printed lines of, takes_behind a b c lines (lawful_line verdict) taken failed)
-
-  pub all_printed : (a b c : Option (List ℕ)) → ((text : List ℕ) × AreLongLinesOf lists r.jobs r.done text × Appends a b text)
-      → Appends b c (lawful_line verdict) → (text : List ℕ) × IsLongTextOf lists r text × Appends a c text
-  all_printed a b c (lines, of, taken) last = (lines ++ lawful_line verdict, printed lines of, Appends-trans a b c lines (lawful_line verdict) taken last)
+pub printed : (lists : List (List (List ℕ))) (r : RecordView) (verdict : Verdict) → IsVerdict r verdict → (lines : List ℕ)
+    → AreLongLinesOf lists r.jobs r.done lines → IsLongTextOf lists r (lines ++ lawful_line verdict)
+printed lists r verdict counted lines of =
+    record { lines = lines; of = of; verdict = verdict; counted = counted; whole = refl }

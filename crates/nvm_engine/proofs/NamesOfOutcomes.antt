@@ -4,7 +4,7 @@ use Rattle.std.specs.List.{AllByRecursion}
 use Rattle.nvm_record.specs.declared.status.Status.{Status}
 use Rattle.nvm_record.specs.declared.status.Statuses.{Statuses}
 use Rattle.nvm_record.specs.declared.status.Statuses.TheVariants.{One, Two}
-use Rattle.nvm_record.specs.Deeds.{is_pair, for_deed, success_of}
+use Rattle.nvm_record.specs.Deeds.{is_pair, success_of}
 use Rattle.nvm_record.specs.Step.{Deed, Operation, writes, zeroes, uncorrectable, reads, compares, pairs, deallocates}
 use Rattle.nvm_record.specs.Status.{successful_completion, invalid_command_opcode, invalid_field_in_command, internal_error}
 use Rattle.nvm_record.specs.Status.{aborted_due_to_failed_fused_command, aborted_due_to_missing_fused_command}
@@ -68,7 +68,8 @@ all_answers ns (Pair c d) =
     ((field, field), ((namespace, failed_fused), ((field, field), ((range, failed_fused), ((exceeded, failed_fused), tt)))))
 
 row_named : (row : Check) (rows : List Check) → AllByRecursion AnswerNames (row ∷ rows) → (applies : Bool) (told : Statuses)
-    → (if applies then Some row.answer else first_answer rows) ≡ Some told → (first_answer rows ≡ Some told → HaveNames told) → HaveNames told
+    → (if applies then Some row.answer else first_answer rows) ≡ Some told → (first_answer rows ≡ Some told → HaveNames told)
+    → HaveNames told
 row_named row rows all true told e rest = let is : row.answer ≡ told = cc in subst HaveNames is all.0
 row_named row rows all false told e rest = rest e
 

@@ -1,20 +1,25 @@
 -- The number of a status, digit by digit.
-use Rattle.std.proofs.Common.{◌≡◌, ℕ, suc, zero, ◌+◌, ◌*◌, ◌-◌, ◌/◌, ◌%◌, ◌<◌, ◌≤◌, ◌==◌, cond, Bool, true, false, List, [], ◌∷◌, ◌++◌, drop, refl, sym, ap, ◌∙◌, arith}
+use Rattle.std.proofs.Common.{◌≡◌, ℕ, suc, ◌+◌, ◌*◌, ◌/◌, ◌%◌, ◌<◌, ◌≤◌, cond, Bool, false, List, [], ◌∷◌, ◌++◌, drop, ap, ◌∙◌, arith}
 use Rattle.std.proofs.lemmas.Bool.{eq-eqb, ne_eqb}
 use Rattle.std.specs.Fmt.{digits, digits_onto, digit_glyph}
-use Rattle.nvm_text.specs.Lines.{hex_digit, hex2}
+use Rattle.nvm_text.specs.Lines.{hex2}
 
 abbrev glyph : ℕ → ℕ
 glyph d = digit_glyph false d
 
-last_digit : (k n : ℕ) (acc : List ℕ) → n / 16 ≡ 0 → digits_onto (suc k) 16 false n acc ≡ glyph (n % 16) ∷ acc
-last_digit k n acc e =
-    ap (λ (b : Bool). cond b (glyph (n % 16) ∷ acc) (digits_onto k 16 false (n / 16) (glyph (n % 16) ∷ acc))) (eq-eqb (n / 16) 0 e)
+abbrev after_last : ℕ → ℕ → List ℕ → Bool → List ℕ
+after_last k n acc ends = cond ends (glyph (n % 16) ∷ acc) (digits_onto k 16 false (n / 16) (glyph (n % 16) ∷ acc))
 
-next_digit : (k n : ℕ) (acc : List ℕ) → 16 ≤ n → digits_onto (suc k) 16 false n acc ≡ digits_onto k 16 false (n / 16) (glyph (n % 16) ∷ acc)
+last_digit : (k n : ℕ) (acc : List ℕ) → n / 16 ≡ 0 → digits_onto (suc k) 16 false n acc ≡ glyph (n % 16) ∷ acc
+last_digit k n acc e = ap (after_last k n acc) (eq-eqb (n / 16) 0 e)
+
+next_digit : (k n : ℕ) (acc : List ℕ) → 16 ≤ n
+    → digits_onto (suc k) 16 false n acc ≡ digits_onto k 16 false (n / 16) (glyph (n % 16) ∷ acc)
 next_digit k n acc large =
-    let more : 0 < n / 16 = omega arith in
-    ap (λ (b : Bool). cond b (glyph (n % 16) ∷ acc) (digits_onto k 16 false (n / 16) (glyph (n % 16) ∷ acc))) (ne_eqb (n / 16) 0 (λ e. absurd (omega (arith, e, more))))
+    let more : 0 < n / 16 = omega arith in ap (after_last k n acc) (ne_eqb (n / 16) 0 (λ e. absurd (omega (arith, e, more))))
+
+abbrev four : ℕ → ℕ → ℕ → ℕ → List ℕ
+four a b c d = glyph a ∷ glyph b ∷ glyph c ∷ glyph d ∷ []
 
 module _ (t c : ℕ) (few : t < 256) (small : c < 256) where
   pub one_digit : t * 256 + c < 16 → digits 16 false (t * 256 + c) ≡ drop 3 (hex2 t ++ hex2 c)
@@ -54,8 +59,9 @@ module _ (t c : ℕ) (few : t < 256) (small : c < 256) where
       next_digit 63 (t * 256 + c) [] (omega arith)
       ∙ next_digit 62 ((t * 256 + c) / 16) (glyph ((t * 256 + c) % 16) ∷ []) (omega arith)
       ∙ next_digit 61 ((t * 256 + c) / 16 / 16) (glyph ((t * 256 + c) / 16 % 16) ∷ glyph ((t * 256 + c) % 16) ∷ []) (omega arith)
-      ∙ last_digit 60 ((t * 256 + c) / 16 / 16 / 16) (glyph ((t * 256 + c) / 16 / 16 % 16) ∷ glyph ((t * 256 + c) / 16 % 16) ∷ glyph ((t * 256 + c) % 16) ∷ []) (omega arith)
-      ∙ ap (λ (d : ℕ). glyph ((t * 256 + c) / 16 / 16 / 16 % 16) ∷ glyph ((t * 256 + c) / 16 / 16 % 16) ∷ glyph ((t * 256 + c) / 16 % 16) ∷ glyph d ∷ []) last
-      ∙ ap (λ (d : ℕ). glyph ((t * 256 + c) / 16 / 16 / 16 % 16) ∷ glyph ((t * 256 + c) / 16 / 16 % 16) ∷ glyph d ∷ glyph (c % 16) ∷ []) third
-      ∙ ap (λ (d : ℕ). glyph ((t * 256 + c) / 16 / 16 / 16 % 16) ∷ glyph d ∷ glyph (c / 16) ∷ glyph (c % 16) ∷ []) second
+      ∙ last_digit 60 ((t * 256 + c) / 16 / 16 / 16)
+      (glyph ((t * 256 + c) / 16 / 16 % 16) ∷ glyph ((t * 256 + c) / 16 % 16) ∷ glyph ((t * 256 + c) % 16) ∷ []) (omega arith)
+      ∙ ap (λ (d : ℕ). four ((t * 256 + c) / 16 / 16 / 16 % 16) ((t * 256 + c) / 16 / 16 % 16) ((t * 256 + c) / 16 % 16) d) last
+      ∙ ap (λ (d : ℕ). four ((t * 256 + c) / 16 / 16 / 16 % 16) ((t * 256 + c) / 16 / 16 % 16) d (c % 16)) third
+      ∙ ap (λ (d : ℕ). four ((t * 256 + c) / 16 / 16 / 16 % 16) d (c / 16) (c % 16)) second
       ∙ ap (λ (d : ℕ). glyph d ∷ glyph (t % 16) ∷ glyph (c / 16) ∷ glyph (c % 16) ∷ []) first

@@ -1,4 +1,4 @@
--- Lines that go to a writer, one job after the other, and the line of the verdict behind them.
+-- Lines that go to a writer, one job after the other, and the text that they make with the line of the verdict.
 use Rattle.std.proofs.Common.{◌≡◌, ℕ, ◌+◌, ◌<◌, List, ◌∷◌, ◌++◌, Option, length, drop, refl, sym, subst, ◌∙◌, append_assoc, arith}
 use Rattle.std.specs.Io.KnownBytes.{Appends}
 use Rattle.std.proofs.KnownBytes.{Appends-trans}
@@ -66,18 +66,6 @@ module _ (jobs : List Job) (done : List (List RecordedJob)) where
         )
 
 -- the text of a record, and the verdict behind it
-module _ (r : RecordView) (verdict : Verdict) (counted : IsVerdict r verdict) where
-  pub printed : (lines : List ℕ) → IsTextOf r lines → IsPrintedOf r (lines ++ lawful_line verdict)
-  printed lines of = record { lines = lines; of = of; verdict = verdict; counted = counted; whole = refl }
-
-  pub within_lines : (a b : Option (List ℕ)) → ((text : List ℕ) × IsTextOf r text × TakesFront a b text)
-      → (text : List ℕ) × IsPrintedOf r text × TakesFront a b text
-  within_lines a b (lines, of, failed) = (lines ++ lawful_line verdict, printed lines of, takes_within a b lines (lawful_line verdict) failed)
-
-  pub behind_lines : (a b c : Option (List ℕ)) → ((text : List ℕ) × IsTextOf r text × Appends a b text) → TakesFront b c (lawful_line verdict)
-      → (text : List ℕ) × IsPrintedOf r text × TakesFront a c text
-  behind_lines a b c (lines, of, taken) failed = (lines ++ lawful_line verdict, printed lines of, takes_behind a b c lines (lawful_line verdict) taken failed)
-
-  pub all_printed : (a b c : Option (List ℕ)) → ((text : List ℕ) × IsTextOf r text × Appends a b text) → Appends b c (lawful_line verdict)
-      → (text : List ℕ) × IsPrintedOf r text × Appends a c text
-  all_printed a b c (lines, of, taken) last = (lines ++ lawful_line verdict, printed lines of, Appends-trans a b c lines (lawful_line verdict) taken last)
+pub printed : (r : RecordView) (verdict : Verdict) → IsVerdict r verdict → (lines : List ℕ) → IsTextOf r lines
+    → IsPrintedOf r (lines ++ lawful_line verdict)
+printed r verdict counted lines of = record { lines = lines; of = of; verdict = verdict; counted = counted; whole = refl }

@@ -1,15 +1,13 @@
-use Rattle.std.proofs.Common.{◌≡◌, ℕ, ◌+◌, ◌<◌, List, [], ◌∷◌, length, map, drop, refl, sym, ap, subst, add-one}
+use Rattle.std.proofs.Common.{◌≡◌, List, [], map, drop, sym, ap, subst}
 use Rattle.std.proofs.KnownBytes.{Appends-nil}
-use Rattle.std.proofs.Math.Seq.{drop-cons}
 use Rattle.std.proofs.Math.ListN.{drop_of_length-le}
-use Rattle.nvm_record.specs.Lists.{IsAt}
 use Rattle.nvm_record.specs.declared.status.Statuses.{Statuses}
-use Rattle.nvm_plan.specs.Completions.{completions_of}
 use Rattle.nvm_plan.specs.Shape.{IsForEach}
 use Rattle.nvm_plan.specs.declared.job.Job.{Job}
 use Rattle.nvm_audit.specs.RecordedJob.{RecordedJob}
-use Rattle.nvm_engine.specs.RecordLines.{IsDoneJob, IsTold}
-use Rattle.nvm_engine.proofs.Noting.{at_read, below, stands_there}
+use Rattle.nvm_engine.specs.RecordLines.{IsDoneJob}
+use Rattle.nvm_engine.proofs.JobAtHand.{cut_at, fits, read_at, told}
+use Rattle.nvm_engine.proofs.Noting.{below, stands_there}
 use Rattle.nvm_engine.proofs.Printing.{one_more, within_one}
 use Rattle.nvm_engine.proofs.Telling.{IsTelling, none_told, all_told}
 use Rattle.nvm_write.proofs.Taking.{on_err}
@@ -31,45 +29,43 @@ pub write_job-requires : goal.write_job-requires
 write_job-requires g c =
     let done : List (List RecordedJob) = map (λ work. work.items) c.args.done.now in
     let number = c.loop-number.number in
+    let jobs = c.args.jobs.now in
     let job = c.index-jobs-number.result in
-    let its : IsDoneJob done number c.done_job-its.result.now =
+    let at = read_at jobs number job c.loop-number-test.true c.index-jobs-number.is in
+    let d = c.done_job-its.result.now in
+    let its : IsDoneJob done number d =
     c.done_job-its.ensures number (stands_there done c.args.found.now number _ (c.requires.found number c.loop-number-test.true)) in
-    let at : IsAt c.args.jobs.now c.done_job-its.result.now.job job =
-    subst (λ (n : ℕ). IsAt c.args.jobs.now n job) (sym its.number_is)
-    (subst (λ (j : Job). IsAt c.args.jobs.now number j) (sym c.index-jobs-number.is) (at_read c.args.jobs.now number job c.loop-number-test.true)) in
-    subst (λ (statuses : Statuses). IsForEach job.body statuses) (sym (ap (λ (d : RecordedJob). d.statuses) c.its.view_is))
-    (c.requires.statuses its.worker its.work its.place c.done_job-its.result.now job its.by its.there at)
+    subst (λ (statuses : Statuses). IsForEach job.body statuses) (sym (ap (λ (e : RecordedJob). e.statuses) c.its.view_is))
+    (fits done number job d its jobs c.requires.statuses at)
 
 pub returns-in_err-write_job-clause-front : goal.returns-in_err-write_job-clause-front
 returns-in_err-write_job-clause-front g c =
     let done : List (List RecordedJob) = map (λ work. work.items) c.args.done.now in
     let number = c.loop-number.number in
+    let jobs = c.args.jobs.now in
     let job = c.index-jobs-number.result in
-    let at : drop number c.args.jobs.now ≡ job ∷ drop (number + 1) c.args.jobs.now =
-    let below : number < length c.args.jobs.now = c.loop-number-test.true in
-    rw (add-one, drop-cons c.args.jobs.now number job, ← c.index-jobs-number.is) refl in
-    let told : IsTold done number job (completions_of job c.its.inside.statuses c.its.inside.payload) = record {
-      its = c.done_job-its.result.now;
-      is = c.done_job-its.ensures number (stands_there done c.args.found.now number _ (c.requires.found number c.loop-number-test.true));
-      completions = ap (λ (d : RecordedJob). completions_of job d.statuses d.payload) c.its.view_is;
-    } in
+    let at = read_at jobs number job c.loop-number-test.true c.index-jobs-number.is in
+    let d = c.done_job-its.result.now in
+    let its : IsDoneJob done number d =
+    c.done_job-its.ensures number (stands_there done c.args.found.now number _ (c.requires.found number c.loop-number-test.true)) in
     on_err c.from_residual.result
-    (within_one c.args.jobs.now done number job _ at told _ _ _ c.args.found.now c.requires.found c.loop-number.invariant c.in_err-write_job.ensures.front)
+    (within_one jobs done number job _ (cut_at jobs number job at)
+    (told done number job d its _ c.its.view_is) _ _ _
+    c.args.found.now c.requires.found c.loop-number.invariant c.in_err-write_job.ensures.front)
 
 pub loop-number-preserved : goal.loop-number-preserved
 loop-number-preserved g c =
     let done : List (List RecordedJob) = map (λ work. work.items) c.args.done.now in
     let number = c.loop-number.number in
+    let jobs = c.args.jobs.now in
     let job = c.index-jobs-number.result in
-    let at : drop number c.args.jobs.now ≡ job ∷ drop (number + 1) c.args.jobs.now =
-    let below : number < length c.args.jobs.now = c.loop-number-test.true in
-    rw (add-one, drop-cons c.args.jobs.now number job, ← c.index-jobs-number.is) refl in
-    let told : IsTold done number job (completions_of job c.its.inside.statuses c.its.inside.payload) = record {
-      its = c.done_job-its.result.now;
-      is = c.done_job-its.ensures number (stands_there done c.args.found.now number _ (c.requires.found number c.loop-number-test.true));
-      completions = ap (λ (d : RecordedJob). completions_of job d.statuses d.payload) c.its.view_is;
-    } in
-    one_more c.args.jobs.now done number job _ at told _ _ _ c.loop-number.invariant c.in_ok-write_job.ensures.whole
+    let at = read_at jobs number job c.loop-number-test.true c.index-jobs-number.is in
+    let d = c.done_job-its.result.now in
+    let its : IsDoneJob done number d =
+    c.done_job-its.ensures number (stands_there done c.args.found.now number _ (c.requires.found number c.loop-number-test.true)) in
+    one_more jobs done number job _ (cut_at jobs number job at)
+    (told done number job d its _ c.its.view_is) _ _ _
+    c.loop-number.invariant c.in_ok-write_job.ensures.whole
 
 pub returns-clause-whole : goal.returns-clause-whole
 returns-clause-whole g c =
