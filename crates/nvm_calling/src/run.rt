@@ -50,8 +50,10 @@ pub fn record_of<R: Threads + Wait + Sync>(
     };
     match run(rt, alloc, geometry, copies, workers, limit, &Open) {
         Ok(record) => Ok(record),
-        Err(RunFault::Workers) => Err(Unrun::Workers),
-        Err(RunFault::NoMemory) => Err(Unrun::NoMemory),
+        Err(failed) => match failed.fault {
+            RunFault::Workers => Err(Unrun::Workers),
+            RunFault::NoMemory => Err(Unrun::NoMemory),
+        },
     }
 }
 

@@ -162,7 +162,9 @@ fn record_of<R: Threads + Wait + Sync, G: Gate + Sync>(
     let workers = settings.workers.count();
     match run(rt, alloc, geometry, jobs, workers, settings.limit, gate) {
         Ok(record) => Ok(record),
-        Err(RunFault::NoMemory) => Err(AllocError),
-        Err(RunFault::Workers) => unreachable!("there are 1 to 64 workers"),
+        Err(failed) => match failed.fault {
+            RunFault::NoMemory => Err(AllocError),
+            RunFault::Workers => unreachable!("there are 1 to 64 workers"),
+        },
     }
 }

@@ -21,5 +21,5 @@ mod workers;
 
 pub use claim::Claim;
 pub use counter::{Counter, MOST_WORKERS};
-pub use run_fault::RunFault;
+pub use run_fault::{RunFailed, RunFault};
 pub use running::run;

@@ -1,6 +1,7 @@
 ghost use Rattle.std.specs.Prelude.{◌≡◌};
 ghost use Rattle.nvm_run.specs.declared.run_fault.RunFault.TheVariants.{NoMemory as NoMemoryFault};
 
+use nvm_plan::Job;
 use std::alloc::{AllocError, AllocFailed};
 use thiserror::Error;
 
@@ -10,9 +11,17 @@ pub enum RunFault {
     /// The number of workers is 0 or above 64.
     #[error("workers")]
     Workers,
-    /// Memory was asked for outside a job and refused. All workers have ended, and nothing is kept.
+    /// Memory was asked for outside a job and refused. All workers have ended, and what they did is lost.
     #[error("no memory")]
     NoMemory,
+}
+
+/// Why there is no record of a run, and the jobs that were to be run.
+#[derive(Debug, Drop)]
+pub struct RunFailed {
+    pub fault: RunFault,
+    /// The jobs, as they were handed in.
+    pub jobs: Vec<Job>,
 }
 
 impl From<AllocError> for RunFault {

@@ -1,4 +1,4 @@
-ghost use Rattle.std.specs.Prelude.{ℕ, ◌≤◌, List, All, length, map, IfOk, IfErr};
+ghost use Rattle.std.specs.Prelude.{◌≡◌, ℕ, ◌≤◌, List, All, length, map, IfOk, IfErr};
 ghost use Rattle.nvm_record.specs.Lists.{IsAt};
 ghost use Rattle.nvm_record.specs.Medium.{zero_medium};
 ghost use Rattle.nvm_plan.specs.Fits.{FitsNamespace};
@@ -15,7 +15,7 @@ ghost use Rattle.nvm_run.specs.RunRecord.{IsRecordOfRun};
 
 use crate::counter::Counter;
 use crate::laws::{each_job_is_done_once, gathered_records_are_lawful};
-use crate::run_fault::RunFault;
+use crate::run_fault::{RunFailed, RunFault};
 use crate::workers::all_work;
 use nvm_audit::laws::{done_jobs_are_outcomes, lawful_records_can_be_held, lawful_units_are_runs};
 use nvm_audit::{DoneJob, Record, Version};
@@ -35,7 +35,8 @@ use std::thread::Threads;
 /// the gate told by `after_job`, and goes on until no job is left. The record is lawful, and of just these jobs.
 ///
 /// `Workers` says that there can't be so many workers. `NoMemory` says that a growth outside a job was refused: all workers
-/// have ended then, and nothing is kept. A job that finds no memory ends with 0/06, and is recorded so. It waits for the units.
+/// have ended then, and what they did is lost. Either hands the jobs back, for another run. A job that finds no memory ends with
+/// 0/06, and is recorded so. It waits for the units.
 pub fn run<R: Threads + Wait + Sync, G: Gate + Sync>(
     rt: &R,
     alloc: Global,
@@ -44,7 +45,7 @@ pub fn run<R: Threads + Wait + Sync, G: Gate + Sync>(
     workers: u16,
     limit: Limit,
     gate: &G,
-) -> Result<Record, RunFault>
+) -> Result<Record, RunFailed>
     requires few { length jobs.items ≤ most_jobs }
     requires fit { All (FitsNamespace geometry) jobs.items }
     requires known { All (λ job. HoldsBody Two job.body) jobs.items }
@@ -55,13 +56,18 @@ pub fn run<R: Threads + Wait + Sync, G: Gate + Sync>(
     ensures one_thread { IfOk result (λ r. (unit : ℕ) (history : List HistoryEntry) → IsAt r.units unit history
         → (steps : List RunStep) × IsPlacedRunOf r.namespace r.jobs history (parts_in_unit unit r.done) steps
         × IsRunFrom r.namespace.block_size (zero_medium r.namespace.block_size) steps) }
-    ensures fault { IfErr result (IsRunFault workers) }
+    ensures fault { IfErr result (λ failed. IsRunFault workers failed.fault) }
+    // A run that gives no record hands the jobs back.
+    ensures back { IfErr result (λ failed. failed.jobs.items ≡ jobs.items) }
 {
     done_jobs_are_outcomes();
     gathered_records_are_lawful();
     lawful_records_can_be_held();
     lawful_units_are_runs();
-    let (units, done) = done_by_workers(rt, alloc, geometry, &jobs, workers, limit, gate)?;
+    let (units, done) = match done_by_workers(rt, alloc, geometry, &jobs, workers, limit, gate) {
+        Ok(ended) => ended,
+        Err(fault) => return Err(RunFailed { fault, jobs }),
+    };
     Ok(Record {
         version: Version::Two,
         geometry,

@@ -121,8 +121,10 @@ impl Fitting {
         }
         let limit = Limit::new(limit).ok_or("there is no such limit")?;
         match run(rt, alloc, geometry, jobs, workers, limit, gate) {
-            Err(RunFault::Workers) => Err(Fail::new("there can't be so many workers")),
-            Err(RunFault::NoMemory) => Err(Fail::new("there was no memory")),
+            Err(failed) => match failed.fault {
+                RunFault::Workers => Err(Fail::new("there can't be so many workers")),
+                RunFault::NoMemory => Err(Fail::new("there was no memory")),
+            },
             Ok(record) => {
                 if found_no_memory(&record) {
                     return Err(Fail::new("there was no memory"));

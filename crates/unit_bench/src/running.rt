@@ -57,8 +57,10 @@ pub fn measure_run<R: Threads + Wait + Sync + Clock + CpuClock>(
     let wall = begin.elapsed(rt).map_err(|_| Fault::NoClock)?;
     let record = match ran {
         Ok(record) => record,
-        Err(RunFault::NoMemory) => return Err(Fault::NoMemory),
-        Err(RunFault::Workers) => unreachable!("there are 1 to 64 workers"),
+        Err(failed) => match failed.fault {
+            RunFault::NoMemory => return Err(Fault::NoMemory),
+            RunFault::Workers => unreachable!("there are 1 to 64 workers"),
+        },
     };
     Ok(MeasuredRun {
         jobs: record.jobs.len() as u64,

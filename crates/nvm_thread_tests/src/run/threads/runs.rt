@@ -96,7 +96,8 @@ fn there_are_1_to_64_workers(rt: HostRuntime) -> Result<(), Fail> {
     for workers in [0, 65] {
         let Fitting { geometry, jobs } = Fitting::new(alloc)?;
         let refused = run(&rt, alloc, geometry, jobs, workers, limit, &Open);
-        assert_eq!(rt; refused.err(), Some(RunFault::Workers));
+        let fault = refused.err().map(|failed| failed.fault);
+        assert_eq!(rt; fault, Some(RunFault::Workers));
     }
     Ok(())
 }
