@@ -1,6 +1,7 @@
 """Runs of command lists by nvq: two lines for each command, the record, the options' defaults, and what is refused."""
 
 import os
+import threading
 
 from auditor import text
 from beside import beside
@@ -165,11 +166,28 @@ def refused_runs(run):
         (["alone"], {"nacwu": 8}, "geometry: PairUnitAboveBoundary", GEOMETRY["PairUnitAboveBoundary"]),
         (["alone"], {"nsze": 32_769}, "geometry: TooManyUnits", GEOMETRY["TooManyUnits"]),
         (["-", "alone", "-"], {}, "standard input is named twice", ""),
+        (["/dev/stdin", "-"], {}, "standard input is named twice", ""),
+        (["-", "alone", "/dev/stdin"], {}, "standard input is named twice", ""),
     ]
     run.keep("a.nvq", file_of([]))
     for names, options, fault, hint in faults:
         err = told(f"nvq: {fault}", hint)
         run.expect(words(*names, **options, record="old"), 1, err=err, given=b"read 0 1\n", files={"old": b"old"})
+    # A file that changes between two reads: the line is that of the list that has the fault.
+    run.keep("twice", "read 0 1\n")
+    pipe = os.path.join(run.folder, "between")
+    os.mkfifo(pipe)
+
+    def changed():
+        with open(pipe, "wb") as file:
+            run.keep("twice", "walk 0 1\n")
+            file.write(b"read 0 1\n")
+
+    writer = threading.Thread(target=changed, daemon=True)
+    writer.start()
+    run.expect(words("twice", "between", "twice"), 1, err=told(f"nvq: twice: line 1: {line}", the_line("walk 0 1")))
+    writer.join(60)
+    os.remove(pipe)
     run.expect(words("-"), 1, given=b"walk", err=told(f"nvq: -: line 1: {line}", the_line("walk")))
     run.expect(words("none", "alone", record="alone"), 1, err=told("nvq: cannot write alone", IS_LIST), files={"alone": run.kept("alone")})
     run.expect(words("alone", record="-"), 1, err="nvq: the record can't go to standard output\n")

@@ -318,6 +318,7 @@ def outs_that_are_read(run):
     for words, line in (
         (run_words(OPTIONS, "read.nvq", out="shown"), "nvmu: cannot write shown"),
         (run_words(OPTIONS, "read.nvq", out="./shown"), "nvmu: cannot write ./shown"),
+        (["nvq", "run", "--record", "shown", "read.list"], "nvq: cannot write shown"),
     ):
         with open(os.path.join(run.folder, "shown"), "wb") as shown:
             found = run.status_of(words, stdout=shown)

@@ -1,5 +1,5 @@
 -- The host files of lists have no fault, so a run on them ends with no fault of a file.
-use Rattle.std.proofs.Common.{ℕ, ◌+◌, List, [], ◌∷◌, ◌++◌, inl, inr, sym, subst}
+use Rattle.std.proofs.Common.{ℕ, zero, suc, ◌+◌, ◌<◌, List, [], ◌∷◌, ◌++◌, length, take, get_or, inl, inr, sym, subst, omega, arith}
 use Rattle.nvm_record.specs.HostFile.{IsHostFile}
 use Rattle.nvm_record.specs.declared.command.Command.{Command}
 use Rattle.nvm_record.specs.declared.host_fault.HostFault.TheVariants as of_file
@@ -9,6 +9,8 @@ use Rattle.nvm_engine.specs.declared.fault.Fault.{Fault as FaultOfRun}
 use Rattle.nvm_engine.specs.declared.fault.Fault.TheVariants as of_run
 use Rattle.nvm_engine.specs.declared.settings.Settings.{Settings}
 use Rattle.nvq.specs.Ran.{IsFileOf, AreFilesOf, IsToldFault}
+use Rattle.nvq.specs.RunFaults.{IsLineFault, IsListsFault}
+use Rattle.nvq.specs.declared.fault.Fault.{Fault}
 
 no_file_fault : (size number : ℕ) (file : List ℕ) (cs : List Command) (fault : FaultOfRun) → IsHostFile size file cs
     → IsFileFault size number file fault → ⊥
@@ -64,3 +66,14 @@ one_more size [] [] text file h k = (k, tt)
 one_more size [] (f ∷ files) text file h k = absurd h
 one_more size (t ∷ texts) [] text file h k = absurd h
 one_more size (t ∷ texts) (f ∷ files) text file (here, rest) k = (here, one_more size texts files text file rest k)
+
+-- the fault of a list before which all have their host files
+pub first_fault : (size place : ℕ) (paths texts files : List (List ℕ)) (fault : Fault) → place < length paths → place < length texts
+    → AreFilesOf size (take place texts) files → IsLineFault size (get_or paths place []) (get_or texts place []) fault
+    → IsListsFault size paths texts fault
+first_fault size place [] texts files fault p q h k = absurd (omega arith)
+first_fault size place (path ∷ paths) [] files fault p q h k = absurd (omega arith)
+first_fault size zero (path ∷ paths) (text ∷ texts) files fault p q h k = inl k
+first_fault size (suc place) (path ∷ paths) (text ∷ texts) [] fault p q h k = absurd h
+first_fault size (suc place) (path ∷ paths) (text ∷ texts) (file ∷ files) fault p q (here, rest) k =
+    inr ((here.0, here.1.0), first_fault size place paths texts files fault (omega arith) (omega arith) rest k)

@@ -1,3 +1,6 @@
 pub mod Fault
+pub mod Files
 pub mod Listed
 pub mod Ran
+pub mod RunFaults
+pub mod Words

@@ -1,79 +1,61 @@
-use crate::fault::Fault;
-use nvm_front::{no_host_file, no_list, no_namespace, no_record, other_block};
-use nvm_record::{BlockSize, Payload};
-use std::alloc::{AllocError, AllocFailed, Global};
-use std::fmt;
+ghost use Rattle.std.specs.Prelude.{◌≡◌};
 
-/// Why the program writes nothing: a fault, and what helps whoever reads it. It prints the fault's line, and the hint
-/// on the next line behind two spaces.
-#[derive(Debug, Drop)]
-pub struct Failure {
-    pub fault: Fault,
-    pub hint: Option<String>,
+use crate::fault::Fault;
+use nvm_front::{VERSIONS, no_host_file, no_list, no_namespace, no_record, other_block};
+use nvm_record::{BlockSize, Payload};
+use std::alloc::{AllocError, Global};
+
+/// Why the program writes nothing, and what helps.
+pub type Failure = nvm_front::Failure<Fault>;
+
+/// The failure of a list that was read from a path. What helps is what the file is instead, or else the line.
+pub fn of_list(alloc: Global, fault: Fault, path: &str, list: &[u8]) -> Failure
+    ensures { result.fault ≡ fault }
+{
+    let hint = match fault {
+        Fault::Line { line, .. } | Fault::ListLine { line, .. } => {
+            wrong_line(alloc, path, list, line)
+        }
+        _ => Ok(None),
+    };
+    Failure::hinted(fault, hint)
 }
 
-impl Failure {
-    /// The failure of a list that was read from a path. What helps is what the file is instead, or else the line.
-    pub fn of_list(alloc: Global, fault: Fault, path: &str, list: &[u8]) -> Failure {
-        let hint = match fault {
-            Fault::Line { line, .. } => wrong_line(alloc, path, list, line),
-            _ => Ok(None),
-        };
-        Failure::hinted(fault, hint)
-    }
+/// The failure of a run of so many lists.
+pub fn of_run(alloc: Global, fault: Fault, count: usize) -> Failure
+    ensures { result.fault ≡ fault }
+{
+    let hint = match &fault {
+        Fault::Geometry(fault) => String::from_str(alloc, no_namespace(*fault)).map(Some),
+        Fault::TooManyHosts => too_many(alloc, count),
+        _ => Ok(None),
+    };
+    Failure::hinted(fault, hint)
+}
 
-    /// The failure of lists to run, which were read from these paths.
-    pub fn of_lists(alloc: Global, fault: Fault, paths: &[String], lists: &[Vec<u8>]) -> Failure {
-        let hint = hint_of_lists(alloc, &fault, paths, lists);
-        Failure::hinted(fault, hint)
-    }
+/// The failure of a file that was read from a path and should be listed.
+pub fn of_file(alloc: Global, fault: Fault, path: &str, file: &Payload, size: BlockSize) -> Failure
+    ensures { result.fault ≡ fault }
+{
+    let hint = match fault {
+        Fault::BadName { .. } => no_host_file(alloc, path, file.as_slice()).map(Some),
+        Fault::UnknownVersion { .. } => versions(alloc),
+        Fault::Truncated { .. } | Fault::TooMany { .. } => other_block(alloc, file, size.bytes()),
+        _ => Ok(None),
+    };
+    Failure::hinted(fault, hint)
+}
 
-    /// The failure of a run of so many lists.
-    pub fn of_run(alloc: Global, fault: Fault, count: usize) -> Failure {
-        let hint = match &fault {
-            Fault::Geometry(fault) => String::from_str(alloc, no_namespace(*fault)).map(Some),
-            Fault::TooManyHosts => too_many(alloc, count),
-            _ => Ok(None),
-        };
-        Failure::hinted(fault, hint)
-    }
-
-    /// The failure of a file that was read from a path and should be listed.
-    pub fn of_file(
-        alloc: Global,
-        fault: Fault,
-        path: &str,
-        file: &Payload,
-        size: BlockSize,
-    ) -> Failure {
-        let hint = match fault {
-            Fault::BadName { .. } => no_host_file(alloc, path, file.as_slice()).map(Some),
-            Fault::UnknownVersion { .. } => versions(alloc),
-            Fault::Truncated { .. } | Fault::TooMany { .. } => {
-                other_block(alloc, file, size.bytes())
-            }
-            _ => Ok(None),
-        };
-        Failure::hinted(fault, hint)
-    }
-
-    /// The failure of a file that was read from a path and should be a record.
-    pub fn of_record(alloc: Global, fault: Fault, path: &str, file: &[u8]) -> Failure {
-        let hint = match fault {
-            Fault::BadName { .. } => no_record(alloc, path, file).map(Some),
-            Fault::UnknownVersion { .. } => versions(alloc),
-            _ => Ok(None),
-        };
-        Failure::hinted(fault, hint)
-    }
-
-    /// A fault with what helps, or want of memory for that.
-    pub fn hinted(fault: Fault, hint: Result<Option<String>, AllocError>) -> Failure {
-        match hint {
-            Ok(hint) => Failure { fault, hint },
-            Err(_) => Failure::from(Fault::NoMemory),
-        }
-    }
+/// The failure of a file that was read from a path and should be a record.
+pub fn of_record(alloc: Global, fault: Fault, path: &str, file: &[u8]) -> Failure
+    ensures { result.fault ≡ fault }
+{
+    let hint = match fault {
+        Fault::BadName { .. } => no_record(alloc, path, file).map(Some),
+        Fault::UnknownVersion { .. } => versions(alloc),
+        _ => Ok(None),
+    };
+    Failure::hinted(fault, hint)
 }
 
 /// What helps where a list has a line that is no command: what the file is instead, or else the line.
@@ -91,25 +73,7 @@ fn wrong_line(
 
 /// Which versions of records are known.
 fn versions(alloc: Global) -> Result<Option<String>, AllocError> {
-    Ok(Some(String::from_str(alloc, "the fourth byte of a record is 1 or 2")?))
-}
-
-/// What helps with the fault of lists to run.
-fn hint_of_lists(
-    alloc: Global,
-    fault: &Fault,
-    paths: &[String],
-    lists: &[Vec<u8>],
-) -> Result<Option<String>, AllocError> {
-    let Fault::ListLine { path, line, .. } = fault else {
-        return Ok(None);
-    };
-    for (place, list) in paths.iter().zip(lists) {
-        if place.as_str() == path.as_str() {
-            return wrong_line(alloc, path.as_str(), list.as_slice(), *line);
-        }
-    }
-    Ok(None)
+    Ok(Some(String::from_str(alloc, VERSIONS)?))
 }
 
 fn too_many(alloc: Global, count: usize) -> Result<Option<String>, AllocError> {
@@ -142,31 +106,4 @@ fn front_of(line: &str) -> &str {
         }
     }
     line
-}
-
-impl fmt::Display for Failure {
-    fn fmt<W: fmt::Write>(&self, f: &mut fmt::Formatter<W>) -> fmt::Result {
-        match &self.hint {
-            Some(hint) => write!(f, "{}\n  {hint}", self.fault),
-            None => write!(f, "{}", self.fault),
-        }
-    }
-}
-
-impl From<Fault> for Failure {
-    fn from(fault: Fault) -> Failure {
-        Failure { fault, hint: None }
-    }
-}
-
-impl From<AllocError> for Failure {
-    fn from(_e: AllocError) -> Failure {
-        Failure::from(Fault::NoMemory)
-    }
-}
-
-impl<T: Drop> From<AllocFailed<T>> for Failure {
-    fn from(_e: AllocFailed<T>) -> Failure {
-        Failure::from(Fault::NoMemory)
-    }
 }

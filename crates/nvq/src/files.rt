@@ -1,5 +1,9 @@
+ghost use Rattle.std.specs.Prelude.{◌≡◌, ℕ, List, Ok, IfOk, IfErr};
+ghost use Rattle.nvm_file.specs.Reading.{record_at};
+ghost use Rattle.nvq.specs.Files.{IsReadFault, IsRecordFault, IsWriteFault};
+
 use crate::conversion::record_of;
-use crate::failure::Failure;
+use crate::failure::{Failure, of_record};
 use crate::fault::Fault;
 use nvm_audit::Record;
 use nvm_front::{FileFault, Progress, STANDARD, is_read, read_input, refusal, write};
@@ -12,15 +16,13 @@ pub fn bytes_of<R: Files + AllocGlobal + Input + Eprint>(
     rt: &R,
     path: &str,
     progress: &Progress<'_, R>,
-) -> Result<Vec<u8>, Failure> {
+) -> Result<Vec<u8>, Failure>
+    ensures { IfErr result (λ failure. IsReadFault path.now failure.fault) }
+{
     match read_input(rt, path, progress) {
         Ok(bytes) => Ok(bytes),
-        Err(FileFault::NoMemory) => Err(Failure::from(Fault::NoMemory)),
-        Err(FileFault::Refused(kind)) => {
-            let path = String::from_str(rt.alloc(), path)?;
-            let hint = hint(rt.alloc(), refusal(kind));
-            Err(Failure::hinted(Fault::CannotRead { path }, hint))
-        }
+        Err(FileFault::NoMemory) => Err(Failure::from(AllocError)),
+        Err(FileFault::Refused(kind)) => Err(unread(rt.alloc(), path, refusal(kind))),
     }
 }
 
@@ -29,12 +31,15 @@ pub fn read_as_record<R: Files + AllocGlobal + Input + Eprint>(
     rt: &R,
     path: &str,
     progress: &Progress<'_, R>,
-) -> Result<Record, Failure> {
+) -> Result<Record, Failure>
+    ensures record { IfOk result (λ run. (file : List ℕ) × (record_at file ≡ Ok run)) }
+    ensures fault { IfErr result (λ failure. IsRecordFault path.now failure.fault) }
+{
     let bytes = Payload::new(rt.alloc(), bytes_of(rt, path, progress)?)?;
     let named = String::from_str(rt.alloc(), path)?;
     match record_of(rt.alloc(), named, &bytes) {
         Ok(run) => Ok(run),
-        Err(fault) => Err(Failure::of_record(rt.alloc(), fault, path, bytes.as_slice())),
+        Err(fault) => Err(of_record(rt.alloc(), fault, path, bytes.as_slice())),
     }
 }
 
@@ -44,11 +49,12 @@ pub fn write_bytes<R: Files + AllocGlobal + Print + Eprint>(
     path: &str,
     bytes: &[u8],
     progress: &Progress<'_, R>,
-) -> Result<(), Failure> {
+) -> Result<(), Failure>
+    ensures { IfErr result (λ failure. IsWriteFault path.now failure.fault) }
+{
     match write(rt, path, bytes, progress) {
         Ok(()) => Ok(()),
-        Err(FileFault::NoMemory) => Err(Failure::from(Fault::NoMemory)),
-        Err(FileFault::Refused(kind)) => Err(unwritten(rt.alloc(), path, refusal(kind))?),
+        Err(fault) => Err(unmade(rt.alloc(), path, fault)),
     }
 }
 
@@ -58,27 +64,45 @@ pub fn check_output<R: Files + AllocGlobal>(
     out: &str,
     read: &str,
     why: &str,
-) -> Result<(), Failure> {
+) -> Result<(), Failure>
+    ensures { IfErr result (λ failure. IsWriteFault out.now failure.fault) }
+{
     if out == STANDARD {
         return Ok(());
     }
     match is_read(rt, out, read) {
         Ok(false) => Ok(()),
-        Ok(true) => Err(unwritten(rt.alloc(), out, Some(why))?),
-        Err(_) => Err(Failure::from(Fault::NoMemory)),
+        Ok(true) => Err(unwritten(rt.alloc(), out, Some(why))),
+        Err(_) => Err(Failure::from(AllocError)),
     }
 }
 
-/// The failure of a file that can't be written.
-pub fn unwritten(alloc: Global, path: &str, why: Option<&str>) -> Result<Failure, AllocError> {
-    let path = String::from_str(alloc, path)?;
-    Ok(Failure::hinted(Fault::CannotWrite { path }, hint(alloc, why)))
+/// The failure of what couldn't be written to a path.
+pub fn unmade(alloc: Global, path: &str, fault: FileFault) -> Failure
+    ensures { IsWriteFault path.now result.fault }
+{
+    match fault {
+        FileFault::NoMemory => Failure::from(AllocError),
+        FileFault::Refused(kind) => unwritten(alloc, path, refusal(kind)),
+    }
 }
 
-/// What helps, as a string of its own.
-fn hint(alloc: Global, why: Option<&str>) -> Result<Option<String>, AllocError> {
-    match why {
-        Some(why) => Ok(Some(String::from_str(alloc, why)?)),
-        None => Ok(None),
+/// The failure of a file that can't be read, or want of memory for its path.
+fn unread(alloc: Global, path: &str, why: Option<&str>) -> Failure
+    ensures { IsReadFault path.now result.fault }
+{
+    match String::from_str(alloc, path) {
+        Ok(path) => Failure::because(alloc, Fault::CannotRead { path }, why),
+        Err(error) => Failure::from(error),
+    }
+}
+
+/// The failure of a file that can't be written, or want of memory for its path.
+pub fn unwritten(alloc: Global, path: &str, why: Option<&str>) -> Failure
+    ensures { IsWriteFault path.now result.fault }
+{
+    match String::from_str(alloc, path) {
+        Ok(path) => Failure::because(alloc, Fault::CannotWrite { path }, why),
+        Err(error) => Failure::from(error),
     }
 }

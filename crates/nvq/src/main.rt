@@ -2,6 +2,9 @@
 //! explains and draws records.
 #![tactic(auto)]
 
+ghost use Rattle.std.specs.Prelude.{IfErr, string_bytes};
+ghost use Rattle.nvq.specs.Files.{IsAssemblingFault, IsListingFault};
+
 mod conversion;
 mod drawing;
 mod explaining;
@@ -15,11 +18,11 @@ mod words;
 use crate::conversion::{file_of, list_of};
 use crate::drawing::run_draw;
 use crate::explaining::run_explain;
-use crate::failure::Failure;
+use crate::failure::{Failure, of_file, of_list};
 use crate::files::{bytes_of, check_output, write_bytes};
 use crate::running::run_lists;
 use crate::words::{Asked, read_words};
-use nvm_front::{Progress, Terminals, WordFault, tell, texts_of, words_given};
+use nvm_front::{Progress, Terminals, WordFault, failed, tell, texts_of, words_given};
 use nvm_record::{BlockSize, Payload};
 use std::io::IsTerminal;
 use std::process::ExitCode;
@@ -90,12 +93,14 @@ fn run_assemble<R: AllocGlobal + Files + Input + Print + Eprint>(
     list: &str,
     out: &str,
     progress: &Progress<'_, R>,
-) -> Result<(), Failure> {
+) -> Result<(), Failure>
+    ensures { IfErr result (λ failure. IsAssemblingFault size list.now out.now failure.fault) }
+{
     check_output(rt, out, list, "it is the list")?;
     let text = bytes_of(rt, list, progress)?;
     match file_of(rt.alloc(), &text, size) {
         Ok(file) => write_bytes(rt, out, &file, progress),
-        Err(fault) => Err(Failure::of_list(rt.alloc(), fault, list, &text)),
+        Err(fault) => Err(of_list(rt.alloc(), fault, list, &text)),
     }
 }
 
@@ -105,17 +110,13 @@ fn run_list<R: AllocGlobal + Files + Input + Print + Eprint>(
     size: BlockSize,
     file: String,
     progress: &Progress<'_, R>,
-) -> Result<(), Failure> {
+) -> Result<(), Failure>
+    ensures { IfErr result (λ failure. IsListingFault size (string_bytes file) failure.fault) }
+{
     let bytes = Payload::new(rt.alloc(), bytes_of(rt, file.as_str(), progress)?)?;
     let path = String::from_str(rt.alloc(), file.as_str())?;
     match list_of(rt.alloc(), path, &bytes, size) {
         Ok(text) => write_bytes(rt, "-", text.as_bytes(), progress),
-        Err(fault) => Err(Failure::of_file(rt.alloc(), fault, file.as_str(), &bytes, size)),
+        Err(fault) => Err(of_file(rt.alloc(), fault, file.as_str(), &bytes, size)),
     }
-}
-
-/// Prints the fault's line on standard error, and what helps below it.
-fn failed<R: Eprint>(rt: &R, failure: Failure) -> u8 {
-    let _ = rt.eprintln(failure);
-    1
 }

@@ -1,21 +1,25 @@
 //! `nvq run`: the commands of lists are done, and told beside the lists.
-ghost use Rattle.std.specs.Prelude.{◌≡◌, ℕ, List, IfOk, IfErr, IfSome, map};
+ghost use Rattle.std.specs.Prelude.{◌≡◌, ◌≤◌, ◌⊎◌, ℕ, List, IfOk, IfErr, length, map, string_bytes};
+ghost use Rattle.std.specs.List.{count_by};
 ghost use Rattle.nvm_engine.specs.Fault.{IsFirstRunFault};
 ghost use Rattle.nvm_engine.specs.Shown.{IsShown};
 ghost use Rattle.nvm_engine.specs.declared.fault.Fault.{Fault as FaultOfRun};
+ghost use Rattle.nvm_front.specs.Standard.{names_input};
+ghost use Rattle.nvq.specs.declared.fault.Fault.TheVariants.{NoMemory};
+ghost use Rattle.nvq.specs.Files.{IsReadingFault, IsWriteFault};
 ghost use Rattle.nvq.specs.Ran.{AreFilesOf, IsFileOf, IsToldFault, fault_of_run};
+ghost use Rattle.nvq.specs.RunFaults.{IsKeepingFault, IsLineFault, IsListsFault, IsNamesFault, IsRunFaultOn, IsSettingsOf, paths_of};
 
-use crate::failure::Failure;
+use crate::failure::{Failure, of_list, of_run};
 use crate::fault::Fault;
-use crate::files::{bytes_of, check_output, unwritten};
+use crate::files::{bytes_of, check_output, unmade, unwritten};
 use crate::running_words::RunWords;
 use nvm_audit::Record;
 use nvm_engine::{Fault as RunFault, Settings, Shown, Workers, execute_watched};
-use nvm_file::write_record;
-use nvm_front::{FileFault, Output, Progress, STANDARD, refusal};
+use nvm_front::{FileFault, Output, Progress, STANDARD, is_input, is_output, write_run};
 use nvm_list::{ListFault, assemble};
 use nvm_record::{BlockSize, Payload};
-use std::alloc::Global;
+use std::alloc::{AllocError, Global};
 use std::rt::Files;
 use std::sync::Wait;
 use std::thread::{Threads, available_parallelism};
@@ -27,118 +31,159 @@ pub fn run_lists<R: AllocGlobal + Files + Input + Print + Eprint + Threads + Wai
     rt: &R,
     words: &RunWords,
     progress: &Progress<'_, R>,
-) -> Result<(), Failure> {
+) -> Result<(), Failure>
+    ensures fault { IfErr result (λ failure. IsRunFaultOn words.now failure.fault) }
+{
     names_fit(words)?;
     check_record(rt, words)?;
     let output = standard(rt, progress)?;
-    let texts = read_lists(rt, words.lists.as_slice(), progress)?;
-    let mut lists = borrowed(rt.alloc(), texts.as_slice())?;
-    let files = files_of(rt.alloc(), words, texts.as_slice())?;
+    let lists = read_lists(rt, words.lists.as_slice(), progress)?;
+    let mut texts = texts_of(rt.alloc(), lists.as_slice())?;
+    let files = files_of(rt.alloc(), words.size, lists.as_slice())?;
     let settings = settings_of(rt, words);
     let shown = shown_of(rt, &settings, files.as_slice(), progress)?;
     if let Some(path) = &words.record {
         keep(rt, path.as_str(), shown.record(), progress)?;
     }
     progress.clear();
-    match print(output, &shown, &mut lists) {
+    match print(output, &shown, &mut texts) {
         Ok(()) => Ok(()),
         Err(fault) => Err(unmade(rt.alloc(), STANDARD, fault)),
     }
 }
 
 /// Standard input is named at most once, and standard output isn't the record's.
-fn names_fit(words: &RunWords) -> Result<(), Fault> {
-    let mut inputs = 0_u32;
-    for list in &words.lists {
-        if list.as_str() == STANDARD {
-            if inputs == 1 {
-                return Err(Fault::InputTwice);
-            }
-            inputs = 1;
-        }
+fn names_fit(words: &RunWords) -> Result<(), Failure>
+    ensures fault { IfErr result (λ failure. IsNamesFault (paths_of words.now) words.now.«record» failure.fault) }
+{
+    if inputs_of(words.lists.as_slice()) > 1 {
+        return Err(plain(Fault::InputTwice));
     }
     match &words.record {
-        Some(path) if path.as_str() == STANDARD => Err(Fault::RecordAmongLines),
+        Some(path) if path.as_str() == STANDARD => Err(plain(Fault::RecordAmongLines)),
         _ => Ok(()),
     }
 }
 
-/// The record's path is none of the lists'.
-fn check_record<R: Files + AllocGlobal>(rt: &R, words: &RunWords) -> Result<(), Failure> {
-    if let Some(record) = &words.record {
-        for list in &words.lists {
-            check_output(rt, record.as_str(), list.as_str(), "it is the list")?;
+/// How many of the paths name standard input.
+fn inputs_of(paths: &[String]) -> usize
+    ensures { result ≡ count_by names_input (map (λ path. string_bytes path) paths.now) }
+{
+    let mut count = 0;
+    for path in paths {
+        if is_input(path.as_str()) {
+            count += 1;
         }
     }
-    Ok(())
+    count
+}
+
+/// A fault with which nothing helps but its line.
+fn plain(fault: Fault) -> Failure
+    ensures { result.fault ≡ fault }
+{
+    Failure { fault, hint: None }
+}
+
+/// The record's path is none of the lists', and not that of standard output.
+fn check_record<R: Files + AllocGlobal>(rt: &R, words: &RunWords) -> Result<(), Failure>
+    ensures { IfErr result (λ failure. IsKeepingFault words.now.«record» failure.fault) }
+{
+    match &words.record {
+        Some(record) => check_place(rt, record.as_str(), words.lists.as_slice()),
+        None => Ok(()),
+    }
+}
+
+/// The record's path is none of the lists', and not that of standard output.
+fn check_place<R: Files + AllocGlobal>(
+    rt: &R,
+    path: &str,
+    lists: &[String],
+) -> Result<(), Failure>
+    ensures { IfErr result (λ failure. IsWriteFault path.now failure.fault) }
+{
+    for list in lists {
+        check_output(rt, path, list.as_str(), "it is the list")?;
+    }
+    match is_output(rt, path) {
+        Ok(false) => Ok(()),
+        Ok(true) => {
+            let why = Some("standard output goes there, with the lines");
+            Err(unwritten(rt.alloc(), path, why))
+        }
+        Err(_) => Err(Failure::from(AllocError)),
+    }
 }
 
 /// Standard output, with its room.
 fn standard<'a, R: AllocGlobal + Files + Print + Eprint>(
     rt: &'a R,
     progress: &'a Progress<'a, R>,
-) -> Result<Output<'a, R>, Fault> {
+) -> Result<Output<'a, R>, AllocError> {
     match Output::standard(rt, progress) {
         Ok(output) => Ok(output),
-        Err(_) => Err(Fault::NoMemory),
+        Err(_) => Err(AllocError),
     }
 }
 
-/// The text of each list, in their order. The first that can't be read is the fault.
-fn read_lists<R: AllocGlobal + Files + Input + Eprint>(
+/// A list as it was read.
+#[derive(Drop)]
+struct ReadList<'a> {
+    path: &'a str,
+    text: Vec<u8>,
+}
+
+/// The lists at the paths, in their order. The first that can't be read is the fault.
+fn read_lists<'a, R: AllocGlobal + Files + Input + Eprint>(
     rt: &R,
-    paths: &[String],
+    paths: &'a [String],
     progress: &Progress<'_, R>,
-) -> Result<Vec<Vec<u8>>, Failure> {
-    let mut texts = Vec::with_capacity(rt.alloc(), paths.len())?;
+) -> Result<Vec<ReadList<'a>>, Failure>
+    ensures paths { IfOk result (λ lists. map (λ list. list.path.now) lists.items
+        ≡ map (λ path. string_bytes path) paths.now) }
+    ensures fault { IfErr result (λ failure. IsReadingFault (map (λ path. string_bytes path) paths.now) failure.fault) }
+{
+    let mut lists = Vec::with_capacity(rt.alloc(), paths.len())?;
     for path in paths {
-        texts.push(bytes_of(rt, path.as_str(), progress)?)?;
-    }
-    Ok(texts)
-}
-
-/// The texts as borrowed bytes.
-fn borrowed(alloc: Global, texts: &[Vec<u8>]) -> Result<Vec<&[u8]>, Fault> {
-    let mut lists = Vec::with_capacity(alloc, texts.len())?;
-    for text in texts {
-        lists.push(text.as_slice())?;
+        let path = path.as_str();
+        let text = bytes_of(rt, path, progress)?;
+        lists.push(ReadList { path, text })?;
     }
     Ok(lists)
 }
 
-/// The host file of each list, in their order, or the fault of the first that is none, with what helps.
-fn files_of(alloc: Global, words: &RunWords, texts: &[Vec<u8>]) -> Result<Vec<Payload>, Failure>
-    ensures files { IfOk result (λ files. AreFilesOf words.now.size (map (λ text. text.items) texts.now) files.items) }
-{
-    match assembled(alloc, words, texts) {
-        Ok(files) => Ok(files),
-        Err(fault) => Err(Failure::of_lists(alloc, fault, words.lists.as_slice(), texts)),
+/// The texts of lists, as borrowed bytes.
+fn texts_of<'a>(alloc: Global, lists: &'a [ReadList<'_>]) -> Result<Vec<&'a [u8]>, AllocError> {
+    let mut texts = Vec::with_capacity(alloc, lists.len())?;
+    for list in lists {
+        texts.push(list.text.as_slice())?;
     }
+    Ok(texts)
 }
 
-/// The host file of each list, in their order. The first that has a line that is no command is the fault.
-fn assembled(alloc: Global, words: &RunWords, texts: &[Vec<u8>]) -> Result<Vec<Payload>, Fault>
-    ensures files { IfOk result (λ files. AreFilesOf words.now.size (map (λ text. text.items) texts.now) files.items) }
+/// The host file of each list, in their order. The first that has a line that is no command is the fault, and what helps is said of
+/// that list.
+fn files_of(alloc: Global, size: BlockSize, lists: &[ReadList<'_>]) -> Result<Vec<Payload>, Failure>
+    ensures files { IfOk result (λ files. AreFilesOf size (map (λ list. list.text.items) lists.now) files.items) }
+    ensures fault { IfErr result (λ failure.
+        IsListsFault size (map (λ list. list.path.now) lists.now) (map (λ list. list.text.items) lists.now) failure.fault
+        ⊎ (failure.fault ≡ NoMemory)) }
 {
-    let mut files = Vec::with_capacity(alloc, texts.len())?;
-    for (place, text) in texts.iter().enumerate() {
-        let file = host_file(alloc, path_of(words, place), text, words.size)?;
-        files.push(file)?;
+    let mut files = Vec::with_capacity(alloc, lists.len())?;
+    for list in lists {
+        match host_file(alloc, list.path, &list.text, size) {
+            Ok(file) => files.push(file)?,
+            Err(fault) => return Err(of_list(alloc, fault, list.path, &list.text)),
+        }
     }
     Ok(files)
 }
 
-/// The path of the list at a place, where there is one.
-fn path_of(words: &RunWords, place: usize) -> &str {
-    match words.lists.get(place) {
-        Some(path) => path.as_str(),
-        None => STANDARD,
-    }
-}
-
-/// The host file of the list at a path.
+/// The host file of the list at a path, or its first line that is no command.
 fn host_file(alloc: Global, path: &str, text: &[u8], size: BlockSize) -> Result<Payload, Fault>
-    ensures { IfOk result (IsFileOf size text.now) }
+    ensures file { IfOk result (IsFileOf size text.now) }
+    ensures fault { IfErr result (λ fault. IsLineFault size path.now text.now fault ⊎ (fault ≡ NoMemory)) }
 {
     match assemble(alloc, text, size) {
         Ok(file) => Ok(Payload::new(alloc, file)?),
@@ -157,14 +202,7 @@ fn host_file(alloc: Global, path: &str, text: &[u8], size: BlockSize) -> Result<
 /// What the engine runs with. There are as many workers as processors where no number is given, and 4 where it isn't known how
 /// many processors there are.
 fn settings_of<R: Threads>(rt: &R, words: &RunWords) -> Settings
-    ensures block { result.block ≡ words.now.size }
-    ensures nsze { result.nsze ≡ words.now.nsze }
-    ensures nabsn { result.nabsn ≡ words.now.nabsn }
-    ensures nabo { result.nabo ≡ words.now.nabo }
-    ensures nawun { result.nawun ≡ words.now.nawun }
-    ensures nacwu { result.nacwu ≡ words.now.nacwu }
-    ensures limit { result.limit ≡ words.now.limit }
-    ensures workers { IfSome words.now.workers (λ workers. result.workers ≡ workers) }
+    ensures { IsSettingsOf words.now result }
 {
     let RunWords {
         size,
@@ -212,11 +250,13 @@ fn shown_of<R: AllocGlobal + Eprint + Threads + Wait + Sync>(
     progress: &Progress<'_, R>,
 ) -> Result<Shown, Failure>
     requires { (texts : List (List ℕ)) × AreFilesOf settings.now.block texts files.now }
-    ensures { IfOk result (IsShown settings.now files.now) }
+    ensures shown { IfOk result (IsShown settings.now files.now) }
+    ensures fault { IfErr result (λ failure. (first : FaultOfRun) × IsFirstRunFault settings.now files.now first
+        × (failure.fault ≡ fault_of_run first)) }
 {
     match done(rt, settings, files, progress) {
         Ok(shown) => Ok(shown),
-        Err(fault) => Err(Failure::of_run(rt.alloc(), fault, files.len())),
+        Err(fault) => Err(of_run(rt.alloc(), fault, files.len())),
     }
 }
 
@@ -266,22 +306,13 @@ fn keep<R: AllocGlobal + Files + Print + Eprint>(
     path: &str,
     run: &Record,
     progress: &Progress<'_, R>,
-) -> Result<(), Failure> {
-    match written(rt, path, run, progress) {
+) -> Result<(), Failure>
+    ensures { IfErr result (λ failure. IsWriteFault path.now failure.fault) }
+{
+    match write_run(rt, path, run, progress) {
         Ok(()) => Ok(()),
         Err(fault) => Err(unmade(rt.alloc(), path, fault)),
     }
-}
-
-fn written<R: AllocGlobal + Files + Print + Eprint>(
-    rt: &R,
-    path: &str,
-    run: &Record,
-    progress: &Progress<'_, R>,
-) -> Result<(), FileFault> {
-    let mut output = Output::file(rt, path, progress)?;
-    write_record(&mut output, run)?;
-    output.finish()
 }
 
 /// Writes the lines.
@@ -292,15 +323,4 @@ fn print<R: Files + Print + Eprint>(
 ) -> Result<(), FileFault> {
     shown.write_long_text(&mut output, lists)?;
     output.finish()
-}
-
-/// The failure of what couldn't be written to a path.
-fn unmade(alloc: Global, path: &str, fault: FileFault) -> Failure {
-    match fault {
-        FileFault::NoMemory => Failure::from(Fault::NoMemory),
-        FileFault::Refused(kind) => match unwritten(alloc, path, refusal(kind)) {
-            Ok(failure) => failure,
-            Err(_) => Failure::from(Fault::NoMemory),
-        },
-    }
 }

@@ -1,12 +1,14 @@
 //! The words of `nvq run`.
+ghost use Rattle.std.specs.Prelude.{◌≤◌, IfOk, IfSome, length};
+
 use crate::words::{block, size_of};
 use clap::builder::ValueParser;
 use clap::{Arg, ArgAction, ArgMatches, Command, Error, value_parser};
 use nvm_engine::Workers;
-use nvm_front::WordFault;
+use nvm_front::{WordFault, owned};
 use nvm_record::BlockSize;
 use nvm_store::Limit;
-use std::alloc::{AllocError, Global};
+use std::alloc::Global;
 
 /// What the words of `nvq run` say: the numbers of the namespace and of the run, and the names of files.
 #[derive(Drop)]
@@ -29,7 +31,9 @@ pub struct RunWords {
 }
 
 /// What the words say, or `None` where a value is missing or out of its range.
-pub fn read_run(alloc: Global, words: &ArgMatches<'_>) -> Result<Option<RunWords>, WordFault> {
+pub fn read_run(alloc: Global, words: &ArgMatches<'_>) -> Result<Option<RunWords>, WordFault>
+    ensures { IfOk result (λ read. IfSome read (λ run. 1 ≤ length run.lists.items)) }
+{
     let (Some(size), Some(nsze), Some(nabsn), Some(nabo), Some(limit), Some(paths)) = (
         size_of(words),
         words.get_one::<u64>("nsze"),
@@ -40,6 +44,9 @@ pub fn read_run(alloc: Global, words: &ArgMatches<'_>) -> Result<Option<RunWords
     ) else {
         return Ok(None);
     };
+    if paths.is_empty() {
+        return Ok(None);
+    }
     let record = match words.get_str("record") {
         Some(path) => Some(String::from_str(alloc, path)?),
         None => None,
@@ -62,15 +69,6 @@ pub fn read_run(alloc: Global, words: &ArgMatches<'_>) -> Result<Option<RunWords
 /// The zeroes-based number of blocks of a whole unit. Without boundaries it is the highest number.
 fn whole_unit(nabsn: u16) -> u16 {
     if nabsn == 0 { u16::MAX } else { nabsn }
-}
-
-/// The texts as strings of their own, in their order.
-fn owned(alloc: Global, texts: &[&str]) -> Result<Vec<String>, AllocError> {
-    let mut strings = Vec::with_capacity(alloc, texts.len())?;
-    for text in texts {
-        strings.push(String::from_str(alloc, text)?)?;
-    }
-    Ok(strings)
 }
 
 /// `nvq run`.

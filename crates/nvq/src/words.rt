@@ -1,3 +1,6 @@
+ghost use Rattle.std.specs.Prelude.{IfOk, IfSome};
+ghost use Rattle.nvq.specs.Words.{IsAsked};
+
 use crate::running_words::{RunWords, read_run, run_command};
 use clap::builder::ValueParser;
 use clap::{Arg, ArgMatches, Command, Error, value_parser};
@@ -37,8 +40,10 @@ pub enum Asked {
 /// The sizes that a block can have, as words.
 const SIZES: &[&str] = &["512", "4096"];
 
-/// Reads the words after the program's name. A block has 512 bytes where no size is given.
-pub fn read_words<'a>(alloc: Global, words: &'a [&'a str]) -> Result<Asked, WordFault> {
+/// Reads the words after the program's name. A block has 512 bytes where no size is given, and a run has one list or more.
+pub fn read_words<'a>(alloc: Global, words: &'a [&'a str]) -> Result<Asked, WordFault>
+    ensures { IfOk result IsAsked }
+{
     let mut command = program(alloc)?;
     let matches = command.try_get_matches_from_mut(words)?;
     match asked_of(alloc, &matches)? {
@@ -48,7 +53,9 @@ pub fn read_words<'a>(alloc: Global, words: &'a [&'a str]) -> Result<Asked, Word
 }
 
 /// What the matches ask for, or `None` where something is missing.
-fn asked_of(alloc: Global, matches: &ArgMatches<'_>) -> Result<Option<Asked>, WordFault> {
+fn asked_of(alloc: Global, matches: &ArgMatches<'_>) -> Result<Option<Asked>, WordFault>
+    ensures { IfOk result (λ asked. IfSome asked IsAsked) }
+{
     match matches.subcommand() {
         Some(("assemble", words)) => assemble_asked(alloc, words),
         Some(("list", words)) => list_asked(alloc, words),
@@ -60,7 +67,9 @@ fn asked_of(alloc: Global, matches: &ArgMatches<'_>) -> Result<Option<Asked>, Wo
 }
 
 /// What `nvq assemble` is asked, or `None` where a value is missing.
-fn assemble_asked(alloc: Global, words: &ArgMatches<'_>) -> Result<Option<Asked>, WordFault> {
+fn assemble_asked(alloc: Global, words: &ArgMatches<'_>) -> Result<Option<Asked>, WordFault>
+    ensures { IfOk result (λ asked. IfSome asked IsAsked) }
+{
     let (Some(size), Some(list), Some(out)) = (
         size_of(words),
         words.get_str("list"),
@@ -74,7 +83,9 @@ fn assemble_asked(alloc: Global, words: &ArgMatches<'_>) -> Result<Option<Asked>
 }
 
 /// What `nvq list` is asked, or `None` where a value is missing.
-fn list_asked(alloc: Global, words: &ArgMatches<'_>) -> Result<Option<Asked>, WordFault> {
+fn list_asked(alloc: Global, words: &ArgMatches<'_>) -> Result<Option<Asked>, WordFault>
+    ensures { IfOk result (λ asked. IfSome asked IsAsked) }
+{
     let (Some(size), Some(file)) = (size_of(words), words.get_str("file")) else {
         return Ok(None);
     };
@@ -83,7 +94,9 @@ fn list_asked(alloc: Global, words: &ArgMatches<'_>) -> Result<Option<Asked>, Wo
 }
 
 /// What `nvq run` is asked, or `None` where a value is missing.
-fn run_asked(alloc: Global, words: &ArgMatches<'_>) -> Result<Option<Asked>, WordFault> {
+fn run_asked(alloc: Global, words: &ArgMatches<'_>) -> Result<Option<Asked>, WordFault>
+    ensures { IfOk result (λ asked. IfSome asked IsAsked) }
+{
     match read_run(alloc, words)? {
         Some(run) => Ok(Some(Asked::Run(run))),
         None => Ok(None),
@@ -91,7 +104,9 @@ fn run_asked(alloc: Global, words: &ArgMatches<'_>) -> Result<Option<Asked>, Wor
 }
 
 /// What `nvq explain` is asked, or `None` where the path is missing.
-fn explain_asked(alloc: Global, words: &ArgMatches<'_>) -> Result<Option<Asked>, WordFault> {
+fn explain_asked(alloc: Global, words: &ArgMatches<'_>) -> Result<Option<Asked>, WordFault>
+    ensures { IfOk result (λ asked. IfSome asked IsAsked) }
+{
     let Some(file) = words.get_str("file") else {
         return Ok(None);
     };
@@ -100,7 +115,9 @@ fn explain_asked(alloc: Global, words: &ArgMatches<'_>) -> Result<Option<Asked>,
 }
 
 /// What `nvq draw` is asked, or `None` where a path is missing.
-fn draw_asked(alloc: Global, words: &ArgMatches<'_>) -> Result<Option<Asked>, WordFault> {
+fn draw_asked(alloc: Global, words: &ArgMatches<'_>) -> Result<Option<Asked>, WordFault>
+    ensures { IfOk result (λ asked. IfSome asked IsAsked) }
+{
     let (Some(file), Some(out)) = (words.get_str("file"), words.get_str("out")) else {
         return Ok(None);
     };
