@@ -55,10 +55,7 @@ impl<'a, R: Files + AllocGlobal + Print + Eprint> Output<'a, R> {
     }
 
     /// Standard output. What is written to it is told where it is no terminal.
-    pub fn standard(
-        rt: &'a R,
-        progress: &'a Progress<'a, R>,
-    ) -> Result<Output<'a, R>, FileFault> {
+    pub fn standard(rt: &'a R, progress: &'a Progress<'a, R>) -> Result<Output<'a, R>, FileFault> {
         let told = progress.tells_of_output().then_some(progress);
         let target = Target::new(To::Standard(io::writer(rt)), "standard output", told);
         let writer = BufWriter::with_capacity(rt.alloc(), GATHERED, target)?;

@@ -11,6 +11,7 @@ const LINES: u32 = 128;
 
 /// What is told of counts.
 const JOBS: &str = "jobs done";
+
 const UNITS: &str = "units audited";
 
 /// Goes to the front of a terminal's line and clears it.
@@ -145,7 +146,10 @@ impl<R: Eprint> Watcher for Progress<'_, R> {
 
     fn after_unit(&self, _unit: u16) {
         if self.terminals.error {
-            let audited = self.audited.fetch_add(1, Ordering::Relaxed).saturating_add(1);
+            let audited = self
+                .audited
+                .fetch_add(1, Ordering::Relaxed)
+                .saturating_add(1);
             if self.is_told(audited) {
                 self.count(audited, UNITS);
             }

@@ -15,7 +15,8 @@ use crate::files::{bytes_of, check_inputs, check_output, read_files, write_file}
 use crate::words::{Asked, read_words};
 use nvm_engine::{Judged, Settings, Shown, audit_bytes_watched, execute_watched};
 use nvm_front::{
-    FileFault, Output, Progress, Terminals, WordFault, failed, tell, tell_unwritten, texts_of, words_given,
+    FileFault, Output, Progress, Terminals, WordFault, failed, tell, tell_unwritten, texts_of,
+    words_given,
 };
 use std::alloc::AllocError;
 use std::io::{ErrorKind, IsTerminal};
@@ -119,7 +120,14 @@ fn run<R: AllocGlobal + Files + Input + Eprint + Threads + Wait + Sync>(
 {
     check_inputs(rt.alloc(), paths)?;
     let files = read_files(rt, paths, progress)?;
-    match execute_watched(rt, rt.alloc(), settings, files.as_slice(), progress, progress) {
+    match execute_watched(
+        rt,
+        rt.alloc(),
+        settings,
+        files.as_slice(),
+        progress,
+        progress,
+    ) {
         Ok(shown) => Ok(shown),
         Err(fault) => Err(of_run(rt.alloc(), fault, settings.block, paths, files.as_slice())),
     }

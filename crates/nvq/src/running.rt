@@ -96,11 +96,7 @@ fn check_record<R: Files + AllocGlobal>(rt: &R, words: &RunWords) -> Result<(), 
 }
 
 /// The record's path is none of the lists', and not that of standard output.
-fn check_place<R: Files + AllocGlobal>(
-    rt: &R,
-    path: &str,
-    lists: &[String],
-) -> Result<(), Failure>
+fn check_place<R: Files + AllocGlobal>(rt: &R, path: &str, lists: &[String]) -> Result<(), Failure>
     ensures { IfErr result (λ failure. IsWriteFault path.now failure.fault) }
 {
     for list in lists {
