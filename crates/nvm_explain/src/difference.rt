@@ -1,9 +1,9 @@
 ghost use Rattle.std.specs.Prelude.{◌≡◌, ◌≤◌, ◌<◌, ◌+◌, ◌++◌, OnOk, length, string_bytes};
 ghost use Rattle.nvm_explain.specs.Difference as spec;
 
-use crate::hexadecimal::push_hex2;
 use nvm_record::{BlockSize, NoMemory};
 use nvm_report::push_numbered;
+use nvm_text::push_hex2;
 
 /// Appends the line of the first byte that differs, if one does. Both are of the same blocks, from `first` on.
 pub(crate) fn push_difference(

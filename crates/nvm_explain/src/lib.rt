@@ -13,7 +13,6 @@ mod doer;
 mod entry_story;
 mod explaining;
 mod given;
-mod hexadecimal;
 mod job_story;
 mod looked_up;
 mod meaning;
