@@ -1,6 +1,5 @@
 use nvm_audit::Watcher;
 use nvm_unit::Gate;
-use std::fmt::Display;
 use std::sync::atomic::{AtomicU32, Ordering};
 
 /// How many bytes a MiB has. Each MiB of bytes is told.
@@ -69,15 +68,16 @@ impl<R: Eprint> Progress<'_, R> {
     /// `count` bytes more were read of a file of this length than the `before` that were read of it.
     pub fn read(&self, path: &str, before: usize, count: usize, length: usize) {
         if let Some(read) = self.mib_reached(before, count) {
-            let all = length.div_ceil(MIB);
-            self.tell(format_args!("{path}: {read} of {all} MiB read"));
+            let (program, all) = (self.program, length.div_ceil(MIB));
+            let _ = eprint!(self.rt; "{CLEAR}{program}: {path}: {read} of {all} MiB read");
         }
     }
 
     /// `count` bytes more were written than the `before` that were.
     pub fn written(&self, path: &str, before: usize, count: usize) {
         if let Some(written) = self.mib_reached(before, count) {
-            self.tell(format_args!("{path}: {written} MiB written"));
+            let program = self.program;
+            let _ = eprint!(self.rt; "{CLEAR}{program}: {path}: {written} MiB written");
         }
     }
 
@@ -94,14 +94,6 @@ impl<R: Eprint> Progress<'_, R> {
         }
     }
 
-    /// Writes the line.
-    fn tell<D: Display + Drop>(&self, words: D) {
-        if self.terminals.error {
-            let program = self.program;
-            let _ = eprint!(self.rt; "{CLEAR}{program}: {words}");
-        }
-    }
-
     /// So many jobs or units are begun with.
     fn begin(&self, all: u32, words: &str) {
         if self.terminals.error {
@@ -114,8 +106,8 @@ impl<R: Eprint> Progress<'_, R> {
 
     /// Writes the line of so many jobs or units.
     fn count(&self, count: u32, words: &str) {
-        let all = self.all.load(Ordering::Relaxed);
-        self.tell(format_args!("{count} of {all} {words}"));
+        let (program, all) = (self.program, self.all.load(Ordering::Relaxed));
+        let _ = eprint!(self.rt; "{CLEAR}{program}: {count} of {all} {words}");
     }
 }
 
