@@ -14,7 +14,7 @@ OPTIONS = "--nsze 65536 --block 512 --nabsn 15 --nabo 0 --nawun 15 --nacwu 3 --w
 RUN = ["nvmu", "run", *OPTIONS, "long.nvq"]
 # So many commands, of which 64 write 64 KiB each; and so many units are in the namespace.
 JOBS, UNITS = 364, 4_096
-# Every so many are told: a power of two, for at most 128 lines.
+# Every so many are told, and 0: a power of two, for at most 128 lines more.
 EACH_JOB, EACH_UNIT = 4, 32
 
 
@@ -49,8 +49,8 @@ def steps(all_, each, words):
     return [f"nvmu: {count} of {all_} {words}" for count in range(0, all_ + 1, each)]
 
 
-def mib(path, size, words, of=""):
-    return [f"nvmu: {path}: {count}{of} MiB {words}" for count in range(1, size // MIB + 1)]
+def mib(size, words, of=""):
+    return [f"nvmu: {count}{of} MiB {words}" for count in range(1, size // MIB + 1)]
 
 
 def progress(run):
@@ -61,10 +61,10 @@ def progress(run):
     status, found = shown(run.folder, path_of("nvmu"), RUN[1:], both=False)
     told = [piece.decode() for piece in found.split(CLEAR)]
     phases = [
-        mib("long.nvq", size, "read", f" of {-(-size // MIB)}"),
+        mib(size, "read", f" of {-(-size // MIB)}"),
         steps(JOBS, EACH_JOB, "jobs done"),
         steps(UNITS, EACH_UNIT, "units audited"),
-        mib("record", len(run.kept("record")), "written"),
+        mib(len(run.kept("record")), "written"),
     ]
     ends = [piece for piece in told if piece]
     run.hold("the status of a run on a terminal", status, 0)

@@ -62,7 +62,7 @@ fn bytes_of<R: Files + AllocGlobal + Eprint>(
     let mut file = fs::open(rt, path)?;
     let length = file.metadata()?.len() as usize;
     let mut bytes = Vec::with_capacity(rt.alloc(), length.saturating_add(1))?;
-    push_chunks(rt, &mut file, length, &mut bytes, path, progress)?;
+    push_chunks(rt, &mut file, length, &mut bytes, progress)?;
     file.read_to_end(&mut bytes)?;
     Ok(bytes)
 }
@@ -75,7 +75,6 @@ fn push_chunks<R: AllocGlobal + Eprint, F: Read>(
     file: &mut F,
     length: usize,
     bytes: &mut Vec<u8>,
-    path: &str,
     progress: &Progress<'_, R>,
 ) -> io::Result<()> {
     let mut chunk = Vec::new(rt.alloc());
@@ -84,7 +83,7 @@ fn push_chunks<R: AllocGlobal + Eprint, F: Read>(
         match file.read(&mut chunk) {
             Ok(0) => return Ok(()),
             Ok(count) => {
-                progress.read(path, bytes.len(), count, length);
+                progress.read(bytes.len(), count, length);
                 bytes.extend_from_slice(&chunk[..count])?;
             }
             Err(error) if error.kind() == ErrorKind::Interrupted => return Ok(()),
@@ -124,7 +123,7 @@ pub fn write_run<R: Files + AllocGlobal + Print + Eprint>(
     output.finish()
 }
 
-/// Whether a path names standard input. Each read of it begins where the last one ended.
+/// Whether a path names standard input, which a run reads at most once.
 pub fn is_input(path: &str) -> bool
     ensures { result ≡ names_input path.now }
 {

@@ -36,28 +36,32 @@ impl<'a, R: Files + AllocGlobal + Print + Eprint> Output<'a, R> {
         progress: &'a Progress<'a, R>,
     ) -> Result<Output<'a, R>, FileFault> {
         if path == STANDARD {
-            Output::standard(rt, progress)
+            Output::standard(rt)
         } else {
             Output::file(rt, path, progress)
         }
     }
 
-    /// The file at a path, whatever its name is. What is written of it is told.
+    /// The file at a path, whatever its name is. How much of a file is written beside its path is told.
     pub fn file(
         rt: &'a R,
         path: &'a str,
         progress: &'a Progress<'a, R>,
     ) -> Result<Output<'a, R>, FileFault> {
         let (file, unfinished) = opened(rt, path)?;
-        let target = Target::new(To::File(file), path, Some(progress));
+        progress.clear();
+        let told = match &unfinished {
+            Some(_) => Some(progress),
+            None => None,
+        };
+        let target = Target::new(To::File(file), told);
         let writer = BufWriter::with_capacity(rt.alloc(), GATHERED, target)?;
         Ok(Output { writer, unfinished })
     }
 
-    /// Standard output. What is written to it is told where it is no terminal.
-    pub fn standard(rt: &'a R, progress: &'a Progress<'a, R>) -> Result<Output<'a, R>, FileFault> {
-        let told = progress.tells_of_output().then_some(progress);
-        let target = Target::new(To::Standard(io::writer(rt)), "standard output", told);
+    /// Standard output.
+    pub fn standard(rt: &'a R) -> Result<Output<'a, R>, FileFault> {
+        let target = Target::new(To::Standard(io::writer(rt)), None);
         let writer = BufWriter::with_capacity(rt.alloc(), GATHERED, target)?;
         Ok(Output {
             writer,
@@ -101,7 +105,6 @@ impl<R: Files + Print + Eprint> Write for Output<'_, R> {
 #[derive(Drop)]
 struct Target<'a, R: Files + Print + Eprint> {
     to: To<'a, R>,
-    name: &'a str,
     written: usize,
     told: Option<&'a Progress<'a, R>>,
 }
@@ -114,10 +117,9 @@ enum To<'a, R: Files + Print> {
 }
 
 impl<'a, R: Files + Print + Eprint> Target<'a, R> {
-    fn new(to: To<'a, R>, name: &'a str, told: Option<&'a Progress<'a, R>>) -> Target<'a, R> {
+    fn new(to: To<'a, R>, told: Option<&'a Progress<'a, R>>) -> Target<'a, R> {
         Target {
             to,
-            name,
             written: 0,
             told,
         }
@@ -139,7 +141,7 @@ impl<R: Files + Print + Eprint> Write for Target<'_, R> {
             To::Standard(printer) => printer.write(bytes)?,
         };
         if let Some(progress) = self.told {
-            progress.written(self.name, self.written, count);
+            progress.written(self.written, count);
         }
         self.written = self.written.saturating_add(count);
         Ok(count)

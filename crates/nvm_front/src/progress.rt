@@ -1,11 +1,11 @@
 use nvm_audit::Watcher;
 use nvm_unit::Gate;
-use std::sync::atomic::{AtomicU32, Ordering};
+use std::sync::atomic::{AtomicBool, AtomicU32, Ordering};
 
 /// How many bytes a MiB has. Each MiB of bytes is told.
 const MIB: usize = 1 << 20;
 
-/// Of jobs, and of units, so many lines are told, or fewer.
+/// Of jobs, and of units, so many lines are told, or fewer, beside the first, which tells 0.
 const LINES: u32 = 128;
 
 /// What is told of counts.
@@ -16,13 +16,6 @@ const UNITS: &str = "units audited";
 /// Goes to the front of a terminal's line and clears it.
 const CLEAR: &str = "\r\x1b[K";
 
-/// Which standard streams are terminals.
-#[derive(Clone, Copy, Debug)]
-pub struct Terminals {
-    pub output: bool,
-    pub error: bool,
-}
-
 /// Tells how far long work is, where standard error is a terminal: on one line there, which each next one takes the place of, and
 /// which [`clear`](Progress::clear) takes away. Elsewhere it tells nothing.
 ///
@@ -31,83 +24,97 @@ pub struct Terminals {
 pub struct Progress<'a, R> {
     rt: &'a R,
     program: &'static str,
-    terminals: Terminals,
-    /// How many jobs or units there are.
+    /// Whether standard error is a terminal.
+    is_shown: bool,
+    /// Whether the line stands there.
+    stands: AtomicBool,
+    /// How many jobs or units there are, and how many of them are done.
     all: AtomicU32,
-    /// How many units are audited.
-    audited: AtomicU32,
+    done: AtomicU32,
     /// A count is told whose bits under this mask are 0.
     mask: AtomicU32,
 }
 
 impl<'a, R> Progress<'a, R> {
-    /// What a program tells.
-    pub fn new(rt: &'a R, program: &'static str, terminals: Terminals) -> Progress<'a, R> {
+    /// What a program tells. `is_shown` says whether standard error is a terminal.
+    pub fn new(rt: &'a R, program: &'static str, is_shown: bool) -> Progress<'a, R> {
         Progress {
             rt,
             program,
-            terminals,
+            is_shown,
+            stands: AtomicBool::new(false),
             all: AtomicU32::new(0),
-            audited: AtomicU32::new(0),
+            done: AtomicU32::new(0),
             mask: AtomicU32::new(0),
         }
     }
 
-    /// Whether what is written to standard output is told. It isn't where the bytes themselves are seen.
-    pub fn tells_of_output(&self) -> bool {
-        !self.terminals.output
-    }
-
-    /// Whether the line is written after so many jobs or units.
-    fn is_told(&self, count: u32) -> bool {
-        self.terminals.error && count & self.mask.load(Ordering::Relaxed) == 0
+    /// The gate of a run of which it tells.
+    pub fn jobs(&self) -> JobProgress<'_, 'a, R> {
+        JobProgress { progress: self }
     }
 }
 
 impl<R: Eprint> Progress<'_, R> {
     /// `count` bytes more were read of a file of this length than the `before` that were read of it.
-    pub fn read(&self, path: &str, before: usize, count: usize, length: usize) {
+    pub(crate) fn read(&self, before: usize, count: usize, length: usize) {
         if let Some(read) = self.mib_reached(before, count) {
             let (program, all) = (self.program, length.div_ceil(MIB));
-            let _ = eprint!(self.rt; "{CLEAR}{program}: {path}: {read} of {all} MiB read");
+            let _ = eprint!(self.rt; "{CLEAR}{program}: {read} of {all} MiB read");
         }
     }
 
     /// `count` bytes more were written than the `before` that were.
-    pub fn written(&self, path: &str, before: usize, count: usize) {
+    pub(crate) fn written(&self, before: usize, count: usize) {
         if let Some(written) = self.mib_reached(before, count) {
             let program = self.program;
-            let _ = eprint!(self.rt; "{CLEAR}{program}: {path}: {written} MiB written");
+            let _ = eprint!(self.rt; "{CLEAR}{program}: {written} MiB written");
         }
     }
 
-    /// How many MiB there are by these bytes, where they have reached one more and it is told.
+    /// How many MiB there are by these bytes, where they have reached one more and a line tells it.
     fn mib_reached(&self, before: usize, count: usize) -> Option<usize> {
         let reached = before.saturating_add(count) / MIB;
-        (self.terminals.error && reached > before / MIB).then_some(reached)
+        if self.is_shown && reached > before / MIB {
+            self.stands.store(true, Ordering::Relaxed);
+            Some(reached)
+        } else {
+            None
+        }
     }
 
     /// Takes the line away.
     pub fn clear(&self) {
-        if self.terminals.error {
+        if self.stands.swap(false, Ordering::Relaxed) {
             let _ = self.rt.eprint(CLEAR);
         }
     }
 
     /// So many jobs or units are begun with.
     fn begin(&self, all: u32, words: &str) {
-        if self.terminals.error {
+        if self.is_shown {
             self.all.store(all, Ordering::Relaxed);
-            self.audited.store(0, Ordering::Relaxed);
+            self.done.store(0, Ordering::Relaxed);
             self.mask.store(mask_of(all), Ordering::Relaxed);
-            self.count(0, words);
+            self.tell(0, words);
+        }
+    }
+
+    /// One more job or unit is done.
+    fn count(&self, words: &str) {
+        if self.is_shown {
+            let done = self.done.fetch_add(1, Ordering::Relaxed).saturating_add(1);
+            if done & self.mask.load(Ordering::Relaxed) == 0 {
+                self.tell(done, words);
+            }
         }
     }
 
     /// Writes the line of so many jobs or units.
-    fn count(&self, count: u32, words: &str) {
+    fn tell(&self, done: u32, words: &str) {
+        self.stands.store(true, Ordering::Relaxed);
         let (program, all) = (self.program, self.all.load(Ordering::Relaxed));
-        let _ = eprint!(self.rt; "{CLEAR}{program}: {count} of {all} {words}");
+        let _ = eprint!(self.rt; "{CLEAR}{program}: {done} of {all} {words}");
     }
 }
 
@@ -116,18 +123,21 @@ fn mask_of(all: u32) -> u32 {
     all.div_ceil(LINES).next_power_of_two() - 1
 }
 
-impl<R: Eprint> Gate for Progress<'_, R> {
+/// Tells how far the jobs of a run are.
+#[derive(Drop)]
+pub struct JobProgress<'p, 'a, R> {
+    progress: &'p Progress<'a, R>,
+}
+
+impl<R: Eprint> Gate for JobProgress<'_, '_, R> {
     fn before_jobs(&self, jobs: u32) {
-        self.begin(jobs, JOBS);
+        self.progress.begin(jobs, JOBS);
     }
 
     fn before_put(&self, _unit: u16, _job: u32) {}
 
-    fn after_job(&self, job: u32) {
-        let done = job.saturating_add(1);
-        if self.is_told(done) {
-            self.count(done, JOBS);
-        }
+    fn after_job(&self, _job: u32) {
+        self.progress.count(JOBS);
     }
 }
 
@@ -137,14 +147,6 @@ impl<R: Eprint> Watcher for Progress<'_, R> {
     }
 
     fn after_unit(&self, _unit: u16) {
-        if self.terminals.error {
-            let audited = self
-                .audited
-                .fetch_add(1, Ordering::Relaxed)
-                .saturating_add(1);
-            if self.is_told(audited) {
-                self.count(audited, UNITS);
-            }
-        }
+        self.count(UNITS);
     }
 }

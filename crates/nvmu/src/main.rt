@@ -15,8 +15,7 @@ use crate::files::{bytes_of, check_inputs, check_output, read_files, write_file}
 use crate::words::{Asked, read_words};
 use nvm_engine::{Judged, Settings, Shown, audit_bytes_watched, execute_watched};
 use nvm_front::{
-    FileFault, Output, Progress, Terminals, WordFault, failed, tell, tell_unwritten, texts_of,
-    words_given,
+    FileFault, Output, Progress, WordFault, failed, tell, tell_unwritten, texts_of, words_given,
 };
 use std::alloc::AllocError;
 use std::io::{ErrorKind, IsTerminal};
@@ -29,11 +28,7 @@ use std::thread::Threads;
 const NAME: &str = "nvmu";
 
 fn main(rt: HostRuntime) -> ExitCode {
-    let terminals = Terminals {
-        output: rt.stdout().is_terminal(),
-        error: rt.stderr().is_terminal(),
-    };
-    let progress = Progress::new(&rt, NAME, terminals);
+    let progress = Progress::new(&rt, NAME, rt.stderr().is_terminal());
     ExitCode::from(status_of(&rt, &progress))
 }
 
@@ -44,7 +39,7 @@ fn status_of<R: AllocGlobal + Env + Files + Input + Print + Eprint + Threads + W
     progress: &Progress<'_, R>,
 ) -> u8 {
     match asked(rt) {
-        Ok(asked) => match Output::standard(rt, progress) {
+        Ok(asked) => match Output::standard(rt) {
             Ok(output) => done(rt, &asked, output, progress),
             Err(_) => failed(rt, Failure::from(AllocError)),
         },
@@ -120,14 +115,8 @@ fn run<R: AllocGlobal + Files + Input + Eprint + Threads + Wait + Sync>(
 {
     check_inputs(rt.alloc(), paths)?;
     let files = read_files(rt, paths, progress)?;
-    match execute_watched(
-        rt,
-        rt.alloc(),
-        settings,
-        files.as_slice(),
-        progress,
-        progress,
-    ) {
+    let gate = progress.jobs();
+    match execute_watched(rt, rt.alloc(), settings, files.as_slice(), &gate, progress) {
         Ok(shown) => Ok(shown),
         Err(fault) => Err(of_run(rt.alloc(), fault, settings.block, paths, files.as_slice())),
     }

@@ -22,7 +22,7 @@ use crate::failure::{Failure, of_file, of_list};
 use crate::files::{bytes_of, check_output, write_bytes};
 use crate::running::run_lists;
 use crate::words::{Asked, read_words};
-use nvm_front::{Progress, Terminals, WordFault, failed, tell, texts_of, words_given};
+use nvm_front::{Progress, WordFault, failed, tell, texts_of, words_given};
 use nvm_record::{BlockSize, Payload};
 use std::io::IsTerminal;
 use std::process::ExitCode;
@@ -34,11 +34,7 @@ use std::thread::Threads;
 const NAME: &str = "nvq";
 
 fn main(rt: HostRuntime) -> ExitCode {
-    let terminals = Terminals {
-        output: rt.stdout().is_terminal(),
-        error: rt.stderr().is_terminal(),
-    };
-    let progress = Progress::new(&rt, NAME, terminals);
+    let progress = Progress::new(&rt, NAME, rt.stderr().is_terminal());
     ExitCode::from(status_of(&rt, &progress))
 }
 

@@ -36,7 +36,7 @@ pub fn run_lists<R: AllocGlobal + Files + Input + Print + Eprint + Threads + Wai
 {
     names_fit(words)?;
     check_record(rt, words)?;
-    let output = standard(rt, progress)?;
+    let output = standard(rt)?;
     let lists = read_lists(rt, words.lists.as_slice(), progress)?;
     let mut texts = texts_of(rt.alloc(), lists.as_slice())?;
     let files = files_of(rt.alloc(), words.size, lists.as_slice())?;
@@ -113,11 +113,8 @@ fn check_place<R: Files + AllocGlobal>(rt: &R, path: &str, lists: &[String]) -> 
 }
 
 /// Standard output, with its room.
-fn standard<'a, R: AllocGlobal + Files + Print + Eprint>(
-    rt: &'a R,
-    progress: &'a Progress<'a, R>,
-) -> Result<Output<'a, R>, AllocError> {
-    match Output::standard(rt, progress) {
+fn standard<R: AllocGlobal + Files + Print + Eprint>(rt: &R) -> Result<Output<'_, R>, AllocError> {
+    match Output::standard(rt) {
         Ok(output) => Ok(output),
         Err(_) => Err(AllocError),
     }
@@ -268,7 +265,8 @@ fn done<R: AllocGlobal + Eprint + Threads + Wait + Sync>(
     ensures fault { IfErr result (λ fault. (first : FaultOfRun) × IsFirstRunFault settings.now files.now first
         × (fault ≡ fault_of_run first)) }
 {
-    match execute_watched(rt, rt.alloc(), settings, files, progress, progress) {
+    let gate = progress.jobs();
+    match execute_watched(rt, rt.alloc(), settings, files, &gate, progress) {
         Ok(shown) => Ok(shown),
         Err(fault) => Err(told(fault)),
     }
