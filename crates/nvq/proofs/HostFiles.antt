@@ -1,5 +1,5 @@
 -- The host files of lists have no fault, so a run on them ends with no fault of a file.
-use Rattle.std.proofs.Common.{ℕ, zero, suc, ◌+◌, ◌<◌, List, [], ◌∷◌, ◌++◌, length, take, get_or, inl, inr, sym, subst, omega, arith}
+use Rattle.std.proofs.Common.{ℕ, zero, suc, ◌+◌, ◌<◌, List, [], ◌∷◌, ◌++◌, length, take, get_or, inl, inr, sym, subst, arith}
 use Rattle.nvm_record.specs.HostFile.{IsHostFile}
 use Rattle.nvm_record.specs.declared.command.Command.{Command}
 use Rattle.nvm_record.specs.declared.host_fault.HostFault.TheVariants as of_file
@@ -76,4 +76,4 @@ first_fault size place (path ∷ paths) [] files fault p q h k = absurd (omega a
 first_fault size zero (path ∷ paths) (text ∷ texts) files fault p q h k = inl k
 first_fault size (suc place) (path ∷ paths) (text ∷ texts) [] fault p q h k = absurd h
 first_fault size (suc place) (path ∷ paths) (text ∷ texts) (file ∷ files) fault p q (here, rest) k =
-    inr ((here.0, here.1.0), first_fault size place paths texts files fault (omega arith) (omega arith) rest k)
+    inr ((here.0, here.1), first_fault size place paths texts files fault (omega arith) (omega arith) rest k)

@@ -1,1 +1,2 @@
 pub mod HostFiles
+pub mod Reading

@@ -1,9 +1,7 @@
 -- Why a file wasn't read, or not written.
-use Rattle.std.specs.Prelude.{◌≡◌, ◌⊎◌, ℕ, String, List, codes, string_bytes}
-use Rattle.std.specs.Global.{Global}
+use Rattle.std.specs.Prelude.{◌≡◌, ◌⊎◌, ℕ, List, string_bytes}
 use Rattle.std.specs.List.{Contains}
-use Rattle.nvq.specs.Fault.{IsFaultOfList, IsFaultOfRecord}
-use Rattle.nvq.specs.Listed.{IsListFault}
+use Rattle.nvq.specs.Fault.{IsFaultOfList}
 use Rattle.nvq.specs.declared.fault.Fault.{Fault}
 use Rattle.nvq.specs.declared.fault.Fault.TheVariants.{CannotRead, CannotWrite, NoMemory}
 
@@ -25,20 +23,7 @@ IsWriteFault path (CannotWrite shown) = string_bytes shown ≡ path
 IsWriteFault path NoMemory = Unit {0}
 IsWriteFault path fault = ⊥
 
--- The file at this path couldn't be read, or else it is the first fault of its bytes as a record. Want of memory stands beside them.
-abbrev pub IsRecordFault : List ℕ → Fault → Type 0
-IsRecordFault path fault =
-    IsReadFault path fault
-    ⊎ ((shown : String Global) × (string_bytes shown ≡ path) × (file : List ℕ) × IsFaultOfRecord shown file fault)
-
 -- The list at this path couldn't be read, or else it is its first fault, or else its host file couldn't be written to `out`.
 abbrev pub IsAssemblingFault : ℕ → List ℕ → List ℕ → Fault → Type 0
 IsAssemblingFault size list out fault =
     IsReadFault list fault ⊎ (((text : List ℕ) × IsFaultOfList size text fault) ⊎ IsWriteFault out fault)
-
--- The file at this path couldn't be read, or else it is its first fault, or else standard output couldn't be written.
-abbrev pub IsListingFault : ℕ → List ℕ → Fault → Type 0
-IsListingFault size path fault =
-    IsReadFault path fault
-    ⊎ (((shown : String Global) × (string_bytes shown ≡ path) × (file : List ℕ) × IsListFault shown size file fault)
-    ⊎ IsWriteFault (codes "-") fault)

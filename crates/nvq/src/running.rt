@@ -8,7 +8,7 @@ ghost use Rattle.nvm_front.specs.Standard.{names_input};
 ghost use Rattle.nvq.specs.declared.fault.Fault.TheVariants.{NoMemory};
 ghost use Rattle.nvq.specs.Files.{IsReadingFault, IsWriteFault};
 ghost use Rattle.nvq.specs.Ran.{AreFilesOf, IsFileOf, IsToldFault, fault_of_run};
-ghost use Rattle.nvq.specs.RunFaults.{IsKeepingFault, IsLineFault, IsListsFault, IsNamesFault, IsRunFaultOn, IsSettingsOf, paths_of};
+ghost use Rattle.nvq.specs.RunFaults.{IsKeepingFault, IsLineFault, IsListsFault, IsNamesFault, IsSettingsOf};
 
 use crate::failure::{Failure, of_list, of_run};
 use crate::fault::Fault;
@@ -31,9 +31,7 @@ pub fn run_lists<R: AllocGlobal + Files + Input + Print + Eprint + Threads + Wai
     rt: &R,
     words: &RunWords,
     progress: &Progress<'_, R>,
-) -> Result<(), Failure>
-    ensures fault { IfErr result (λ failure. IsRunFaultOn words.now failure.fault) }
-{
+) -> Result<(), Failure> {
     names_fit(words)?;
     check_record(rt, words)?;
     let output = standard(rt)?;
@@ -54,7 +52,7 @@ pub fn run_lists<R: AllocGlobal + Files + Input + Print + Eprint + Threads + Wai
 
 /// Standard input is named at most once, and standard output isn't the record's.
 fn names_fit(words: &RunWords) -> Result<(), Failure>
-    ensures fault { IfErr result (λ failure. IsNamesFault (paths_of words.now) words.now.«record» failure.fault) }
+    ensures fault { IfErr result (λ failure. IsNamesFault words.now.lists.items words.now.«record» failure.fault) }
 {
     if inputs_of(words.lists.as_slice()) > 1 {
         return Err(plain(Fault::InputTwice));
@@ -67,7 +65,7 @@ fn names_fit(words: &RunWords) -> Result<(), Failure>
 
 /// How many of the paths name standard input.
 fn inputs_of(paths: &[String]) -> usize
-    ensures { result ≡ count_by names_input (map (λ path. string_bytes path) paths.now) }
+    ensures { result ≡ count_by (λ path. names_input (string_bytes path)) paths.now }
 {
     let mut count = 0;
     for path in paths {

@@ -1,0 +1,31 @@
+use Rattle.std.proofs.Common.{◌≡◌, ℕ, ◌+◌, ◌<◌, ◌++◌, ◌∷◌, [], List, length, map, take, string_bytes, sym, subst, ap, ◌∙◌}
+use Rattle.std.proofs.lemmas.List.{length-map, map-append}
+use Rattle.std.proofs.lemmas.Result.{err_from_is_err_and}
+use Rattle.nvq.specs.Files.{IsReadFault}
+use Rattle.nvq.proofs.Reading.{reading_at, bytes_at, paths_more}
+use Rattle.nvq.proofs.running.read_lists.Goals as goal
+
+pub returns-in_err-text-clause-fault : goal.returns-in_err-text-clause-fault
+returns-in_err-text-clause-fault g c =
+    let p = err_from_is_err_and c.from_residual-in_err-text.result c.from_residual-in_err-text.ensures.1 in
+    let paths = c.args.paths.now in
+    let all : List (List ℕ) = map (λ path. string_bytes path) paths in
+    let k = c.loop-path.path-index in
+    let it = c.path-item.result in
+    let fault = c.in_err-text.field-0.0.fault in
+    let low : k < length all = subst (λ (n : ℕ). k < n) (sym (length-map paths (λ path. string_bytes path))) c.loop-path-test.true in
+    let read : IsReadFault (string_bytes it) fault = subst (λ (bytes : List ℕ). IsReadFault bytes fault) c.as_str-path.ensures.value c.in_err-text.ensures in
+    rw (p.1, p.2) (reading_at all k (string_bytes it) fault low (bytes_at paths k it c.loop-path-test.true (sym c.path-item.is)) read)
+
+pub loop-path-preserved : goal.loop-path-preserved
+loop-path-preserved g c =
+    let paths = c.args.paths.now in
+    let all : List (List ℕ) = map (λ path. string_bytes path) paths in
+    let k = c.loop-path.path-index in
+    let it = c.path-item.result in
+    let now : List ℕ = c.as_str-path.result.now in
+    ap (map (λ list. list.path.now)) c.in_ok-push.ensures.items
+    ∙ map-append (λ list. list.path.now) c.loop-path.lists.items _
+    ∙ ap (λ (some : List (List ℕ)). some ++ now ∷ []) c.loop-path.invariant
+    ∙ ap (λ (bytes : List ℕ). take k all ++ bytes ∷ []) c.as_str-path.ensures.value
+    ∙ sym (paths_more paths k it c.loop-path-test.true (sym c.path-item.is))
