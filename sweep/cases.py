@@ -88,7 +88,8 @@ class Run:
     before: dict = field(default_factory=dict)  # what stands there before, and stays where it ends in a fault
     model: Recording = None  # of a run of host files
     units: int = 0  # of the record that it audits
-    hides_wants: bool = False  # it ends in a fault that comes after its commands, and shows nothing of them
+    # It ends in a fault that comes after its commands, and shows nothing of them; or help is looked for in vain, which memory can be refused.
+    hides_wants: bool = False
     input: str = None  # the path of its standard input
     row = 5  # this many growths, one after the other, are refused in a further run
 

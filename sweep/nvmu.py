@@ -274,7 +274,7 @@ def runs(folder):
         fault("a record to standard output", "cannot write -", [whole], hint=STANDARD_OUT, out="-"),
         fault("a record over a host file", f"cannot write {whole}", [nothing, whole], hint=IS_HOST_FILE, out=whole),
         fault("a truncated file", "host 1: truncated at 644", [cut]),
-        fault("too many commands", "host 1: too many commands", [many]),
+        fault("too many commands", "host 1: too many commands", [many], hides_wants=True),
         fault("a second host's truncated file", "host 2: truncated at 644", [whole, cut, empty]),
         fault("sixty-five hosts", "too many hosts", [nothing] * 65, hint=many_hosts(65), nsze=0),
         fault("a missing file", f"cannot read {missing}", [missing], hint=MISSING),

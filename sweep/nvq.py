@@ -95,8 +95,8 @@ def runs(folder):
         units = len(of_hosts.namespace.units())
         return done(name, ["draw", *words, "out.svg"], files={"out.svg": picture(words)}, units=units)
 
-    def fault(name, line, *given, hint=""):
-        return Run(name, "nvq", list(given), 1, err=told(f"nvq: {line}", hint))
+    def fault(name, line, *given, hint="", **more):
+        return Run(name, "nvq", list(given), 1, err=told(f"nvq: {line}", hint), **more)
 
     def refused(name, given, status=1):
         return Run(name, "nvq", given, status)
@@ -167,7 +167,7 @@ def runs(folder):
         fault("an empty file", f"{empty}: bad name", "list", empty, hint=no_host_file(empty, b"")),
         fault("blocks of another size", f"{small}: truncated at 68", *in_large("list"), small, hint=other_block(512)),
         fault("a truncated file", f"{cut}: truncated at 68", "list", cut),
-        fault("too many commands", f"{many}: too many commands", "list", many),
+        fault("too many commands", f"{many}: too many commands", "list", many, hides_wants=True),
         fault("a cut record", f"{cut_record}: truncated at {len(spelled_record) - 1}", "list", cut_record),
         fault("a byte more than a record", f"{more}: trailing at {len(spelled_record)}", "list", more),
         fault("no workers", f"{no_workers}: bad value at 28", "list", no_workers),
