@@ -1,7 +1,8 @@
 """Runs each command that README.md and docs/ show, with the programs as they were built, and holds what it prints to the text.
 
 A block of indented lines is one of commands where its first line begins with a word of COMMANDS; what the next block of indented
-lines shows is what they must print, unless that is one of commands too. `...` stands for lines of any number. Commands are run in
+lines shows is what they must print, unless that is one of commands too. A block that begins with a program's name and a colon is
+a fault, which they must print on standard error. `...` stands for lines of any number. Commands are run in
 a folder of their own, page by page, with `crates` and `examples` in it. Those of APART aren't run, each for the reason that
 stands there.
 """
@@ -12,6 +13,7 @@ import subprocess
 import tempfile
 
 TOP = os.path.dirname(os.path.dirname(os.path.realpath(__file__)))
+FAULTS = ("nvq: ", "nvmu: ")
 COMMANDS = ("./", "crates/", "examples/", "edits/", "bench/", "sweep/", "mkdir ", "printf ", "cp ", "(cd ", "rt ", "git ", "nvq ", "nvmu ")
 # What isn't run as it stands, and what is run in its place: a word of itself, or nothing.
 APART = {
@@ -49,11 +51,21 @@ def shown(text):
             yield block, told
 
 
+def key_of(line):
+    """By which word of APART the line isn't run as it stands."""
+    return next((it for it in APART if line.startswith(it)), None)
+
+
+def is_apart(block):
+    """Whether a line of the block isn't run as it stands."""
+    return any(key_of(line) for line in block.splitlines())
+
+
 def to_run(block):
     """The block as what is run of it: lines of APART are left out, or run as that says."""
     kept = []
     for line in block.replace("\\\n", "").splitlines():
-        key = next((it for it in APART if line.startswith(it)), None)
+        key = key_of(line)
         if key is None:
             kept.append(line)
         elif APART[key]:
@@ -77,9 +89,12 @@ def held(page, folder):
         if not words:
             continue
         ran = subprocess.run(["bash", "-eo", "pipefail", "-c", words], cwd=folder, stdin=subprocess.DEVNULL, capture_output=True, text=True)
-        is_told = told is None or page != "README.md" or matches(ran.stdout, told)
-        # a verdict of unlawful ends with 2, which the page shows by its line
-        is_ended = ran.returncode == 0 or ran.returncode == 2 and ran.stdout.startswith("unlawful ")
+        if told is not None and told.startswith(FAULTS):
+            is_told, is_ended = matches(ran.stderr, told), ran.returncode == 1
+        else:
+            is_told = told is None or is_apart(block) or matches(ran.stdout, told)
+            # a verdict of unlawful ends with 2, which the page shows by its line
+            is_ended = ran.returncode == 0 or ran.returncode == 2 and ran.stdout.startswith("unlawful ")
         if is_told and is_ended:
             passed += 1
         else:

@@ -2,8 +2,8 @@
 //! explains and draws records.
 #![tactic(auto)]
 
-ghost use Rattle.std.specs.Prelude.{IfErr};
-ghost use Rattle.nvq.specs.Files.{IsAssemblingFault};
+ghost use Rattle.std.specs.Prelude.{IfErr, string_bytes};
+ghost use Rattle.nvq.specs.Files.{IsAssemblingFault, IsListingFault};
 
 mod conversion;
 mod drawing;
@@ -63,7 +63,7 @@ fn asked<R: AllocGlobal + Env>(rt: &R) -> Result<Asked, WordFault> {
     read_words(rt.alloc(), texts.as_slice())
 }
 
-/// Does what is asked. After a fault nothing is written.
+/// Does what is asked. After a fault no file is written; of standard output there may be a front where it took no more.
 fn run<R: AllocGlobal + Files + Input + Print + Eprint + Threads + Wait + Sync>(
     rt: &R,
     asked: Asked,
@@ -106,7 +106,9 @@ fn run_list<R: AllocGlobal + Files + Input + Print + Eprint>(
     size: BlockSize,
     file: String,
     progress: &Progress<'_, R>,
-) -> Result<(), Failure> {
+) -> Result<(), Failure>
+    ensures { IfErr result (λ failure. IsListingFault size (string_bytes file) failure.fault) }
+{
     let bytes = Payload::new(rt.alloc(), bytes_of(rt, file.as_str(), progress)?)?;
     let path = String::from_str(rt.alloc(), file.as_str())?;
     match list_of(rt.alloc(), path, &bytes, size) {
