@@ -1,5 +1,5 @@
 -- Why a run of command lists showed nothing, and what the words' numbers are to the engine.
-use Rattle.std.specs.Prelude.{◌≡◌, ◌≤◌, ◌⊎◌, ℕ, String, Option, Some, None, List, [], ◌∷◌, Ok, Err, IfSome, codes, string_bytes}
+use Rattle.std.specs.Prelude.{◌≡◌, ◌≢◌, ◌≤◌, ◌⊎◌, ℕ, String, Option, Some, None, List, [], ◌∷◌, Ok, Err, IfSome, codes, string_bytes}
 use Rattle.std.specs.Global.{Global}
 use Rattle.std.specs.List.{count_by}
 use Rattle.nvm_record.specs.declared.command.Command.{Command}
@@ -11,6 +11,11 @@ use Rattle.nvq.specs.Files.{IsWriteFault}
 use Rattle.nvq.specs.declared.fault.Fault.{Fault}
 use Rattle.nvq.specs.declared.fault.Fault.TheVariants.{InputTwice, ListLine, RecordAmongLines}
 use Rattle.nvq.specs.declared.running_words.RunWords.{RunWords}
+
+-- At most one list is standard input, and the record isn't standard output.
+abbrev pub FitNames : List (String Global) → Option (String Global) → Type 0
+FitNames lists out =
+    (count_by (λ path. names_input (string_bytes path)) lists ≤ 1) × IfSome out (λ path. string_bytes path ≢ codes "-")
 
 -- Two or more lists are standard input, or the record would be standard output.
 abbrev pub IsNamesFault : List (String Global) → Option (String Global) → Fault → Type 0

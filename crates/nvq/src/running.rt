@@ -8,7 +8,7 @@ ghost use Rattle.nvm_front.specs.Standard.{names_input};
 ghost use Rattle.nvq.specs.declared.fault.Fault.TheVariants.{NoMemory};
 ghost use Rattle.nvq.specs.Files.{IsReadingFault, IsWriteFault};
 ghost use Rattle.nvq.specs.Ran.{AreFilesOf, IsFileOf, IsToldFault, fault_of_run};
-ghost use Rattle.nvq.specs.RunFaults.{IsKeepingFault, IsLineFault, IsListsFault, IsNamesFault, IsSettingsOf};
+ghost use Rattle.nvq.specs.RunFaults.{FitNames, IsKeepingFault, IsLineFault, IsListsFault, IsNamesFault, IsSettingsOf};
 
 use crate::failure::{Failure, of_list, of_run};
 use crate::fault::Fault;
@@ -52,6 +52,7 @@ pub fn run_lists<R: AllocGlobal + Files + Input + Print + Eprint + Threads + Wai
 
 /// Standard input is named at most once, and standard output isn't the record's.
 fn names_fit(words: &RunWords) -> Result<(), Failure>
+    ensures fit { IfOk result (λ _. FitNames words.now.lists.items words.now.«record») }
     ensures fault { IfErr result (λ failure. IsNamesFault words.now.lists.items words.now.«record» failure.fault) }
 {
     if inputs_of(words.lists.as_slice()) > 1 {
