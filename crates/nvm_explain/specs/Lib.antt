@@ -14,3 +14,8 @@ pub mod PartStory
 pub mod EntryStory
 pub mod BackStory
 pub mod Story
+pub mod Once
+pub mod Ended
+pub mod Distinct
+pub mod Most
+pub mod Summary

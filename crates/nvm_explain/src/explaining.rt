@@ -5,9 +5,8 @@ ghost use Rattle.nvm_audit.specs.Verdict.{IsVerdict};
 ghost use Rattle.nvm_audit.specs.declared.audit_fault.AuditFault.{AuditFault as Fault};
 ghost use Rattle.nvm_audit.specs.declared.audit_fault.AuditFault.TheVariants.{NoMemory as NoMemoryFault};
 ghost use Rattle.nvm_audit.specs.declared.verdict.Verdict.{Verdict as Numbers};
-ghost use Rattle.nvm_engine.specs.VerdictLine.{lawful_line};
 ghost use Rattle.nvm_explain.specs.Story.{fault_text, rest_story, story};
-ghost use Rattle.nvm_text.specs.Kept.{KeepsText};
+ghost use Rattle.nvm_explain.specs.Summary.{lawful_text};
 
 use crate::around::push_around;
 use crate::back_story::push_back_story;
@@ -33,9 +32,9 @@ pub fn explain<W: Watcher + Sync>(
     run: &Record,
     watcher: &W,
 ) -> Result<String, NoMemory>
-    // The text begins as the record's verdict, or is that of its first fault.
+    // The text is that of the record with its verdict, or that of its first fault.
     ensures lawful { IsLawfulRecord run.now → IfOk result (λ text. (verdict : Numbers)
-        × IsVerdict run.now verdict × KeepsText (lawful_line verdict) (string_bytes text)) }
+        × IsVerdict run.now verdict × (string_bytes text ≡ lawful_text run.now verdict)) }
     ensures named { (fault : Fault) → IsFirstFault run.now fault
         → IfOk result (λ text. string_bytes text ≡ fault_text run.now fault) }
 {
@@ -47,7 +46,7 @@ pub fn explain<W: Watcher + Sync>(
 
 /// What is told of a lawful record.
 fn lawful_explanation(alloc: Global, run: &Record, verdict: Verdict) -> Result<String, NoMemory>
-    ensures { IfOk result (λ text. KeepsText (lawful_line verdict) (string_bytes text)) }
+    ensures { IfOk result (λ text. string_bytes text ≡ lawful_text run.now verdict) }
 {
     let mut text = String::new(alloc);
     push_lawful(&mut text, verdict)?;

@@ -1,0 +1,11 @@
+use Rattle.nvm_explain.proofs.Few.{few_jobs, few_workers, known_workers}
+use Rattle.nvm_explain.proofs.summary.push_summary.Goals as goal
+
+pub push_ended-requires-clause-workers : goal.push_ended-requires-clause-workers
+push_ended-requires-clause-workers c = rw c.deref.ensures.value (few_workers c.run.inside c.run.invariant)
+
+pub push_ended-requires-clause-jobs : goal.push_ended-requires-clause-jobs
+push_ended-requires-clause-jobs c = rw c.deref.ensures.value (few_jobs c.run.inside c.run.invariant)
+
+pub push_units-requires : goal.push_units-requires
+push_units-requires c = rw c.deref-3.ensures.value (known_workers c.run.inside c.run.invariant)

@@ -1,0 +1,105 @@
+//! With which statuses jobs ended, and how many jobs with each.
+ghost use Rattle.std.specs.Prelude.{◌≡◌, ◌≤◌, ◌++◌, All, IfOk, OnOk, count_by, length, map, string_bytes};
+ghost use Rattle.nvm_audit.specs.Recordable.{most_jobs, most_workers};
+ghost use Rattle.nvm_explain.specs.Ended as spec;
+
+use nvm_audit::DoneJob;
+use nvm_record::{NoMemory, Statuses};
+use nvm_report::{push_numbered, push_statuses};
+use std::alloc::Global;
+
+/// Appends how many jobs ended with which statuses, in the order in which they first occur.
+pub(crate) fn push_ended(
+    text: &mut String,
+    alloc: Global,
+    done: &[Vec<DoneJob>],
+) -> Result<(), NoMemory>
+    requires workers { length done.now ≤ most_workers }
+    requires jobs { All (λ work. length work.items ≤ most_jobs) done.now }
+    ensures { OnOk result (string_bytes text.new
+        ≡ string_bytes text.old ++ spec.ended_lines (map (λ work. work.items) done.now)) }
+{
+    let met = different_statuses(alloc, done)?;
+    push_each_ended(text, done, &met)
+}
+
+/// Appends a line for each of these statuses.
+fn push_each_ended(
+    text: &mut String,
+    done: &[Vec<DoneJob>],
+    met: &[Statuses],
+) -> Result<(), NoMemory>
+    requires workers { length done.now ≤ most_workers }
+    requires jobs { All (λ work. length work.items ≤ most_jobs) done.now }
+    ensures { OnOk result (string_bytes text.new
+        ≡ string_bytes text.old ++ spec.ended_with (map (λ work. work.items) done.now) met.now) }
+{
+    for statuses in met {
+        push_ended_line(text, *statuses, jobs_with(done, *statuses))?;
+    }
+    Ok(())
+}
+
+/// Appends that so many jobs ended with these statuses.
+#[tactic(auto, unfolding(crate::specs::Ended::ended_line))]
+fn push_ended_line(text: &mut String, statuses: Statuses, jobs: u64) -> Result<(), NoMemory>
+    ensures { OnOk result (string_bytes text.new ≡ string_bytes text.old ++ spec.ended_line statuses jobs) }
+{
+    text.push_str("status ")?;
+    push_statuses(text, statuses)?;
+    push_numbered(text, " jobs ", jobs)?;
+    text.push_str("\n")?;
+    Ok(())
+}
+
+/// The statuses with which jobs ended, in the order in which they first occur.
+#[tactic(auto, using(crate::proofs::Telling::none_met))]
+fn different_statuses(alloc: Global, done: &[Vec<DoneJob>]) -> Result<Vec<Statuses>, NoMemory>
+    ensures { IfOk result (λ met. met.items ≡ spec.different_statuses (map (λ work. work.items) done.now)) }
+{
+    let mut met = Vec::new(alloc);
+    for work in done {
+        for it in work {
+            meet(&mut met, it.statuses)?;
+        }
+    }
+    Ok(met)
+}
+
+/// Takes the statuses up, if they weren't met before.
+fn meet(met: &mut Vec<Statuses>, statuses: Statuses) -> Result<(), NoMemory>
+    ensures { OnOk result (met.new.items ≡ spec.met_with met.old.items statuses) }
+{
+    if is_met(met, statuses) {
+        return Ok(());
+    }
+    met.push(statuses)?;
+    Ok(())
+}
+
+/// Whether these statuses are among those that were met.
+fn is_met(met: &[Statuses], statuses: Statuses) -> bool
+    ensures { result ≡ spec.is_met met.now statuses }
+{
+    met.iter().any(|other| statuses == *other)
+}
+
+/// How many jobs ended with these statuses.
+fn jobs_with(done: &[Vec<DoneJob>], statuses: Statuses) -> u64
+    requires workers { length done.now ≤ most_workers }
+    requires jobs { All (λ work. length work.items ≤ most_jobs) done.now }
+    ensures { result ≡ spec.jobs_with statuses (map (λ work. work.items) done.now) }
+{
+    let mut jobs = 0;
+    for work in done {
+        jobs += jobs_in(work, statuses) as u64;
+    }
+    jobs
+}
+
+/// How many of one worker's jobs ended with these statuses.
+fn jobs_in(work: &[DoneJob], statuses: Statuses) -> usize
+    ensures { result ≡ count_by (λ d. spec.same_statuses d.statuses statuses) work.now }
+{
+    work.iter().filter(|it| it.statuses == statuses).count()
+}
