@@ -1,7 +1,6 @@
 -- The entries of a record's unit lie in it.
 use Rattle.std.proofs.Common.{◌≡◌, ℕ, ◌<◌, List, length, map, get_or, take, Some, None, sym, ap, subst, refl, arith, [], ◌∷◌, zero, suc, ◌≤◌, ◌∙◌}
 use Rattle.std.specs.Prelude.{slice_get}
-use Rattle.std.specs.List.{All}
 use Rattle.std.proofs.lemmas.List.Elements.{All-take}
 use mathlib.Core.Option.{some}
 use Rattle.nvm_record.specs.Lists.{IsAt}

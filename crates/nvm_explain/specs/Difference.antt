@@ -1,5 +1,5 @@
 -- Where data that was recorded first differs from what the step gives.
-use Rattle.std.specs.Prelude.{ℕ, ◌+◌, ◌/◌, ◌%◌, ◌==◌, if◌then◌else◌, List, [], ◌∷◌, ◌++◌, Option, Some, None, codes}
+use Rattle.std.specs.Prelude.{ℕ, ◌+◌, ◌/◌, ◌%◌, ◌==◌, if◌then◌else◌, List, [], ◌∷◌, ◌++◌, codes}
 use Rattle.nvm_text.specs.Lines.{hex2}
 use Rattle.nvm_report.specs.Numbered.{numbered}
 
