@@ -1,9 +1,7 @@
 -- Why a file wasn't read, or not written.
-use Rattle.std.specs.Prelude.{◌≡◌, ◌⊎◌, ℕ, String, List, codes, string_bytes}
-use Rattle.std.specs.Global.{Global}
+use Rattle.std.specs.Prelude.{◌≡◌, ◌⊎◌, ℕ, List, string_bytes}
 use Rattle.std.specs.List.{Contains}
-use Rattle.nvq.specs.Fault.{IsFaultOfList, IsFaultOfRecord}
-use Rattle.nvq.specs.Listed.{IsListFault}
+use Rattle.nvq.specs.Fault.{IsFaultOfList}
 use Rattle.nvq.specs.declared.fault.Fault.{Fault}
 use Rattle.nvq.specs.declared.fault.Fault.TheVariants.{CannotRead, CannotWrite, NoMemory}
 
@@ -29,20 +27,3 @@ IsWriteFault path fault = ⊥
 abbrev pub IsAssemblingFault : ℕ → List ℕ → List ℕ → Fault → Type 0
 IsAssemblingFault size list out fault =
     IsReadFault list fault ⊎ (((text : List ℕ) × IsFaultOfList size text fault) ⊎ IsWriteFault out fault)
-
--- The record at this path couldn't be read, or else it is the first fault of its file, or memory was refused.
-abbrev pub IsRecordFault : List ℕ → Fault → Type 0
-IsRecordFault path fault =
-    IsReadFault path fault
-    ⊎ ((shown : String Global) × (file : List ℕ) × (string_bytes shown ≡ path) × IsFaultOfRecord shown file fault)
-
--- The file at this path couldn't be read, or else it is its fault, or else its list couldn't be written to standard output.
-abbrev pub IsListingFault : ℕ → List ℕ → Fault → Type 0
-IsListingFault size path fault =
-    IsReadFault path fault
-    ⊎ (((shown : String Global) × (file : List ℕ) × (string_bytes shown ≡ path) × IsListFault shown size file fault)
-    ⊎ IsWriteFault (codes "-") fault)
-
--- The record at this path has no explanation or no picture, or else that couldn't be written to `out`.
-abbrev pub IsTellingFault : List ℕ → List ℕ → Fault → Type 0
-IsTellingFault path out fault = IsRecordFault path fault ⊎ IsWriteFault out fault

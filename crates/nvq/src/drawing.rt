@@ -1,7 +1,4 @@
 //! `nvq draw`: a record, as it was audited, as a picture.
-ghost use Rattle.std.specs.Prelude.{IfErr};
-ghost use Rattle.nvq.specs.Files.{IsTellingFault};
-
 use crate::failure::Failure;
 use crate::files::{check_output, read_as_record, write_bytes};
 use nvm_draw::{Window, draw_record};
@@ -16,9 +13,7 @@ pub fn run_draw<R: AllocGlobal + Files + Input + Print + Eprint + Threads + Sync
     file: &str,
     out: &str,
     progress: &Progress<'_, R>,
-) -> Result<(), Failure>
-    ensures { IfErr result (λ failure. IsTellingFault file.now out.now failure.fault) }
-{
+) -> Result<(), Failure> {
     check_output(rt, out, file, "it is the record")?;
     let held = read_as_record(rt, file, progress)?;
     let picture = draw_record(rt, rt.alloc(), &held, window, progress)?;

@@ -1,7 +1,4 @@
 //! `nvq explain`: what is wrong with a record, or what there is in a lawful one.
-ghost use Rattle.std.specs.Prelude.{IfErr, codes};
-ghost use Rattle.nvq.specs.Files.{IsTellingFault};
-
 use crate::failure::Failure;
 use crate::files::{read_as_record, write_bytes};
 use nvm_explain::explain;
@@ -14,9 +11,7 @@ pub fn run_explain<R: AllocGlobal + Files + Input + Print + Eprint + Threads + S
     rt: &R,
     file: &str,
     progress: &Progress<'_, R>,
-) -> Result<(), Failure>
-    ensures { IfErr result (λ failure. IsTellingFault file.now (codes "-") failure.fault) }
-{
+) -> Result<(), Failure> {
     let run = read_as_record(rt, file, progress)?;
     let text = explain(rt, rt.alloc(), &run, progress)?;
     write_bytes(rt, "-", text.as_bytes(), progress)

@@ -1,6 +1,6 @@
 ghost use Rattle.std.specs.Prelude.{◌≡◌, ℕ, List, Ok, IfOk, IfErr};
 ghost use Rattle.nvm_file.specs.Reading.{record_at};
-ghost use Rattle.nvq.specs.Files.{IsReadFault, IsRecordFault, IsWriteFault};
+ghost use Rattle.nvq.specs.Files.{IsReadFault, IsWriteFault};
 
 use crate::conversion::record_of;
 use crate::failure::{Failure, of_record};
@@ -32,8 +32,7 @@ pub fn read_as_record<R: Files + AllocGlobal + Input + Eprint>(
     path: &str,
     progress: &Progress<'_, R>,
 ) -> Result<Record, Failure>
-    ensures record { IfOk result (λ run. (file : List ℕ) × (record_at file ≡ Ok run)) }
-    ensures fault { IfErr result (λ failure. IsRecordFault path.now failure.fault) }
+    ensures { IfOk result (λ run. (file : List ℕ) × (record_at file ≡ Ok run)) }
 {
     let bytes = Payload::new(rt.alloc(), bytes_of(rt, path, progress)?)?;
     let named = String::from_str(rt.alloc(), path)?;

@@ -2,8 +2,8 @@
 //! explains and draws records.
 #![tactic(auto)]
 
-ghost use Rattle.std.specs.Prelude.{IfErr, string_bytes};
-ghost use Rattle.nvq.specs.Files.{IsAssemblingFault, IsListingFault};
+ghost use Rattle.std.specs.Prelude.{IfErr};
+ghost use Rattle.nvq.specs.Files.{IsAssemblingFault};
 
 mod conversion;
 mod drawing;
@@ -106,9 +106,7 @@ fn run_list<R: AllocGlobal + Files + Input + Print + Eprint>(
     size: BlockSize,
     file: String,
     progress: &Progress<'_, R>,
-) -> Result<(), Failure>
-    ensures { IfErr result (λ failure. IsListingFault size (string_bytes file) failure.fault) }
-{
+) -> Result<(), Failure> {
     let bytes = Payload::new(rt.alloc(), bytes_of(rt, file.as_str(), progress)?)?;
     let path = String::from_str(rt.alloc(), file.as_str())?;
     match list_of(rt.alloc(), path, &bytes, size) {
