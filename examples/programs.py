@@ -154,7 +154,7 @@ dataset 7+2
 compare 0 2 63*01,64*02,65*03,128*07,129*08,1*09,574*0a
 """
 
-BENCH = "unit_bench: expected unit or mutex, 1 to 1024 units, 1 to 63 threads, 1 to 4194304 changes, 1 to 65536 blocks, "
+BENCH = "unit_bench: expected unit, versions or mutex, 1 to 1024 units, 1 to 63 threads, 1 to 4194304 changes, 1 to 65536 blocks, "
 BENCH += "or run, 0 or 15 to 65535 for the boundary, 1 to 64 workers, a host file\n"
 NO_BENCH = ["", "unit 1 1 1", "unit 1 1 1 1 1", "lock 1 1 1 1", "unit 0 1 1 1", "unit 1025 1 1 1", "unit 1 64 1 1"]
 NO_BENCH += ["run 0 0 file", "run 0 65 file", "run 65536 1 file", "run 1 1 file", "run 0 1", "run 0 1 file 1"]

@@ -97,12 +97,12 @@ class Run:
         return self.thread_growths() > 1
 
     def thread_growths(self):
-        """At most how many growths are those of threads: one of a worker that is alone, two of each of several, and three of each
+        """At most how many growths are those of threads: one of a worker that is alone, three of each of several, and three of each
         thread that audits, of which there are two for each processor. Where a thread can't be made, the program does its work by itself. Which growths are
-        those of the audit's threads changes from run to run, so this counts more than there can be in one."""
+        those of threads changes from run to run, since workers that were started grow while others are, so this counts more than there can be in one."""
         units = self.model.units() if self.model else self.units
         workers = self.model.workers if self.model else 0
-        workers = 2 * workers if workers > 1 else workers
+        workers = 3 * workers if workers > 1 else workers
         return workers + 3 * max(0, min(units, 2 * os.cpu_count()) - 1)
 
     def whole(self, end):

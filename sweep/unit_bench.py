@@ -36,7 +36,7 @@ def runs(folder):
         words = [target, *map(str, (units, threads, changes, blocks))]
         return Measuring(" ".join(words), "unit_bench", words, out=f"changes {changes}\n", threads=threads)
 
-    line = "unit_bench: expected unit or mutex, 1 to 1024 units, 1 to 63 threads, 1 to 4194304 changes, 1 to 65536 blocks, "
+    line = "unit_bench: expected unit, versions or mutex, 1 to 1024 units, 1 to 63 threads, 1 to 4194304 changes, 1 to 65536 blocks, "
     line += "or run, 0 or 15 to 65535 for the boundary, 1 to 64 workers, a host file\n"
     return [
         *(measuring(target, 2, threads, 7, 3) for target in ("unit", "mutex") for threads in (1, 3)),

@@ -1,3 +1,4 @@
 pub mod JobAlone
+pub mod PolledRead
 pub mod Ruling
 pub mod Unrun

@@ -1,13 +1,15 @@
-ghost use Rattle.std.specs.Prelude.{◌≡◌, IfErr, IfOk, map};
+ghost use Rattle.std.specs.Prelude.{◌≡◌, ◌<◌, IfErr, IfOk, map, true};
 ghost use Rattle.nvm_calling.specs.JobAlone.{IsJobAlone};
+ghost use Rattle.nvm_calling.specs.PolledRead.{IsPolledRead};
 ghost use Rattle.nvm_plan.specs.Fits.{FitsNamespace};
+ghost use Rattle.nvm_space.specs.Ports.{IsPortOf};
 ghost use Rattle.nvm_space.specs.Shuffle.{AreLawfulHistories};
 ghost use Rattle.nvm_space.specs.declared.space_fault.SpaceFault.TheVariants.{NoMemory};
 
 use nvm_geometry::Geometry;
 use nvm_plan::Job;
 use nvm_space::laws::{ports_are_changed_in_place, units_end_with_lawful_histories};
-use nvm_space::{JobDone, Space, SpaceFault};
+use nvm_space::{JobDone, Port, ReadAnswer, ReadNow, Space, SpaceFault};
 use nvm_store::{History, Limit};
 use nvm_unit::Open;
 use std::alloc::Global;
@@ -43,4 +45,44 @@ pub fn job_alone<R: Wait>(
     let done = space.run_job(rt, alloc, &mut ports[0], 0, job, &Open);
     let histories = space.close(alloc, ports)?;
     Ok(JobAlone { done, histories })
+}
+
+/// What a poller does next about a Read.
+#[derive(Debug, PartialEq, Eq, Drop)]
+pub enum PolledRead {
+    /// Nothing: this is the answer.
+    Answered(ReadAnswer),
+    /// Other work. The port hasn't seen all changes of this unit; once it is refreshed there, the Read is polled again.
+    Later { unit: u16 },
+    /// It has `run_job` do the Read, since no single unit has all of its blocks.
+    Job,
+    /// It polls the Read again once there is memory.
+    NoMemory,
+}
+
+/// One turn of a poller: answers a Read if no wait is needed. It waits for nothing.
+pub fn poll_read(
+    alloc: Global,
+    space: &Space,
+    port: &mut Port,
+    slba: u64,
+    blocks: u32,
+) -> PolledRead
+    requires of { IsPortOf space.now port.old }
+    requires some { 0 < blocks }
+    requires versions { space.now.versions ≡ true }
+    ensures of { IsPortOf space.now port.new }
+    ensures number { port.new.number ≡ port.old.number }
+    ensures polled { IsPolledRead space.now.namespace slba blocks result port.old port.new }
+{
+    match space.read_now(alloc, port, slba, blocks) {
+        Ok(read) => PolledRead::Answered(read),
+        Err(ReadNow::Newer { count: _ }) => {
+            let unit = space.geometry().unit_of(slba);
+            PolledRead::Later { unit }
+        }
+        Err(ReadNow::OutOfRange) => PolledRead::Job,
+        Err(ReadNow::Crosses) => PolledRead::Job,
+        Err(ReadNow::NoMemory { point: _ }) => PolledRead::NoMemory,
+    }
 }

@@ -102,7 +102,7 @@ fn done_by_workers<R: Threads + Wait + Sync, G: Gate + Sync>(
     let _entries = limit.entries();
     gate.before_jobs(jobs.len() as u32);
     let (counter, claims) = Counter::new(alloc, jobs.len() as u32, workers)?;
-    let Ok((space, ports)) = Space::new(alloc, geometry, workers, limit) else {
+    let Ok((space, ports)) = Space::open(alloc, geometry, workers, limit, false) else {
         return Err(RunFault::NoMemory);
     };
     let (claims, ports, done) = all_work(rt, alloc, &counter, &space, jobs, claims, ports, gate)?;

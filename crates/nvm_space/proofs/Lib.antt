@@ -9,3 +9,4 @@ pub mod DeedLemmas
 pub mod PartReplies
 pub mod Progress
 pub mod PortsKept
+pub mod ReadingNow

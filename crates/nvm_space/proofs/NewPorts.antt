@@ -1,5 +1,5 @@
 -- New units, and the ports that have their passes.
-use Rattle.std.proofs.Common.{◌≡◌, ℕ, zero, suc, ◌+◌, ◌<◌, List, [], ◌∷◌, ◌++◌, length, length-append, map, refl, sym, ap, ◌∙◌, subst, arith, inl, inr}
+use Rattle.std.proofs.Common.{Bool, ◌≡◌, ℕ, zero, suc, ◌+◌, ◌<◌, List, [], ◌∷◌, ◌++◌, length, length-append, map, refl, sym, ap, ◌∙◌, subst, arith, inl, inr}
 use Rattle.std.specs.List.{range_with_len}
 use Rattle.std.proofs.lemmas.List.{length-map}
 use Rattle.std.proofs.lemmas.List.FromFn.{length-range_with_len}
@@ -47,37 +47,37 @@ dealt_from units low (port ∷ ports) each =
     ap (λ (p : PortState). p ∷ ports) here ∙ ap (λ (ps : List PortState). new_port units low ∷ ps) rest
 
 -- In the end the ports are those of the new space.
-pub all_dealt : (ns : Namespace) (n limit : ℕ) (units : List UnitName) (ports : List PortState) → AreDealt n units ports → ports ≡ new_ports (space_of ns n limit units)
-all_dealt ns n limit units ports dealt =
+pub all_dealt : (ns : Namespace) (n limit : ℕ) (versions : Bool) (units : List UnitName) (ports : List PortState) → AreDealt n units ports → ports ≡ new_ports (space_of ns n limit versions units)
+all_dealt ns n limit versions units ports dealt =
     dealt_from units 0 ports (λ w port at. dealt.each w port at ∙ ap (new_port units) (let e : w ≡ 0 + w = omega arith in e))
     ∙ ap (λ (k : ℕ). map (new_port units) (range_with_len 0 k)) dealt.count
 
 -- The units so far are at their places.
-pub record AreLaid (ns : Namespace) (ports limit : ℕ) (n : ℕ) (units : List UnitName) : Type 0 where
+pub record AreLaid (ns : Namespace) (ports limit : ℕ) (versions : Bool) (n : ℕ) (units : List UnitName) : Type 0 where
   pub count : length units ≡ n
-  pub each : (k : ℕ) (unit : UnitName) → IsAt units k unit → IsUnitOf (space_of ns ports limit []) k unit
+  pub each : (k : ℕ) (unit : UnitName) → IsAt units k unit → IsUnitOf (space_of ns ports limit versions []) k unit
 
-pub laid_none : (ns : Namespace) (ports limit : ℕ) → AreLaid ns ports limit 0 []
-laid_none ns ports limit = record { count = refl; each = λ k unit at. absurd (some-ne-none unit (sym at)) }
+pub laid_none : (ns : Namespace) (ports limit : ℕ) (versions : Bool) → AreLaid ns ports limit versions 0 []
+laid_none ns ports limit versions = record { count = refl; each = λ k unit at. absurd (some-ne-none unit (sym at)) }
 
-pub laid_one_more : (ns : Namespace) (ports limit n : ℕ) (units : List UnitName) (unit : UnitName) → AreLaid ns ports limit n units
-    → IsUnitOf (space_of ns ports limit []) n unit → AreLaid ns ports limit (n + 1) (units ++ unit ∷ [])
-laid_one_more ns ports limit n units unit laid is = record {
+pub laid_one_more : (ns : Namespace) (ports limit : ℕ) (versions : Bool) (n : ℕ) (units : List UnitName) (unit : UnitName) → AreLaid ns ports limit versions n units
+    → IsUnitOf (space_of ns ports limit versions []) n unit → AreLaid ns ports limit versions (n + 1) (units ++ unit ∷ [])
+laid_one_more ns ports limit versions n units unit laid is = record {
   count = length-append units (unit ∷ []) ∙ ap (λ (k : ℕ). k + 1) laid.count;
   each = λ k other at.
       elim (at_more units unit k other at) [
         | inl before ↦ laid.each k other before
-        | inr last ↦ subst (λ (u : UnitName). IsUnitOf (space_of ns ports limit []) k u) (sym last.1)
-            (subst (λ (i : ℕ). IsUnitOf (space_of ns ports limit []) i unit) (sym (last.0 ∙ laid.count)) is)
+        | inr last ↦ subst (λ (u : UnitName). IsUnitOf (space_of ns ports limit versions []) k u) (sym last.1)
+            (subst (λ (i : ℕ). IsUnitOf (space_of ns ports limit versions []) i unit) (sym (last.0 ∙ laid.count)) is)
       ];
 }
 
-pub all_laid : (ns : Namespace) (ports limit n : ℕ) (units : List UnitName) → AreLaid ns ports limit n units → n ≡ units_of ns → IsLaidOut (space_of ns ports limit units)
-all_laid ns ports limit n units laid all = record {
+pub all_laid : (ns : Namespace) (ports limit : ℕ) (versions : Bool) (n : ℕ) (units : List UnitName) → AreLaid ns ports limit versions n units → n ≡ units_of ns → IsLaidOut (space_of ns ports limit versions units)
+all_laid ns ports limit versions n units laid all = record {
   count = laid.count ∙ all;
   each = λ k unit at.
       let is = laid.each k unit at in
-      record { number = is.number; place = is.place; passes = is.passes; limit = is.limit };
+      record { number = is.number; place = is.place; passes = is.passes; limit = is.limit; versions = is.versions };
 }
 
 -- The ports of a new space are all its ports.
@@ -99,7 +99,7 @@ new_ports_are_all s = record {
               let back = at_map_back (new_pass w) s.units k pass (subst (λ (p : PortState). IsAt p.passes k pass) same in_passes) in
               let here : back.0 ≡ unit = at_one s.units k back.0 unit back.1 in_units in
               let its : pass ≡ new_pass w unit = back.2 ∙ ap (new_pass w) here in (
-                record { table = ap (λ (p : PassState). p.table) its; bounds = ap (λ (p : PassState). p.view.bounds) its },
+                record { table = ap (λ (p : PassState). p.table) its; bounds = ap (λ (p : PassState). p.view.bounds) its; kept = λ keeps. sym (ap (λ (p : PassState). p.keeps) its) ∙ keeps },
                 ap (λ (p : PassState). p.view.number) its ∙ sym (ap (λ (p : PortState). p.number) same),
               );
         },

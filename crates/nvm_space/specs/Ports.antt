@@ -29,7 +29,7 @@ pub record AreAllPortsOf (s : SpaceName) (ports : List PortState) : Type 0 where
 
 -- the new unit's pass of this number, which has seen and done nothing
 abbrev pub new_pass : ℕ → UnitName → PassState
-new_pass number unit = pass_at unit.table (newcomer unit.bounds number)
+new_pass number unit = pass_at unit.table unit.versions (newcomer unit.bounds number)
 
 -- the port of this number of new units
 abbrev pub new_port : List UnitName → ℕ → PortState

@@ -1,5 +1,5 @@
 -- What contracts see of a space: a namespace as the units that its boundaries make (own).
-use Rattle.std.specs.Prelude.{◌≡◌, ℕ, ◌<◌, ◌≤◌, List, length}
+use Rattle.std.specs.Prelude.{◌≡◌, ℕ, ◌<◌, ◌≤◌, Bool, List, length}
 use Rattle.nvm_record.specs.Lists.{IsAt}
 use Rattle.nvm_geometry.specs.Boundaries.{units_of}
 use Rattle.nvm_geometry.specs.Namespace.{Namespace}
@@ -8,19 +8,22 @@ use Rattle.nvm_unit.specs.Passes.{UnitName}
 use Rattle.nvm_space.specs.declared.space_fault.SpaceFault.{SpaceFault}
 use Rattle.nvm_space.specs.declared.space_fault.SpaceFault.TheVariants.{Ports, NoMemory}
 
--- the namespace, how many ports there are, the limit of each unit's history, and which units they are
+-- the namespace, how many ports there are, the limit of each unit's history, whether passes keep versions, and which
+-- units they are
 pub record SpaceName : Type 0 where
   pub namespace : Namespace
   pub ports : ℕ
   pub limit : ℕ
+  pub versions : Bool
   pub units : List UnitName
 
--- The unit has this number and its place in the namespace, a pass for each port, and the limit.
+-- The unit has this number and its place in the namespace, a pass for each port, the limit, and versions or not.
 pub record IsUnitOf (s : SpaceName) (k : ℕ) (unit : UnitName) : Type 0 where
   pub number : unit.number ≡ k
   pub place : IsUnitPlace s.namespace k unit.bounds.place
   pub passes : unit.bounds.passes ≡ s.ports
   pub limit : unit.bounds.limit ≡ s.limit
+  pub versions : unit.versions ≡ s.versions
 
 -- The units are all those of the namespace, each at the place of its number.
 pub record IsLaidOut (s : SpaceName) : Type 0 where

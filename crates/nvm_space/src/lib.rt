@@ -10,6 +10,7 @@ pub mod laws;
 mod meeting;
 mod opening;
 mod port;
+mod read_now;
 mod replies;
 mod running;
 mod space;
@@ -19,5 +20,6 @@ mod tests;
 
 pub use job_done::JobDone;
 pub use port::Port;
+pub use read_now::{ReadAnswer, ReadNow};
 pub use space::{MOST_PORTS, Space};
 pub use space_fault::SpaceFault;

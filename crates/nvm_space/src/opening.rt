@@ -21,11 +21,12 @@ pub(crate) fn opened(
     geometry: Geometry,
     ports: u16,
     limit: Limit,
+    versions: bool,
 ) -> Result<(Vec<Unit>, Vec<Port>), SpaceFault>
     requires { IsPortCount ports }
     ensures refused { IfErr result (IsSpaceFault ports) }
-    ensures units { IfOk result (λ u. IsLaidOut (space_of geometry ports limit u.0.items)) }
-    ensures ports { IfOk result (λ u. u.1.items ≡ new_ports (space_of geometry ports limit u.0.items)) }
+    ensures units { IfOk result (λ u. IsLaidOut (space_of geometry ports limit versions u.0.items)) }
+    ensures ports { IfOk result (λ u. u.1.items ≡ new_ports (space_of geometry ports limit versions u.0.items)) }
 {
     new_passes_are_all();
     // For the proof alone: how many LBAs there can be.
@@ -35,7 +36,7 @@ pub(crate) fn opened(
     let mut units = Vec::with_capacity(alloc, usize::from(count))?;
     for number in 0..count {
         let place = unit_place(&geometry, number);
-        let Ok((unit, passes)) = Unit::new(alloc, number, place, ports, limit) else {
+        let Ok((unit, passes)) = Unit::open(alloc, number, place, ports, limit, versions) else {
             return Err(SpaceFault::NoMemory);
         };
         hand_out(&mut dealt, passes)?;

@@ -1,4 +1,4 @@
-ghost use Rattle.std.specs.Prelude.{◌≡◌, ◌<◌, ℕ, List, IfOk, IfErr, length};
+ghost use Rattle.std.specs.Prelude.{◌≡◌, ◌<◌, ℕ, List, IfOk, IfErr, length, true};
 ghost use Rattle.nvm_record.specs.Lists.{IsAt};
 ghost use Rattle.nvm_store.specs.HistoryEntry.{HistoryEntry};
 ghost use Rattle.nvm_geometry.specs.Boundaries.{units_of};
@@ -7,6 +7,7 @@ ghost use Rattle.nvm_unit.specs.Ends.{views_of};
 ghost use Rattle.nvm_unit.specs.Passes.{UnitName};
 ghost use Rattle.nvm_unit.specs.Replies.{IsBroughtUp};
 ghost use Rattle.nvm_plan.specs.Fits.{FitsNamespace};
+ghost use Rattle.nvm_space.specs.ReadNow.{ReadsNow};
 ghost use Rattle.nvm_space.specs.Trace.{DoesJob};
 ghost use Rattle.nvm_space.specs.Visits.{BecomesAt, MeetInEach};
 ghost use Rattle.nvm_space.specs.Closing.{EndsWhole};
@@ -18,12 +19,13 @@ use crate::job_done::JobDone;
 use crate::meeting::meet_in_each;
 use crate::opening::opened;
 use crate::port::Port;
+use crate::read_now::{ReadAnswer, ReadNow, told};
 use crate::running::do_job;
 use crate::space_fault::SpaceFault;
-use nvm_geometry::Geometry;
+use nvm_geometry::{Geometry, laws};
 use nvm_plan::Job;
 use nvm_record::NoMemory;
-use nvm_store::{History, Limit};
+use nvm_store::{History, Limit, Look};
 use nvm_unit::{Gate, Unit};
 use std::alloc::Global;
 use std::marker::Model;
@@ -34,12 +36,15 @@ pub const MOST_PORTS: u16 = 64;
 
 /// A namespace as the atomic units that its boundaries make, which many threads read and change by their ports.
 ///
-/// Contracts see the namespace, the number of ports, the limit of each unit's history, and the units.
+/// Contracts see the namespace, the number of ports, the limit of each unit's history, whether it was opened with
+/// versions, and the units.
 #[derive(Drop)]
 pub struct Space {
     pub(crate) geometry: Geometry,
     pub(crate) ports: u16,
     pub(crate) limit: Limit,
+    /// Whether the ports' passes keep versions.
+    pub(crate) versions: bool,
     /// Unit k stands at place k.
     pub(crate) units: Vec<Unit>,
 }
@@ -49,12 +54,13 @@ impl Model for Space {
 
     ghost Value = { SpaceName };
 
-    ghost view = { λ s. record { namespace = s.geometry; ports = s.ports; limit = s.limit; units = s.units.items } };
+    ghost view = { λ s. record { namespace = s.geometry; ports = s.ports; limit = s.limit; versions = s.versions; units = s.units.items } };
 
     ghost invariant = { λ s. IsLaidOut (record {
       namespace = s.geometry;
       ports = s.ports;
       limit = s.limit;
+      versions = s.versions;
       units = s.units.items;
     }) };
 }
@@ -63,6 +69,9 @@ impl Space {
     /// A new space of this geometry, whose blocks are all zero bytes, and its ports, which are numbered from 0.
     /// Each unit's history may have as many entries as the limit says. `Ports` says that there can't be so many
     /// ports; a refusal of memory leaves nothing. It costs a step for each unit and port.
+    ///
+    /// Each port keeps the version of each unit at the last point that it has seen there, for
+    /// [`read_now`](Space::read_now). [`Unit::new`] says what that costs.
     pub fn new(
         alloc: Global,
         geometry: Geometry,
@@ -77,16 +86,40 @@ impl Space {
         ensures count { IfOk result (λ s. s.0.ports ≡ ports) }
         ensures ports { IfOk result (λ s. s.1.items ≡ new_ports s.0) }
         ensures all { IfOk result (λ s. AreAllPortsOf s.0 s.1.items) }
+        ensures versions { IfOk result (λ s. s.0.versions ≡ true) }
+    {
+        Space::open(alloc, geometry, ports, limit, true)
+    }
+
+    /// What [`new`](Space::new) does, with versions or without. Without, no port ever keeps a version: nobody can
+    /// [`read_now`](Space::read_now), and no change copies anything for a reader.
+    pub fn open(
+        alloc: Global,
+        geometry: Geometry,
+        ports: u16,
+        limit: Limit,
+        versions: bool,
+    ) -> Result<(Space, Vec<Port>), SpaceFault>
+        ensures taken { IfOk result (λ s. IsPortCount ports) }
+        ensures refused { IfErr result (IsSpaceFault ports) }
+        ensures namespace { IfOk result (λ s. s.0.namespace ≡ geometry) }
+        ensures limit { IfOk result (λ s. s.0.limit ≡ limit) }
+        ensures units { IfOk result (λ s. IsLaidOut s.0) }
+        ensures count { IfOk result (λ s. s.0.ports ≡ ports) }
+        ensures ports { IfOk result (λ s. s.1.items ≡ new_ports s.0) }
+        ensures all { IfOk result (λ s. AreAllPortsOf s.0 s.1.items) }
+        ensures versions { IfOk result (λ s. s.0.versions ≡ versions) }
     {
         if ports == 0 || ports > MOST_PORTS {
             return Err(SpaceFault::Ports);
         }
-        let (units, dealt) = opened(alloc, geometry, ports, limit)?;
+        let (units, dealt) = opened(alloc, geometry, ports, limit, versions)?;
         Ok((
             Space {
                 geometry,
                 ports,
                 limit,
+                versions,
                 units,
             },
             dealt,
@@ -140,6 +173,38 @@ impl Space {
             job,
             gate,
         )
+    }
+
+    /// Reads blocks of one unit from the version that the port's pass keeps. It makes one load, and answers only if
+    /// the unit's history has no more entries than the pass has seen, whether another port holds the unit or not. The
+    /// port's other passes stay as they are. It waits for nothing.
+    pub fn read_now(
+        &self,
+        alloc: Global,
+        port: &mut Port,
+        slba: u64,
+        blocks: u32,
+    ) -> Result<ReadAnswer, ReadNow>
+        requires of { IsPortOf self.now port.old }
+        requires some { 0 < blocks }
+        requires versions { self.now.versions ≡ true }
+        ensures of { IsPortOf self.now port.new }
+        ensures number { port.new.number ≡ port.old.number }
+        ensures read { ReadsNow self.now.namespace slba blocks result port.old port.new }
+    {
+        laws::sharing_is_one_number();
+        if !self.geometry.in_range(slba, blocks) {
+            return Err(ReadNow::OutOfRange);
+        }
+        if self.geometry.crosses(slba, blocks) {
+            return Err(ReadNow::Crosses);
+        }
+        let place = usize::from(self.geometry.unit_of(slba));
+        let look = Look::Read {
+            first: slba,
+            blocks,
+        };
+        told(self.units[place].look(alloc, &mut port.passes[place], look))
     }
 
     /// Brings the port's pass of the unit to the history that it finds. It waits for the unit, and takes no
@@ -204,6 +269,7 @@ impl Space {
             geometry: _,
             ports: _,
             limit: _,
+            versions: _,
             units,
         } = self;
         histories(alloc, units, ports)

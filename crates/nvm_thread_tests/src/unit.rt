@@ -1,9 +1,13 @@
 //! A unit of LBAs 0 to 7 with blocks of 512 bytes, and two passes.
+mod blocks;
 mod calls;
 mod gates;
+mod keeps;
+mod looks;
 mod threads;
+mod tries;
 
-ghost use Rattle.std.specs.Prelude.{◌≡◌, IfOk};
+ghost use Rattle.std.specs.Prelude.{◌≡◌, IfOk, true};
 ghost use Rattle.nvm_unit.specs.Passes.{IsPassOf};
 
 use nvm_record::BlockSize;
@@ -15,11 +19,22 @@ use std::test::Fail;
 
 const BLOCK: usize = 512;
 
-/// The unit, whose number is 3, and its two passes.
+/// The unit, opened with versions, and its two passes.
 fn two_passes(alloc: Global, limit: u32) -> Result<(Unit, Pass, Pass), Fail>
     ensures of { IfOk result (λ u. IsPassOf u.0 u.1 × IsPassOf u.0 u.2) }
     ensures count { IfOk result (λ u. u.0.bounds.passes ≡ 2) }
     ensures numbers { IfOk result (λ u. (u.1.view.number ≡ 0) × (u.2.view.number ≡ 1)) }
+    ensures versions { IfOk result (λ u. u.0.versions ≡ true) }
+{
+    opened(alloc, limit, true)
+}
+
+/// The unit, whose number is 3, opened with versions or without, and its two passes.
+fn opened(alloc: Global, limit: u32, versions: bool) -> Result<(Unit, Pass, Pass), Fail>
+    ensures of { IfOk result (λ u. IsPassOf u.0 u.1 × IsPassOf u.0 u.2) }
+    ensures count { IfOk result (λ u. u.0.bounds.passes ≡ 2) }
+    ensures numbers { IfOk result (λ u. (u.1.view.number ≡ 0) × (u.2.view.number ≡ 1)) }
+    ensures versions { IfOk result (λ u. u.0.versions ≡ versions) }
 {
     let place = Place {
         first: 0,
@@ -27,7 +42,7 @@ fn two_passes(alloc: Global, limit: u32) -> Result<(Unit, Pass, Pass), Fail>
         size: BlockSize::BYTES_512,
     };
     let limit = Limit::new(limit).ok_or("there is no such limit")?;
-    let Ok((unit, mut passes)) = Unit::new(alloc, 3, place, 2, limit) else {
+    let Ok((unit, mut passes)) = Unit::open(alloc, 3, place, 2, limit, versions) else {
         return Err(Fail::new("there was no memory"));
     };
     let Some(second) = passes.pop() else {

@@ -16,9 +16,9 @@ use Rattle.nvm_unit.specs.Events as events
 use Rattle.nvm_unit.specs.Events.{Event, loads, misses, Happens, IsReached, number_found, idle, CanStep, CanAdd, after_look, after_take, after_put, after_return}
 use Rattle.nvm_unit.specs.Knowledge.{IsKnown}
 use Rattle.nvm_unit.specs.Inside.Book.{Recorded, recorded}
-use Rattle.nvm_unit.specs.Passes.{IsHistoryOf}
+use Rattle.nvm_unit.specs.Passes.{IsHistoryOf, IsNotAbove}
 use Rattle.nvm_unit.specs.Inside.Rule.{slots_of, table_of, IsRuled}
-use Rattle.nvm_unit.specs.Inside.Plays.{Sits, EachIn, IsNotAbove, Fits, HasLooked, WasEvent, looks, tries}
+use Rattle.nvm_unit.specs.Inside.Plays.{Sits, EachIn, Fits, HasLooked, WasEvent, looks, tries}
 use Rattle.nvm_unit.proofs.Groups.{numbered_below}
 use Rattle.nvm_unit.proofs.Histories.{begins_length}
 use Rattle.nvm_unit.proofs.Keeping.{found_is, free_is, keeps_look, keeps_take}
@@ -57,7 +57,9 @@ not_above b s kept id g at i p inside =
     let now : s.word / 2 ≡ length s.history = found_is b s kept.sound.hold in
     let low : p.floor ≤ length s.history = kept.sound.marks.floors id i p stands in
     let short : length p.seen ≤ length s.history = begins_length p.seen s.history (kept.sound.hold.seen id i p stands) in
-    record { floor = omega arith; seen = omega arith }
+    let within : length s.history ≤ b.limit = kept.sound.hold.within in
+    let most : p.bounds.limit ≡ b.limit = ap (λ (x : Bounds). x.limit) (kept.knows id i p stands).bounds in
+    record { floor = omega arith; seen = omega arith; limit = omega arith }
 
 -- What holds of the unit's history.
 pub history_of : (b : Bounds) (s : UnitState) → IsKnown b s → IsHistoryOf b s.history

@@ -1,10 +1,14 @@
 -- Seats that are dealt out, and gathered.
-use Rattle.std.proofs.Common.{get_or, ◌≡◌, ℕ, suc, ◌+◌, ◌-◌, ◌<◌, List, [], ◌∷◌, ◌++◌, length, subst, refl, sym, ap, ◌∙◌, arith, append_assoc}
+use Rattle.std.proofs.Common.{get_or, ◌≡◌, ℕ, suc, ◌+◌, ◌-◌, ◌<◌, Bool, true, Option, Some, None, IfSome, List, [], ◌∷◌, ◌++◌, length, subst, refl, sym, ap, ◌∙◌, arith, append_assoc}
 use mathlib.Core.Option.{some-ne-none}
 use Rattle.atomic_table.specs.Seated.{TableId}
 use Rattle.atomic_table.proofs.Lists.{at_index, at_longer, at_last}
 use Rattle.nvm_unit.specs.declared.bounds.Bounds.{Bounds}
 use Rattle.nvm_unit.specs.declared.views.PassView.{PassView}
+use Rattle.nvm_store.specs.Contents.{Contents}
+use Rattle.nvm_unit.specs.declared.snapshot.Snapshot.{Snapshot}
+use Rattle.nvm_unit.specs.Inside.Book.{recorded}
+use Rattle.nvm_unit.specs.Inside.Snapshot.{IsSnapshotOf, IsVersionOf}
 use Rattle.nvm_unit.specs.Ends.{pass_at, new_passes, views_of, AreAllPassesOf}
 use Rattle.nvm_unit.specs.Inside.Seats.{AreAllViews}
 use Rattle.nvm_unit.specs.Machine.{newcomers, newcomers_from}
@@ -68,17 +72,26 @@ all_views unit passes all =
           ap (λ (x : PassView). x.number) pass.2 ∙ (all.each i pass.0 pass.1).1;
     }
 
-pub same_pass : (t t' : TableId) (v v' : PassView) → t ≡ t' → v ≡ v' → pass_at t v ≡ pass_at t' v'
-same_pass t t' v v' p q = λ i. record { table = p i; view = q i }
+pub same_pass : (t t' : TableId) (v v' : PassView) (keeps keeps' : Bool) → t ≡ t' → v ≡ v' → keeps ≡ keeps' → (let pass : PassState = record { table = t; view = v; keeps = keeps } in pass) ≡ pass_at t' keeps' v'
+same_pass t t' v v' keeps keeps' p q r = λ i. record { table = p i; view = q i; keeps = r i }
+
+-- A new unit's blocks are what its empty history leads to.
+pub opening_snapshot : (b : Bounds) (snapshot : Snapshot) (u : Contents) → snapshot.entries ≡ 0 → IfSome snapshot.version (λ v. v ≡ u) → IsVersionOf (recorded b []) u
+    → IsSnapshotOf snapshot (recorded b [])
+opening_snapshot b snapshot u none is version = (none, kept snapshot.version is) where
+  kept : (v : Option Contents) → IfSome v (λ x. x ≡ u) → IfSome v (IsVersionOf (recorded b []))
+  kept None tt = tt
+  kept (Some x) same = subst (IsVersionOf (recorded b [])) (sym same) version
 
 -- A new pass is one of its unit.
 pub new_is_of : (unit : UnitName) (i : ℕ) (pass : PassState) → IsAt (new_passes unit) i pass → IsPassOf unit pass
 new_is_of unit i pass at =
-    let p = at_map_back (pass_at unit.table) (newcomers unit.bounds) i pass at in
+    let p = at_map_back (pass_at unit.table unit.versions) (newcomers unit.bounds) i pass at in
     let new = newcomer_back unit.bounds 0 unit.bounds.passes i p.0 p.1 in
     record {
       table = ap (λ (x : PassState). x.table) p.2;
       bounds = ap (λ (x : PassState). x.view.bounds) p.2 ∙ ap (λ (x : PassView). x.bounds) new.0;
+      kept = λ keeps. sym (ap (λ (x : PassState). x.keeps) p.2) ∙ keeps;
     }
 
 -- So are those that are left of them when one was taken.

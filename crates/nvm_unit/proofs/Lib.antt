@@ -10,6 +10,7 @@ pub mod Putting
 pub mod Joining
 pub mod Waiting
 pub mod Alone
+pub mod Learning
 pub mod Resting
 pub mod Marking
 pub mod Among

@@ -1,5 +1,5 @@
 -- Marks that answers leave, and beginnings of beginnings.
-use Rattle.std.proofs.Common.{◌≡◌, ℕ, ◌+◌, ◌≤◌, true, false, List, [], ◌∷◌, ◌++◌, length, length-append, append_assoc, subst, refl, sym, ap, ◌∙◌, arith, Result, Ok, Err}
+use Rattle.std.proofs.Common.{◌≡◌, ℕ, ◌+◌, ◌/◌, ◌≤◌, Bool, true, false, List, [], ◌∷◌, ◌++◌, length, length-append, append-nil, append_assoc, subst, refl, sym, ap, ◌∙◌, arith, Result, Ok, Err}
 use Rattle.nvm_record.specs.Step.{Operation}
 use Rattle.nvm_store.specs.HistoryEntry.{HistoryEntry}
 use Rattle.nvm_unit.specs.declared.replies.Changed.{Changed}
@@ -8,11 +8,21 @@ use Rattle.nvm_unit.specs.declared.replies.Observed.{Observed}
 use Rattle.nvm_unit.specs.declared.replies.ObserveFault.{ObserveFault}
 use Rattle.nvm_unit.specs.declared.replies.ObserveFault.TheVariants as observe_fault
 use Rattle.nvm_unit.specs.declared.views.PassView.{PassView}
-use Rattle.nvm_unit.specs.Marks.{entries_after, mine_after, point_of_look, HasMarked, HasKeptMarks}
+use Rattle.nvm_unit.specs.declared.replies.LookFault.{LookFault}
+use Rattle.nvm_unit.specs.declared.replies.LookFault.TheVariants as look_fault
+use Rattle.nvm_unit.specs.declared.replies.Busy.{Busy}
+use Rattle.nvm_unit.specs.Marks.{entries_after, mine_after, number_of_look, number_of_try, point_of_look, HasMarked, HasKeptMarks}
 use Rattle.nvm_unit.specs.Passes.{Finds}
-use Rattle.nvm_unit.specs.Replies.{point_of, Makes, Observes, IsBroughtUp, Meet, entry_of_job}
+use Rattle.nvm_unit.specs.Replies.{point_of, Learns, Looks, Makes, MakesOrLearns, Observes, IsBroughtUp, Meet, entry_of_job}
 use Rattle.nvm_unit.specs.Views.{Begins, shown, added}
-use Rattle.nvm_unit.proofs.Histories.{begins_more, begins_length}
+use Rattle.nvm_unit.proofs.Histories.{begins_itself, begins_more, begins_length}
+
+no_more : (rest : List HistoryEntry) → length rest ≡ 0 → rest ≡ []
+no_more [] none = refl
+no_more (x ∷ xs) none = absurd (omega arith)
+
+pub begins_same : (seen history : List HistoryEntry) → Begins seen history → length history ≡ length seen → history ≡ seen
+begins_same seen history begins same = begins.1 ∙ (ap (λ (x : List HistoryEntry). seen ++ x) (no_more begins.0 (omega (arith, same, ap length begins.1, length-append seen begins.0))) ∙ append-nil seen)
 
 shown_marks : (n : ℕ) (p : PassView) (history : List HistoryEntry) → Finds (length history) p history → n ≡ length history → HasMarked n p (shown true (length history) history p)
 shown_marks n p history finds is =
@@ -75,6 +85,32 @@ look_entries (Err (observe_fault.NoMemory n)) p q op observes = shown_length n p
 
 pub look_mine : (answer : Result Observed ObserveFault) (p q : PassView) (op : Operation) → Observes answer p op q → q.mine ≡ p.mine
 look_mine answer p q op observes = ap (λ (x : PassView). x.mine) observes.3
+
+learnt_marks : (n : ℕ) (p q : PassView) → Learns n p q → HasMarked n p q
+learnt_marks n p q learns =
+    subst (HasMarked n p) (sym learns.1) (record { marks = refl; floor = refl; above = learns.0.floor; seen = begins_itself p.seen; within = learns.0.seen })
+
+learnt_same : (n : ℕ) (p q : PassView) → Learns n p q → (q.seen ≡ p.seen) × (q.mine ≡ p.mine)
+learnt_same n p q learns = (ap (λ (x : PassView). x.seen) learns.1, ap (λ (x : PassView). x.mine) learns.1)
+
+pub looked_marks : (answer : Result Observed LookFault) (keeps : Bool) (p q : PassView) (op : Operation) → Looks answer keeps p op q → HasMarked (number_of_look answer) p q
+looked_marks (Ok observed) keeps p q op looks = look_marks (Ok observed) p q op looks.1
+looked_marks (Err (look_fault.Newer count)) keeps p q op looks = learnt_marks count p q looks.1
+looked_marks (Err (look_fault.NoMemory point)) keeps p q op looks = learnt_marks point p q looks.1
+
+pub looked_same : (answer : Result Observed LookFault) (keeps : Bool) (p q : PassView) (op : Operation) → Looks answer keeps p op q → (q.seen ≡ p.seen) × (q.mine ≡ p.mine)
+looked_same (Ok observed) keeps p q op looks =
+    let all = begins_same p.seen q.seen (look_marks (Ok observed) p q op looks.1).seen (look_entries (Ok observed) p q op looks.1 ∙ looks.0) in
+    (all, look_mine (Ok observed) p q op looks.1)
+looked_same (Err (look_fault.Newer count)) keeps p q op looks = learnt_same count p q looks.1
+looked_same (Err (look_fault.NoMemory point)) keeps p q op looks = learnt_same point p q looks.1
+
+pub tried_marks : (tried : Result Changed Busy) (p q : PassView) (job : ℕ) (op : Operation) → MakesOrLearns tried p job op q → HasMarked (number_of_try tried) p q
+tried_marks (Ok changed) p q job op makes = change_marks changed p q job op makes
+tried_marks (Err busy) p q job op learns = learnt_marks (busy.word / 2) p q learns.0
+
+pub busy_same : (busy : Busy) (p q : PassView) (job : ℕ) (op : Operation) → MakesOrLearns (Err busy) p job op q → (q.seen ≡ p.seen) × (q.mine ≡ p.mine)
+busy_same busy p q job op learns = learnt_same (busy.word / 2) p q learns.0
 
 kept_marks : (p q : PassView) (history : List HistoryEntry) → Finds (length history) p history → q ≡ shown false (length history) history p → HasKeptMarks p q
 kept_marks p q history finds is =

@@ -1,5 +1,5 @@
 -- How a unit begins and ends.
-use Rattle.std.specs.Prelude.{◌≡◌, ℕ, ◌<◌, ◌≤◌, List, map, length}
+use Rattle.std.specs.Prelude.{◌≡◌, ℕ, ◌<◌, ◌≤◌, Bool, List, map, length}
 use Rattle.atomic_table.specs.Seated.{TableId}
 use Rattle.nvm_store.specs.HistoryEntry.{HistoryEntry}
 use Rattle.nvm_unit.specs.declared.bounds.Bounds.{Bounds}
@@ -21,13 +21,13 @@ abbrev pub IsUnitFault : ℕ → UnitFault → Type 0
 IsUnitFault count Passes = ¬ IsPassCount count
 IsUnitFault count NoMemory = IsPassCount count
 
--- a pass of this table
-abbrev pub pass_at : TableId → PassView → PassState
-pass_at table view = record { table = table; view = view }
+-- a pass of this table, and whether it keeps its version
+abbrev pub pass_at : TableId → Bool → PassView → PassState
+pass_at table keeps view = record { table = table; view = view; keeps = keeps }
 
--- the passes of a new unit
+-- the passes of a new unit: each keeps the opening version, unless the unit is opened without versions
 abbrev pub new_passes : UnitName → List PassState
-new_passes unit = map (pass_at unit.table) (newcomers unit.bounds)
+new_passes unit = map (pass_at unit.table unit.versions) (newcomers unit.bounds)
 
 -- These are the unit's passes, all of them, each at the place of its number.
 pub record AreAllPassesOf (unit : UnitName) (passes : List PassState) : Type 0 where

@@ -1,5 +1,6 @@
 -- What stands in Inside is cited by private functions and invariants alone: no public clause needs it.
 pub mod Book
+pub mod Snapshot
 pub mod Attempt
 pub mod Seats
 pub mod Rule

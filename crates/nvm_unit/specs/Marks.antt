@@ -1,5 +1,5 @@
 -- What a call leaves in its pass: a mark where it decides, none where it doesn't.
-use Rattle.std.specs.Prelude.{◌≡◌, ℕ, ◌+◌, ◌≤◌, List, [], ◌∷◌, ◌++◌, length, if◌then◌else◌, Ok, Err, Result}
+use Rattle.std.specs.Prelude.{◌≡◌, ℕ, ◌+◌, ◌/◌, ◌≤◌, List, [], ◌∷◌, ◌++◌, length, if◌then◌else◌, Ok, Err, Result}
 use Rattle.nvm_record.specs.Step.{Operation}
 use Rattle.nvm_store.specs.HistoryEntry.{HistoryEntry}
 use Rattle.nvm_unit.specs.declared.views.PassView.{PassView}
@@ -7,6 +7,9 @@ use Rattle.nvm_unit.specs.declared.replies.Changed.{Changed}
 use Rattle.nvm_unit.specs.declared.replies.Observed.{Observed}
 use Rattle.nvm_unit.specs.declared.replies.ObserveFault.{ObserveFault}
 use Rattle.nvm_unit.specs.declared.replies.ObserveFault.TheVariants as observe_fault
+use Rattle.nvm_unit.specs.declared.replies.LookFault.{LookFault}
+use Rattle.nvm_unit.specs.declared.replies.LookFault.TheVariants as look_fault
+use Rattle.nvm_unit.specs.declared.replies.Busy.{Busy}
 use Rattle.nvm_unit.specs.Replies.{is_done, point_of, entry_of_job}
 use Rattle.nvm_unit.specs.Views.{Begins}
 
@@ -23,6 +26,17 @@ mine_after changed p job op =
 abbrev pub point_of_look : Result Observed ObserveFault → ℕ
 point_of_look (Ok observed) = observed.point
 point_of_look (Err (observe_fault.NoMemory point)) = point
+
+-- the number of entries that a look's load found
+abbrev pub number_of_look : Result Observed LookFault → ℕ
+number_of_look (Ok observed) = observed.point
+number_of_look (Err (look_fault.Newer count)) = count
+number_of_look (Err (look_fault.NoMemory point)) = point
+
+-- the number of entries that the deciding step of one try found
+abbrev pub number_of_try : Result Changed Busy → ℕ
+number_of_try (Ok changed) = point_of changed
+number_of_try (Err busy) = busy.word / 2
 
 -- The pass has one mark more, n, which isn't below anything that it had found or seen.
 pub record HasMarked (n : ℕ) (p q : PassView) : Type 0 where

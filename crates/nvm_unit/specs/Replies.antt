@@ -1,6 +1,6 @@
 -- What a call answers, and what its pass has seen and done then. The call's deciding step finds a history, of
 -- as many entries as the answer's point: the answer is that of the step there.
-use Rattle.std.specs.Prelude.{◌≡◌, ℕ, ◌<◌, List, [], ◌∷◌, ◌++◌, length, if◌then◌else◌, Bool, true, false, Ok, Err, Result, IsSome}
+use Rattle.std.specs.Prelude.{◌≡◌, ◌⊎◌, ℕ, ◌/◌, ◌%◌, ◌<◌, List, [], ◌∷◌, ◌++◌, length, if◌then◌else◌, Bool, true, false, Ok, Err, Result, IsSome}
 use Rattle.nvm_record.specs.Medium.{Medium}
 use Rattle.nvm_record.specs.Status.{IsSuccess}
 use Rattle.nvm_record.specs.Step.{Operation, statuses_of, data_of}
@@ -15,8 +15,11 @@ use Rattle.nvm_unit.specs.declared.replies.Changed.TheVariants.{Done, Failed, No
 use Rattle.nvm_unit.specs.declared.replies.Observed.{Observed}
 use Rattle.nvm_unit.specs.declared.replies.ObserveFault.{ObserveFault}
 use Rattle.nvm_unit.specs.declared.replies.ObserveFault.TheVariants as observe_fault
-use Rattle.nvm_unit.specs.Views.{shown, added}
-use Rattle.nvm_unit.specs.Passes.{Finds}
+use Rattle.nvm_unit.specs.declared.replies.LookFault.{LookFault}
+use Rattle.nvm_unit.specs.declared.replies.LookFault.TheVariants as look_fault
+use Rattle.nvm_unit.specs.declared.replies.Busy.{Busy}
+use Rattle.nvm_unit.specs.Views.{looked, shown, added}
+use Rattle.nvm_unit.specs.Passes.{Finds, IsNotAbove}
 
 -- the medium to which the history of a unit leads
 abbrev pub medium_at : Bounds → List HistoryEntry → Medium
@@ -86,3 +89,26 @@ abbrev pub Meet : PassView → PassView → PassView → PassView → Type 0
 Meet p o q r =
     (history : List HistoryEntry) × Finds (length history) p history × Finds (length history) o history
     × (q ≡ shown false (length history) history p) × (r ≡ shown false (length history) history o)
+
+-- A step of the pass found n entries, which is its new mark. It showed no entry: the pass has seen and done what it had.
+abbrev pub Learns : ℕ → PassView → PassView → Type 0
+Learns n p q = IsNotAbove n p × (q ≡ looked true n p)
+
+-- A step of the pass found n entries and didn't take the unit. It left no mark, and the pass has seen and done what it had.
+abbrev pub Waits : PassView → PassView → Type 0
+Waits p q = (n : ℕ) × IsNotAbove n p × (q ≡ looked false n p)
+
+-- What `look` answers, and the pass after it. It answers where the history has exactly the entries that the pass has
+-- seen. `keeps` is whether the pass keeps its version: one that does is refused memory for a Read's data alone.
+abbrev pub Looks : Result Observed LookFault → Bool → PassView → Operation → PassView → Type 0
+Looks (Ok observed) keeps p op q = (observed.point ≡ length p.seen) × Observes (Ok observed) p op q
+Looks (Err (look_fault.Newer count)) keeps p op q = (length p.seen < count) × Learns count p q
+Looks (Err (look_fault.NoMemory point)) keeps p op q =
+    (point ≡ length p.seen) × Learns point p q × (keeps ≡ true → IsSome (data_of op (medium_at p.bounds p.seen)))
+
+-- What `try_change` answers, and the pass after it. The word that kept it from the unit is odd, as that of a held unit
+-- is, or its half is more than what the pass had seen.
+abbrev pub MakesOrLearns : Result Changed Busy → PassView → ℕ → Operation → PassView → Type 0
+MakesOrLearns (Ok changed) p job op q = Makes changed p job op q
+MakesOrLearns (Err busy) p job op q =
+    Learns (busy.word / 2) p q × ((busy.word % 2 ≡ 1) ⊎ (length p.seen < busy.word / 2))

@@ -1,15 +1,17 @@
-ghost use Rattle.std.specs.Prelude.{◌≤◌, length};
+ghost use Rattle.std.specs.Prelude.{◌≡◌, ◌≤◌, IfOk, IfSome, length};
+ghost use Rattle.nvm_record.specs.Medium.{Medium};
+ghost use Rattle.nvm_store.specs.Contents.{Covers, Holds};
 ghost use Rattle.nvm_store.specs.ActRef.{lent_operation_of};
 ghost use Rattle.nvm_store.specs.Place.{IsCovered};
-ghost use Rattle.nvm_store.specs.History.{replay_of};
 ghost use Rattle.nvm_store.specs.Look.{look_operation_of};
 ghost use Rattle.nvm_unit.specs.Replies.{AnswersLook};
-ghost use Rattle.nvm_unit.specs.Inside.Attempt.{Attempts};
+ghost use Rattle.nvm_unit.specs.Inside.Attempt.{AnswersFrom, Attempts};
 
 use crate::book::Book;
-use crate::replies::{Changed, ObserveFault, Observed};
+use crate::replies::{Changed, LookFault, ObserveFault, Observed};
+use crate::snapshot::Snapshot;
 use nvm_store::laws::{act_succeeds_unless_failed_pair, acts_and_looks};
-use nvm_store::{ActRef, Limit, Look};
+use nvm_store::{ActRef, Limit, Look, UnitBlocks, answer};
 use std::alloc::Global;
 
 /// Does the act on the book in hand, unless it is a pair whose comparison fails, the history is at its
@@ -43,16 +45,41 @@ pub(crate) fn attempt(
     }
 }
 
-/// What the look is answered by the book in hand.
-pub(crate) fn observed(alloc: Global, book: &Book, look: Look<'_>) -> Result<Observed, ObserveFault>
-    requires covered { IsCovered book.now.place (look_operation_of look) }
-    requires within { length book.now.history ≤ 4194304 }
-    ensures { AnswersLook result (length book.now.history) (look_operation_of look.entry)
-        (replay_of book.now.place.size book.now.history) }
+/// What the look is answered by the blocks at this point.
+pub(crate) fn observed(
+    alloc: Global,
+    point: u32,
+    blocks: &UnitBlocks,
+    look: Look<'_>,
+) -> Result<Observed, ObserveFault>
+    requires { Covers blocks.now (look_operation_of look) }
+    ensures point { IfOk result (λ o. o.point ≡ point) }
+    ensures answer { (m : Medium) → Holds blocks.now m → AnswersLook result point (look_operation_of look.entry) m }
 {
-    let point = book.entries() as u32;
-    match book.answer(alloc, look) {
+    match answer(alloc, blocks, look) {
         Ok(answer) => Ok(Observed { point, answer }),
         Err(_) => Err(ObserveFault::NoMemory { point }),
+    }
+}
+
+/// What the look is answered by what a pass keeps, if the unit has `count` entries.
+pub(crate) fn looked(
+    alloc: Global,
+    snapshot: &Snapshot,
+    count: u32,
+    look: Look<'_>,
+) -> Result<Observed, LookFault>
+    requires { IfSome snapshot.now.version (λ u. Covers u (look_operation_of look)) }
+    ensures { AnswersFrom result count snapshot.now (look_operation_of look.entry) }
+{
+    if count != snapshot.entries() {
+        return Err(LookFault::Newer { count });
+    }
+    let Some(version) = snapshot.version() else {
+        return Err(LookFault::NoMemory { point: count });
+    };
+    match observed(alloc, count, version, look) {
+        Ok(observed) => Ok(observed),
+        Err(_) => Err(LookFault::NoMemory { point: count }),
     }
 }

@@ -1,19 +1,20 @@
-ghost use Rattle.std.specs.Prelude.{◌≡◌, [], ◌∷◌, ◌++◌, length, IfOk, IsSome, OnOk, OnErr};
+ghost use Rattle.std.specs.Prelude.{◌≡◌, [], ◌∷◌, ◌++◌, ◌≤◌, length, is_some, true, IfOk, OnOk, OnErr};
 ghost use Rattle.nvm_record.specs.Medium.{zero_medium};
 ghost use Rattle.nvm_record.specs.Status.{IsSuccess};
-ghost use Rattle.nvm_record.specs.Step.{statuses_of, data_of};
+ghost use Rattle.nvm_record.specs.Step.{statuses_of};
 ghost use Rattle.nvm_store.specs.ActRef.{lent_operation_of};
-ghost use Rattle.nvm_store.specs.Answer.{IsAnswer};
 ghost use Rattle.nvm_store.specs.Contents.{Holds, LiesAt};
 ghost use Rattle.nvm_store.specs.Place.{IsCovered};
 ghost use Rattle.nvm_store.specs.History.{replay_of};
-ghost use Rattle.nvm_store.specs.Look.{look_operation_of};
+ghost use Rattle.nvm_unit.specs.Inside.Snapshot.{IsSnapshotOf};
 
+use crate::snapshot::Snapshot;
 use nvm_record::{NoMemory, Statuses};
 use nvm_store::laws::{replay_of_one_more, success_on_held};
-use nvm_store::{ActRef, Answer, Entry, History, Look, UnitBlocks, answer, judge};
+use nvm_store::{ActRef, Entry, History, UnitBlocks, judge};
 use std::alloc::Global;
 use std::marker::Model;
+use std::mem;
 
 /// A unit's history, and the blocks to which it leads.
 ///
@@ -68,13 +69,40 @@ impl Book {
         judge(&self.blocks, act)
     }
 
-    /// What the look is answered.
-    pub fn answer(&self, alloc: Global, look: Look<'_>) -> Result<Answer, NoMemory>
-        requires { IsCovered self.now.place (look_operation_of look) }
-        ensures step { IfOk result (IsAnswer (look_operation_of look.entry) (replay_of self.now.place.size self.now.history)) }
-        ensures memory { OnErr result (IsSome (data_of (look_operation_of look.entry) (replay_of self.now.place.size self.now.history))) }
+    /// The blocks.
+    pub fn blocks(&self) -> &UnitBlocks
+        ensures place { LiesAt self.now.place result.now }
+        ensures holds { Holds result.now (replay_of self.now.place.size self.now.history) }
     {
-        answer(alloc, &self.blocks, look)
+        &self.blocks
+    }
+
+    /// Brings a pass's snapshot to this book, and returns the old one, which may be the last owner of many blocks. A
+    /// snapshot that is of this book already stays as it is. It takes no memory.
+    pub fn renew(&self, snapshot: &mut Snapshot, versions: bool) -> Option<Snapshot>
+        requires few { length self.now.history ≤ 4194304 }
+        requires seen { snapshot.old.entries ≡ length self.now.history → IsSnapshotOf snapshot.old self.now }
+        requires kept { is_some snapshot.old.version ≡ true → versions ≡ true }
+        ensures shown { IsSnapshotOf snapshot.new self.now }
+        ensures kept { is_some snapshot.new.version ≡ true → versions ≡ true }
+    {
+        if !versions {
+            snapshot.set_entries(self.history.len() as u32);
+            return None;
+        }
+        if self.history.len() as u32 == snapshot.entries() && snapshot.keeps() {
+            return None;
+        }
+        Some(mem::replace(snapshot, self.snapshot(versions)))
+    }
+
+    /// What a pass keeps that has seen this history. It takes no memory.
+    pub fn snapshot(&self, versions: bool) -> Snapshot
+        requires { length self.now.history ≤ 4194304 }
+        ensures shown { IsSnapshotOf result self.now }
+        ensures kept { is_some result.version ≡ true → versions ≡ true }
+    {
+        Snapshot::of(self.history.len() as u32, &self.blocks, versions)
     }
 
     /// Makes the act's step, and keeps its entry: the entry first, then its room and the blocks, which may be

@@ -1,14 +1,15 @@
-ghost use Rattle.std.specs.Prelude.{◌≡◌, ◌≢◌, ◌⊎◌, ℕ, ◌+◌, ◌*◌, ◌%◌, ◌^◌, ◌<◌, List, [], ◌∷◌, length, false};
+ghost use Rattle.std.specs.Prelude.{◌≡◌, ◌⊎◌, ℕ, ◌^◌, ◌<◌, List, [], ◌∷◌, length, is_some, true, IfOk, IfErr};
 ghost use Rattle.nvm_store.specs.Limit.{IsLimit};
 ghost use Rattle.nvm_unit.specs.Inside.Seats.{only};
 ghost use Rattle.nvm_store.specs.HistoryEntry.{HistoryEntry};
 ghost use Rattle.nvm_unit.specs.declared.bounds.Bounds.{Bounds as UnitBounds};
 ghost use Rattle.nvm_unit.specs.declared.views.PassView.{PassView as View};
-ghost use Rattle.nvm_unit.specs.Inside.Plays.{resting, holding, Takes};
-ghost use Rattle.nvm_unit.specs.Inside.Holding.{HasWaited, HasHeld, HasMet, CanGiveBack, CanGiveMore, GivesBack, GivesMore};
+ghost use Rattle.nvm_unit.specs.Inside.Plays.{resting};
+ghost use Rattle.nvm_unit.specs.Inside.Holding.{HasHeld, HasMissed, HasMet, CanGiveBack, CanGiveMore, GivesBack, GivesMore};
 
 use crate::book::Book;
-use crate::rule::{Decides, Never};
+use crate::rule::{Decides, IfHeld, Never};
+use crate::snapshot::Snapshot;
 use crate::steps;
 use crate::steps::{Desk, Token};
 use std::sync::Wait;
@@ -56,57 +57,51 @@ impl Latch {
         }
     }
 
-    /// Waits until the unit is free, since the word was `word`. Gives the word of the free unit.
-    fn free_word<R: Wait>(&self, rt: &R, token: &mut Token, word: u64) -> u64
+    /// Tries once to take the unit and its book: one load and, if the word is even, one exchange. The error is the
+    /// word that it found instead; `D` says whether an answer rests on that.
+    pub(crate) fn try_hold<D: Decides>(&self, token: &mut Token) -> Result<Book, u64>
         requires at { token.old.seat.table_id ≡ self.now.desk.table.shared.table_id }
+        requires rests { token.old.seat.me.1 ≡ [] }
         requires filled { 0 < length token.old.seat.me.0.passes }
+        requires alone { (word : ℕ) → D.decides word ≡ true → length token.old.seat.me.0.passes ≡ 1 }
         ensures at { token.new.seat.table_id ≡ token.old.seat.table_id }
-        ensures waited { HasWaited token.old.seat.me token.new.seat.me }
-        ensures free { result % 2 ≡ 0 }
+        ensures held { IfOk result (λ book. (b : UnitBounds) × (history : List HistoryEntry)
+            × HasHeld b history book token.old.seat.me token.new.seat.me) }
+        ensures missed { IfErr result (λ word. HasMissed D.decides word token.old.seat.me token.new.seat.me) }
     {
-        let mut word = word;
-        let mut turns = 0;
-        for _ in rt.forever() {
-            if word % 2 == 0 {
-                return word;
-            }
-            self.pause(rt, turns, word);
-            turns = turns.saturating_add(1);
-            word = steps::load::<Never>(&self.desk, token);
+        let word = steps::load::<IfHeld<D>>(&self.desk, token);
+        if word % 2 == 1 {
+            return Err(word);
         }
-        unreachable!()
+        let found = steps::take::<D>(&self.desk, token, word);
+        if found != word {
+            return Err(found);
+        }
+        Ok(steps::take_book(&self.desk, token))
     }
 
-    /// Takes the unit, which it finds free at once where it has `entries` entries.
-    fn take<R: Wait>(&self, rt: &R, token: &mut Token, entries: u32)
+    /// Takes the unit and its book. Until a try succeeds, it waits while another pass holds the unit.
+    pub(crate) fn hold<R: Wait>(&self, rt: &R, token: &mut Token) -> Book
         requires at { token.old.seat.table_id ≡ self.now.desk.table.shared.table_id }
-        requires rests { token.old.seat.me ≡ resting token.old.seat.me.0.passes }
-        requires filled { 0 < length token.old.seat.me.0.passes }
-        ensures at { token.new.seat.table_id ≡ token.old.seat.table_id }
-        ensures taken { (word : ℕ) × Takes word token.old.seat.me token.new.seat.me }
-    {
-        let mut word = 2 * u64::from(entries);
-        for _ in rt.forever() {
-            let found = steps::take::<Never>(&self.desk, token, word);
-            if found == word {
-                return;
-            }
-            word = self.free_word(rt, token, found);
-        }
-        unreachable!()
-    }
-
-    /// Takes the unit and its book, which it finds free at once where it has `entries` entries.
-    pub(crate) fn hold<R: Wait>(&self, rt: &R, token: &mut Token, entries: u32) -> Book
-        requires at { token.old.seat.table_id ≡ self.now.desk.table.shared.table_id }
-        requires rests { token.old.seat.me ≡ resting token.old.seat.me.0.passes }
+        requires rests { token.old.seat.me.1 ≡ [] }
         requires filled { 0 < length token.old.seat.me.0.passes }
         ensures at { token.new.seat.table_id ≡ token.old.seat.table_id }
         ensures held { (b : UnitBounds) × (history : List HistoryEntry)
             × HasHeld b history result token.old.seat.me token.new.seat.me }
     {
-        self.take(rt, token, entries);
-        steps::take_book(&self.desk, token)
+        let mut turns = 0;
+        for _ in rt.forever() {
+            match self.try_hold::<Never>(token) {
+                Ok(book) => return book,
+                Err(word) => {
+                    if word % 2 == 1 {
+                        self.pause(rt, turns, word);
+                        turns = turns.saturating_add(1);
+                    }
+                }
+            }
+        }
+        unreachable!()
     }
 
     /// Puts the book and the unit back, and wakes one of those who sleep, if somebody does.
@@ -127,15 +122,14 @@ impl Latch {
         self.wake();
     }
 
-    /// Brings two passes to one history, in one step. `one` finds the unit free at once where it has
-    /// `entries` entries. Gives the number of entries that was found.
+    /// Brings two passes to one history, in one step. Returns what each of them keeps of it.
     pub(crate) fn meet<R: Wait>(
         &self,
         rt: &R,
         one: &mut Token,
         other: &mut Token,
-        entries: u32,
-    ) -> u32
+        versions: bool,
+    ) -> (Snapshot, Snapshot)
         requires one { one.old.seat.table_id ≡ self.now.desk.table.shared.table_id }
         requires other { other.old.seat.table_id ≡ self.now.desk.table.shared.table_id }
         requires one_rests { one.old.seat.me ≡ resting (only one.old.seat.me.0.passes ∷ []) }
@@ -143,17 +137,19 @@ impl Latch {
         requires limit { IsLimit (only one.old.seat.me.0.passes).bounds.limit }
         ensures one { one.new.seat.table_id ≡ one.old.seat.table_id }
         ensures other { other.new.seat.table_id ≡ other.old.seat.table_id }
-        ensures met { HasMet result (only one.old.seat.me.0.passes) (only other.old.seat.me.0.passes)
+        ensures met { HasMet result.0 result.1 (only one.old.seat.me.0.passes) (only other.old.seat.me.0.passes)
             one.new.seat.me other.new.seat.me }
+        ensures kept { is_some result.0.version ≡ true → versions ≡ true }
+        ensures other_kept { is_some result.1.version ≡ true → versions ≡ true }
     {
         let spare = steps::split(&self.desk, one);
         let joining = mem::replace(other, spare);
         steps::join(&self.desk, one, joining);
-        let book = self.hold(rt, one, entries);
-        let found = book.entries() as u32;
+        let book = self.hold(rt, one);
+        let snapshots = (book.snapshot(versions), book.snapshot(versions));
         self.release::<Never>(one, book);
         *other = steps::split(&self.desk, one);
-        found
+        snapshots
     }
 
     /// Wakes one of those who sleep, if somebody does.

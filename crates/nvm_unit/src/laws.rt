@@ -1,6 +1,6 @@
 //! Laws of this crate's definitions. Each function does nothing: its contract is the law, which a caller
 //! then knows.
-ghost use Rattle.std.specs.Prelude.{◌≡◌, ◌≤◌, ℕ, List, length, true, Result, Ok, None};
+ghost use Rattle.std.specs.Prelude.{◌≡◌, ◌≤◌, ℕ, Bool, List, length, true, Result, Ok, Err, None};
 ghost use Rattle.nvm_record.specs.declared.status.Statuses.{Statuses};
 ghost use Rattle.nvm_record.specs.Step.{Operation};
 ghost use Rattle.nvm_store.specs.Answer.{told_by, read_by};
@@ -10,7 +10,9 @@ ghost use Rattle.nvm_unit.specs.declared.bounds.Bounds.{Bounds as UnitBounds};
 ghost use Rattle.nvm_unit.specs.declared.replies.Changed.{Changed as ChangeReply};
 ghost use Rattle.nvm_unit.specs.declared.replies.Changed.TheVariants.{Done, Failed};
 ghost use Rattle.nvm_unit.specs.declared.replies.Observed.{Observed as LookReply};
-ghost use Rattle.nvm_unit.specs.declared.replies.ObserveFault.{ObserveFault as LookFault};
+ghost use Rattle.nvm_unit.specs.declared.replies.ObserveFault.{ObserveFault};
+ghost use Rattle.nvm_unit.specs.declared.replies.LookFault.{LookFault};
+ghost use Rattle.nvm_unit.specs.declared.replies.Busy.{Busy as BusyReply};
 ghost use Rattle.nvm_unit.specs.declared.views.PassView.{PassView as View};
 ghost use Rattle.nvm_unit.specs.Ends.{AreAllPassesOf, new_passes, pass_at};
 ghost use Rattle.nvm_unit.specs.Machine.{UnitState, IsSound, opening_state};
@@ -22,6 +24,8 @@ ghost use Rattle.nvm_unit.specs.Marks.{
   HasMarked,
   entries_after,
   mine_after,
+  number_of_look,
+  number_of_try,
   point_of_look,
 };
 ghost use Rattle.nvm_unit.specs.Passes.{Finds, IsProperPass, PassState, UnitName};
@@ -29,9 +33,12 @@ ghost use Rattle.nvm_unit.specs.Replies.{
   AnswersChange,
   AnswersLook,
   IsBroughtUp,
+  Looks,
   Makes,
+  MakesOrLearns,
   Meet,
   Observes,
+  Waits,
   entry_of_job,
   medium_at,
   pass_after,
@@ -68,7 +75,7 @@ pub fn changes_rest_on_their_points()
 /// What a look was answered rests on its point in each history that begins with what its pass had seen
 /// then.
 pub fn looks_rest_on_their_points()
-    ensures at { (answer : Result LookReply LookFault) (p q : View) (op : Operation) (history : List HistoryEntry)
+    ensures at { (answer : Result LookReply ObserveFault) (p q : View) (op : Operation) (history : List HistoryEntry)
         → Observes answer p op q → Begins q.seen history
         → (n : ℕ) × (n ≤ length history) × AnswersLook answer n op (point p.bounds.place.size history n) }
     ensures observed { (observed : LookReply) (p q : View) (op : Operation) (history : List HistoryEntry)
@@ -90,12 +97,35 @@ pub fn changes_mark_their_points()
 
 /// A look adds its point to its pass's marks too. The pass has then seen as many entries, and has made none.
 pub fn looks_mark_their_points()
-    ensures marked { (answer : Result LookReply LookFault) (p q : View) (op : Operation)
+    ensures marked { (answer : Result LookReply ObserveFault) (p q : View) (op : Operation)
         → Observes answer p op q → HasMarked (point_of_look answer) p q }
-    ensures entries { (answer : Result LookReply LookFault) (p q : View) (op : Operation)
+    ensures entries { (answer : Result LookReply ObserveFault) (p q : View) (op : Operation)
         → Observes answer p op q → length q.seen ≡ point_of_look answer }
-    ensures mine { (answer : Result LookReply LookFault) (p q : View) (op : Operation)
+    ensures mine { (answer : Result LookReply ObserveFault) (p q : View) (op : Operation)
         → Observes answer p op q → q.mine ≡ p.mine }
+{}
+
+/// So does a look from what the pass keeps, and a change that is tried once, at the number of entries that their
+/// deciding step finds. Where they answer nothing, the pass has seen and done what it had.
+pub fn looks_and_tries_mark_what_they_find()
+    ensures looked { (answer : Result LookReply LookFault) (keeps : Bool) (p q : View) (op : Operation)
+        → Looks answer keeps p op q → HasMarked (number_of_look answer) p q }
+    ensures same { (answer : Result LookReply LookFault) (keeps : Bool) (p q : View) (op : Operation)
+        → Looks answer keeps p op q → (q.seen ≡ p.seen) × (q.mine ≡ p.mine) }
+    ensures tried { (tried : Result ChangeReply BusyReply) (p q : View) (job : ℕ) (op : Operation)
+        → MakesOrLearns tried p job op q → HasMarked (number_of_try tried) p q }
+    ensures busy { (busy : BusyReply) (p q : View) (job : ℕ) (op : Operation)
+        → MakesOrLearns (Err busy) p job op q → (q.seen ≡ p.seen) × (q.mine ≡ p.mine) }
+{}
+
+/// A call that is made again until it finds the unit free is one call: what a pass answers after it waited is what it
+/// would have answered before.
+pub fn waiting_is_no_step()
+    ensures changed { (changed : ChangeReply) (p q r : View) (job : ℕ) (op : Operation)
+        → Waits p q → Makes changed q job op r → Makes changed p job op r }
+    ensures looked { (answer : Result LookReply ObserveFault) (p q r : View) (op : Operation)
+        → Waits p q → Observes answer q op r → Observes answer p op r }
+    ensures again { (p q r : View) → Waits p q → Waits q r → Waits p r }
 {}
 
 /// A pass that is brought up keeps its marks, and what it had seen begins what it has seen then. Passes that
@@ -122,7 +152,7 @@ pub fn beginnings_of_beginnings_begin()
 pub fn new_passes_are_all()
     ensures all { (unit : UnitName) → AreAllPassesOf unit (new_passes unit) }
     ensures each { (unit : UnitName) (i : ℕ) (pass : PassState)
-        → IsAt (new_passes unit) i pass → pass ≡ pass_at unit.table (newcomer unit.bounds i) }
+        → IsAt (new_passes unit) i pass → pass ≡ pass_at unit.table unit.versions (newcomer unit.bounds i) }
     ensures proper { (b : UnitBounds) (number : ℕ) → IsProperPass (newcomer b number) }
 {}
 
@@ -145,7 +175,7 @@ pub fn a_pass_alone_has_seen_all()
         → p.bounds.passes ≡ 1 → p.number ≡ 0 → IsProperPass p → Makes changed p job op q
         → AnswersChange changed (length p.seen) p.bounds.limit op (medium_at p.bounds p.seen)
         × (q ≡ pass_after changed p.seen (entry_of_job p job op) p) }
-    ensures looked { (answer : Result LookReply LookFault) (p q : View) (op : Operation)
+    ensures looked { (answer : Result LookReply ObserveFault) (p q : View) (op : Operation)
         → p.bounds.passes ≡ 1 → p.number ≡ 0 → IsProperPass p → Observes answer p op q
         → AnswersLook answer (length p.seen) op (medium_at p.bounds p.seen)
         × (q ≡ shown true (length p.seen) p.seen p) }

@@ -5,6 +5,9 @@
 //! number of entries of the unit's history that isn't below what the pass had seen. What a pass has seen
 //! grows at each call; [`Unit::meet`] brings two passes to one history, and [`Unit::close`] gives the whole.
 //!
+//! A change or an observation waits while another pass holds the unit. Two calls never wait: [`Unit::try_change`] tries a change once, and
+//! [`Unit::look`] answers from the version of the blocks that the pass keeps, as long as nothing has changed since.
+//!
 //! A unit has one word: twice the number of entries, and one more while a pass holds the unit. All steps on
 //! it stand in the module `steps`, and each keeps the rule that the unit's state is one to which the seven
 //! kinds of events lead. That every list of such events leads to a sound state is a law of [`laws`].
@@ -20,6 +23,7 @@ mod pass;
 mod replies;
 mod rule;
 mod seats;
+mod snapshot;
 mod steps;
 mod unit;
 mod unit_fault;
@@ -28,6 +32,6 @@ mod views;
 pub use bounds::Bounds;
 pub use gate::{Gate, Open};
 pub use pass::Pass;
-pub use replies::{Changed, ObserveFault, Observed};
+pub use replies::{Busy, Changed, LookFault, ObserveFault, Observed};
 pub use unit::{MOST_PASSES, Unit};
 pub use unit_fault::UnitFault;

@@ -46,3 +46,22 @@ pub enum ObserveFault {
     /// The growth for a Read's data was refused, at this point. The unit is as it was, and may be looked at again.
     NoMemory { point: u32 },
 }
+
+/// Why [`Unit::look`](crate::Unit::look) has no answer.
+#[derive(Clone, Copy, Debug, PartialEq, Eq)]
+pub enum LookFault {
+    /// The history has `count` entries, more than the pass has seen. The pass has one mark more, `count`.
+    Newer { count: u32 },
+    /// The history has exactly the entries that the pass has seen, but the growth for a Read's data was refused, or
+    /// the pass keeps no version. The pass has one mark more, the point.
+    NoMemory { point: u32 },
+}
+
+/// Why [`Unit::try_change`](crate::Unit::try_change) did nothing. An odd word means that another pass held the unit.
+/// An even one means that another pass changed it between the load and the exchange. The pass has one mark more, half
+/// the word.
+#[derive(Clone, Copy, Debug, PartialEq, Eq)]
+pub struct Busy {
+    /// Twice the number of entries, and one more if the unit is held.
+    pub word: u64,
+}

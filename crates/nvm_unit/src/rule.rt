@@ -1,5 +1,5 @@
 //! The rule of a unit's table, and what its steps tell.
-ghost use Rattle.std.specs.Prelude.{ℕ, Bool, true, false};
+ghost use Rattle.std.specs.Prelude.{ℕ, ◌%◌, ◌&&◌, Bool, nat_eq, true, false};
 ghost use Rattle.nvm_unit.specs.Inside.Rule.{IsRuled, all_newcomers};
 ghost use Rattle.nvm_unit.specs.Inside.Plays.{looks, tries, puts, first_of, others_of, together};
 ghost use Rattle.nvm_unit.specs.Events.{idle};
@@ -38,6 +38,15 @@ pub struct Never;
 
 impl Decides for Never {
     ghost decides = { λ word. false };
+}
+
+/// It is if `D` says so and the unit is held.
+pub struct IfHeld<D> {
+    decides: PhantomData<D>,
+}
+
+impl<D: Decides> Decides for IfHeld<D> {
+    ghost decides = { λ word. nat_eq (word % 2) 1 && D.decides word };
 }
 
 /// A load.

@@ -4,24 +4,32 @@ ghost use Rattle.nvm_unit.specs.Ends.{pass_at, views_of};
 ghost use Rattle.nvm_unit.specs.Machine.{newcomers_from};
 ghost use Rattle.nvm_record.specs.Lists.{IsAt};
 ghost use Rattle.nvm_unit.specs.Passes.{PassState};
+ghost use Rattle.nvm_unit.specs.Inside.Book.{recorded};
 ghost use Rattle.nvm_unit.specs.Inside.Plays.{resting};
+ghost use Rattle.nvm_unit.specs.Inside.Snapshot.{IsVersionOf};
 
 use crate::pass::Pass;
+use crate::snapshot::Snapshot;
 use crate::steps;
 use crate::steps::{Desk, Token};
 use nvm_record::NoMemory;
+use nvm_store::UnitBlocks;
 use std::alloc::Global;
 
-/// The passes of a new unit, which are all at this seat, each at a seat of its own.
+/// The passes of a new unit, which are all at this seat, each at a seat of its own. With `versions`, each keeps the
+/// opening version.
 pub(crate) fn deal(
     alloc: Global,
     desk: &Desk,
     token: Token,
     count: u16,
+    blocks: &UnitBlocks,
+    versions: bool,
 ) -> Result<Vec<Pass>, NoMemory>
     requires at { token.seat.table_id ≡ desk.now.table.shared.table_id }
     requires all { token.seat.me ≡ resting (newcomers_from desk.now.table.shared.key 0 count) }
-    ensures { IfOk result (λ v. v.items ≡ map (pass_at desk.now.table.shared.table_id)
+    requires version { IsVersionOf (recorded desk.now.table.shared.key []) blocks.now }
+    ensures { IfOk result (λ v. v.items ≡ map (pass_at desk.now.table.shared.table_id versions)
         (newcomers_from desk.now.table.shared.key 0 count)) }
 {
     let mut token = token;
@@ -31,7 +39,7 @@ pub(crate) fn deal(
         passes.push(Pass {
             token,
             number,
-            entries: 0,
+            snapshot: Snapshot::opening(blocks, versions)?,
         })?;
         token = others;
     }

@@ -6,12 +6,12 @@ use Rattle.nvm_unit.specs.Machine.{newcomers_from}
 use Rattle.nvm_unit.specs.Passes.{IsPassOf, PassState, UnitName}
 use Rattle.nvm_unit.specs.Views.{newcomer}
 
-each_of : (unit : UnitName) (from n : ℕ) → All (IsPassOf unit) (map (pass_at unit.table) (newcomers_from unit.bounds from n))
+each_of : (unit : UnitName) (from n : ℕ) → All (IsPassOf unit) (map (pass_at unit.table unit.versions) (newcomers_from unit.bounds from n))
 each_of unit from zero = All-nil (IsPassOf unit)
 each_of unit from (suc n) =
-    All-cons (IsPassOf unit) (pass_at unit.table (newcomer unit.bounds from)) _ (record { table = refl; bounds = refl }) (each_of unit (suc from) n)
+    All-cons (IsPassOf unit) (pass_at unit.table unit.versions (newcomer unit.bounds from)) _ (record { table = refl; bounds = refl; kept = λ keeps. keeps }) (each_of unit (suc from) n)
 
-so_many : (unit : UnitName) (from n : ℕ) → length (map (pass_at unit.table) (newcomers_from unit.bounds from n)) ≡ n
+so_many : (unit : UnitName) (from n : ℕ) → length (map (pass_at unit.table unit.versions) (newcomers_from unit.bounds from n)) ≡ n
 so_many unit from zero = refl
 so_many unit from (suc n) = ap suc (so_many unit (suc from) n)
 

@@ -62,7 +62,7 @@ fn show_changes<R: AllocGlobal + Print + Eprint + Threads + Wait + Sync + Clock 
 ) -> Result<(), Fault> {
     let asked = read_words(words)?;
     let measured = match asked.target {
-        Target::Unit => measure::<UnitWriter, R>(rt, rt.alloc(), &asked)?,
+        Target::Unit | Target::Versions => measure::<UnitWriter, R>(rt, rt.alloc(), &asked)?,
         Target::Mutex => measure::<MutexWriter, R>(rt, rt.alloc(), &asked)?,
     };
     let Measured {

@@ -3,7 +3,7 @@ ghost use Rattle.unit_bench.specs.Inside.Words.{IsAllowed};
 
 use crate::fault::Fault;
 use crate::share::{Share, shares_of};
-use crate::words::Asked;
+use crate::words::{Asked, Target};
 use crate::writer::{BLOCK, Writer};
 use nvm_record::Payload;
 use std::alloc::{AllocError, Global};
@@ -74,13 +74,20 @@ fn writers_of<W: Writer>(alloc: Global, asked: &Asked) -> Result<(Vec<W>, Vec<Ve
     ensures watch { IfOk result (λ all. length all.0.items ≡ asked.now.units) }
     ensures each { IfOk result (λ all. length all.1.items ≡ asked.now.threads) }
 {
+    let versions = matches!(asked.target, Target::Versions);
     let mut watch = Vec::with_capacity(alloc, asked.units as usize)?;
     let mut all = Vec::with_capacity(alloc, asked.threads as usize)?;
     for _ in 0..asked.threads {
         all.push(Vec::with_capacity(alloc, asked.units as usize)?)?;
     }
     for _ in 0..asked.units {
-        let (writer, writers) = W::share(alloc, asked.threads as u16, asked.blocks, asked.changes)?;
+        let (writer, writers) = W::share(
+            alloc,
+            asked.threads as u16,
+            asked.blocks,
+            asked.changes,
+            versions,
+        )?;
         hand_out(all.as_mut_slice(), writers)?;
         watch.push(writer)?;
     }

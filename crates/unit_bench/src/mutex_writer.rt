@@ -69,6 +69,7 @@ impl Writer for MutexWriter {
         writers: u16,
         blocks: u32,
         _changes: u32,
+        _versions: bool,
     ) -> Result<(MutexWriter, Vec<MutexWriter>), Fault> {
         let shared = Arc::new(alloc, Mutex::new(LockedUnit::zeroed(alloc, blocks)?))?;
         let mut all = Vec::with_capacity(alloc, usize::from(writers))?;

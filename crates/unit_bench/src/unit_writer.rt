@@ -52,6 +52,7 @@ impl Writer for UnitWriter {
         writers: u16,
         blocks: u32,
         changes: u32,
+        versions: bool,
     ) -> Result<(UnitWriter, Vec<UnitWriter>), Fault> {
         let size = BlockSize::new(BLOCK as u32).ok_or(Fault::Refused)?;
         let limit = Limit::new(changes).ok_or(Fault::Refused)?;
@@ -60,7 +61,7 @@ impl Writer for UnitWriter {
             blocks,
             size,
         };
-        let (unit, passes) = match Unit::new(alloc, 0, place, writers + 1, limit) {
+        let (unit, passes) = match Unit::open(alloc, 0, place, writers + 1, limit, versions) {
             Ok(made) => made,
             Err(UnitFault::NoMemory) => return Err(Fault::NoMemory),
             Err(UnitFault::Passes) => return Err(Fault::Refused),

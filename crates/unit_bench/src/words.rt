@@ -6,8 +6,10 @@ use crate::fault::Fault;
 /// What shares the blocks and their history among threads.
 #[derive(Clone, Copy)]
 pub enum Target {
-    /// A shared unit.
+    /// A shared unit whose passes keep no versions.
     Unit,
+    /// A shared unit whose passes keep versions.
+    Versions,
     /// A mutex around a vector of blocks and a vector of entries.
     Mutex,
 }
@@ -26,7 +28,7 @@ pub struct Asked {
     pub blocks: u32,
 }
 
-/// What the words ask for: `unit` or `mutex`, and then the numbers of units, threads, changes and blocks.
+/// What the words ask for: `unit`, `versions` or `mutex`, and then the numbers of units, threads, changes and blocks.
 pub fn read_words(words: &[String]) -> Result<Asked, Fault>
     ensures { IfOk result IsAllowed }
 {
@@ -46,6 +48,7 @@ pub fn read_words(words: &[String]) -> Result<Asked, Fault>
 fn target_of(word: &str) -> Result<Target, Fault> {
     match word {
         "unit" => Ok(Target::Unit),
+        "versions" => Ok(Target::Versions),
         "mutex" => Ok(Target::Mutex),
         _ => Err(Fault::Words),
     }

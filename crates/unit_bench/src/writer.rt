@@ -11,12 +11,13 @@ pub const BLOCK: usize = 512;
 /// What one thread changes one unit by. Several of them share the unit.
 pub trait Writer: Drop {
     /// One writer, and so many more, of a new unit that has so many blocks of zero bytes and room for so many
-    /// changes.
+    /// changes. A shared unit is opened with versions or without.
     fn share(
         alloc: Global,
         writers: u16,
         blocks: u32,
         changes: u32,
+        versions: bool,
     ) -> Result<(Self, Vec<Self>), Fault>
         requires writers { writers < 64 }
         requires some { 0 < blocks }

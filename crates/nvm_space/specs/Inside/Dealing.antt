@@ -1,5 +1,5 @@
 -- Passes that are handed out to ports, and gathered from them: unit by unit, a pass for each port.
-use Rattle.std.specs.Prelude.{◌≡◌, ℕ, ◌<◌, ◌≤◌, List, [], ◌∷◌, ◌++◌, length}
+use Rattle.std.specs.Prelude.{◌≡◌, ℕ, ◌<◌, ◌≤◌, Bool, List, [], ◌∷◌, ◌++◌, length}
 use Rattle.nvm_record.specs.Lists.{IsAt}
 use Rattle.nvm_geometry.specs.Namespace.{Namespace}
 use Rattle.nvm_unit.specs.Passes.{UnitName, PassState}
@@ -7,8 +7,9 @@ use Rattle.nvm_space.specs.Ports.{PortState, new_port}
 use Rattle.nvm_space.specs.Spaces.{SpaceName}
 
 -- the space of these units
-abbrev pub space_of : Namespace → ℕ → ℕ → List UnitName → SpaceName
-space_of ns ports limit units = record { namespace = ns; ports = ports; limit = limit; units = units }
+abbrev pub space_of : Namespace → ℕ → ℕ → Bool → List UnitName → SpaceName
+space_of ns ports limit versions units =
+    record { namespace = ns; ports = ports; limit = limit; versions = versions; units = units }
 
 -- the port with this pass behind those that it has
 abbrev pub with_one_more : PortState → PassState → PortState

@@ -4,7 +4,7 @@ ghost use Rattle.nvm_unit.specs.Passes.{IsPassOf};
 
 use super::{BLOCK, change, two_passes};
 use nvm_record::{LbaRange, Payload, Status, ranges_data};
-use nvm_store::{ActRef, Answer, Look};
+use nvm_store::{ActRef, Answer, History, Look};
 use nvm_unit::{Changed, Open, Pass, Unit};
 use std::alloc::Global;
 use std::sync::Wait;
@@ -42,12 +42,21 @@ fn each_call_once(rt: HostRuntime) -> Result<(), Fail> {
     unit.meet(&rt, &mut first, &mut second);
     let seen = unit.history(&rt, alloc, &mut second)?;
     assert_eq!(rt; seen.len(), 1);
+    let history = closed(alloc, unit, first, second)?;
+    assert_eq!(rt; history.len(), 1);
+    Ok(())
+}
+
+/// The whole history of the unit, which has just these passes.
+fn closed(alloc: Global, unit: Unit, first: Pass, second: Pass) -> Result<History, Fail>
+    requires of { IsPassOf unit first × IsPassOf unit second }
+    requires count { unit.bounds.passes ≡ 2 }
+    requires numbers { (first.view.number ≡ 0) × (second.view.number ≡ 1) }
+{
     let mut passes = Vec::with_capacity(alloc, 2)?;
     passes.push(first)?;
     passes.push(second)?;
-    let history = unit.close(passes);
-    assert_eq!(rt; history.len(), 1);
-    Ok(())
+    Ok(unit.close(passes))
 }
 
 /// Does a Write of bytes of 1 to all 8 blocks.

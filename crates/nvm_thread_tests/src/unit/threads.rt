@@ -1,4 +1,7 @@
 //! Several threads on one unit.
+mod held;
+mod looking;
+
 ghost use Rattle.nvm_unit.specs.Passes.{IsPassOf};
 
 use nvm_record::BlockSize;

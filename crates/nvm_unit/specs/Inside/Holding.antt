@@ -1,19 +1,28 @@
 -- What a seat knows once it has waited for the unit, and once it holds it.
-use Rattle.std.specs.Prelude.{◌≡◌, ◌⊎◌, ℕ, ◌+◌, ◌*◌, ◌<◌, ◌≤◌, List, [], ◌∷◌, ◌++◌, map, length, Bool, true, false, None}
+use Rattle.std.specs.Prelude.{◌≡◌, ◌⊎◌, ℕ, ◌+◌, ◌*◌, ◌/◌, ◌%◌, ◌<◌, ◌≤◌, List, [], ◌∷◌, ◌++◌, map, length, Bool, true, false, None}
 use Rattle.nvm_store.specs.HistoryEntry.{HistoryEntry}
 use Rattle.nvm_store.specs.History.{CanFollow}
 use Rattle.nvm_unit.specs.declared.bounds.Bounds.{Bounds}
 use Rattle.nvm_unit.specs.declared.views.PassView.{PassView}
 use Rattle.nvm_unit.specs.Views.{looked, shown, added}
 use Rattle.nvm_unit.specs.Inside.Book.{Recorded, recorded}
-use Rattle.nvm_unit.specs.Passes.{IsHistoryOf, Finds}
-use Rattle.nvm_unit.specs.Inside.Plays.{Sits, resting, holding, EachIn, IsNotAbove, Fits}
+use Rattle.nvm_unit.specs.Passes.{IsHistoryOf, IsNotAbove, IsProperPass, Finds}
+use Rattle.nvm_unit.specs.Inside.Plays.{Sits, resting, holding, EachIn, Fits}
+use Rattle.nvm_unit.specs.Inside.Snapshot.{IsSnapshotOf}
+use Rattle.nvm_unit.specs.declared.snapshot.Snapshot.{Snapshot}
 
 -- Its steps so far, if any, decided nothing.
 abbrev pub HasWaited : Sits → Sits → Type 0
 HasWaited m m' =
     (m' ≡ m)
     ⊎ ((n : ℕ) × (m' ≡ (record m.0 { passes = map (looked false n) m.0.passes }, m.1)) × EachIn (IsNotAbove n) m.0.passes)
+
+-- It didn't get the unit: the last step found this word, which is odd, or its half is more than what each of its passes
+-- had seen.
+pub record HasMissed (decides : ℕ → Bool) (word : ℕ) (m m' : Sits) : Type 0 where
+  pub after : m' ≡ (record m.0 { passes = map (looked (decides word) (word / 2)) m.0.passes }, m.1)
+  pub later : EachIn (IsNotAbove (word / 2)) m.0.passes
+  pub newer : (word % 2 ≡ 1) ⊎ EachIn (λ p. length p.seen < word / 2) m.0.passes
 
 -- It holds the unit with this history, and has the book in hand.
 pub record HasHeld (b : Bounds) (history : List HistoryEntry) (book : Recorded) (m m' : Sits) : Type 0 where
@@ -51,19 +60,30 @@ GivesMore book m m' =
     → book ≡ recorded p.bounds (history ++ entry ∷ [])
     → m' ≡ resting (added (length history) history entry p ∷ [])
 
--- A book that can be in hand of this unit.
-pub record IsBookOf (b : Bounds) (book : Recorded) : Type 0 where
-  pub place : book.place ≡ b.place
-  pub few : length book.history ≤ 4194304
+-- The seat's one pass p, of this number, holds the unit with this history, and has the book in hand.
+pub record HoldsAlone (history : List HistoryEntry) (book : Recorded) (number : ℕ) (p : PassView) (m : Sits) : Type 0 where
+  pub at : m ≡ holding (looked false (length history) p ∷ []) history None
+  pub pages : book ≡ recorded p.bounds history
+  pub named : number ≡ p.number
+  pub below : p.number < p.bounds.passes
+  pub finds : Finds (length history) p history
+  pub proper : IsProperPass p
+
+-- The seat's one pass let go of the unit, and became this one, of which this is kept.
+pub record HasClosed (q : PassView) (snapshot : Snapshot) (number : ℕ) (m : Sits) : Type 0 where
+  pub at : m ≡ resting (q ∷ [])
+  pub keeps : IsSnapshotOf snapshot (recorded q.bounds q.seen)
+  pub named : number ≡ q.number
+  pub proper : IsProperPass q
 
 -- The pass found a history, whose book was read, and was brought to it.
-abbrev pub Visits : (ℕ → Bool) → Bounds → PassView → PassView → (Recorded → Type 0) → Type 0
-Visits decides b p q IsRead =
+abbrev pub Visits : PassView → PassView → (Recorded → Type 0) → Type 0
+Visits p q IsRead =
     (history : List HistoryEntry) × Finds (length history) p history
-    × (q ≡ shown (decides (2 * length history + 1)) (length history) history p) × IsRead (recorded b history)
+    × (q ≡ shown false (length history) history p) × IsRead (recorded p.bounds history)
 
--- Two passes were brought to one history, which has so many entries.
-abbrev pub HasMet : ℕ → PassView → PassView → Sits → Sits → Type 0
-HasMet n p o m m' =
-    (history : List HistoryEntry) × (n ≡ length history) × Finds (length history) p history × Finds (length history) o history
+-- Two passes were brought to one history, with what they keep of it.
+abbrev pub HasMet : Snapshot → Snapshot → PassView → PassView → Sits → Sits → Type 0
+HasMet one other p o m m' =
+    (history : List HistoryEntry) × IsSnapshotOf one (recorded p.bounds history) × IsSnapshotOf other (recorded o.bounds history) × Finds (length history) p history × Finds (length history) o history
     × (m ≡ resting (shown false (length history) history p ∷ [])) × (m' ≡ resting (shown false (length history) history o ∷ []))

@@ -11,7 +11,7 @@ use Rattle.nvm_unit.specs.Machine.{UnitState}
 use Rattle.nvm_record.specs.Lists.{IsAt}
 use Rattle.nvm_unit.specs.Inside.Book.{Recorded, recorded}
 use Rattle.nvm_unit.specs.Events.{Event, loads, takes, misses, adds, returns, idle, Happens, IsReached}
-use Rattle.nvm_unit.specs.Passes.{IsHistoryOf}
+use Rattle.nvm_unit.specs.Passes.{IsHistoryOf, IsNotAbove}
 
 -- what a seat carries, and the slot if it took it
 abbrev pub Sits : Type 0
@@ -28,11 +28,6 @@ holding passes history book = (record { passes = passes; held = Some history }, 
 -- It is so of each of them.
 abbrev pub EachIn : (PassView → Type 0) → List PassView → Type 0
 EachIn P passes = (i : ℕ) (p : PassView) → IsAt passes i p → P p
-
--- A step that finds n entries finds no fewer than the pass has found and seen.
-pub record IsNotAbove (n : ℕ) (p : PassView) : Type 0 where
-  pub floor : p.floor ≤ n
-  pub seen : length p.seen ≤ n
 
 -- What holds of a pass at this history.
 pub record Fits (b : Bounds) (history : List HistoryEntry) (p : PassView) : Type 0 where

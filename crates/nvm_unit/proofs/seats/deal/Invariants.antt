@@ -9,6 +9,6 @@ abbrev pub invariant-loop-number : goal.invariant-loop-number
 invariant-loop-number l = record {
   at : l.token.seat.table_id ≡ l.desk.table.shared.table_id;
   rests : l.token.seat.me ≡ resting (newcomers_from l.desk.table.shared.key l.number (l.count - l.number));
-  dealt : l.passes.items ++ map (pass_at l.desk.table.shared.table_id) (newcomers_from l.desk.table.shared.key l.number (l.count - l.number))
-      ≡ map (pass_at l.desk.table.shared.table_id) (newcomers_from l.desk.table.shared.key 0 l.count);
+  dealt : l.passes.items ++ map (pass_at l.desk.table.shared.table_id l.versions) (newcomers_from l.desk.table.shared.key l.number (l.count - l.number))
+      ≡ map (pass_at l.desk.table.shared.table_id l.versions) (newcomers_from l.desk.table.shared.key 0 l.count);
 }

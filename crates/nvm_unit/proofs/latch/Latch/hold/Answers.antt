@@ -1,14 +1,22 @@
-use Rattle.std.proofs.Common.{length, map, false}
-use Rattle.nvm_unit.specs.Views.{looked}
-use Rattle.nvm_unit.specs.Inside.Book.{recorded}
+use Rattle.std.proofs.Common.{◌∙◌}
+use Rattle.nvm_unit.proofs.Waiting.{missed_waited, waited_more, waited_held}
 use Rattle.nvm_unit.proofs.latch.Latch.hold.Goals as goal
 
-pub returns-clause-held : goal.returns-clause-held
-returns-clause-held g c =
-    let takes = c.take.ensures.taken.1 in
-    let took = takes.2 in
-    let out = c.take_book.ensures.taken (map (looked false (length takes.1)) c.args.token.now.seat.me.0.passes) takes.1 (recorded takes.0 takes.1) took.after in (
-      takes.0,
-      takes.1,
-      record { pages = out.0; after = out.1; fits = took.fits; lawful = took.lawful },
-    )
+pub returns-in-Ok-clause-held : goal.returns-in-Ok-clause-held
+returns-in-Ok-clause-held g c =
+    let held = c.in-Ok.ensures.held in
+    (held.0, held.1, waited_held held.0 held.1 c.in-Ok.book _ c.loop.token.seat.me _ c.loop.invariant.waited held.2)
+
+pub loop-preserved-then-word-eq1 : goal.loop-preserved-then-word-eq1
+loop-preserved-then-word-eq1 g c =
+    record {
+      at = c.try_hold.ensures.at ∙ c.loop.invariant.at;
+      waited = waited_more _ c.loop.token.seat.me _ c.loop.invariant.waited (missed_waited c.in-Err.word _ _ c.in-Err.ensures.missed);
+    }
+
+pub loop-preserved : goal.loop-preserved
+loop-preserved g c =
+    record {
+      at = c.try_hold.ensures.at ∙ c.loop.invariant.at;
+      waited = waited_more _ c.loop.token.seat.me _ c.loop.invariant.waited (missed_waited c.in-Err.word _ _ c.in-Err.ensures.missed);
+    }

@@ -1,7 +1,9 @@
-use Rattle.std.proofs.Common.{◌≡◌, ◌≤◌, ap, ◌∙◌, length, arith, inl, [], ◌∷◌, false}
+use Rattle.std.proofs.Common.{◌≡◌, ◌≤◌, ap, sym, subst, ◌∙◌, length, arith, inl, [], ◌∷◌, false}
 use Rattle.nvm_unit.specs.declared.steps.Token.{Token}
 use Rattle.nvm_unit.specs.Inside.Seats.{only}
-use Rattle.nvm_unit.specs.Inside.Book.{Recorded}
+use Rattle.nvm_unit.specs.declared.bounds.Bounds.{Bounds}
+use Rattle.nvm_unit.specs.Inside.Book.{recorded}
+use Rattle.nvm_unit.specs.Inside.Snapshot.{IsSnapshotOf}
 use Rattle.nvm_unit.specs.Inside.Plays.{Sits, resting}
 use Rattle.nvm_unit.specs.Views.{looked, shown}
 use Rattle.nvm_unit.proofs.Together.{rests_as, first_stays, others_go, both_join, together, both_back, both_shown, both_few}
@@ -10,8 +12,8 @@ use Rattle.nvm_unit.proofs.latch.Latch.meet.Goals as goal
 abbrev me_of : Token → Sits
 me_of t = t.seat.me
 
-pub overflow_cast-found : goal.overflow_cast-found
-overflow_cast-found g c =
+pub snapshot-requires : goal.snapshot-requires
+snapshot-requires g c =
     let p = only c.args.one.now.seat.me.0.passes in
     let o = only c.args.other.now.seat.me.0.passes in
     let first : c.split-spare.new.token.seat.me ≡ resting (p ∷ []) = first_stays _ _ p [] c.requires.one_rests c.split-spare.ensures.first in
@@ -22,7 +24,20 @@ overflow_cast-found g c =
     let book = c.hold-book.result in
     let a = together held.0 h book p o _ _ both held.2 in
     let short : length book.history ≤ 4194304 = both_few held.0 h book p o _ a c.requires.limit in
-    let count = c.entries-found.ensures in
+    omega arith
+
+pub snapshot-requires-2 : goal.snapshot-requires-2
+snapshot-requires-2 g c =
+    let p = only c.args.one.now.seat.me.0.passes in
+    let o = only c.args.other.now.seat.me.0.passes in
+    let first : c.split-spare.new.token.seat.me ≡ resting (p ∷ []) = first_stays _ _ p [] c.requires.one_rests c.split-spare.ensures.first in
+    let joining : c.replace-joining.result.seat.me ≡ resting (o ∷ []) = ap me_of c.replace-joining.ensures.value ∙ c.requires.other_rests in
+    let both : c.join.new.token.seat.me ≡ resting (p ∷ o ∷ []) = both_join _ _ _ (p ∷ []) (o ∷ []) first joining c.join.ensures.joined in
+    let held = c.hold-book.ensures.held in
+    let h = held.1 in
+    let book = c.hold-book.result in
+    let a = together held.0 h book p o _ _ both held.2 in
+    let short : length book.history ≤ 4194304 = both_few held.0 h book p o _ a c.requires.limit in
     omega arith
 
 pub release-requires-clause-few : goal.release-requires-clause-few
@@ -81,7 +96,8 @@ returns-clause-met g c =
     let back : c.release.new.token.seat.me ≡ resting (shown false (length h) h p ∷ shown false (length h) h o ∷ []) =
     both_shown held.0 h book p o _ _ a c.release.ensures.back in (
       h,
-      c.entries-found.ensures ∙ ap (λ (x : Recorded). length x.history) a.pages,
+      subst (IsSnapshotOf c.snapshot.result) (a.pages ∙ ap (λ (x : Bounds). recorded x h) (sym a.bounds)) c.snapshot.ensures.shown,
+      subst (IsSnapshotOf c.snapshot-2.result) (a.pages ∙ ap (λ (x : Bounds). recorded x h) (sym a.other_bounds)) c.snapshot-2.ensures.shown,
       a.finds,
       a.other_finds,
       first_stays _ _ _ _ back c.split.ensures.first,

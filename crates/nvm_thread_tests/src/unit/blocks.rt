@@ -1,0 +1,201 @@
+//! Calls on one block: Writes of bytes that are all the same, and Reads that find such bytes.
+ghost use Rattle.std.specs.Prelude.{◌≡◌, true};
+ghost use Rattle.nvm_unit.specs.Passes.{IsPassOf};
+
+use super::BLOCK;
+use nvm_record::Payload;
+use nvm_store::{ActRef, Answer, Look};
+use nvm_unit::{Busy, Changed, Gate, LookFault, Observed, Open, Pass, Unit};
+use std::alloc::Global;
+use std::sync::Wait;
+
+pub(super) const NO_MEMORY: &'static str = "there was no memory";
+
+/// The point of a Read's answer, and the byte of which the block is full.
+pub(super) type Read = (u32, u8);
+
+/// Does a Write as job 5, for which there must be memory.
+pub(super) fn write<R: Wait, G: Gate>(
+    rt: &R,
+    alloc: Global,
+    unit: &Unit,
+    pass: &mut Pass,
+    lba: u64,
+    byte: u8,
+    gate: &G,
+) -> Result<Changed, &'static str>
+    requires { IsPassOf unit.now pass.old }
+    ensures of { IsPassOf unit.now pass.new }
+    ensures number { pass.new.view.number ≡ pass.old.view.number }
+{
+    let Ok(payload) = Payload::copy_of(alloc, &[byte; BLOCK]) else {
+        return Err(NO_MEMORY);
+    };
+    let act = ActRef::Write {
+        first: lba,
+        blocks: 1,
+        payload: payload.lend(),
+    };
+    if !unit.covers(act) {
+        return Err("the unit doesn't cover the Write");
+    }
+    match unit.change(rt, alloc, pass, 5, act, gate) {
+        Changed::NoMemory { .. } => Err(NO_MEMORY),
+        changed => Ok(changed),
+    }
+}
+
+/// Tries once to do a Write as job 5, for which there must be memory.
+pub(super) fn try_write<G: Gate>(
+    alloc: Global,
+    unit: &Unit,
+    pass: &mut Pass,
+    lba: u64,
+    byte: u8,
+    gate: &G,
+) -> Result<Result<Changed, Busy>, &'static str>
+    requires { IsPassOf unit.now pass.old }
+    ensures of { IsPassOf unit.now pass.new }
+    ensures number { pass.new.view.number ≡ pass.old.view.number }
+{
+    let Ok(payload) = Payload::copy_of(alloc, &[byte; BLOCK]) else {
+        return Err(NO_MEMORY);
+    };
+    let act = ActRef::Write {
+        first: lba,
+        blocks: 1,
+        payload: payload.lend(),
+    };
+    if !unit.covers(act) {
+        return Err("the unit doesn't cover the Write");
+    }
+    match unit.try_change(alloc, pass, 5, act, gate) {
+        Ok(Changed::NoMemory { .. }) => Err(NO_MEMORY),
+        tried => Ok(tried),
+    }
+}
+
+/// Reads the block from what the pass keeps, for which there must be memory.
+pub(super) fn look_at(
+    alloc: Global,
+    unit: &Unit,
+    pass: &mut Pass,
+    lba: u64,
+) -> Result<Result<Read, LookFault>, &'static str>
+    requires of { IsPassOf unit.now pass.old }
+    requires versions { unit.now.versions ≡ true }
+    ensures of { IsPassOf unit.now pass.new }
+    ensures number { pass.new.view.number ≡ pass.old.view.number }
+{
+    let look = Look::Read {
+        first: lba,
+        blocks: 1,
+    };
+    if !unit.covers_look(look) {
+        return Err("the unit doesn't cover the Read");
+    }
+    match unit.look(alloc, pass, look) {
+        Ok(observed) => {
+            let read = read_of(&observed)?;
+            Ok(Ok(read))
+        }
+        Err(LookFault::NoMemory { .. }) => Err(NO_MEMORY),
+        Err(newer) => Ok(Err(newer)),
+    }
+}
+
+/// Reads the block of the unit, for which there must be memory.
+pub(super) fn observe_at(
+    rt: &impl Wait,
+    alloc: Global,
+    unit: &Unit,
+    pass: &mut Pass,
+    lba: u64,
+) -> Result<Read, &'static str>
+    requires { IsPassOf unit.now pass.old }
+    ensures of { IsPassOf unit.now pass.new }
+    ensures number { pass.new.view.number ≡ pass.old.view.number }
+{
+    let look = Look::Read {
+        first: lba,
+        blocks: 1,
+    };
+    if !unit.covers_look(look) {
+        return Err("the unit doesn't cover the Read");
+    }
+    match unit.observe(rt, alloc, pass, look) {
+        Ok(observed) => read_of(&observed),
+        Err(_) => Err(NO_MEMORY),
+    }
+}
+
+/// Does a Write as job 5, for which there must be memory, unless another pass holds the unit.
+pub(super) fn poll_write(
+    alloc: Global,
+    unit: &Unit,
+    pass: &mut Pass,
+    lba: u64,
+    byte: u8,
+) -> Result<Option<Changed>, &'static str>
+    requires { IsPassOf unit.now pass.old }
+    ensures of { IsPassOf unit.now pass.new }
+    ensures number { pass.new.view.number ≡ pass.old.view.number }
+{
+    let Ok(payload) = Payload::copy_of(alloc, &[byte; BLOCK]) else {
+        return Err(NO_MEMORY);
+    };
+    let act = ActRef::Write {
+        first: lba,
+        blocks: 1,
+        payload: payload.lend(),
+    };
+    if !unit.covers(act) {
+        return Err("the unit doesn't cover the Write");
+    }
+    match unit.poll_change(alloc, pass, 5, act, &Open) {
+        Some(Changed::NoMemory { .. }) => Err(NO_MEMORY),
+        polled => Ok(polled),
+    }
+}
+
+/// Reads the block of the unit, for which there must be memory, unless another pass holds the unit.
+pub(super) fn poll_at(
+    alloc: Global,
+    unit: &Unit,
+    pass: &mut Pass,
+    lba: u64,
+) -> Result<Option<Read>, &'static str>
+    requires { IsPassOf unit.now pass.old }
+    ensures of { IsPassOf unit.now pass.new }
+    ensures number { pass.new.view.number ≡ pass.old.view.number }
+{
+    let look = Look::Read {
+        first: lba,
+        blocks: 1,
+    };
+    if !unit.covers_look(look) {
+        return Err("the unit doesn't cover the Read");
+    }
+    match unit.poll_observe(alloc, pass, look) {
+        Some(Ok(observed)) => {
+            let read = read_of(&observed)?;
+            Ok(Some(read))
+        }
+        Some(Err(_)) => Err(NO_MEMORY),
+        None => Ok(None),
+    }
+}
+
+/// What a Read of one block found, if its bytes are all the same.
+fn read_of(observed: &Observed) -> Result<Read, &'static str> {
+    let Answer::Payload(payload) = &observed.answer else {
+        return Err("the Read failed");
+    };
+    let Some(byte) = payload.as_slice().first() else {
+        return Err("the Read found no bytes");
+    };
+    if payload.as_slice() != [*byte; BLOCK].as_slice() {
+        return Err("the Read found other bytes");
+    }
+    Ok((observed.point, *byte))
+}
