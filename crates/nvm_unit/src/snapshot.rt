@@ -36,11 +36,7 @@ impl Snapshot {
         ensures version { IfSome result.version (λ u. u ≡ blocks.now) }
         ensures kept { is_some result.version ≡ true → versions ≡ true }
     {
-        let version = if versions {
-            blocks.share().ok()
-        } else {
-            None
-        };
+        let version = if versions { blocks.share().ok() } else { None };
         Snapshot { entries, version }
     }
 

@@ -202,7 +202,16 @@ impl Unit {
     {
         pass.snapshot.drop_version();
         let book = self.latch.hold(rt, &mut pass.token);
-        self.change_held(alloc, &mut pass.token, &mut pass.snapshot, book, pass.number, job, act, gate)
+        self.change_held(
+            alloc,
+            &mut pass.token,
+            &mut pass.snapshot,
+            book,
+            pass.number,
+            job,
+            act,
+            gate,
+        )
     }
 
     /// Tries once to do what [`change`](Unit::change) does: one load and, if the unit is free, one exchange. If
@@ -227,7 +236,16 @@ impl Unit {
         match self.latch.try_hold::<Always>(&mut pass.token) {
             Ok(book) => {
                 pass.snapshot.drop_version();
-                Ok(self.change_held(alloc, &mut pass.token, &mut pass.snapshot, book, pass.number, job, act, gate))
+                Ok(self.change_held(
+                    alloc,
+                    &mut pass.token,
+                    &mut pass.snapshot,
+                    book,
+                    pass.number,
+                    job,
+                    act,
+                    gate,
+                ))
             }
             Err(word) => Err(Busy { word }),
         }
@@ -255,7 +273,16 @@ impl Unit {
         match self.latch.try_hold::<Never>(&mut pass.token) {
             Ok(book) => {
                 pass.snapshot.drop_version();
-                Some(self.change_held(alloc, &mut pass.token, &mut pass.snapshot, book, pass.number, job, act, gate))
+                Some(self.change_held(
+                    alloc,
+                    &mut pass.token,
+                    &mut pass.snapshot,
+                    book,
+                    pass.number,
+                    job,
+                    act,
+                    gate,
+                ))
             }
             Err(_) => None,
         }
@@ -461,7 +488,9 @@ impl Unit {
         ensures one_proper { IsProperPass one.new.view }
         ensures other_proper { IsProperPass other.new.view }
     {
-        let (snapshot, other_snapshot) = self.latch.meet(rt, &mut one.token, &mut other.token, self.versions);
+        let (snapshot, other_snapshot) = self
+            .latch
+            .meet(rt, &mut one.token, &mut other.token, self.versions);
         one.snapshot = snapshot;
         other.snapshot = other_snapshot;
     }
