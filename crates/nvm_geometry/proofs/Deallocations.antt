@@ -7,6 +7,7 @@ use Rattle.std.proofs.lemmas.Bool.{cases_Bool, cases_lt, or_cases, or_left, or_r
 use Rattle.std.proofs.lemmas.List.Elements.{All-head, All-tail, filter_agree}
 use Rattle.std.proofs.lemmas.List.FromFn.{get_or-map-range_with_len, length-map-range_with_len, map-range_with_len_more}
 use Rattle.nvm_record.specs.declared.lba_range.LbaRange.{LbaRange}
+use Rattle.nvm_record.specs.Deeds.{IsOnRange}
 use Rattle.nvm_record.specs.Ranges.{range_has, ranges_have, range_at, range_count, ranges_of}
 use Rattle.nvm_record.specs.Step.{Operation, is_in_range}
 use Rattle.nvm_geometry.specs.Namespace.{Namespace}
@@ -16,7 +17,7 @@ use Rattle.nvm_geometry.specs.Lowest.{IsLowest}
 use Rattle.nvm_geometry.specs.Parts.{blocks_below, blocks_in, reached_in, meets, units_met, units_where}
 use Rattle.nvm_geometry.proofs.Pieces.{filter_none, kept_first}
 use Rattle.nvm_geometry.proofs.Places.{part_inside, place_in, place_here}
-use Rattle.nvm_geometry.proofs.Reached.{reached_known, reached_some, some_reached}
+use Rattle.nvm_geometry.proofs.Reached.{reached_all, reached_known, reached_some, some_reached}
 use Rattle.nvm_geometry.proofs.UnitPlaces.{between_units, unit_between, unit_is_met}
 
 -- one of the ranges has a block in the unit
@@ -348,3 +349,27 @@ pub none_of_lowest : (ns : Namespace) (rs : List LbaRange) (from : ℕ) (o : Opt
     → IfNone o (units_met_from ns (deallocation ns rs) from ≡ [])
 none_of_lowest ns rs from None lowest = units_from_none ns (deallocation ns rs) from lowest
 none_of_lowest ns rs from (Some unit) lowest = tt
+
+-- an operation on its whole range meets the units in which the range has a block
+same_units : (ns : Namespace) (op : Operation) (r : LbaRange) (unit : ℕ) → IsOnRange op.deed → r.first ≡ op.first
+    → r.blocks ≡ op.blocks → has_block ns r unit ≡ meets ns op unit
+same_units ns op r unit whole first blocks =
+    rw (first, blocks) (ap (λ n. nat_lt 0 n) (sym (reached_all ns op unit whole)))
+
+-- of these from one on, the lowest comes first
+pub range_meets_first : (ns : Namespace) (op : Operation) (r : LbaRange) (from unit : ℕ) → IsOnRange op.deed
+    → r.first ≡ op.first → r.blocks ≡ op.blocks → r.first + r.blocks ≤ ns.nsze
+    → IsLowest (has_block ns r) from (Some unit)
+    → units_met_from ns op from ≡ unit ∷ units_met_from ns op (unit + 1)
+range_meets_first ns op r from unit whole first blocks inside lowest =
+    let met = lowest_agree (has_block ns r) (meets ns op) from (Some unit)
+    (λ k. same_units ns op r k whole first blocks) lowest in
+    units_from_lowest ns op from unit
+    (reached_known ns op unit (omega (arith, inside, first, blocks)) (ltb-true 0 (reached_in ns op unit) met.1)) met
+
+-- and there are none where there is no lowest
+pub range_meets_none : (ns : Namespace) (op : Operation) (r : LbaRange) (from : ℕ) → IsOnRange op.deed
+    → r.first ≡ op.first → r.blocks ≡ op.blocks → IsLowest (has_block ns r) from None → units_met_from ns op from ≡ []
+range_meets_none ns op r from whole first blocks none =
+    units_from_none ns op from
+    (lowest_agree (has_block ns r) (meets ns op) from None (λ k. same_units ns op r k whole first blocks) none)

@@ -63,8 +63,9 @@ impl Geometry {
         count
     }
 
-    /// The lowest unit from `from` on in which the range has a block.
-    fn next_of_range(self, range: LbaRange, from: u16) -> Option<u16>
+    /// The lowest unit from `from` on in which the range has a block: `None` where there is none. It takes a constant
+    /// number of steps.
+    pub fn next_of_range(self, range: LbaRange, from: u16) -> Option<u16>
         requires { range.first + range.blocks ≤ self.nsze }
         ensures { IsLowest (has_block self range) from result }
     {

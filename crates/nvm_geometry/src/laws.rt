@@ -1,7 +1,7 @@
 //! What holds of boundaries, units and parts by their definitions alone. Each law is a call that does
 //! nothing and whose contract is the law.
 
-ghost use Rattle.std.specs.Prelude.{◌≡◌, ◌≢◌, ◌==◌, ◌↔◌, ℕ, ◌+◌, ◌*◌, ◌-◌, ◌<◌, ◌≤◌, ◌&&◌, List, [], ◌∷◌, All, Contains, IsTrue, false, length, map};
+ghost use Rattle.std.specs.Prelude.{◌≡◌, ◌≢◌, ◌==◌, ◌↔◌, ℕ, ◌+◌, ◌*◌, ◌-◌, ◌<◌, ◌≤◌, ◌&&◌, List, [], ◌∷◌, All, Contains, IsTrue, None, Some, false, length, map};
 ghost use Rattle.nvm_record.specs.Deeds.{is_look, is_read, is_pair, is_deallocate, IsOnRange, IsSingle};
 ghost use Rattle.nvm_record.specs.Medium.{Medium, HasBlockSize};
 ghost use Rattle.nvm_record.specs.Ranges.{ranges_have};
@@ -9,9 +9,10 @@ ghost use Rattle.nvm_record.specs.Status.{IsSuccess};
 ghost use Rattle.nvm_record.specs.Step.{HasData, HasRangesWithin, Deed, Operation, reads, block_at, is_in_range, reaches, medium_after, statuses_of, data_of};
 ghost use Rattle.nvm_record.specs.declared.lba_range.LbaRange.{LbaRange as Range};
 ghost use Rattle.nvm_geometry.specs.Boundaries.{IsBoundary, SharesUnit, unit_number, units_of};
-ghost use Rattle.nvm_geometry.specs.Deallocation.{EndInNamespace, deallocation, units_met_from};
+ghost use Rattle.nvm_geometry.specs.Deallocation.{EndInNamespace, deallocation, has_block, units_met_from};
 ghost use Rattle.nvm_geometry.specs.Faults.{HasNoFault, IsValid};
 ghost use Rattle.nvm_geometry.specs.Limits.{LiesInUnit};
+ghost use Rattle.nvm_geometry.specs.Lowest.{IsLowest};
 ghost use Rattle.nvm_geometry.specs.Namespace.{Namespace};
 ghost use Rattle.nvm_geometry.specs.Parts.{meets, units_met, units_of_range, data_part, part_in, piece_in, pieces_of, AreInLine, IsInUnit};
 ghost use Rattle.nvm_geometry.specs.Place.{IsPlaceOf};
@@ -94,6 +95,18 @@ pub fn whole_ranges_are_reached()
         → units_met ns op ≡ units_of_range ns op.first op.blocks }
     ensures met { (ns : Namespace) (op : Operation) (unit : ℕ) → IsOnRange op.deed → op.first + op.blocks ≤ ns.nsze
         → Contains (units_met ns op) unit ↔ (0 < (part_in ns op unit).blocks) }
+{}
+
+/// Of the units from `from` on that an operation on its whole range meets, the first is the lowest in which the range
+/// has a block, and there are none where no unit is such.
+pub fn the_lowest_unit_is_met_first()
+    ensures first { (ns : Namespace) (op : Operation) (range : Range) (from unit : ℕ) → IsOnRange op.deed
+        → range.first ≡ op.first → range.blocks ≡ op.blocks → range.first + range.blocks ≤ ns.nsze
+        → IsLowest (has_block ns range) from (Some unit)
+        → units_met_from ns op from ≡ unit ∷ units_met_from ns op (unit + 1) }
+    ensures none { (ns : Namespace) (op : Operation) (range : Range) (from : ℕ) → IsOnRange op.deed
+        → range.first ≡ op.first → range.blocks ≡ op.blocks → IsLowest (has_block ns range) from None
+        → units_met_from ns op from ≡ [] }
 {}
 
 /// A Deallocate of ranges in the namespace meets just the units in which one of them has an LBA. From unit 0 on these

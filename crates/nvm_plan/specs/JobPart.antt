@@ -1,6 +1,6 @@
 -- The units in which a job has a part, and what it does in each (own): a run does these parts, and a record of one is
 -- judged by them.
-use Rattle.std.specs.Prelude.{ℕ, if◌then◌else◌, List, [], Option, Some, None}
+use Rattle.std.specs.Prelude.{ℕ, nat_le, if◌then◌else◌, List, [], filter, Option, Some, None}
 use Rattle.nvm_record.specs.declared.status.Statuses.{Statuses}
 use Rattle.nvm_record.specs.Step.{Operation}
 use Rattle.nvm_geometry.specs.Namespace.{Namespace}
@@ -25,6 +25,10 @@ units_of_ready ns (Some op) = units_met ns op
 -- the units in which a job has a part, ascending
 abbrev pub job_units : Namespace → Job → List ℕ
 job_units ns job = units_of_ready ns (ready_operation ns job)
+
+-- those of them from this one on
+abbrev pub job_units_from : Namespace → Job → ℕ → List ℕ
+job_units_from ns job from = filter (λ unit. nat_le from unit) (job_units ns job)
 
 abbrev pub part_of_ready : Namespace → Option Operation → ℕ → Option Operation
 part_of_ready ns None unit = None

@@ -32,4 +32,4 @@ pub use job_list::jobs;
 pub use lent_part::{LentPart, job_part_in};
 pub use part::{Part, PartResult};
 pub use place::unit_place;
-pub use units::{JobUnits, job_part_count, job_units};
+pub use units::{JobUnits, job_part_count, job_units, next_job_unit};

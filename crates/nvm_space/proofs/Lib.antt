@@ -7,6 +7,8 @@ pub mod Shuffles
 pub mod Joined
 pub mod DeedLemmas
 pub mod PartReplies
-pub mod Progress
+pub mod Waiting
+pub mod PartByPart
+pub mod NextParts
 pub mod PortsKept
 pub mod ReadingNow

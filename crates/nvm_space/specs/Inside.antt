@@ -2,3 +2,4 @@
 pub mod Dealing
 pub mod Meeting
 pub mod Parts
+pub mod Replying

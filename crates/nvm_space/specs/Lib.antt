@@ -2,6 +2,8 @@ pub mod Spaces
 pub mod Ports
 pub mod Visits
 pub mod Trace
+pub mod UnderWay
+pub mod Progress
 pub mod ReadNow
 pub mod Closing
 pub mod Shuffle

@@ -17,9 +17,11 @@ mod space;
 mod space_fault;
 #[cfg(test)]
 mod tests;
+mod under_way;
 
 pub use job_done::JobDone;
 pub use port::Port;
 pub use read_now::{ReadAnswer, ReadNow};
 pub use space::{MOST_PORTS, Space};
 pub use space_fault::SpaceFault;
+pub use under_way::{JobUnderWay, Progress};

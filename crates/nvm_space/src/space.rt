@@ -7,8 +7,10 @@ ghost use Rattle.nvm_unit.specs.Ends.{views_of};
 ghost use Rattle.nvm_unit.specs.Passes.{UnitName};
 ghost use Rattle.nvm_unit.specs.Replies.{IsBroughtUp};
 ghost use Rattle.nvm_plan.specs.Fits.{FitsNamespace};
+ghost use Rattle.nvm_space.specs.Progress.{IsProgress};
 ghost use Rattle.nvm_space.specs.ReadNow.{ReadsNow};
 ghost use Rattle.nvm_space.specs.Trace.{DoesJob};
+ghost use Rattle.nvm_space.specs.UnderWay.{IsUnderWay};
 ghost use Rattle.nvm_space.specs.Visits.{BecomesAt, MeetInEach};
 ghost use Rattle.nvm_space.specs.Closing.{EndsWhole};
 ghost use Rattle.nvm_space.specs.Ports.{AreAllPortsOf, IsPortOf, new_ports};
@@ -20,8 +22,9 @@ use crate::meeting::meet_in_each;
 use crate::opening::opened;
 use crate::port::Port;
 use crate::read_now::{ReadAnswer, ReadNow, told};
-use crate::running::do_job;
+use crate::running::{do_job, poll_job};
 use crate::space_fault::SpaceFault;
+use crate::under_way::{JobUnderWay, Progress, begin};
 use nvm_geometry::{Geometry, laws};
 use nvm_plan::Job;
 use nvm_record::NoMemory;
@@ -166,11 +169,53 @@ impl Space {
         do_job(
             rt,
             alloc,
-            self.geometry,
+            &self.geometry,
             &self.units,
             &mut port.passes,
             number,
             job,
+            gate,
+        )
+    }
+
+    /// Begins a job that is to be done without waiting: refuses it, or says that it is pending, with no part done yet.
+    /// [`poll_job`](Space::poll_job) goes on with it. It asks for the same memory as [`run_job`](Space::run_job) does
+    /// before its first part; where that is refused, the job is done, and nothing was done. It touches no unit.
+    pub fn begin_job(&self, alloc: Global, number: u32, job: &Job) -> Progress
+        ensures { (views : List PassView) → IsProgress self.now.namespace number job.now views views result }
+    {
+        begin(alloc, &self.geometry, number, job)
+    }
+
+    /// Goes on with a job that was begun, part by part, up to the first whose unit another port holds: then the job is
+    /// pending. It is polled again with the same job and the same port, by which nothing else is done meanwhile. No part
+    /// is done twice, and when the job is done, it is told and was done as by [`run_job`](Space::run_job). The gate is
+    /// called once for each change that takes its unit. It waits for nothing.
+    pub fn poll_job<G: Gate>(
+        &self,
+        alloc: Global,
+        port: &mut Port,
+        job: &Job,
+        under_way: JobUnderWay,
+        gate: &G,
+    ) -> Progress
+        requires of { IsPortOf self.now port.old }
+        requires fits { FitsNamespace self.now.namespace job.now }
+        requires under_way { (start : List PassView)
+            × IsUnderWay self.now.namespace job.now under_way start (views_of port.old.passes) }
+        ensures of { IsPortOf self.now port.new }
+        ensures number { port.new.number ≡ port.old.number }
+        ensures goes { (start : List PassView)
+            → IsUnderWay self.now.namespace job.now under_way start (views_of port.old.passes)
+            → IsProgress self.now.namespace under_way.number job.now start (views_of port.new.passes) result }
+    {
+        poll_job(
+            alloc,
+            &self.geometry,
+            &self.units,
+            &mut port.passes,
+            job,
+            under_way,
             gate,
         )
     }

@@ -1,6 +1,5 @@
--- A job that is under way: the parts that were done, and those that are left.
-use Rattle.std.specs.Prelude.{◌≡◌, ◌⊎◌, ℕ, List, [], ◌++◌, length, map, Option, unwrap_or, IsSome}
-use Rattle.std.specs.List.{AllByRecursion}
+-- The parts of a job, and what is told of them.
+use Rattle.std.specs.Prelude.{◌≡◌, ◌⊎◌, ℕ, List, [], ◌++◌, length, Option, unwrap_or, IsSome}
 use Rattle.nvm_record.specs.Lists.{IsAt}
 use Rattle.nvm_record.specs.declared.status.Statuses.{Statuses}
 use Rattle.nvm_record.specs.declared.status.Statuses.TheVariants.{One}
@@ -12,14 +11,12 @@ use Rattle.nvm_plan.specs.Completions.{completions_of}
 use Rattle.nvm_plan.specs.declared.job.Job.{Job}
 use Rattle.nvm_plan.specs.declared.part.Part.{Part}
 use Rattle.nvm_plan.specs.declared.part.PartResult.TheVariants as result
-use Rattle.nvm_plan.specs.Outcome.{data_told, AreDone}
 use Rattle.nvm_plan.specs.Reply.{Reply}
 use Rattle.nvm_plan.specs.UnitPlace.{IsUnitPlace}
-use Rattle.nvm_unit.specs.declared.views.PassView.{PassView}
 use Rattle.nvm_unit.specs.Passes.{UnitName}
 use Rattle.nvm_space.specs.declared.job_done.JobDone.{JobDone}
 use Rattle.nvm_space.specs.declared.replies.PartReply.{PartReply}
-use Rattle.nvm_space.specs.Trace.{PartDone, DoesParts, IsPartOfJob, part_ended}
+use Rattle.nvm_space.specs.Trace.{PartDone, part_ended}
 
 -- These are the units of the namespace, each at the place of its number.
 pub record AreUnitsOf (ns : Namespace) (units : List UnitName) : Type 0 where
@@ -43,13 +40,3 @@ IsGathered r old new part statuses =
     ((part ≡ r.part) × (statuses ≡ r.statuses) × (new ≡ old ++ unwrap_or r.payload []))
     ⊎ (IsSome r.payload × (part ≡ part_ended r.part.unit r.part.point result.NoMemory)
     × (statuses ≡ One internal_error))
-
--- Parts of the job were done, each with success; they read these bytes, and those in the units `left` are left.
-pub record HaveDone (ns : Namespace) (number : ℕ) (job : Job) (op : Operation) (start now : List PassView)
-    (left : List ℕ) (listed : List Part) (bytes : List ℕ) : Type 0 where
-  pub parts : List PartDone
-  pub does : DoesParts parts start now
-  pub each : AllByRecursion (IsPartOfJob ns number job) parts
-  pub done : AreDone ns op (map (λ did. did.reply) parts) left
-  pub read : data_told (map (λ did. did.reply) parts) ≡ bytes
-  pub are_listed : listed ≡ map (λ did. did.reply.part) parts

@@ -1,8 +1,8 @@
 -- The parts of a job, one after the other, are what is asked of it.
-use Rattle.std.proofs.Common.{◌≡◌, inl, inr, ℕ, ◌+◌, ◌<◌, List, [], ◌∷◌, ◌++◌, map, Option, Some, None, IsSome, unwrap_or, refl, sym, ap, ◌∙◌, subst, arith, length, get_or}
-use Rattle.std.specs.List.{AllByRecursion, range_with_len, Contains, All}
-use Rattle.std.proofs.lemmas.List.Elements.{All-filter, All-contains_itself, recursion_from_All}
-use Rattle.std.proofs.lemmas.List.FromFn.{length-range_with_len, get_or-range_with_len}
+use Rattle.std.proofs.Common.{◌≡◌, inl, inr, ℕ, ◌+◌, ◌<◌, List, [], ◌∷◌, ◌++◌, map, Option, Some, None, IsSome, unwrap_or, refl, sym, ap, ◌∙◌, subst, arith, length}
+use Rattle.std.specs.List.{AllByRecursion, Contains}
+use Rattle.std.specs.Prelude.{filter, nat_le}
+use Rattle.std.proofs.lemmas.List.Elements.{Contains-append_right}
 use Rattle.nvm_record.specs.declared.status.Statuses.{Statuses}
 use Rattle.nvm_record.specs.declared.status.Statuses.TheVariants.{One}
 use Rattle.nvm_record.specs.Deeds.{is_look, is_pair, success_of, IsAct, IsLook, IsFailedPair}
@@ -10,20 +10,21 @@ use Rattle.nvm_record.specs.Medium.{Medium}
 use Rattle.nvm_record.specs.Status.{IsSuccess, internal_error}
 use Rattle.nvm_record.specs.Step.{Operation}
 use Rattle.nvm_geometry.specs.Namespace.{Namespace}
-use Rattle.nvm_geometry.specs.Boundaries.{units_of}
-use Rattle.nvm_geometry.specs.Parts.{meets, part_in, units_met, units_where}
+use Rattle.nvm_geometry.specs.Deallocation.{units_met_from}
+use Rattle.nvm_geometry.specs.Parts.{part_in, units_met}
 use Rattle.nvm_plan.specs.declared.job.Job.{Job}
 use Rattle.nvm_plan.specs.declared.part.Part.{Part}
 use Rattle.nvm_plan.specs.declared.part.PartResult.TheVariants as result
-use Rattle.nvm_plan.specs.JobPart.{job_part_in}
+use Rattle.nvm_plan.specs.JobPart.{job_part_in, job_units, job_units_from}
 use Rattle.nvm_plan.specs.Operation.{job_operation_of}
 use Rattle.nvm_plan.specs.Outcome.{data_told, answered, AreDone, IsOutcomeOf, IsOutcome}
 use Rattle.nvm_plan.specs.Reply.{Reply, reply_on, reply_of_stop, stop_of, IsReplyTo, IsSuccessfulReply}
 use Rattle.nvm_unit.specs.declared.views.PassView.{PassView}
 use Rattle.nvm_space.specs.declared.job_done.JobDone.{JobDone}
 use Rattle.nvm_space.specs.declared.replies.PartReply.{PartReply}
-use Rattle.nvm_space.specs.Inside.Parts.{reply_told, part_done, job_ended, IsGathered, HaveDone}
+use Rattle.nvm_space.specs.Inside.Parts.{reply_told, part_done, job_ended, IsGathered}
 use Rattle.nvm_space.specs.Trace.{PartDone, DoesPart, DoesParts, IsPartOfJob, DoesJob, part_ended}
+use Rattle.nvm_space.specs.UnderWay.{HaveDone}
 use Rattle.nvm_space.specs.Visits.{BecomesAt}
 use Rattle.nvm_space.proofs.DeedLemmas.{internal_error_fails}
 use Rattle.nvm_space.proofs.Lists.{map_more}
@@ -192,36 +193,20 @@ step_so ns number job op part unit now new bytes more r ended statuses look pair
     (λ p q does. part_replies ns op part unit is look pair looked failed no_memory full number (reply_told r) p q at does)
     (stop_replies ns op part unit is look pair looked failed no_memory full) gathered
 
--- The units that an operation meets are the namespace's.
-below_range : (low n high : ℕ) → low + n ≡ high → All (λ x. x < high) (range_with_len low n)
-below_range low n high end k d lt =
-    let count : length (range_with_len low n) ≡ n = length-range_with_len low n in
-    let is : get_or (range_with_len low n) k d ≡ low + k = get_or-range_with_len low n k d (omega arith) in
-    omega arith
+-- The unit of the next part is one of the job's.
+pub is_among : (before units : List ℕ) (unit : ℕ) (after : List ℕ) → before ++ unit ∷ after ≡ units → Contains units unit
+is_among before units unit after e =
+    let first : Contains (unit ∷ after) unit = (0, omega arith, refl) in
+    subst (λ (us : List ℕ). Contains us unit) e (Contains-append_right before (unit ∷ after) unit first)
 
-pub met_known : (ns : Namespace) (op : Operation) (unit : ℕ) → Contains (units_met ns op) unit → unit < units_of ns
-unfolding units_where
-met_known ns op unit there =
-    let all : All (λ x. x < units_of ns) (units_met ns op) = All-filter (λ u. meets ns op u) (λ x. x < units_of ns) (range_with_len 0 (units_of ns)) (below_range 0 (units_of ns) (units_of ns) (let e : 0 + units_of ns ≡ units_of ns = omega arith in e)) in
-    subst (λ (x : ℕ). x < units_of ns) there.2 (all there.0 unit there.1)
-
--- Each unit that is left is one in which the job has a part.
-pub all_units : (units whole : List ℕ) → units ≡ whole → AllByRecursion (λ unit. Contains whole unit) units
-all_units units whole e = subst (λ (xs : List ℕ). AllByRecursion (λ unit. Contains whole unit) xs) (sym e) (recursion_from_All (λ unit. Contains whole unit) whole (All-contains_itself whole))
-
--- The job's operation is being done.
-pub record IsUnderWay (ns : Namespace) (number : ℕ) (job : Job) (start now : List PassView) (left : List ℕ) (listed : List Part) (bytes : List ℕ) : Type 0 where
-  pub op : Operation
-  pub stands : job_operation_of ns job ≡ Some op
-  pub have : HaveDone ns number job op start now left listed bytes
+-- From unit 0 on, the job's units are all that its operation meets.
+pub units_from_all : (ns : Namespace) (job : Job) (op : Operation) → job_units ns job ≡ units_met ns op
+    → units_met_from ns op 0 ≡ units_met ns op → job_units_from ns job 0 ≡ units_met ns op
+units_from_all ns job op units all = ap (λ (us : List ℕ). filter (λ unit. nat_le 0 unit) us) units ∙ all
 
 pub the_operation : (operation : Option Operation) → IsSome operation → (op : Operation) × (operation ≡ Some op)
 the_operation None some = absurd (cc some)
 the_operation (Some op) some = (op, refl)
-
-pub no_units : (units : List ℕ) → length units ≡ 0 → units ≡ []
-no_units [] e = refl
-no_units (unit ∷ units) e = absurd (omega arith)
 
 -- Nothing was done.
 pub nothing_done : (ns : Namespace) (number : ℕ) (job : Job) (views : List PassView) (told : Statuses) (read : Option (List ℕ)) (listed : List Part) (done : JobDone) → IsOutcome ns job [] told read

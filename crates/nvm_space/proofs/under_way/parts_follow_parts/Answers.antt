@@ -1,0 +1,50 @@
+use Rattle.std.proofs.Common.{◌≡◌, ℕ, ◌+◌, List, [], ◌∷◌, ◌++◌, length, None, inl, refl, sym, ap, ◌∙◌, subst, arith}
+use Rattle.std.proofs.lemmas.List.{length-append}
+use Rattle.std.proofs.lemmas.Option.{same_Some}
+use Rattle.nvm_record.specs.Step.{Operation}
+use Rattle.nvm_geometry.specs.Parts.{part_in}
+use Rattle.nvm_plan.specs.JobPart.{job_units_from}
+use Rattle.nvm_space.specs.Inside.Parts.{part_done, reply_told}
+use Rattle.nvm_space.specs.UnderWay.{HaveDone}
+use Rattle.nvm_space.proofs.PartByPart.{one_more, stops, stops_so, all_done, step_so, IsStep}
+use Rattle.nvm_space.proofs.Waiting.{part_after_waiting}
+use Rattle.nvm_space.proofs.under_way.parts_follow_parts.Goals as goal
+
+pub returns : goal.returns
+returns c = λ ns job w r start now new bytes part statuses replied.
+    let under = replied.0.under_way in
+    let op = under.op in
+    let after = job_units_from ns job (w.unit + 1) in
+    let known = c.parts_of_jobs.ensures.known ns job w.unit replied.0.part replied.0.in_unit in
+    let same : known.1 ≡ op = same_Some known.1 op (sym known.2 ∙ under.is_op) in
+    let step : IsStep ns w.number job op w.unit under.reached new w.bytes bytes part statuses =
+    step_so ns w.number job op replied.0.part w.unit under.reached new w.bytes bytes r part statuses
+    (c.parts_keep_their_kind.ensures.look ns op w.unit) (c.parts_keep_their_kind.ensures.pair ns op w.unit)
+    (c.answers_of_the_step_are_replies.ensures.looked ns op) (c.answers_of_the_step_are_replies.ensures.failed ns op)
+    (c.answers_of_the_step_are_replies.ensures.no_memory op.deed) (c.answers_of_the_step_are_replies.ensures.full op.deed)
+    (known.4 ∙ ap (λ (o : Operation). part_in ns o w.unit) same) replied.0.in_unit replied.0.at
+    (part_after_waiting w.unit (part_done w.number replied.0.part (reply_told r)) under.reached now new
+    c.waiting_is_no_step.ensures.changed c.waiting_is_no_step.ensures.looked under.waited replied.0.step) replied.1 in
+    record {
+      more = λ next success units. record {
+        free = under.free;
+        op = op;
+        is_op = under.is_op;
+        reached = new;
+        have = subst (λ (us : List ℕ). HaveDone ns w.number job op start new us (w.parts ++ part ∷ []) bytes) units
+            (one_more ns w.number job op (c.outcomes_are_made_part_by_part.ensures.more ns op) c.outcomes_are_made_part_by_part.ensures.payload
+            start under.reached new w.unit after w.parts (w.parts ++ part ∷ []) w.bytes bytes part statuses under.have step success refl);
+        waited = inl refl;
+        room = let left : length after ≡ length (next ∷ job_units_from ns job (next + 1)) = ap length units in omega (arith, under.room, left, length-append w.parts (part ∷ []));
+      };
+      last = λ done success none ended.
+          all_done ns w.number job op (c.outcomes_are_made_part_by_part.ensures.whole ns op) (λ replies told read so. (c.outcomes_by_plan.ensures.ready ns job op replies told read under.free under.is_op).1 so) start new after (w.parts ++ part ∷ []) bytes done
+          (one_more ns w.number job op (c.outcomes_are_made_part_by_part.ensures.more ns op) c.outcomes_are_made_part_by_part.ensures.payload
+          start under.reached new w.unit after w.parts (w.parts ++ part ∷ []) w.bytes bytes part statuses under.have step success refl) none (ended op under.is_op);
+      told = λ failure.
+          let so = stops_so ns w.number job op (c.outcomes_are_made_part_by_part.ensures.stopped ns op) (λ replies told read so. (c.outcomes_by_plan.ensures.ready ns job op replies told read under.free under.is_op).1 so) start under.reached new w.unit after w.parts w.bytes bytes part statuses under.have step failure in
+          c.each_command_has_a_status.ensures.outcome ns job so.0 statuses None so.1;
+      stopped = λ done failure ended.
+          stops ns w.number job op (c.outcomes_are_made_part_by_part.ensures.stopped ns op) (λ replies told read so. (c.outcomes_by_plan.ensures.ready ns job op replies told read under.free under.is_op).1 so) start under.reached new w.unit after w.parts (w.parts ++ part ∷ []) w.bytes bytes part statuses done
+          under.have step failure refl ended;
+    }

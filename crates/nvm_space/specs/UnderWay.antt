@@ -1,0 +1,53 @@
+-- A job that was begun and isn't done: what was done of it, and what the port's passes have seen meanwhile (own).
+use Rattle.std.specs.Prelude.{◌≡◌, ◌⊎◌, ℕ, ◌+◌, ◌≤◌, List, ◌∷◌, length, map, Some, None}
+use Rattle.std.specs.List.{AllByRecursion}
+use Rattle.nvm_record.specs.Step.{Operation}
+use Rattle.nvm_geometry.specs.Namespace.{Namespace}
+use Rattle.nvm_plan.specs.Checks.{refusal_of}
+use Rattle.nvm_plan.specs.JobPart.{job_units_from}
+use Rattle.nvm_plan.specs.Operation.{job_operation_of}
+use Rattle.nvm_plan.specs.Outcome.{data_told, AreDone}
+use Rattle.nvm_plan.specs.declared.job.Job.{Job}
+use Rattle.nvm_plan.specs.declared.part.Part.{Part}
+use Rattle.nvm_unit.specs.Replies.{Waits}
+use Rattle.nvm_unit.specs.declared.views.PassView.{PassView}
+use Rattle.nvm_space.specs.Trace.{PartDone, DoesParts, IsPartOfJob}
+use Rattle.nvm_space.specs.Visits.{BecomesAt}
+
+-- the job's number, the unit of its next part, the parts that were done, what they read, and for how many parts in all
+-- its list has room
+pub record UnderWay : Type 0 where
+  pub number : ℕ
+  pub unit : ℕ
+  pub parts : List Part
+  pub bytes : List ℕ
+  pub room : ℕ
+
+-- Parts of the job were done, each with success; they read these bytes, and those in the units `left` are left.
+pub record HaveDone (ns : Namespace) (number : ℕ) (job : Job) (op : Operation) (start now : List PassView)
+    (left : List ℕ) (listed : List Part) (bytes : List ℕ) : Type 0 where
+  pub parts : List PartDone
+  pub does : DoesParts parts start now
+  pub each : AllByRecursion (IsPartOfJob ns number job) parts
+  pub done : AreDone ns op (map (λ did. did.reply) parts) left
+  pub read : data_told (map (λ did. did.reply) parts) ≡ bytes
+  pub are_listed : listed ≡ map (λ did. did.reply.part) parts
+
+-- The pass of the unit may have found it held, which is no step.
+abbrev pub MayHaveWaited : ℕ → List PassView → List PassView → Type 0
+MayHaveWaited unit old new = (new ≡ old) ⊎ BecomesAt unit Waits old new
+
+-- the unit of the next part, and those after it in which the job has a part
+abbrev pub units_left : Namespace → Job → UnderWay → List ℕ
+units_left ns job w = w.unit ∷ job_units_from ns job (w.unit + 1)
+
+-- The job isn't refused. Since `start` its parts before the next one were done, each with success, and the port has done
+-- nothing else but wait for the unit of the next one. There is room for all parts that are left.
+pub record IsUnderWay (ns : Namespace) (job : Job) (w : UnderWay) (start now : List PassView) : Type 0 where
+  pub free : refusal_of ns job ≡ None
+  pub op : Operation
+  pub is_op : job_operation_of ns job ≡ Some op
+  pub reached : List PassView
+  pub have : HaveDone ns w.number job op start reached (units_left ns job w) w.parts w.bytes
+  pub waited : MayHaveWaited w.unit reached now
+  pub room : length w.parts + length (units_left ns job w) ≤ w.room
