@@ -16,18 +16,22 @@
 mod attempt;
 mod book;
 mod bounds;
+mod changes;
 mod gate;
 mod latch;
 pub mod laws;
+mod looks;
 mod pass;
 mod replies;
 mod rule;
 mod seats;
 mod snapshot;
 mod steps;
+mod taking;
 mod unit;
 mod unit_fault;
 mod views;
+mod visits;
 
 pub use bounds::Bounds;
 pub use gate::{Gate, Open};
