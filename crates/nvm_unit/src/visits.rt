@@ -43,7 +43,7 @@ impl Unit {
         self.visit(rt, pass, |book: &Book| book.copy_of_history(alloc))
     }
 
-    /// Takes the unit, lets its book be read, and puts it back as it was. No answer rests on it.
+    /// Has the book read and brings the pass up. It leaves no mark.
     fn visit<R: Wait, T, F: FnOnce(&Book) -> T>(&self, rt: &R, pass: &mut Pass, read: F) -> T
         requires of { IsPassOf self.now pass.old }
         requires ready { (book : _) → F.pre read book }
