@@ -17,7 +17,7 @@ use Rattle.nvm_unit.specs.Machine.{UnitState, StandsAt, RestsAs}
 use Rattle.nvm_record.specs.Lists.{IsAt}
 use Rattle.nvm_unit.specs.Inside.Rule.{slots_of, IsRuled}
 use Rattle.nvm_unit.proofs.Allowed.{history_of, fitting}
-use Rattle.nvm_unit.proofs.Alone.{finds_of}
+use Rattle.nvm_unit.proofs.OnePass.{finds_of}
 use Rattle.nvm_unit.proofs.Lists.{at_one}
 
 -- Something stands at each place below the length.

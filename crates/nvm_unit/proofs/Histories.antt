@@ -14,6 +14,18 @@ begins_more seen history entry begins =
 pub begins_length : (seen history : List HistoryEntry) → Begins seen history → length seen ≤ length history
 begins_length seen history begins = omega (arith, ap length begins.1, length-append seen begins.0)
 
+-- What is begun by as many entries is no more than they are.
+pub begins_all : (seen history : List HistoryEntry) → Begins seen history → length history ≡ length seen → history ≡ seen
+begins_all [] [] begins same = refl
+begins_all [] (x ∷ xs) begins same = absurd (omega arith)
+begins_all (x ∷ xs) [] begins same = absurd (omega arith)
+begins_all (x ∷ xs) (y ∷ ys) begins same =
+    let both : y ∷ ys ≡ x ∷ (xs ++ begins.0) = begins.1 in
+    let head : y ≡ x = cc in
+    let tail : ys ≡ xs ++ begins.0 = cc in
+    let rest : ys ≡ xs = begins_all xs ys (begins.0, tail) (omega arith) in
+    ap (λ (l : HistoryEntry). l ∷ ys) head ∙ ap (λ (ls : List HistoryEntry). x ∷ ls) rest
+
 -- One entry at a place, if it bears the number.
 abbrev kept_if : Bool → ℕ → HistoryEntry → List (ℕ × HistoryEntry) → List (ℕ × HistoryEntry)
 kept_if bears from entry rest = if bears then (from, entry) ∷ rest else rest

@@ -9,8 +9,10 @@ pub mod Allowed
 pub mod Putting
 pub mod Joining
 pub mod Waiting
-pub mod Alone
-pub mod Learning
+pub mod OnePass
+pub mod Later
+pub mod Recalling
+pub mod Changing
 pub mod Resting
 pub mod Marking
 pub mod Among

@@ -1,5 +1,5 @@
 -- Marks that answers leave, and beginnings of beginnings.
-use Rattle.std.proofs.Common.{◌≡◌, ℕ, ◌+◌, ◌/◌, ◌≤◌, Bool, true, false, List, [], ◌∷◌, ◌++◌, length, length-append, append-nil, append_assoc, subst, refl, sym, ap, ◌∙◌, arith, Result, Ok, Err}
+use Rattle.std.proofs.Common.{◌≡◌, ℕ, ◌+◌, ◌/◌, ◌≤◌, Bool, true, false, List, [], ◌∷◌, ◌++◌, length, length-append, append_assoc, subst, refl, sym, ap, ◌∙◌, arith, Result, Ok, Err}
 use Rattle.nvm_record.specs.Step.{Operation}
 use Rattle.nvm_store.specs.HistoryEntry.{HistoryEntry}
 use Rattle.nvm_unit.specs.declared.replies.Changed.{Changed}
@@ -15,14 +15,7 @@ use Rattle.nvm_unit.specs.Marks.{entries_after, mine_after, number_of_look, numb
 use Rattle.nvm_unit.specs.Passes.{Finds}
 use Rattle.nvm_unit.specs.Replies.{point_of, Learns, Looks, Makes, MakesOrLearns, Observes, IsBroughtUp, Meet, entry_of_job}
 use Rattle.nvm_unit.specs.Views.{Begins, shown, added}
-use Rattle.nvm_unit.proofs.Histories.{begins_itself, begins_more, begins_length}
-
-no_more : (rest : List HistoryEntry) → length rest ≡ 0 → rest ≡ []
-no_more [] none = refl
-no_more (x ∷ xs) none = absurd (omega arith)
-
-pub begins_same : (seen history : List HistoryEntry) → Begins seen history → length history ≡ length seen → history ≡ seen
-begins_same seen history begins same = begins.1 ∙ (ap (λ (x : List HistoryEntry). seen ++ x) (no_more begins.0 (omega (arith, same, ap length begins.1, length-append seen begins.0))) ∙ append-nil seen)
+use Rattle.nvm_unit.proofs.Histories.{begins_all, begins_itself, begins_more, begins_length}
 
 shown_marks : (n : ℕ) (p : PassView) (history : List HistoryEntry) → Finds (length history) p history → n ≡ length history → HasMarked n p (shown true (length history) history p)
 shown_marks n p history finds is =
@@ -100,7 +93,7 @@ looked_marks (Err (look_fault.NoMemory point)) keeps p q op looks = learnt_marks
 
 pub looked_same : (answer : Result Observed LookFault) (keeps : Bool) (p q : PassView) (op : Operation) → Looks answer keeps p op q → (q.seen ≡ p.seen) × (q.mine ≡ p.mine)
 looked_same (Ok observed) keeps p q op looks =
-    let all = begins_same p.seen q.seen (look_marks (Ok observed) p q op looks.1).seen (look_entries (Ok observed) p q op looks.1 ∙ looks.0) in
+    let all = begins_all p.seen q.seen (look_marks (Ok observed) p q op looks.1).seen (look_entries (Ok observed) p q op looks.1 ∙ looks.0) in
     (all, look_mine (Ok observed) p q op looks.1)
 looked_same (Err (look_fault.Newer count)) keeps p q op looks = learnt_same count p q looks.1
 looked_same (Err (look_fault.NoMemory point)) keeps p q op looks = learnt_same point p q looks.1

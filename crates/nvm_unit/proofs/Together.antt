@@ -10,7 +10,7 @@ use Rattle.nvm_record.specs.Lists.{IsAt}
 use Rattle.nvm_unit.specs.Passes.{Finds}
 use Rattle.nvm_unit.specs.Inside.Plays.{Sits, resting, holding, Fits}
 use Rattle.nvm_unit.specs.Views.{looked, shown}
-use Rattle.nvm_unit.proofs.Alone.{finds_of}
+use Rattle.nvm_unit.proofs.OnePass.{finds_of}
 use mathlib.Core.Option.{some-injective, some-ne-none}
 
 -- A seat that rests, whatever passes it has.

@@ -1,5 +1,5 @@
 -- Steps that decide nothing, one after the other, until one takes the unit; and one try, which may decide.
-use Rattle.std.proofs.Common.{◌≡◌, ◌≢◌, ◌⊎◌, ℕ, ◌/◌, ◌%◌, ◌<◌, ◌≤◌, ◌&&◌, nat_eq, List, [], ◌∷◌, length, map, subst, refl, sym, ap, ◌∙◌, arith, inl, inr, eq-eqb, ne_eqb, Bool, true, false, None}
+use Rattle.std.proofs.Common.{◌≡◌, ◌≢◌, ℕ, ◌/◌, ◌%◌, ◌<◌, ◌≤◌, ◌&&◌, nat_eq, List, [], ◌∷◌, length, map, subst, refl, sym, ap, ◌∙◌, arith, inl, inr, eq-eqb, ne_eqb, Bool, false, None}
 use mathlib.Core.Logic.{dite}
 use native.Mathlib.Decide.{ℕ_discrete}
 use Rattle.atomic_table.proofs.Lists.{at_map}
@@ -9,8 +9,8 @@ use Rattle.nvm_unit.specs.declared.bounds.Bounds.{Bounds}
 use Rattle.nvm_unit.specs.declared.views.PassView.{PassView}
 use Rattle.nvm_unit.specs.Views.{looked}
 use Rattle.nvm_unit.specs.Passes.{IsNotAbove}
-use Rattle.nvm_unit.specs.Inside.Book.{Recorded, recorded}
-use Rattle.nvm_unit.specs.Inside.Plays.{Sits, holding, EachIn, HasLooked, HasTaken, Takes}
+use Rattle.nvm_unit.specs.Inside.Book.{Recorded}
+use Rattle.nvm_unit.specs.Inside.Plays.{Sits, holding, EachIn, HasLooked}
 use Rattle.nvm_unit.specs.Inside.Holding.{HasWaited, HasMissed, HasHeld}
 
 -- The last step says what was found.

@@ -6,3 +6,4 @@ pub mod Seats
 pub mod Rule
 pub mod Plays
 pub mod Holding
+pub mod Parts

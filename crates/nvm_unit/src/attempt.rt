@@ -45,7 +45,7 @@ pub(crate) fn attempt(
     }
 }
 
-/// What the look is answered by the blocks at this point.
+/// Asks the blocks, which are those at this point.
 pub(crate) fn observed(
     alloc: Global,
     point: u32,
@@ -62,7 +62,7 @@ pub(crate) fn observed(
     }
 }
 
-/// What the look is answered by what a pass keeps, if the unit has `count` entries.
+/// Asks the version in the snapshot, which serves only while the history has `count` entries and the snapshot has as many.
 pub(crate) fn looked(
     alloc: Global,
     snapshot: &Snapshot,

@@ -77,8 +77,8 @@ impl Book {
         &self.blocks
     }
 
-    /// Brings a pass's snapshot to this book, and returns the old one, which may be the last owner of many blocks. A
-    /// snapshot that is of this book already stays as it is. It takes no memory.
+    /// Replaces a pass's snapshot by one of this book, unless it is that already. The old one is handed out, so that
+    /// the caller can free its blocks once the unit is given back. It takes no memory.
     pub fn renew(&self, snapshot: &mut Snapshot, versions: bool) -> Option<Snapshot>
         requires few { length self.now.history ≤ 4194304 }
         requires seen { snapshot.old.entries ≡ length self.now.history → IsSnapshotOf snapshot.old self.now }
@@ -96,7 +96,7 @@ impl Book {
         Some(mem::replace(snapshot, self.snapshot(versions)))
     }
 
-    /// What a pass keeps that has seen this history. It takes no memory.
+    /// This book, as a pass keeps it. It takes no memory.
     pub fn snapshot(&self, versions: bool) -> Snapshot
         requires { length self.now.history ≤ 4194304 }
         ensures shown { IsSnapshotOf result self.now }

@@ -57,8 +57,9 @@ impl Latch {
         }
     }
 
-    /// Tries once to take the unit and its book: one load and, if the word is even, one exchange. The error is the
-    /// word that it found instead; `D` says whether an answer rests on that.
+    /// Takes the unit and its book if that needs no wait. A load comes first, so that a word of a unit that is taken costs no
+    /// exchange; an exchange follows an even word. The error is the last word that was found, and `D` says whether an answer
+    /// rests on it.
     pub(crate) fn try_hold<D: Decides>(&self, token: &mut Token) -> Result<Book, u64>
         requires at { token.old.seat.table_id ≡ self.now.desk.table.shared.table_id }
         requires rests { token.old.seat.me.1 ≡ [] }
@@ -80,7 +81,7 @@ impl Latch {
         Ok(steps::take_book(&self.desk, token))
     }
 
-    /// Takes the unit and its book. Until a try succeeds, it waits while another pass holds the unit.
+    /// Takes the unit and its book. It tries again at once where another pass was quicker, and pauses where one has the unit.
     pub(crate) fn hold<R: Wait>(&self, rt: &R, token: &mut Token) -> Book
         requires at { token.old.seat.table_id ≡ self.now.desk.table.shared.table_id }
         requires rests { token.old.seat.me.1 ≡ [] }
@@ -122,7 +123,7 @@ impl Latch {
         self.wake();
     }
 
-    /// Brings two passes to one history, in one step. Returns what each of them keeps of it.
+    /// One step shows both passes the same history. Hands out a snapshot of it for each.
     pub(crate) fn meet<R: Wait>(
         &self,
         rt: &R,

@@ -5,8 +5,8 @@
 //! number of entries of the unit's history that isn't below what the pass had seen. What a pass has seen
 //! grows at each call; [`Unit::meet`] brings two passes to one history, and [`Unit::close`] gives the whole.
 //!
-//! A change or an observation waits while another pass holds the unit. Two calls never wait: [`Unit::try_change`] tries a change once, and
-//! [`Unit::look`] answers from the version of the blocks that the pass keeps, as long as nothing has changed since.
+//! Those two wait for a unit that another pass has. [`Unit::try_change`] and [`Unit::look`] never do, nor do
+//! [`Unit::poll_change`] and [`Unit::poll_observe`], which are called again until the unit was free.
 //!
 //! A unit has one word: twice the number of entries, and one more while a pass holds the unit. All steps on
 //! it stand in the module `steps`, and each keeps the rule that the unit's state is one to which the seven
@@ -16,18 +16,22 @@
 mod attempt;
 mod book;
 mod bounds;
+mod changes;
 mod gate;
 mod latch;
 pub mod laws;
+mod looks;
 mod pass;
 mod replies;
 mod rule;
 mod seats;
 mod snapshot;
 mod steps;
+mod taking;
 mod unit;
 mod unit_fault;
 mod views;
+mod visits;
 
 pub use bounds::Bounds;
 pub use gate::{Gate, Open};

@@ -12,32 +12,27 @@ use std::marker::Model;
 /// impossible to close the unit.
 #[derive(Drop)]
 pub struct Pass {
+    pub(crate) parts: Parts,
+}
+
+/// What a pass is made of. It is a pass only while its token doesn't hold the unit.
+#[derive(Drop)]
+pub struct Parts {
     pub(crate) token: Token,
     pub(crate) number: u16,
-    /// What it keeps of the last point that it has seen.
+    /// Of the last point that the token's owner has seen.
     pub(crate) snapshot: Snapshot,
 }
 
 impl Model for Pass {
-    ghost use Rattle.std.specs.Prelude.{◌≡◌, [], ◌∷◌, is_some};
-    ghost use Rattle.nvm_unit.specs.Inside.Plays.{resting};
-    ghost use Rattle.nvm_unit.specs.Passes.{PassState, IsProperPass};
-    ghost use Rattle.nvm_unit.specs.Inside.Seats.{only};
-    ghost use Rattle.nvm_unit.specs.Inside.Book.{recorded};
-    ghost use Rattle.nvm_unit.specs.Inside.Snapshot.{IsSnapshotOf};
+    ghost use Rattle.nvm_unit.specs.Passes.{PassState};
+    ghost use Rattle.nvm_unit.specs.Inside.Parts.{IsWhole, state_of};
 
     ghost Value = { PassState };
 
-    ghost view = { λ p. record {
-      table = p.token.seat.table_id;
-      view = only p.token.seat.me.0.passes;
-      keeps = is_some p.snapshot.version;
-    } };
+    ghost view = { λ p. state_of p.parts };
 
-    ghost invariant = { λ p. (p.token.seat.me ≡ resting (only p.token.seat.me.0.passes ∷ []))
-        × (p.number ≡ (only p.token.seat.me.0.passes).number)
-        × IsSnapshotOf p.snapshot (recorded (only p.token.seat.me.0.passes).bounds (only p.token.seat.me.0.passes).seen)
-        × IsProperPass (only p.token.seat.me.0.passes) };
+    ghost invariant = { λ p. IsWhole p.parts };
 }
 
 impl Pass {
@@ -46,15 +41,16 @@ impl Pass {
         ensures number { result ≡ self.now.view.number }
         ensures proper { IsProperPass self.now.view }
     {
-        self.number
+        self.parts.number
     }
 
-    /// Whether it keeps the version of the unit's blocks at the last point that it has seen. In a unit that was opened
-    /// with versions it does, unless 2^63 - 1 owners shared that version already. It takes no memory.
+    /// Whether it can be asked for a [`look`](crate::Unit::look) that needs no memory: it keeps the unit's blocks as they
+    /// were at the last point that it has seen. In a unit with versions it always does, unless those blocks had
+    /// 2^63 - 1 owners already. It takes no memory.
     pub fn keeps(&self) -> bool
         ensures { result ≡ self.now.keeps }
     {
-        self.snapshot.keeps()
+        self.parts.snapshot.keeps()
     }
 
     /// Its seat.
@@ -63,9 +59,11 @@ impl Pass {
         ensures me { result.seat.me ≡ resting (self.view ∷ []) }
     {
         let Pass {
-            token,
-            number: _,
-            snapshot: _,
+            parts: Parts {
+                token,
+                number: _,
+                snapshot: _,
+            },
         } = self;
         token
     }

@@ -50,16 +50,16 @@ pub enum ObserveFault {
 /// Why [`Unit::look`](crate::Unit::look) has no answer.
 #[derive(Clone, Copy, Debug, PartialEq, Eq)]
 pub enum LookFault {
-    /// The history has `count` entries, more than the pass has seen. The pass has one mark more, `count`.
+    /// Others have added entries since the pass was last brought up: there are `count` now, and that is the pass's new mark.
     Newer { count: u32 },
-    /// The history has exactly the entries that the pass has seen, but the growth for a Read's data was refused, or
-    /// the pass keeps no version. The pass has one mark more, the point.
+    /// Nothing has changed since the pass was last brought up, so the point is its new mark. But there was no memory for
+    /// a Read's data, or the pass has no version to ask.
     NoMemory { point: u32 },
 }
 
-/// Why [`Unit::try_change`](crate::Unit::try_change) did nothing. An odd word means that another pass held the unit.
-/// An even one means that another pass changed it between the load and the exchange. The pass has one mark more, half
-/// the word.
+/// Why [`Unit::try_change`](crate::Unit::try_change) did nothing: it met this word. If that is odd, another pass had the
+/// unit; if even, another pass had a change done after this call's load and before its exchange. Half of it is the pass's
+/// new mark.
 #[derive(Clone, Copy, Debug, PartialEq, Eq)]
 pub struct Busy {
     /// Twice the number of entries, and one more if the unit is held.

@@ -40,7 +40,7 @@ impl Decides for Never {
     ghost decides = { λ word. false };
 }
 
-/// It is if `D` says so and the unit is held.
+/// It is where the word is that of a unit in use, and `D` says so.
 pub struct IfHeld<D> {
     decides: PhantomData<D>,
 }

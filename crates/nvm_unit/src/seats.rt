@@ -8,7 +8,7 @@ ghost use Rattle.nvm_unit.specs.Inside.Book.{recorded};
 ghost use Rattle.nvm_unit.specs.Inside.Plays.{resting};
 ghost use Rattle.nvm_unit.specs.Inside.Snapshot.{IsVersionOf};
 
-use crate::pass::Pass;
+use crate::pass::{Parts, Pass};
 use crate::snapshot::Snapshot;
 use crate::steps;
 use crate::steps::{Desk, Token};
@@ -36,11 +36,12 @@ pub(crate) fn deal(
     let mut passes = Vec::with_capacity(alloc, usize::from(count))?;
     for number in 0..count {
         let others = steps::split(desk, &mut token);
-        passes.push(Pass {
+        let parts = Parts {
             token,
             number,
             snapshot: Snapshot::opening(blocks, versions)?,
-        })?;
+        };
+        passes.push(Pass { parts })?;
         token = others;
     }
     Ok(passes)

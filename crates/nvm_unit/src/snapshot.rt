@@ -3,8 +3,8 @@ ghost use Rattle.std.specs.Prelude.{◌≡◌, Bool, IfOk, IfSome, MatchOption, 
 use nvm_record::NoMemory;
 use nvm_store::UnitBlocks;
 
-/// What a pass keeps of the last point that it has seen: the number of entries there, and the version, which is
-/// the unit's blocks at that point. A version shares its nodes with the blocks in the unit.
+/// A point of the history, by its number of entries, and perhaps the unit's blocks as they were there: the version. It costs no
+/// copy, since both are trees that share what hasn't changed between them.
 #[derive(Drop)]
 pub struct Snapshot {
     entries: u32,
@@ -12,7 +12,7 @@ pub struct Snapshot {
 }
 
 impl Snapshot {
-    /// Of a unit that is opened with these blocks. A refused share of them is an error.
+    /// Of the opening point, before any entry. With `versions` it fails where the blocks can't be shared.
     pub fn opening(blocks: &UnitBlocks, versions: bool) -> Result<Snapshot, NoMemory>
         ensures entries { IfOk result (λ s. s.entries ≡ 0) }
         ensures version { IfOk result (λ s. IfSome s.version (λ u. u ≡ blocks.now)) }
@@ -29,8 +29,8 @@ impl Snapshot {
         })
     }
 
-    /// Of a point with this number of entries and these blocks. Without `versions`, or where the share of the
-    /// blocks is refused, it keeps no version.
+    /// Of the point with this many entries, where the blocks are these. It has a version if `versions` asks for one and the blocks
+    /// can be shared once more.
     pub fn of(entries: u32, blocks: &UnitBlocks, versions: bool) -> Snapshot
         ensures entries { result.entries ≡ entries }
         ensures version { IfSome result.version (λ u. u ≡ blocks.now) }
@@ -54,7 +54,7 @@ impl Snapshot {
         self.version.as_ref()
     }
 
-    /// Sets the number of entries of a snapshot without a version.
+    /// Moves a snapshot without a version to the point with this many entries.
     pub fn set_entries(&mut self, entries: u32)
         requires { self.old.version ≡ None }
         ensures entries { self.new.entries ≡ entries }
@@ -70,7 +70,7 @@ impl Snapshot {
         self.version.is_some()
     }
 
-    /// Drops the version, so that the next change of the unit's blocks needn't copy what the two share.
+    /// Lets the blocks go. Unless somebody else still shares them, the next change is made in place.
     pub fn drop_version(&mut self) {
         self.version = None;
     }

@@ -1,12 +1,12 @@
 -- What a seat knows once it has waited for the unit, and once it holds it.
-use Rattle.std.specs.Prelude.{◌≡◌, ◌⊎◌, ℕ, ◌+◌, ◌*◌, ◌/◌, ◌%◌, ◌<◌, ◌≤◌, List, [], ◌∷◌, ◌++◌, map, length, Bool, true, false, None}
+use Rattle.std.specs.Prelude.{◌≡◌, ◌⊎◌, ℕ, ◌+◌, ◌*◌, ◌/◌, ◌%◌, ◌<◌, List, [], ◌∷◌, ◌++◌, map, length, Bool, true, false, None}
 use Rattle.nvm_store.specs.HistoryEntry.{HistoryEntry}
 use Rattle.nvm_store.specs.History.{CanFollow}
 use Rattle.nvm_unit.specs.declared.bounds.Bounds.{Bounds}
 use Rattle.nvm_unit.specs.declared.views.PassView.{PassView}
 use Rattle.nvm_unit.specs.Views.{looked, shown, added}
 use Rattle.nvm_unit.specs.Inside.Book.{Recorded, recorded}
-use Rattle.nvm_unit.specs.Passes.{IsHistoryOf, IsNotAbove, IsProperPass, Finds}
+use Rattle.nvm_unit.specs.Passes.{IsHistoryOf, IsNotAbove, Finds}
 use Rattle.nvm_unit.specs.Inside.Plays.{Sits, resting, holding, EachIn, Fits}
 use Rattle.nvm_unit.specs.Inside.Snapshot.{IsSnapshotOf}
 use Rattle.nvm_unit.specs.declared.snapshot.Snapshot.{Snapshot}
@@ -59,22 +59,6 @@ GivesMore book m m' =
     (p : PassView) (history : List HistoryEntry) (entry : HistoryEntry) → m ≡ holding (p ∷ []) history None
     → book ≡ recorded p.bounds (history ++ entry ∷ [])
     → m' ≡ resting (added (length history) history entry p ∷ [])
-
--- The seat's one pass p, of this number, holds the unit with this history, and has the book in hand.
-pub record HoldsAlone (history : List HistoryEntry) (book : Recorded) (number : ℕ) (p : PassView) (m : Sits) : Type 0 where
-  pub at : m ≡ holding (looked false (length history) p ∷ []) history None
-  pub pages : book ≡ recorded p.bounds history
-  pub named : number ≡ p.number
-  pub below : p.number < p.bounds.passes
-  pub finds : Finds (length history) p history
-  pub proper : IsProperPass p
-
--- The seat's one pass let go of the unit, and became this one, of which this is kept.
-pub record HasClosed (q : PassView) (snapshot : Snapshot) (number : ℕ) (m : Sits) : Type 0 where
-  pub at : m ≡ resting (q ∷ [])
-  pub keeps : IsSnapshotOf snapshot (recorded q.bounds q.seen)
-  pub named : number ≡ q.number
-  pub proper : IsProperPass q
 
 -- The pass found a history, whose book was read, and was brought to it.
 abbrev pub Visits : PassView → PassView → (Recorded → Type 0) → Type 0

@@ -1,7 +1,7 @@
 use Rattle.std.proofs.Common.{◌≡◌, refl, sym, subst, ◌∙◌, Some}
 use Rattle.nvm_store.specs.Contents.{Contents, Holds}
 use Rattle.nvm_store.specs.Look.{look_operation_of}
-use Rattle.nvm_unit.proofs.Learning.{wants_data}
+use Rattle.nvm_unit.proofs.Recalling.{wants_data}
 use Rattle.nvm_unit.proofs.attempt.looked.Goals as goal
 
 pub returns-in-Ok : goal.returns-in-Ok

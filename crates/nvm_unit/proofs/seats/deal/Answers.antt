@@ -1,11 +1,10 @@
 use Rattle.std.proofs.Common.{◌≡◌, ap, refl, ◌∙◌, [], ◌∷◌, ◌++◌, map, is_some}
-use Rattle.nvm_unit.specs.Inside.Seats.{only}
+use Rattle.nvm_unit.specs.Inside.Parts.{seated}
 use Rattle.nvm_unit.specs.Ends.{pass_at}
-use Rattle.nvm_unit.specs.Machine.{newcomers_from}
 use Rattle.nvm_unit.specs.Passes.{PassState}
 use Rattle.nvm_unit.specs.Inside.Plays.{resting}
 use Rattle.nvm_unit.specs.Views.{newcomer}
-use Rattle.nvm_unit.proofs.Alone.{closed, only_is}
+use Rattle.nvm_unit.proofs.OnePass.{whole}
 use Rattle.nvm_unit.proofs.Dealing.{next_left, newcomer_proper, dealt_more, same_pass, opening_snapshot}
 use Rattle.nvm_unit.proofs.Together.{first_stays, others_go}
 use Rattle.nvm_unit.proofs.seats.deal.Goals as goal
@@ -15,13 +14,9 @@ invariant_of-push c =
     let b = c.args.desk.now.table.shared.key in
     let number = c.loop-number.number in
     let left = c.loop-number.invariant.rests ∙ ap resting (next_left b number c.args.count c.loop-number-test.true) in
-    closed _ (newcomer b number) number c.in_ok-opening.field-0
-    (record {
-      at = first_stays _ _ _ _ left c.split-others.ensures.first;
-      keeps = opening_snapshot b c.in_ok-opening.field-0 c.args.blocks.now c.in_ok-opening.ensures.entries c.in_ok-opening.ensures.version c.requires.version;
-      named = refl;
-      proper = newcomer_proper b number;
-    })
+    whole _ (newcomer b number) (first_stays _ _ _ _ left c.split-others.ensures.first) refl
+    (opening_snapshot b c.in_ok-opening.field-0 c.args.blocks.now c.in_ok-opening.ensures.entries c.in_ok-opening.ensures.version c.requires.version)
+    (newcomer_proper b number)
 
 pub loop-number-preserved : goal.loop-number-preserved
 loop-number-preserved c =
@@ -31,8 +26,8 @@ loop-number-preserved c =
     let next = next_left b number c.args.count c.loop-number-test.true in
     let left = c.loop-number.invariant.rests ∙ ap resting next in
     let here = c.split-others.ensures.at ∙ c.loop-number.invariant.at in
-    let view = only_is _ _ (first_stays _ _ _ _ left c.split-others.ensures.first) in
-    let pass : PassState = record { table = c.split-others.new.token.seat.table_id; view = only c.split-others.new.token.seat.me.0.passes; keeps = is_some c.in_ok-opening.field-0.version } in
+    let view = ap seated (first_stays _ _ _ _ left c.split-others.ensures.first) in
+    let pass : PassState = record { table = c.split-others.new.token.seat.table_id; view = seated c.split-others.new.token.seat.me; keeps = is_some c.in_ok-opening.field-0.version } in
     let pass_is : pass ≡ pass_at id c.args.versions (newcomer b number) = same_pass _ id _ (newcomer b number) _ c.args.versions here view c.in_ok-opening.ensures.kept in
     let pushed = c.in_ok-push.ensures.items ∙ ap (λ (x : PassState). c.loop-number.passes.items ++ x ∷ []) pass_is in
     record {

@@ -1,4 +1,4 @@
-use Rattle.std.proofs.Common.{◌≡◌, ap, ◌∙◌, length, map, false}
+use Rattle.std.proofs.Common.{length, map, false}
 use Rattle.nvm_unit.specs.Views.{looked}
 use Rattle.nvm_unit.specs.Inside.Book.{recorded}
 use Rattle.nvm_unit.proofs.Waiting.{load_waited, take_missed, waited_held}

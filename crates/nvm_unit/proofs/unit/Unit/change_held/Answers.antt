@@ -1,34 +1,73 @@
-use Rattle.std.proofs.Common.{◌≡◌, ap, sym, subst, ◌∙◌}
+use Rattle.std.proofs.Common.{ap, sym, subst, ◌∙◌, ℕ}
 use Rattle.nvm_store.specs.ActRef.{lent_operation_of}
 use Rattle.nvm_store.specs.Place.{IsCovered}
 use Rattle.nvm_unit.specs.declared.bounds.Bounds.{Bounds}
+use Rattle.nvm_unit.specs.declared.views.PassView.{PassView}
+use Rattle.nvm_unit.specs.Inside.Parts.{seated}
+use Rattle.nvm_unit.specs.Inside.Snapshot.{IsSnapshotOf}
 use Rattle.nvm_unit.specs.Passes.{UnitName}
-use Rattle.nvm_unit.proofs.Alone.{attempt_as, attempt_ready, attempt_ends}
+use Rattle.nvm_unit.specs.Replies.{Makes}
+use Rattle.nvm_unit.proofs.Changing.{attempted, change_ready, change_ends}
 use Rattle.nvm_unit.proofs.EventsKept.{FollowsLawfully}
+use Rattle.nvm_unit.proofs.OnePass.{whole}
 use Rattle.nvm_unit.proofs.unit.Unit.change_held.Goals as goal
 
 abbrev bounds_of : UnitName → Bounds
-bounds_of x = x.bounds
+bounds_of unit = unit.bounds
+
+abbrev limit_of : Bounds → ℕ
+limit_of b = b.limit
 
 pub release-requires-clause-ready : goal.release-requires-clause-ready
 release-requires-clause-ready g c =
     let op = lent_operation_of c.args.act in
     let book' = c.attempt-changed.new.book in
-    let held = c.requires.held in
-    let p = held.1 in
-    let same : p.bounds ≡ c.self.inside.bounds = held.3 ∙ ap bounds_of (sym c.self.view_is) in
-    let attempt =
-    attempt_as c.attempt-changed.result c.self.inside.bounds.limit c.args.number c.args.job op c.args.book book' p (ap (λ (b : Bounds). b.limit) (sym same)) held.2.named c.attempt-changed.ensures in
-    let covered = subst (λ (b : Bounds). IsCovered b.place op) (sym held.3) c.requires.covered in
-    attempt_ready held.0 c.args.book book' c.args.number p _ held.2 c.args.job op c.attempt-changed.result attempt (c.acts_and_looks.ensures.acts c.args.act) covered
+    let m = c.args.parts.now.token.seat.me in
+    let has = c.requires.has in
+    let bounds = ap bounds_of c.self.view_is ∙ sym has.bounds in
+    let done = attempted c.attempt-changed.result c.self.inside.bounds.limit c.args.parts.now.number c.args.job op c.args.book book' (seated m) (ap limit_of bounds) c.requires.numbered c.attempt-changed.ensures in
+    let covered = subst (λ (b : Bounds). IsCovered b.place op) (sym has.bounds) c.requires.covered in
+    change_ready c.args.self.now c.args.book book' m has c.args.job op c.attempt-changed.result done (c.acts_and_looks.ensures.acts c.args.act) covered
 
-pub returns-clause-ends : goal.returns-clause-ends
-returns-clause-ends g c h p a is =
+pub returns-clause-of : goal.returns-clause-of
+returns-clause-of g c =
     let op = lent_operation_of c.args.act in
     let book' = c.attempt-changed.new.book in
-    let same : p.bounds ≡ c.self.inside.bounds = is ∙ ap bounds_of (sym c.self.view_is) in
-    let attempt =
-    attempt_as c.attempt-changed.result c.self.inside.bounds.limit c.args.number c.args.job op c.args.book book' p (ap (λ (b : Bounds). b.limit) (sym same)) a.named c.attempt-changed.ensures in
-    let covered = subst (λ (b : Bounds). IsCovered b.place op) (sym is) c.requires.covered in
+    let m = c.args.parts.now.token.seat.me in
+    let has = c.requires.has in
+    let bounds = ap bounds_of c.self.view_is ∙ sym has.bounds in
+    let done = attempted c.attempt-changed.result c.self.inside.bounds.limit c.args.parts.now.number c.args.job op c.args.book book' (seated m) (ap limit_of bounds) c.requires.numbered c.attempt-changed.ensures in
+    let covered = subst (λ (b : Bounds). IsCovered b.place op) (sym has.bounds) c.requires.covered in
     let law : FollowsLawfully = λ place history entry lawful follows. (c.lawful_with_one_more.ensures place history entry).1 (lawful, follows) in
-    attempt_ends h c.args.book book' c.args.number p _ a c.args.job op c.snapshot.result _ c.snapshot.ensures.shown c.release.ensures.back law c.attempt-changed.result attempt (c.acts_and_looks.ensures.acts c.args.act) covered c.release.ensures.more
+    let ends = change_ends c.args.self.now c.args.book book' m has c.args.job op c.attempt-changed.result done (c.acts_and_looks.ensures.acts c.args.act) covered law c.release.new.token.seat.me c.release.ensures.back c.release.ensures.more in
+    record {
+      table = c.release.ensures.at ∙ c.requires.at;
+      bounds = ap (λ (p : PassView). p.bounds) (ap seated ends.2.0) ∙ ends.3;
+      kept = λ keeps. sym (ap (λ (unit : UnitName). unit.versions) c.self.view_is) ∙ c.snapshot.ensures.kept keeps;
+    }
+
+pub returns-clause-whole : goal.returns-clause-whole
+returns-clause-whole g c =
+    let op = lent_operation_of c.args.act in
+    let book' = c.attempt-changed.new.book in
+    let m = c.args.parts.now.token.seat.me in
+    let has = c.requires.has in
+    let bounds = ap bounds_of c.self.view_is ∙ sym has.bounds in
+    let done = attempted c.attempt-changed.result c.self.inside.bounds.limit c.args.parts.now.number c.args.job op c.args.book book' (seated m) (ap limit_of bounds) c.requires.numbered c.attempt-changed.ensures in
+    let covered = subst (λ (b : Bounds). IsCovered b.place op) (sym has.bounds) c.requires.covered in
+    let law : FollowsLawfully = λ place history entry lawful follows. (c.lawful_with_one_more.ensures place history entry).1 (lawful, follows) in
+    let ends = change_ends c.args.self.now c.args.book book' m has c.args.job op c.attempt-changed.result done (c.acts_and_looks.ensures.acts c.args.act) covered law c.release.new.token.seat.me c.release.ensures.back c.release.ensures.more in
+    whole _ ends.0 ends.2.0 (c.requires.numbered ∙ sym ends.4) (subst (IsSnapshotOf c.snapshot.result) ends.2.2 c.snapshot.ensures.shown) ends.2.1
+
+pub returns-clause-made : goal.returns-clause-made
+returns-clause-made g c =
+    let op = lent_operation_of c.args.act in
+    let book' = c.attempt-changed.new.book in
+    let m = c.args.parts.now.token.seat.me in
+    let has = c.requires.has in
+    let bounds = ap bounds_of c.self.view_is ∙ sym has.bounds in
+    let done = attempted c.attempt-changed.result c.self.inside.bounds.limit c.args.parts.now.number c.args.job op c.args.book book' (seated m) (ap limit_of bounds) c.requires.numbered c.attempt-changed.ensures in
+    let covered = subst (λ (b : Bounds). IsCovered b.place op) (sym has.bounds) c.requires.covered in
+    let law : FollowsLawfully = λ place history entry lawful follows. (c.lawful_with_one_more.ensures place history entry).1 (lawful, follows) in
+    let ends = change_ends c.args.self.now c.args.book book' m has c.args.job op c.attempt-changed.result done (c.acts_and_looks.ensures.acts c.args.act) covered law c.release.new.token.seat.me c.release.ensures.back c.release.ensures.more in
+    subst (λ (q : PassView). Makes c.attempt-changed.result (seated m) c.args.job op q) (sym (ap seated ends.2.0)) ends.1

@@ -1,0 +1,146 @@
+//! The calls that read a unit's blocks.
+ghost use Rattle.std.specs.Prelude.{◌≡◌, MatchOption, is_some, length, true};
+ghost use Rattle.nvm_store.specs.History.{replay_of};
+ghost use Rattle.nvm_store.specs.Look.{look_operation_of};
+ghost use Rattle.nvm_store.specs.Place.{IsCovered};
+ghost use Rattle.nvm_unit.specs.Inside.Parts.{HasUnit, IsFree, IsWhole, Recalls, seated, state_of};
+ghost use Rattle.nvm_unit.specs.Inside.Snapshot.{IsSnapshotOf};
+ghost use Rattle.nvm_unit.specs.Passes.{IsPassOf, IsProperPass};
+ghost use Rattle.nvm_unit.specs.Replies.{AnswersLook, Looks, Observes, Waits};
+ghost use Rattle.nvm_unit.specs.Views.{shown};
+
+use crate::attempt::{looked, observed};
+use crate::book::Book;
+use crate::pass::{Parts, Pass};
+use crate::replies::{LookFault, ObserveFault, Observed};
+use crate::rule::{Always, Never};
+use crate::snapshot::Snapshot;
+use crate::steps::Token;
+use crate::unit::Unit;
+use nvm_store::Look;
+use std::alloc::Global;
+use std::sync::Wait;
+
+impl Unit {
+    /// What the look is answered, as one step of the unit. It waits for the unit.
+    pub fn observe<R: Wait>(
+        &self,
+        rt: &R,
+        alloc: Global,
+        pass: &mut Pass,
+        look: Look<'_>,
+    ) -> Result<Observed, ObserveFault>
+        requires of { IsPassOf self.now pass.old }
+        requires covered { IsCovered self.now.bounds.place (look_operation_of look) }
+        ensures of { IsPassOf self.now pass.new }
+        ensures number { pass.new.view.number ≡ pass.old.view.number }
+        ensures observed { Observes result pass.old.view (look_operation_of look.entry) pass.new.view }
+        ensures proper { IsProperPass pass.new.view }
+    {
+        let book = self.take(rt, &mut pass.parts.token);
+        self.observe_held(alloc, &mut pass.parts, book, look)
+    }
+
+    /// An [`observe`](Unit::observe) in pieces, for callers that may not wait: `None` says that the unit was not free,
+    /// and that this call is owed again. All calls of one look leave one mark together, which is that of the last.
+    pub fn poll_observe(
+        &self,
+        alloc: Global,
+        pass: &mut Pass,
+        look: Look<'_>,
+    ) -> Option<Result<Observed, ObserveFault>>
+        requires of { IsPassOf self.now pass.old }
+        requires covered { IsCovered self.now.bounds.place (look_operation_of look) }
+        ensures of { IsPassOf self.now pass.new }
+        ensures number { pass.new.view.number ≡ pass.old.view.number }
+        ensures observed { MatchOption result (Waits pass.old.view pass.new.view)
+            (λ answer. Observes answer pass.old.view (look_operation_of look.entry) pass.new.view) }
+        ensures proper { IsProperPass pass.new.view }
+    {
+        match self.take_if_free::<Never>(&mut pass.parts.token) {
+            Ok(book) => Some(self.observe_held(alloc, &mut pass.parts, book, look)),
+            Err(_) => None,
+        }
+    }
+
+    /// Answers the look at the book in hand and gives the unit back, so that the parts are a pass again.
+    fn observe_held(
+        &self,
+        alloc: Global,
+        parts: &mut Parts,
+        book: Book,
+        look: Look<'_>,
+    ) -> Result<Observed, ObserveFault>
+        requires at { parts.old.token.seat.table_id ≡ self.now.table }
+        requires has { HasUnit self.now book parts.old.token.seat.me }
+        requires numbered { parts.old.number ≡ (seated parts.old.token.seat.me).number }
+        requires recalls { Recalls parts.old.snapshot (seated parts.old.token.seat.me) }
+        requires kept { is_some parts.old.snapshot.version ≡ true → self.now.versions ≡ true }
+        requires covered { IsCovered self.now.bounds.place (look_operation_of look) }
+        ensures of { IsPassOf self.now (state_of parts.new) }
+        ensures whole { IsWhole parts.new }
+        ensures observed { Observes result (seated parts.old.token.seat.me) (look_operation_of look.entry)
+            (seated parts.new.token.seat.me) }
+    {
+        let old = book.renew(&mut parts.snapshot, self.versions);
+        let answer = self.answer_held(alloc, &mut parts.token, book, &parts.snapshot, look);
+        drop(old);
+        answer
+    }
+
+    /// Answers the look and gives the unit back. With a version in the snapshot others needn't wait for the answer: it is
+    /// read there once the unit is free again.
+    fn answer_held(
+        &self,
+        alloc: Global,
+        token: &mut Token,
+        book: Book,
+        snapshot: &Snapshot,
+        look: Look<'_>,
+    ) -> Result<Observed, ObserveFault>
+        requires at { token.old.seat.table_id ≡ self.now.table }
+        requires has { HasUnit self.now book token.old.seat.me }
+        requires covered { IsCovered self.now.bounds.place (look_operation_of look) }
+        requires snapshot { IsSnapshotOf snapshot.now book }
+        ensures at { token.new.seat.table_id ≡ token.old.seat.table_id }
+        ensures free { IsFree self.now token.new.seat.me }
+        ensures shown { seated token.new.seat.me
+            ≡ shown true (length book.history) book.history (seated token.old.seat.me) }
+        ensures answer { AnswersLook result (length book.history) (look_operation_of look.entry)
+            (replay_of book.place.size book.history) }
+    {
+        let point = snapshot.entries();
+        match snapshot.version() {
+            Some(version) => {
+                self.give_back::<Always>(token, book);
+                observed(alloc, point, version, look)
+            }
+            None => {
+                let answer = observed(alloc, point, book.blocks(), look);
+                self.give_back::<Always>(token, book);
+                answer
+            }
+        }
+    }
+
+    /// What the look is answered from the version that the pass keeps, as long as nothing has changed since. One load
+    /// shows whether that is so, and it doesn't matter who has the unit. It waits for nothing.
+    pub fn look(
+        &self,
+        alloc: Global,
+        pass: &mut Pass,
+        look: Look<'_>,
+    ) -> Result<Observed, LookFault>
+        requires of { IsPassOf self.now pass.old }
+        requires covered { IsCovered self.now.bounds.place (look_operation_of look) }
+        requires versions { self.now.versions ≡ true }
+        ensures of { IsPassOf self.now pass.new }
+        ensures number { pass.new.view.number ≡ pass.old.view.number }
+        ensures keeps { pass.new.keeps ≡ pass.old.keeps }
+        ensures looked { Looks result pass.old.keeps pass.old.view (look_operation_of look.entry) pass.new.view }
+        ensures proper { IsProperPass pass.new.view }
+    {
+        let count = self.count(&mut pass.parts.token);
+        looked(alloc, &pass.parts.snapshot, count, look)
+    }
+}

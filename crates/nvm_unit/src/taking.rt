@@ -1,0 +1,62 @@
+//! How one pass takes its unit and gives it back.
+ghost use Rattle.std.specs.Prelude.{◌≡◌, ◌+◌, ◌*◌, ℕ, IfErr, IfOk, length};
+ghost use Rattle.nvm_unit.specs.Inside.Parts.{FailsAt, HasUnit, IsFree, seated};
+ghost use Rattle.nvm_unit.specs.Replies.{Learns, Waits};
+ghost use Rattle.nvm_unit.specs.Views.{shown};
+
+use crate::book::Book;
+use crate::rule::{Always, Decides};
+use crate::steps;
+use crate::steps::Token;
+use crate::unit::Unit;
+use std::sync::Wait;
+
+impl Unit {
+    /// Waits until the token has the unit, and hands out its book.
+    pub(crate) fn take<R: Wait>(&self, rt: &R, token: &mut Token) -> Book
+        requires at { token.old.seat.table_id ≡ self.now.table }
+        requires free { IsFree self.now token.old.seat.me }
+        ensures at { token.new.seat.table_id ≡ token.old.seat.table_id }
+        ensures has { HasUnit self.now result token.new.seat.me }
+        ensures waited { Waits (seated token.old.seat.me) (seated token.new.seat.me) }
+    {
+        self.latch.hold(rt, token)
+    }
+
+    /// Takes the unit if nobody has it. Else the error is the word that was in the way, and `D` says whether the
+    /// caller's answer rests on it.
+    pub(crate) fn take_if_free<D: Decides>(&self, token: &mut Token) -> Result<Book, u64>
+        requires at { token.old.seat.table_id ≡ self.now.table }
+        requires free { IsFree self.now token.old.seat.me }
+        ensures at { token.new.seat.table_id ≡ token.old.seat.table_id }
+        ensures has { IfOk result (λ book. HasUnit self.now book token.new.seat.me) }
+        ensures waited { IfOk result (λ book. Waits (seated token.old.seat.me) (seated token.new.seat.me)) }
+        ensures free { IfErr result (λ word. IsFree self.now token.new.seat.me) }
+        ensures failed { IfErr result (λ word. FailsAt word D.decides (seated token.old.seat.me) (seated token.new.seat.me)) }
+    {
+        self.latch.try_hold::<D>(token)
+    }
+
+    /// Gives the unit back unchanged.
+    pub(crate) fn give_back<D: Decides>(&self, token: &mut Token, book: Book)
+        requires at { token.old.seat.table_id ≡ self.now.table }
+        requires has { HasUnit self.now book token.old.seat.me }
+        ensures at { token.new.seat.table_id ≡ token.old.seat.table_id }
+        ensures free { IsFree self.now token.new.seat.me }
+        ensures shown { seated token.new.seat.me
+            ≡ shown (D.decides (2 * length book.history + 1)) (length book.history) book.history (seated token.old.seat.me) }
+    {
+        self.latch.release::<D>(token, book);
+    }
+
+    /// The number of entries in the history at this moment, as a step on which the caller's answer rests.
+    pub(crate) fn count(&self, token: &mut Token) -> u32
+        requires at { token.old.seat.table_id ≡ self.now.table }
+        requires free { IsFree self.now token.old.seat.me }
+        ensures at { token.new.seat.table_id ≡ token.old.seat.table_id }
+        ensures free { IsFree self.now token.new.seat.me }
+        ensures learns { Learns result (seated token.old.seat.me) (seated token.new.seat.me) }
+    {
+        (steps::load::<Always>(&self.latch.desk, token) / 2) as u32
+    }
+}
