@@ -1,15 +1,18 @@
-ghost use Rattle.std.specs.Prelude.{◌≡◌, ◌<◌, IfErr, IfOk, map, true};
+ghost use Rattle.std.specs.Prelude.{◌≡◌, ◌<◌, ℕ, List, IfErr, IfOk, map, true};
 ghost use Rattle.nvm_calling.specs.JobAlone.{IsJobAlone};
 ghost use Rattle.nvm_calling.specs.PolledRead.{IsPolledRead};
 ghost use Rattle.nvm_plan.specs.Fits.{FitsNamespace};
 ghost use Rattle.nvm_space.specs.Ports.{IsPortOf};
+ghost use Rattle.nvm_space.specs.Progress.{IsProgress};
 ghost use Rattle.nvm_space.specs.Shuffle.{AreLawfulHistories};
 ghost use Rattle.nvm_space.specs.declared.space_fault.SpaceFault.TheVariants.{NoMemory};
+ghost use Rattle.nvm_unit.specs.Ends.{views_of};
+ghost use Rattle.nvm_unit.specs.declared.views.PassView.{PassView};
 
 use nvm_geometry::Geometry;
 use nvm_plan::Job;
 use nvm_space::laws::{ports_are_changed_in_place, units_end_with_lawful_histories};
-use nvm_space::{JobDone, Port, ReadAnswer, ReadNow, Space, SpaceFault};
+use nvm_space::{JobDone, Port, Progress, ReadAnswer, ReadNow, Space, SpaceFault};
 use nvm_store::{History, Limit};
 use nvm_unit::Open;
 use std::alloc::Global;
@@ -84,5 +87,29 @@ pub fn poll_read(
         Err(ReadNow::OutOfRange) => PolledRead::Job,
         Err(ReadNow::Crosses) => PolledRead::Job,
         Err(ReadNow::NoMemory { point: _ }) => PolledRead::NoMemory,
+    }
+}
+
+/// One turn of a poller for a job that `Space::begin_job` began: goes on with it, unless it is done. It waits for nothing.
+pub fn poll_turn(
+    alloc: Global,
+    space: &Space,
+    port: &mut Port,
+    job: &Job,
+    progress: Progress,
+) -> Progress
+    requires of { IsPortOf space.now port.old }
+    requires fits { FitsNamespace space.now.namespace job.now }
+    requires begun { (number : ℕ) × (start : List PassView)
+        × IsProgress space.now.namespace number job.now start (views_of port.old.passes) progress }
+    ensures of { IsPortOf space.now port.new }
+    ensures number { port.new.number ≡ port.old.number }
+    ensures goes { (number : ℕ) (start : List PassView)
+        → IsProgress space.now.namespace number job.now start (views_of port.old.passes) progress
+        → IsProgress space.now.namespace number job.now start (views_of port.new.passes) result }
+{
+    match progress {
+        Progress::Done(done) => Progress::Done(done),
+        Progress::Pending(under_way) => space.poll_job(alloc, port, job, under_way, &Open),
     }
 }

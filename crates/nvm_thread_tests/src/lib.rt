@@ -4,6 +4,8 @@
 #[cfg(test)]
 mod engine;
 #[cfg(test)]
+mod holding;
+#[cfg(test)]
 mod run;
 #[cfg(test)]
 mod space;

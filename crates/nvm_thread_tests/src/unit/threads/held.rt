@@ -4,53 +4,12 @@ ghost use Rattle.nvm_unit.specs.Passes.{IsPassOf};
 
 use super::super::blocks::{NO_MEMORY, Read, look_at, poll_at, try_write, write};
 use super::super::two_passes;
-use nvm_unit::{Busy, Changed, Gate, LookFault, Open, Pass, Unit};
+use crate::holding::Holding;
+use nvm_unit::{Busy, Changed, LookFault, Open, Pass, Unit};
 use std::alloc::Global;
 use std::sync::Wait;
-use std::sync::atomic::{AtomicU64, Ordering};
 use std::test::Fail;
-use std::thread::{Threads, join, yield_now};
-
-/// Each thread waits so many turns for the other at most.
-const MOST_TURNS: u32 = 1_000_000;
-
-/// Holds the unit until it is released.
-#[derive(Drop)]
-struct Holding {
-    calls: AtomicU64,
-    /// 1 once the unit is held, 2 once it is to be released.
-    state: AtomicU64,
-}
-
-impl Holding {
-    fn new() -> Holding {
-        Holding {
-            calls: AtomicU64::new(0),
-            state: AtomicU64::new(0),
-        }
-    }
-
-    /// Gives whether the state was this one at last.
-    fn waits_for(&self, state: u64) -> bool {
-        for _turn in 0..MOST_TURNS {
-            if self.state.load(Ordering::SeqCst) == state {
-                return true;
-            }
-            yield_now();
-        }
-        false
-    }
-}
-
-impl Gate for Holding {
-    fn before_put(&self, _unit: u16, _job: u32) {
-        self.calls.fetch_add(1, Ordering::SeqCst);
-        self.state.store(1, Ordering::SeqCst);
-        self.waits_for(2);
-    }
-
-    fn after_job(&self, _job: u32) {}
-}
+use std::thread::{Threads, join};
 
 /// What a pass was told of a try to write LBA 1, of a look at LBA 0, and of that block once more when polled.
 #[derive(Debug, PartialEq, Eq, Drop)]
@@ -88,12 +47,12 @@ fn meanwhile(
     ensures { IsPassOf unit.now result.1 }
 {
     // For want of memory for a thread, the other begins only after this one.
-    if !gate.waits_for(1) {
+    if !gate.holds() {
         return (Err(NO_MEMORY), pass);
     }
     let mut pass = pass;
     let told = try_and_look(alloc, unit, &mut pass);
-    gate.state.store(2, Ordering::SeqCst);
+    gate.release();
     (told, pass)
 }
 
@@ -138,7 +97,7 @@ fn a_look_is_answered_while_a_thread_holds_the_unit(rt: HostRuntime) -> Result<(
     };
     assert_eq!(rt; told?, busy);
     assert_eq!(rt; changed?, Changed::Done { point: 0 });
-    assert_eq!(rt; gate.calls.load(Ordering::SeqCst), 1);
+    assert_eq!(rt; gate.calls(), 1);
     let done = Told {
         tried: Ok(Changed::Done { point: 1 }),
         read: Ok((2, 0x41)),
@@ -163,6 +122,6 @@ fn a_look_finds_newer_while_a_thread_holds_the_unit(rt: HostRuntime) -> Result<(
     };
     assert_eq!(rt; told?, busy);
     assert_eq!(rt; changed?, Changed::Done { point: 1 });
-    assert_eq!(rt; gate.calls.load(Ordering::SeqCst), 1);
+    assert_eq!(rt; gate.calls(), 1);
     Ok(())
 }
