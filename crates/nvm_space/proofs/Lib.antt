@@ -11,4 +11,4 @@ pub mod Waiting
 pub mod PartByPart
 pub mod NextParts
 pub mod PortsKept
-pub mod ReadingNow
+pub mod AtUnits

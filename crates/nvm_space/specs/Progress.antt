@@ -1,7 +1,6 @@
 -- How far a job is that is done without waiting (own).
-use Rattle.std.specs.Prelude.{◌≡◌, ℕ, List, length}
+use Rattle.std.specs.Prelude.{◌≡◌, ℕ, List}
 use Rattle.nvm_geometry.specs.Namespace.{Namespace}
-use Rattle.nvm_plan.specs.JobPart.{job_units_from}
 use Rattle.nvm_plan.specs.declared.job.Job.{Job}
 use Rattle.nvm_unit.specs.declared.views.PassView.{PassView}
 use Rattle.nvm_space.specs.Trace.{DoesJob}

@@ -1,55 +1,56 @@
--- A Read that is answered at once, or not at all (own).
-use Rattle.std.specs.Prelude.{◌≡◌, ℕ, ◌+◌, ◌<◌, ◌≤◌, List, Option, Some, None, Ok, Err, Result}
-use Rattle.nvm_record.specs.declared.status.Status.{Status}
+-- A Read that a port has answered without a wait, or is told why it isn't (own).
+use Rattle.std.specs.Prelude.{◌≡◌, ℕ, ◌+◌, ◌<◌, ◌≤◌, List, Ok, Err, Result}
 use Rattle.nvm_record.specs.Lists.{IsAt}
 use Rattle.nvm_record.specs.Status.{successful_completion}
+use Rattle.nvm_record.specs.Step.{Operation}
+use Rattle.nvm_record.specs.declared.status.Status.{Status}
 use Rattle.nvm_geometry.specs.Boundaries.{Crosses, unit_number}
 use Rattle.nvm_geometry.specs.Limits.{LiesInUnit}
 use Rattle.nvm_geometry.specs.Namespace.{Namespace}
 use Rattle.nvm_store.specs.Answer.{read_by}
 use Rattle.nvm_store.specs.Operation.{read_operation}
 use Rattle.nvm_store.specs.declared.look.answer.Answer.{Answer}
-use Rattle.nvm_store.specs.declared.look.answer.Answer.TheVariants as answer
-use Rattle.nvm_unit.specs.declared.replies.LookFault.{LookFault}
-use Rattle.nvm_unit.specs.declared.replies.LookFault.TheVariants as look_fault
-use Rattle.nvm_unit.specs.declared.replies.Observed.{Observed}
+use Rattle.nvm_store.specs.declared.look.answer.Answer.TheVariants as seen
 use Rattle.nvm_unit.specs.Ends.{views_of}
 use Rattle.nvm_unit.specs.Passes.{PassState}
 use Rattle.nvm_unit.specs.Replies.{Looks}
+use Rattle.nvm_unit.specs.declared.replies.LookFault.{LookFault}
+use Rattle.nvm_unit.specs.declared.replies.LookFault.TheVariants as look
+use Rattle.nvm_unit.specs.declared.replies.Observed.{Observed}
 use Rattle.nvm_space.specs.Ports.{PortState}
 use Rattle.nvm_space.specs.Visits.{BecomesAt}
 use Rattle.nvm_space.specs.declared.read_now.ReadAnswer.{ReadAnswer}
 use Rattle.nvm_space.specs.declared.read_now.ReadNow.{ReadNow}
-use Rattle.nvm_space.specs.declared.read_now.ReadNow.TheVariants as now
+use Rattle.nvm_space.specs.declared.read_now.ReadNow.TheVariants.{OutOfRange, Crosses as CrossesBoundary, Newer, NoMemory}
 
--- the status of a Read's answer
-abbrev pub status_by : Answer → Status
-status_by (answer.Payload bytes) = successful_completion
-status_by (answer.Status status) = status
+-- the status of a Read that saw this
+abbrev pub read_status : Answer → Status
+read_status (seen.Payload bytes) = successful_completion
+read_status (seen.Status status) = status
 
--- what a look is told as
-abbrev pub read_told : Result Observed LookFault → Result ReadAnswer ReadNow
-read_told (Ok observed) =
-    Ok (record { point = observed.point; status = status_by observed.answer; payload = read_by observed.answer })
-read_told (Err (look_fault.Newer count)) = Err (now.Newer count)
-read_told (Err (look_fault.NoMemory point)) = Err (now.NoMemory point)
+-- what is told of a look at a Read's blocks
+abbrev pub read_answer : Observed → ReadAnswer
+read_answer observed =
+    record { point = observed.point; status = read_status observed.answer; payload = read_by observed.answer }
 
--- The port's pass of the range's one unit looked, and that is what was told of it.
-pub record ReadsInUnit (ns : Namespace) (slba blocks : ℕ) (told : Result ReadAnswer ReadNow) (old new : PortState) : Type 0 where
-  pub inside : slba + blocks ≤ ns.nsze
-  pub one_unit : LiesInUnit ns slba blocks
+-- Among the passes that of the unit looked, and its look was answered so. No other one is touched.
+pub record LooksIn (unit : ℕ) (op : Operation) (answer : Result Observed LookFault) (old new : List PassState) : Type 0 where
   pub pass : PassState
-  pub its : IsAt old.passes (unit_number ns slba) pass
-  pub answer : Result Observed LookFault
-  pub looks : BecomesAt (unit_number ns slba) (λ p q. Looks answer pass.keeps p (read_operation slba blocks) q) (views_of old.passes)
-      (views_of new.passes)
-  pub is : told ≡ read_told answer
+  pub its : IsAt old unit pass
+  pub becomes : BecomesAt unit (λ p q. Looks answer pass.keeps p op q) (views_of old) (views_of new)
+
+-- A look at the range can be made, since it lies in the namespace and in one unit, and was made there.
+pub record LooksAtRange (ns : Namespace) (slba blocks : ℕ) (answer : Result Observed LookFault) (old new : PortState) : Type 0 where
+  pub in_range : slba + blocks ≤ ns.nsze
+  pub one_unit : LiesInUnit ns slba blocks
+  pub looks : LooksIn (unit_number ns slba) (read_operation slba blocks) answer old.passes new.passes
 
 -- What `read_now` answers, and the port after it.
 abbrev pub ReadsNow : Namespace → ℕ → ℕ → Result ReadAnswer ReadNow → PortState → PortState → Type 0
-ReadsNow ns slba blocks (Err now.OutOfRange) old new = (ns.nsze < slba + blocks) × (new ≡ old)
-ReadsNow ns slba blocks (Err now.Crosses) old new =
-    (slba + blocks ≤ ns.nsze) × Crosses ns slba blocks × (new ≡ old)
-ReadsNow ns slba blocks (Err (now.Newer count)) old new = ReadsInUnit ns slba blocks (Err (now.Newer count)) old new
-ReadsNow ns slba blocks (Err (now.NoMemory point)) old new = ReadsInUnit ns slba blocks (Err (now.NoMemory point)) old new
-ReadsNow ns slba blocks (Ok read) old new = ReadsInUnit ns slba blocks (Ok read) old new
+ReadsNow ns slba blocks (Ok read) old new =
+    (observed : Observed) × (read ≡ read_answer observed) × LooksAtRange ns slba blocks (Ok observed) old new
+ReadsNow ns slba blocks (Err (Newer count)) old new = LooksAtRange ns slba blocks (Err (look.Newer count)) old new
+ReadsNow ns slba blocks (Err (NoMemory point)) old new = LooksAtRange ns slba blocks (Err (look.NoMemory point)) old new
+ReadsNow ns slba blocks (Err OutOfRange) old new = (new ≡ old) × (ns.nsze < slba + blocks)
+ReadsNow ns slba blocks (Err CrossesBoundary) old new =
+    (new ≡ old) × (slba + blocks ≤ ns.nsze) × Crosses ns slba blocks

@@ -1,55 +1,53 @@
-ghost use Rattle.std.specs.Prelude.{◌≡◌};
-ghost use Rattle.nvm_unit.specs.declared.replies.LookFault.{LookFault as Fault};
-ghost use Rattle.nvm_unit.specs.declared.replies.Observed.{Observed as Seen};
-ghost use Rattle.nvm_space.specs.ReadNow.{read_told};
-
 use nvm_record::{ReadData, Status};
 use nvm_store::Answer;
-use nvm_unit::{LookFault, Observed};
+use nvm_unit::Observed;
 
-/// What [`Space::read_now`](crate::Space::read_now) answers.
+/// The answer of a Read by [`Space::read_now`](crate::Space::read_now).
 #[derive(Debug, PartialEq, Eq, Drop)]
 pub struct ReadAnswer {
-    /// The point of the unit's history on which the answer rests.
+    /// How many entries the unit's history had: the answer rests on their replay.
     pub point: u32,
-    /// 0/00, or 2/81 if a block of the range is marked.
+    /// 0/00, or 2/81 (NVM Command Set Specification, "Unrecovered Read Error") if the range has a block that was marked by
+    /// Write Uncorrectable.
     pub status: Status,
-    /// The data, if the status is 0/00.
+    /// With 0/00 the data of the range's blocks, in the order of their LBAs. With 2/81 nothing.
     pub payload: Option<ReadData>,
 }
 
-/// Why [`Space::read_now`](crate::Space::read_now) has no answer.
+/// Why a Read has no answer by [`Space::read_now`](crate::Space::read_now).
 #[derive(Clone, Copy, Debug, PartialEq, Eq)]
 pub enum ReadNow {
-    /// The range doesn't lie in the namespace. Nothing happened.
+    /// The range ends above NSZE. The port is as it was.
     OutOfRange,
-    /// A boundary lies within the range. Nothing happened.
+    /// The range lies in more than one unit. The port is as it was.
     Crosses,
-    /// The unit's history has `count` entries, more than the port's pass has seen.
+    /// The unit has been changed since the port has seen it: its history has `count` entries now.
     Newer { count: u32 },
-    /// The unit's history has exactly the entries that the port's pass has seen, but the growth for the data was
-    /// refused, or the pass keeps no version.
+    /// The port has seen all of the unit's `point` entries, but memory for the data was refused, or its pass keeps no
+    /// version.
     NoMemory { point: u32 },
 }
 
-/// What a Read is answered, by what its look was answered.
-pub(crate) fn told(answer: Result<Observed, LookFault>) -> Result<ReadAnswer, ReadNow>
-    ensures { result ≡ read_told answer }
-{
-    match answer {
-        Ok(Observed { point, answer }) => match answer {
-            Answer::Payload(payload) => Ok(ReadAnswer {
+impl ReadAnswer {
+    ghost use Rattle.std.specs.Prelude.{◌≡◌};
+    ghost use Rattle.nvm_space.specs.ReadNow.{read_answer};
+
+    /// What a look saw, as what a host is told.
+    pub(crate) fn of(observed: Observed) -> ReadAnswer
+        ensures { result ≡ read_answer observed }
+    {
+        let Observed { point, answer } = observed;
+        match answer {
+            Answer::Payload(data) => ReadAnswer {
                 point,
                 status: Status::SUCCESSFUL_COMPLETION,
-                payload: Some(payload),
-            }),
-            Answer::Status(status) => Ok(ReadAnswer {
+                payload: Some(data),
+            },
+            Answer::Status(status) => ReadAnswer {
                 point,
                 status,
                 payload: None,
-            }),
-        },
-        Err(LookFault::Newer { count }) => Err(ReadNow::Newer { count }),
-        Err(LookFault::NoMemory { point }) => Err(ReadNow::NoMemory { point }),
+            },
+        }
     }
 }

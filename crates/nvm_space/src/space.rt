@@ -21,7 +21,7 @@ use crate::job_done::JobDone;
 use crate::meeting::meet_in_each;
 use crate::opening::opened;
 use crate::port::Port;
-use crate::read_now::{ReadAnswer, ReadNow, told};
+use crate::read_now::{ReadAnswer, ReadNow};
 use crate::running::{do_job, poll_job};
 use crate::space_fault::SpaceFault;
 use crate::under_way::{JobUnderWay, Progress, begin};
@@ -29,7 +29,7 @@ use nvm_geometry::{Geometry, laws};
 use nvm_plan::Job;
 use nvm_record::NoMemory;
 use nvm_store::{History, Limit, Look};
-use nvm_unit::{Gate, Unit};
+use nvm_unit::{Gate, LookFault, Unit};
 use std::alloc::Global;
 use std::marker::Model;
 use std::sync::Wait;
@@ -220,9 +220,9 @@ impl Space {
         )
     }
 
-    /// Reads blocks of one unit from the version that the port's pass keeps. It makes one load, and answers only if
-    /// the unit's history has no more entries than the pass has seen, whether another port holds the unit or not. The
-    /// port's other passes stay as they are. It waits for nothing.
+    /// Answers a Read from the version that the port keeps of its unit, without taking the unit: with one load it finds how
+    /// many entries the unit's history has, and the answer is only given if the port has seen them all. It doesn't matter
+    /// whether another port holds the unit. What the port keeps of other units is left alone. It waits for nothing.
     pub fn read_now(
         &self,
         alloc: Global,
@@ -249,7 +249,11 @@ impl Space {
             first: slba,
             blocks,
         };
-        told(self.units[place].look(alloc, &mut port.passes[place], look))
+        match self.units[place].look(alloc, &mut port.passes[place], look) {
+            Ok(observed) => Ok(ReadAnswer::of(observed)),
+            Err(LookFault::Newer { count }) => Err(ReadNow::Newer { count }),
+            Err(LookFault::NoMemory { point }) => Err(ReadNow::NoMemory { point }),
+        }
     }
 
     /// Brings the port's pass of the unit to the history that it finds. It waits for the unit, and takes no

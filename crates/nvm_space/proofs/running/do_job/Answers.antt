@@ -1,4 +1,4 @@
-use Rattle.std.proofs.Common.{◌≡◌, ℕ, ◌<◌, ◌≤◌, length, set, refl, sym, ap, ◌∙◌, subst, arith}
+use Rattle.std.proofs.Common.{◌≡◌, ℕ, ◌<◌, ◌≤◌, length, set, refl, ap, ◌∙◌, subst, arith}
 use Rattle.nvm_geometry.specs.Boundaries.{units_of}
 use Rattle.nvm_plan.specs.LentPart.{part_operation_of}
 use Rattle.nvm_plan.specs.UnitPlace.{IsUnitPlace}

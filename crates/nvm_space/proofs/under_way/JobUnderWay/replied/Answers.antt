@@ -1,4 +1,4 @@
-use Rattle.std.proofs.Common.{◌≡◌, ℕ, ◌<◌, ◌≤◌, refl, sym, ap, ◌∙◌, subst, arith, vec_capacity}
+use Rattle.std.proofs.Common.{◌≡◌, ℕ, ◌≤◌, refl, sym, ap, ◌∙◌, subst, arith, vec_capacity}
 use Rattle.nvm_geometry.specs.Boundaries.{units_of}
 use Rattle.nvm_space.specs.Inside.Parts.{reply_told}
 use Rattle.nvm_space.specs.Inside.Replying.{RepliesTo}
