@@ -1,4 +1,5 @@
-"""The runs of the program unit_bench that are swept: blocks changed by threads, in shared units and behind mutexes."""
+"""The runs of the program unit_bench that are swept: blocks changed by threads, in shared units and behind mutexes, and
+looks at shared units."""
 
 import re
 from dataclasses import dataclass
@@ -24,7 +25,7 @@ class Measuring(Run):
 
     def refused(self, end, whole, refusals):
         # Threads also ask for memory that they can do without, and a point counts changes with its data or without.
-        if (self.has_threads() or self.words[0] == "unit") and self.is_passed(end):
+        if (self.has_threads() or self.words[0] in ("unit", "looks")) and self.is_passed(end):
             return "passed"
         if end.said() != (1, "", f"{self.program}: no memory\n", {}):
             raise ValueError("it is another end")
@@ -34,11 +35,12 @@ class Measuring(Run):
 def runs(folder):
     def measuring(target, units, threads, changes, blocks):
         words = [target, *map(str, (units, threads, changes, blocks))]
-        return Measuring(" ".join(words), "unit_bench", words, out=f"changes {changes}\n", threads=threads)
+        out = f"{'looks' if target == 'looks' else 'changes'} {changes}\n"
+        return Measuring(" ".join(words), "unit_bench", words, out=out, threads=threads)
 
-    line = "unit_bench: expected unit, versions or mutex, 1 to 1024 units, 1 to 63 threads, 1 to 4194304 changes, 1 to 65536 blocks, "
+    line = "unit_bench: expected unit, versions, mutex or looks, 1 to 1024 units, 1 to 63 threads, 1 to 4194304 changes or looks, 1 to 65536 blocks, "
     line += "or run, 0 or 15 to 65535 for the boundary, 1 to 64 workers, a host file\n"
     return [
-        *(measuring(target, 2, threads, 7, 3) for target in ("unit", "mutex") for threads in (1, 3)),
+        *(measuring(target, 2, threads, 7, 3) for target in ("unit", "mutex", "looks") for threads in (1, 3)),
         Run("other words", "unit_bench", ["lock", "1", "1", "1", "1"], 1, err=line),
     ]

@@ -1,6 +1,7 @@
 //! A space of LBAs 0 to 31 with blocks of 512 bytes, in 4 units of 8 LBAs each, and two ports.
 mod polls;
 mod reads;
+mod threads;
 
 ghost use Rattle.std.specs.Prelude.{◌≡◌, IfOk, true};
 ghost use Rattle.nvm_space.specs.Ports.{IsPortOf};

@@ -1,8 +1,9 @@
-//! The program `unit_bench`: has blocks changed by threads, in shared units or behind mutexes, or the jobs of a host file done by
-//! workers, and says how long it took.
+//! The program `unit_bench`: has blocks changed by threads, in shared units or behind mutexes, or read from versions, or the jobs of a
+//! host file done by workers, and says how long it took.
 #![tactic(auto)]
 
 mod fault;
+mod looking;
 mod measuring;
 mod mutex_writer;
 mod run_words;
@@ -13,6 +14,7 @@ mod words;
 mod writer;
 
 use crate::fault::Fault;
+use crate::looking::measure_looks;
 use crate::measuring::{Measured, measure};
 use crate::mutex_writer::MutexWriter;
 use crate::run_words::{is_run, read_run_words};
@@ -54,7 +56,7 @@ fn run<R: AllocGlobal + Env + Files + Print + Eprint + Threads + Wait + Sync + C
     }
 }
 
-/// Prints the number of changes on standard output, and the nanoseconds that they took on standard error: by the wall's clock, and of
+/// Prints the number of changes or looks on standard output, and the nanoseconds that they took on standard error: by the wall's clock, and of
 /// processor time.
 fn show_changes<R: AllocGlobal + Print + Eprint + Threads + Wait + Sync + Clock + CpuClock>(
     rt: &R,
@@ -64,6 +66,7 @@ fn show_changes<R: AllocGlobal + Print + Eprint + Threads + Wait + Sync + Clock 
     let measured = match asked.target {
         Target::Unit | Target::Versions => measure::<UnitWriter, R>(rt, rt.alloc(), &asked)?,
         Target::Mutex => measure::<MutexWriter, R>(rt, rt.alloc(), &asked)?,
+        Target::Looks => measure_looks(rt, rt.alloc(), &asked)?,
     };
     let Measured {
         changes,
@@ -71,7 +74,12 @@ fn show_changes<R: AllocGlobal + Print + Eprint + Threads + Wait + Sync + Clock 
         processor,
     } = measured;
     let (wall, processor) = (wall.as_nanos(), processor.as_nanos());
-    println!(rt; "changes {changes}").map_err(|_| Fault::Unwritten)?;
+    let what = if matches!(asked.target, Target::Looks) {
+        "looks"
+    } else {
+        "changes"
+    };
+    println!(rt; "{what} {changes}").map_err(|_| Fault::Unwritten)?;
     eprintln!(rt; "{wall} {processor}").map_err(|_| Fault::Unwritten)?;
     Ok(())
 }

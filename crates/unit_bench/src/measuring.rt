@@ -14,7 +14,7 @@ use std::time::{CpuClock, Duration, Instant};
 
 /// Two neighbouring changes of a thread on one unit lie so many blocks apart, modulo the unit's blocks. It is
 /// odd, and so they meet each block of a unit that has a power of two of them.
-const STRIDE: u64 = 40_503;
+pub const STRIDE: u64 = 40_503;
 
 /// So many changes of a thread have data of their own, and then it comes again.
 const BLOCKS_OF_DATA: u32 = 256;
@@ -22,7 +22,7 @@ const BLOCKS_OF_DATA: u32 = 256;
 /// What the changes were, and what they took.
 #[derive(Clone, Copy)]
 pub struct Measured {
-    /// The number of changes that the units have.
+    /// The number of changes that the units have, or of looks that were answered.
     pub changes: u64,
     /// From before the first change until after the last one.
     pub wall: Duration,
@@ -69,12 +69,12 @@ pub fn measure<W: Writer + Send, R: Threads + Wait + Sync + Clock + CpuClock>(
 }
 
 /// A writer of each unit, and for each thread another of each unit.
-fn writers_of<W: Writer>(alloc: Global, asked: &Asked) -> Result<(Vec<W>, Vec<Vec<W>>), Fault>
+pub fn writers_of<W: Writer>(alloc: Global, asked: &Asked) -> Result<(Vec<W>, Vec<Vec<W>>), Fault>
     requires { IsAllowed asked.now }
     ensures watch { IfOk result (λ all. length all.0.items ≡ asked.now.units) }
     ensures each { IfOk result (λ all. length all.1.items ≡ asked.now.threads) }
 {
-    let versions = matches!(asked.target, Target::Versions);
+    let versions = matches!(asked.target, Target::Versions | Target::Looks);
     let mut watch = Vec::with_capacity(alloc, asked.units as usize)?;
     let mut all = Vec::with_capacity(alloc, asked.threads as usize)?;
     for _ in 0..asked.threads {

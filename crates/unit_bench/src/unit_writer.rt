@@ -8,7 +8,7 @@ use crate::fault::Fault;
 use crate::writer::{BLOCK, Writer};
 use nvm_record::{BlockSize, PayloadRef};
 use nvm_store::{ActRef, Limit, Look, Place};
-use nvm_unit::{Changed, ObserveFault, Open, Pass, Unit, UnitFault};
+use nvm_unit::{Changed, LookFault, ObserveFault, Open, Pass, Unit, UnitFault};
 use std::alloc::Global;
 use std::sync::{Arc, Wait};
 
@@ -43,6 +43,29 @@ impl UnitWriter {
             all.push(UnitWriter::new(unit.clone()?, pass))?;
         }
         Ok(all)
+    }
+}
+
+impl UnitWriter {
+    /// Brings its pass to the history that it finds. It waits for the unit.
+    pub fn bring_up<R: Wait>(&mut self, rt: &R) {
+        self.unit.refresh(rt, &mut self.pass);
+    }
+
+    /// Reads the block from the version that its pass keeps. It waits for nothing.
+    pub fn look(&mut self, alloc: Global, lba: u64) -> Result<(), Fault> {
+        let look = Look::Read {
+            first: lba,
+            blocks: 1,
+        };
+        if !self.unit.covers_look(look) || !self.pass.keeps() {
+            return Err(Fault::Refused);
+        }
+        match self.unit.look(alloc, &mut self.pass, look) {
+            Ok(_) => Ok(()),
+            Err(LookFault::NoMemory { .. }) => Err(Fault::NoMemory),
+            Err(LookFault::Newer { .. }) => Err(Fault::Refused),
+        }
     }
 }
 

@@ -12,6 +12,8 @@ pub enum Target {
     Versions,
     /// A mutex around a vector of blocks and a vector of entries.
     Mutex,
+    /// A shared unit with versions, whose passes look.
+    Looks,
 }
 
 /// What is measured.
@@ -22,13 +24,14 @@ pub struct Asked {
     pub units: u32,
     /// The number of threads that share them.
     pub threads: u32,
-    /// The number of changes of all threads together.
+    /// The number of changes, or of looks, of all threads together.
     pub changes: u32,
     /// The number of blocks of each unit.
     pub blocks: u32,
 }
 
-/// What the words ask for: `unit`, `versions` or `mutex`, and then the numbers of units, threads, changes and blocks.
+/// What the words ask for: `unit`, `versions`, `mutex` or `looks`, and then the numbers of units, threads, changes or looks, and
+/// blocks.
 pub fn read_words(words: &[String]) -> Result<Asked, Fault>
     ensures { IfOk result IsAllowed }
 {
@@ -50,6 +53,7 @@ fn target_of(word: &str) -> Result<Target, Fault> {
         "unit" => Ok(Target::Unit),
         "versions" => Ok(Target::Versions),
         "mutex" => Ok(Target::Mutex),
+        "looks" => Ok(Target::Looks),
         _ => Err(Fault::Words),
     }
 }

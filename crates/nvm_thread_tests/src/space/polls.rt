@@ -1,27 +1,22 @@
-//! A job that is polled, alone and while another port holds one of its units.
-ghost use Rattle.std.specs.Prelude.{◌≡◌, List, IfSome};
+//! A job that is polled.
 ghost use Rattle.nvm_plan.specs.Fits.{FitsNamespace};
 ghost use Rattle.nvm_space.specs.Ports.{IsPortOf};
 ghost use Rattle.nvm_space.specs.Progress.{IsProgress};
 ghost use Rattle.nvm_unit.specs.Ends.{views_of};
-ghost use Rattle.nvm_unit.specs.declared.views.PassView.{PassView};
 
 use super::two_ports;
-use crate::holding::Holding;
 use nvm_plan::{Body, Completions, Job, PartResult, fits};
 use nvm_record::{Command, Fuse, Op, Payload, Status};
 use nvm_space::{JobDone, Port, Progress, Space};
 use nvm_unit::Open;
 use std::alloc::Global;
-use std::sync::Wait;
 use std::test::Fail;
-use std::thread::{Threads, join};
 
 /// What is told of a job: its status, and unit, point and result of each part.
-type Told = (Status, Vec<(u16, u32, PartResult)>);
+pub(super) type Told = (Status, Vec<(u16, u32, PartResult)>);
 
 /// A Write Zeroes of host 1.
-fn zeroes(slba: u64, nlb: u16) -> Job {
+pub(super) fn zeroes(slba: u64, nlb: u16) -> Job {
     let command = Command {
         cid: 7,
         nsid: 1,
@@ -38,7 +33,7 @@ fn zeroes(slba: u64, nlb: u16) -> Job {
 }
 
 /// What is told of a job for which there must be memory.
-fn told(alloc: Global, done: JobDone) -> Result<Told, Fail> {
+pub(super) fn told(alloc: Global, done: JobDone) -> Result<Told, Fail> {
     let JobDone { completions, parts } = done;
     let Completions::One(completion) = completions else {
         return Err(Fail::new("the job is one command"));
@@ -54,7 +49,7 @@ fn told(alloc: Global, done: JobDone) -> Result<Told, Fail> {
 }
 
 /// Begins job 9 and polls it once.
-fn poll_once(alloc: Global, space: &Space, port: &mut Port, job: &Job) -> Progress
+pub(super) fn poll_once(alloc: Global, space: &Space, port: &mut Port, job: &Job) -> Progress
     requires of { IsPortOf space.now port.old }
     requires fits { FitsNamespace space.now.namespace job.now }
     ensures of { IsPortOf space.now port.new }
@@ -64,56 +59,6 @@ fn poll_once(alloc: Global, space: &Space, port: &mut Port, job: &Job) -> Progre
         Progress::Done(done) => Progress::Done(done),
         Progress::Pending(under_way) => space.poll_job(alloc, port, job, under_way, &Open),
     }
-}
-
-/// Does that once a unit is held, and then has it released.
-fn meanwhile(
-    alloc: Global,
-    space: &Space,
-    port: Port,
-    job: &Job,
-    gate: &Holding,
-) -> (Option<Progress>, Port)
-    requires of { IsPortOf space.now port }
-    requires fits { FitsNamespace space.now.namespace job.now }
-    ensures of { IsPortOf space.now result.1 }
-    ensures begun { IfSome result.0 (λ progress. (start : List PassView)
-        × IsProgress space.now.namespace 9 job.now start (views_of result.1.passes) progress) }
-{
-    // For want of memory for a thread, or for the job that holds the unit, it is never held.
-    if !gate.holds() {
-        return (None, port);
-    }
-    let mut port = port;
-    let progress = poll_once(alloc, space, &mut port, job);
-    gate.release();
-    (Some(progress), port)
-}
-
-/// Does a job by the first port on one thread, while the second polls another on a second thread.
-fn at_once<R: Threads + Wait + Sync>(
-    rt: &R,
-    alloc: Global,
-    space: &Space,
-    first: &mut Port,
-    holder: &Job,
-    second: Port,
-    job: &Job,
-    gate: &Holding,
-) -> (JobDone, (Option<Progress>, Port))
-    requires first { IsPortOf space.now first.old }
-    requires second { IsPortOf space.now second }
-    requires holder { FitsNamespace space.now.namespace holder.now }
-    requires job { FitsNamespace space.now.namespace job.now }
-    ensures of { IsPortOf space.now result.1.1 }
-    ensures begun { IfSome result.1.0 (λ progress. (start : List PassView)
-        × IsProgress space.now.namespace 9 job.now start (views_of result.1.1.passes) progress) }
-{
-    join(
-        rt,
-        || space.run_job(rt, alloc, first, 3, holder, gate),
-        || meanwhile(alloc, space, second, job, gate),
-    )
 }
 
 #[test]
@@ -132,46 +77,5 @@ fn a_port_alone_polls_once(rt: HostRuntime) -> Result<(), Fail> {
         parts.as_slice(),
         [(0, 0, done), (1, 0, done), (2, 0, done)].as_slice()
     );
-    Ok(())
-}
-
-/// A part of it is done, the next one waits, and none is done twice.
-#[test]
-fn a_polled_job_goes_on_where_it_waited(rt: HostRuntime) -> Result<(), Fail> {
-    let alloc = rt.alloc();
-    let (space, mut first, second) = two_ports(alloc, 8)?;
-    let holder = zeroes(8, 0);
-    let job = zeroes(6, 11);
-    assert!(rt; fits(&space.geometry(), &holder));
-    assert!(rt; fits(&space.geometry(), &job));
-    let gate = Holding::new();
-    let (held, (progress, mut second)) = at_once(
-        &rt, alloc, &space, &mut first, &holder, second, &job, &gate,
-    );
-    told(alloc, held)?;
-    assert_eq!(rt; gate.calls(), 1);
-    let Some(progress) = progress else {
-        return Err(Fail::new("there was no memory"));
-    };
-    let under_way = match progress {
-        Progress::Pending(under_way) => under_way,
-        Progress::Done(done) => {
-            told(alloc, done)?;
-            return Err(Fail::new("unit 1 was held"));
-        }
-    };
-    let Progress::Done(done) = space.poll_job(alloc, &mut second, &job, under_way, &Open) else {
-        return Err(Fail::new("no port holds a unit any more"));
-    };
-    let (status, parts) = told(alloc, done)?;
-    assert_eq!(rt; status, Status::SUCCESSFUL_COMPLETION);
-    let done = PartResult::Done;
-    assert_eq!(rt;
-        parts.as_slice(),
-        [(0, 0, done), (1, 1, done), (2, 0, done)].as_slice()
-    );
-    assert!(rt; space.geometry().units() > 0);
-    let history = space.history(&rt, alloc, &mut second, 0)?;
-    assert_eq!(rt; history.len(), 1);
     Ok(())
 }
