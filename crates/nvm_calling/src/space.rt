@@ -57,7 +57,7 @@ pub enum PolledRead {
     Answered(ReadAnswer),
     /// Other work. The port hasn't seen all changes of this unit; once it is refreshed there, the Read is polled again.
     Later { unit: u16 },
-    /// It has `run_job` do the Read, since no single unit has all of its blocks.
+    /// It has a job do the Read, since no single unit has all of its blocks.
     Job,
     /// It polls the Read again once there is memory.
     NoMemory,

@@ -1,5 +1,6 @@
 -- A port's pass of one of its space's units: of what it is, and what becomes of the port when it looks.
-use Rattle.std.proofs.Common.{◌≡◌, ℕ, ◌+◌, ◌-◌, ◌<◌, ◌≤◌, List, Result, get_or, set, sym, ap, subst, arith}
+use Rattle.std.proofs.Common.{◌≡◌, ℕ, ◌+◌, ◌-◌, ◌<◌, ◌≤◌, List, map, Result, get_or, set, sym, ap, ◌∙◌, subst, arith}
+use Rattle.std.proofs.Math.Seq.{map-set_same}
 use Rattle.nvm_record.specs.Lists.{IsAt}
 use Rattle.nvm_record.specs.Step.{Operation}
 use Rattle.nvm_geometry.specs.Boundaries.{unit_number, units_of}
@@ -37,8 +38,8 @@ module _ (s : SpaceName) (units : List UnitName) (port state : PortState) (k pla
       still_all s.namespace s.units units state.number k place state.passes unit pass laid.count its_units all known same unit_is pass_is
 
   pub looks_in : (op : Operation) (answer : Result Observed LookFault) (after : PassState) → Looks answer pass.keeps pass.view op after.view
-      → IsProperPass after.view → LooksIn k op answer port.passes (set state.passes place after)
-  looks_in op answer after looks proper =
+      → IsProperPass after.view → after.keeps ≡ pass.keeps → LooksIn k op answer port.passes (set state.passes place after)
+  looks_in op answer after looks proper keeps =
       let So : PassView → PassView → Type 0 = λ p q. Looks answer pass.keeps p op q in
       let passes = ap (λ (p : PortState). p.passes) is in
       let there = pass_there s.namespace s.units units state.number k place state.passes unit pass laid.count its_units all known same unit_is pass_is in
@@ -47,6 +48,8 @@ module _ (s : SpaceName) (units : List UnitName) (port state : PortState) (k pla
         its = subst (λ (ps : List PassState). IsAt ps k pass) passes (subst (λ (i : ℕ). IsAt state.passes i pass) same there);
         becomes = becomes s.namespace s.units units state.number k place state.passes unit pass laid.count its_units all known same unit_is pass_is
             So port.passes after passes looks proper;
+        kept = map-set_same (λ (p : PassState). p.keeps) state.passes place after pass (keeps ∙ ap (λ (p : PassState). p.keeps) pass_is)
+            ∙ ap (map (λ (p : PassState). p.keeps)) passes;
       }
 
 -- Blocks that lie in the namespace, and whose first and last one lie in the unit, are covered by its place.

@@ -1,5 +1,5 @@
 -- A Read that a port has answered without a wait, or is told why it isn't (own).
-use Rattle.std.specs.Prelude.{◌≡◌, ℕ, ◌+◌, ◌<◌, ◌≤◌, List, Ok, Err, Result}
+use Rattle.std.specs.Prelude.{◌≡◌, ℕ, ◌+◌, ◌<◌, ◌≤◌, List, map, Ok, Err, Result}
 use Rattle.nvm_record.specs.Lists.{IsAt}
 use Rattle.nvm_record.specs.Status.{successful_completion}
 use Rattle.nvm_record.specs.Step.{Operation}
@@ -33,11 +33,13 @@ abbrev pub read_answer : Observed → ReadAnswer
 read_answer observed =
     record { point = observed.point; status = read_status observed.answer; payload = read_by observed.answer }
 
--- Among the passes that of the unit looked, and its look was answered so. No other one is touched.
+-- Among the passes that of the unit looked, and its look was answered so. The others have seen what they had, and each one
+-- that kept a version keeps it.
 pub record LooksIn (unit : ℕ) (op : Operation) (answer : Result Observed LookFault) (old new : List PassState) : Type 0 where
   pub pass : PassState
   pub its : IsAt old unit pass
   pub becomes : BecomesAt unit (λ p q. Looks answer pass.keeps p op q) (views_of old) (views_of new)
+  pub kept : map (λ p. p.keeps) new ≡ map (λ p. p.keeps) old
 
 -- A look at the range can be made, since it lies in the namespace and in one unit, and was made there.
 pub record LooksAtRange (ns : Namespace) (slba blocks : ℕ) (answer : Result Observed LookFault) (old new : PortState) : Type 0 where

@@ -33,7 +33,7 @@ pub record HaveDone (ns : Namespace) (number : ℕ) (job : Job) (op : Operation)
   pub read : data_told (map (λ did. did.reply) parts) ≡ bytes
   pub are_listed : listed ≡ map (λ did. did.reply.part) parts
 
--- The pass of the unit may have found it held, which is no step.
+-- The pass of the unit may have found that it couldn't have it, which is no part.
 abbrev pub MayHaveWaited : ℕ → List PassView → List PassView → Type 0
 MayHaveWaited unit old new = (new ≡ old) ⊎ BecomesAt unit Waits old new
 
@@ -42,7 +42,7 @@ abbrev pub units_left : Namespace → Job → UnderWay → List ℕ
 units_left ns job w = w.unit ∷ job_units_from ns job (w.unit + 1)
 
 -- The job isn't refused. Since `start` its parts before the next one were done, each with success, and the port has done
--- nothing else but wait for the unit of the next one. There is room for all parts that are left.
+-- nothing else but ask for the unit of the next one. There is room for all parts that are left.
 pub record IsUnderWay (ns : Namespace) (job : Job) (w : UnderWay) (start now : List PassView) : Type 0 where
   pub free : refusal_of ns job ≡ None
   pub op : Operation

@@ -178,19 +178,21 @@ impl Space {
         )
     }
 
-    /// Begins a job that is to be done without waiting: refuses it, or says that it is pending, with no part done yet.
-    /// [`poll_job`](Space::poll_job) goes on with it. It asks for the same memory as [`run_job`](Space::run_job) does
-    /// before its first part; where that is refused, the job is done, and nothing was done. It touches no unit.
+    /// Begins a job that is to be done without waiting. It is pending with no part done yet, and
+    /// [`poll_job`](Space::poll_job) resumes it. It is done at once if a check refuses it, or if it has no parts. The memory is
+    /// that of [`run_job`](Space::run_job) before its first part: where it is refused, the answer is `Done` with 0/06 and no
+    /// parts. It touches no unit.
     pub fn begin_job(&self, alloc: Global, number: u32, job: &Job) -> Progress
         ensures { (views : List PassView) → IsProgress self.now.namespace number job.now views views result }
     {
         begin(alloc, &self.geometry, number, job)
     }
 
-    /// Goes on with a job that was begun, part by part, up to the first whose unit another port holds: then the job is
-    /// pending. It is polled again with the same job and the same port, by which nothing else is done meanwhile. No part
-    /// is done twice, and when the job is done, it is told and was done as by [`run_job`](Space::run_job). The gate is
-    /// called once for each change that takes its unit. It waits for nothing.
+    /// Resumes a job that was begun, part by part, up to the first whose unit it doesn't get, since another port has it or
+    /// was quicker: then the job is pending. It is polled again with the same job and the same port. Between its first poll
+    /// and its end the port makes no other call, not even a `refresh`. No part is done twice. When the job is done, its parts and
+    /// completions are such as [`run_job`](Space::run_job) may give. `Gate::before_put` is called once for each change that takes its
+    /// unit. It waits for nothing.
     pub fn poll_job<G: Gate>(
         &self,
         alloc: Global,
@@ -222,7 +224,7 @@ impl Space {
 
     /// Answers a Read from the version that the port keeps of its unit, without taking the unit: with one load it finds how
     /// many entries the unit's history has, and the answer is only given if the port has seen them all. It doesn't matter
-    /// whether another port holds the unit. What the port keeps of other units is left alone. It waits for nothing.
+    /// whether another port holds the unit. The port keeps what it kept. It waits for nothing.
     pub fn read_now(
         &self,
         alloc: Global,

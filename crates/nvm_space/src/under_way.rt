@@ -32,7 +32,8 @@ use std::marker::Model;
 
 /// A job that was begun and isn't done: the parts that were done, and in which unit the next one is.
 ///
-/// It holds no more than that: whoever goes on with it lends the job again. Dropped, it leaves the parts that were done.
+/// It holds its number and what its parts read, too, but not the job, which is lent each time. Dropped, it leaves the parts that were
+/// done.
 #[derive(Drop)]
 pub struct JobUnderWay {
     pub(crate) number: u32,
@@ -64,7 +65,7 @@ impl Model for JobUnderWay {
 pub enum Progress {
     /// It was done or refused, and this is what is told of it.
     Done(JobDone),
-    /// The unit of its next part is held by another port, or none of its parts was tried yet.
+    /// The unit of its next part was not to be had, or none of its parts was tried yet.
     Pending(JobUnderWay),
 }
 

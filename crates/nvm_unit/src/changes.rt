@@ -70,7 +70,7 @@ impl Unit {
     }
 
     /// A [`change`](Unit::change) in pieces, for callers that may not wait: `None` says that the unit was not free,
-    /// and that this call is owed again. All calls of one change leave one mark together, which is that of the last. Only
+    /// and the same call can be made again. All calls of one change leave one mark together, which is that of the last. Only
     /// the last calls the gate.
     pub fn poll_change<G: Gate>(
         &self,

@@ -42,7 +42,7 @@ impl Unit {
     }
 
     /// An [`observe`](Unit::observe) in pieces, for callers that may not wait: `None` says that the unit was not free,
-    /// and that this call is owed again. All calls of one look leave one mark together, which is that of the last.
+    /// and the same call can be made again. All calls of one look leave one mark together, which is that of the last.
     pub fn poll_observe(
         &self,
         alloc: Global,

@@ -79,7 +79,7 @@ returns-clause-read c =
       one_unit = one;
       looks = looks_in c.args.self.now c.self.inside.units.items c.args.port.now (record { number = c.port.inside.number; passes = c.port.inside.passes.items }) unit c.from-place.result c.index.result.now c.index_mut.result.now
           (subst IsLaidOut c.self.view_is c.self.invariant) (ap (λ (s : SpaceName). s.units) c.self.view_is) c.port.view_is c.requires.of known same c.index.ensures c.index_mut.ensures.value
-          (read_operation c.args.slba c.args.blocks) c.look.result c.look.new.pass c.look.ensures.looked c.look.ensures.proper;
+          (read_operation c.args.slba c.args.blocks) c.look.result c.look.new.pass c.look.ensures.looked c.look.ensures.proper c.look.ensures.keeps;
     } in
     elim c.match-look.branch [
       | in-Ok w ↦ subst (λ (told : Result ReadAnswer ReadNow). ReadsNow ns c.args.slba c.args.blocks told c.args.port.now new) (sym w.result-is)
