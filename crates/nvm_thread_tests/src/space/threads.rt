@@ -68,6 +68,37 @@ fn at_once<R: Threads + Wait + Sync>(
     )
 }
 
+/// Polls the job once more, now that no port holds a unit.
+fn poll_again(
+    alloc: Global,
+    space: &Space,
+    port: &mut Port,
+    job: &Job,
+    progress: Option<Progress>,
+) -> Result<JobDone, Fail>
+    requires of { IsPortOf space.now port.old }
+    requires fits { FitsNamespace space.now.namespace job.now }
+    requires begun { IfSome progress (λ p. (start : List PassView)
+        × IsProgress space.now.namespace 9 job.now start (views_of port.old.passes) p) }
+    ensures of { IsPortOf space.now port.new }
+{
+    let Some(progress) = progress else {
+        return Err(Fail::new("there was no memory"));
+    };
+    match progress {
+        Progress::Done(done) => {
+            told(alloc, done)?;
+            Err(Fail::new("unit 1 was held"))
+        }
+        Progress::Pending(under_way) => {
+            match space.poll_job(alloc, port, job, under_way, &Open) {
+                Progress::Done(done) => Ok(done),
+                Progress::Pending(_) => Err(Fail::new("no port holds a unit any more")),
+            }
+        }
+    }
+}
+
 /// A part of it is done, the next one waits, and none is done twice.
 #[test]
 fn a_polled_job_goes_on_where_it_waited(rt: HostRuntime) -> Result<(), Fail> {
@@ -83,19 +114,7 @@ fn a_polled_job_goes_on_where_it_waited(rt: HostRuntime) -> Result<(), Fail> {
     );
     told(alloc, held)?;
     assert_eq!(rt; gate.calls(), 1);
-    let Some(progress) = progress else {
-        return Err(Fail::new("there was no memory"));
-    };
-    let under_way = match progress {
-        Progress::Pending(under_way) => under_way,
-        Progress::Done(done) => {
-            told(alloc, done)?;
-            return Err(Fail::new("unit 1 was held"));
-        }
-    };
-    let Progress::Done(done) = space.poll_job(alloc, &mut second, &job, under_way, &Open) else {
-        return Err(Fail::new("no port holds a unit any more"));
-    };
+    let done = poll_again(alloc, &space, &mut second, &job, progress)?;
     let (status, parts) = told(alloc, done)?;
     assert_eq!(rt; status, Status::SUCCESSFUL_COMPLETION);
     let done = PartResult::Done;
