@@ -1,5 +1,5 @@
 -- The next part of a job that is under way, and what is known of the pass that does it.
-use Rattle.std.proofs.Common.{◌≡◌, ℕ, ◌+◌, ◌<◌, List, map, Option, Some, None, refl, sym, subst, inr}
+use Rattle.std.proofs.Common.{◌≡◌, ℕ, ◌+◌, ◌<◌, List, map, Option, Some, None, refl, sym, ◌∙◌, subst, inr}
 use Rattle.std.specs.Prelude.{IfNone, MatchOption}
 use Rattle.std.specs.List.{Contains}
 use Rattle.nvm_record.specs.Step.{Operation}
@@ -54,15 +54,16 @@ when_pending ns number job start now progress w is known =
     subst (λ (p : Progress). IsProgress ns number job start now p) is known
 
 -- The pass of its unit did the next part.
-pub replies_so : (ns : Namespace) (number : ℕ) (job : Job) (w : UnderWay) (reply : Reply) (part : Operation) (start now new : List PassView)
-    → w.number ≡ number → IsUnderWay ns job w start now → job_part_in ns job w.unit ≡ Some part → reply.part.unit ≡ w.unit
-    → BecomesAt w.unit (DoesPart (part_done number part reply)) now new → RepliesTo ns job w reply start now new
-replies_so ns number job w reply part start now new same under in_unit at step = record {
+pub replies_so : (ns : Namespace) (number unit : ℕ) (job : Job) (w : UnderWay) (reply : Reply) (part : Operation) (start now new : List PassView)
+    → w.number ≡ number → unit ≡ w.unit → IsUnderWay ns job w start now → job_part_in ns job w.unit ≡ Some part → reply.part.unit ≡ unit
+    → BecomesAt unit (DoesPart (part_done number part reply)) now new → RepliesTo ns job w reply start now new
+replies_so ns number unit job w reply part start now new same here under in_unit at step = record {
   under_way = under;
   part = part;
   in_unit = in_unit;
-  at = at;
-  step = subst (λ (n : ℕ). BecomesAt w.unit (DoesPart (part_done n part reply)) now new) (sym same) step;
+  at = at ∙ here;
+  step = subst (λ (n : ℕ). BecomesAt w.unit (DoesPart (part_done n part reply)) now new) (sym same)
+      (subst (λ (k : ℕ). BecomesAt k (DoesPart (part_done number part reply)) now new) here step);
 }
 
 -- A job whose list of parts is the same is as far as it is.
@@ -73,16 +74,17 @@ pub same_under_way : (ns : Namespace) (job : Job) (number unit : ℕ) (parts lis
 same_under_way ns job number unit parts listed bytes room has start new same holds under = rw (same, holds) under
 
 -- One whose pass waited is as far as it was.
-pub still_under_way : (ns : Namespace) (job : Job) (w : UnderWay) (start now new : List PassView)
-    → ((p q r : PassView) → Waits p q → Waits q r → Waits p r) → IsUnderWay ns job w start now
-    → BecomesAt w.unit Waits now new → IsUnderWay ns job w start new
-still_under_way ns job w start now new again under waits = record {
+pub still_under_way : (ns : Namespace) (unit : ℕ) (job : Job) (w : UnderWay) (start now new : List PassView)
+    → ((p q r : PassView) → Waits p q → Waits q r → Waits p r) → unit ≡ w.unit → IsUnderWay ns job w start now
+    → BecomesAt unit Waits now new → IsUnderWay ns job w start new
+still_under_way ns unit job w start now new again here under waits = record {
   free = under.free;
   op = under.op;
   is_op = under.is_op;
   reached = under.reached;
   have = under.have;
-  waited = inr (after_waiting w.unit Waits under.reached now new again under.waited waits);
+  waited = inr (after_waiting w.unit Waits under.reached now new again under.waited
+      (subst (λ (k : ℕ). BecomesAt k Waits now new) here waits));
   room = under.room;
 }
 

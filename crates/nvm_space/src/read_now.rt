@@ -1,6 +1,14 @@
+ghost use Rattle.std.specs.Prelude.{◌≡◌, ◌<◌, true};
+ghost use Rattle.nvm_space.specs.Ports.{IsPortOf};
+ghost use Rattle.nvm_space.specs.ReadNow.{ReadsNow};
+
+use crate::port::Port;
+use crate::space::Space;
+use nvm_geometry::laws;
 use nvm_record::{ReadData, Status};
-use nvm_store::Answer;
-use nvm_unit::Observed;
+use nvm_store::{Answer, Look};
+use nvm_unit::{LookFault, Observed};
+use std::alloc::Global;
 
 /// The answer of a Read by [`Space::read_now`](crate::Space::read_now).
 #[derive(Debug, PartialEq, Eq, Drop)]
@@ -48,6 +56,44 @@ impl ReadAnswer {
                 status,
                 payload: None,
             },
+        }
+    }
+}
+
+impl Space {
+    /// Answers a Read from the version that the port keeps of its unit, without taking the unit: with one load it finds how
+    /// many entries the unit's history has, and the answer is only given if the port has seen them all. It doesn't matter
+    /// whether another port holds the unit. The port keeps what it kept. It waits for nothing.
+    pub fn read_now(
+        &self,
+        alloc: Global,
+        port: &mut Port,
+        slba: u64,
+        blocks: u32,
+    ) -> Result<ReadAnswer, ReadNow>
+        requires of { IsPortOf self.now port.old }
+        requires some { 0 < blocks }
+        requires versions { self.now.versions ≡ true }
+        ensures of { IsPortOf self.now port.new }
+        ensures number { port.new.number ≡ port.old.number }
+        ensures read { ReadsNow self.now.namespace slba blocks result port.old port.new }
+    {
+        laws::sharing_is_one_number();
+        if !self.geometry.in_range(slba, blocks) {
+            return Err(ReadNow::OutOfRange);
+        }
+        if self.geometry.crosses(slba, blocks) {
+            return Err(ReadNow::Crosses);
+        }
+        let place = usize::from(self.geometry.unit_of(slba));
+        let look = Look::Read {
+            first: slba,
+            blocks,
+        };
+        match self.units[place].look(alloc, &mut port.passes[place], look) {
+            Ok(observed) => Ok(ReadAnswer::of(observed)),
+            Err(LookFault::Newer { count }) => Err(ReadNow::Newer { count }),
+            Err(LookFault::NoMemory { point }) => Err(ReadNow::NoMemory { point }),
         }
     }
 }

@@ -10,13 +10,15 @@ ghost use Rattle.nvm_unit.specs.Passes.{IsPassOf, IsProperPass};
 ghost use Rattle.nvm_unit.specs.Replies.{Waits};
 ghost use Rattle.nvm_unit.specs.declared.views.PassView.{PassView};
 ghost use Rattle.nvm_space.specs.Inside.Parts.{AreUnitsOf, part_done, reply_told};
-ghost use Rattle.nvm_space.specs.Ports.{ArePassesOfAll};
+ghost use Rattle.nvm_space.specs.Ports.{ArePassesOfAll, IsPortOf};
 ghost use Rattle.nvm_space.specs.Progress.{IsProgress};
 ghost use Rattle.nvm_space.specs.Trace.{DoesJob, DoesPart};
 ghost use Rattle.nvm_space.specs.UnderWay.{IsUnderWay};
 
 use crate::job_done::JobDone;
+use crate::port::Port;
 use crate::replies::{PartReply, reply_of_change, reply_of_look};
+use crate::space::Space;
 use crate::under_way::{JobUnderWay, Progress, begin};
 use nvm_geometry::Geometry;
 use nvm_plan::laws::parts_of_jobs;
@@ -27,8 +29,89 @@ use nvm_unit::{Gate, Pass, Unit};
 use std::alloc::Global;
 use std::sync::Wait;
 
+impl Space {
+    /// Does a job by the port's passes, or refuses it, and says what its host is told. `number` is the job's number,
+    /// which the entries bear that it makes. Each part is one step of its unit; the parts are done in the order
+    /// of the units, up to the first that doesn't succeed.
+    ///
+    /// A job that is refused, or has no parts, takes no memory. Any other asks for the memory of its list of parts
+    /// before its first part, and a Read over several units for that of its data; where it is refused, nothing is
+    /// done. It waits for the units.
+    pub fn run_job<R: Wait, G: Gate>(
+        &self,
+        rt: &R,
+        alloc: Global,
+        port: &mut Port,
+        number: u32,
+        job: &Job,
+        gate: &G,
+    ) -> JobDone
+        requires of { IsPortOf self.now port.old }
+        requires fits { FitsNamespace self.now.namespace job.now }
+        ensures of { IsPortOf self.now port.new }
+        ensures number { port.new.number ≡ port.old.number }
+        ensures does { DoesJob self.now.namespace number job.now (views_of port.old.passes) (views_of port.new.passes)
+            result }
+    {
+        do_job(
+            rt,
+            alloc,
+            &self.geometry,
+            &self.units,
+            &mut port.passes,
+            number,
+            job,
+            gate,
+        )
+    }
+
+    /// Begins a job that is to be done without waiting. It is pending with no part done yet, and
+    /// [`poll_job`](Space::poll_job) resumes it. It is done at once if a check refuses it, or if it has no parts. The memory is
+    /// that of [`run_job`](Space::run_job) before its first part: where it is refused, the answer is `Done` with 0/06 and no
+    /// parts. It touches no unit.
+    pub fn begin_job(&self, alloc: Global, number: u32, job: &Job) -> Progress
+        ensures { (views : List PassView) → IsProgress self.now.namespace number job.now views views result }
+    {
+        begin(alloc, &self.geometry, number, job)
+    }
+
+    /// Resumes a job that was begun, part by part, up to the first whose unit it doesn't get, since another port has it or
+    /// was quicker: then the job is pending. It is polled again with the same job and the same port. Between its first poll
+    /// and its end the port makes no other call, not even a `refresh`. No part is done twice. When the job is done, its parts and
+    /// completions are such as [`run_job`](Space::run_job) may give. `Gate::before_put` is called once for each change that takes its
+    /// unit. It waits for nothing.
+    pub fn poll_job<G: Gate>(
+        &self,
+        alloc: Global,
+        port: &mut Port,
+        job: &Job,
+        under_way: JobUnderWay,
+        gate: &G,
+    ) -> Progress
+        requires of { IsPortOf self.now port.old }
+        requires fits { FitsNamespace self.now.namespace job.now }
+        requires under_way { (start : List PassView)
+            × IsUnderWay self.now.namespace job.now under_way start (views_of port.old.passes) }
+        ensures of { IsPortOf self.now port.new }
+        ensures number { port.new.number ≡ port.old.number }
+        ensures goes { (start : List PassView)
+            → IsUnderWay self.now.namespace job.now under_way start (views_of port.old.passes)
+            → IsProgress self.now.namespace under_way.number job.now start (views_of port.new.passes) result }
+    {
+        poll_job(
+            alloc,
+            &self.geometry,
+            &self.units,
+            &mut port.passes,
+            job,
+            under_way,
+            gate,
+        )
+    }
+}
+
 /// Does a job, or refuses it, and says what its host is told. `number` is its number.
-pub(crate) fn do_job<R: Wait, G: Gate>(
+fn do_job<R: Wait, G: Gate>(
     rt: &R,
     alloc: Global,
     geometry: &Geometry,
@@ -46,14 +129,12 @@ pub(crate) fn do_job<R: Wait, G: Gate>(
     ensures does { DoesJob geometry.now number job.now (views_of passes.old.items) (views_of passes.new.items) result }
 {
     parts_of_jobs();
-    let _units = geometry.units();
     let mut progress = begin(alloc, geometry, number, job);
     loop {
         match progress {
             Progress::Done(done) => return done,
             Progress::Pending(under_way) => {
-                let part = under_way.part(geometry, job);
-                let unit = under_way.unit;
+                let (unit, part) = under_way.next_part(geometry, job);
                 let place = usize::from(unit);
                 let reply = do_part(
                     rt,
@@ -72,7 +153,7 @@ pub(crate) fn do_job<R: Wait, G: Gate>(
 }
 
 /// Goes on with a job, part by part, up to the first whose unit is held.
-pub(crate) fn poll_job<G: Gate>(
+fn poll_job<G: Gate>(
     alloc: Global,
     geometry: &Geometry,
     units: &[Unit],
@@ -94,15 +175,13 @@ pub(crate) fn poll_job<G: Gate>(
 {
     parts_of_jobs();
     waiting_is_no_step();
-    let _units = geometry.units();
     let number = under_way.number;
     let mut progress = Progress::Pending(under_way);
     loop {
         match progress {
             Progress::Done(done) => return Progress::Done(done),
             Progress::Pending(under_way) => {
-                let part = under_way.part(geometry, job);
-                let unit = under_way.unit;
+                let (unit, part) = under_way.next_part(geometry, job);
                 let place = usize::from(unit);
                 let polled = poll_part(
                     alloc,

@@ -1,6 +1,7 @@
 //! A job that is done without waiting: begun, gone on with as far as the units are free, and done.
 ghost use Rattle.std.specs.Prelude.{◌≡◌, ◌<◌, ℕ, List, [], length, Some, None, IfOk};
 ghost use Rattle.nvm_record.specs.declared.status.Statuses.{Statuses as Told};
+ghost use Rattle.nvm_geometry.specs.Boundaries.{units_of};
 ghost use Rattle.nvm_geometry.specs.Namespace.{Namespace};
 ghost use Rattle.nvm_plan.specs.Checks.{refusal_of};
 ghost use Rattle.nvm_plan.specs.Fits.{FitsNamespace};
@@ -38,7 +39,7 @@ use std::marker::Model;
 pub struct JobUnderWay {
     pub(crate) number: u32,
     /// The unit of the next part.
-    pub(crate) unit: u16,
+    unit: u16,
     /// The parts that were done, with room for all that are left.
     parts: Vec<Part>,
     /// What they read.
@@ -101,20 +102,22 @@ pub(crate) fn begin(alloc: Global, geometry: &Geometry, number: u32, job: &Job) 
 }
 
 impl JobUnderWay {
-    /// The job's next part.
-    pub(crate) fn part<'a>(&self, geometry: &Geometry, job: &'a Job) -> LentPart<'a>
+    /// The job's next part, and its unit.
+    pub(crate) fn next_part<'a>(&self, geometry: &Geometry, job: &'a Job) -> (u16, LentPart<'a>)
         requires fits { FitsNamespace geometry.now job.now }
         requires under_way { (start : List PassView) × (now : List PassView)
             × IsUnderWay geometry.now job.now self.now start now }
-        ensures part { plan_spec.job_part_in geometry.now job.now self.now.unit ≡ Some (part_operation_of result) }
-        ensures covered { (place : UnitPlace) → IsUnitPlace geometry.now self.now.unit place
-            → IsCovered place (part_operation_of result) }
+        ensures unit { result.0 ≡ self.now.unit }
+        ensures known { result.0 < units_of geometry.now }
+        ensures part { plan_spec.job_part_in geometry.now job.now self.now.unit ≡ Some (part_operation_of result.1) }
+        ensures covered { (place : UnitPlace) → IsUnitPlace geometry.now result.0 place
+            → IsCovered place (part_operation_of result.1) }
     {
         parts_of_jobs();
         let Some(part) = job_part_in(geometry, job, self.unit) else {
             unreachable!("the job has a part in this unit")
         };
-        part
+        (self.unit, part)
     }
 
     /// What the reply to its next part makes of it.

@@ -1,4 +1,4 @@
-use Rattle.std.proofs.Common.{◌≡◌, ℕ, ◌<◌, ◌≤◌, length, set, refl, ap, ◌∙◌, subst, arith}
+use Rattle.std.proofs.Common.{◌≡◌, ℕ, length, set, refl, subst, arith}
 use Rattle.nvm_geometry.specs.Boundaries.{units_of}
 use Rattle.nvm_plan.specs.LentPart.{part_operation_of}
 use Rattle.nvm_plan.specs.UnitPlace.{IsUnitPlace}
@@ -6,128 +6,79 @@ use Rattle.nvm_unit.specs.Ends.{views_of}
 use Rattle.nvm_space.specs.Inside.Parts.{part_done, reply_told}
 use Rattle.nvm_space.specs.Progress.{IsProgress}
 use Rattle.nvm_space.specs.Trace.{DoesPart}
-use Rattle.nvm_space.specs.UnderWay.{UnderWay}
 use Rattle.nvm_space.proofs.Meetings.{unit_there, of_unit, still_all, becomes}
-use Rattle.nvm_space.proofs.NextParts.{next_known, replies_so, when_pending}
+use Rattle.nvm_space.proofs.NextParts.{replies_so, when_pending}
 use Rattle.nvm_space.proofs.running.do_job.Goals as goal
 
 pub loop-progress-init : goal.loop-progress-init
 loop-progress-init g c = record { passes = λ n all. all; progress = c.begin-progress.ensures (views_of c.args.passes.now.items) }
 
-pub offset_bounds-units-place : goal.offset_bounds-units-place
-offset_bounds-units-place g c =
-    let ns = c.args.geometry.now in
-    let job = c.args.job.now in
-    let w = c.in-Pending.under_way in
+pub next_part-unit-requires-clause-under_way : goal.next_part-unit-requires-clause-under_way
+next_part-unit-requires-clause-under_way g c =
+    let start = views_of c.args.passes.now.items in
     let now = views_of c.loop-progress.passes.items in
-    let known = when_pending ns c.args.number job (views_of c.args.passes.now.items) now c.loop-progress.progress w c.in-Pending.is c.loop-progress.invariant.progress in
-    let unit : c.under_way.inside.unit ≡ w.unit = ap (λ (x : UnderWay). x.unit) c.under_way.view_is in
-    let same : c.from-place.result ≡ w.unit = c.from-place.ensures ∙ unit in
-    let lt : w.unit < units_of ns = next_known ns job w (views_of c.args.passes.now.items) now (c.parts_of_jobs.ensures.units ns job) (c.parts_of_jobs.ensures.inside ns job) known.1 in
-    let most : units_of ns ≤ 4096 = subst (λ (n : ℕ). n ≤ 4096) c.units-units.ensures.value c.units-units.ensures.valid in
-    omega (arith, lt, same, most)
-
-pub bounds-units-place : goal.bounds-units-place
-bounds-units-place g c =
-    let ns = c.args.geometry.now in
-    let job = c.args.job.now in
-    let w = c.in-Pending.under_way in
-    let now = views_of c.loop-progress.passes.items in
-    let known = when_pending ns c.args.number job (views_of c.args.passes.now.items) now c.loop-progress.progress w c.in-Pending.is c.loop-progress.invariant.progress in
-    let unit : c.under_way.inside.unit ≡ w.unit = ap (λ (x : UnderWay). x.unit) c.under_way.view_is in
-    let same : c.from-place.result ≡ w.unit = c.from-place.ensures ∙ unit in
-    let lt : w.unit < units_of ns = next_known ns job w (views_of c.args.passes.now.items) now (c.parts_of_jobs.ensures.units ns job) (c.parts_of_jobs.ensures.inside ns job) known.1 in
-    let count : length c.args.units.now ≡ units_of ns = c.requires.units.count in
-    omega (arith, lt, same, count)
+    let known = when_pending c.args.geometry.now c.args.number c.args.job.now start now c.loop-progress.progress c.in-Pending.under_way c.in-Pending.is c.loop-progress.invariant.progress in
+    (start, now, known.1)
 
 pub index_mut-requires : goal.index_mut-requires
 index_mut-requires g c =
-    let ns = c.args.geometry.now in
-    let job = c.args.job.now in
-    let w = c.in-Pending.under_way in
-    let now = views_of c.loop-progress.passes.items in
-    let known = when_pending ns c.args.number job (views_of c.args.passes.now.items) now c.loop-progress.progress w c.in-Pending.is c.loop-progress.invariant.progress in
-    let unit : c.under_way.inside.unit ≡ w.unit = ap (λ (x : UnderWay). x.unit) c.under_way.view_is in
-    let same : c.from-place.result ≡ w.unit = c.from-place.ensures ∙ unit in
-    let lt : w.unit < units_of ns = next_known ns job w (views_of c.args.passes.now.items) now (c.parts_of_jobs.ensures.units ns job) (c.parts_of_jobs.ensures.inside ns job) known.1 in
     let all = c.loop-progress.invariant.passes c.requires.passes.0 c.requires.passes.1 in
-    let count : length c.args.units.now ≡ units_of ns = c.requires.units.count in
     let counts : length c.loop-progress.passes.items ≡ length c.args.units.now = all.count in
-    omega (arith, lt, same, count, counts, c.loop-progress.passes.ok.0)
+    let count : length c.args.units.now ≡ units_of c.args.geometry.now = c.requires.units.count in
+    omega (arith, c.next_part-unit.ensures.known, c.from-place.ensures, count, counts, c.loop-progress.passes.ok.0)
 
 pub do_part-reply-requires-clause-of : goal.do_part-reply-requires-clause-of
 do_part-reply-requires-clause-of g c =
-    let ns = c.args.geometry.now in
-    let job = c.args.job.now in
-    let w = c.in-Pending.under_way in
-    let now = views_of c.loop-progress.passes.items in
-    let known = when_pending ns c.args.number job (views_of c.args.passes.now.items) now c.loop-progress.progress w c.in-Pending.is c.loop-progress.invariant.progress in
-    let unit : c.under_way.inside.unit ≡ w.unit = ap (λ (x : UnderWay). x.unit) c.under_way.view_is in
-    let same : c.from-place.result ≡ w.unit = c.from-place.ensures ∙ unit in
-    let lt : w.unit < units_of ns = next_known ns job w (views_of c.args.passes.now.items) now (c.parts_of_jobs.ensures.units ns job) (c.parts_of_jobs.ensures.inside ns job) known.1 in
     let all = c.loop-progress.invariant.passes c.requires.passes.0 c.requires.passes.1 in
-    of_unit ns c.args.units.now c.args.units.now c.requires.passes.0 w.unit c.from-place.result c.loop-progress.passes.items c.index-units-place.result c.index_mut.result.now
-    c.requires.units.count refl all lt same c.index-units-place.is c.index_mut.ensures.value
+    of_unit c.args.geometry.now c.args.units.now c.args.units.now c.requires.passes.0 c.next_part-unit.result.0 c.from-place.result c.loop-progress.passes.items c.index-units-place.result c.index_mut.result.now
+    c.requires.units.count refl all c.next_part-unit.ensures.known c.from-place.ensures c.index-units-place.is c.index_mut.ensures.value
 
 pub do_part-reply-requires-clause-covered : goal.do_part-reply-requires-clause-covered
 do_part-reply-requires-clause-covered g c =
     let ns = c.args.geometry.now in
-    let job = c.args.job.now in
-    let w = c.in-Pending.under_way in
-    let now = views_of c.loop-progress.passes.items in
-    let known = when_pending ns c.args.number job (views_of c.args.passes.now.items) now c.loop-progress.progress w c.in-Pending.is c.loop-progress.invariant.progress in
-    let unit : c.under_way.inside.unit ≡ w.unit = ap (λ (x : UnderWay). x.unit) c.under_way.view_is in
-    let same : c.from-place.result ≡ w.unit = c.from-place.ensures ∙ unit in
-    let lt : w.unit < units_of ns = next_known ns job w (views_of c.args.passes.now.items) now (c.parts_of_jobs.ensures.units ns job) (c.parts_of_jobs.ensures.inside ns job) known.1 in
     let all = c.loop-progress.invariant.passes c.requires.passes.0 c.requires.passes.1 in
-    let there = unit_there ns c.args.units.now c.args.units.now c.requires.passes.0 w.unit c.from-place.result c.loop-progress.passes.items c.index-units-place.result c.index_mut.result.now
-    c.requires.units.count refl all lt same c.index-units-place.is c.index_mut.ensures.value in
-    c.part-part.ensures.covered c.index-units-place.result.bounds.place
-    (subst (λ (k : ℕ). IsUnitPlace ns k c.index-units-place.result.bounds.place) same (c.requires.units.place c.from-place.result c.index-units-place.result there))
+    let there = unit_there ns c.args.units.now c.args.units.now c.requires.passes.0 c.next_part-unit.result.0 c.from-place.result c.loop-progress.passes.items c.index-units-place.result c.index_mut.result.now
+    c.requires.units.count refl all c.next_part-unit.ensures.known c.from-place.ensures c.index-units-place.is c.index_mut.ensures.value in
+    c.next_part-unit.ensures.covered c.index-units-place.result.bounds.place
+    (subst (λ (k : ℕ). IsUnitPlace ns k c.index-units-place.result.bounds.place) c.from-place.ensures (c.requires.units.place c.from-place.result c.index-units-place.result there))
 
 pub replied-progress-requires : goal.replied-progress-requires
 replied-progress-requires g c =
     let ns = c.args.geometry.now in
     let job = c.args.job.now in
     let w = c.in-Pending.under_way in
+    let unit = c.next_part-unit.result.0 in
+    let start = views_of c.args.passes.now.items in
     let now = views_of c.loop-progress.passes.items in
-    let known = when_pending ns c.args.number job (views_of c.args.passes.now.items) now c.loop-progress.progress w c.in-Pending.is c.loop-progress.invariant.progress in
-    let unit : c.under_way.inside.unit ≡ w.unit = ap (λ (x : UnderWay). x.unit) c.under_way.view_is in
-    let same : c.from-place.result ≡ w.unit = c.from-place.ensures ∙ unit in
-    let lt : w.unit < units_of ns = next_known ns job w (views_of c.args.passes.now.items) now (c.parts_of_jobs.ensures.units ns job) (c.parts_of_jobs.ensures.inside ns job) known.1 in
-    let all = c.loop-progress.invariant.passes c.requires.passes.0 c.requires.passes.1 in
     let new = views_of (set c.loop-progress.passes.items c.from-place.result c.do_part-reply.new.pass) in
-    let part = part_operation_of c.part-part.result in
-    let does = becomes ns c.args.units.now c.args.units.now c.requires.passes.0 w.unit c.from-place.result c.loop-progress.passes.items c.index-units-place.result c.index_mut.result.now
-    c.requires.units.count refl all lt same c.index-units-place.is c.index_mut.ensures.value
-    (DoesPart (part_done c.args.number part (reply_told c.do_part-reply.result))) c.loop-progress.passes.items c.do_part-reply.new.pass refl c.do_part-reply.ensures.does c.do_part-reply.ensures.proper in (
-      views_of c.args.passes.now.items,
-      now,
-      new,
-      replies_so ns c.args.number job w (reply_told c.do_part-reply.result) part (views_of c.args.passes.now.items) now new known.0 known.1 c.part-part.ensures.part (c.do_part-reply.ensures.unit ∙ unit) does,
-    )
+    let known = when_pending ns c.args.number job start now c.loop-progress.progress w c.in-Pending.is c.loop-progress.invariant.progress in
+    let all = c.loop-progress.invariant.passes c.requires.passes.0 c.requires.passes.1 in
+    let part = part_operation_of c.next_part-unit.result.1 in
+    let does = becomes ns c.args.units.now c.args.units.now c.requires.passes.0 unit c.from-place.result c.loop-progress.passes.items c.index-units-place.result c.index_mut.result.now
+    c.requires.units.count refl all c.next_part-unit.ensures.known c.from-place.ensures c.index-units-place.is c.index_mut.ensures.value
+    (DoesPart (part_done c.args.number part (reply_told c.do_part-reply.result))) c.loop-progress.passes.items c.do_part-reply.new.pass refl c.do_part-reply.ensures.does c.do_part-reply.ensures.proper in
+    (start, now, new, replies_so ns c.args.number unit job w (reply_told c.do_part-reply.result) part start now new known.0 c.next_part-unit.ensures.unit known.1 c.next_part-unit.ensures.part c.do_part-reply.ensures.unit does)
 
 pub loop-progress-preserved : goal.loop-progress-preserved
 loop-progress-preserved g c =
     let ns = c.args.geometry.now in
     let job = c.args.job.now in
     let w = c.in-Pending.under_way in
+    let unit = c.next_part-unit.result.0 in
+    let start = views_of c.args.passes.now.items in
     let now = views_of c.loop-progress.passes.items in
-    let known = when_pending ns c.args.number job (views_of c.args.passes.now.items) now c.loop-progress.progress w c.in-Pending.is c.loop-progress.invariant.progress in
-    let unit : c.under_way.inside.unit ≡ w.unit = ap (λ (x : UnderWay). x.unit) c.under_way.view_is in
-    let same : c.from-place.result ≡ w.unit = c.from-place.ensures ∙ unit in
-    let lt : w.unit < units_of ns = next_known ns job w (views_of c.args.passes.now.items) now (c.parts_of_jobs.ensures.units ns job) (c.parts_of_jobs.ensures.inside ns job) known.1 in
-    let all = c.loop-progress.invariant.passes c.requires.passes.0 c.requires.passes.1 in
     let new = views_of (set c.loop-progress.passes.items c.from-place.result c.do_part-reply.new.pass) in
-    let part = part_operation_of c.part-part.result in
-    let does = becomes ns c.args.units.now c.args.units.now c.requires.passes.0 w.unit c.from-place.result c.loop-progress.passes.items c.index-units-place.result c.index_mut.result.now
-    c.requires.units.count refl all lt same c.index-units-place.is c.index_mut.ensures.value
+    let known = when_pending ns c.args.number job start now c.loop-progress.progress w c.in-Pending.is c.loop-progress.invariant.progress in
+    let all = c.loop-progress.invariant.passes c.requires.passes.0 c.requires.passes.1 in
+    let part = part_operation_of c.next_part-unit.result.1 in
+    let does = becomes ns c.args.units.now c.args.units.now c.requires.passes.0 unit c.from-place.result c.loop-progress.passes.items c.index-units-place.result c.index_mut.result.now
+    c.requires.units.count refl all c.next_part-unit.ensures.known c.from-place.ensures c.index-units-place.is c.index_mut.ensures.value
     (DoesPart (part_done c.args.number part (reply_told c.do_part-reply.result))) c.loop-progress.passes.items c.do_part-reply.new.pass refl c.do_part-reply.ensures.does c.do_part-reply.ensures.proper in
     record {
-      passes = λ n its. still_all ns c.args.units.now c.args.units.now n w.unit c.from-place.result c.loop-progress.passes.items c.index-units-place.result c.index_mut.result.now
-          c.requires.units.count refl (c.loop-progress.invariant.passes n its) lt same c.index-units-place.is c.index_mut.ensures.value
+      passes = λ n its. still_all ns c.args.units.now c.args.units.now n unit c.from-place.result c.loop-progress.passes.items c.index-units-place.result c.index_mut.result.now
+          c.requires.units.count refl (c.loop-progress.invariant.passes n its) c.next_part-unit.ensures.known c.from-place.ensures c.index-units-place.is c.index_mut.ensures.value
           c.do_part-reply.new.pass c.do_part-reply.ensures.of c.do_part-reply.ensures.number;
-      progress = subst (λ (n : ℕ). IsProgress ns n job (views_of c.args.passes.now.items) new c.replied-progress.result) known.0
-          (c.replied-progress.ensures.progress (views_of c.args.passes.now.items) now new
-          (replies_so ns c.args.number job w (reply_told c.do_part-reply.result) part (views_of c.args.passes.now.items) now new known.0 known.1 c.part-part.ensures.part (c.do_part-reply.ensures.unit ∙ unit) does));
+      progress = subst (λ (n : ℕ). IsProgress ns n job start new c.replied-progress.result) known.0
+          (c.replied-progress.ensures.progress start now new
+          (replies_so ns c.args.number unit job w (reply_told c.do_part-reply.result) part start now new known.0 c.next_part-unit.ensures.unit known.1 c.next_part-unit.ensures.part c.do_part-reply.ensures.unit does));
     }

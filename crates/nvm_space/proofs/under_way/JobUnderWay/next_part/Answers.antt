@@ -1,0 +1,13 @@
+use Rattle.std.proofs.Common.{◌<◌, sym, subst}
+use Rattle.nvm_geometry.specs.Boundaries.{units_of}
+use Rattle.nvm_space.specs.UnderWay.{UnderWay}
+use Rattle.nvm_space.proofs.NextParts.{next_known}
+use Rattle.nvm_space.proofs.under_way.JobUnderWay.next_part.Goals as goal
+
+pub returns-clause-known : goal.returns-clause-known
+returns-clause-known c =
+    let ns = c.args.geometry.now in
+    let job = c.args.job.now in
+    let under = c.requires.under_way in
+    let known = next_known ns job c.args.self.now under.0 under.1 (c.parts_of_jobs.ensures.units ns job) (c.parts_of_jobs.ensures.inside ns job) under.2 in
+    subst (λ (w : UnderWay). w.unit < units_of ns) (sym c.self.view_is) known
