@@ -1,4 +1,5 @@
 //! Jobs that fit and others, and the parts of jobs, worked out by hand.
+mod copies;
 mod fit;
 mod parts;
 

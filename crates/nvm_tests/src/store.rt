@@ -1,5 +1,6 @@
 //! Units of blocks of 512 bytes, what is done to them, and what is asked of them.
 mod acts;
+mod copies;
 mod deallocates;
 mod histories;
 mod limits;

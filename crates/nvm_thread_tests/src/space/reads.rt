@@ -61,7 +61,7 @@ fn byte_of(data: &[u8], blocks: u32) -> Result<u8, &'static str> {
 }
 
 /// Does a command of one block by the port, as job 5 of host 1. Gives its status.
-fn run(
+pub(super) fn run(
     rt: &impl Wait,
     alloc: Global,
     space: &Space,

@@ -143,3 +143,21 @@ fn a_deallocate_is_one_entry(rt: HostRuntime) -> Result<(), Fail> {
     assert_eq!(rt; seen.len(), 1 + usize::from(done));
     Ok(())
 }
+
+#[test]
+fn the_copy_of_an_answer_is_equal(rt: HostRuntime) -> Result<(), Fail> {
+    let alloc = rt.alloc();
+    let (unit, mut first, _second) = two_passes(alloc, 1)?;
+    let look = Look::Read {
+        first: 0,
+        blocks: 1,
+    };
+    if !unit.covers_look(look) {
+        return Err(Fail::new("the unit doesn't cover the Read"));
+    }
+    let Ok(observed) = unit.observe(&rt, alloc, &mut first, look) else {
+        return Err(Fail::new("there was no memory"));
+    };
+    assert_eq!(rt; observed.clone()?, observed);
+    Ok(())
+}
