@@ -1,0 +1,6 @@
+-- The greatest beginnings of a unit's steps, by level.
+pub mod Latest
+-- The jobs of a trace and of a record.
+pub mod Matching
+-- The least job whose reply differs.
+pub mod Replies

@@ -1,0 +1,25 @@
+//! Traces: what the hosts of any device saw of a run, and when a record explains one.
+//!
+//! A [`Trace`] has the commands of a run, when each began and ended, and what came back. It needs nothing from inside the
+//! device. A [`Record`](nvm_audit::Record) explains it where it is lawful, has the trace's jobs and replies, and keeps real time
+//! in each unit. [`witness`] says whether it does, or names the first fault; [`laws`] have what holds of explained traces.
+#![tactic(auto)]
+
+mod explained;
+mod matching;
+mod raising;
+mod replies;
+mod saying;
+mod start;
+mod step;
+mod stepping;
+mod timing;
+mod trace;
+mod traced_job;
+mod witness_fault;
+
+pub use explained::Explained;
+pub use start::Start;
+pub use trace::Trace;
+pub use traced_job::{Ending, TracedJob};
+pub use witness_fault::WitnessFault;
