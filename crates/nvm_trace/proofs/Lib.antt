@@ -1,3 +1,5 @@
 pub mod Places
+pub mod Gathered
+pub mod Differing
 pub mod Greatest
-pub mod Table
+pub mod Latest

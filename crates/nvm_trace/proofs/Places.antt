@@ -4,7 +4,7 @@ use mathlib.Core.Option.{some-injective, some-ne-none}
 use Rattle.nvm_record.specs.Lists.{IsAt}
 
 module _ {A : Type 0} where
-  none_stands : (i : ℕ) (x : A) → IsAt [] i x → ⊥
+  pub none_stands : (i : ℕ) (x : A) → IsAt [] i x → ⊥
   none_stands i x e = some-ne-none x (sym e)
 
   pub below : (xs : List A) (i : ℕ) (x : A) → IsAt xs i x → i < length xs

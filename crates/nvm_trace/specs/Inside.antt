@@ -4,3 +4,5 @@ pub mod Latest
 pub mod Matching
 -- The least job whose reply differs.
 pub mod Replies
+-- The table of the beginnings before it is filled.
+pub mod Table

@@ -13,6 +13,7 @@ mod saying;
 mod start;
 mod step;
 mod stepping;
+mod table;
 mod timing;
 mod trace;
 mod traced_job;

@@ -1,7 +1,7 @@
 ghost use Rattle.std.specs.Prelude.{◌≡◌, ◌↔◌, ℕ, ◌≤◌, length, IsTrue, MatchOption};
 ghost use Rattle.nvm_record.specs.Lists.{IsAt};
-ghost use Rattle.nvm_plan.specs.declared.job.Job.{Job as JobView};
 ghost use Rattle.nvm_audit.specs.Recordable.{most_jobs};
+ghost use Rattle.nvm_trace.specs.declared.start.Start.TheVariants.{Unknown};
 ghost use Rattle.nvm_trace.specs.ExplainedBy.{IsOneBlockWrite};
 ghost use Rattle.nvm_trace.specs.FirstFault.{IsFirstWithout};
 ghost use Rattle.nvm_trace.specs.Inside.Matching.{IsTheJob, IsPreparedAt};
@@ -36,6 +36,13 @@ fn same_job(job: &Job, other: &Job) -> bool
     job.host == other.host && same_body(&job.body, &other.body)
 }
 
+/// Whether this job is at this place.
+fn has_job(jobs: &Vec<Job>, place: usize, job: &Job) -> bool
+    ensures { IsTrue result ↔ IsAt jobs.now.items place job.now }
+{
+    place < jobs.len() && same_job(&jobs[place], job)
+}
+
 /// The first number at which the record hasn't the trace's job.
 pub(crate) fn first_other(traced: &Vec<TracedJob>, jobs: &Vec<Job>) -> Option<u32>
     requires { length traced.now.items ≤ most_jobs }
@@ -43,7 +50,7 @@ pub(crate) fn first_other(traced: &Vec<TracedJob>, jobs: &Vec<Job>) -> Option<u3
         (IsFirstWithout (IsTheJob traced.now.items jobs.now.items)) }
 {
     for number in 0..traced.len() {
-        if number >= jobs.len() || !same_job(&traced[number].job, &jobs[number]) {
+        if !has_job(jobs, number, &traced[number].job) {
             return Some(number as u32);
         }
     }
@@ -60,15 +67,21 @@ fn is_one_block_write(body: &Body) -> bool
     }
 }
 
-/// The first number, from that of the first job that isn't the trace's, at which the record has no preparation, or may have
-/// none.
+/// Whether the job may be there as a preparation.
+fn is_preparation(start: Start, job: &Job) -> bool
+    ensures { IsTrue result ↔ ((start ≡ Unknown) × IsOneBlockWrite job.now.body) }
+{
+    start == Start::Unknown && is_one_block_write(&job.body)
+}
+
+/// The first number, from that of the first job that isn't the trace's, at which the record has a job that may not be there.
 pub(crate) fn first_unprepared(start: Start, first: usize, jobs: &Vec<Job>) -> Option<u32>
     requires { length jobs.now.items ≤ most_jobs }
     ensures { MatchOption result ((number : ℕ) → IsPreparedAt start first jobs.now.items number)
         (IsFirstWithout (IsPreparedAt start first jobs.now.items)) }
 {
     for number in first..jobs.len() {
-        if start != Start::Unknown || !is_one_block_write(&jobs[number].body) {
+        if !is_preparation(start, &jobs[number]) {
             return Some(number as u32);
         }
     }

@@ -2,7 +2,7 @@ use Rattle.std.proofs.Common.{◌≡◌, ◌++◌, ◌∷◌, ◌<◌, [], List,
 use Rattle.std.proofs.lemmas.List.{map-set, length-map}
 use Rattle.nvm_trace.specs.Order.{level_of}
 use Rattle.nvm_trace.specs.Inside.Latest.{HasRoom, HasEachLevel}
-use Rattle.nvm_trace.proofs.Table.{row_of, row_read, room_after, noted}
+use Rattle.nvm_trace.proofs.Latest.{row_of, row_read, room_after, noted}
 use Rattle.nvm_trace.proofs.timing.note.Goals as goal
 
 pub returns-clause-room : goal.returns-clause-room

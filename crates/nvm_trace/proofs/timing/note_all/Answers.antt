@@ -1,4 +1,4 @@
-use Rattle.nvm_trace.proofs.Table.{all_kept, room_read, noted_more}
+use Rattle.nvm_trace.proofs.Latest.{all_kept, room_read, noted_more}
 use Rattle.std.proofs.Common.{map}
 use Rattle.nvm_trace.proofs.timing.note_all.Goals as goal
 
