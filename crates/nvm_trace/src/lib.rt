@@ -18,9 +18,11 @@ mod timing;
 mod trace;
 mod traced_job;
 mod witness_fault;
+mod witnessing;
 
 pub use explained::Explained;
 pub use start::Start;
 pub use trace::Trace;
 pub use traced_job::{Ending, TracedJob};
 pub use witness_fault::WitnessFault;
+pub use witnessing::witness;
