@@ -21,6 +21,7 @@ use crate::timing::first_late;
 use crate::trace::Trace;
 use crate::traced_job::TracedJob;
 use crate::witness_fault::WitnessFault;
+use nvm_audit::laws::one_check_is_the_first_fault;
 use nvm_audit::{AuditFault, Record, Spot, audit};
 use nvm_geometry::Geometry;
 use nvm_record::NoMemory;
@@ -126,6 +127,7 @@ pub fn witness(
     ensures fault { IfErr result (λ fault. IsFirstWitnessFault «trace».now «record».now fault ⊎ (fault ≡ NoMemoryFault)) }
     ensures accepted { IsExplainedBy «trace».now «record».now → IfErr result (λ fault. fault ≡ NoMemoryFault) }
 {
+    one_check_is_the_first_fault();
     match job_fault(trace, record) {
         Some(fault) => return Err(fault),
         None => {}
