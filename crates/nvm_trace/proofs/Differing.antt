@@ -1,5 +1,5 @@
 -- The least job whose recorded outcome doesn't agree with its reply.
-use Rattle.std.proofs.Common.{◌≡◌, ◌⊎◌, ℕ, zero, suc, ◌<◌, ◌≤◌, List, [], ◌∷◌, ◌++◌, Contains, Option, Some, None, refl, sym, subst, ◌∙◌, inl, inr, arith, append-nil}
+use Rattle.std.proofs.Common.{◌≡◌, ◌⊎◌, ℕ, zero, suc, ◌≤◌, List, [], ◌∷◌, ◌++◌, Contains, Option, Some, None, refl, sym, subst, ◌∙◌, inl, inr, arith}
 use Rattle.std.specs.Prelude.{IfSome, MatchOption}
 use Rattle.std.proofs.lemmas.List.Elements.{Contains-append_left, Contains-append_right, Contains-append_cases, Contains-push, Contains-push_cases}
 use Rattle.std.specs.List.{flat_map}
@@ -38,34 +38,37 @@ module _ (ns : Namespace) (traced : List TracedJob) (seen : List RecordedJob) (d
     | inl before ↦ old e before
     | inr same ↦ subst (λ (x : RecordedJob). Agrees ns traced x) same agrees
   ]
-  least_kept (Some n) agrees old =
-      (λ e has low. elim (Contains-push_cases seen d e has) [
-        | inl before ↦ old.0 e before low
-        | inr same ↦ subst (λ (x : RecordedJob). Agrees ns traced x) same agrees
-      ],
-      (old.1.0, Contains-append_left seen (d ∷ []) old.1.0 old.1.1, old.1.2, old.1.3))
+  least_kept (Some n) agrees old = (
+    λ e has low. elim (Contains-push_cases seen d e has) [
+      | inl before ↦ old.0 e before low
+      | inr same ↦ subst (λ (x : RecordedJob). Agrees ns traced x) same agrees
+    ],
+    (old.1.0, Contains-append_left seen (d ∷ []) old.1.0 old.1.1, old.1.2, old.1.3),
+  )
 
   -- One done job more doesn't.
   pub least_taken : (least : Option ℕ) (n : ℕ) → (Agrees ns traced d → ⊥) → n ≤ d.job → IfSome least (λ m. n ≤ m)
       → (n ≡ d.job) ⊎ (least ≡ Some n) → IsLeastWrong ns traced seen least → IsLeastWrong ns traced (seen ++ d ∷ []) (Some n)
-  least_taken None n differs low before (inl is) old =
-      (λ e has below. elim (Contains-push_cases seen d e has) [
-        | inl earlier ↦ old e earlier
-        | inr same ↦ let job : d.job ≡ e.job = (λ i. (same i).job) in absurd (omega (arith, low, below, job))
-      ],
-      (d, Contains-push seen d, sym is, differs))
+  least_taken None n differs low before (inl is) old = (
+    λ e has below. elim (Contains-push_cases seen d e has) [
+      | inl earlier ↦ old e earlier
+      | inr same ↦ let job : d.job ≡ e.job = (λ i. (same i).job) in absurd (omega (arith, low, below, job))
+    ],
+    (d, Contains-push seen d, sym is, differs),
+  )
   least_taken None n differs low before (inr is) old = cc
-  least_taken (Some m) n differs low before which old =
-      (λ e has below. elim (Contains-push_cases seen d e has) [
-        | inl earlier ↦ old.0 e earlier (omega (arith, before, below))
-        | inr same ↦ let job : d.job ≡ e.job = (λ i. (same i).job) in absurd (omega (arith, low, below, job))
-      ],
-      elim which [
-        | inl is ↦ (d, Contains-push seen d, sym is, differs)
-        | inr is ↦
-            let same : m ≡ n = cc in
-            (old.1.0, Contains-append_left seen (d ∷ []) old.1.0 old.1.1, old.1.2 ∙ same, old.1.3)
-      ])
+  least_taken (Some m) n differs low before which old = (
+    λ e has below. elim (Contains-push_cases seen d e has) [
+      | inl earlier ↦ old.0 e earlier (omega (arith, before, below))
+      | inr same ↦ let job : d.job ≡ e.job = (λ i. (same i).job) in absurd (omega (arith, low, below, job))
+    ],
+    elim which [
+      | inl is ↦ (d, Contains-push seen d, sym is, differs)
+      | inr is ↦
+          let same : m ≡ n = cc in
+          (old.1.0, Contains-append_left seen (d ∷ []) old.1.0 old.1.1, old.1.2 ∙ same, old.1.3)
+    ],
+  )
 
 -- Which job's it is, by its number.
 pub least_is_first : (ns : Namespace) (traced : List TracedJob) (done : List (List RecordedJob)) (least : Option ℕ)

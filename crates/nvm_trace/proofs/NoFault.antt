@@ -1,5 +1,5 @@
 -- A record that explains a trace has no fault.
-use Rattle.std.proofs.Common.{◌≡◌, ◌⊎◌, ℕ, ◌≤◌, ◌<◌, List, length, refl, subst, inl, inr, arith}
+use Rattle.std.proofs.Common.{◌≡◌, ℕ, ◌≤◌, ◌<◌, List, length, refl, subst, inl, inr, arith}
 use Rattle.std.proofs.lemmas.Bool.{cases_lt}
 use Rattle.nvm_record.specs.Lists.{IsAt}
 use Rattle.nvm_audit.specs.declared.audit_fault.AuditFault.{AuditFault}

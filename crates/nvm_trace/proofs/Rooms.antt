@@ -1,5 +1,5 @@
 -- The table of zeroes has a place for each step that has one in its unit's history.
-use Rattle.std.proofs.Common.{◌≡◌, ◌⊎◌, ℕ, ◌+◌, ◌*◌, ◌<◌, ◌≤◌, List, [], All, Contains, length, map, get_or, replicate, refl, sym, ap, subst, ◌∙◌, inl, inr, arith}
+use Rattle.std.proofs.Common.{◌≡◌, ℕ, ◌+◌, ◌*◌, ◌<◌, ◌≤◌, List, [], All, length, map, get_or, replicate, sym, ap, subst, ◌∙◌, inl, inr, arith}
 use Rattle.std.proofs.lemmas.Bool.{cases_lt}
 use Rattle.std.proofs.lemmas.List.{get_or-map, get_or_past, get_or-replicate, length-map, length-replicate}
 use Rattle.nvm_record.specs.Lists.{IsAt}
@@ -9,7 +9,6 @@ use Rattle.nvm_audit.specs.declared.version.Version.TheVariants.{One, Two}
 use Rattle.nvm_audit.specs.Recordable.{HoldsLimit, IsRecordable}
 use Rattle.nvm_audit.specs.RecordView.{RecordView}
 use Rattle.nvm_trace.specs.declared.step.Step.{Step}
-use Rattle.nvm_trace.specs.Order.{level_of}
 use Rattle.nvm_trace.specs.Inside.Latest.{time_at, HasRoom, HasEachLevel}
 use Rattle.nvm_trace.specs.Inside.Table.{empty_row, AreEmptyRows, HasPlace}
 use Rattle.nvm_trace.proofs.Places.{below, read_is, at_map, read_there, some_there}

@@ -1,8 +1,7 @@
 -- The steps that a lawful record shows, and the parts that name their units.
-use Rattle.std.proofs.Common.{◌≡◌, ℕ, zero, suc, ◌+◌, ◌*◌, ◌<◌, ◌≤◌, nat_eq, List, [], ◌∷◌, ◌++◌, All, Bool, true, false, Contains, get_or, length, refl, sym, ap, subst, ◌∙◌, inl, inr, arith}
+use Rattle.std.proofs.Common.{◌≡◌, ℕ, zero, suc, ◌+◌, ◌*◌, ◌<◌, ◌≤◌, nat_eq, List, [], ◌∷◌, All, Bool, true, false, Contains, get_or, length, refl, sym, ap, subst, ◌∙◌, arith}
 use Rattle.std.proofs.lemmas.Bool.{eq-eqb}
 use Rattle.std.proofs.lemmas.List.Elements.{Contains-append_left, Contains-append_right, Contains-get_or, All-contains}
-use Rattle.std.specs.List.{flat_map}
 use mathlib.Core.Option.{some-injective}
 use Rattle.nvm_record.specs.Lists.{IsAt}
 use Rattle.nvm_geometry.specs.Boundaries.{units_of}
@@ -86,10 +85,13 @@ workers_have : (first : ℕ) (done : List (List RecordedJob)) (worker : ℕ) (wo
 workers_have first [] worker work k d i part by there its = absurd (none_stands worker work by)
 workers_have first (w ∷ ws) zero work k d i part by there its =
     let there' = subst (λ (v : List RecordedJob). IsAt v k d) (sym (some-injective w work by)) there in
-    let left = left_has first d d.parts i part its in
-    (recorded_part first d part left.0, refl, refl,
-    Contains-append_left (parts_of_work first w) (parts_of_workers (first + 1) ws) (recorded_part first d part left.0)
-    (into_flat (λ (e : RecordedJob). parts_left first e e.parts) w k d (recorded_part first d part left.0) there' left.1))
+    let left = left_has first d d.parts i part its in (
+      recorded_part first d part left.0,
+      refl,
+      refl,
+      Contains-append_left (parts_of_work first w) (parts_of_workers (first + 1) ws) (recorded_part first d part left.0)
+          (into_flat (λ (e : RecordedJob). parts_left first e e.parts) w k d (recorded_part first d part left.0) there' left.1),
+    )
 workers_have first (w ∷ ws) (suc worker) work k d i part by there its =
     let rest = workers_have (first + 1) ws worker work k d i part by there its in
     (rest.0, rest.1, rest.2, Contains-append_right (parts_of_work first w) (parts_of_workers (first + 1) ws) rest.0 rest.3)
@@ -120,12 +122,13 @@ module _ (r : RecordView) (held : IsRecordable r) (lawful : IsLawfulRecord r) wh
       let p = named.p in
       let rests = unit.rests named.k p named.at in
       let point : p.part.point ≡ part.point = ap (λ (q : Part). q.point) named.part_is in
-      let within = rests.within in
-      (omega (arith, within, point),
-      λ done.
-      let made = unit.made named.k p named.at (ap (λ (q : Part). q.result) named.part_is ∙ done) in
-      let low = below history p.part.point made.0 made.1 in
-      omega (arith, low, point))
+      let within = rests.within in (
+        omega (arith, within, point),
+        λ done.
+            let made = unit.made named.k p named.at (ap (λ (q : Part). q.result) named.part_is ∙ done) in
+            let low = below history p.part.point made.0 made.1 in
+            omega (arith, low, point),
+      )
 
   one_place : (t s : Step) (history : List HistoryEntry) → IsAt r.units t.unit history → level_of t ≤ 2 * length history
       → Contains (t ∷ []) s → HasPlace r.units s

@@ -4,9 +4,7 @@ use Rattle.std.specs.Prelude.{◌≡◌, ℕ, ◌<◌}
 use Rattle.nvm_audit.specs.LawfulRecord.{IsLawfulRecord}
 use Rattle.nvm_audit.specs.RecordChecks.{IsFirstFault}
 use Rattle.nvm_audit.specs.RecordView.{RecordView}
-use Rattle.nvm_audit.specs.declared.audit_fault.AuditFault.{AuditFault}
 use Rattle.nvm_audit.specs.declared.audit_fault.Spot.{Spot}
-use Rattle.nvm_trace.specs.declared.step.Step.{Step}
 use Rattle.nvm_trace.specs.declared.witness_fault.WitnessFault.{WitnessFault}
 use Rattle.nvm_trace.specs.declared.witness_fault.WitnessFault.TheVariants.{NamespaceDiffers, JobDiffers, NoPreparation, Unlawful, ReplyDiffers, TimeBack, NoMemory}
 use Rattle.nvm_trace.specs.ExplainedBy.{HasJob, IsPrepared, HasItsReply}

@@ -1,5 +1,5 @@
 -- The numbers of an explained trace (own).
-use Rattle.std.specs.Prelude.{◌≡◌, ℕ, ◌+◌, List, length, not, count_by}
+use Rattle.std.specs.Prelude.{◌≡◌, ◌+◌, length, not, count_by}
 use Rattle.nvm_audit.specs.RecordView.{RecordView}
 use Rattle.nvm_trace.specs.declared.explained.Explained.{Explained}
 use Rattle.nvm_trace.specs.Saying.{says_what_was_done}

@@ -1,6 +1,6 @@
 -- What the reply to a job says of it: Base Specification, "Status Field". Which statuses leave open what was done is this
 -- project's own.
-use Rattle.std.specs.Prelude.{nat_eq, Bool, true, false, not, ◌&&◌, ◌||◌, Option, Some, None}
+use Rattle.std.specs.Prelude.{nat_eq, Bool, true, false, ◌&&◌, ◌||◌, Option, Some, None}
 use Rattle.nvm_record.specs.declared.op.Op.{Op}
 use Rattle.nvm_record.specs.declared.op.Op.TheVariants.{Read, Compare}
 use Rattle.nvm_record.specs.declared.status.Status.{Status}

@@ -1,8 +1,7 @@
-use Rattle.std.proofs.Common.{◌≡◌, ◌<◌, length, refl, sym, subst, ap, ◌∙◌, arith}
+use Rattle.std.proofs.Common.{◌<◌, length, sym, subst, ◌∙◌, arith}
 use Rattle.std.proofs.lemmas.Bool.{false≢true}
 use Rattle.std.proofs.Common.{below_more}
 use Rattle.nvm_record.specs.Lists.{IsAt}
-use Rattle.nvm_plan.specs.declared.job.Job.{Job}
 use Rattle.nvm_trace.specs.declared.traced_job.TracedJob.{TracedJob}
 use Rattle.nvm_trace.specs.Inside.Matching.{IsTheJob}
 use Rattle.nvm_trace.proofs.Places.{below, one_there, stands_read}

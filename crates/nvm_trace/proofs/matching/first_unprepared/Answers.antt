@@ -1,6 +1,5 @@
 use Rattle.std.proofs.Common.{◌≡◌, ◌<◌, length, sym, subst, ◌∙◌, arith, below_more}
 use Rattle.std.proofs.lemmas.Bool.{false≢true}
-use Rattle.nvm_record.specs.Lists.{IsAt}
 use Rattle.nvm_plan.specs.declared.job.Job.{Job}
 use Rattle.nvm_trace.specs.declared.start.Start.TheVariants.{Unknown}
 use Rattle.nvm_trace.specs.ExplainedBy.{IsOneBlockWrite}

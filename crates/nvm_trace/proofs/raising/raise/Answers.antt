@@ -1,6 +1,5 @@
-use Rattle.std.proofs.Common.{◌≡◌, ◌+◌, ◌<◌, List, ℕ, length, get_or, set, sym, ap, subst, arith, rules}
+use Rattle.std.proofs.Common.{◌<◌, length, get_or, arith}
 use Rattle.std.proofs.lemmas.List.{get_or_read}
-use Rattle.nvm_trace.specs.Inside.Latest.{IsRaisedTo}
 use Rattle.nvm_trace.proofs.Greatest.{raised_lower, raised_higher}
 use Rattle.nvm_trace.proofs.raising.raise.Goals as goal
 use Rattle.nvm_trace.proofs.raising.raise.Goals.{then-index-latest, else-index-latest}

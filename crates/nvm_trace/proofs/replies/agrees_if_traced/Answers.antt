@@ -1,4 +1,4 @@
-use Rattle.std.proofs.Common.{◌≡◌, ◌<◌, ◌≤◌, ℕ, length, sym, subst, refl, ap, arith, rules}
+use Rattle.std.proofs.Common.{◌≡◌, ◌<◌, ◌≤◌, ℕ, length, subst, ap, arith, rules}
 use Rattle.std.proofs.lemmas.Bool.{le-leb}
 use Rattle.nvm_record.specs.Lists.{IsAt}
 use Rattle.nvm_audit.specs.RecordedJob.{RecordedJob}
@@ -21,7 +21,8 @@ returns-else-number-len c =
     let d = c.args.done.now in
     let number : c.done.inside.job ≡ d.job = ap (λ (e : RecordedJob). e.job) c.done.view_is in
     let low : c.done.inside.job < length traced = search rules in
-    let there = subst (λ (n : ℕ). IsAt traced n c.index.result.now) number (stands_read traced c.done.inside.job c.index.result.now low c.index.ensures) in
-    (λ t j at.
-    subst (λ (x : TracedJob). AgreesWith c.args.geometry.now x d) (one_there traced d.job c.index.result.now j there at) (c.agrees.ensures.0 t),
-    λ agrees. c.agrees.ensures.1 (agrees c.index.result.now there))
+    let there = subst (λ (n : ℕ). IsAt traced n c.index.result.now) number (stands_read traced c.done.inside.job c.index.result.now low c.index.ensures) in (
+      λ t j at.
+          subst (λ (x : TracedJob). AgreesWith c.args.geometry.now x d) (one_there traced d.job c.index.result.now j there at) (c.agrees.ensures.0 t),
+      λ agrees. c.agrees.ensures.1 (agrees c.index.result.now there),
+    )

@@ -1,4 +1,4 @@
-use Rattle.std.proofs.Common.{◌≡◌, ◌++◌, ◌<◌, List, length, take, ap, ◌∙◌, arith, rules}
+use Rattle.std.proofs.Common.{◌++◌, ◌<◌, List, length, ap, ◌∙◌, rules}
 use Rattle.std.proofs.lemmas.List.{take_all}
 use Rattle.nvm_trace.specs.declared.step.Step.{Step}
 use Rattle.nvm_trace.specs.Steps.{steps_of_job, steps_of_work}

@@ -1,10 +1,10 @@
-use Rattle.std.proofs.Common.{◌≡◌, ◌<◌, length, map, refl, sym, subst, ◌∙◌, inl, inr, true, false, arith}
+use Rattle.std.proofs.Common.{◌≡◌, ◌<◌, length, map, sym, subst, ◌∙◌, inl, inr, arith}
 use Rattle.std.proofs.lemmas.Bool.{cases_eq, false≢true}
 use Rattle.nvm_record.specs.Lists.{IsAt}
 use Rattle.nvm_trace.specs.declared.step.Step.{Step}
 use Rattle.nvm_trace.specs.Timely.{IsLate}
 use Rattle.nvm_trace.proofs.Places.{below, one_there, placed, stands_read}
-use Rattle.nvm_trace.proofs.Latest.{room_there, all_kept}
+use Rattle.nvm_trace.proofs.Latest.{room_there}
 use Rattle.nvm_trace.proofs.timing.first_late.Goals as goal
 
 pub is_late-requires : goal.is_late-requires

@@ -1,4 +1,4 @@
-use Rattle.std.proofs.Common.{◌≡◌, ◌++◌, ◌∷◌, ◌<◌, [], List, ℕ, map, set, get_or, max, length, refl, sym, ap, subst, ◌∙◌, arith, length-set}
+use Rattle.std.proofs.Common.{◌≡◌, ◌++◌, ◌∷◌, [], List, ℕ, map, set, get_or, max, length, sym, ap, subst, ◌∙◌, arith, length-set}
 use Rattle.std.proofs.lemmas.List.{map-set, length-map}
 use Rattle.nvm_trace.specs.Order.{level_of}
 use Rattle.nvm_trace.specs.Inside.Latest.{HasRoom, HasEachLevel}

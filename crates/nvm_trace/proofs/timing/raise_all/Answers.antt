@@ -1,7 +1,7 @@
-use Rattle.std.proofs.Common.{◌≡◌, ◌+◌, ◌<◌, List, ℕ, map, take, length, get_or, sym, ap, subst, ◌∙◌, arith, rules}
+use Rattle.std.proofs.Common.{◌≡◌, ◌+◌, ◌<◌, List, ℕ, map, take, length, get_or, sym, ap, subst, ◌∙◌, arith}
 use Rattle.std.proofs.lemmas.List.{map-set, length-map}
 use Rattle.nvm_trace.specs.Inside.Latest.{greatest, AreRaisedTo}
-use Rattle.nvm_trace.proofs.Latest.{row_of, row_read, raised_begin, raised_row, all_raised, room_raised}
+use Rattle.nvm_trace.proofs.Latest.{row_read, raised_begin, raised_row, all_raised, room_raised}
 use Rattle.nvm_trace.proofs.timing.raise_all.Goals as goal
 
 pub loop-unit-init : goal.loop-unit-init

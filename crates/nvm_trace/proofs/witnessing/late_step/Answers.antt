@@ -1,7 +1,6 @@
-use Rattle.std.proofs.Common.{List, map, refl, sym, ap, subst, ◌∙◌, All}
+use Rattle.std.proofs.Common.{map, refl, sym, subst, All}
 use Rattle.nvm_audit.specs.RecordView.{RecordView}
 use Rattle.nvm_audit.specs.Shown.{shown_by}
-use Rattle.nvm_store.specs.HistoryEntry.{HistoryEntry}
 use Rattle.nvm_trace.specs.Inside.Table.{HasPlace}
 use Rattle.nvm_trace.proofs.Rooms.{few_in_each, room_of_places, none_yet}
 use Rattle.nvm_trace.proofs.witnessing.late_step.Goals as goal

@@ -1,14 +1,12 @@
-use Rattle.std.proofs.Common.{◌≡◌, ◌<◌, ◌≤◌, List, All, length, map, refl, sym, ap, subst, ◌∙◌, inl, arith}
+use Rattle.std.proofs.Common.{◌≡◌, List, All, length, sym, ap, subst, ◌∙◌, inl, arith}
 use Rattle.std.proofs.lemmas.List.{length-map}
 use Rattle.std.specs.Prelude.{not, count_by}
 use Rattle.nvm_audit.specs.LawfulRecord.{IsLawfulRecord}
 use Rattle.nvm_audit.specs.RecordView.{RecordView}
 use Rattle.nvm_audit.specs.Shown.{shown_by as record_by}
-use Rattle.nvm_store.specs.HistoryEntry.{HistoryEntry}
 use Rattle.nvm_trace.specs.declared.step.Step.{Step}
 use Rattle.nvm_trace.specs.Inside.Table.{HasPlace}
 use Rattle.nvm_trace.specs.Saying.{says_what_was_done}
-use Rattle.nvm_trace.specs.Shown.{shown_by}
 use Rattle.nvm_trace.specs.Steps.{steps_of}
 use Rattle.nvm_trace.specs.Timely.{IsTimely, IsFirstLate}
 use Rattle.nvm_trace.specs.TraceView.{TraceView}
@@ -42,8 +40,12 @@ returns-in-Some-clause-fault c =
     let are : steps ≡ steps_of c.args.trace.now.jobs c.args.record.now.done =
     c.in_ok-steps.ensures ∙ ap (λ (t : TraceView). steps_of t.jobs (record_by c.record.inside).done) c.trace.view_is
     ∙ ap (λ (r : RecordView). steps_of c.args.trace.now.jobs r.done) c.record.view_is in
-    inl (c.requires.jobs, c.requires.lawful, c.requires.replies,
-    first_back c.args.trace.now c.args.record.now steps place late are first same)
+    inl (
+      c.requires.jobs,
+      c.requires.lawful,
+      c.requires.replies,
+      first_back c.args.trace.now c.args.record.now steps place late are first same,
+    )
 
 pub overflow_sub-result : goal.overflow_sub-result
 overflow_sub-result c =

@@ -1,4 +1,4 @@
-use Rattle.std.proofs.Common.{◌≡◌, inl, inr}
+use Rattle.std.proofs.Common.{inl, inr}
 use Rattle.std.proofs.lemmas.Result.{IfErr-weaker}
 use Rattle.nvm_trace.proofs.NoFault.{no_fault}
 use Rattle.nvm_trace.proofs.witnessing.witness.Goals as goal
