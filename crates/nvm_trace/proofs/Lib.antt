@@ -4,5 +4,6 @@ pub mod Differing
 pub mod Rooms
 pub mod ShownSteps
 pub mod NoFault
+pub mod Moments
 pub mod Greatest
 pub mod Latest

@@ -1,7 +1,9 @@
 -- The steps that a lawful record shows, and the parts that name their units.
-use Rattle.std.proofs.Common.{◌≡◌, ℕ, zero, suc, ◌+◌, ◌*◌, ◌<◌, ◌≤◌, nat_eq, List, [], ◌∷◌, All, Bool, true, false, Contains, get_or, length, refl, sym, ap, subst, ◌∙◌, arith}
+use Rattle.std.proofs.Common.{◌≡◌, ℕ, zero, suc, ◌+◌, ◌*◌, ◌<◌, ◌≤◌, nat_eq, List, [], ◌∷◌, All, Bool, true, false, Contains, Option, Some, None, get_or, length, refl, sym, ap, subst, ◌∙◌, arith}
 use Rattle.std.proofs.lemmas.Bool.{eq-eqb}
 use Rattle.std.proofs.lemmas.List.Elements.{Contains-append_left, Contains-append_right, Contains-get_or, All-contains}
+use Rattle.std.proofs.lemmas.Option.{slice_get_within, get_or_from_slice_get}
+use Rattle.std.specs.Prelude.{IfSome, slice_get}
 use mathlib.Core.Option.{some-injective}
 use Rattle.nvm_record.specs.Lists.{IsAt}
 use Rattle.nvm_geometry.specs.Boundaries.{units_of}
@@ -16,10 +18,12 @@ use Rattle.nvm_audit.specs.RecordedPart.{RecordedPart, recorded_part, parts_left
 use Rattle.nvm_audit.specs.RecordView.{RecordView}
 use Rattle.nvm_trace.specs.declared.step.Step.{Step}
 use Rattle.nvm_trace.specs.declared.step.Times.{Times}
+use Rattle.nvm_trace.specs.declared.traced_job.Ending.{Ending}
 use Rattle.nvm_trace.specs.declared.traced_job.TracedJob.{TracedJob}
 use Rattle.nvm_trace.specs.Inside.Table.{HasPlace}
 use Rattle.nvm_trace.specs.Order.{level_of}
-use Rattle.nvm_trace.specs.Steps.{times_of, step_of, steps_by, steps_of_part, steps_of_job, steps_of_work, steps_of}
+use Rattle.nvm_trace.specs.Steps.{end_of, times_in, times_of, step_of, steps_by, steps_of_part, steps_of_job, steps_of_work, steps_of}
+use Rattle.nvm_trace.specs.Timely.{HadEnded}
 use Rattle.nvm_trace.proofs.Places.{none_stands, below, contained, placed, some_there, in_filter, out_of_flat, into_flat}
 
 -- The record shows this part of this done job.
@@ -155,3 +159,33 @@ module _ (r : RecordView) (held : IsRecordable r) (lawful : IsLawfulRecord r) wh
       let history = some_there r.units of.part.unit (part_unit of.d of.part of.shown) in
       let within = point_within of.d of.part of.shown history.0 history.1 in
       place_by (times_of traced of.d.job) of.d.job of.part of.part.result history.0 s history.1 within.0 within.1 of.is
+
+-- No step's command ended before it began.
+module _ (traced : List TracedJob) (sound : (j : TracedJob) → Contains traced j → IfSome j.ended (λ e. j.began ≤ e.time)) where
+  times_end : (o : Option TracedJob) → ((j : TracedJob) → o ≡ Some j → Contains traced j)
+      → ¬ (HadEnded (times_in o).ended (times_in o).began)
+  times_end None among had = omega (arith, had)
+  times_end (Some j) among had = by j.ended (sound j (among j refl)) had
+    where
+      by : (o : Option Ending) → IfSome o (λ e. j.began ≤ e.time) → ¬ (HadEnded (end_of o) j.began)
+      by None le had = had
+      by (Some e) le had = omega (arith, le, had)
+
+  step_ends : (times : Times) → ¬ (HadEnded times.ended times.began) → (job : ℕ) (part : Part) (result : PartResult) (s : Step)
+      → Contains (steps_by times job part result) s → ¬ (HadEnded s.ended s.began)
+  step_ends times ends job part Done s has =
+      subst (λ (u : Step). ¬ (HadEnded u.ended u.began)) (only (step_of times job part true) s has) ends
+  step_ends times ends job part Failed s has =
+      subst (λ (u : Step). ¬ (HadEnded u.ended u.began)) (only (step_of times job part false) s has) ends
+  step_ends times ends job part Looked s has =
+      subst (λ (u : Step). ¬ (HadEnded u.ended u.began)) (only (step_of times job part false) s has) ends
+  step_ends times ends job part NoMemory s has = let low = has.1 in absurd (omega (arith, low))
+  step_ends times ends job part Full s has = let low = has.1 in absurd (omega (arith, low))
+
+  pub steps_end : (done : List (List RecordedJob)) (s : Step) → Contains (steps_of traced done) s → ¬ (HadEnded s.ended s.began)
+  steps_end done s has =
+      let of = step_shown traced done s has in
+      step_ends (times_of traced of.d.job)
+      (times_end (slice_get traced of.d.job)
+      (λ j is. (of.d.job, slice_get_within traced of.d.job j is, get_or_from_slice_get traced of.d.job j j is)))
+      of.d.job of.part of.part.result s of.is

@@ -6,3 +6,5 @@ pub mod Matching
 pub mod Replies
 -- The table of the beginnings before it is filled.
 pub mod Table
+-- How a traced job ended.
+pub mod Endings

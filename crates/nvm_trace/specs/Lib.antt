@@ -9,4 +9,6 @@ pub mod ExplainedBy
 pub mod FirstFault
 pub mod Numbers
 pub mod Shown
+pub mod Taking
+pub mod Moments
 pub mod Inside

@@ -6,6 +6,7 @@
 #![tactic(auto)]
 
 mod explained;
+pub mod laws;
 mod matching;
 mod raising;
 mod replies;
@@ -14,8 +15,10 @@ mod start;
 mod step;
 mod stepping;
 mod table;
+mod taking;
 mod timing;
 mod trace;
+mod trace_fault;
 mod traced_job;
 mod witness_fault;
 mod witnessing;
@@ -23,6 +26,7 @@ mod witnessing;
 pub use explained::Explained;
 pub use start::Start;
 pub use trace::Trace;
+pub use trace_fault::TraceFault;
 pub use traced_job::{Ending, TracedJob};
 pub use witness_fault::WitnessFault;
 pub use witnessing::witness;

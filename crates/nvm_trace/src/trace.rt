@@ -1,6 +1,13 @@
+ghost use Rattle.std.specs.Prelude.{◌≡◌, [], ◌∷◌, ◌++◌, MatchResult, OnOk, OnErr};
+
 use crate::start::Start;
+use crate::taking::ending_fault;
+use crate::trace_fault::TraceFault;
 use crate::traced_job::TracedJob;
+use nvm_audit::{MOST_JOBS, Version};
 use nvm_geometry::Geometry;
+use nvm_plan::fits;
+use std::alloc::{AllocFailed, Global};
 use std::marker::Model;
 
 /// What the hosts of a device saw of a run: which commands they sent, when, and what came back.
@@ -30,4 +37,52 @@ impl Model for Trace {
     ghost view = { shown_by };
 
     ghost invariant = { IsTraceableAs };
+}
+
+impl Trace {
+    ghost use Rattle.nvm_trace.specs.Taking.{CanTake, Applies};
+
+    /// A trace without jobs. It takes no memory.
+    pub fn new(alloc: Global, geometry: Geometry, start: Start) -> Trace
+        ensures { result ≡ record { namespace = geometry; start = start; jobs = [] } }
+    {
+        Trace {
+            geometry,
+            start,
+            jobs: Vec::new(alloc),
+        }
+    }
+
+    /// Whether the trace can take the job, or a fault of it.
+    pub fn check(&self, job: &TracedJob) -> Result<(), TraceFault>
+        ensures { MatchResult result (λ _. CanTake self.now job.now) (Applies self.now job.now) }
+    {
+        if self.jobs.len() >= MOST_JOBS as usize {
+            return Err(TraceFault::Full);
+        }
+        if !fits(&self.geometry, &job.job) || !Version::Two.holds(&job.job.body) {
+            return Err(TraceFault::JobUnfit);
+        }
+        if job.began == 0 {
+            return Err(TraceFault::BeganAtZero);
+        }
+        match &job.ended {
+            Some(ending) => match ending_fault(&self.geometry, job, ending) {
+                Some(fault) => Err(fault),
+                None => Ok(()),
+            },
+            None => Ok(()),
+        }
+    }
+
+    /// Puts a job at the end, which [`check`](Trace::check) has found right. Where memory is refused the job comes back, and the
+    /// trace is as it was.
+    pub fn push(&mut self, job: TracedJob) -> Result<(), AllocFailed<TracedJob>>
+        requires { CanTake self.old job }
+        ensures put { OnOk result (self.new ≡ record self.old { jobs = self.old.jobs ++ job ∷ [] }) }
+        ensures kept { OnErr result (self.new ≡ self.old) }
+    {
+        self.jobs.push(job)?;
+        Ok(())
+    }
 }
