@@ -1,5 +1,5 @@
 -- The moment of a step: the greatest beginning of it and of the steps before it.
-use Rattle.std.proofs.Common.{◌≡◌, ◌⊎◌, ℕ, zero, suc, ◌<◌, ◌≤◌, List, [], ◌∷◌, Contains, Bool, true, false, Option, Some, None, ◌&&◌, cond, max, length, refl, sym, ap, subst, ◌∙◌, inl, inr, arith}
+use Rattle.std.proofs.Common.{◌≡◌, ◌⊎◌, ℕ, zero, suc, ◌<◌, ◌≤◌, List, [], ◌∷◌, Contains, Bool, true, false, Option, Some, None, ◌&&◌, cond, max, refl, ap, subst, ◌∙◌, inl, inr, arith}
 use Rattle.std.proofs.lemmas.Bool.{cases_lt, cases_Bool, eq-eqb, eqb-true, lt-ltb, ltb-true, and_from, and_parts}
 use Rattle.std.specs.Prelude.{nat_eq, nat_lt}
 use mathlib.Core.Option.{some-injective}
@@ -7,7 +7,7 @@ use Rattle.nvm_record.specs.Lists.{IsAt}
 use Rattle.nvm_trace.specs.declared.step.Step.{Step}
 use Rattle.nvm_trace.specs.Moments.{HaveMoments}
 use Rattle.nvm_trace.specs.Order.{level_of, Precedes}
-use Rattle.nvm_trace.specs.Timely.{HadEnded, IsLate, IsTimely}
+use Rattle.nvm_trace.specs.Timely.{HadEnded, IsTimely}
 use Rattle.nvm_trace.proofs.Places.{none_stands, contained, placed}
 
 abbrev precedes : Step → Step → Bool

@@ -1,7 +1,6 @@
-use Rattle.std.proofs.Common.{◌≡◌, ◌++◌, ◌∷◌, [], ◌<◌, List, length, sym, ap, subst, arith}
+use Rattle.std.proofs.Common.{◌∷◌, [], List, sym, subst, arith}
 use Rattle.std.proofs.lemmas.List.{length-append}
 use Rattle.std.proofs.lemmas.List.Elements.{All-push}
-use Rattle.nvm_audit.specs.Recordable.{most_jobs}
 use Rattle.nvm_trace.specs.declared.traced_job.TracedJob.{TracedJob}
 use Rattle.nvm_trace.specs.Shown.{shown_by}
 use Rattle.nvm_trace.specs.Taking.{CanTake}
