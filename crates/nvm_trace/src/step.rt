@@ -19,7 +19,7 @@ pub struct Step {
 }
 
 impl Step {
-    /// Where the step stands in its unit's order.
+    /// The step's place in its unit's order.
     pub(crate) fn level(&self) -> usize
         ensures { result ≡ level_of self.now }
     {

@@ -51,7 +51,7 @@ fn raise_all(rows: &mut Vec<Vec<u64>>)
     }
 }
 
-/// Whether a step stands before this one whose command began after this one's had ended.
+/// Whether the command of an earlier step of the unit began after this one's had ended.
 fn is_late(rows: &Vec<Vec<u64>>, step: &Step) -> bool
     requires { HasRoom (map (λ row. row.items) rows.now.items) step.now }
     ensures { (steps : List StepView) → HasUpToEach steps (map (λ row. row.items) rows.now.items)
