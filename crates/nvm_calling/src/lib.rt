@@ -12,4 +12,5 @@ pub mod space;
 pub mod store;
 #[cfg(test)]
 mod tests;
+pub mod trace;
 pub mod unit;

@@ -1,6 +1,7 @@
 //! What several threads do.
 mod audit;
 mod run;
+mod trace;
 
 use nvm_audit::Record;
 use nvm_record::{Status, Statuses};

@@ -13,7 +13,7 @@ use std::test::Fail;
 use std::thread::Threads;
 
 /// The record of a run of one worker: the long Write, and a Read of its blocks.
-fn record<R: Threads + Wait + Sync>(rt: &R, alloc: Global) -> Result<Record, Fail> {
+pub(super) fn record<R: Threads + Wait + Sync>(rt: &R, alloc: Global) -> Result<Record, Fail> {
     let limit = Limit::new(4).ok_or("there is no such limit")?;
     let mut jobs = Vec::with_capacity(alloc, 2)?;
     jobs.push(long_write(alloc, 1)?)?;
@@ -33,7 +33,7 @@ fn ruling<R: Threads + Sync>(rt: &R, alloc: Global, record: &Record) -> Result<R
 }
 
 /// The record, where the last byte of the Read's data, which is the last of its file, is 01h.
-fn spoiled(alloc: Global, record: &Record) -> Result<Record, Fail> {
+pub(super) fn spoiled(alloc: Global, record: &Record) -> Result<Record, Fail> {
     let file = file_of(alloc, record)?;
     let mut bytes = file.into_vec(alloc)?;
     if bytes.pop().is_none() {

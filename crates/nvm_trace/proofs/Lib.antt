@@ -1,0 +1,9 @@
+pub mod Places
+pub mod Gathered
+pub mod Differing
+pub mod Rooms
+pub mod ShownSteps
+pub mod NoFault
+pub mod Moments
+pub mod Greatest
+pub mod Latest

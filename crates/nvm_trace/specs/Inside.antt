@@ -1,0 +1,10 @@
+-- The greatest beginnings of a unit's steps, by level.
+pub mod Latest
+-- The jobs of a trace and of a record.
+pub mod Matching
+-- The least job whose reply differs.
+pub mod Replies
+-- The table of the beginnings before it is filled.
+pub mod Table
+-- How a traced job ended.
+pub mod Endings

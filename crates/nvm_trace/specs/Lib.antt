@@ -1,0 +1,14 @@
+pub mod TraceView
+pub mod Traceable
+pub mod Saying
+pub mod Agreement
+pub mod Order
+pub mod Steps
+pub mod Timely
+pub mod ExplainedBy
+pub mod FirstFault
+pub mod Numbers
+pub mod Shown
+pub mod Taking
+pub mod Moments
+pub mod Inside

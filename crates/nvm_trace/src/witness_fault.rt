@@ -1,0 +1,50 @@
+ghost use Rattle.std.specs.Prelude.{◌≡◌};
+ghost use Rattle.nvm_trace.specs.declared.witness_fault.WitnessFault.TheVariants.{NoMemory};
+
+use nvm_audit::{AuditFault, Spot};
+use std::alloc::{AllocError, AllocFailed};
+use thiserror::Error;
+
+/// Why a record doesn't explain a trace: the first thing found wrong, in the order of these cases. Jobs are numbered from 0.
+#[derive(Clone, Copy, Debug, PartialEq, Eq, Error)]
+pub enum WitnessFault {
+    /// The record is of another namespace.
+    #[error("NamespaceDiffers")]
+    NamespaceDiffers,
+    /// The record hasn't the trace's job of this number there.
+    #[error("JobDiffers")]
+    JobDiffers { job: u32 },
+    /// The record's job of this number isn't the trace's, and it is no Write of one block by itself, or the trace starts from
+    /// zeroes.
+    #[error("NoPreparation")]
+    NoPreparation { job: u32 },
+    /// The record isn't lawful. This is its first fault.
+    #[error("Unlawful")]
+    Unlawful { fault: AuditFault },
+    /// What the record shows of the job isn't what its host saw.
+    #[error("ReplyDiffers")]
+    ReplyDiffers { job: u32 },
+    /// A step of the job comes after one in its unit whose command began only when the job had ended. The place is the step's
+    /// point.
+    #[error("TimeBack")]
+    TimeBack { job: u32, spot: Spot },
+    /// Memory was asked for and refused: nothing is known.
+    #[error("no memory")]
+    NoMemory,
+}
+
+impl From<AllocError> for WitnessFault {
+    ghost from_gives = { λ _ e. e ≡ NoMemory };
+
+    fn from(_e: AllocError) -> WitnessFault {
+        WitnessFault::NoMemory
+    }
+}
+
+impl<T: Drop> From<AllocFailed<T>> for WitnessFault {
+    ghost from_gives = { λ _ e. e ≡ NoMemory };
+
+    fn from(_e: AllocFailed<T>) -> WitnessFault {
+        WitnessFault::NoMemory
+    }
+}
