@@ -10,18 +10,24 @@
 //! Texts that were written by hand stand in `examples/programs.py`, which holds the built programs to them.
 #![tactic(auto)]
 
+mod appending;
 mod digit;
 mod front;
+mod hex_byte;
 pub mod laws;
 mod line;
 mod name;
 mod number;
 mod piece;
 mod run;
+mod status;
 
+pub use appending::append;
 pub use front::{write_name, write_status};
+pub use hex_byte::HexByte;
 pub use line::{write_line, write_told};
-pub use name::{push_name, push_status};
-pub use number::{push_decimal, push_hex2, write_decimal};
+pub use name::OpName;
+pub use number::write_decimal;
 pub use piece::Piece;
-pub use run::{push_runs, write_runs};
+pub use run::{RunsText, write_runs};
+pub use status::{StatusText, StatusesText};
