@@ -4,8 +4,8 @@
 //! The functions `write_*` write to a writer, and take no memory of their own. Where the writer fails, its error is answered, and
 //! it has taken a front of the text and nothing else. Most pieces are short, so hand it a [`BufWriter`](std::io::BufWriter) where each write costs.
 //!
-//! The functions `push_*` append to a text, as `nvm_list` and `nvm_report` want it. Where memory is refused, what the text held still
-//! stands at its front.
+//! [`OpName`], [`StatusText`], [`StatusesText`], [`RunsText`] and [`HexByte`] are displayed as the same texts, so that other crates
+//! write a line by one `write!`. [`append`] adds what is displayed to a text and leaves the text as it was where memory is refused.
 //!
 //! Texts that were written by hand stand in `examples/programs.py`, which holds the built programs to them.
 #![tactic(auto)]
