@@ -1,12 +1,11 @@
 -- What is told of how jobs ended: with which statuses, and how many jobs with each.
-use Rattle.std.specs.Prelude.{ℕ, ◌==◌, ◌&&◌, ◌++◌, if◌then◌else◌, Bool, false, List, [], ◌∷◌, codes, count_by, flat_map, map}
+use Rattle.std.specs.Prelude.{ℕ, ◌==◌, ◌&&◌, ◌++◌, if◌then◌else◌, Bool, false, List, [], ◌∷◌, codes, decimal, count_by, flat_map, map}
 use Rattle.std.specs.List.{list_any, sum_by}
 use Rattle.nvm_record.specs.declared.status.Status.{Status}
 use Rattle.nvm_record.specs.declared.status.Statuses.{Statuses}
 use Rattle.nvm_record.specs.declared.status.Statuses.TheVariants.{One, Two}
 use Rattle.nvm_audit.specs.RecordedJob.{RecordedJob}
-use Rattle.nvm_report.specs.DoneLines.{statuses_text}
-use Rattle.nvm_report.specs.Numbered.{numbered}
+use Rattle.nvm_text.specs.Lines.{statuses_text}
 use Rattle.nvm_explain.specs.Once.{once}
 
 abbrev pub same_status : Status → Status → Bool
@@ -33,7 +32,7 @@ jobs_with statuses done = sum_by (λ work. count_by (λ d. same_statuses d.statu
 
 -- so many jobs ended with these statuses
 unfoldable pub ended_line : Statuses → ℕ → List ℕ
-ended_line statuses jobs = codes "status " ++ (statuses_text statuses ++ (numbered (codes " jobs ") jobs ++ codes "\n"))
+ended_line statuses jobs = codes "status " ++ (statuses_text statuses ++ (codes " jobs " ++ (decimal jobs ++ codes "\n")))
 
 -- how many jobs ended with each of these
 abbrev pub ended_with : List (List RecordedJob) → List Statuses → List ℕ

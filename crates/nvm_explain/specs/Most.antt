@@ -1,7 +1,6 @@
 -- What is told of a count for each unit: how many units have more than so many, the most, and the first unit that has it.
-use Rattle.std.specs.Prelude.{ℕ, ◌==◌, ◌++◌, if◌then◌else◌, nat_lt, List, [], codes, count_by, fold, max}
+use Rattle.std.specs.Prelude.{ℕ, ◌==◌, ◌++◌, if◌then◌else◌, nat_lt, List, [], codes, decimal, count_by, fold, max}
 use Rattle.std.specs.List.{position_or_len}
-use Rattle.nvm_report.specs.Numbered.{numbered}
 
 -- how many units have more than so many
 abbrev pub units_above : ℕ → List ℕ → ℕ
@@ -15,15 +14,13 @@ most_of counts = fold max 0 counts
 abbrev pub first_with : ℕ → List ℕ → ℕ
 first_with count counts = position_or_len (λ other. other == count) counts
 
--- the most, and a unit that has it
-unfoldable pub unit_words : ℕ → ℕ → List ℕ
-unit_words most unit = numbered (codes " most ") most ++ numbered (codes " unit ") unit
-
 -- the most and the first unit that has it, where that is more than so many
 abbrev pub most_words : ℕ → List ℕ → List ℕ
 most_words least counts =
-    if nat_lt least (most_of counts) then unit_words (most_of counts) (first_with (most_of counts) counts) else []
+    if nat_lt least (most_of counts)
+    then codes " most " ++ (decimal (most_of counts) ++ (codes " unit " ++ decimal (first_with (most_of counts) counts))) else []
 
 -- how many units have more than so many, and which of them has most
 unfoldable pub most_line : List ℕ → ℕ → List ℕ → List ℕ
-most_line words least counts = numbered words (units_above least counts) ++ (most_words least counts ++ codes "\n")
+most_line words least counts =
+    words ++ (decimal (units_above least counts) ++ (most_words least counts ++ codes "\n"))

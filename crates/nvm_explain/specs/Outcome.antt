@@ -3,13 +3,13 @@ use Rattle.std.specs.Prelude.{ℕ, List, [], ◌++◌, Option, Some, None, codes
 use Rattle.nvm_record.specs.declared.status.Statuses.{Statuses}
 use Rattle.nvm_record.specs.Medium.{Medium}
 use Rattle.nvm_record.specs.Step.{Operation, statuses_of, data_of}
-use Rattle.nvm_report.specs.DoneLines.{statuses_text}
-use Rattle.nvm_report.specs.EntryLines.{data_text}
+use Rattle.nvm_text.specs.Runs.{runs}
+use Rattle.nvm_text.specs.Lines.{runs_text, statuses_text}
 
 -- a Read's data, if there is any
 abbrev pub shown_data : Option (List ℕ) → List ℕ
 shown_data None = []
-shown_data (Some bytes) = codes " data" ++ data_text bytes
+shown_data (Some bytes) = codes " data " ++ runs_text (runs bytes)
 
 unfoldable pub outcome_line : List ℕ → Statuses → Option (List ℕ) → List ℕ
 outcome_line words statuses payload = words ++ (statuses_text statuses ++ (shown_data payload ++ codes "\n"))

@@ -1,5 +1,5 @@
 -- What is told of a part: what it does, what is recorded of it, and what the step gives at its point.
-use Rattle.std.specs.Prelude.{ℕ, ◌==◌, ◌&&◌, nat_le, if◌then◌else◌, List, [], ◌++◌, length, Option, Some, None, codes, slice_get}
+use Rattle.std.specs.Prelude.{ℕ, ◌==◌, ◌&&◌, nat_le, if◌then◌else◌, List, [], ◌++◌, length, Option, Some, None, codes, decimal, slice_get}
 use Rattle.nvm_record.specs.declared.status.Statuses.{Statuses}
 use Rattle.nvm_record.specs.Step.{Operation, statuses_of, data_of}
 use Rattle.nvm_geometry.specs.Namespace.{Namespace}
@@ -12,7 +12,6 @@ use Rattle.nvm_store.specs.Point.{point}
 use Rattle.nvm_audit.specs.RecordedJob.{RecordedJob}
 use Rattle.nvm_audit.specs.RecordView.{RecordView}
 use Rattle.nvm_report.specs.EntryLines.{operation_text}
-use Rattle.nvm_report.specs.Numbered.{numbered}
 use Rattle.nvm_explain.specs.declared.told.ToldPart.{ToldPart}
 use Rattle.nvm_explain.specs.Difference.{difference_line}
 use Rattle.nvm_explain.specs.Doing.{first_done, part_of_done}
@@ -24,8 +23,8 @@ use Rattle.nvm_explain.specs.RecordedData.{most_blocks, recorded_data}
 -- what the part does, in which unit and at which point
 unfoldable pub what_line : Part → Operation → List ℕ
 what_line part op =
-    numbered (codes "part: unit ") part.unit
-    ++ (numbered (codes " point ") part.point ++ (operation_text op ++ codes "\n"))
+    codes "part: unit " ++ (decimal part.unit
+    ++ (codes " point " ++ (decimal part.point ++ (operation_text op ++ codes "\n"))))
 
 -- what is recorded of the part, and what the step gives: statuses, and a Read's data
 unfoldable pub outcome_lines : ToldPart → Option (List ℕ) → Statuses → Option (List ℕ) → List ℕ

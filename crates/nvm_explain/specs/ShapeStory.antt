@@ -1,19 +1,18 @@
 -- What is told of a job whose outcome has no shape: what the checks say of it.
-use Rattle.std.specs.Prelude.{ℕ, List, [], ◌∷◌, ◌++◌, Option, Some, None, codes, slice_get}
+use Rattle.std.specs.Prelude.{ℕ, List, [], ◌∷◌, ◌++◌, Option, Some, None, codes, decimal, slice_get}
 use Rattle.nvm_record.specs.declared.status.Statuses.{Statuses}
 use Rattle.nvm_geometry.specs.Namespace.{Namespace}
 use Rattle.nvm_plan.specs.declared.job.Job.{Job}
 use Rattle.nvm_plan.specs.Checks.{refusal_of}
 use Rattle.nvm_plan.specs.JobPart.{job_units}
 use Rattle.nvm_audit.specs.RecordView.{RecordView}
-use Rattle.nvm_report.specs.DoneLines.{statuses_text}
-use Rattle.nvm_report.specs.Numbered.{numbered}
+use Rattle.nvm_text.specs.Lines.{statuses_text}
 use Rattle.nvm_explain.specs.IfAny.{if_any}
 
 -- a word for each unit
 abbrev pub unit_words : List ℕ → List ℕ
 unit_words [] = []
-unit_words (unit ∷ units) = numbered (codes " ") unit ++ unit_words units
+unit_words (unit ∷ units) = codes " " ++ (decimal unit ++ unit_words units)
 
 -- with which statuses a check refuses the job
 unfoldable pub refused_line : Statuses → List ℕ

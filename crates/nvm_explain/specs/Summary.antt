@@ -1,18 +1,17 @@
 -- The text of a lawful record: its verdict, and how much there was in it.
-use Rattle.std.specs.Prelude.{ℕ, ◌+◌, ◌++◌, List, [], ◌∷◌, codes, length, map}
+use Rattle.std.specs.Prelude.{ℕ, ◌+◌, ◌++◌, List, [], ◌∷◌, codes, decimal, length, map}
 use Rattle.nvm_store.specs.HistoryEntry.{HistoryEntry}
 use Rattle.nvm_audit.specs.declared.verdict.Verdict.{Verdict}
 use Rattle.nvm_audit.specs.RecordedJob.{RecordedJob}
 use Rattle.nvm_audit.specs.RecordView.{RecordView}
 use Rattle.nvm_engine.specs.VerdictLine.{lawful_line}
-use Rattle.nvm_report.specs.Numbered.{numbered}
 use Rattle.nvm_explain.specs.Distinct.{workers_in}
 use Rattle.nvm_explain.specs.Ended.{ended_lines}
 use Rattle.nvm_explain.specs.Most.{most_line}
 
 -- how many jobs a worker did
 unfoldable pub worker_line : ℕ → ℕ → List ℕ
-worker_line worker jobs = numbered (codes "worker ") worker ++ (numbered (codes " jobs ") jobs ++ codes "\n")
+worker_line worker jobs = codes "worker " ++ (decimal worker ++ (codes " jobs " ++ (decimal jobs ++ codes "\n")))
 
 -- how many each of these workers did, the first of which has this number
 abbrev pub worker_lines : ℕ → List (List RecordedJob) → List ℕ

@@ -1,5 +1,5 @@
 -- What is told of a unit round a place of its history: where it lies, and its entries there, in the lines of a record's listing.
-use Rattle.std.specs.Prelude.{ℕ, ◌-◌, min, List, [], ◌++◌, Option, Some, None, codes, drop, length, slice_get, take}
+use Rattle.std.specs.Prelude.{ℕ, ◌-◌, min, List, [], ◌++◌, Option, Some, None, codes, decimal, drop, length, slice_get, take}
 use Rattle.nvm_geometry.specs.Namespace.{Namespace}
 use Rattle.nvm_geometry.specs.Parts.{piece_in}
 use Rattle.nvm_geometry.specs.declared.piece.Piece.{Piece}
@@ -7,30 +7,28 @@ use Rattle.nvm_store.specs.HistoryEntry.{HistoryEntry}
 use Rattle.nvm_audit.specs.declared.audit_fault.Spot.{Spot}
 use Rattle.nvm_audit.specs.RecordView.{RecordView}
 use Rattle.nvm_report.specs.EntryLines.{history_lines}
-use Rattle.nvm_report.specs.Numbered.{numbered}
 use Rattle.nvm_explain.specs.IfAny.{if_any}
 
--- the unit's number, its first LBA, and how many blocks it has
-unfoldable pub place_words : ℕ → ℕ → ℕ → List ℕ
-place_words unit first blocks =
-    numbered (codes "unit ") unit ++ (numbered (codes " first ") first ++ numbered (codes " blocks ") blocks)
-
--- how many entries the unit has, and how many it may have
-unfoldable pub entries_words : ℕ → ℕ → List ℕ
-entries_words entries limit = numbered (codes " entries ") entries ++ (numbered (codes " limit ") limit ++ codes "\n")
+-- the unit's number, its first LBA, how many blocks it has, and how many entries it has and may have
+unfoldable pub place_line : ℕ → ℕ → ℕ → ℕ → ℕ → List ℕ
+place_line unit first blocks entries limit =
+    codes "unit " ++ (decimal unit
+    ++ (codes " first " ++ (decimal first
+    ++ (codes " blocks " ++ (decimal blocks
+    ++ (codes " entries " ++ (decimal entries ++ (codes " limit " ++ (decimal limit ++ codes "\n")))))))))
 
 -- where a part of the job rests
 unfoldable pub rest_line : Spot → ℕ → List ℕ
 rest_line spot job =
-    numbered (codes "unit ") spot.unit ++ (numbered (codes " point ") spot.place
-    ++ (numbered (codes " rests job ") job ++ codes "\n"))
+    codes "unit " ++ (decimal spot.unit
+    ++ (codes " point " ++ (decimal spot.place ++ (codes " rests job " ++ (decimal job ++ codes "\n")))))
 
 -- the line of the part, if it is one
 abbrev pub mark_line : Spot → Option ℕ → List ℕ
 mark_line spot None = []
 mark_line spot (Some job) = rest_line spot job
 
--- so many entries are told before a place, and so many from it on
+-- how many entries are listed before a place, and how many from it on
 abbrev pub told_before : ℕ
 told_before = 3
 
@@ -50,8 +48,8 @@ unit_piece ns unit = piece_in ns 0 ns.nsze unit
 -- what is told of the unit of this history: a place behind the history's end is taken for the end
 unfoldable pub unit_surroundings : Namespace → ℕ → Spot → Option ℕ → List HistoryEntry → List ℕ
 unit_surroundings ns limit spot job history =
-    place_words spot.unit (unit_piece ns spot.unit).first (unit_piece ns spot.unit).blocks
-    ++ (entries_words (length history) limit ++ entries_round spot job (min spot.place (length history)) history)
+    place_line spot.unit (unit_piece ns spot.unit).first (unit_piece ns spot.unit).blocks (length history) limit
+    ++ entries_round spot job (min spot.place (length history)) history
 
 -- what is told of the unit round the place, at which a part of the job rests, if it is one
 abbrev pub surroundings : RecordView → Spot → Option ℕ → List ℕ

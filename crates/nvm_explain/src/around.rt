@@ -8,12 +8,12 @@ use nvm_audit::{Record, Spot};
 use nvm_geometry::Geometry;
 use nvm_geometry::laws::each_unit_has_one_place;
 use nvm_record::NoMemory;
-use nvm_report::{push_entry, push_numbered};
+use nvm_report::push_entry;
 use nvm_store::{Entry, Limit};
 
-/// So many entries are told before a place.
+/// How many entries are listed before a place.
 const BEFORE: usize = 3;
-/// So many entries are told from a place on.
+/// How many entries are listed from a place on.
 const FROM: usize = 4;
 
 /// Appends where the unit lies and how many entries it has, and its entries round a place. The job, if there is one, has the part
@@ -46,49 +46,45 @@ fn push_unit(
     ensures { OnOk result (string_bytes text.new
         ≡ string_bytes text.old ++ spec.unit_surroundings geometry.now limit spot job history.now) }
 {
-    push_place(text, geometry, spot.unit)?;
-    push_counts(text, history.len(), limit.entries())?;
-    push_entries_round(
-        text,
-        spot,
-        job,
-        (spot.place as usize).min(history.len()),
-        history,
-    )?;
-    Ok(())
+    push_place(text, geometry, limit, spot.unit, history.len())?;
+    let at = (spot.place as usize).min(history.len());
+    push_entries_round(text, spot, job, at, history)
 }
 
-/// Appends the unit's first LBA, and how many blocks it has.
-fn push_place(text: &mut String, geometry: &Geometry, unit: u16) -> Result<(), NoMemory>
+/// Appends where the unit lies, how many entries it has, and how many it may have.
+fn push_place(
+    text: &mut String,
+    geometry: &Geometry,
+    limit: Limit,
+    unit: u16,
+    entries: usize,
+) -> Result<(), NoMemory>
     requires { unit < units_of geometry.now }
     ensures { OnOk result (string_bytes text.new ≡ string_bytes text.old
-        ++ spec.place_words unit (spec.unit_piece geometry.now unit).first (spec.unit_piece geometry.now unit).blocks) }
+        ++ spec.place_line unit (spec.unit_piece geometry.now unit).first (spec.unit_piece geometry.now unit).blocks
+        entries limit) }
 {
     each_unit_has_one_place();
     let (first, blocks) = geometry.unit_range(unit);
-    push_place_words(text, unit, first, blocks)
+    push_place_line(text, unit, first, blocks, entries, limit.entries())
 }
 
-/// Appends a first LBA, and how many blocks there are.
-#[tactic(auto, unfolding(crate::specs::Surroundings::place_words))]
-fn push_place_words(text: &mut String, unit: u16, first: u64, blocks: u32) -> Result<(), NoMemory>
-    ensures { OnOk result (string_bytes text.new ≡ string_bytes text.old ++ spec.place_words unit first blocks) }
+/// Appends the line of a unit with this first LBA, this many blocks and entries, and this limit.
+#[tactic(auto, unfolding(crate::specs::Surroundings::place_line))]
+fn push_place_line(
+    text: &mut String,
+    unit: u16,
+    first: u64,
+    blocks: u32,
+    entries: usize,
+    limit: u32,
+) -> Result<(), NoMemory>
+    ensures { OnOk result (string_bytes text.new ≡ string_bytes text.old ++ spec.place_line unit first blocks entries limit) }
 {
-    push_numbered(text, "unit ", u64::from(unit))?;
-    push_numbered(text, " first ", first)?;
-    push_numbered(text, " blocks ", u64::from(blocks))?;
-    Ok(())
-}
-
-/// Appends how many entries the unit has, and how many it may have.
-#[tactic(auto, unfolding(crate::specs::Surroundings::entries_words))]
-fn push_counts(text: &mut String, entries: usize, limit: u32) -> Result<(), NoMemory>
-    ensures { OnOk result (string_bytes text.new ≡ string_bytes text.old ++ spec.entries_words entries limit) }
-{
-    push_numbered(text, " entries ", entries as u64)?;
-    push_numbered(text, " limit ", u64::from(limit))?;
-    text.push_str("\n")?;
-    Ok(())
+    write!(
+        text,
+        "unit {unit} first {first} blocks {blocks} entries {entries} limit {limit}\n"
+    )
 }
 
 /// Appends the entries before a place and those from it on, with the part between that rests there.
@@ -125,11 +121,8 @@ fn push_mark(text: &mut String, spot: Spot, job: Option<u32>) -> Result<(), NoMe
 fn push_rest(text: &mut String, spot: Spot, job: u32) -> Result<(), NoMemory>
     ensures { OnOk result (string_bytes text.new ≡ string_bytes text.old ++ spec.rest_line spot job) }
 {
-    push_numbered(text, "unit ", u64::from(spot.unit))?;
-    push_numbered(text, " point ", u64::from(spot.place))?;
-    push_numbered(text, " rests job ", u64::from(job))?;
-    text.push_str("\n")?;
-    Ok(())
+    let Spot { unit, place } = spot;
+    write!(text, "unit {unit} point {place} rests job {job}\n")
 }
 
 /// Appends the lines of entries, of which the first stands at place `from`.

@@ -75,8 +75,7 @@ fn push_before(text: &mut String, worker: u64, job: u32, part: Part) -> Result<(
     ensures { OnOk result (string_bytes text.new ≡ string_bytes text.old ++ spec.before_line worker job part) }
 {
     text.push_str("before that: ")?;
-    push_part(text, worker, job, part)?;
-    Ok(())
+    push_part(text, worker, job, part)
 }
 
 /// Whether the worker of the part had passed the point: its own was later, or it made the entry there.

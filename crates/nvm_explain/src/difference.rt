@@ -2,8 +2,7 @@ ghost use Rattle.std.specs.Prelude.{◌≡◌, ◌≤◌, ◌<◌, ◌+◌, ◌+
 ghost use Rattle.nvm_explain.specs.Difference as spec;
 
 use nvm_record::{BlockSize, NoMemory};
-use nvm_report::push_numbered;
-use nvm_text::push_hex2;
+use nvm_text::HexByte;
 
 /// Appends the line of the first byte that differs, if one does. Both are of the same blocks, from `first` on.
 pub(crate) fn push_difference(
@@ -20,48 +19,33 @@ pub(crate) fn push_difference(
 {
     for at in 0..recorded.len() {
         if recorded[at] != given[at] {
-            push_byte_place(text, first, size, at)?;
-            return push_bytes(text, recorded[at], given[at]);
+            return push_place(
+                text,
+                first + at as u64 / u64::from(size.bytes()),
+                at % size.bytes() as usize,
+                recorded[at],
+                given[at],
+            );
         }
     }
     Ok(())
 }
 
-/// Appends in which block the byte is, and at which offset there.
-#[tactic(auto, unfolding(crate::specs::Difference::byte_place))]
-fn push_byte_place(
+/// Appends in which block a byte is and at which offset there, the byte that was recorded, and the one that the step gives.
+#[tactic(auto, unfolding(crate::specs::Difference::byte_line))]
+fn push_place(
     text: &mut String,
-    first: u64,
-    size: BlockSize,
-    at: usize,
+    lba: u64,
+    offset: usize,
+    recorded: u8,
+    given: u8,
 ) -> Result<(), NoMemory>
-    requires { first ≤ 65536 }
-    ensures { OnOk result (string_bytes text.new ≡ string_bytes text.old ++ spec.byte_place first size at) }
+    ensures { OnOk result (string_bytes text.new ≡ string_bytes text.old ++ spec.byte_line lba offset recorded given) }
 {
-    let size = u64::from(size.bytes());
-    let at = at as u64;
-    push_numbered(text, "first difference: LBA ", first + at / size)?;
-    push_numbered(text, " byte ", at % size)?;
-    Ok(())
-}
-
-/// Appends the byte that was recorded, and that which the step gives.
-#[tactic(auto, unfolding(crate::specs::Difference::byte_words))]
-fn push_bytes(text: &mut String, recorded: u8, given: u8) -> Result<(), NoMemory>
-    ensures { OnOk result (string_bytes text.new ≡ string_bytes text.old ++ spec.byte_words recorded given) }
-{
-    push_byte(text, " recorded ", recorded)?;
-    push_byte(text, " given ", given)?;
-    text.push_str("\n")?;
-    Ok(())
-}
-
-/// Appends a byte behind the word that says what it is.
-#[tactic(auto, unfolding(crate::specs::Difference::byte_word))]
-fn push_byte(text: &mut String, words: &str, byte: u8) -> Result<(), NoMemory>
-    ensures { OnOk result (string_bytes text.new ≡ string_bytes text.old ++ spec.byte_word words.now byte) }
-{
-    text.push_str(words)?;
-    push_hex2(text, byte)?;
-    Ok(())
+    let recorded = HexByte(recorded);
+    let given = HexByte(given);
+    write!(
+        text,
+        "first difference: LBA {lba} byte {offset} recorded {recorded} given {given}\n"
+    )
 }

@@ -5,7 +5,7 @@ ghost use Rattle.nvm_explain.specs.Ended as spec;
 
 use nvm_audit::DoneJob;
 use nvm_record::{NoMemory, Statuses};
-use nvm_report::{push_numbered, push_statuses};
+use nvm_text::StatusesText;
 use std::alloc::Global;
 
 /// Appends how many jobs ended with which statuses, in the order in which they first occur.
@@ -45,11 +45,7 @@ fn push_each_ended(
 fn push_ended_line(text: &mut String, statuses: Statuses, jobs: u64) -> Result<(), NoMemory>
     ensures { OnOk result (string_bytes text.new ≡ string_bytes text.old ++ spec.ended_line statuses jobs) }
 {
-    text.push_str("status ")?;
-    push_statuses(text, statuses)?;
-    push_numbered(text, " jobs ", jobs)?;
-    text.push_str("\n")?;
-    Ok(())
+    write!(text, "status {} jobs {jobs}\n", StatusesText(statuses))
 }
 
 /// The statuses with which jobs ended, in the order in which they first occur.

@@ -77,8 +77,7 @@ fn push_told(
 {
     push_recorded(text, spot, entry)?;
     push_own(text, alloc, run, number, spot.unit)?;
-    push_entry_given(text, alloc, &run.geometry, spot, history, entry)?;
-    Ok(())
+    push_entry_given(text, alloc, &run.geometry, spot, history, entry)
 }
 
 /// Appends an entry as it is recorded.
@@ -87,8 +86,7 @@ fn push_recorded(text: &mut String, spot: Spot, entry: &Entry) -> Result<(), NoM
     ensures { OnOk result (string_bytes text.new ≡ string_bytes text.old ++ spec.recorded_line spot entry.now) }
 {
     text.push_str("recorded: ")?;
-    push_entry(text, u64::from(spot.unit), u64::from(spot.place), entry)?;
-    Ok(())
+    push_entry(text, u64::from(spot.unit), u64::from(spot.place), entry)
 }
 
 /// Appends the part that the job of this number has in the unit, if there is such a job.
@@ -185,6 +183,6 @@ fn push_given(text: &mut String, blocks: &UnitBlocks, entry: &Entry) -> Result<(
         text,
         "the step gives: status ",
         given.statuses,
-        &given.payload,
+        given.data(),
     )
 }

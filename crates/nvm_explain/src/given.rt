@@ -1,5 +1,5 @@
 //! What the step gives a part.
-ghost use Rattle.std.specs.Prelude.{◌≡◌, ◌++◌, IfOk, OnOk, string_bytes};
+ghost use Rattle.std.specs.Prelude.{◌≡◌, ◌++◌, IfOk, OnOk, option_map, string_bytes};
 ghost use Rattle.nvm_record.specs.Medium.{Medium};
 ghost use Rattle.nvm_record.specs.Step.{Operation};
 ghost use Rattle.nvm_plan.specs.LentPart.{part_operation_of};
@@ -12,8 +12,9 @@ ghost use Rattle.nvm_explain.specs.Given.{IsGiven};
 
 use nvm_plan::LentPart;
 use nvm_record::{NoMemory, ReadData, Status, Statuses};
-use nvm_report::{push_act, push_blocks, push_data};
+use nvm_report::ActText;
 use nvm_store::{ActRef, Answer, Look, UnitBlocks, answer, judge};
+use nvm_text::RunsText;
 use std::alloc::Global;
 
 /// What the step gives: statuses, and a Read's data where it succeeds.
@@ -21,6 +22,18 @@ use std::alloc::Global;
 pub struct Given {
     pub statuses: Statuses,
     pub payload: Option<ReadData>,
+}
+
+impl Given {
+    /// The data, if there is any.
+    pub fn data(&self) -> Option<&[u8]>
+        ensures { option_map (λ bytes. bytes.now) result ≡ self.now.payload }
+    {
+        match &self.payload {
+            Some(data) => Some(data.as_slice()),
+            None => None,
+        }
+    }
 }
 
 /// What the step of the part gives on these blocks.
@@ -77,7 +90,7 @@ pub(crate) fn push_operation(
     match part {
         LentPart::Act(act) => {
             let act = act.to_act(alloc)?;
-            push_act(text, &act)
+            write!(text, "{}", ActText(&act))
         }
         LentPart::Look(look) => push_look(text, *look),
     }
@@ -90,14 +103,11 @@ fn push_look(text: &mut String, look: Look<'_>) -> Result<(), NoMemory>
         ≡ string_bytes text.old ++ operation_text (look_operation_of look.entry)) }
 {
     match look {
-        Look::Read { first, blocks } => push_blocks(text, " read", first, blocks),
+        Look::Read { first, blocks } => write!(text, " read {first} {blocks}"),
         Look::Compare {
             first,
             blocks,
             payload,
-        } => {
-            push_blocks(text, " compare", first, blocks)?;
-            push_data(text, payload)
-        }
+        } => write!(text, " compare {first} {blocks} {}", RunsText(payload)),
     }
 }

@@ -13,8 +13,7 @@ pub(crate) fn push_job(text: &mut String, run: &Record, number: u32) -> Result<(
     ensures { OnOk result (string_bytes text.new ≡ string_bytes text.old ++ spec.job_story run.now number) }
 {
     push_asked(text, &run.jobs, number)?;
-    push_doers(text, &run.done, number)?;
-    Ok(())
+    push_doers(text, &run.done, number)
 }
 
 /// Appends the lines of the commands of the job of this number, if there is such a job.

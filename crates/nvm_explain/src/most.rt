@@ -3,7 +3,6 @@ ghost use Rattle.std.specs.Prelude.{◌≡◌, ◌++◌, OnOk, string_bytes};
 ghost use Rattle.nvm_explain.specs.Most as spec;
 
 use nvm_record::NoMemory;
-use nvm_report::push_numbered;
 
 /// Appends how many units have more than so many, and which of them has most.
 #[tactic(auto, unfolding(crate::specs::Most::most_line))]
@@ -15,10 +14,10 @@ pub(crate) fn push_most(
 ) -> Result<(), NoMemory>
     ensures { OnOk result (string_bytes text.new ≡ string_bytes text.old ++ spec.most_line words.now least counts.now) }
 {
-    push_numbered(text, words, units_above(counts, least) as u64)?;
+    let units = units_above(counts, least);
+    write!(text, "{words}{units}")?;
     push_most_words(text, least, counts)?;
-    text.push_str("\n")?;
-    Ok(())
+    text.push_str("\n")
 }
 
 /// Appends the most and the first unit that has it, where that is more than so many.
@@ -27,19 +26,9 @@ fn push_most_words(text: &mut String, least: u64, counts: &[u64]) -> Result<(), 
 {
     let most = most_of(counts);
     if most > least {
-        push_unit(text, most, first_with(counts, most) as u64)
-    } else {
-        Ok(())
+        write!(text, " most {most} unit {}", first_with(counts, most))?;
     }
-}
-
-/// Appends the most, and a unit that has it.
-#[tactic(auto, unfolding(crate::specs::Most::unit_words))]
-fn push_unit(text: &mut String, most: u64, unit: u64) -> Result<(), NoMemory>
-    ensures { OnOk result (string_bytes text.new ≡ string_bytes text.old ++ spec.unit_words most unit) }
-{
-    push_numbered(text, " most ", most)?;
-    push_numbered(text, " unit ", unit)
+    Ok(())
 }
 
 /// How many units have more than so many.

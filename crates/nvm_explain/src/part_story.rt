@@ -1,4 +1,4 @@
-ghost use Rattle.std.specs.Prelude.{◌≡◌, ◌<◌, ◌++◌, OnOk, None, Some, option_map, string_bytes};
+ghost use Rattle.std.specs.Prelude.{◌≡◌, ◌<◌, ◌++◌, OnOk, Some, option_map, string_bytes};
 ghost use Rattle.nvm_geometry.specs.Boundaries.{units_of};
 ghost use Rattle.nvm_plan.specs.Fits.{FitsNamespace};
 ghost use Rattle.nvm_record.specs.Medium.{Medium};
@@ -14,14 +14,13 @@ use crate::difference::push_difference;
 use crate::doer::done_of;
 use crate::given::{Given, given_on, push_operation};
 use crate::looked_up::{entries_of, job_of};
-use crate::outcome::{push_outcome, push_outcome_with};
+use crate::outcome::push_outcome;
 use crate::recorded_data::recorded_data;
 use crate::told::{ToldPart, told_part};
 use nvm_audit::{DoneJob, Record, Spot};
 use nvm_geometry::{Geometry, MOST_BLOCKS};
 use nvm_plan::{Job, LentPart, Part, job_part_in};
 use nvm_record::{BlockSize, NoMemory, ReadData};
-use nvm_report::push_numbered;
 use nvm_store::{ActRef, Entry, Look, UnitBlocks};
 use std::alloc::Global;
 
@@ -157,8 +156,7 @@ fn push_part(
         given.now.payload) }
 {
     push_what(text, alloc, told.part, part)?;
-    push_recorded(text, size, job, &done.payload, told, part, given)?;
-    Ok(())
+    push_recorded(text, size, job, &done.payload, told, part, given)
 }
 
 /// Appends what is recorded of the part, of a job with this data, and what the step gives.
@@ -175,13 +173,11 @@ fn push_recorded(
         ++ spec.told_lines (part_operation_of part.now).first size told
         (spec.shown_of size job.now.body (part_operation_of part.now) recorded.now) given.now.statuses given.now.payload) }
 {
-    match recorded {
-        Some(bytes) => {
-            let shown = recorded_data(size, job, part, bytes.as_slice());
-            push_compared(text, first_of(part), size, told, shown, given)
-        }
-        None => push_without(text, told, given),
-    }
+    let shown = match recorded {
+        Some(bytes) => recorded_data(size, job, part, bytes.as_slice()),
+        None => None,
+    };
+    push_compared(text, first_of(part), size, told, shown, given)
 }
 
 /// Appends what is recorded of the part, with its data where it has any, and what the step gives.
@@ -196,12 +192,10 @@ fn push_compared(
     ensures { OnOk result (string_bytes text.new ≡ string_bytes text.old
         ++ spec.told_lines first size told (option_map (λ bytes. bytes.now) shown.entry) given.now.statuses given.now.payload) }
 {
+    push_outcomes(text, told, shown, given)?;
     match shown {
-        Some(bytes) => {
-            push_both(text, told, bytes, given)?;
-            push_if_differs(text, first, size, bytes, given)
-        }
-        None => push_without(text, told, given),
+        Some(bytes) => push_if_differs(text, first, size, bytes, given),
+        None => Ok(()),
     }
 }
 
@@ -216,43 +210,29 @@ fn push_what(
     ensures { OnOk result (string_bytes text.new
         ≡ string_bytes text.old ++ spec.what_line done (part_operation_of part.now)) }
 {
-    push_numbered(text, "part: unit ", u64::from(done.unit))?;
-    push_numbered(text, " point ", u64::from(done.point))?;
+    write!(text, "part: unit {} point {}", done.unit, done.point)?;
     push_operation(text, alloc, part)?;
-    text.push_str("\n")?;
-    Ok(())
+    text.push_str("\n")
 }
 
-/// Appends what is recorded of the part, with this data, and what the step gives.
+/// Appends what is recorded of the part, with this data if there is any, and what the step gives.
 #[tactic(auto, unfolding(crate::specs::PartStory::outcome_lines))]
-fn push_both(text: &mut String, told: ToldPart, bytes: &[u8], given: &Given) -> Result<(), NoMemory>
-    ensures { OnOk result (string_bytes text.new
-        ≡ string_bytes text.old ++ spec.outcome_lines told (Some bytes.now) given.now.statuses given.now.payload) }
+fn push_outcomes(
+    text: &mut String,
+    told: ToldPart,
+    shown: Option<&[u8]>,
+    given: &Given,
+) -> Result<(), NoMemory>
+    ensures { OnOk result (string_bytes text.new ≡ string_bytes text.old
+        ++ spec.outcome_lines told (option_map (λ bytes. bytes.now) shown.entry) given.now.statuses given.now.payload) }
 {
-    push_outcome_with(text, "recorded: status ", told.told, bytes)?;
+    push_outcome(text, "recorded: status ", told.told, shown)?;
     push_outcome(
         text,
         "the step gives: status ",
         given.statuses,
-        &given.payload,
-    )?;
-    Ok(())
-}
-
-/// Appends what is recorded of the part, without data, and what the step gives.
-#[tactic(auto, unfolding(crate::specs::PartStory::outcome_lines))]
-fn push_without(text: &mut String, told: ToldPart, given: &Given) -> Result<(), NoMemory>
-    ensures { OnOk result (string_bytes text.new
-        ≡ string_bytes text.old ++ spec.outcome_lines told None given.now.statuses given.now.payload) }
-{
-    push_outcome(text, "recorded: status ", told.told, &None)?;
-    push_outcome(
-        text,
-        "the step gives: status ",
-        given.statuses,
-        &given.payload,
-    )?;
-    Ok(())
+        given.data(),
+    )
 }
 
 /// Appends the line of the first byte that differs, if data is given and one does.

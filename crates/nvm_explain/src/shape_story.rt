@@ -9,7 +9,7 @@ use nvm_audit::Record;
 use nvm_geometry::Geometry;
 use nvm_plan::{Job, JobUnits, Plan, job_units, plan};
 use nvm_record::{NoMemory, Statuses};
-use nvm_report::{push_numbered, push_statuses};
+use nvm_text::StatusesText;
 
 /// Appends with which statuses a check refuses the job, or in which units it has a part.
 pub(crate) fn push_shape(text: &mut String, run: &Record, number: u32) -> Result<(), NoMemory>
@@ -43,10 +43,11 @@ fn push_plan(
 fn push_refused(text: &mut String, statuses: Statuses) -> Result<(), NoMemory>
     ensures { OnOk result (string_bytes text.new ≡ string_bytes text.old ++ spec.refused_line statuses) }
 {
-    text.push_str("a check refuses the job: status ")?;
-    push_statuses(text, statuses)?;
-    text.push_str("\n")?;
-    Ok(())
+    write!(
+        text,
+        "a check refuses the job: status {}\n",
+        StatusesText(statuses)
+    )
 }
 
 /// Appends in which units the job has a part.
@@ -65,7 +66,7 @@ fn push_units(text: &mut String, units: JobUnits<'_>) -> Result<(), NoMemory>
     ensures { OnOk result (string_bytes text.new ≡ string_bytes text.old ++ spec.unit_words units.entry) }
 {
     for unit in units {
-        push_numbered(text, " ", u64::from(unit))?;
+        write!(text, " {unit}")?;
     }
     Ok(())
 }

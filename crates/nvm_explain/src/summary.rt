@@ -8,7 +8,6 @@ use crate::most::push_most;
 use crate::unit_counts::{entry_counts, worker_counts};
 use nvm_audit::{DoneJob, Record};
 use nvm_record::NoMemory;
-use nvm_report::push_numbered;
 use nvm_store::History;
 use std::alloc::Global;
 
@@ -38,10 +37,7 @@ fn push_workers(text: &mut String, done: &[Vec<DoneJob>]) -> Result<(), NoMemory
 fn push_worker(text: &mut String, worker: u64, jobs: u64) -> Result<(), NoMemory>
     ensures { OnOk result (string_bytes text.new ≡ string_bytes text.old ++ spec.worker_line worker jobs) }
 {
-    push_numbered(text, "worker ", worker)?;
-    push_numbered(text, " jobs ", jobs)?;
-    text.push_str("\n")?;
-    Ok(())
+    write!(text, "worker {worker} jobs {jobs}\n")
 }
 
 /// Appends in how many units there are entries, and entries of several workers.

@@ -4,7 +4,6 @@ ghost use Rattle.nvm_engine.specs.VerdictLine.{changes_text, count_text, lawful_
 
 use nvm_audit::{AuditFault, Spot, Verdict};
 use nvm_record::NoMemory;
-use nvm_text::push_decimal;
 
 /// Appends the line of a lawful record.
 pub(crate) fn push_lawful(text: &mut String, verdict: Verdict) -> Result<(), NoMemory>
@@ -32,9 +31,7 @@ fn push_changes(text: &mut String, verdict: Verdict) -> Result<(), NoMemory>
 fn push_count(text: &mut String, of: &str, count: u64) -> Result<(), NoMemory>
     ensures { OnOk result (string_bytes text.new ≡ string_bytes text.old ++ count_text of.now count) }
 {
-    text.push_str(of)?;
-    push_decimal(text, count)?;
-    Ok(())
+    write!(text, "{of}{count}")
 }
 
 /// Appends the line of a record's first fault. Want of memory is none, and has no line.

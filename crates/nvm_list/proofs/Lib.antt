@@ -6,7 +6,6 @@ pub mod PartReading
 pub mod OptionReading
 pub mod ListReading
 pub mod ReadWhole
-pub mod LineListing
 pub mod PlainText
 pub mod NumberListing
 pub mod PartListing

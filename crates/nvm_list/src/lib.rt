@@ -8,7 +8,7 @@
 //!
 //! [`assemble`] makes a list into the bytes of a host file, and [`list_file`] lists those. Lists that were written by
 //! hand, with their commands and faults, stand in `examples/programs.py`, which holds the built `nvq` to them.
-//! [`push_operands`] and its kin append some of the words of one command, for callers that list commands among other things, and
+//! [`OperandsText`] and its kin display some of the words of one command, for callers that list commands among other things, and
 //! [`next_said`] gives what a list says of its commands, one after the other.
 #![tactic(auto)]
 
@@ -31,7 +31,7 @@ mod said;
 
 pub use expected::Expected;
 pub use fault::ListFault;
-pub use line_pieces::{push_deallocate, push_fuse, push_operands, push_ranges};
+pub use line_pieces::{OperandsText, RangesText, deallocate_option, fuse_option};
 pub use listing::{list, list_file};
 pub use lists::{assemble, read_list};
 pub use said::next_said;

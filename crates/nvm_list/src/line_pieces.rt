@@ -1,124 +1,122 @@
-ghost use Rattle.std.specs.Prelude.{◌≡◌, ◌++◌, OnOk, string_bytes};
+ghost use Rattle.std.specs.Prelude.{◌≡◌, Some};
 ghost use Rattle.nvm_record.specs.Ranges.{ranges_of};
 ghost use Rattle.nvm_list.specs.Listing as spec;
 ghost use Rattle.nvm_list.specs.Listing.{behind_spaces, range_text, ranges_text};
 
-use nvm_record::{Command, Fuse, LbaRange, NoMemory, Op, range_count};
-use nvm_text::{push_decimal, push_runs};
+use nvm_record::{Command, Fuse, LbaRange, Op, range_count};
+use nvm_text::RunsText;
+use std::fmt;
+use std::fmt::{Display, Formatter};
 
-/// Appends what the command is on, each word behind a space: its ranges, or its starting LBA, its number of blocks and its
-/// data. `NoMemory` is answered where a growth was refused; nothing is promised of the text then. So it is with each call below.
-pub fn push_operands(text: &mut String, command: &Command) -> Result<(), NoMemory>
-    ensures { OnOk result (string_bytes text.new
-        ≡ string_bytes text.old ++ behind_spaces (spec.operand_words command.now)) }
-{
-    if command.op.carries_ranges() {
-        text.push_str(" ")?;
-        push_ranges(text, command.payload.as_slice())?;
-    } else {
-        push_place(text, command)?;
-        push_data(text, command)?;
+/// What a command is on, each word after a space: its ranges, or its starting LBA, its number of blocks and its data.
+#[derive(Clone, Copy)]
+pub struct OperandsText<'a>(pub &'a Command);
+
+impl Display for OperandsText<'_> {
+    ghost output = { λ text. Some (behind_spaces (spec.operand_words text.0.now)) };
+
+    fn fmt<W: fmt::Write>(&self, f: &mut Formatter<W>) -> fmt::Result {
+        let command = self.0;
+        let first = command.slba;
+        let blocks = u64::from(command.nlb) + 1;
+        let payload = command.payload.as_slice();
+        if command.op.carries_ranges() {
+            write!(f, " {}", RangesText(payload))
+        } else if command.op.carries_blocks() {
+            write!(f, " {first} {blocks} {}", RunsText(payload))
+        } else {
+            write!(f, " {first} {blocks}")
+        }
     }
-    Ok(())
 }
 
-/// Appends the starting LBA and the number of blocks.
-fn push_place(text: &mut String, command: &Command) -> Result<(), NoMemory>
-    ensures { OnOk result (string_bytes text.new
-        ≡ string_bytes text.old ++ behind_spaces (spec.place_words command.now)) }
-{
-    text.push_str(" ")?;
-    push_decimal(text, command.slba)?;
-    text.push_str(" ")?;
-    push_decimal(text, u64::from(command.nlb) + 1)?;
-    Ok(())
-}
+/// The ranges that data holds, `<first LBA>+<number of blocks>` each, joined by commas: a range definition has 16 bytes.
+#[derive(Clone, Copy)]
+pub struct RangesText<'a>(pub &'a [u8]);
 
-/// Appends the data, where the operation carries blocks of it.
-fn push_data(text: &mut String, command: &Command) -> Result<(), NoMemory>
-    ensures { OnOk result (string_bytes text.new
-        ≡ string_bytes text.old ++ behind_spaces (spec.data_words command.now)) }
-{
-    if command.op.carries_blocks() {
-        text.push_str(" ")?;
-        push_runs(text, command.payload.as_slice())?;
+impl Display for RangesText<'_> {
+    ghost output = { λ text. Some (ranges_text (ranges_of text.0.now)) };
+
+    fn fmt<W: fmt::Write>(&self, f: &mut Formatter<W>) -> fmt::Result {
+        let payload = self.0;
+        let count = range_count(payload);
+        if count == 0 {
+            return Ok(());
+        }
+        write!(f, "{}", RangeText(LbaRange::at(payload, 0)))?;
+        for place in 1..count {
+            write!(f, ",{}", RangeText(LbaRange::at(payload, place)))?;
+        }
+        Ok(())
     }
-    Ok(())
 }
 
-/// Appends the ranges that data holds, joined by commas: a range definition has 16 bytes.
-pub fn push_ranges(text: &mut String, payload: &[u8]) -> Result<(), NoMemory>
-    ensures { OnOk result (string_bytes text.new
-        ≡ string_bytes text.old ++ ranges_text (ranges_of payload.now)) }
-{
-    let count = range_count(payload);
-    if count == 0 {
-        return Ok(());
+/// One range.
+#[derive(Clone, Copy)]
+struct RangeText(LbaRange);
+
+impl Display for RangeText {
+    ghost output = { λ text. Some (range_text text.0) };
+
+    fn fmt<W: fmt::Write>(&self, f: &mut Formatter<W>) -> fmt::Result {
+        let LbaRange { first, blocks } = self.0;
+        write!(f, "{first}+{blocks}")
     }
-    push_range(text, LbaRange::at(payload, 0))?;
-    for place in 1..count {
-        text.push_str(",")?;
-        push_range(text, LbaRange::at(payload, place))?;
+}
+
+/// ` deallocate` where the operation has the Deallocate bit, and nothing where it hasn't.
+pub fn deallocate_option(op: Op) -> &'static str
+    ensures { result.now ≡ behind_spaces (spec.deallocate_words op) }
+{
+    match op {
+        Op::Dataset { deallocate: true } => " deallocate",
+        _ => "",
     }
-    Ok(())
 }
 
-/// Appends one range.
-fn push_range(text: &mut String, range: LbaRange) -> Result<(), NoMemory>
-    ensures { OnOk result (string_bytes text.new ≡ string_bytes text.old ++ range_text range) }
+/// ` first`, ` second` or ` reserved` by the FUSE bits, and nothing for a normal command.
+pub fn fuse_option(fuse: Fuse) -> &'static str
+    ensures { result.now ≡ behind_spaces (spec.fuse_words fuse) }
 {
-    push_decimal(text, range.first)?;
-    text.push_str("+")?;
-    push_decimal(text, u64::from(range.blocks))?;
-    Ok(())
-}
-
-/// Appends ` deallocate` where the operation has the Deallocate bit.
-pub fn push_deallocate(text: &mut String, op: Op) -> Result<(), NoMemory>
-    ensures { OnOk result (string_bytes text.new
-        ≡ string_bytes text.old ++ behind_spaces (spec.deallocate_words op)) }
-{
-    if let Op::Dataset { deallocate: true } = op {
-        text.push_str(" deallocate")?;
-    }
-    Ok(())
-}
-
-/// Appends ` first`, ` second` or ` reserved` by the FUSE bits, and nothing for a normal command.
-pub fn push_fuse(text: &mut String, fuse: Fuse) -> Result<(), NoMemory>
-    ensures { OnOk result (string_bytes text.new
-        ≡ string_bytes text.old ++ behind_spaces (spec.fuse_words fuse)) }
-{
-    let word = match fuse {
-        Fuse::Normal => return Ok(()),
+    match fuse {
+        Fuse::Normal => "",
         Fuse::First => " first",
         Fuse::Second => " second",
         Fuse::Reserved => " reserved",
-    };
-    text.push_str(word)?;
-    Ok(())
+    }
 }
 
-/// Appends the command identifier, if it isn't the command's place.
-pub fn push_cid(text: &mut String, place: u64, cid: u16) -> Result<(), NoMemory>
-    ensures { OnOk result (string_bytes text.new
-        ≡ string_bytes text.old ++ behind_spaces (spec.cid_words place cid)) }
-{
-    if u64::from(cid) != place % 65_536 {
-        text.push_str(" cid=")?;
-        push_decimal(text, u64::from(cid))?;
-    }
-    Ok(())
+/// ` cid=` and the command identifier, if that isn't the command's place in its list.
+#[derive(Clone, Copy)]
+pub(crate) struct CidOption {
+    pub(crate) place: u64,
+    pub(crate) cid: u16,
 }
 
-/// Appends the namespace identifier, if it isn't 1.
-pub fn push_nsid(text: &mut String, nsid: u32) -> Result<(), NoMemory>
-    ensures { OnOk result (string_bytes text.new
-        ≡ string_bytes text.old ++ behind_spaces (spec.nsid_words nsid)) }
-{
-    if nsid != 1 {
-        text.push_str(" nsid=")?;
-        push_decimal(text, u64::from(nsid))?;
+impl Display for CidOption {
+    ghost output = { λ option. Some (behind_spaces (spec.cid_words option.place option.cid)) };
+
+    fn fmt<W: fmt::Write>(&self, f: &mut Formatter<W>) -> fmt::Result {
+        let cid = self.cid;
+        if u64::from(cid) == self.place % 65_536 {
+            return Ok(());
+        }
+        write!(f, " cid={cid}")
     }
-    Ok(())
+}
+
+/// ` nsid=` and the namespace identifier, if that isn't 1.
+#[derive(Clone, Copy)]
+pub(crate) struct NsidOption(pub(crate) u32);
+
+impl Display for NsidOption {
+    ghost output = { λ option. Some (behind_spaces (spec.nsid_words option.0)) };
+
+    fn fmt<W: fmt::Write>(&self, f: &mut Formatter<W>) -> fmt::Result {
+        let nsid = self.0;
+        if nsid == 1 {
+            return Ok(());
+        }
+        write!(f, " nsid={nsid}")
+    }
 }

@@ -14,11 +14,11 @@ ghost use Rattle.nvm_list.specs.Inside.Values.{HasValuesInRange};
 ghost use Rattle.nvm_list.specs.Listing as spec;
 ghost use Rattle.nvm_list.specs.Listing.{listing};
 
-use crate::line_pieces::{push_cid, push_deallocate, push_fuse, push_nsid, push_operands};
+use crate::line_pieces::{CidOption, NsidOption, OperandsText, deallocate_option, fuse_option};
 use nvm_record::laws::ranges_are_read_back;
 use nvm_record::{BlockSize, Command, HostFault, NoMemory, Payload, read_host};
+use nvm_text::OpName;
 use nvm_text::laws::runs_are_longest;
-use nvm_text::push_name;
 use std::alloc::Global;
 
 /// Reads a host file and lists its commands.
@@ -80,12 +80,14 @@ fn has_bytes(bytes: &[u8])
 fn push_command(text: &mut String, place: u64, command: &Command) -> Result<(), NoMemory>
     ensures { OnOk result (string_bytes text.new ≡ string_bytes text.old ++ spec.listed_line place command.now) }
 {
-    push_name(text, command.op)?;
-    push_operands(text, command)?;
-    push_deallocate(text, command.op)?;
-    push_fuse(text, command.fuse)?;
-    push_cid(text, place, command.cid)?;
-    push_nsid(text, command.nsid)?;
-    text.push_str("\n")?;
-    Ok(())
+    let name = OpName(command.op);
+    let operands = OperandsText(command);
+    let deallocate = deallocate_option(command.op);
+    let fuse = fuse_option(command.fuse);
+    let cid = CidOption {
+        place,
+        cid: command.cid,
+    };
+    let nsid = NsidOption(command.nsid);
+    write!(text, "{name}{operands}{deallocate}{fuse}{cid}{nsid}\n")
 }

@@ -1,42 +1,30 @@
 -- How what workers did is listed: for each done job a line with its statuses, one for each part, and one with a Read's
 -- data. A worker that did nothing has no line.
-use Rattle.std.specs.Prelude.{ℕ, ◌+◌, List, [], ◌∷◌, ◌++◌, Option, Some, None, codes}
+use Rattle.std.specs.Prelude.{ℕ, ◌+◌, List, [], ◌∷◌, ◌++◌, Option, Some, None, codes, decimal}
 use Rattle.nvm_record.specs.declared.status.Statuses.{Statuses}
-use Rattle.nvm_record.specs.declared.status.Statuses.TheVariants.{One, Two}
 use Rattle.nvm_plan.specs.declared.part.Part.{Part}
 use Rattle.nvm_plan.specs.declared.part.PartResult.{PartResult}
 use Rattle.nvm_plan.specs.declared.part.PartResult.TheVariants.{Done, Failed, Looked, NoMemory, Full}
 use Rattle.nvm_audit.specs.RecordedJob.{RecordedJob}
 use Rattle.nvm_text.specs.Runs.{runs}
-use Rattle.nvm_text.specs.Lines.{runs_text, status_text}
-use Rattle.nvm_report.specs.Numbered.{numbered}
+use Rattle.nvm_text.specs.Lines.{runs_text, statuses_text}
 
--- the worker's number, and that of the job that it did
-unfoldable pub doer_text : ℕ → ℕ → List ℕ
-doer_text worker job = numbered (codes "worker ") worker ++ numbered (codes " job ") job
+-- how a part ended
+abbrev pub word_of : PartResult → List ℕ
+word_of Done = codes "done"
+word_of Failed = codes "failed"
+word_of Looked = codes "looked"
+word_of NoMemory = codes "no-memory"
+word_of Full = codes "full"
 
--- a pair's first command's status stands before the second's
-abbrev pub statuses_text : Statuses → List ℕ
-statuses_text (One status) = status_text status
-statuses_text (Two first second) = status_text first ++ (codes " " ++ status_text second)
-
-unfoldable pub status_line : ℕ → ℕ → Statuses → List ℕ
-status_line worker job statuses = doer_text worker job ++ (codes " status " ++ (statuses_text statuses ++ codes "\n"))
-
--- the part's unit, and the point on which it rests
-unfoldable pub point_text : Part → List ℕ
-point_text part = numbered (codes " unit ") part.unit ++ numbered (codes " point ") part.point
-
--- how the part ended
-abbrev pub result_text : PartResult → List ℕ
-result_text Done = codes " done\n"
-result_text Failed = codes " failed\n"
-result_text Looked = codes " looked\n"
-result_text NoMemory = codes " no-memory\n"
-result_text Full = codes " full\n"
-
+-- the worker that did the job, the job's number, the part's unit, the point on which it rests, and how it ended
 unfoldable pub part_line : ℕ → ℕ → Part → List ℕ
-part_line worker job part = doer_text worker job ++ (point_text part ++ result_text part.result)
+part_line worker job part =
+    codes "worker " ++ (decimal worker
+    ++ (codes " job " ++ (decimal job
+    ++ (codes " unit " ++ (decimal part.unit
+    ++ (codes " point " ++ (decimal part.point
+    ++ (codes " " ++ (word_of part.result ++ codes "\n")))))))))
 
 abbrev pub part_lines : ℕ → ℕ → List Part → List ℕ
 part_lines worker job [] = []
@@ -45,7 +33,15 @@ part_lines worker job (part ∷ parts) = part_line worker job part ++ part_lines
 -- the data of a Read as the longest runs of equal bytes, if there is any
 abbrev pub data_line : ℕ → ℕ → Option (List ℕ) → List ℕ
 data_line worker job None = []
-data_line worker job (Some bytes) = doer_text worker job ++ (codes " data " ++ (runs_text (runs bytes) ++ codes "\n"))
+data_line worker job (Some bytes) =
+    codes "worker " ++ (decimal worker
+    ++ (codes " job " ++ (decimal job ++ (codes " data " ++ (runs_text (runs bytes) ++ codes "\n")))))
+
+-- the worker that did the job, the job's number, and its statuses
+abbrev pub status_line : ℕ → ℕ → Statuses → List ℕ
+status_line worker job statuses =
+    codes "worker " ++ (decimal worker
+    ++ (codes " job " ++ (decimal job ++ (codes " status " ++ (statuses_text statuses ++ codes "\n")))))
 
 unfoldable pub done_lines : ℕ → RecordedJob → List ℕ
 done_lines worker d =

@@ -1,31 +1,23 @@
 -- How the jobs of a record are listed: a line for each command, with the number of its job.
-use Rattle.std.specs.Prelude.{ℕ, ◌+◌, List, [], ◌∷◌, ◌++◌, codes}
+use Rattle.std.specs.Prelude.{ℕ, ◌+◌, List, [], ◌∷◌, ◌++◌, codes, decimal}
 use Rattle.nvm_record.specs.declared.command.Command.{Command}
 use Rattle.nvm_plan.specs.declared.job.Body.{Body}
 use Rattle.nvm_plan.specs.declared.job.Body.TheVariants.{Single, Pair}
 use Rattle.nvm_plan.specs.declared.job.Job.{Job}
 use Rattle.nvm_text.specs.Lines.{name_of}
 use Rattle.nvm_list.specs.Listing.{operand_words, deallocate_words, fuse_words, behind_spaces}
-use Rattle.nvm_report.specs.Numbered.{numbered}
 
--- the job's number, and its host's
-unfoldable pub job_text : ℕ → ℕ → List ℕ
-job_text number host = numbered (codes "job ") number ++ numbered (codes " host ") host
-
--- the identifiers of the command and of its namespace
-unfoldable pub identifiers_text : Command → List ℕ
-identifiers_text c = numbered (codes " cid ") c.cid ++ (numbered (codes " nsid ") c.nsid ++ codes " ")
-
--- the words behind what the command is on
-unfoldable pub option_text : Command → List ℕ
-option_text c = behind_spaces (deallocate_words c.op) ++ behind_spaces (fuse_words c.fuse)
-
--- what the command asks for, in the words of a command list
-unfoldable pub command_text : Command → List ℕ
-command_text c = name_of c.op ++ (behind_spaces (operand_words c) ++ option_text c)
-
+-- the job's number, its host's, the identifiers of the command and of its namespace, and what the command asks for, in the
+-- words of a command list
 unfoldable pub command_line : ℕ → ℕ → Command → List ℕ
-command_line number host c = job_text number host ++ (identifiers_text c ++ (command_text c ++ codes "\n"))
+command_line number host c =
+    codes "job " ++ (decimal number
+    ++ (codes " host " ++ (decimal host
+    ++ (codes " cid " ++ (decimal c.cid
+    ++ (codes " nsid " ++ (decimal c.nsid
+    ++ (codes " " ++ (name_of c.op
+    ++ (behind_spaces (operand_words c)
+    ++ (behind_spaces (deallocate_words c.op) ++ (behind_spaces (fuse_words c.fuse) ++ codes "\n"))))))))))))
 
 -- the lines of a job's commands, the first command's first
 abbrev pub body_lines : ℕ → ℕ → Body → List ℕ

@@ -12,8 +12,8 @@ mod job_lines;
 mod listing;
 mod numbered;
 
-pub use done_lines::{push_done, push_part, push_statuses};
-pub use entry_lines::{push_act, push_blocks, push_data, push_entry};
+pub use done_lines::{push_done, push_part};
+pub use entry_lines::{ActText, push_entry};
 pub use job_lines::push_body;
 pub use listing::list_record;
 pub use numbered::push_numbered;

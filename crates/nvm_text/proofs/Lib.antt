@@ -1,5 +1,5 @@
-pub mod Decimals
 pub mod RunLemmas
 pub mod EqualBytes
 pub mod JoinedRuns
 pub mod TextPieces
+pub mod FirstRun

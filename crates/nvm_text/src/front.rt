@@ -4,6 +4,7 @@ ghost use Rattle.std.specs.Io.KnownBytes.{Appends};
 ghost use Rattle.nvm_write.specs.Handed.{TakesFront};
 ghost use Rattle.nvm_text.specs.Lines.{identifiers, name_of, status_text};
 
+use crate::name::word_of;
 use crate::piece::Piece;
 use nvm_record::{Op, Status};
 use nvm_write::hand;
@@ -40,19 +41,10 @@ fn put_name(piece: &mut Piece, op: Op)
     ensures text { piece.new ≡ name_of op ++ piece.old }
     ensures room { length piece.new ≤ length piece.old + 13 }
 {
-    let name = match op {
-        Op::Write => b"write".as_slice(),
-        Op::Read => b"read".as_slice(),
-        Op::WriteUncorrectable => b"uncorrectable".as_slice(),
-        Op::Compare => b"compare".as_slice(),
-        Op::WriteZeroes => b"zeroes".as_slice(),
-        Op::Dataset { .. } => b"dataset".as_slice(),
-        Op::Other(opcode) => {
-            piece.put_hex2(opcode);
-            b"op-".as_slice()
-        }
-    };
-    piece.put(name);
+    if let Op::Other(opcode) = op {
+        piece.put_hex2(opcode);
+    }
+    piece.put(word_of(op).as_bytes());
 }
 
 /// Puts a status in front.

@@ -4,24 +4,30 @@
 //! The functions `write_*` write to a writer, and take no memory of their own. Where the writer fails, its error is answered, and
 //! it has taken a front of the text and nothing else. Most pieces are short, so hand it a [`BufWriter`](std::io::BufWriter) where each write costs.
 //!
-//! The functions `push_*` append to a text, as `nvm_list` and `nvm_report` want it. Where memory is refused, what the text held still
-//! stands at its front.
+//! [`OpName`], [`StatusText`], [`StatusesText`], [`RunsText`] and [`HexByte`] are displayed as the same texts, so that other crates
+//! write a line by one `write!`. [`append`] adds what is displayed to a text and leaves the text as it was where memory is refused.
 //!
 //! Texts that were written by hand stand in `examples/programs.py`, which holds the built programs to them.
 #![tactic(auto)]
 
+mod appending;
 mod digit;
 mod front;
+mod hex_byte;
 pub mod laws;
 mod line;
 mod name;
 mod number;
 mod piece;
 mod run;
+mod status;
 
+pub use appending::append;
 pub use front::{write_name, write_status};
+pub use hex_byte::HexByte;
 pub use line::{write_line, write_told};
-pub use name::{push_name, push_status};
-pub use number::{push_decimal, push_hex2, write_decimal};
+pub use name::OpName;
+pub use number::write_decimal;
 pub use piece::Piece;
-pub use run::{push_runs, write_runs};
+pub use run::{RunsText, write_runs};
+pub use status::{StatusText, StatusesText};

@@ -1,46 +1,38 @@
-ghost use Rattle.std.specs.Prelude.{◌≡◌, ◌++◌, OnOk, OnErr, string_bytes};
-ghost use Rattle.nvm_text.specs.Kept.{KeepsText};
-ghost use Rattle.nvm_text.specs.Lines.{name_of, status_text};
+ghost use Rattle.std.specs.Prelude.{◌≡◌, Some};
+ghost use Rattle.nvm_text.specs.Lines.{name_of, word_of};
 
-use crate::number::{push_decimal, push_hex2};
-use nvm_record::{NoMemory, Op, Status};
+use crate::hex_byte::HexByte;
+use nvm_record::Op;
+use std::fmt;
+use std::fmt::{Display, Formatter};
 
-/// Appends the name of an operation: `write`, `read`, `uncorrectable`, `compare`, `zeroes` or `dataset`,
+/// The name of an operation: `write`, `read`, `uncorrectable`, `compare`, `zeroes` or `dataset`,
 /// and `op-` with two hexadecimal digits for another opcode.
-pub fn push_name(text: &mut String, op: Op) -> Result<(), NoMemory>
-    ensures ok { OnOk result (string_bytes text.new ≡ string_bytes text.old ++ name_of op) }
-    ensures err { OnErr result (KeepsText (string_bytes text.old) (string_bytes text.new)) }
+#[derive(Clone, Copy)]
+pub struct OpName(pub Op);
+
+impl Display for OpName {
+    ghost output = { λ name. Some (name_of name.0) };
+
+    fn fmt<W: fmt::Write>(&self, f: &mut Formatter<W>) -> fmt::Result {
+        match self.0 {
+            Op::Other(opcode) => write!(f, "op-{}", HexByte(opcode)),
+            op => f.write_str(word_of(op)),
+        }
+    }
+}
+
+/// The name of an operation, without the digits of an opcode.
+pub(crate) fn word_of(op: Op) -> &'static str
+    ensures { result.now ≡ word_of op }
 {
-    let name = match op {
+    match op {
         Op::Write => "write",
         Op::Read => "read",
         Op::WriteUncorrectable => "uncorrectable",
         Op::Compare => "compare",
         Op::WriteZeroes => "zeroes",
         Op::Dataset { .. } => "dataset",
-        Op::Other(opcode) => return push_opcode(text, opcode),
-    };
-    text.push_str(name)?;
-    Ok(())
-}
-
-/// Appends the name of an opcode that has no other.
-fn push_opcode(text: &mut String, opcode: u8) -> Result<(), NoMemory>
-    ensures ok { OnOk result (string_bytes text.new ≡ string_bytes text.old ++ name_of (Op.Other opcode)) }
-    ensures err { OnErr result (KeepsText (string_bytes text.old) (string_bytes text.new)) }
-{
-    text.push_str("op-")?;
-    push_hex2(text, opcode)?;
-    Ok(())
-}
-
-/// Appends a status as `<type>/<code>`, the code as two hexadecimal digits.
-pub fn push_status(text: &mut String, status: Status) -> Result<(), NoMemory>
-    ensures ok { OnOk result (string_bytes text.new ≡ string_bytes text.old ++ status_text status) }
-    ensures err { OnErr result (KeepsText (string_bytes text.old) (string_bytes text.new)) }
-{
-    push_decimal(text, u64::from(status.sct))?;
-    text.push_str("/")?;
-    push_hex2(text, status.sc)?;
-    Ok(())
+        Op::Other(_) => "op-",
+    }
 }

@@ -1,16 +1,16 @@
-ghost use Rattle.std.specs.Prelude.{◌≡◌, ◌≢◌, ◌-◌, ◌<◌, ◌≤◌, ◌++◌, ◌∷◌, ℕ, List, IfOk, OnOk, OnErr, codes, if◌then◌else◌, drop, length, slice_index, string_bytes};
+ghost use Rattle.std.specs.Prelude.{◌≡◌, ◌≢◌, ◌<◌, ◌≤◌, ◌++◌, ℕ, List, IfOk, OnOk, OnErr, Some, length, slice_index};
+ghost use Rattle.std.specs.Fmt.{HasWritten, IsPlainFormatter};
 ghost use Rattle.std.specs.Io.KnownBytes.{Appends};
 ghost use Rattle.nvm_write.specs.Handed.{TakesFront};
-ghost use Rattle.nvm_text.specs.Kept.{KeepsText};
 ghost use Rattle.nvm_text.specs.Runs.{runs, run_of};
-ghost use Rattle.nvm_text.specs.Lines.{runs_text, run_text};
+ghost use Rattle.nvm_text.specs.Lines.{comma_before, runs_text, run_text};
 
-use crate::number::{push_decimal, push_hex2};
+use crate::hex_byte::HexByte;
 use crate::piece::Piece;
-use nvm_record::NoMemory;
 use nvm_write::hand;
-use std::io;
+use std::fmt::{Display, Formatter};
 use std::io::Write;
+use std::{fmt, io};
 
 /// Bytes are compared in chunks of so many.
 const CHUNK: usize = 64;
@@ -41,67 +41,66 @@ fn write_first_run<'a, W: Write>(writer: &mut W, bytes: &'a [u8]) -> io::Result<
 {
     let count = run_length(bytes);
     let rest = &bytes[count..];
-    let is_last = rest.is_empty();
-    hand(writer, run_piece(count, bytes[0], is_last).as_slice())?;
+    hand(
+        writer,
+        run_piece(count, bytes[0], comma_before(rest)).as_slice(),
+    )?;
     Ok(rest)
 }
 
-/// The text of one run, and a comma where it isn't the last.
-fn run_piece(count: usize, byte: u8, is_last: bool) -> Piece
-    ensures { result ≡ run_text (run_of count byte) ++ (if is_last then codes "" else codes ",") }
+/// The text of one run, and what is between it and the bytes after it.
+fn run_piece(count: usize, byte: u8, comma: &str) -> Piece
+    requires { length comma.now ≤ 1 }
+    ensures { result ≡ run_text (run_of count byte) ++ comma.now }
 {
     let mut piece = Piece::new();
-    if !is_last {
-        piece.put_byte(b',');
-    }
+    piece.put(comma.as_bytes());
     piece.put_hex2(byte);
     piece.put_byte(b'*');
     piece.put_decimal(count as u64);
     piece
 }
 
-/// Appends the longest runs of equal bytes, `<count>*<byte>` each, joined by commas. Nothing is
-/// appended for no bytes.
-pub fn push_runs(text: &mut String, bytes: &[u8]) -> Result<(), NoMemory>
-    ensures ok { OnOk result
-        (string_bytes text.new ≡ string_bytes text.old ++ runs_text (runs bytes.now)) }
-    ensures err { OnErr result (KeepsText (string_bytes text.old) (string_bytes text.new)) }
+/// What is between a run and the bytes after it: a comma, where there are any.
+fn comma_before(rest: &[u8]) -> &'static str
+    ensures text { result.now ≡ comma_before rest.now }
+    ensures short { length result.now ≤ 1 }
 {
-    if bytes.is_empty() {
-        return Ok(());
-    }
-    let mut rest = push_first_run(text, bytes)?;
-    while !rest.is_empty() {
-        text.push_str(",")?;
-        rest = push_first_run(text, rest)?;
-    }
-    Ok(())
+    if rest.is_empty() { "" } else { "," }
 }
 
-/// Appends the first run, and gives the bytes after it.
-fn push_first_run<'a>(text: &mut String, bytes: &'a [u8]) -> Result<&'a [u8], NoMemory>
+/// The longest runs of equal bytes, `<count>*<byte>` each, joined by commas. It is empty for no bytes.
+#[derive(Clone, Copy)]
+pub struct RunsText<'a>(pub &'a [u8]);
+
+impl Display for RunsText<'_> {
+    ghost output = { λ text. Some (runs_text (runs text.0.now)) };
+
+    fn fmt<W: fmt::Write>(&self, f: &mut Formatter<W>) -> fmt::Result {
+        let mut rest = self.0;
+        while !rest.is_empty() {
+            rest = show_first_run(f, rest)?;
+        }
+        Ok(())
+    }
+}
+
+/// Shows the first run, and gives the bytes after it. Where there are any, a comma follows the run.
+fn show_first_run<'a, W: fmt::Write>(
+    f: &mut Formatter<W>,
+    bytes: &'a [u8],
+) -> Result<&'a [u8], fmt::Error>
     requires { 0 < length bytes.now }
-    ensures ok { IfOk result (λ rest. (count : ℕ) × (0 < count) × (rest.now ≡ drop count bytes.now)
-        × (runs bytes.now ≡ run_of count (slice_index bytes.now 0) ∷ runs rest.now)
-        × (string_bytes text.new
-        ≡ string_bytes text.old ++ run_text (run_of count (slice_index bytes.now 0)))) }
-    ensures err { OnErr result (KeepsText (string_bytes text.old) (string_bytes text.new)) }
+    ensures fewer { IfOk result (λ rest. length rest.now < length bytes.now) }
+    ensures shown { IsPlainFormatter f.old → IfOk result (λ rest. (text : List ℕ)
+        × (runs_text (runs bytes.now) ≡ text ++ runs_text (runs rest.now))
+        × HasWritten W.write_str_gives f.old text f.new) }
 {
     let count = run_length(bytes);
-    push_run(text, count, bytes[0])?;
-    Ok(&bytes[count..])
-}
-
-/// Appends one run.
-fn push_run(text: &mut String, count: usize, byte: u8) -> Result<(), NoMemory>
-    ensures ok { OnOk result
-        (string_bytes text.new ≡ string_bytes text.old ++ run_text (run_of count byte)) }
-    ensures err { OnErr result (KeepsText (string_bytes text.old) (string_bytes text.new)) }
-{
-    push_decimal(text, count as u64)?;
-    text.push_str("*")?;
-    push_hex2(text, byte)?;
-    Ok(())
+    let rest = &bytes[count..];
+    let comma = comma_before(rest);
+    write!(f, "{count}*{}{comma}", HexByte(bytes[0]))?;
+    Ok(rest)
 }
 
 /// How many bytes at the front are equal.
