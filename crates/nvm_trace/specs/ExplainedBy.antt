@@ -1,5 +1,7 @@
 -- When a record explains a trace: the device, seen from outside, behaved as one block store with one thread could have in each
--- atomic unit, in real time. That is linearizability of each atomic unit (own). How the record came about isn't asked.
+-- atomic unit, in real time. So each atomic unit is linearizable (own). How the record came about isn't asked. It is strict:
+-- each part of a command in a unit is one step, however many blocks it has, and a job's parts are done in the order of its units,
+-- up to the first that fails. It isn't the other way round: units that are linearizable one by one may want more workers than a record has.
 use Rattle.std.specs.Prelude.{◌≡◌, ℕ, ◌≤◌, List, length}
 use Rattle.nvm_record.specs.declared.op.Op.TheVariants.{Write}
 use Rattle.nvm_record.specs.Lists.{IsAt}

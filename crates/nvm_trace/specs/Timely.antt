@@ -1,5 +1,6 @@
 -- When the order of the steps keeps real time: no command began after the end of one that comes after it in the order of a
--- unit. For each unit this is the real-time order of linearizability (own).
+-- unit. For each unit this is the real-time order of linearizability (own). Commands of which one began when the other ended
+-- overlap, so a coarse clock hides faults.
 use Rattle.std.specs.Prelude.{ℕ, ◌<◌, List, Contains, Option, Some, None}
 use Rattle.nvm_record.specs.Lists.{IsAt}
 use Rattle.nvm_trace.specs.declared.step.Step.{Step}

@@ -7,7 +7,8 @@ pub struct Explained {
     pub units: u16,
     /// How many steps the record shows, in all units together.
     pub steps: u64,
-    /// How many replies don't say what was done, so that the record could have anything there.
+    /// How many jobs never ended, or ended with a reply that doesn't say what was done. The record only has to be lawful there, with
+    /// no change made where the reply says that the command wasn't executed.
     pub excused: u32,
     /// How many jobs of the record are preparations.
     pub preparations: u32,

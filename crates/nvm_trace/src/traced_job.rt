@@ -8,7 +8,7 @@ pub struct TracedJob {
     pub job: Job,
     /// A time before the device could see the command. Times are numbers of one clock, from 1.
     pub began: u64,
-    /// How it ended, or nothing if no completion was seen.
+    /// How it ended, or nothing if no completion was seen, or only one of a pair's.
     pub ended: Option<Ending>,
 }
 
@@ -19,6 +19,6 @@ pub struct Ending {
     pub time: u64,
     /// The status of the command, or of both.
     pub statuses: Statuses,
-    /// The data of a Read that succeeded.
+    /// The data of a Read that succeeded, which must be there for its reply to be explained.
     pub payload: Option<ReadData>,
 }
