@@ -1,6 +1,6 @@
 use super::audit::{record, spoiled};
 use crate::tests::namespace;
-use crate::trace::{is_certified, note};
+use crate::trace::{Unnoted, is_certified, note};
 use nvm_audit::{AuditFault, Record, Spot};
 use nvm_geometry::Geometry;
 use nvm_record::{Status, Statuses};
@@ -57,8 +57,13 @@ fn seen(
                     payload,
                 }),
             };
-            if from <= done.job && done.job < end && note(&mut trace, job).is_err() {
-                return Err(Fail::new("the job can't be noted"));
+            if done.job < from || end <= done.job {
+                continue;
+            }
+            match note(&mut trace, job) {
+                Ok(()) => {}
+                Err(Unnoted::NoMemory) => return Err(Fail::new("there was no memory")),
+                Err(Unnoted::Wrong { .. }) => return Err(Fail::new("the job can't be noted")),
             }
         }
     }
