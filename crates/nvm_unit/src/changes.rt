@@ -41,9 +41,7 @@ impl Unit {
         // Each answer brings a new snapshot, so the old version goes before anybody has to wait for it.
         pass.parts.snapshot.drop_version();
         let book = self.take(rt, &mut pass.parts.token);
-        let changed = self.change_held(alloc, &mut pass.parts, book, job, act, gate);
-        self.wake();
-        changed
+        self.change_held(alloc, &mut pass.parts, book, job, act, gate)
     }
 
     /// A [`change`](Unit::change) that gives up at once where it would wait: another pass has the unit, or takes it
@@ -66,10 +64,7 @@ impl Unit {
         ensures proper { IsProperPass pass.new.view }
     {
         match self.change_if_free::<Always, G>(alloc, pass, job, act, gate) {
-            Ok(changed) => {
-                self.wake();
-                Ok(changed)
-            }
+            Ok(changed) => Ok(changed),
             Err(word) => Err(Busy { word }),
         }
     }
@@ -94,10 +89,7 @@ impl Unit {
         ensures proper { IsProperPass pass.new.view }
     {
         match self.change_if_free::<Never, G>(alloc, pass, job, act, gate) {
-            Ok(changed) => {
-                gate.after_put(self);
-                Some(changed)
-            }
+            Ok(changed) => Some(changed),
             Err(_) => None,
         }
     }
@@ -126,7 +118,7 @@ impl Unit {
         Ok(self.change_held(alloc, &mut pass.parts, book, job, act, gate))
     }
 
-    /// Does the act on the book in hand and gives the unit back, so that the parts are a pass again. It wakes nobody.
+    /// Does the act on the book in hand and gives the unit back, so that the parts are a pass again.
     fn change_held<G: Gate>(
         &self,
         alloc: Global,

@@ -11,7 +11,6 @@ ghost use Rattle.nvm_unit.specs.Views.{shown};
 
 use crate::attempt::{looked, observed};
 use crate::book::Book;
-use crate::gate::Gate;
 use crate::pass::{Parts, Pass};
 use crate::replies::{LookFault, ObserveFault, Observed};
 use crate::rule::{Always, Never};
@@ -39,19 +38,16 @@ impl Unit {
         ensures proper { IsProperPass pass.new.view }
     {
         let book = self.take(rt, &mut pass.parts.token);
-        let answer = self.observe_held(alloc, &mut pass.parts, book, look);
-        self.wake();
-        answer
+        self.observe_held(alloc, &mut pass.parts, book, look)
     }
 
     /// An [`observe`](Unit::observe) in pieces, for callers that may not wait: `None` says that the unit was not free,
     /// and the same call can be made again. All calls of one look leave one mark together, which is that of the last.
-    pub fn poll_observe<G: Gate>(
+    pub fn poll_observe(
         &self,
         alloc: Global,
         pass: &mut Pass,
         look: Look<'_>,
-        gate: &G,
     ) -> Option<Result<Observed, ObserveFault>>
         requires of { IsPassOf self.now pass.old }
         requires covered { IsCovered self.now.bounds.place (look_operation_of look) }
@@ -62,16 +58,12 @@ impl Unit {
         ensures proper { IsProperPass pass.new.view }
     {
         match self.take_if_free::<Never>(&mut pass.parts.token) {
-            Ok(book) => {
-                let answer = self.observe_held(alloc, &mut pass.parts, book, look);
-                gate.after_put(self);
-                Some(answer)
-            }
+            Ok(book) => Some(self.observe_held(alloc, &mut pass.parts, book, look)),
             Err(_) => None,
         }
     }
 
-    /// Answers the look at the book in hand and gives the unit back, so that the parts are a pass again. It wakes nobody.
+    /// Answers the look at the book in hand and gives the unit back, so that the parts are a pass again.
     fn observe_held(
         &self,
         alloc: Global,
