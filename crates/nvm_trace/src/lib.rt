@@ -9,6 +9,7 @@ mod explained;
 pub mod laws;
 mod matching;
 mod raising;
+mod reads;
 mod replies;
 mod saying;
 mod start;
@@ -24,6 +25,7 @@ mod witness_fault;
 mod witnessing;
 
 pub use explained::Explained;
+pub use reads::Reads;
 pub use start::Start;
 pub use trace::Trace;
 pub use trace_fault::TraceFault;

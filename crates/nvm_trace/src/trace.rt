@@ -1,5 +1,6 @@
 ghost use Rattle.std.specs.Prelude.{◌≡◌, [], ◌∷◌, ◌++◌, MatchResult, OnOk, OnErr};
 
+use crate::reads::Reads;
 use crate::start::Start;
 use crate::taking::ending_fault;
 use crate::trace_fault::TraceFault;
@@ -19,10 +20,14 @@ use std::marker::Model;
 /// Contracts see it as plain data.
 #[derive(Debug, Drop)]
 pub struct Trace {
-    /// The namespace on which the jobs were done.
+    /// The namespace on which the jobs were done, or the window of it that was traced.
     pub geometry: Geometry,
+    /// The LBA of the device at which the window begins, or 0. The commands' LBAs count from it.
+    pub first: u64,
     /// What was known of its blocks before.
     pub start: Start,
+    /// What its Reads and Compares are held to.
+    pub reads: Reads,
     /// The jobs, each at the place of its number.
     pub jobs: Vec<TracedJob>,
 }
@@ -43,12 +48,14 @@ impl Trace {
     ghost use Rattle.nvm_trace.specs.Taking.{CanTake, Applies};
 
     /// A trace without jobs. It takes no memory.
-    pub fn new(alloc: Global, geometry: Geometry, start: Start) -> Trace
-        ensures { result ≡ record { namespace = geometry; start = start; jobs = [] } }
+    pub fn new(alloc: Global, geometry: Geometry, first: u64, start: Start, reads: Reads) -> Trace
+        ensures { result ≡ record { namespace = geometry; first = first; start = start; reads = reads; jobs = [] } }
     {
         Trace {
             geometry,
+            first,
             start,
+            reads,
             jobs: Vec::new(alloc),
         }
     }

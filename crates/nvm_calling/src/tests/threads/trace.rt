@@ -4,7 +4,7 @@ use crate::trace::{Unnoted, is_certified, note};
 use nvm_audit::{AuditFault, Record, Spot};
 use nvm_geometry::Geometry;
 use nvm_record::{Status, Statuses};
-use nvm_trace::{Ending, Start, Trace, TracedJob, WitnessFault, witness};
+use nvm_trace::{Ending, Reads, Start, Trace, TracedJob, WitnessFault, witness};
 use std::alloc::Global;
 use std::test::Fail;
 use std::thread::Threads;
@@ -29,7 +29,7 @@ fn seen(
     end: u32,
     answer: Option<Status>,
 ) -> Result<Trace, Fail> {
-    let mut trace = Trace::new(alloc, geometry, Start::Zeroes);
+    let mut trace = Trace::new(alloc, geometry, 0, Start::Zeroes, Reads::Whole);
     for work in &record.done {
         for done in work {
             let number = u64::from(done.job);

@@ -15,7 +15,8 @@ invariant_of-self-2 c =
     let can = subst (λ (t : TraceView). CanTake t job) (sym c.self.view_is) c.requires in
     let long = length-append shown.jobs (job ∷ []) in
     let room = can.room in
-    subst (λ (jobs : List TracedJob). IsTraceable (record { namespace = shown.namespace; start = shown.start; jobs = jobs }))
+    let with_jobs = λ (jobs : List TracedJob). record { namespace = shown.namespace; first = shown.first; start = shown.start; reads = shown.reads; jobs = jobs } in
+    subst (λ (jobs : List TracedJob). IsTraceable (with_jobs jobs))
     (sym c.in_ok-push.ensures.items)
     (record {
       namespace = c.self.invariant.namespace;
