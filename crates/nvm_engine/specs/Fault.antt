@@ -9,10 +9,12 @@ use Rattle.nvm_geometry.specs.Faults as numbers
 use Rattle.nvm_plan.specs.Fits.{most_hosts}
 use Rattle.nvm_file.specs.declared.record_fault.RecordFault.{RecordFault}
 use Rattle.nvm_file.specs.declared.record_fault.RecordFault.TheVariants as of_record
+use Rattle.nvm_file.specs.declared.trace_file_fault.TraceFileFault.{TraceFileFault}
+use Rattle.nvm_file.specs.declared.trace_file_fault.TraceFileFault.TheVariants as of_trace
 use Rattle.nvm_engine.specs.Settings.{IsNamespace, advertised}
 use Rattle.nvm_engine.specs.declared.settings.Settings.{Settings}
 use Rattle.nvm_engine.specs.declared.fault.Fault.{Fault}
-use Rattle.nvm_engine.specs.declared.fault.Fault.TheVariants.{Geometry, TooManyHosts, HostBadName, HostTruncated, HostTooMany, RecordBadName, RecordUnknownVersion, RecordTruncated, RecordTrailing, RecordBadValue, NoMemory}
+use Rattle.nvm_engine.specs.declared.fault.Fault.TheVariants.{Geometry, TooManyHosts, HostBadName, HostTruncated, HostTooMany, RecordBadName, RecordUnknownVersion, RecordTruncated, RecordTrailing, RecordBadValue, Trace, NoMemory}
 
 -- the program's fault for one of a host's file
 abbrev pub fault_of_host : ℕ → HostFault → Fault
@@ -29,6 +31,11 @@ fault_of_record (of_record.Truncated at) = RecordTruncated at
 fault_of_record (of_record.Trailing at) = RecordTrailing at
 fault_of_record (of_record.BadValue at) = RecordBadValue at
 fault_of_record of_record.NoMemory = NoMemory
+
+-- the program's fault for one of a trace's file
+abbrev pub fault_of_trace : TraceFileFault → Fault
+fault_of_trace of_trace.NoMemory = NoMemory
+fault_of_trace fault = Trace fault
 
 -- The first fault of the options.
 abbrev pub IsGeometryFault : Settings → Fault → Type 0

@@ -9,4 +9,6 @@ pub mod LongLines
 pub mod LongText
 pub mod Shown
 pub mod Judged
+pub mod WitnessLine
+pub mod Witnessed
 pub mod Inside

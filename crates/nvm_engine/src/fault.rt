@@ -1,8 +1,8 @@
 ghost use Rattle.std.specs.Prelude.{◌≡◌};
 ghost use Rattle.nvm_engine.specs.declared.fault.Fault.TheVariants.{NoMemory};
-ghost use Rattle.nvm_engine.specs.Fault.{fault_of_host, fault_of_record};
+ghost use Rattle.nvm_engine.specs.Fault.{fault_of_host, fault_of_record, fault_of_trace};
 
-use nvm_file::RecordFault;
+use nvm_file::{RecordFault, TraceFileFault};
 use nvm_geometry::GeometryFault;
 use nvm_record::HostFault;
 use std::alloc::{AllocError, AllocFailed};
@@ -47,6 +47,9 @@ pub enum Fault {
     /// The field at offset `at` of the record has a value that isn't allowed.
     #[error("nvmu: record: bad value at {at}")]
     RecordBadValue { at: u64 },
+    /// The file doesn't hold a trace: its first fault from the front.
+    #[error("nvmu: trace: {0}")]
+    Trace(TraceFileFault),
     /// Memory was asked for and refused, outside a command.
     #[error("nvmu: no memory")]
     NoMemory,
@@ -76,6 +79,16 @@ impl Fault {
             RecordFault::Trailing { at } => Fault::RecordTrailing { at },
             RecordFault::BadValue { at } => Fault::RecordBadValue { at },
             RecordFault::NoMemory => Fault::NoMemory,
+        }
+    }
+
+    /// The fault of a trace's file.
+    pub fn of_trace(fault: TraceFileFault) -> Fault
+        ensures { result ≡ fault_of_trace fault }
+    {
+        match fault {
+            TraceFileFault::NoMemory => Fault::NoMemory,
+            _ => Fault::Trace(fault),
         }
     }
 }

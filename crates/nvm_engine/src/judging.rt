@@ -59,7 +59,7 @@ pub fn audit_bytes_watched<W: Watcher + Sync>(
 }
 
 /// The record that a file holds.
-fn record_of(alloc: Global, bytes: &Payload) -> Result<Record, Fault>
+pub(crate) fn record_of(alloc: Global, bytes: &Payload) -> Result<Record, Fault>
     ensures read { IfOk result (λ r. record_at bytes.now ≡ Ok r) }
     ensures fault { IfErr result (IsUnreadFault bytes.now) }
 {

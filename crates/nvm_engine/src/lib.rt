@@ -3,6 +3,7 @@
 //!
 //! [`execute`] is that call, and [`audit_bytes`] audits a record's file. Which numbers describe a namespace and how many workers
 //! there are, [`Settings`] says; why nothing is shown, [`Fault`]. [`Shown`] and [`Judged`] write their text to a writer.
+//! [`witness_bytes`] judges a trace's file by a record's, and [`Witnessed`] has the line of that.
 #![tactic(auto)]
 
 mod engine;
@@ -19,6 +20,9 @@ mod shown;
 mod standing;
 mod status_names;
 mod verdict_line;
+mod witness_line;
+mod witnessed;
+mod witnessing;
 mod workers;
 
 pub use engine::{execute, execute_watched};
@@ -28,4 +32,6 @@ pub use judging::{audit_bytes, audit_bytes_watched};
 pub use settings::Settings;
 pub use shown::Shown;
 pub use status_names::status_name;
+pub use witnessed::Witnessed;
+pub use witnessing::witness_bytes;
 pub use workers::Workers;

@@ -7,6 +7,7 @@ pub mod Steps
 pub mod Timely
 pub mod ExplainedBy
 pub mod FirstFault
+pub mod FaultPlace
 pub mod Numbers
 pub mod Shown
 pub mod Taking

@@ -1,5 +1,6 @@
 ghost use Rattle.std.specs.Prelude.{◌≡◌};
 ghost use Rattle.nvm_trace.specs.declared.witness_fault.WitnessFault.TheVariants.{NoMemory};
+ghost use Rattle.nvm_trace.specs.FaultPlace.{name_of, job_of, spot_of};
 
 use nvm_audit::{AuditFault, Spot};
 use std::alloc::{AllocError, AllocFailed};
@@ -31,6 +32,48 @@ pub enum WitnessFault {
     /// Memory was asked for and refused: nothing is known.
     #[error("no memory")]
     NoMemory,
+}
+
+impl WitnessFault {
+    /// The name of its case, by which it is reported: `JobDiffers` and so on. That of an unlawful record is its fault's.
+    pub fn name(self) -> &'static str
+        ensures { result.now ≡ name_of self }
+    {
+        match self {
+            WitnessFault::NamespaceDiffers => "NamespaceDiffers",
+            WitnessFault::JobDiffers { .. } => "JobDiffers",
+            WitnessFault::NoPreparation { .. } => "NoPreparation",
+            WitnessFault::Unlawful { fault } => fault.name(),
+            WitnessFault::ReplyDiffers { .. } => "ReplyDiffers",
+            WitnessFault::TimeBack { .. } => "TimeBack",
+            WitnessFault::NoMemory => "NoMemory",
+        }
+    }
+
+    /// The number of the job whose fault it is. Another namespace and `NoMemory` are of no job.
+    pub fn job(self) -> Option<u32>
+        ensures { result ≡ job_of self }
+    {
+        match self {
+            WitnessFault::JobDiffers { job }
+            | WitnessFault::NoPreparation { job }
+            | WitnessFault::ReplyDiffers { job }
+            | WitnessFault::TimeBack { job, .. } => Some(job),
+            WitnessFault::Unlawful { fault } => fault.job(),
+            WitnessFault::NamespaceDiffers | WitnessFault::NoMemory => None,
+        }
+    }
+
+    /// Where in a unit the fault is, if it is in one.
+    pub fn spot(self) -> Option<Spot>
+        ensures { result ≡ spot_of self }
+    {
+        match self {
+            WitnessFault::TimeBack { spot, .. } => Some(spot),
+            WitnessFault::Unlawful { fault } => fault.spot(),
+            _ => None,
+        }
+    }
 }
 
 impl From<AllocError> for WitnessFault {

@@ -1,0 +1,72 @@
+ghost use Rattle.std.specs.Prelude.{◌≡◌, ◌⊎◌, Result, Ok, Err, IfOk, IfErr, MatchResult};
+ghost use Rattle.nvm_audit.specs.RecordView.{RecordView};
+ghost use Rattle.nvm_file.specs.RecordFile.{IsRecordFile};
+ghost use Rattle.nvm_file.specs.TraceFile.{IsTraceFile};
+ghost use Rattle.nvm_file.specs.TraceReading.{trace_at};
+ghost use Rattle.nvm_trace.specs.ExplainedBy.{IsExplainedBy};
+ghost use Rattle.nvm_trace.specs.TraceView.{TraceView};
+ghost use Rattle.nvm_trace.specs.declared.explained.Explained.{Explained as Numbers};
+ghost use Rattle.nvm_engine.specs.Witnessed.{IsTraceFault, IsUnwitnessedFault, IsWitnessed, IsWitnessedAs};
+ghost use Rattle.nvm_engine.specs.declared.fault.Fault.TheVariants.{NoMemory as NoMemoryFault};
+
+use crate::fault::Fault;
+use crate::judging::record_of;
+use crate::witnessed::Witnessed;
+use nvm_audit::Record;
+use nvm_file::read_trace;
+use nvm_record::{NoMemory, Payload};
+use nvm_trace::{Judging, Trace, witness};
+use std::alloc::Global;
+use std::thread::Threads;
+
+/// Whether the record that a file holds explains the trace that another file holds: the numbers of the two, or the first fault.
+///
+/// Where the bytes are no trace's file, or then no record's file, the first fault from the front is answered, with its offset.
+/// `NoMemory` is answered where a growth was refused: nothing is known then.
+pub fn witness_bytes(
+    rt: &(impl Threads + Sync),
+    alloc: Global,
+    judging: Judging,
+    trace: &Payload,
+    record: &Payload,
+) -> Result<Witnessed, Fault>
+    ensures witnessed { IfOk result (IsWitnessed judging trace.now «record».now) }
+    ensures fault { IfErr result (IsUnwitnessedFault trace.now «record».now) }
+    // A record that explains the trace is answered to do so, unless memory was refused.
+    ensures accepted { (t : TraceView) (r : RecordView) → IsTraceFile trace.now t → IsRecordFile «record».now r → IsExplainedBy judging t r
+        → MatchResult result (λ witnessed. (numbers : Numbers) × (witnessed ≡ Ok numbers)) (λ fault. fault ≡ NoMemoryFault) }
+{
+    let traced = trace_of(alloc, trace)?;
+    let held = record_of(alloc, record)?;
+    let witnessed = witnessed_of(rt, alloc, judging, &traced, &held)?;
+    Ok(witnessed)
+}
+
+/// The trace that a file holds.
+fn trace_of(alloc: Global, bytes: &Payload) -> Result<Trace, Fault>
+    ensures read { IfOk result (λ t. trace_at bytes.now ≡ Ok t) }
+    ensures fault { IfErr result (λ fault. IsTraceFault bytes.now fault ⊎ (fault ≡ NoMemoryFault)) }
+{
+    match read_trace(alloc, bytes) {
+        Ok(trace) => Ok(trace),
+        Err(fault) => Err(Fault::of_trace(fault)),
+    }
+}
+
+/// What a witness answers of the two.
+fn witnessed_of(
+    rt: &(impl Threads + Sync),
+    alloc: Global,
+    judging: Judging,
+    trace: &Trace,
+    record: &Record,
+) -> Result<Witnessed, NoMemory>
+    ensures witnessed { IfOk result (IsWitnessedAs judging trace.now «record».now) }
+    ensures accepted { IsExplainedBy judging trace.now «record».now
+        → IfOk result (λ witnessed. (numbers : Numbers) × (witnessed ≡ Ok numbers)) }
+{
+    match witness(rt, alloc, judging, trace, record) {
+        Ok(explained) => Ok(Witnessed::explained(explained)),
+        Err(fault) => Ok(Witnessed::unexplained(fault)?),
+    }
+}
