@@ -262,7 +262,9 @@ fn write_witnessed<R: AllocGlobal + Files + Print + Eprint>(
     mut output: Output<'_, R>,
     witnessed: &Witnessed,
 ) -> Result<(), FileFault> {
-    let line = witnessed.line(rt.alloc())?;
+    let Ok(line) = witnessed.line(rt.alloc()) else {
+        return Err(FileFault::NoMemory);
+    };
     output.write_all(line.as_bytes())?;
     output.finish()
 }
