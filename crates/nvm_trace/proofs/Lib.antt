@@ -7,3 +7,4 @@ pub mod NoFault
 pub mod Moments
 pub mod Greatest
 pub mod Latest
+pub mod Sorting
