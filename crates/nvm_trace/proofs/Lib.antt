@@ -8,3 +8,4 @@ pub mod Moments
 pub mod Greatest
 pub mod Latest
 pub mod Sorting
+pub mod Walk
