@@ -9,3 +9,4 @@ pub mod Greatest
 pub mod Latest
 pub mod Sorting
 pub mod Walk
+pub mod UnitParts
