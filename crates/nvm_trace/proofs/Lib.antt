@@ -10,3 +10,4 @@ pub mod Latest
 pub mod Sorting
 pub mod Walk
 pub mod UnitParts
+pub mod RightSteps
