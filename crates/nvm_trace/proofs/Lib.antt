@@ -11,3 +11,4 @@ pub mod Sorting
 pub mod Walk
 pub mod UnitParts
 pub mod RightSteps
+pub mod Runs

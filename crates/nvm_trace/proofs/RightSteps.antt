@@ -1,7 +1,7 @@
 -- A part of a lawful record that is a step has its reply at its point, and leaves the next point or the same.
 use Rattle.std.proofs.Common.{◌≡◌, ◌⊎◌, ◌↔◌, ℕ, zero, suc, ◌+◌, ◌<◌, ◌≤◌, List, [], ◌∷◌, ◌++◌, length, length-append, map, cond, Bool, true, false, Option, Some, None, IsTrue, refl, sym, ap, subst, ◌∙◌, inl, inr, arith}
 use Rattle.std.proofs.lemmas.Bool.{cases_Bool}
-use Rattle.std.proofs.lemmas.Option.{none-some, cond_some}
+use Rattle.std.proofs.lemmas.Option.{none-some, same_Some, cond_some}
 use Rattle.std.specs.List.{AllByRecursion}
 use mathlib.Core.Option.{some-injective}
 use Rattle.nvm_record.specs.declared.status.Statuses.{Statuses}
@@ -99,7 +99,7 @@ part_ready : (ns : Namespace) (ready : Option Operation) (op part : Operation) (
 part_ready ns None op part unit is e = absurd (none-some op is)
 part_ready ns (Some other) op part unit is e =
     sym (cond_some (meets ns other unit) (part_in ns other unit) part e).1
-    ∙ ap (λ (o : Operation). part_in ns o unit) (cond_some true other op is).1
+    ∙ ap (λ (o : Operation). part_in ns o unit) (same_Some other op is)
 
 -- The operation has a part at this place, and the statuses are decided by the last.
 ended : (ns : Namespace) (op : Operation) (parts : List Part) (told : Statuses) (read : Option (List ℕ)) → HasShapeOf ns op parts told read

@@ -16,7 +16,7 @@ use Rattle.nvm_trace.specs.Linearization.{is_step}
 use Rattle.nvm_trace.specs.Steps.{times_of, step_of, steps_by, steps_of_part, steps_of_job, steps_of_work, steps_of}
 use Rattle.nvm_trace.proofs.Places.{none_stands, contained, placed, out_of_flat, into_flat}
 use Rattle.nvm_trace.proofs.ShownSteps.{IsShownPart}
-use Rattle.nvm_trace.proofs.Walk.{made_by}
+use Rattle.nvm_trace.proofs.Walk.{made_by, first_or_behind}
 
 module _ {A : Type 0} where
   -- What passes a test stands among all.
@@ -112,6 +112,9 @@ parts_come unit done i p at =
 abbrev pub step_shown_by : List TracedJob → RecordedPart → Step
 step_shown_by traced p = step_of (times_of traced p.done.job) p.done.job p.part (made_by p.part.result)
 
+only : {A : Type 0} (t s : A) → Contains (t ∷ []) s → t ≡ s
+only t s has = elim (first_or_behind t [] s has) [ inl same ↦ same | inr after ↦ let low = after.1 in absurd (omega (arith, low)) ]
+
 step_there : (times : Times) (job : ℕ) (part : Part) (result : PartResult) → is_step result ≡ true
     → Contains (steps_by times job part result) (step_of times job part (made_by result))
 step_there times job part Done is = contained (steps_by times job part Done) 0 (step_of times job part true) refl
@@ -119,6 +122,15 @@ step_there times job part Failed is = contained (steps_by times job part Failed)
 step_there times job part Looked is = contained (steps_by times job part Looked) 0 (step_of times job part false) refl
 step_there times job part NoMemory is = absurd (cc is)
 step_there times job part Full is = absurd (cc is)
+
+-- A part is one step.
+pub the_step : (times : Times) (job : ℕ) (part : Part) (result : PartResult) → is_step result ≡ true → (s : Step)
+    → Contains (steps_by times job part result) s → step_of times job part (made_by result) ≡ s
+the_step times job part Done is s has = only (step_of times job part true) s has
+the_step times job part Failed is s has = only (step_of times job part false) s has
+the_step times job part Looked is s has = only (step_of times job part false) s has
+the_step times job part NoMemory is s has = absurd (cc is)
+the_step times job part Full is s has = absurd (cc is)
 
 -- The record shows it.
 pub part_is_shown : (traced : List TracedJob) (done : List (List RecordedJob)) (p : RecordedPart) → IsShownPart done p.done p.part

@@ -2,7 +2,7 @@
 -- taken them, each at a moment between the beginning and the end of its command, and each with the reply that was recorded
 -- (own; Herlihy and Wing, "Linearizability", 1990). The store holds zero bytes at first. What was there before a trace is
 -- written by preparations, which began and ended at time 0, and no command of a trace began then.
-use Rattle.std.specs.Prelude.{◌≡◌, ℕ, ◌≤◌, List, [], ◌∷◌, map, filter, Bool, true, false, All}
+use Rattle.std.specs.Prelude.{◌≡◌, ℕ, ◌≤◌, List, [], ◌∷◌, map, filter, Bool, true, false, All, Contains}
 use Rattle.std.specs.List.Sorted.{IsPermutation, IsNonDecreasingBy}
 use Rattle.nvm_record.specs.Medium.{Medium, zero_medium}
 use Rattle.nvm_record.specs.Step.{Operation, statuses_of, medium_after}
@@ -13,8 +13,9 @@ use Rattle.nvm_plan.specs.declared.part.PartResult.TheVariants.{Done, Failed, Lo
 use Rattle.nvm_audit.specs.RecordedPart.{RecordedPart, parts_in_unit, told_of}
 use Rattle.nvm_audit.specs.RecordView.{RecordView}
 use Rattle.nvm_audit.specs.Resting.{DoesOperation, HasRightData}
+use Rattle.nvm_trace.specs.declared.step.Step.{Step}
 use Rattle.nvm_trace.specs.declared.traced_job.TracedJob.{TracedJob}
-use Rattle.nvm_trace.specs.Steps.{times_of}
+use Rattle.nvm_trace.specs.Steps.{times_of, steps_of_part}
 use Rattle.nvm_trace.specs.Timely.{HadEnded}
 
 -- One step: the part of a job that was recorded, what the whole job does, and the moment at which the step takes place.
@@ -65,3 +66,9 @@ pub record IsLinearization (jobs : List TracedJob) (r : RecordView) (unit : ℕ)
   pub in_order : IsNonDecreasingBy (λ s. s.moment) steps
   -- and one after the other, from zero bytes, they have the replies that were recorded.
   pub replies : HaveReplies r.namespace (zero_medium r.namespace.block_size) steps
+
+-- It takes place at the moment that the record's step has.
+abbrev pub IsAtMoment : List TracedJob → (Step → ℕ) → TakenStep → Type 0
+IsAtMoment jobs moment s =
+    (step : Step) → Contains (steps_of_part (times_of jobs s.part.done.job) s.part.done.job s.part.part) step
+    → s.moment ≡ moment step

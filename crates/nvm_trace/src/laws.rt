@@ -1,13 +1,13 @@
 //! What holds of explained traces by their definition alone. Each law is a call that does nothing and whose contract is the law.
 
-ghost use Rattle.std.specs.Prelude.{ℕ, ◌<◌, List};
+ghost use Rattle.std.specs.Prelude.{ℕ, ◌<◌, List, All};
 ghost use Rattle.nvm_geometry.specs.Boundaries.{units_of};
 ghost use Rattle.nvm_audit.specs.RecordView.{RecordView};
 ghost use Rattle.nvm_trace.specs.declared.step.Step.{Step as StepView};
 ghost use Rattle.nvm_trace.specs.declared.witness_fault.WitnessFault.{WitnessFault as Fault};
 ghost use Rattle.nvm_trace.specs.ExplainedBy.{IsExplainedBy};
 ghost use Rattle.nvm_trace.specs.FirstFault.{IsFirstWitnessFault};
-ghost use Rattle.nvm_trace.specs.Linearization.{TakenStep, IsLinearization};
+ghost use Rattle.nvm_trace.specs.Linearization.{TakenStep, IsAtMoment, IsLinearization};
 ghost use Rattle.nvm_trace.specs.Moments.{HaveMoments};
 ghost use Rattle.nvm_trace.specs.Steps.{steps_of};
 ghost use Rattle.nvm_trace.specs.Timely.{IsTimely};
@@ -28,12 +28,16 @@ pub fn explained_traces_have_moments()
     ensures timely { (steps : List StepView) → HaveMoments steps → IsTimely steps }
 {}
 
-/// Each atomic unit of an explained trace is linearizable: its steps, in the order of their moments, are a run of the step from zero
-/// bytes, in which each has the reply that the record shows.
+/// Each atomic unit of an explained trace is linearizable: its steps, in the order of their moments, are a run of the step from
+/// zero bytes, in which each has the reply that was recorded. So they are whichever moments they have.
 pub fn explained_traces_are_runs()
-    ensures { (t : TraceView) (r : RecordView) (unit : ℕ) → IsTraceable t → IsExplainedBy t r → unit < units_of r.namespace
-        → (steps : List TakenStep) × IsLinearization t.jobs r unit steps }
+    ensures unit { (t : TraceView) (r : RecordView) (unit : ℕ) → IsTraceable t → IsExplainedBy t r
+        → unit < units_of r.namespace → (steps : List TakenStep) × IsLinearization t.jobs r unit steps }
+    ensures moments { (t : TraceView) (r : RecordView) (unit : ℕ) (moments : HaveMoments (steps_of t.jobs r.done))
+        → IsExplainedBy t r → unit < units_of r.namespace → (steps : List TakenStep) × IsLinearization t.jobs r unit steps
+        × All (IsAtMoment t.jobs moments.moment) steps }
 {
+    explained_traces_have_moments();
     looks_change_nothing();
     next_point();
     parts_keep_their_kind();
