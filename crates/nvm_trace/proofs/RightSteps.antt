@@ -31,7 +31,7 @@ use Rattle.nvm_audit.specs.PointOrder.{least_after}
 use Rattle.nvm_audit.specs.RecordedPart.{RecordedPart, parts_in_unit, told_of_part, told_of}
 use Rattle.nvm_audit.specs.RecordView.{RecordView}
 use Rattle.nvm_audit.specs.Resting.{HasRightStatus, IsRightAtItsPoint}
-use Rattle.nvm_trace.specs.Linearization.{TakenStep, is_step}
+use Rattle.nvm_trace.specs.Linearization.{is_step}
 use Rattle.nvm_trace.proofs.Places.{none_stands, one_there}
 use Rattle.nvm_trace.proofs.UnitParts.{EndsAt, parts_come}
 use Rattle.nvm_trace.proofs.Walk.{made_by, point_after, IsRight}
@@ -186,7 +186,7 @@ module _ (laws : Laws) where
         let entry = made.0 in
         let of = its.entries p.part.point entry made.1 in
         let same : of.job ≡ job = one_there r.jobs p.done.job of.job job
-            (subst (λ (n : ℕ). IsAt r.jobs n of.job) made.2.job of.its) job_is in
+        (subst (λ (n : ℕ). IsAt r.jobs n of.job) made.2.job of.its) job_is in
         let part : job_part_in r.namespace job unit ≡ Some entry.operation =
         subst (λ (j : Job). job_part_in r.namespace j unit ≡ Some entry.operation) same of.part in
         let is : entry.operation ≡ part_in r.namespace whole p.part.unit =
@@ -236,12 +236,12 @@ module _ (laws : Laws) where
         let made = its.made i p at (is_done p.part.result first) in
         let more = its.made j q also (is_done q.part.result second) in
         let entry : made.0 ≡ more.0 = one_there history p.part.point made.0 more.0 made.1
-            (subst (λ (n : ℕ). IsAt history n more.0) (sym same) more.1) in
+        (subst (λ (n : ℕ). IsAt history n more.0) (sym same) more.1) in
         let worker : q.worker ≡ p.worker =
         sym more.2.worker ∙ ap (λ (e : HistoryEntry). e.pass) (sym entry) ∙ made.2.worker in
         let above : p.part.point + 1 ≤ q.part.point =
         subst (λ (result : PartResult). least_after p.part result ≤ q.part.point) (is_done p.part.result first)
-            (its.order i j p q at also low worker) in
+        (its.order i j p q at also low worker) in
         omega (arith, above, same)
 
     -- Each entry was made by a part.

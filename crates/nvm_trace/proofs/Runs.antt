@@ -1,11 +1,10 @@
 -- Each unit of a lawful record has a linearization, in the order of the moments that its steps have.
-use Rattle.std.proofs.Common.{◌≡◌, ◌⊎◌, ℕ, zero, suc, ◌+◌, ◌<◌, ◌≤◌, List, [], ◌∷◌, length, take, get_or, map, filter, cond, All, Contains, Bool, true, false, IsPermutation, refl, sym, ap, subst, ◌∙◌, inl, inr, arith}
+use Rattle.std.proofs.Common.{◌≡◌, ℕ, zero, suc, ◌<◌, ◌≤◌, List, [], ◌∷◌, length, take, get_or, map, filter, cond, All, Contains, Bool, true, false, IsPermutation, refl, sym, ap, subst, ◌∙◌, inl, inr, arith}
 use Rattle.std.proofs.lemmas.Bool.{cases_Bool}
 use Rattle.std.proofs.lemmas.List.Elements.{All-nil, All-cons, All-head, All-tail, All-weaker}
 use Rattle.std.proofs.lemmas.List.Sorted.{IsPermutation-map, All-permutation, Contains-permutation}
 use mathlib.Core.Option.{some-injective}
 use Rattle.nvm_record.specs.Lists.{IsAt}
-use Rattle.nvm_record.specs.Medium.{zero_medium}
 use Rattle.nvm_geometry.specs.Boundaries.{units_of}
 use Rattle.nvm_plan.specs.declared.part.PartResult.{PartResult}
 use Rattle.nvm_plan.specs.declared.part.PartResult.TheVariants.{Done}
@@ -13,17 +12,16 @@ use Rattle.nvm_store.specs.HistoryEntry.{HistoryEntry}
 use Rattle.nvm_audit.specs.LawfulRecord.{IsLawfulRecord}
 use Rattle.nvm_audit.specs.RecordedPart.{RecordedPart, parts_in_unit}
 use Rattle.nvm_audit.specs.RecordView.{RecordView}
-use Rattle.nvm_trace.specs.declared.step.Step.{Step}
 use Rattle.nvm_trace.specs.declared.traced_job.TracedJob.{TracedJob}
-use Rattle.nvm_trace.specs.Linearization.{TakenStep, IsInTime, HaveReplies, is_step, step_parts, IsLinearization, IsAtMoment}
+use Rattle.nvm_trace.specs.Linearization.{TakenStep, IsInTime, is_step, IsLinearization, IsAtMoment}
 use Rattle.nvm_trace.specs.Moments.{HaveMoments}
 use Rattle.nvm_trace.specs.Order.{Precedes}
 use Rattle.nvm_trace.specs.Steps.{times_of, steps_of}
-use Rattle.nvm_trace.proofs.Places.{none_stands, below, contained, some_there, in_filter}
+use Rattle.nvm_trace.proofs.Places.{none_stands, contained, some_there, in_filter}
 use Rattle.nvm_trace.proofs.RightSteps.{Laws, rests_there, right, made_apart, each_made}
-use Rattle.nvm_trace.proofs.Sorting.{Pairwise, Sorted, sorted, never_falls}
+use Rattle.nvm_trace.proofs.Sorting.{Pairwise, sorted, never_falls}
 use Rattle.nvm_trace.proofs.UnitParts.{parts_come, part_is_shown, step_shown_by, the_step}
-use Rattle.nvm_trace.proofs.Walk.{made_by, made, point_of, NotAfter, MadeApart, apart_back, not_after_order, IsRight, MakeEntry, walk}
+use Rattle.nvm_trace.proofs.Walk.{made_by, NotAfter, MadeApart, apart_back, not_after_order, IsRight, MakeEntry, walk}
 
 out_of_map : {A B : Type 0} (f : A → B) (xs : List A) (i : ℕ) (y : B) → IsAt (map f xs) i y → (x : A) × IsAt xs i x × (f x ≡ y)
 out_of_map f [] i y at = absurd (none_stands i y at)
@@ -120,9 +118,9 @@ module _ (laws : Laws) (jobs : List TracedJob) (r : RecordView) (lawful : IsLawf
         known = All-cons IsKnown take.taken rest.steps take.known rest.known;
         apart = (
           All-weaker (λ s. StandsIn ps s.part) (MadeApart take.taken)
-          (λ s at.
-          far 0 (suc at.0) take.taken.part s.part
-          (subst (λ (q : RecordedPart). IsAt (p ∷ ps) 0 q) (sym take.part_is) refl) at.1 (omega arith)) rest.steps rest.from,
+              (λ s at.
+              far 0 (suc at.0) take.taken.part s.part
+              (subst (λ (q : RecordedPart). IsAt (p ∷ ps) 0 q) (sym take.part_is) refl) at.1 (omega arith)) rest.steps rest.from,
           rest.apart,
         );
       }
@@ -157,7 +155,7 @@ module _ (laws : Laws) (jobs : List TracedJob) (r : RecordView) (lawful : IsLawf
   all_rise [] order known = tt
   all_rise (s ∷ steps) order known = (
     λ k d low.
-    moments_rise s (get_or steps k d) (All-head IsKnown s steps known) (All-tail IsKnown s steps known k d low) (order.0 k d low),
+        moments_rise s (get_or steps k d) (All-head IsKnown s steps known) (All-tail IsKnown s steps known k d low) (order.0 k d low),
     all_rise steps order.1 (All-tail IsKnown s steps known),
   )
 
@@ -171,17 +169,17 @@ module _ (laws : Laws) (jobs : List TracedJob) (r : RecordView) (lawful : IsLawf
       let known = All-permutation IsKnown built.steps list.ys list.same built.known in
       let each_entry : (k : ℕ) → 0 ≤ k → k < length history → MakeEntry r.namespace history list.ys k =
       λ k from low.
-          let entry = some_there history k low in
-          let maker = each_made laws r lawful unit history there k entry.0 entry.1 in
-          let p = maker.1 in
-          let kept = in_filter (λ (q : RecordedPart). is_step q.part.result) parts maker.0 p maker.2 (is_step_done p.part.result maker.3) in
-          let found = out_of_map (λ (s : TakenStep). s.part) built.steps kept.0 p
-          (subst (λ (l : List RecordedPart). IsAt l kept.0 p) (sym built.are) kept.1) in (
-            found.0,
-            Contains-permutation built.steps list.ys found.0 list.same (contained built.steps kept.0 found.0 found.1),
-            ap (λ (q : RecordedPart). made_by q.part.result) found.2 ∙ ap made_by maker.3,
-            ap (λ (q : RecordedPart). q.part.point) found.2 ∙ maker.4,
-          ) in (
+      let entry = some_there history k low in
+      let maker = each_made laws r lawful unit history there k entry.0 entry.1 in
+      let p = maker.1 in
+      let kept = in_filter (λ (q : RecordedPart). is_step q.part.result) parts maker.0 p maker.2 (is_step_done p.part.result maker.3) in
+      let found = out_of_map (λ (s : TakenStep). s.part) built.steps kept.0 p
+      (subst (λ (l : List RecordedPart). IsAt l kept.0 p) (sym built.are) kept.1) in (
+        found.0,
+        Contains-permutation built.steps list.ys found.0 list.same (contained built.steps kept.0 found.0 found.1),
+        ap (λ (q : RecordedPart). made_by q.part.result) found.2 ∙ ap made_by maker.3,
+        ap (λ (q : RecordedPart). q.part.point) found.2 ∙ maker.4,
+      ) in (
         list.ys,
         record {
           whole =
@@ -194,7 +192,7 @@ module _ (laws : Laws) (jobs : List TracedJob) (r : RecordView) (lawful : IsLawf
               (All-weaker IsKnown (IsRight r.namespace history) (λ s is. is.is_right) list.ys known) (λ k d low. omega arith) each_entry;
         },
         All-weaker IsKnown (IsAtMoment jobs moments.moment)
-        (λ s is step has. is.at_moment ∙ ap moments.moment (the_step (times_of jobs s.part.done.job) s.part.done.job s.part.part s.part.part.result is.is step has)) list.ys known,
+            (λ s is step has. is.at_moment ∙ ap moments.moment (the_step (times_of jobs s.part.done.job) s.part.done.job s.part.part s.part.part.result is.is step has)) list.ys known,
       )
 
 -- Each unit of the namespace has a history.

@@ -1,5 +1,5 @@
 -- A list in order has the elements of another, where each two of them have an order.
-use Rattle.std.proofs.Common.{◌≡◌, ◌⊎◌, ℕ, zero, suc, ◌<◌, ◌≤◌, List, [], ◌∷◌, length, get_or, All, IsPermutation, refl, inl, inr, arith}
+use Rattle.std.proofs.Common.{◌⊎◌, ℕ, zero, suc, ◌≤◌, List, [], ◌∷◌, All, IsPermutation, inl, inr, arith}
 use Rattle.std.proofs.lemmas.List.Elements.{All-nil, All-cons, All-head, All-tail, All-weaker}
 use Rattle.std.proofs.lemmas.List.Sorted.{IsPermutation-refl, IsPermutation-trans, IsPermutation-cons, IsPermutation-middle, All-permutation}
 use Rattle.std.specs.List.Sorted.{IsNonDecreasingBy}
@@ -47,9 +47,11 @@ module _ {A : Type 0} (before apart : A → A → Type 0) (is_order : IsOrder be
               IsPermutation-trans (x ∷ y ∷ ys) (y ∷ x ∷ ys) (y ∷ rest.ys) (IsPermutation-middle (x ∷ []) y ys)
               (IsPermutation-cons y (x ∷ ys) rest.ys rest.same);
           in_order = (All-permutation (before y) (x ∷ ys) rest.ys rest.same (All-cons (before y) x ys second rise.0), rest.in_order);
-          all_apart =
-              (All-permutation (apart y) (x ∷ ys) rest.ys rest.same
-              (All-cons (apart y) x ys (back x y (All-head (apart x) y ys far)) pairs.0), rest.all_apart);
+          all_apart = (
+            All-permutation (apart y) (x ∷ ys) rest.ys rest.same
+                (All-cons (apart y) x ys (back x y (All-head (apart x) y ys far)) pairs.0),
+            rest.all_apart,
+          );
         }
   ]
 

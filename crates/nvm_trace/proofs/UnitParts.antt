@@ -1,8 +1,8 @@
 -- Where the parts that name a unit come from, and that they are among the steps that a record shows.
-use Rattle.std.proofs.Common.{◌≡◌, ℕ, zero, suc, ◌+◌, ◌<◌, nat_eq, List, [], ◌∷◌, length, filter, cond, Bool, true, false, Contains, refl, sym, ap, subst, inl, inr, arith}
+use Rattle.std.proofs.Common.{◌≡◌, ℕ, zero, suc, ◌+◌, ◌<◌, nat_eq, List, [], ◌∷◌, length, filter, cond, Bool, true, false, Contains, refl, sym, subst, inl, inr, arith}
 use Rattle.std.proofs.lemmas.Bool.{eqb-true}
 use Rattle.std.proofs.lemmas.List.Elements.{Contains-append_cases}
-use mathlib.Core.Option.{some, some-injective}
+use mathlib.Core.Option.{some-injective}
 use Rattle.nvm_record.specs.Lists.{IsAt}
 use Rattle.nvm_plan.specs.declared.part.Part.{Part}
 use Rattle.nvm_plan.specs.declared.part.PartResult.{PartResult}
@@ -103,8 +103,8 @@ pub parts_come : (unit : ℕ) (done : List (List RecordedJob)) (i : ℕ) (p : Re
 parts_come unit done i p at =
     let from = out_of_filter (λ (q : RecordedPart). nat_eq q.part.unit unit) (parts_of_workers 0 done) i p at in (
       come_of_workers done 0 0 done
-      (λ k work there. let number : k ≡ 0 + k = omega arith in subst (λ (n : ℕ). IsAt done n work) number there) p
-      (contained (parts_of_workers 0 done) from.1 p from.2),
+          (λ k work there. let number : k ≡ 0 + k = omega arith in subst (λ (n : ℕ). IsAt done n work) number there) p
+          (contained (parts_of_workers 0 done) from.1 p from.2),
       eqb-true p.part.unit unit from.0,
     )
 

@@ -67,7 +67,7 @@ pub record IsLinearization (jobs : List TracedJob) (r : RecordView) (unit : ℕ)
   -- and one after the other, from zero bytes, they have the replies that were recorded.
   pub replies : HaveReplies r.namespace (zero_medium r.namespace.block_size) steps
 
--- It takes place at the moment that the record's step has.
+-- It takes place at the moment that these moments give to its part's step.
 abbrev pub IsAtMoment : List TracedJob → (Step → ℕ) → TakenStep → Type 0
 IsAtMoment jobs moment s =
     (step : Step) → Contains (steps_of_part (times_of jobs s.part.done.job) s.part.done.job s.part.part) step
