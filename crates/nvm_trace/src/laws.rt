@@ -31,7 +31,7 @@ pub fn explained_traces_have_moments()
 /// Each atomic unit of an explained trace is linearizable: its steps, in the order of their moments, are a run of the step from
 /// zero bytes, in which each has the reply that was recorded. So they are whichever moments they have.
 pub fn explained_traces_are_runs()
-    ensures unit { (t : TraceView) (r : RecordView) (unit : ℕ) → IsTraceable t → IsExplainedBy t r
+    ensures linearizable { (t : TraceView) (r : RecordView) (unit : ℕ) → IsTraceable t → IsExplainedBy t r
         → unit < units_of r.namespace → (steps : List TakenStep) × IsLinearization t.jobs r unit steps }
     ensures moments { (t : TraceView) (r : RecordView) (unit : ℕ) (moments : HaveMoments (steps_of t.jobs r.done))
         → IsExplainedBy t r → unit < units_of r.namespace → (steps : List TakenStep) × IsLinearization t.jobs r unit steps

@@ -16,8 +16,8 @@ linearized : Laws → (jobs : List TracedJob) (r : RecordView) → IsLawfulRecor
 linearized laws jobs r lawful moments unit low =
     let history = unit_there r lawful unit low in runs laws jobs r lawful moments unit history.0 history.1
 
-pub returns-clause-unit : goal.returns-clause-unit
-returns-clause-unit c t r unit held explained low =
+pub returns-clause-linearizable : goal.returns-clause-linearizable
+returns-clause-linearizable c t r unit held explained low =
     let laws : Laws = record {
       looks = c.looks_change_nothing.ensures;
       next = c.next_point.ensures;
