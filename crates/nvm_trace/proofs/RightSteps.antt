@@ -112,6 +112,10 @@ ended ns op parts told read shape i part at = elim shape.ending [
   ]
 ]
 
+-- what is told of success, of a pair or else
+abbrev success_for : Bool → Statuses
+success_for b = cond b (Two successful_completion successful_completion) (One successful_completion)
+
 -- What was told of a part that was done is success.
 told_success : (ns : Namespace) (op : Operation) (parts : List Part) (told : Statuses)
     → (IsPair op.deed → units_met ns op ≡ unit_number ns op.first ∷ []) → EndsAtLast ns op parts told
@@ -128,7 +132,7 @@ told_success ns op parts told one e i part at done false ends = elim (cases_Bool
       let sum = length-append (map (λ (q : Part). q.unit) parts) e.left in
       let mapped = length_mapped (λ (q : Part). q.unit) parts in
       absurd (omega (arith, ends, long, sum, mapped))
-  | inr single ↦ sym (ap (λ (b : Bool). cond b (Two successful_completion successful_completion) (One successful_completion)) single)
+  | inr single ↦ sym (ap success_for single)
 ]
 
 is_done : (result : PartResult) → made_by result ≡ true → result ≡ Done
@@ -212,7 +216,7 @@ module _ (laws : Laws) where
         let ends = ended ns whole p.done.parts p.done.statuses p.done.payload shape from.i p.part from.its in
         let can = all_here (λ (q : Part). IsTrue (can_have whole.deed q.result)) p.done.parts ends.results from.i p.part from.its in
         let kind : success_of whole.deed ≡ success_of op.deed =
-        ap (λ (b : Bool). cond b (Two successful_completion successful_completion) (One successful_completion)) (sym (laws.pair ns whole p.part.unit)) in
+        ap success_for (sym (laws.pair ns whole p.part.unit)) in
         record {
           within = rests.within;
           reply = record {

@@ -192,7 +192,10 @@ module _ (laws : Laws) (jobs : List TracedJob) (r : RecordView) (lawful : IsLawf
               (All-weaker IsKnown (IsRight r.namespace history) (λ s is. is.is_right) list.ys known) (λ k d low. omega arith) each_entry;
         },
         All-weaker IsKnown (IsAtMoment jobs moments.moment)
-            (λ s is step has. is.at_moment ∙ ap moments.moment (the_step (times_of jobs s.part.done.job) s.part.done.job s.part.part s.part.part.result is.is step has)) list.ys known,
+            (λ s is step has.
+            let part = s.part.part in
+            is.at_moment
+            ∙ ap moments.moment (the_step (times_of jobs s.part.done.job) s.part.done.job part part.result is.is step has)) list.ys known,
       )
 
 -- Each unit of the namespace has a history.

@@ -28,8 +28,9 @@ pub fn explained_traces_have_moments()
     ensures timely { (steps : List StepView) → HaveMoments steps → IsTimely steps }
 {}
 
-/// Each atomic unit of an explained trace is linearizable: its steps, in the order of their moments, are a run of the step from
-/// zero bytes, in which each has the reply that was recorded. So they are whichever moments they have.
+/// Linearizability of each atomic unit of an explained trace: the steps that the record shows there, in the order of their
+/// moments, are a run of the step from zero bytes, in which each has the reply that was recorded. That is so whichever moments
+/// they have.
 pub fn explained_traces_are_runs()
     ensures linearizable { (t : TraceView) (r : RecordView) (unit : ℕ) → IsTraceable t → IsExplainedBy t r
         → unit < units_of r.namespace → (steps : List TakenStep) × IsLinearization t.jobs r unit steps }
