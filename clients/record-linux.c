@@ -38,7 +38,8 @@ enum { MOST_BLOCKS = 65536, MOST_UNITS = 4096, MOST_HOSTS = 64, MOST_COMMANDS = 
 /* Opcodes of commands, and of Identify, as the standard has them. */
 enum { WRITE = 0x01, READ = 0x02, COMPARE = 0x05, ZEROES = 0x08, DATASET = 0x09, IDENTIFY = 0x06 };
 
-enum { INTERNAL_ERROR = 0x006 };
+/* Statuses: type * 256 + code. */
+enum { INTERNAL_ERROR = 0x006, COMPARE_FAILURE = 0x285 };
 
 enum mode { DIRECT, BUFFERED, MAPPED, NVME };
 
@@ -56,7 +57,7 @@ struct command {
     struct block *blocks;  /* of a Write, a Compare, and a Read that succeeded */
     uint32_t lba;
     uint32_t count;
-    uint16_t status; /* type * 256 + code */
+    uint16_t status;
     uint8_t opcode;
 };
 
@@ -442,7 +443,7 @@ static void print_trace(FILE *out, struct host *hosts) {
         for (uint32_t place = 0; place < hosts[number].begun; place++) {
             struct command *command = &hosts[number].commands[place];
             all[count++] = (struct listed){&hosts[number], command, place};
-            errors += command->ended && command->status;
+            errors += command->ended && command->status && command->status != COMPARE_FAILURE;
             unended += !command->ended;
             last_end = command->ended > last_end ? command->ended : last_end;
         }
