@@ -338,9 +338,7 @@ fn refusal(space: &Namespace, body: &[Command]) -> Option<[Status; 2]> {
                 Some([INVALID_FIELD, INVALID_FIELD])
             } else if compare.end() > space.nsze {
                 Some([OUT_OF_RANGE, FUSED_ABORTED])
-            } else if compare.blocks > u32::from(space.nacwu) + 1
-                || space.unit(compare.first) != space.unit(compare.end() - 1)
-            {
+            } else if compare.blocks > u32::from(space.nacwu) + 1 || space.unit(compare.first) != space.unit(compare.end() - 1) {
                 Some([UNIT_EXCEEDED, FUSED_ABORTED])
             } else {
                 None
@@ -564,8 +562,7 @@ impl Record {
 
     /// The line of a lawful record.
     fn lawful(&self) -> String {
-        let (jobs, units, changes, refused) =
-            (self.jobs.len(), self.histories.len(), self.changes(), self.refused());
+        let (jobs, units, changes, refused) = (self.jobs.len(), self.histories.len(), self.changes(), self.refused());
         format!("lawful jobs {jobs} units {units} changes {changes} refused {refused}\n")
     }
 }
@@ -744,8 +741,7 @@ fn run(space: Namespace, commands: Vec<Command>, jobs: Vec<Job>, workers: usize)
         bytes_left = rest;
         let (own_marks, rest) = marks_left.split_at_mut(blocks);
         marks_left = rest;
-        let medium =
-            Medium { bytes: own_bytes, marks: own_marks, has_marks: false, block: space.block, begin: span.start };
+        let medium = Medium { bytes: own_bytes, marks: own_marks, has_marks: false, block: space.block, begin: span.start };
         units.push(Shared(Mutex::new(Unit { medium, entries: Vec::new() })));
     }
     let engine = Engine { space, commands: &commands, jobs: &jobs, units: &units, next: AtomicUsize::new(0) };
@@ -768,10 +764,8 @@ fn run(space: Namespace, commands: Vec<Command>, jobs: Vec<Job>, workers: usize)
         ended.extend(others.into_iter().map(|other| other.join().unwrap()));
         ended
     });
-    let histories = units
-        .into_iter()
-        .map(|unit| History { entries: unit.0.into_inner().unwrap().entries, spelled: None })
-        .collect();
+    let histories =
+        units.into_iter().map(|unit| History { entries: unit.0.into_inner().unwrap().entries, spelled: None }).collect();
     Record { space, commands, jobs, histories, workers }
 }
 
@@ -824,7 +818,13 @@ struct Room {
 
 impl Room {
     /// A unit of zero bytes.
-    fn medium<'a>(bytes: &'a mut Vec<u8>, marks: &'a mut Vec<bool>, is_used: bool, span: &Range<u64>, block: usize) -> Medium<'a> {
+    fn medium<'a>(
+        bytes: &'a mut Vec<u8>,
+        marks: &'a mut Vec<bool>,
+        is_used: bool,
+        span: &Range<u64>,
+        block: usize,
+    ) -> Medium<'a> {
         let blocks = (span.end - span.start) as usize;
         if bytes.len() < blocks * block {
             *bytes = vec![0; blocks * block];
