@@ -483,6 +483,7 @@ struct Done {
     data: Option<&'static [u8]>,
     parts_at: u32,
     job: u32,
+    /// The second is 0/00 where there is one command.
     statuses: [Status; 2],
     parts: u16,
     worker: u8,
@@ -490,8 +491,8 @@ struct Done {
 
 impl Done {
     /// Whether memory or room was wanted.
-    fn is_refused(&self, is_pair: bool) -> bool {
-        self.statuses[0] == INTERNAL_ERROR || is_pair && self.statuses[1] == INTERNAL_ERROR
+    fn is_refused(&self) -> bool {
+        self.statuses.contains(&INTERNAL_ERROR)
     }
 }
 
@@ -557,7 +558,7 @@ impl Record {
 
     fn refused(&self) -> usize {
         let done = self.workers.iter().flat_map(|worker| &worker.done);
-        done.filter(|it| it.is_refused(self.jobs[it.job as usize].is_pair)).count()
+        done.filter(|it| it.is_refused()).count()
     }
 
     /// The line of a lawful record.
@@ -665,17 +666,17 @@ impl Working<'_, '_> {
             let status = unit.medium.look(lead, &part);
             if status != SUCCESS {
                 drop(guard);
-                let result = if body.len() == 2 { FAILED } else { LOOKED };
+                let (result, second) = if body.len() == 2 { (FAILED, FUSED_ABORTED) } else { (LOOKED, SUCCESS) };
                 self.note(number_of_unit, point, result);
-                return ([status, FUSED_ABORTED], None);
+                return ([status, second], None);
             }
             let mut result = LOOKED;
             if last.changes() {
                 if point == engine.space.limit as usize {
                     drop(guard);
                     self.note(number_of_unit, point, FULL);
-                    let statuses = [INTERNAL_ERROR, SUCCESS];
-                    return (if body.len() == 2 { [SUCCESS, INTERNAL_ERROR] } else { statuses }, None);
+                    let statuses = if body.len() == 2 { [SUCCESS, INTERNAL_ERROR] } else { [INTERNAL_ERROR, SUCCESS] };
+                    return (statuses, None);
                 }
                 unit.medium.change(last, &part);
                 unit.entries.push(Entry { job: number, worker: self.number });

@@ -519,7 +519,9 @@ static void open_target(void) {
     if (!stands && asked.mode == NVME) {
         fail("%s: %s; --mode nvme wants an NVMe character device, as /dev/ng0n1 is", asked.target, strerror(errno));
     }
-    target = open(asked.target, stands ? flags : flags | O_CREAT | O_EXCL, 0600);
+    /* Of a block device O_EXCL asks that nobody else has it, such as a mounted file system. */
+    bool is_alone = !stands || S_ISBLK(standing.st_mode);
+    target = open(asked.target, flags | (stands ? 0 : O_CREAT) | (is_alone ? O_EXCL : 0), 0600);
     if (target < 0) {
         const char *why = asked.mode == DIRECT && errno == EINVAL ? "its file system doesn't take O_DIRECT" : strerror(errno);
         fail("cannot open %s: %s", asked.target, why);
