@@ -14,6 +14,7 @@
 //!
 //! - Its faults begin with `plain`, and no hint stands below them. Words that aren't understood are told in its own words.
 //! - No progress is shown on a terminal.
+//! - Where standard input is closed, it is an empty file.
 //! - Where memory is refused, it is aborted. So it never answers 0/06 for want of memory, only for a full history.
 
 use std::cmp::Ordering::{Equal, Greater, Less};
