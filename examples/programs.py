@@ -171,6 +171,10 @@ class Programs:
         self.folder = folder
         self.passed, self.failed = 0, 0
 
+    def path_of(self, name):
+        """Where the program of this name was built."""
+        return os.path.join(TOP, "crates", name, "out", name)
+
     def keep(self, name, content):
         with open(os.path.join(self.folder, name), "wb") as file:
             file.write(content if isinstance(content, bytes) else content.encode())
@@ -181,9 +185,8 @@ class Programs:
 
     def expect(self, words, status=0, out=b"", err=b"", given=b"", files=None, **how):
         """Holds a run to its status, to what it writes on both streams, and to the files that it writes."""
-        program = os.path.join(TOP, "crates", words[0], "out", words[0])
         done = subprocess.run(
-            [program, *words[1:]], input=given, capture_output=True, cwd=self.folder, timeout=60, umask=0o022, **how
+            [self.path_of(words[0]), *words[1:]], input=given, capture_output=True, cwd=self.folder, timeout=60, umask=0o022, **how
         )
         found = [done.returncode, done.stdout, done.stderr]
         wanted = [status, *(text if text is SOME or isinstance(text, bytes) else text.encode() for text in (out, err))]
@@ -198,8 +201,7 @@ class Programs:
 
     def status_of(self, words, stdin=subprocess.DEVNULL, **how):
         """The status of a run, and what it says on standard error."""
-        program = os.path.join(TOP, "crates", words[0], "out", words[0])
-        done = subprocess.run([program, *words[1:]], stdin=stdin, stderr=subprocess.PIPE, cwd=self.folder, timeout=60, **how)
+        done = subprocess.run([self.path_of(words[0]), *words[1:]], stdin=stdin, stderr=subprocess.PIPE, cwd=self.folder, timeout=60, **how)
         return done.returncode, done.stderr
 
     def hold(self, told, found, wanted):

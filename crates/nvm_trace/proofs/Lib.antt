@@ -7,3 +7,8 @@ pub mod NoFault
 pub mod Moments
 pub mod Greatest
 pub mod Latest
+pub mod Sorting
+pub mod Walk
+pub mod UnitParts
+pub mod RightSteps
+pub mod Runs

@@ -12,4 +12,5 @@ pub mod Numbers
 pub mod Shown
 pub mod Taking
 pub mod Moments
+pub mod Linearization
 pub mod Inside
