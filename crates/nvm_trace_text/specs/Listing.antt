@@ -13,6 +13,7 @@ use Rattle.nvm_trace.specs.declared.start.Start.{Start}
 use Rattle.nvm_trace.specs.declared.start.Start.TheVariants.{Zeroes, Unknown}
 use Rattle.nvm_trace.specs.declared.traced_job.Ending.{Ending}
 use Rattle.nvm_trace.specs.declared.traced_job.TracedJob.{TracedJob}
+use Rattle.nvm_trace_text.specs.declared.head.Numbers.{Numbers}
 
 abbrev pub start_word : Start → List ℕ
 start_word Zeroes = codes "zeroes"
@@ -22,17 +23,25 @@ abbrev pub reads_word : Reads → List ℕ
 reads_word Whole = codes "whole"
 reads_word ByBlocks = codes "by-blocks"
 
-unfoldable pub head_line : Namespace → ℕ → Start → Reads → List ℕ
-head_line ns lba start reads =
-    codes "trace nsze " ++ (decimal ns.nsze
-    ++ (codes " block " ++ (decimal ns.block_size
-    ++ (codes " nabsn " ++ (decimal ns.nabsn
-    ++ (codes " nabo " ++ (decimal ns.nabo
-    ++ (codes " nawun " ++ (decimal ns.nawun
-    ++ (codes " nacwu " ++ (decimal ns.nacwu
-    ++ (codes " first " ++ (decimal lba
-    ++ (codes " start " ++ (start_word start
-    ++ (codes " reads " ++ (reads_word reads ++ codes "\n")))))))))))))))))
+unfoldable pub numbers_text : Numbers → List ℕ
+numbers_text n =
+    codes "trace nsze " ++ (decimal n.nsze
+    ++ (codes " block " ++ (decimal n.block
+    ++ (codes " nabsn " ++ (decimal n.nabsn
+    ++ (codes " nabo " ++ (decimal n.nabo ++ (codes " nawun " ++ (decimal n.nawun ++ (codes " nacwu " ++ decimal n.nacwu))))))))))
+
+unfoldable pub known_text : ℕ → Start → Reads → List ℕ
+known_text lba start reads =
+    codes " first " ++ (decimal lba
+    ++ (codes " start " ++ (start_word start ++ (codes " reads " ++ (reads_word reads ++ codes "\n")))))
+
+-- the numbers of a namespace
+abbrev pub numbers_in : Namespace → Numbers
+numbers_in ns =
+    record { nsze = ns.nsze; block = ns.block_size; nabsn = ns.nabsn; nabo = ns.nabo; nawun = ns.nawun; nacwu = ns.nacwu }
+
+abbrev pub head_line : TraceView → List ℕ
+head_line t = numbers_text (numbers_in t.namespace) ++ known_text t.first t.start t.reads
 
 -- `-` where it never ended
 abbrev pub end_text : Option Ending → List ℕ
@@ -63,4 +72,4 @@ job_lines [] = []
 job_lines (j ∷ js) = job_line j ++ job_lines js
 
 abbrev pub text_of : TraceView → List ℕ
-text_of t = head_line t.namespace t.first t.start t.reads ++ job_lines t.jobs
+text_of t = head_line t ++ job_lines t.jobs

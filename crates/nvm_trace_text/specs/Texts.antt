@@ -66,7 +66,7 @@ FailBehind t line (text ∷ texts) fault =
 -- The words are a head of a namespace's numbers.
 pub record IsHead (words : List (List ℕ)) (h : Head) : Type 0 where
   pub read : head words ≡ Ok h
-  pub numbers : HasNoFault (namespace_in h)
+  pub numbers : HasNoFault (namespace_in h.numbers)
 
 abbrev pub UnderHead : List (List ℕ) → Type 0 → (TraceView → Type 0) → Type 0
 UnderHead [] later behind = later
@@ -85,7 +85,7 @@ IsTraceUnder words t = (h : Head) × IsHead words h × (t ≡ trace_under h)
 abbrev pub IsHeadFault : ℕ → List (List ℕ) → TextFault → Type 0
 IsHeadFault line words fault =
     ((e : TraceExpected) × (head words ≡ Err e) × (fault ≡ Line line e))
-    ⊎ ((h : Head) × (f : GeometryFault) × (head words ≡ Ok h) × IsFirstGeometryFault (namespace_in h) f × (fault ≡ Line line (Geometry f)))
+    ⊎ ((h : Head) × (f : GeometryFault) × (head words ≡ Ok h) × IsFirstGeometryFault (namespace_in h.numbers) f × (fault ≡ Line line (Geometry f)))
 
 abbrev pub FailsAtHead : ℕ → List (List ℕ) → TextFault → Type 0 → (TraceView → Type 0) → Type 0
 FailsAtHead line [] fault later behind = later

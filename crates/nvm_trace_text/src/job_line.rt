@@ -31,7 +31,7 @@ fn job_of(
     told: Option<&[u8]>,
     size: BlockSize,
 ) -> Result<TracedJob, LineFault>
-    ensures { Gives (λ j. j) result (spec.job_of size (words_in words.now) (now_if_any second) (now_if_any told)) }
+    ensures { Gives (λ j. j) result (spec.job_of size (words_in words.now) (now_if_any second.entry) (now_if_any told.entry)) }
 {
     let (began, rest) = field(words, 1, u64::MAX, TraceExpected::Began)?;
     let (ended, rest) = end_time(rest)?;
@@ -65,7 +65,7 @@ fn body_with(
     second: Option<&[u8]>,
     size: BlockSize,
 ) -> Result<Body, LineFault>
-    ensures { Gives (λ b. b) result (spec.body_with size first (now_if_any second)) }
+    ensures { Gives (λ b. b) result (spec.body_with size first (now_if_any second.entry)) }
 {
     match second {
         Some(words) => Ok(Body::Pair(first, identified(alloc, words, size)?)),

@@ -1,10 +1,11 @@
 ghost use Rattle.std.specs.Prelude.{◌≡◌, ◌⊎◌, ◌+◌, ◌<◌, ◌^◌, IfOk, IfErr, OnOk, OnErr};
+ghost use Rattle.nvm_geometry.specs.Faults.{HasNoFault, IsFirstGeometryFault};
 ghost use Rattle.nvm_list.specs.Rest.{parts_left, bytes_left};
 ghost use Rattle.nvm_list.specs.Words.{is, words_in};
 ghost use Rattle.nvm_trace.specs.Taking.{CanTake, Applies};
 ghost use Rattle.nvm_trace.specs.TraceView.{TraceView};
 ghost use Rattle.nvm_trace.specs.declared.trace_fault.TraceFault.{TraceFault as Unfitness};
-ghost use Rattle.nvm_trace_text.specs.Head.{trace_under};
+ghost use Rattle.nvm_trace_text.specs.Head.{namespace_in};
 ghost use Rattle.nvm_trace_text.specs.Inside.Answers.{Gives};
 ghost use Rattle.nvm_trace_text.specs.Texts as spec;
 ghost use Rattle.nvm_trace_text.specs.Texts.{IsTextOf, IsTextFault, IsHead, IsHeadFault, SayBehind, FailBehind};
@@ -14,9 +15,9 @@ ghost use Rattle.nvm_trace_text.specs.declared.fault.TextFault.TheVariants.{Line
 use crate::expected::TraceExpected;
 use crate::fault::{LineFault, TextFault};
 use crate::fields::is_end;
-use crate::head::read_head;
+use crate::head::{Numbers, read_head};
 use crate::job_line::job;
-use nvm_geometry::Geometry;
+use nvm_geometry::{Geometry, GeometryFault};
 use nvm_list::{cut, without_comment};
 use nvm_record::BlockSize;
 use nvm_trace::{Trace, TracedJob};
@@ -52,15 +53,28 @@ fn under_head(alloc: Global, words: &[u8], line: u64) -> Result<Trace, TextFault
         Ok(head) => head,
         Err(expected) => return Err(TextFault::Line { line, expected }),
     };
-    match Geometry::new(
-        head.nsze, head.block, head.nabsn, head.nabo, head.nawun, head.nacwu,
-    ) {
+    match geometry_of(head.numbers) {
         Ok(geometry) => Ok(Trace::new(alloc, geometry, head.first, head.start, head.reads)),
         Err(fault) => Err(TextFault::Line {
             line,
             expected: TraceExpected::Geometry(fault),
         }),
     }
+}
+
+/// The geometry of these numbers, or their first fault.
+fn geometry_of(numbers: Numbers) -> Result<Geometry, GeometryFault>
+    ensures taken { IfOk result (λ g. (g ≡ namespace_in numbers) × HasNoFault (namespace_in numbers)) }
+    ensures refused { IfErr result (IsFirstGeometryFault (namespace_in numbers)) }
+{
+    Geometry::new(
+        numbers.nsze,
+        numbers.block,
+        numbers.nabsn,
+        numbers.nabo,
+        numbers.nawun,
+        numbers.nacwu,
+    )
 }
 
 /// The trace with the jobs of the lines that are left, behind so many lines.
@@ -71,8 +85,8 @@ fn with_jobs(
     before: u64,
 ) -> Result<Trace, TextFault>
     requires { before + bytes_left lines < 2 ^ 64 }
-    ensures said { IfOk result (SayBehind empty (parts_left (is 10) lines)) }
-    ensures fault { IfErr result (λ e. FailBehind empty (before + 1) (parts_left (is 10) lines) e ⊎ (e ≡ NoMemory)) }
+    ensures said { IfOk result (SayBehind empty (parts_left (is 10) lines.entry)) }
+    ensures fault { IfErr result (λ e. FailBehind empty (before + 1) (parts_left (is 10) lines.entry) e ⊎ (e ≡ NoMemory)) }
 {
     let mut trace = empty;
     let mut line = before;

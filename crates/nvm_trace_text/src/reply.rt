@@ -20,7 +20,7 @@ pub(crate) fn ending(
     told: Option<&[u8]>,
     size: BlockSize,
 ) -> Result<Option<Ending>, LineFault>
-    ensures { Gives (λ e. e) result (spec.ending size body.now ended (now_if_any told)) }
+    ensures { Gives (λ e. e) result (spec.ending size body.now ended (now_if_any told.entry)) }
 {
     match (ended, told) {
         (None, None) => Ok(None),
