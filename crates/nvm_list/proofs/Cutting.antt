@@ -7,7 +7,7 @@ use Rattle.std.proofs.lemmas.List.Elements.{All-from_get_or, All-head, filter_pa
 use Rattle.std.proofs.lemmas.List.Splits.{slice_split_first, slice_split_none, slice_split-cons_yes}
 use Rattle.std.proofs.lemmas.List.Sums.{position_or_len_is, fails_before_first, passes_at_first}
 use Rattle.nvm_list.specs.Words.{is_blank, is_word, words_in, first, others}
-use Rattle.nvm_list.specs.Inside.Rest.{IsAtWord}
+use Rattle.nvm_list.specs.Rest.{IsAtWord}
 
 -- No byte before place n ends the part, and the one there, if there is one, does.
 pub record IsEnd (p : ℕ → Bool) (bytes : List ℕ) (n : ℕ) : Type 0 where

@@ -6,6 +6,7 @@ pub mod PartReading
 pub mod OptionReading
 pub mod ListReading
 pub mod ReadWhole
+pub mod SpacedWords
 pub mod PlainText
 pub mod NumberListing
 pub mod PartListing

@@ -1,6 +1,8 @@
 pub mod Words
 pub mod Numbers
 pub mod Expecting
+pub mod Answers
+pub mod Rest
 pub mod Names
 pub mod Commas
 pub mod Data

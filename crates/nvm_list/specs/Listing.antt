@@ -65,6 +65,10 @@ abbrev pub behind_spaces : List (List ℕ) → List ℕ
 behind_spaces [] = []
 behind_spaces (word ∷ words) = codes " " ++ (word ++ behind_spaces words)
 
+-- the command at a place of its list, in words
+abbrev pub command_text : ℕ → Command → List ℕ
+command_text place c = name_of c.op ++ behind_spaces (operand_words c ++ option_words place c)
+
 -- the line of the command at a place of the list
 abbrev pub listed_line : ℕ → Command → List ℕ
 listed_line place c =

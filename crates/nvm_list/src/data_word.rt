@@ -3,7 +3,7 @@ ghost use Rattle.nvm_text.specs.Runs.{written_out};
 ghost use Rattle.nvm_list.specs.Commas.{read_parts};
 ghost use Rattle.nvm_list.specs.Data as spec;
 ghost use Rattle.nvm_list.specs.Data.{read_run};
-ghost use Rattle.nvm_list.specs.Inside.Answers.{Gives};
+ghost use Rattle.nvm_list.specs.Answers.{Gives};
 
 use crate::expected::Expected;
 use crate::fault::LineFault;

@@ -17,10 +17,12 @@ pub enum ListFault {
     NoMemory,
 }
 
-/// Why a line gives no command.
+/// Why words give no command, or none of what stands in one.
 #[derive(Clone, Copy)]
 pub enum LineFault {
+    /// Something else was expected.
     Expected(Expected),
+    /// Memory was asked for and refused.
     NoMemory,
 }
 

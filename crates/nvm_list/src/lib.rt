@@ -9,7 +9,8 @@
 //! [`assemble`] makes a list into the bytes of a host file, and [`list_file`] lists those. Lists that were written by
 //! hand, with their commands and faults, stand in `examples/programs.py`, which holds the built `nvq` to them.
 //! [`OperandsText`] and its kin display some of the words of one command, for callers that list commands among other things, and
-//! [`next_said`] gives what a list says of its commands, one after the other.
+//! [`next_said`] gives what a list says of its commands, one after the other. [`command_of_words`], [`payload`], [`first_word`] and
+//! their kin read the words of one command, for other texts that have commands in them.
 #![tactic(auto)]
 
 mod command_line;
@@ -29,9 +30,12 @@ mod range_word;
 mod run;
 mod said;
 
+pub use data_word::payload;
 pub use expected::Expected;
-pub use fault::ListFault;
-pub use line_pieces::{OperandsText, RangesText, deallocate_option, fuse_option};
+pub use fault::{LineFault, ListFault};
+pub use line_cut::{cut, first_word, is_blank, place_of, without_comment};
+pub use line_pieces::{CommandText, OperandsText, RangesText, deallocate_option, fuse_option};
 pub use listing::{list, list_file};
-pub use lists::{assemble, read_list};
+pub use lists::{assemble, command_of_words, read_list};
+pub use number_word::{hex_byte, number};
 pub use said::next_said;

@@ -2,7 +2,7 @@ ghost use Rattle.std.specs.Prelude.{◌≡◌, ◌<◌, ◌≤◌, ◌+◌, [], 
 ghost use Rattle.std.specs.List.{slice_split, position_or_len, before_first};
 ghost use Rattle.nvm_list.specs.Words as spec;
 ghost use Rattle.nvm_list.specs.Words.{is, words_in, first, others};
-ghost use Rattle.nvm_list.specs.Inside.Rest.{parts_left, bytes_left, IsAtWord};
+ghost use Rattle.nvm_list.specs.Rest.{parts_left, bytes_left, IsAtWord};
 
 /// The bytes before the first `end`, and those after it, where there is one.
 pub fn cut(bytes: &[u8], end: u8) -> (&[u8], Option<&[u8]>)

@@ -4,9 +4,34 @@ ghost use Rattle.nvm_list.specs.Listing as spec;
 ghost use Rattle.nvm_list.specs.Listing.{behind_spaces, range_text, ranges_text};
 
 use nvm_record::{Command, Fuse, LbaRange, Op, range_count};
-use nvm_text::RunsText;
+use nvm_text::{OpName, RunsText};
 use std::fmt;
 use std::fmt::{Display, Formatter};
+
+/// A command in the words of a list, with the options that it can't do without at this place, where the first command is at place 1.
+#[derive(Clone, Copy)]
+pub struct CommandText<'a> {
+    pub place: u64,
+    pub command: &'a Command,
+}
+
+impl Display for CommandText<'_> {
+    ghost output = { λ text. Some (spec.command_text text.place text.command.now) };
+
+    fn fmt<W: fmt::Write>(&self, f: &mut Formatter<W>) -> fmt::Result {
+        let command = self.command;
+        let name = OpName(command.op);
+        let operands = OperandsText(command);
+        let deallocate = deallocate_option(command.op);
+        let fuse = fuse_option(command.fuse);
+        let cid = CidOption {
+            place: self.place,
+            cid: command.cid,
+        };
+        let nsid = NsidOption(command.nsid);
+        write!(f, "{name}{operands}{deallocate}{fuse}{cid}{nsid}")
+    }
+}
 
 /// What a command is on, each word after a space: its ranges, or its starting LBA, its number of blocks and its data.
 #[derive(Clone, Copy)]
@@ -88,9 +113,9 @@ pub fn fuse_option(fuse: Fuse) -> &'static str
 
 /// ` cid=` and the command identifier, if that isn't the command's place in its list.
 #[derive(Clone, Copy)]
-pub(crate) struct CidOption {
-    pub(crate) place: u64,
-    pub(crate) cid: u16,
+struct CidOption {
+    place: u64,
+    cid: u16,
 }
 
 impl Display for CidOption {
@@ -107,7 +132,7 @@ impl Display for CidOption {
 
 /// ` nsid=` and the namespace identifier, if that isn't 1.
 #[derive(Clone, Copy)]
-pub(crate) struct NsidOption(pub(crate) u32);
+struct NsidOption(u32);
 
 impl Display for NsidOption {
     ghost output = { λ option. Some (behind_spaces (spec.nsid_words option.0)) };

@@ -14,10 +14,9 @@ ghost use Rattle.nvm_list.specs.Inside.Values.{HasValuesInRange};
 ghost use Rattle.nvm_list.specs.Listing as spec;
 ghost use Rattle.nvm_list.specs.Listing.{listing};
 
-use crate::line_pieces::{CidOption, NsidOption, OperandsText, deallocate_option, fuse_option};
+use crate::line_pieces::CommandText;
 use nvm_record::laws::ranges_are_read_back;
 use nvm_record::{BlockSize, Command, HostFault, NoMemory, Payload, read_host};
-use nvm_text::OpName;
 use nvm_text::laws::runs_are_longest;
 use std::alloc::Global;
 
@@ -80,14 +79,5 @@ fn has_bytes(bytes: &[u8])
 fn push_command(text: &mut String, place: u64, command: &Command) -> Result<(), NoMemory>
     ensures { OnOk result (string_bytes text.new ≡ string_bytes text.old ++ spec.listed_line place command.now) }
 {
-    let name = OpName(command.op);
-    let operands = OperandsText(command);
-    let deallocate = deallocate_option(command.op);
-    let fuse = fuse_option(command.fuse);
-    let cid = CidOption {
-        place,
-        cid: command.cid,
-    };
-    let nsid = NsidOption(command.nsid);
-    write!(text, "{name}{operands}{deallocate}{fuse}{cid}{nsid}\n")
+    write!(text, "{}\n", CommandText { place, command })
 }

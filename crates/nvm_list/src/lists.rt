@@ -3,7 +3,8 @@ ghost use Rattle.nvm_record.specs.Entry.{IsWhole};
 ghost use Rattle.nvm_record.specs.HostFile.{IsHostFile, most_commands};
 ghost use Rattle.nvm_record.specs.declared.command.Command.{Command as Listed};
 ghost use Rattle.nvm_list.specs.Words.{words, words_in};
-ghost use Rattle.nvm_list.specs.Inside.Answers.{Gives};
+ghost use Rattle.nvm_list.specs.Answers.{Gives};
+ghost use Rattle.nvm_list.specs.Lines as lines;
 ghost use Rattle.nvm_list.specs.Lists as spec;
 ghost use Rattle.nvm_list.specs.Lists.{assembled};
 ghost use Rattle.nvm_list.specs.declared.fault.ListFault.TheVariants.{NoMemory};
@@ -45,6 +46,19 @@ pub fn read_list(alloc: Global, text: &[u8], size: BlockSize) -> Result<Vec<Comm
     opcodes_are_proper();
     ranges_are_read_back();
     commands_of(alloc, text, size)
+}
+
+/// The command that words say at a place of their list, where the first command is at place 1. Its CID is the place modulo
+/// 65,536, if no word says another.
+pub fn command_of_words(
+    alloc: Global,
+    words: &[u8],
+    place: u64,
+    size: BlockSize,
+) -> Result<Command, LineFault>
+    ensures { Gives (λ c. c) result (lines.command size place (words_in words.now)) }
+{
+    command(alloc, words, place, size)
 }
 
 /// The commands of a list, line by line.

@@ -1,7 +1,7 @@
 ghost use Rattle.std.specs.Prelude.{◌≡◌};
 ghost use Rattle.nvm_list.specs.Words.{words_in};
 ghost use Rattle.nvm_list.specs.Lines as spec;
-ghost use Rattle.nvm_list.specs.Inside.Answers.{Gives};
+ghost use Rattle.nvm_list.specs.Answers.{Gives};
 
 use crate::data_word::payload;
 use crate::expected::Expected;

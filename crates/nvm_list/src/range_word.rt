@@ -2,7 +2,7 @@ ghost use Rattle.std.specs.Prelude.{◌≡◌, IfOk, option_map};
 ghost use Rattle.nvm_list.specs.Commas.{read_parts};
 ghost use Rattle.nvm_list.specs.Ranges as spec;
 ghost use Rattle.nvm_list.specs.Ranges.{read_range};
-ghost use Rattle.nvm_list.specs.Inside.Answers.{Gives};
+ghost use Rattle.nvm_list.specs.Answers.{Gives};
 
 use crate::expected::Expected;
 use crate::fault::LineFault;

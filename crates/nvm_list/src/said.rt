@@ -2,7 +2,7 @@
 ghost use Rattle.std.specs.Prelude.{◌≡◌, ◌≤◌, length};
 ghost use Rattle.nvm_list.specs.Words.{first, others};
 ghost use Rattle.nvm_list.specs.Said as spec;
-ghost use Rattle.nvm_list.specs.Inside.Rest.{bytes_left};
+ghost use Rattle.nvm_list.specs.Rest.{bytes_left};
 
 use crate::line_cut::{cut, is_blank, without_comment};
 

@@ -2,7 +2,7 @@ use Rattle.std.proofs.Common.{◌≡◌}
 use Rattle.nvm_list.specs.Words.{is}
 use Rattle.nvm_list.specs.Commas.{read_each, read_parts}
 use Rattle.nvm_list.specs.Data.{read_run}
-use Rattle.nvm_list.specs.Inside.Rest.{parts_left, bytes_left}
+use Rattle.nvm_list.specs.Rest.{parts_left, bytes_left}
 use Rattle.nvm_list.proofs.PartReading.{behind}
 use Rattle.nvm_list.proofs.data_word.runs_of.Given as goal
 

@@ -1,7 +1,7 @@
 use Rattle.std.proofs.Common.{◌≡◌, ◌≤◌, ◌+◌, length}
 use Rattle.nvm_list.specs.Words.{is}
 use Rattle.nvm_list.specs.Lists.{commands}
-use Rattle.nvm_list.specs.Inside.Rest.{parts_left, bytes_left}
+use Rattle.nvm_list.specs.Rest.{parts_left, bytes_left}
 use Rattle.nvm_list.proofs.ListReading.{left}
 use Rattle.nvm_list.proofs.lists.commands_of.Given as goal
 

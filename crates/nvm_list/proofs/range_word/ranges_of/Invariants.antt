@@ -2,7 +2,7 @@ use Rattle.std.proofs.Common.{◌≡◌}
 use Rattle.nvm_list.specs.Words.{is}
 use Rattle.nvm_list.specs.Commas.{read_each, read_parts}
 use Rattle.nvm_list.specs.Ranges.{read_range}
-use Rattle.nvm_list.specs.Inside.Rest.{parts_left, bytes_left}
+use Rattle.nvm_list.specs.Rest.{parts_left, bytes_left}
 use Rattle.nvm_list.proofs.PartReading.{behind}
 use Rattle.nvm_list.proofs.range_word.ranges_of.Given as goal
 

@@ -2,7 +2,7 @@ use Rattle.std.proofs.Common.{◌≡◌, map}
 use Rattle.std.specs.List.{filter}
 use Rattle.nvm_list.specs.Words.{is, is_word}
 use Rattle.nvm_list.specs.Said.{said, said_lines}
-use Rattle.nvm_list.specs.Inside.Rest.{parts_left, bytes_left}
+use Rattle.nvm_list.specs.Rest.{parts_left, bytes_left}
 use Rattle.nvm_list.proofs.said.next_said.Given as goal
 
 abbrev pub invariant-loop-rest : goal.invariant-loop-rest

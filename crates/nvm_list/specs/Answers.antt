@@ -1,4 +1,4 @@
--- What private functions answer of what they read word by word.
+-- What functions answer of what they read word by word.
 use Rattle.std.specs.Prelude.{◌≡◌, Result, Ok, Err}
 use Rattle.nvm_list.specs.declared.expected.Expected.{Expected}
 use Rattle.nvm_list.specs.declared.fault.LineFault.{LineFault}

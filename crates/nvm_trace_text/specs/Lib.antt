@@ -1,0 +1,7 @@
+pub mod Expecting
+pub mod Marks
+pub mod Head
+pub mod Lines
+pub mod Texts
+pub mod Listing
+pub mod Inside
