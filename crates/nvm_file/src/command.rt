@@ -8,9 +8,9 @@ ghost use Rattle.nvm_file.specs.Fields.{Gives};
 ghost use Rattle.nvm_file.specs.Inside.Rest.{left_of};
 
 use crate::fields::{cut_short, refused};
-use crate::scope::Scope;
 use crate::record_fault::RecordFault;
 use crate::rest::Rest;
+use crate::scope::Scope;
 use crate::standing::Standing;
 use byteorder::{ByteOrder, LittleEndian};
 use nvm_audit::Version;

@@ -4,12 +4,14 @@ ghost use Rattle.nvm_file.specs.Fields.{Gives, items_at};
 ghost use Rattle.nvm_file.specs.JobReading as spec;
 ghost use Rattle.nvm_file.specs.JobReading.{job_at, pair_at, single_at};
 ghost use Rattle.nvm_file.specs.Inside.Rest.{left_of};
+ghost use Rattle.nvm_file.specs.Reading.{jobs_at};
 
 use crate::command::command_of;
 use crate::fields::{room_for, u8_in, u16_in};
-use crate::scope::Scope;
+use crate::frame::Frame;
 use crate::record_fault::RecordFault;
 use crate::rest::Rest;
+use crate::scope::Scope;
 use crate::standing::Standing;
 use nvm_plan::{Body, Job, MOST_HOSTS};
 use std::alloc::Global;
@@ -17,8 +19,21 @@ use std::alloc::Global;
 /// A job has so many bytes at least: its host, its kind, and an entry.
 const LEAST_BYTES: usize = 67;
 
-/// So many jobs, each at the place of its number. Their data is shared with the file.
+/// The jobs, each at the place of its number. Their data is shared with the file.
+#[tactic(auto, unfolding(crate::specs::Reading::jobs_at))]
 pub fn jobs_of<'a>(
+    alloc: Global,
+    frame: &Frame,
+    rest: Rest<'a>,
+) -> Result<(Vec<Job>, Rest<'a>), RecordFault>
+    ensures { Gives (λ x. (x.0.items, left_of x.1)) result (jobs_at frame.now (left_of rest.entry)) }
+{
+    let scope = frame.scope();
+    some_jobs_of(alloc, &scope, frame.jobs, rest)
+}
+
+/// So many jobs.
+fn some_jobs_of<'a>(
     alloc: Global,
     scope: &Scope,
     count: u32,
@@ -39,7 +54,11 @@ pub fn jobs_of<'a>(
 
 /// A job: the number of its host, its kind, and its command or commands.
 #[tactic(auto, unfolding(crate::specs::JobReading::job_at))]
-pub fn job_of<'a>(alloc: Global, scope: &Scope, rest: Rest<'a>) -> Result<(Job, Rest<'a>), RecordFault>
+pub fn job_of<'a>(
+    alloc: Global,
+    scope: &Scope,
+    rest: Rest<'a>,
+) -> Result<(Job, Rest<'a>), RecordFault>
     ensures { Gives (λ x. (x.0, left_of x.1)) result (job_at scope.now (left_of rest.entry)) }
 {
     let (host, rest) = u16_in(scope.total, 1, MOST_HOSTS, rest)?;

@@ -38,14 +38,14 @@ pub fn read_record(alloc: Global, bytes: &Payload) -> Result<Record, RecordFault
 }
 
 /// What stands behind the head.
-#[tactic(auto, unfolding(crate::specs::Reading::body_of, crate::specs::Reading::jobs_at))]
+#[tactic(auto, unfolding(crate::specs::Reading::body_of))]
 fn body_of(alloc: Global, frame: &Frame, rest: Rest<'_>) -> Result<Record, RecordFault>
     requires { IsSoundFrame frame.now }
     ensures { Gives (λ r. r) result (spec.body_of frame.now (left_of rest.entry)) }
 {
     opcodes_are_proper();
     each_unit_has_one_place();
-    let (jobs, rest) = jobs_of(alloc, &frame.scope(), frame.jobs, rest)?;
+    let (jobs, rest) = jobs_of(alloc, frame, rest)?;
     let (units, rest) = units_of(alloc, frame, rest)?;
     let (done, rest) = workers_of(alloc, frame, jobs.as_slice(), rest)?;
     if rest.len() > 0 {

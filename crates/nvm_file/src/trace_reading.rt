@@ -36,11 +36,7 @@ pub fn read_trace(alloc: Global, bytes: &Payload) -> Result<Trace, TraceFileFaul
 
 /// What stands behind the head.
 #[tactic(auto, unfolding(crate::specs::TraceReading::trace_behind))]
-fn behind_head(
-    alloc: Global,
-    frame: &TraceFrame,
-    rest: Rest<'_>,
-) -> Result<Trace, TraceFileFault>
+fn behind_head(alloc: Global, frame: &TraceFrame, rest: Rest<'_>) -> Result<Trace, TraceFileFault>
     requires { IsSoundTraceFrame frame.now }
     ensures { GivesTraced (λ t. t) result (spec.trace_behind frame.now (left_of rest.entry)) }
 {

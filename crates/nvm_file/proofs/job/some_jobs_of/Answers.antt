@@ -3,7 +3,7 @@ use Rattle.nvm_file.specs.Inside.Rest.{left_of}
 use Rattle.nvm_file.specs.JobReading.{job_at}
 use Rattle.nvm_file.specs.Fields.{items_at}
 use Rattle.nvm_file.proofs.ItemLoops.{begins, goes_on, ends, is_done}
-use Rattle.nvm_file.proofs.job.jobs_of.Goals as goal
+use Rattle.nvm_file.proofs.job.some_jobs_of.Goals as goal
 
 pub loop-init : goal.loop-init
 loop-init c = rw c.in_ok-jobs.ensures.items (begins (λ _. job_at c.args.scope.now) c.args.count (left_of c.args.from))

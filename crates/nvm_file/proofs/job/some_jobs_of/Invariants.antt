@@ -2,7 +2,7 @@ use Rattle.nvm_file.specs.Fields.{items_at}
 use Rattle.nvm_file.specs.Inside.Rest.{left_of}
 use Rattle.nvm_file.specs.JobReading.{job_at}
 use Rattle.nvm_file.proofs.ItemLoops.{GoesOn}
-use Rattle.nvm_file.proofs.job.jobs_of.Given as goal
+use Rattle.nvm_file.proofs.job.some_jobs_of.Given as goal
 
 abbrev pub invariant-loop : goal.invariant-loop
 invariant-loop l =
