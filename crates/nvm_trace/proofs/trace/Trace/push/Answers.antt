@@ -8,6 +8,9 @@ use Rattle.nvm_trace.specs.Traceable.{IsTraceable, IsTraceableJob}
 use Rattle.nvm_trace.specs.TraceView.{TraceView}
 use Rattle.nvm_trace.proofs.trace.Trace.push.Goals as goal
 
+abbrev with_jobs : TraceView → List TracedJob → TraceView
+with_jobs t jobs = record t { jobs = jobs }
+
 pub invariant_of-self-2 : goal.invariant_of-self-2
 invariant_of-self-2 c =
     let shown = shown_by c.self.inside in
@@ -15,8 +18,7 @@ invariant_of-self-2 c =
     let can = subst (λ (t : TraceView). CanTake t job) (sym c.self.view_is) c.requires in
     let long = length-append shown.jobs (job ∷ []) in
     let room = can.room in
-    let with_jobs = λ (jobs : List TracedJob). record { namespace = shown.namespace; first = shown.first; start = shown.start; reads = shown.reads; jobs = jobs } in
-    subst (λ (jobs : List TracedJob). IsTraceable (with_jobs jobs))
+    subst (λ (jobs : List TracedJob). IsTraceable (with_jobs shown jobs))
     (sym c.in_ok-push.ensures.items)
     (record {
       namespace = c.self.invariant.namespace;
