@@ -34,11 +34,13 @@ pub fn explained_traces_have_moments()
 /// moments, are a run of the step from zero bytes, in which each has the reply that was recorded. That is so whichever moments
 /// they have.
 pub fn explained_traces_are_runs()
-    ensures linearizable { (t : TraceView) (r : RecordView) (unit : ℕ) → IsTraceable t → IsExplainedBy t r
-        → unit < units_of r.namespace → (steps : List TakenStep) × IsLinearization t.jobs r unit steps }
-    ensures moments { (t : TraceView) (r : RecordView) (unit : ℕ) (moments : HaveMoments (steps_of t.jobs r.done))
-        → IsExplainedBy t r → unit < units_of r.namespace → (steps : List TakenStep) × IsLinearization t.jobs r unit steps
-        × All (IsAtMoment t.jobs moments.moment) steps }
+    ensures linearizable { (judging : Judging) (t : TraceView) (r : RecordView) (unit : ℕ) → IsTraceable t → IsExplainedBy judging t r
+        → unit < units_of r.namespace → (steps : List TakenStep) × IsLinearization (wholes judging t) r unit steps }
+    ensures moments { (judging : Judging) (t : TraceView) (r : RecordView) (unit : ℕ)
+        (moments : HaveMoments (steps_of (wholes judging t) r.done))
+        → IsExplainedBy judging t r → unit < units_of r.namespace
+        → (steps : List TakenStep) × IsLinearization (wholes judging t) r unit steps
+        × All (IsAtMoment (wholes judging t) moments.moment) steps }
 {
     explained_traces_have_moments();
     looks_change_nothing();
