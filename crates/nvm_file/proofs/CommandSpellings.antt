@@ -15,7 +15,7 @@ use Rattle.nvm_plan.specs.declared.job.Body.TheVariants.{Single, Pair}
 use Rattle.nvm_plan.specs.declared.job.Job.{Job}
 use Rattle.nvm_plan.specs.Fits.{most_hosts}
 use Rattle.nvm_audit.specs.declared.version.Version.{Version}
-use Rattle.nvm_file.specs.declared.frame.Frame.{Frame}
+use Rattle.nvm_file.specs.declared.scope.Scope.{Scope}
 use Rattle.nvm_file.specs.declared.record_fault.RecordFault.TheVariants.{BadValue}
 use Rattle.nvm_file.specs.declared.standing.Standing.{Standing}
 use Rattle.nvm_file.specs.declared.standing.Standing.TheVariants.{Alone, FirstOfPair, SecondOfPair}
@@ -103,57 +103,57 @@ entry_again size f payload k long =
     ap front (ap (λ l. l ++ (cond b (0 ∷ 0 ∷ []) (little_bytes 2 f.nlb) ++ replicate 14 0)) place
     ∙ ap (λ l. place_of_fields f ++ (l ++ replicate 14 0)) count)
 
-pub command_takes : (frame : Frame) (standing : Standing) (bytes : List ℕ) (x : Command × List ℕ) → IsBytes bytes
-    → command_at frame standing bytes ≡ Ok x → Takes bytes (spelling_of x.0) x.1
+pub command_takes : (scope : Scope) (standing : Standing) (bytes : List ℕ) (x : Command × List ℕ) → IsBytes bytes
+    → command_at scope standing bytes ≡ Ok x → Takes bytes (spelling_of x.0) x.1
 unfolding command_at
-command_takes frame standing bytes x are e =
-    let a = bind_ok (submission_at frame.total frame.version standing bytes) _ x e in
+command_takes scope standing bytes x are e =
+    let a = bind_ok (submission_at scope.total scope.version standing bytes) _ x e in
     let f = a.0.0 in
-    let long = data_length frame.geometry.block_size f.op f.nlb f.nr in
-    let b = bind_ok (bytes_at frame.total long a.0.1) _ x a.2 in
-    let g = took (may_follow f.op b.0.0) (BadValue (offset frame.total a.0.1)) (command_with f b.0.0, b.0.1) x b.2 in
-    let entry = submission_takes frame.total frame.version standing bytes a.0 are a.1 in
-    let payload = run_takes frame.total long a.0.1 b.0 entry.0.rest_are b.1 in
-    let again = entry_again frame.geometry.block_size f b.0.0 entry.1 (has_length frame.total long a.0.1 b.0 b.1) in
+    let long = data_length scope.geometry.block_size f.op f.nlb f.nr in
+    let b = bind_ok (bytes_at scope.total long a.0.1) _ x a.2 in
+    let g = took (may_follow f.op b.0.0) (BadValue (offset scope.total a.0.1)) (command_with f b.0.0, b.0.1) x b.2 in
+    let entry = submission_takes scope.total scope.version standing bytes a.0 are a.1 in
+    let payload = run_takes scope.total long a.0.1 b.0 entry.0.rest_are b.1 in
+    let again = entry_again scope.geometry.block_size f b.0.0 entry.1 (has_length scope.total long a.0.1 b.0 b.1) in
     let first = spelled_as _ _ (entry_of (command_with f b.0.0)) _ (sym again) entry.0 in
     subst (λ (y : Command × List ℕ). Takes bytes (spelling_of y.0) y.1) g.1 (and_then _ _ _ _ _ first payload)
 
-single_takes : (frame : Frame) (bytes : List ℕ) (x : Body × List ℕ) → IsBytes bytes → single_at frame bytes ≡ Ok x
+single_takes : (scope : Scope) (bytes : List ℕ) (x : Body × List ℕ) → IsBytes bytes → single_at scope bytes ≡ Ok x
     → Takes bytes (commands_bytes x.0) x.1 × (body_kind x.0 ≡ 0)
 unfolding single_at
-single_takes frame bytes x are e =
-    let a = bind_ok (command_at frame Alone bytes) _ x e in
+single_takes scope bytes x are e =
+    let a = bind_ok (command_at scope Alone bytes) _ x e in
     subst (λ (y : Body × List ℕ). Takes bytes (commands_bytes y.0) y.1 × (body_kind y.0 ≡ 0)) (ok_is (Single a.0.0, a.0.1) x a.2)
-    (command_takes frame Alone bytes a.0 are a.1, refl)
+    (command_takes scope Alone bytes a.0 are a.1, refl)
 
-pair_takes : (frame : Frame) (bytes : List ℕ) (x : Body × List ℕ) → IsBytes bytes → pair_at frame bytes ≡ Ok x
+pair_takes : (scope : Scope) (bytes : List ℕ) (x : Body × List ℕ) → IsBytes bytes → pair_at scope bytes ≡ Ok x
     → Takes bytes (commands_bytes x.0) x.1 × (body_kind x.0 ≡ 1)
 unfolding pair_at
-pair_takes frame bytes x are e =
-    let a = bind_ok (command_at frame FirstOfPair bytes) _ x e in
-    let b = bind_ok (command_at frame SecondOfPair a.0.1) _ x a.2 in
-    let first = command_takes frame FirstOfPair bytes a.0 are a.1 in
-    let second = command_takes frame SecondOfPair a.0.1 b.0 first.rest_are b.1 in
+pair_takes scope bytes x are e =
+    let a = bind_ok (command_at scope FirstOfPair bytes) _ x e in
+    let b = bind_ok (command_at scope SecondOfPair a.0.1) _ x a.2 in
+    let first = command_takes scope FirstOfPair bytes a.0 are a.1 in
+    let second = command_takes scope SecondOfPair a.0.1 b.0 first.rest_are b.1 in
     subst (λ (y : Body × List ℕ). Takes bytes (commands_bytes y.0) y.1 × (body_kind y.0 ≡ 1)) (ok_is (Pair a.0.0 b.0.0, b.0.1) x b.2)
     (and_then _ _ _ _ _ first second, refl)
 
-by_kind : (kind : ℕ) (frame : Frame) (bytes : List ℕ) (x : Body × List ℕ) → kind ≤ 1 → IsBytes bytes → body_at kind frame bytes ≡ Ok x
+by_kind : (kind : ℕ) (scope : Scope) (bytes : List ℕ) (x : Body × List ℕ) → kind ≤ 1 → IsBytes bytes → body_at kind scope bytes ≡ Ok x
     → Takes bytes (commands_bytes x.0) x.1 × (body_kind x.0 ≡ kind)
-by_kind zero frame bytes x high are e = single_takes frame bytes x are e
-by_kind (suc zero) frame bytes x high are e = pair_takes frame bytes x are e
-by_kind (suc (suc n)) frame bytes x high are e = absurd (omega (arith, high))
+by_kind zero scope bytes x high are e = single_takes scope bytes x are e
+by_kind (suc zero) scope bytes x high are e = pair_takes scope bytes x are e
+by_kind (suc (suc n)) scope bytes x high are e = absurd (omega (arith, high))
 
-pub job_takes : (frame : Frame) (bytes : List ℕ) (x : Job × List ℕ) → IsBytes bytes → job_at frame bytes ≡ Ok x
+pub job_takes : (scope : Scope) (bytes : List ℕ) (x : Job × List ℕ) → IsBytes bytes → job_at scope bytes ≡ Ok x
     → Takes bytes (job_bytes x.0) x.1
 unfolding job_at
-job_takes frame bytes x are e =
-    let a = bind_ok (number_in frame.total 2 1 most_hosts bytes) _ x e in
-    let b = bind_ok (number_in frame.total 1 0 1 a.0.1) _ x a.2 in
-    let c = bind_ok (body_at b.0.0 frame b.0.1) _ x b.2 in
-    let host = in_takes frame.total 2 1 most_hosts bytes a.0 are a.1 in
-    let kind = in_takes frame.total 1 0 1 a.0.1 b.0 host.rest_are b.1 in
-    let high = (is_in frame.total 1 0 1 a.0.1 b.0 b.1).1 in
-    let body = by_kind b.0.0 frame b.0.1 c.0 high kind.rest_are c.1 in
+job_takes scope bytes x are e =
+    let a = bind_ok (number_in scope.total 2 1 most_hosts bytes) _ x e in
+    let b = bind_ok (number_in scope.total 1 0 1 a.0.1) _ x a.2 in
+    let c = bind_ok (body_at b.0.0 scope b.0.1) _ x b.2 in
+    let host = in_takes scope.total 2 1 most_hosts bytes a.0 are a.1 in
+    let kind = in_takes scope.total 1 0 1 a.0.1 b.0 host.rest_are b.1 in
+    let high = (is_in scope.total 1 0 1 a.0.1 b.0 b.1).1 in
+    let body = by_kind b.0.0 scope b.0.1 c.0 high kind.rest_are c.1 in
     let byte_is : b.0.0 % 256 ≡ b.0.0 = omega (arith, high) in
     let byte = spelled_as _ _ (body_kind c.0.0 ∷ []) _ (ap (λ k. k ∷ []) (byte_is ∙ sym body.1)) kind in
     subst (λ (y : Job × List ℕ). Takes bytes (job_bytes y.0) y.1) (ok_is (record { host = a.0.0; body = c.0.0 }, c.0.1) x c.2)

@@ -8,7 +8,7 @@ use Rattle.nvm_record.specs.declared.command.Command.{Command}
 use Rattle.nvm_record.specs.Entry.{data_length, entry_of, range_bits, spelling_of}
 use Rattle.nvm_record.specs.Op.{attributes_of, bits_of, carries_ranges, opcode_of}
 use Rattle.nvm_audit.specs.declared.version.Version.{Version}
-use Rattle.nvm_file.specs.declared.frame.Frame.{Frame}
+use Rattle.nvm_file.specs.declared.scope.Scope.{Scope}
 use Rattle.nvm_file.specs.declared.standing.Standing.{Standing}
 use Rattle.nvm_file.specs.CommandReading.{command_at, entry_with, fields_in, is_just, may_follow, may_stand, submission_at}
 use Rattle.nvm_file.proofs.CommandsReturn.{fields_by}
@@ -48,14 +48,14 @@ submission_again total version standing c rest fields none stands =
     let test = and_from (bytes_eq (entry_of c) (entry_with (fields_by c))) (may_stand standing (fields_by c)) same stands in
     rw (bytes_return total 64 (entry_of c) rest (entry_length c), fields, test) refl
 
-pub command_again : (frame : Frame) (standing : Standing) (c : Command) (rest : List ℕ)
-    → fields_in frame.version (entry_of c) ≡ fields_by c → (carries_ranges c.op ≡ true → c.nlb ≡ 0)
+pub command_again : (scope : Scope) (standing : Standing) (c : Command) (rest : List ℕ)
+    → fields_in scope.version (entry_of c) ≡ fields_by c → (carries_ranges c.op ≡ true → c.nlb ≡ 0)
     → may_stand standing (fields_by c) ≡ true
-    → length c.payload ≡ data_length frame.geometry.block_size c.op c.nlb (fields_by c).nr → may_follow c.op c.payload ≡ true
-    → command_at frame standing (spelling_of c ++ rest) ≡ Ok (c, rest)
+    → length c.payload ≡ data_length scope.geometry.block_size c.op c.nlb (fields_by c).nr → may_follow c.op c.payload ≡ true
+    → command_at scope standing (spelling_of c ++ rest) ≡ Ok (c, rest)
 unfolding command_at
-command_again frame standing c rest fields none stands len follows =
+command_again scope standing c rest fields none stands len follows =
     let regrouped : spelling_of c ++ rest ≡ entry_of c ++ (c.payload ++ rest) = append_assoc (entry_of c) c.payload rest in
-    let entry = submission_again frame.total frame.version standing c (c.payload ++ rest) fields none stands in
-    let payload = bytes_return frame.total (data_length frame.geometry.block_size c.op c.nlb (fields_by c).nr) c.payload rest len in
-    ap (command_at frame standing) regrouped ∙ rw (entry, payload, follows) refl
+    let entry = submission_again scope.total scope.version standing c (c.payload ++ rest) fields none stands in
+    let payload = bytes_return scope.total (data_length scope.geometry.block_size c.op c.nlb (fields_by c).nr) c.payload rest len in
+    ap (command_at scope standing) regrouped ∙ rw (entry, payload, follows) refl

@@ -17,7 +17,7 @@ use Rattle.nvm_plan.specs.Profile.{is_in_profile}
 use Rattle.nvm_audit.specs.declared.version.Version.{Version}
 use Rattle.nvm_audit.specs.declared.version.Version.TheVariants.{One, Two}
 use Rattle.nvm_audit.specs.Recordable.{HoldsCommand}
-use Rattle.nvm_file.specs.declared.frame.Frame.{Frame}
+use Rattle.nvm_file.specs.declared.scope.Scope.{Scope}
 use Rattle.nvm_file.specs.declared.record_fault.RecordFault.TheVariants.{BadValue}
 use Rattle.nvm_file.specs.declared.standing.Standing.{Standing}
 use Rattle.nvm_file.specs.declared.standing.Standing.TheVariants.{Alone, FirstOfPair, SecondOfPair}
@@ -148,27 +148,27 @@ op_by : (version : Version) (entry : List ℕ)
 unfolding fields_in
 op_by version entry = refl
 
-pub command_held : IsProperEach → (frame : Frame) (standing : Standing) (bytes : List ℕ) (x : Command × List ℕ)
-    → command_at frame standing bytes ≡ Ok x → IsHeldCommand frame.geometry.block_size frame.version standing x.0
+pub command_held : IsProperEach → (scope : Scope) (standing : Standing) (bytes : List ℕ) (x : Command × List ℕ)
+    → command_at scope standing bytes ≡ Ok x → IsHeldCommand scope.geometry.block_size scope.version standing x.0
 unfolding command_at
-command_held proper frame standing bytes x e =
-    let size = frame.geometry.block_size in
-    let a = bind_ok (submission_at frame.total frame.version standing bytes)
-    (λ fields. bytes_at frame.total (data_length size fields.0.op fields.0.nlb fields.0.nr) fields.1
-    >>= λ payload. cond (may_follow fields.0.op payload.0) (Ok (command_with fields.0 payload.0, payload.1)) (refused frame.total fields.1)) x e in
+command_held proper scope standing bytes x e =
+    let size = scope.geometry.block_size in
+    let a = bind_ok (submission_at scope.total scope.version standing bytes)
+    (λ fields. bytes_at scope.total (data_length size fields.0.op fields.0.nlb fields.0.nr) fields.1
+    >>= λ payload. cond (may_follow fields.0.op payload.0) (Ok (command_with fields.0 payload.0, payload.1)) (refused scope.total fields.1)) x e in
     let f = a.0.0 in
-    let b = bind_ok (bytes_at frame.total (data_length size f.op f.nlb f.nr) a.0.1)
-    (λ payload. cond (may_follow f.op payload.0) (Ok (command_with f payload.0, payload.1)) (refused frame.total a.0.1)) x a.2 in
-    let g = took (may_follow f.op b.0.0) (BadValue (offset frame.total a.0.1)) (command_with f b.0.0, b.0.1) x b.2 in
-    let s = submitted frame.total frame.version standing bytes a.0 a.1 in
-    let len = has_length frame.total (data_length size f.op f.nlb f.nr) a.0.1 b.0 b.1 in
+    let b = bind_ok (bytes_at scope.total (data_length size f.op f.nlb f.nr) a.0.1)
+    (λ payload. cond (may_follow f.op payload.0) (Ok (command_with f payload.0, payload.1)) (refused scope.total a.0.1)) x a.2 in
+    let g = took (may_follow f.op b.0.0) (BadValue (offset scope.total a.0.1)) (command_with f b.0.0, b.0.1) x b.2 in
+    let s = submitted scope.total scope.version standing bytes a.0 a.1 in
+    let len = has_length scope.total (data_length size f.op f.nlb f.nr) a.0.1 b.0 b.1 in
     let c = command_with f b.0.0 in
-    let op : c.op ≡ op_in frame.version (slice_index s.entry 0) (deallocate_of (slice_index s.entry 44)) =
-    ap (λ (h : EntryFields). h.op) s.are ∙ op_by frame.version s.entry in
+    let op : c.op ≡ op_in scope.version (slice_index s.entry 0) (deallocate_of (slice_index s.entry 44)) =
+    ap (λ (h : EntryFields). h.op) s.are ∙ op_by scope.version s.entry in
     let place : carries_ranges f.op ≡ true → (f.slba ≡ 0) × (f.nlb ≡ 0) =
-    subst (λ (h : EntryFields). carries_ranges h.op ≡ true → (h.slba ≡ 0) × (h.nlb ≡ 0)) (sym s.are) (place_by frame.version s.entry) in
-    let k = known_by proper frame.version (slice_index s.entry 0) (deallocate_of (slice_index s.entry 44)) c op in
-    subst (λ (y : Command × List ℕ). IsHeldCommand size frame.version standing y.0) g.1
+    subst (λ (h : EntryFields). carries_ranges h.op ≡ true → (h.slba ≡ 0) × (h.nlb ≡ 0)) (sym s.are) (place_by scope.version s.entry) in
+    let k = known_by proper scope.version (slice_index s.entry 0) (deallocate_of (slice_index s.entry 44)) c op in
+    subst (λ (y : Command × List ℕ). IsHeldCommand size scope.version standing y.0) g.1
     (record {
       whole = whole_by size c f.nr k.1 len (ranges_by size c f.nr place len g.0);
       known = k.0;

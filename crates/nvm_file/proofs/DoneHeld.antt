@@ -55,7 +55,7 @@ parts_held frame bytes x e =
     (λ i rest y h. part_held frame rest y h) 0 a.0.0 a.0.1 x a.2 in
     (omega (arith, each.1, count.1), each.0)
 
-statuses_held : (body : Body) (total : ℕ) (bytes : List ℕ) (x : Statuses × List ℕ) → statuses_at body total bytes ≡ Ok x
+pub statuses_held : (body : Body) (total : ℕ) (bytes : List ℕ) (x : Statuses × List ℕ) → statuses_at body total bytes ≡ Ok x
     → IsForEach body x.0
 unfolding one_status_at two_statuses_at
 statuses_held (Single c) total bytes x e =
@@ -68,7 +68,7 @@ statuses_held (Pair c d) total bytes x e =
     subst (λ (y : Statuses × List ℕ). IsForEach (Pair c d) y.0) (ok_is (statuses.Two a.0.0 b.0.0, b.0.1) x b.2) tt
 
 -- Data was read only of a job that is answered some, and all of it.
-abbrev IsWholeAnswer : Option ℕ → Option (List ℕ) → Type 0
+abbrev pub IsWholeAnswer : Option ℕ → Option (List ℕ) → Type 0
 IsWholeAnswer count read = (bytes : List ℕ) → read ≡ Some bytes → count ≡ Some (length bytes)
 
 behind_held : (total : ℕ) (count : Option ℕ) (flag bytes : List ℕ) (x : Option (List ℕ) × List ℕ)
@@ -84,7 +84,7 @@ behind_held total (Some count) flag bytes x e =
 none_read : (count : Option ℕ) → IsWholeAnswer count None
 none_read count read h = absurd cc
 
-payload_held : (total : ℕ) (count : Option ℕ) (bytes : List ℕ) (x : Option (List ℕ) × List ℕ)
+pub payload_held : (total : ℕ) (count : Option ℕ) (bytes : List ℕ) (x : Option (List ℕ) × List ℕ)
     → payload_at total count bytes ≡ Ok x → IsWholeAnswer count x.0
 unfolding payload_at
 payload_held total count bytes x e =

@@ -87,19 +87,19 @@ two_return total s t rest first second =
     read_then _ _ _ _ (status_returns total s (status_bytes t ++ rest) first)
     (read_then _ _ _ _ (status_returns total t rest second) refl)
 
-statuses_return : (body : Body) (total : ℕ) (told : Statuses) (rest : List ℕ) → IsForEach body told → StatusesFit told
+pub statuses_return : (body : Body) (total : ℕ) (told : Statuses) (rest : List ℕ) → IsForEach body told → StatusesFit told
     → statuses_at body total (statuses_bytes told ++ rest) ≡ Ok (told, rest)
 statuses_return (Single c) total (statuses.One s) rest each fits = one_returns total s rest fits
 statuses_return (Single c) total (statuses.Two s t) rest each fits = absurd each
 statuses_return (Pair c d) total (statuses.One s) rest each fits = absurd each
 statuses_return (Pair c d) total (statuses.Two s t) rest each fits = two_return total s t rest fits.0 fits.1
 
-none_returns : (total : ℕ) (count : Option ℕ) (rest : List ℕ) → payload_at total count (payload_bytes None ++ rest) ≡ Ok (None, rest)
+pub none_returns : (total : ℕ) (count : Option ℕ) (rest : List ℕ) → payload_at total count (payload_bytes None ++ rest) ≡ Ok (None, rest)
 unfolding payload_at
 none_returns total count rest =
     read_then _ _ _ _ (number_in_returns total 1 0 1 0 rest (omega arith) (omega arith) (omega arith)) refl
 
-some_returns : (total : ℕ) (count : Option ℕ) (payload rest : List ℕ) → count ≡ Some (length payload)
+pub some_returns : (total : ℕ) (count : Option ℕ) (payload rest : List ℕ) → count ≡ Some (length payload)
     → payload_at total count (payload_bytes (Some payload) ++ rest) ≡ Ok (Some payload, rest)
 unfolding payload_at answer_at
 some_returns total count payload rest long =

@@ -95,7 +95,7 @@ two_take total bytes x are e =
     subst (λ (y : Statuses × List ℕ). Takes bytes (statuses_bytes y.0) y.1) (ok_is (statuses.Two a.0.0 b.0.0, b.0.1) x b.2)
     (and_then _ _ _ _ _ first second)
 
-statuses_take : (body : Body) (total : ℕ) (bytes : List ℕ) (x : Statuses × List ℕ) → IsBytes bytes → statuses_at body total bytes ≡ Ok x
+pub statuses_take : (body : Body) (total : ℕ) (bytes : List ℕ) (x : Statuses × List ℕ) → IsBytes bytes → statuses_at body total bytes ≡ Ok x
     → Takes bytes (statuses_bytes x.0) x.1
 statuses_take (Single c) total bytes x are e = one_takes total bytes x are e
 statuses_take (Pair c d) total bytes x are e = two_take total bytes x are e
@@ -122,7 +122,7 @@ by_flag zero total count bytes after x high first e =
 by_flag (suc zero) total count bytes after x high first e = behind_flag total count bytes after x first.rest_are e first
 by_flag (suc (suc n)) total count bytes after x high first e = absurd (omega (arith, high))
 
-payload_takes : (total : ℕ) (count : Option ℕ) (bytes : List ℕ) (x : Option (List ℕ) × List ℕ) → IsBytes bytes
+pub payload_takes : (total : ℕ) (count : Option ℕ) (bytes : List ℕ) (x : Option (List ℕ) × List ℕ) → IsBytes bytes
     → payload_at total count bytes ≡ Ok x → Takes bytes (payload_bytes x.0) x.1
 unfolding payload_at
 payload_takes total count bytes x are e =

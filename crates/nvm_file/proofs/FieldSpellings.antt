@@ -4,12 +4,11 @@ use Rattle.std.specs.List.{flat_map}
 use Rattle.std.proofs.lemmas.Bool.{ltb-false}
 use Rattle.std.proofs.lemmas.List.Concat.{flat_map-cons}
 use Rattle.byteorder.specs.Endian.{little_bytes, little_number}
-use Rattle.nvm_file.specs.declared.record_fault.RecordFault.{RecordFault}
 use Rattle.nvm_file.specs.declared.record_fault.RecordFault.TheVariants.{Truncated, BadValue}
 use Rattle.nvm_file.specs.Counted.{counted}
 use Rattle.nvm_file.specs.Fields.{◌>>=◌, offset, refused, bytes_at, number_at, number_in, number_below, items_at}
 use Rattle.nvm_file.proofs.NumberBytes.{IsBytes, bytes_again}
-use Rattle.nvm_file.proofs.Readings.{bind_ok, each_holds, kept, ok_is, took}
+use Rattle.nvm_file.proofs.Readings.{bind_ok, each_holds, kept, ok_same, took}
 
 -- The bytes are the piece, and then the rest.
 pub record Takes (bytes piece rest : List ℕ) : Type 0 where
@@ -75,13 +74,13 @@ run_are total n bytes x are e =
     let g = kept (ltb (length bytes) n) (Truncated (offset total bytes)) (take n bytes, drop n bytes) x e in
     subst (λ (y : List ℕ × List ℕ). IsBytes y.0) g.1 (taken n bytes are)
 
-module _ {A : Type 0} (spelled : A → List ℕ) (item : ℕ → List ℕ → Result (A × List ℕ) RecordFault)
+module _ {A E : Type 0} (spelled : A → List ℕ) (item : ℕ → List ℕ → Result (A × List ℕ) E)
     (takes : (i : ℕ) (bytes : List ℕ) (x : A × List ℕ) → IsBytes bytes → item i bytes ≡ Ok x → Takes bytes (spelled x.0) x.1) where
   pub items_take : (place count : ℕ) (bytes : List ℕ) (x : List A × List ℕ) → IsBytes bytes → items_at item place count bytes ≡ Ok x
       → Takes bytes (flat_map spelled x.0) x.1
   unfolding items_at
   items_take place zero bytes x are e =
-      subst (λ (y : List A × List ℕ). Takes bytes (flat_map spelled y.0) y.1) (ok_is ([], bytes) x e)
+      subst (λ (y : List A × List ℕ). Takes bytes (flat_map spelled y.0) y.1) (ok_same ([], bytes) x e)
       (record { parts = refl; rest_are = are })
   items_take place (suc count) bytes x are e =
       let a = bind_ok (item place bytes) (λ first. items_at item (place + 1) count first.1 >>= λ others. Ok (first.0 ∷ others.0, others.1)) x e in
@@ -89,18 +88,18 @@ module _ {A : Type 0} (spelled : A → List ℕ) (item : ℕ → List ℕ → Re
       let first = takes place bytes a.0 are a.1 in
       let others = items_take (place + 1) count a.0.1 b.0 first.rest_are b.1 in
       let both = and_then bytes (spelled a.0.0) a.0.1 (flat_map spelled b.0.0) b.0.1 first others in
-      subst (λ (y : List A × List ℕ). Takes bytes (flat_map spelled y.0) y.1) (ok_is (a.0.0 ∷ b.0.0, b.0.1) x b.2)
+      subst (λ (y : List A × List ℕ). Takes bytes (flat_map spelled y.0) y.1) (ok_same (a.0.0 ∷ b.0.0, b.0.1) x b.2)
       (spelled_as bytes (spelled a.0.0 ++ flat_map spelled b.0.0) (flat_map spelled (a.0.0 ∷ b.0.0)) b.0.1
       (sym (flat_map-cons spelled a.0.0 b.0.0)) both)
 
-module _ {A : Type 0} where
+module _ {A E : Type 0} where
   -- There are as many items as were asked for.
-  pub how_many : (item : ℕ → List ℕ → Result (A × List ℕ) RecordFault) (place count : ℕ) (bytes : List ℕ) (x : List A × List ℕ)
+  pub how_many : (item : ℕ → List ℕ → Result (A × List ℕ) E) (place count : ℕ) (bytes : List ℕ) (x : List A × List ℕ)
       → items_at item place count bytes ≡ Ok x → length x.0 ≡ count
   how_many item place count bytes x e = (each_holds (λ _. Unit {0}) item (λ i l y h. tt) place count bytes x e).1
 
   -- a count of four bytes, and then the items
-  pub counted_takes : (spelled : A → List ℕ) (item : ℕ → List ℕ → Result (A × List ℕ) RecordFault)
+  pub counted_takes : (spelled : A → List ℕ) (item : ℕ → List ℕ → Result (A × List ℕ) E)
       → ((i : ℕ) (bytes : List ℕ) (x : A × List ℕ) → IsBytes bytes → item i bytes ≡ Ok x → Takes bytes (spelled x.0) x.1)
       → (bytes : List ℕ) (count : ℕ × List ℕ) (x : List A × List ℕ) → Takes bytes (little_bytes 4 count.0) count.1
       → items_at item 0 count.0 count.1 ≡ Ok x → Takes bytes (counted spelled x.0) x.1

@@ -40,7 +40,7 @@ digit_takes (digit ∷ rest) x are e =
           (record { parts = ap (λ d. d ∷ rest) (eqb-true _ _ g.0); rest_are = are.1 })
     ]
 
-not_read : {A : Type 0} (f : RecordFault) (x : A) → Err f ≡ Ok x → ⊥
+pub not_read : {A : Type 0} (f : RecordFault) (x : A) → Err f ≡ Ok x → ⊥
 not_read f x e = absurd cc
 
 version_takes : (bytes : List ℕ) (x : Version × List ℕ) → IsBytes bytes → version_at bytes ≡ Ok x → Takes bytes (name_of x.0) x.1
@@ -59,7 +59,7 @@ version_takes bytes x are e =
       | inr other ↦ absurd (not_read fault.BadName x other.1)
     ]
 
-numbers_take : (total : ℕ) (bytes : List ℕ) (x : Namespace × List ℕ) → IsBytes bytes → numbers_at total bytes ≡ Ok x
+pub numbers_take : (total : ℕ) (bytes : List ℕ) (x : Namespace × List ℕ) → IsBytes bytes → numbers_at total bytes ≡ Ok x
     → Takes bytes (namespace_bytes x.0) x.1
 unfolding numbers_at
 numbers_take total bytes x are e =
@@ -79,7 +79,7 @@ numbers_take total bytes x are e =
     (ok_is (namespace_of a.0.0 b.0.0 c.0.0 d.0.0 f.0.0 g.0.0, g.0.1) x g.2)
     (and_then _ _ _ _ _ nsze (and_then _ _ _ _ _ size (and_then _ _ _ _ _ nabsn (and_then _ _ _ _ _ nabo (and_then _ _ _ _ _ nawun nacwu)))))
 
-judged_is : (ns x : Namespace) → judged ns ≡ Ok x → ns ≡ x
+pub judged_is : (ns x : Namespace) → judged ns ≡ Ok x → ns ≡ x
 unfolding judged
 judged_is ns x e = (took (is_geometry ns) (fault.BadValue 4) ns x e).1
 

@@ -11,7 +11,7 @@ use Rattle.nvm_file.specs.HeadReading.{frame_with, head_at, is_geometry, judged,
 use Rattle.nvm_file.proofs.Geometries.{is_valid}
 use Rattle.nvm_file.proofs.Readings.{bind_ok, in_range, ok_is, took}
 
-judged_valid : (ns judge : Namespace) → judged ns ≡ Ok judge → IsValid judge
+pub judged_valid : (ns judge : Namespace) → judged ns ≡ Ok judge → IsValid judge
 unfolding judged
 judged_valid ns judge e =
     let g = took (is_geometry ns) (fault.BadValue 4) ns judge e in

@@ -18,7 +18,7 @@ unfolding version_at
 version_returns One rest = refl
 version_returns Two rest = refl
 
-numbers_return : (total : ℕ) (ns : Namespace) (rest : List ℕ) → NumbersFit ns → numbers_at total (namespace_bytes ns ++ rest) ≡ Ok (ns, rest)
+pub numbers_return : (total : ℕ) (ns : Namespace) (rest : List ℕ) → NumbersFit ns → numbers_at total (namespace_bytes ns ++ rest) ≡ Ok (ns, rest)
 unfolding numbers_at
 numbers_return total ns rest fit =
     let nacwu = little_bytes 2 ns.nacwu ++ rest in
@@ -33,7 +33,7 @@ numbers_return total ns rest fit =
     (read_then _ _ _ _ (number_returns total 2 ns.nawun nacwu fit.nawun)
     (read_then _ _ _ _ (number_returns total 2 ns.nacwu rest fit.nacwu) refl)))))
 
-judged_valid : (ns : Namespace) → IsValid ns → judged ns ≡ Ok ns
+pub judged_valid : (ns : Namespace) → IsValid ns → judged ns ≡ Ok ns
 unfolding judged
 judged_valid ns valid = rw (is_valid_back ns valid) refl
 

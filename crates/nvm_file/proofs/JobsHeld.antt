@@ -10,7 +10,7 @@ use Rattle.nvm_plan.specs.declared.job.Job.{Job}
 use Rattle.nvm_plan.specs.Fits.{FitsNamespace, IsWholeBody, most_hosts}
 use Rattle.nvm_plan.specs.Profile.{is_in_profile}
 use Rattle.nvm_audit.specs.Recordable.{HoldsBody}
-use Rattle.nvm_file.specs.declared.frame.Frame.{Frame}
+use Rattle.nvm_file.specs.declared.scope.Scope.{Scope}
 use Rattle.nvm_file.specs.declared.standing.Standing.TheVariants.{Alone, FirstOfPair, SecondOfPair}
 use Rattle.nvm_file.specs.CommandReading.{command_at}
 use Rattle.nvm_file.specs.Fields.{◌>>=◌, number_in}
@@ -19,14 +19,14 @@ use Rattle.nvm_file.proofs.CommandsHeld.{IsProperEach, command_held}
 use Rattle.nvm_file.proofs.Readings.{bind_ok, chosen, in_range, ok_is}
 
 -- What holds of the commands of a job that was read.
-record IsHeldBody (frame : Frame) (body : Body) : Type 0 where
-  whole : IsWholeBody frame.geometry.block_size body
-  known : HoldsBody frame.version body
+record IsHeldBody (scope : Scope) (body : Body) : Type 0 where
+  whole : IsWholeBody scope.geometry.block_size body
+  known : HoldsBody scope.version body
 
 -- What holds of a job that was read.
-pub record IsHeldJob (frame : Frame) (job : Job) : Type 0 where
-  pub fits : FitsNamespace frame.geometry job
-  pub known : HoldsBody frame.version job.body
+pub record IsHeldJob (scope : Scope) (job : Job) : Type 0 where
+  pub fits : FitsNamespace scope.geometry job
+  pub known : HoldsBody scope.version job.body
 
 unknown_is_not : IsTrue (is_in_profile (Other 9)) → ⊥
 unknown_is_not h = absurd cc
@@ -35,25 +35,25 @@ surely : (size : ℕ) (c : Command) → IsWhole size c ⊎ IsUnknownDataset c �
 surely size c (inl whole) t = whole
 surely size c (inr unknown) t = absurd (unknown_is_not (subst (λ (o : Op). IsTrue (is_in_profile o)) unknown.op t))
 
-module _ (proper : IsProperEach) (frame : Frame) where
-  single_held : (bytes : List ℕ) (x : Body × List ℕ) → single_at frame bytes ≡ Ok x → IsHeldBody frame x.0
+module _ (proper : IsProperEach) (scope : Scope) where
+  single_held : (bytes : List ℕ) (x : Body × List ℕ) → single_at scope bytes ≡ Ok x → IsHeldBody scope x.0
   unfolding single_at
   single_held bytes x e =
-      let a = bind_ok (command_at frame Alone bytes) (λ command. Ok (Single command.0, command.1)) x e in
-      let h = command_held proper frame Alone bytes a.0 a.1 in
-      subst (λ (y : Body × List ℕ). IsHeldBody frame y.0) (ok_is (Single a.0.0, a.0.1) x a.2)
+      let a = bind_ok (command_at scope Alone bytes) (λ command. Ok (Single command.0, command.1)) x e in
+      let h = command_held proper scope Alone bytes a.0 a.1 in
+      subst (λ (y : Body × List ℕ). IsHeldBody scope y.0) (ok_is (Single a.0.0, a.0.1) x a.2)
       (record { whole = h.whole; known = h.known })
 
-  pair_held : (bytes : List ℕ) (x : Body × List ℕ) → pair_at frame bytes ≡ Ok x → IsHeldBody frame x.0
+  pair_held : (bytes : List ℕ) (x : Body × List ℕ) → pair_at scope bytes ≡ Ok x → IsHeldBody scope x.0
   unfolding pair_at
   pair_held bytes x e =
-      let a = bind_ok (command_at frame FirstOfPair bytes)
-      (λ first. command_at frame SecondOfPair first.1 >>= λ second. Ok (Pair first.0 second.0, second.1)) x e in
-      let b = bind_ok (command_at frame SecondOfPair a.0.1) (λ second. Ok (Pair a.0.0 second.0, second.1)) x a.2 in
-      let h = command_held proper frame FirstOfPair bytes a.0 a.1 in
-      let k = command_held proper frame SecondOfPair a.0.1 b.0 b.1 in
-      let size = frame.geometry.block_size in
-      subst (λ (y : Body × List ℕ). IsHeldBody frame y.0) (ok_is (Pair a.0.0 b.0.0, b.0.1) x b.2)
+      let a = bind_ok (command_at scope FirstOfPair bytes)
+      (λ first. command_at scope SecondOfPair first.1 >>= λ second. Ok (Pair first.0 second.0, second.1)) x e in
+      let b = bind_ok (command_at scope SecondOfPair a.0.1) (λ second. Ok (Pair a.0.0 second.0, second.1)) x a.2 in
+      let h = command_held proper scope FirstOfPair bytes a.0 a.1 in
+      let k = command_held proper scope SecondOfPair a.0.1 b.0 b.1 in
+      let size = scope.geometry.block_size in
+      subst (λ (y : Body × List ℕ). IsHeldBody scope y.0) (ok_is (Pair a.0.0 b.0.0, b.0.1) x b.2)
       (record {
         whole = (
           surely size a.0.0 h.whole h.stands.1,
@@ -63,23 +63,23 @@ module _ (proper : IsProperEach) (frame : Frame) where
         known = (h.known, k.known);
       })
 
-  body_held : (kind : ℕ) (bytes : List ℕ) (x : Body × List ℕ) → body_at kind frame bytes ≡ Ok x → IsHeldBody frame x.0
-  body_held kind bytes x e = elim (chosen (eqb kind 0) (single_at frame bytes) (pair_at frame bytes) (Ok x) e) [
+  body_held : (kind : ℕ) (bytes : List ℕ) (x : Body × List ℕ) → body_at kind scope bytes ≡ Ok x → IsHeldBody scope x.0
+  body_held kind bytes x e = elim (chosen (eqb kind 0) (single_at scope bytes) (pair_at scope bytes) (Ok x) e) [
     | inl h ↦ single_held bytes x h.1
     | inr h ↦ pair_held bytes x h.1
   ]
 
-  pub job_held : (bytes : List ℕ) (x : Job × List ℕ) → job_at frame bytes ≡ Ok x → IsHeldJob frame x.0
+  pub job_held : (bytes : List ℕ) (x : Job × List ℕ) → job_at scope bytes ≡ Ok x → IsHeldJob scope x.0
   unfolding job_at
   job_held bytes x e =
-      let a = bind_ok (number_in frame.total 2 1 most_hosts bytes)
-      (λ host. number_in frame.total 1 0 1 host.1 >>= λ kind. body_at kind.0 frame kind.1
+      let a = bind_ok (number_in scope.total 2 1 most_hosts bytes)
+      (λ host. number_in scope.total 1 0 1 host.1 >>= λ kind. body_at kind.0 scope kind.1
       >>= λ body. Ok (record { host = host.0; body = body.0 }, body.1)) x e in
-      let b = bind_ok (number_in frame.total 1 0 1 a.0.1)
-      (λ kind. body_at kind.0 frame kind.1 >>= λ body. Ok (record { host = a.0.0; body = body.0 }, body.1)) x a.2 in
-      let c = bind_ok (body_at b.0.0 frame b.0.1) (λ body. Ok (record { host = a.0.0; body = body.0 }, body.1)) x b.2 in
-      let host = in_range frame.total 2 1 most_hosts bytes a.0 a.1 in
+      let b = bind_ok (number_in scope.total 1 0 1 a.0.1)
+      (λ kind. body_at kind.0 scope kind.1 >>= λ body. Ok (record { host = a.0.0; body = body.0 }, body.1)) x a.2 in
+      let c = bind_ok (body_at b.0.0 scope b.0.1) (λ body. Ok (record { host = a.0.0; body = body.0 }, body.1)) x b.2 in
+      let host = in_range scope.total 2 1 most_hosts bytes a.0 a.1 in
       let h = body_held b.0.0 b.0.1 c.0 c.1 in
       let job : Job = record { host = a.0.0; body = c.0.0 } in
-      subst (λ (y : Job × List ℕ). IsHeldJob frame y.0) (ok_is (job, c.0.1) x c.2)
+      subst (λ (y : Job × List ℕ). IsHeldJob scope y.0) (ok_is (job, c.0.1) x c.2)
       (record { fits = record { host = host.0; host_end = host.1; body = h.whole }; known = h.known })

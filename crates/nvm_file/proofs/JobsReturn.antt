@@ -15,7 +15,7 @@ use Rattle.nvm_plan.specs.Profile.{is_in_profile}
 use Rattle.nvm_audit.specs.declared.version.Version.{Version}
 use Rattle.nvm_audit.specs.declared.version.Version.TheVariants.{One, Two}
 use Rattle.nvm_audit.specs.Recordable.{HoldsBody, HoldsCommand}
-use Rattle.nvm_file.specs.declared.frame.Frame.{Frame}
+use Rattle.nvm_file.specs.declared.scope.Scope.{Scope}
 use Rattle.nvm_file.specs.declared.standing.Standing.{Standing}
 use Rattle.nvm_file.specs.declared.standing.Standing.TheVariants.{Alone, FirstOfPair, SecondOfPair}
 use Rattle.nvm_file.specs.CommandReading.{command_at, is_first, is_second, may_stand}
@@ -45,63 +45,63 @@ is_second_version One c some known = absurd (both (carries_ranges c.op) some kno
     both false t f = absurd cc
 is_second_version Two c some known = refl
 
-module _ (frame : Frame) (standing : Standing) (c : Command) (rest : List ℕ) (range : HasFieldsInRange c)
+module _ (scope : Scope) (standing : Standing) (c : Command) (rest : List ℕ) (range : HasFieldsInRange c)
     (stands : may_stand standing (fields_by c) ≡ true) where
-  with_ranges : carries_ranges c.op ≡ true → IsWhole frame.geometry.block_size c ⊎ IsUnknownDataset c → HoldsCommand frame.version c
-      → command_at frame standing (spelling_of c ++ rest) ≡ Ok (c, rest)
+  with_ranges : carries_ranges c.op ≡ true → IsWhole scope.geometry.block_size c ⊎ IsUnknownDataset c → HoldsCommand scope.version c
+      → command_at scope standing (spelling_of c ++ rest) ≡ Ok (c, rest)
   with_ranges some (inl whole) known =
       let dataset = has_ranges c.op some in
-      let ranges = subst (λ (o : Op). HasDataOf frame.geometry.block_size o c) dataset.1 whole.payload in
-      dataset_again frame standing c rest range stands dataset.0
-      (is_second_version frame.version c some known) dataset.1 ranges
+      let ranges = subst (λ (o : Op). HasDataOf scope.geometry.block_size o c) dataset.1 whole.payload in
+      dataset_again scope standing c rest range stands dataset.0
+      (is_second_version scope.version c some known) dataset.1 ranges
   with_ranges some (inr unknown) known = absurd (none some (ap carries_ranges unknown.op))
     where
       none : {b : Bool} → b ≡ true → b ≡ false → ⊥
       none t f = absurd (cc (t, f))
 
-  command_returns : IsWhole frame.geometry.block_size c ⊎ IsUnknownDataset c → HoldsCommand frame.version c
-      → command_at frame standing (spelling_of c ++ rest) ≡ Ok (c, rest)
+  command_returns : IsWhole scope.geometry.block_size c ⊎ IsUnknownDataset c → HoldsCommand scope.version c
+      → command_at scope standing (spelling_of c ++ rest) ≡ Ok (c, rest)
   command_returns whole known = by (carries_ranges c.op) refl
     where
-      by : (b : Bool) → carries_ranges c.op ≡ b → command_at frame standing (spelling_of c ++ rest) ≡ Ok (c, rest)
+      by : (b : Bool) → carries_ranges c.op ≡ b → command_at scope standing (spelling_of c ++ rest) ≡ Ok (c, rest)
       by true some = with_ranges some whole known
-      by false none = plain_again frame standing c rest range stands none whole known
+      by false none = plain_again scope standing c rest range stands none whole known
 
-single_returns : (frame : Frame) (c : Command) (rest : List ℕ) → IsWholeBody frame.geometry.block_size (Single c)
-    → HoldsCommand frame.version c → HasFieldsInRange c → single_at frame (spelling_of c ++ rest) ≡ Ok (Single c, rest)
+single_returns : (scope : Scope) (c : Command) (rest : List ℕ) → IsWholeBody scope.geometry.block_size (Single c)
+    → HoldsCommand scope.version c → HasFieldsInRange c → single_at scope (spelling_of c ++ rest) ≡ Ok (Single c, rest)
 unfolding single_at
-single_returns frame c rest whole known range =
-    read_then _ _ _ _ (command_returns frame Alone c rest range refl whole known) refl
+single_returns scope c rest whole known range =
+    read_then _ _ _ _ (command_returns scope Alone c rest range refl whole known) refl
 
-pair_returns : (frame : Frame) (c d : Command) (rest : List ℕ) → IsWholeBody frame.geometry.block_size (Pair c d)
-    → HoldsBody frame.version (Pair c d) → BodyFits (Pair c d)
-    → pair_at frame ((spelling_of c ++ spelling_of d) ++ rest) ≡ Ok (Pair c d, rest)
+pair_returns : (scope : Scope) (c d : Command) (rest : List ℕ) → IsWholeBody scope.geometry.block_size (Pair c d)
+    → HoldsBody scope.version (Pair c d) → BodyFits (Pair c d)
+    → pair_at scope ((spelling_of c ++ spelling_of d) ++ rest) ≡ Ok (Pair c d, rest)
 unfolding pair_at
-pair_returns frame c d rest (first, second, fused) known range =
+pair_returns scope c d rest (first, second, fused) known range =
     let of_first = and_from (is_first c.fuse) (is_in_profile c.op) (ap is_first fused.first) fused.first_op in
     let of_second = and_from (is_second d.fuse) (is_in_profile d.op) (ap is_second fused.second) fused.second_op in
-    ap (pair_at frame) (append_assoc (spelling_of c) (spelling_of d) rest)
-    ∙ read_then _ _ _ _ (command_returns frame FirstOfPair c (spelling_of d ++ rest) range.0 of_first (inl first) known.0)
-    (read_then _ _ _ _ (command_returns frame SecondOfPair d rest range.1 of_second (inl second) known.1) refl)
+    ap (pair_at scope) (append_assoc (spelling_of c) (spelling_of d) rest)
+    ∙ read_then _ _ _ _ (command_returns scope FirstOfPair c (spelling_of d ++ rest) range.0 of_first (inl first) known.0)
+    (read_then _ _ _ _ (command_returns scope SecondOfPair d rest range.1 of_second (inl second) known.1) refl)
 
-body_returns : (frame : Frame) (body : Body) (rest : List ℕ) → IsWholeBody frame.geometry.block_size body
-    → HoldsBody frame.version body → BodyFits body → body_at (body_kind body) frame (commands_bytes body ++ rest) ≡ Ok (body, rest)
-body_returns frame (Single c) rest whole known range = single_returns frame c rest whole known range
-body_returns frame (Pair c d) rest whole known range = pair_returns frame c d rest whole known range
+body_returns : (scope : Scope) (body : Body) (rest : List ℕ) → IsWholeBody scope.geometry.block_size body
+    → HoldsBody scope.version body → BodyFits body → body_at (body_kind body) scope (commands_bytes body ++ rest) ≡ Ok (body, rest)
+body_returns scope (Single c) rest whole known range = single_returns scope c rest whole known range
+body_returns scope (Pair c d) rest whole known range = pair_returns scope c d rest whole known range
 
 kind_returns : (total : ℕ) (body : Body) (rest : List ℕ)
     → number_in total 1 0 1 (body_kind body ∷ rest) ≡ Ok (body_kind body, rest)
 kind_returns total (Single c) rest = number_in_returns total 1 0 1 0 rest (omega arith) (omega arith) (omega arith)
 kind_returns total (Pair c d) rest = number_in_returns total 1 0 1 1 rest (omega arith) (omega arith) (omega arith)
 
-pub job_returns : (frame : Frame) (job : Job) (rest : List ℕ) → FitsNamespace frame.geometry job → HoldsBody frame.version job.body
-    → JobFits job → job_at frame (job_bytes job ++ rest) ≡ Ok (job, rest)
+pub job_returns : (scope : Scope) (job : Job) (rest : List ℕ) → FitsNamespace scope.geometry job → HoldsBody scope.version job.body
+    → JobFits job → job_at scope (job_bytes job ++ rest) ≡ Ok (job, rest)
 unfolding job_at
-job_returns frame job rest fits known range =
+job_returns scope job rest fits known range =
     let commands = commands_bytes job.body in
     let grouped : job_bytes job ++ rest ≡ little_bytes 2 job.host ++ (body_kind job.body ∷ (commands ++ rest)) = refl in
-    ap (job_at frame) grouped
-    ∙ read_then _ _ _ _ (number_in_returns frame.total 2 1 most_hosts job.host (body_kind job.body ∷ (commands ++ rest))
+    ap (job_at scope) grouped
+    ∙ read_then _ _ _ _ (number_in_returns scope.total 2 1 most_hosts job.host (body_kind job.body ∷ (commands ++ rest))
     (omega (arith, fits.host_end)) fits.host fits.host_end)
-    (read_then _ _ _ _ (kind_returns frame.total job.body (commands ++ rest))
-    (read_then _ _ _ _ (body_returns frame job.body rest fits.body known range) refl))
+    (read_then _ _ _ _ (kind_returns scope.total job.body (commands ++ rest))
+    (read_then _ _ _ _ (body_returns scope job.body rest fits.body known range) refl))

@@ -30,3 +30,7 @@ pub mod EntriesReturn
 pub mod DoneReturn
 pub mod RecordsReturn
 pub mod SecondVerdict
+pub mod TraceParts
+pub mod TracesHeld
+pub mod TraceSpellings
+pub mod TracesReturn

@@ -14,7 +14,7 @@ use Rattle.nvm_file.specs.EntrySpelling.{history_bytes}
 use Rattle.nvm_file.specs.HeadReading.{head_at}
 use Rattle.nvm_file.specs.JobReading.{job_at}
 use Rattle.nvm_file.specs.JobSpelling.{job_bytes}
-use Rattle.nvm_file.specs.Reading.{jobs_at, units_at, workers_at, record_with, whole, body_of, record_at}
+use Rattle.nvm_file.specs.Reading.{jobs_at, scope_of, units_at, workers_at, record_with, whole, body_of, record_at}
 use Rattle.nvm_file.specs.Spelling.{record_bytes}
 use Rattle.nvm_file.specs.WorkSpelling.{work_bytes}
 use Rattle.nvm_file.proofs.CommandSpellings.{job_takes}
@@ -29,8 +29,8 @@ jobs_take : (frame : Frame) (bytes : List ℕ) (x : List Job × List ℕ) → Is
     → Takes bytes (flat_map job_bytes x.0) x.1 × (length x.0 ≡ frame.jobs)
 unfolding jobs_at
 jobs_take frame bytes x are e =
-    let item = λ (_ : ℕ). job_at frame in
-    (items_take job_bytes item (λ i l y. job_takes frame l y) 0 frame.jobs bytes x are e, how_many item 0 frame.jobs bytes x e)
+    let item = λ (_ : ℕ). job_at (scope_of frame) in
+    (items_take job_bytes item (λ i l y. job_takes (scope_of frame) l y) 0 frame.jobs bytes x are e, how_many item 0 frame.jobs bytes x e)
 
 units_take : (frame : Frame) (bytes : List ℕ) (x : List (List HistoryEntry) × List ℕ) → IsBytes bytes → units_at frame bytes ≡ Ok x
     → Takes bytes (flat_map history_bytes x.0) x.1

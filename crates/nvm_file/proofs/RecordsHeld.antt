@@ -18,7 +18,7 @@ use Rattle.nvm_file.specs.EntryReading.{entry_at, history_at, place_of}
 use Rattle.nvm_file.specs.Fields.{items_at, number_in}
 use Rattle.nvm_file.specs.Inside.Frames.{IsSoundFrame}
 use Rattle.nvm_file.specs.JobReading.{job_at}
-use Rattle.nvm_file.specs.Reading.{jobs_at, record_with, units_at, workers_at}
+use Rattle.nvm_file.specs.Reading.{jobs_at, record_with, scope_of, units_at, workers_at}
 use Rattle.nvm_file.proofs.CommandsHeld.{IsProperEach}
 use Rattle.nvm_file.proofs.DoneHeld.{IsHeldDone, done_held}
 use Rattle.nvm_file.proofs.EntriesHeld.{IsHeldEntry, entry_held}
@@ -87,7 +87,7 @@ module _ (proper : IsProperEach) (has_place : HasPlace) (frame : Frame) (sound :
   unfolding jobs_at units_at workers_at
   record_held jobs units done a b c d e f of_jobs of_units of_workers =
       let r = record_with frame jobs units done in
-      let j = each_holds (IsHeldJob frame) (λ _. job_at frame) (λ i rest y h. job_held proper frame rest y h) 0 frame.jobs a (jobs, b) of_jobs in
+      let j = each_holds (IsHeldJob (scope_of frame)) (λ _. job_at (scope_of frame)) (λ i rest y h. job_held proper (scope_of frame) rest y h) 0 frame.jobs a (jobs, b) of_jobs in
       let many = each_holds (λ _. Unit {0}) (history_at frame) (λ i rest y h. tt) 0 (units_of frame.geometry) c (units, d) of_units in
       let u = each_stands (IsHeldHistory frame) (history_at frame) (λ i rest y h. history_held frame i rest y h)
       0 (units_of frame.geometry) c (units, d) of_units in
@@ -99,7 +99,7 @@ module _ (proper : IsProperEach) (has_place : HasPlace) (frame : Frame) (sound :
         some_worker = sound.some_worker;
         few_workers = sound.few_workers;
         few_jobs = omega (arith, j.1, sound.few_jobs);
-        jobs = all_so (IsHeldJob frame) (IsRecordableJob r) (λ job h. record { fits = h.fits; known = h.known }) jobs j.0;
+        jobs = all_so (IsHeldJob (scope_of frame)) (IsRecordableJob r) (λ job h. record { fits = h.fits; known = h.known }) jobs j.0;
         all_units = many.1;
         units = λ unit history at.
             let lt : unit < units_of frame.geometry = subst (λ (n : ℕ). unit < n) many.1 (below units unit history at) in

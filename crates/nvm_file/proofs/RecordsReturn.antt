@@ -27,7 +27,7 @@ use Rattle.nvm_file.specs.HeadReading.{frame_with, head_at}
 use Rattle.nvm_file.specs.HeadSpelling.{head_bytes}
 use Rattle.nvm_file.specs.JobReading.{job_at}
 use Rattle.nvm_file.specs.JobSpelling.{job_bytes}
-use Rattle.nvm_file.specs.Reading.{body_of, jobs_at, record_at, units_at, workers_at}
+use Rattle.nvm_file.specs.Reading.{body_of, jobs_at, record_at, scope_of, units_at, workers_at}
 use Rattle.nvm_file.specs.Spelling.{record_bytes}
 use Rattle.nvm_file.specs.WorkSpelling.{work_bytes}
 use Rattle.nvm_file.proofs.DoneReturn.{MayBeDone, work_returns}
@@ -57,7 +57,7 @@ module _ (has_place : HasPlace) (one_place : HasOnePlace) (r : RecordView) (can 
   jobs_return total rest =
       let P = λ (job : Job). (FitsNamespace r.namespace job) × (HoldsBody r.version job.body) × JobFits job in
       let each : All P r.jobs = λ k d below. let h = can.jobs k d below in (h.fits, h.known, fit.jobs k d below) in
-      items_return job_bytes P (λ _. job_at (frame_of total)) (λ i job after h. job_returns (frame_of total) job after h.0 h.1 h.2)
+      items_return job_bytes P (λ _. job_at (scope_of (frame_of total))) (λ i job after h. job_returns (scope_of (frame_of total)) job after h.0 h.1 h.2)
       0 r.jobs rest (recursion_from_All P r.jobs each)
 
   -- the place at which a unit of the record is read

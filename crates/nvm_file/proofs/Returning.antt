@@ -7,7 +7,6 @@ use Rattle.std.proofs.lemmas.List.Concat.{flat_map-cons}
 use Rattle.byteorder.specs.Endian.{little_bytes}
 use Rattle.byteorder.specs.Numbers.{length-bytes_low_first, little_number-reads_back}
 use Rattle.nvm_record.specs.Lists.{IsAt}
-use Rattle.nvm_file.specs.declared.record_fault.RecordFault.{RecordFault}
 use Rattle.nvm_file.specs.Fields.{◌>>=◌, bytes_at, number_at, number_in, number_below, items_at}
 
 long : (n : ℕ) (text rest : List ℕ) → length text ≡ n → ltb (length (text ++ rest)) n ≡ false
@@ -35,9 +34,9 @@ unfolding bytes_at
 bytes_return total n text rest len = rw (long n text rest len, take_at text rest n len, drop_at text rest n len) refl
 
 -- What comes before was read, and then what follows it.
-pub read_then : {A B : Type 0} (r : Result A RecordFault) (f : A → Result B RecordFault) (x : A) (y : B) → r ≡ Ok x → f x ≡ Ok y
+pub read_then : {A B E : Type 0} (r : Result A E) (f : A → Result B E) (x : A) (y : B) → r ≡ Ok x → f x ≡ Ok y
     → (r >>= f) ≡ Ok y
-read_then {A} r f x y e g = subst (λ (s : Result A RecordFault). (s >>= f) ≡ Ok y) (sym e) g
+read_then {A} {B} {E} r f x y e g = subst (λ (s : Result A E). (s >>= f) ≡ Ok y) (sym e) g
 
 -- a byte by itself is a number of one byte
 pub byte_returns : (total b : ℕ) (rest : List ℕ) → b < 256 → number_at total 1 (b ∷ rest) ≡ Ok (b, rest)
@@ -45,8 +44,8 @@ byte_returns total b rest lt =
     let one : little_bytes 1 b ≡ b ∷ [] = ap (λ (n : ℕ). n ∷ []) (omega (arith, lt)) in
     ap (λ (l : List ℕ). number_at total 1 (l ++ rest)) (sym one) ∙ number_returns total 1 b rest lt
 
-module _ {A : Type 0} where
-  pub items_return : (text : A → List ℕ) (P : A → Type 0) (item : ℕ → List ℕ → Result (A × List ℕ) RecordFault)
+module _ {A E : Type 0} where
+  pub items_return : (text : A → List ℕ) (P : A → Type 0) (item : ℕ → List ℕ → Result (A × List ℕ) E)
       → ((i : ℕ) (x : A) (rest : List ℕ) → P x → item i (text x ++ rest) ≡ Ok (x, rest))
       → (place : ℕ) (xs : List A) (rest : List ℕ) → AllByRecursion P xs
       → items_at item place (length xs) (flat_map text xs ++ rest) ≡ Ok (xs, rest)
@@ -59,7 +58,7 @@ module _ {A : Type 0} where
       ∙ rw (returns place x (flat_map text xs ++ rest) all.0, items_return text P item returns (place + 1) xs rest all.1) refl
 
   -- The same where what is read of an item depends on its place.
-  pub each_returns : (text : A → List ℕ) (P : ℕ → A → Type 0) (item : ℕ → List ℕ → Result (A × List ℕ) RecordFault)
+  pub each_returns : (text : A → List ℕ) (P : ℕ → A → Type 0) (item : ℕ → List ℕ → Result (A × List ℕ) E)
       → ((i : ℕ) (x : A) (rest : List ℕ) → P i x → item i (text x ++ rest) ≡ Ok (x, rest))
       → (place : ℕ) (xs : List A) (rest : List ℕ) → ((i : ℕ) (x : A) → IsAt xs i x → P (place + i) x)
       → items_at item place (length xs) (flat_map text xs ++ rest) ≡ Ok (xs, rest)

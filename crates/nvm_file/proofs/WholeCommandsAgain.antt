@@ -12,7 +12,7 @@ use Rattle.nvm_record.specs.Ranges.{data_of_ranges, most_ranges, range_count, ra
 use Rattle.nvm_audit.specs.declared.version.Version.{Version}
 use Rattle.nvm_audit.specs.declared.version.Version.TheVariants.{One, Two}
 use Rattle.nvm_audit.specs.Recordable.{HoldsCommand}
-use Rattle.nvm_file.specs.declared.frame.Frame.{Frame}
+use Rattle.nvm_file.specs.declared.scope.Scope.{Scope}
 use Rattle.nvm_file.specs.declared.standing.Standing.{Standing}
 use Rattle.nvm_file.specs.CommandReading.{command_at, fields_in, may_follow, may_stand}
 use Rattle.nvm_file.proofs.CommandsAgain.{command_again}
@@ -59,13 +59,13 @@ bits_say : (len count : ℕ) → count ≡ len / 16 → len ≡ count * 16 → 1
     → len ≡ ((len / 16 - 1) % 256 + 1) * 16
 bits_say len count c e some few = omega (arith, c, e, some, few)
 
-module _ (frame : Frame) (standing : Standing) (c : Command) (rest : List ℕ)
+module _ (scope : Scope) (standing : Standing) (c : Command) (rest : List ℕ)
     (range : HasFieldsInRange c) (stands : may_stand standing (fields_by c) ≡ true) where
-  pub plain_again : carries_ranges c.op ≡ false → IsWhole frame.geometry.block_size c ⊎ IsUnknownDataset c → HoldsCommand frame.version c
-      → command_at frame standing (spelling_of c ++ rest) ≡ Ok (c, rest)
+  pub plain_again : carries_ranges c.op ≡ false → IsWhole scope.geometry.block_size c ⊎ IsUnknownDataset c → HoldsCommand scope.version c
+      → command_at scope standing (spelling_of c ++ rest) ≡ Ok (c, rest)
   plain_again none whole known =
-      let size = frame.geometry.block_size in
-      command_again frame standing c rest (fields_back frame.version c none (known_by frame.version size c whole known) range)
+      let size = scope.geometry.block_size in
+      command_again scope standing c rest (fields_back scope.version c none (known_by scope.version size c whole known) range)
       (λ t. absurd (not_both (carries_ranges c.op) none t)) stands
       (length_by size c (fields_by c).nr none whole) (follows_plainly c.op c.payload none)
     where
@@ -73,12 +73,12 @@ module _ (frame : Frame) (standing : Standing) (c : Command) (rest : List ℕ)
       not_both true f t = absurd cc
       not_both false f t = absurd cc
 
-  pub dataset_again : (deallocate : Bool) → frame.version ≡ Two → c.op ≡ Dataset deallocate → HasRanges c
-      → command_at frame standing (spelling_of c ++ rest) ≡ Ok (c, rest)
+  pub dataset_again : (deallocate : Bool) → scope.version ≡ Two → c.op ≡ Dataset deallocate → HasRanges c
+      → command_at scope standing (spelling_of c ++ rest) ≡ Ok (c, rest)
   dataset_again deallocate two op h =
-      let size = frame.geometry.block_size in
+      let size = scope.geometry.block_size in
       let some : carries_ranges c.op ≡ true = ap carries_ranges op in
-      let fields : fields_in frame.version (entry_of c) ≡ fields_by c =
+      let fields : fields_in scope.version (entry_of c) ≡ fields_by c =
       subst (λ (v : Version). fields_in v (entry_of c) ≡ fields_by c) (sym two) (dataset_back c deallocate op h.slba h.nlb range) in
       let whole : length c.payload ≡ range_count c.payload * 16 =
       ap length h.plain ∙ length_of_ranges (ranges_of c.payload) ∙ ap (λ (n : ℕ). n * 16) (count_of_ranges c.payload) in
@@ -86,4 +86,4 @@ module _ (frame : Frame) (standing : Standing) (c : Command) (rest : List ℕ)
       let len : length c.payload ≡ data_length size c.op c.nlb (fields_by c).nr =
       subst (λ (o : Op). length c.payload ≡ data_length size o c.nlb (cond (carries_ranges o) ((length c.payload / 16 - 1) % 256) 0))
       (sym op) bits in
-      command_again frame standing c rest fields (λ _. h.nlb) stands len (follows_ranges c.op c.payload some h.few h.plain)
+      command_again scope standing c rest fields (λ _. h.nlb) stands len (follows_ranges c.op c.payload some h.few h.plain)

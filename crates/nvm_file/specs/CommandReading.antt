@@ -15,7 +15,7 @@ use Rattle.nvm_record.specs.Ranges.{most_ranges, range_count, ranges_of, data_of
 use Rattle.nvm_plan.specs.Profile.{is_in_profile}
 use Rattle.nvm_audit.specs.declared.version.Version.{Version}
 use Rattle.nvm_audit.specs.declared.version.Version.TheVariants.{One, Two}
-use Rattle.nvm_file.specs.declared.frame.Frame.{Frame}
+use Rattle.nvm_file.specs.declared.scope.Scope.{Scope}
 use Rattle.nvm_file.specs.declared.record_fault.RecordFault.{RecordFault}
 use Rattle.nvm_file.specs.declared.standing.Standing.{Standing}
 use Rattle.nvm_file.specs.declared.standing.Standing.TheVariants.{Alone, FirstOfPair, SecondOfPair}
@@ -101,8 +101,8 @@ command_with f payload =
     record { cid = f.cid; nsid = f.nsid; fuse = f.fuse; op = f.op; slba = f.slba; nlb = f.nlb; payload = payload }
 
 -- a command: its entry, then the data that it calls for
-unfoldable pub command_at : Frame → Standing → List ℕ → Result (Command × List ℕ) RecordFault
-command_at frame standing bytes = do
-  fields ← submission_at frame.total frame.version standing bytes
-  payload ← bytes_at frame.total (data_length frame.geometry.block_size fields.0.op fields.0.nlb fields.0.nr) fields.1
-  if may_follow fields.0.op payload.0 then Ok (command_with fields.0 payload.0, payload.1) else refused frame.total fields.1
+unfoldable pub command_at : Scope → Standing → List ℕ → Result (Command × List ℕ) RecordFault
+command_at scope standing bytes = do
+  fields ← submission_at scope.total scope.version standing bytes
+  payload ← bytes_at scope.total (data_length scope.geometry.block_size fields.0.op fields.0.nlb fields.0.nr) fields.1
+  if may_follow fields.0.op payload.0 then Ok (command_with fields.0 payload.0, payload.1) else refused scope.total fields.1

@@ -7,7 +7,7 @@ use Rattle.nvm_file.specs.declared.record_fault.RecordFault.TheVariants.{Truncat
 
 -- what is read of what comes before, then what follows it; the first fault ends the reading
 infixl 10 ◌>>=◌
-abbrev pub ◌>>=◌ : {A B : Type 0} → Result A RecordFault → (A → Result B RecordFault) → Result B RecordFault
+abbrev pub ◌>>=◌ : {A B E : Type 0} → Result A E → (A → Result B E) → Result B E
 (Ok x) >>= f = f x
 (Err e) >>= f = Err e
 
@@ -44,9 +44,9 @@ number_below total count end bytes = do
   n ← number_at total count bytes
   if nat_lt n.0 end then Ok n else refused total bytes
 
-module _ {A : Type 0} where
+module _ {A E : Type 0} where
   -- so many items, one after the other; the first of them is at this place
-  unfoldable pub items_at : (ℕ → List ℕ → Result (A × List ℕ) RecordFault) → ℕ → ℕ → List ℕ → Result (List A × List ℕ) RecordFault
+  unfoldable pub items_at : (ℕ → List ℕ → Result (A × List ℕ) E) → ℕ → ℕ → List ℕ → Result (List A × List ℕ) E
   items_at item place zero bytes = Ok ([], bytes)
   items_at item place (suc count) bytes = do
     first ← item place bytes

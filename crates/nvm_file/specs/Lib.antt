@@ -14,4 +14,11 @@ pub mod WorkSpelling
 pub mod Spelling
 pub mod Fits
 pub mod Upgrade
+pub mod TraceFields
+pub mod TraceHeadReading
+pub mod TracedJobReading
+pub mod TraceReading
+pub mod TraceFile
+pub mod TraceSpelling
+pub mod TraceFits
 pub mod Inside

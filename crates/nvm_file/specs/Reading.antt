@@ -9,15 +9,20 @@ use Rattle.nvm_audit.specs.RecordView.{RecordView}
 use Rattle.nvm_file.specs.declared.frame.Frame.{Frame}
 use Rattle.nvm_file.specs.declared.record_fault.RecordFault.{RecordFault}
 use Rattle.nvm_file.specs.declared.record_fault.RecordFault.TheVariants.{Trailing}
+use Rattle.nvm_file.specs.declared.scope.Scope.{Scope}
 use Rattle.nvm_file.specs.DoneReading.{work_at}
 use Rattle.nvm_file.specs.EntryReading.{history_at}
 use Rattle.nvm_file.specs.Fields.{◌>>=◌, offset, items_at}
 use Rattle.nvm_file.specs.HeadReading.{head_at}
 use Rattle.nvm_file.specs.JobReading.{job_at}
 
+-- what the commands of a file are read by
+abbrev pub scope_of : Frame → Scope
+scope_of frame = record { total = frame.total; version = frame.version; geometry = frame.geometry }
+
 -- the jobs, each at the place of its number
 unfoldable pub jobs_at : Frame → List ℕ → Result (List Job × List ℕ) RecordFault
-jobs_at frame bytes = items_at (λ _. job_at frame) 0 frame.jobs bytes
+jobs_at frame bytes = items_at (λ _. job_at (scope_of frame)) 0 frame.jobs bytes
 
 -- the history of each unit, in the order of the units
 unfoldable pub units_at : Frame → List ℕ → Result (List (List HistoryEntry) × List ℕ) RecordFault

@@ -8,9 +8,9 @@ ghost use Rattle.nvm_file.specs.Fields.{Gives};
 ghost use Rattle.nvm_file.specs.Inside.Rest.{left_of};
 
 use crate::fields::{cut_short, refused};
-use crate::frame::Frame;
 use crate::record_fault::RecordFault;
 use crate::rest::Rest;
+use crate::scope::Scope;
 use crate::standing::Standing;
 use byteorder::{ByteOrder, LittleEndian};
 use nvm_audit::Version;
@@ -24,17 +24,17 @@ const DATASET_MANAGEMENT: u8 = 0x09;
 #[tactic(auto, unfolding(crate::specs::CommandReading::command_at, crate::specs::Fields::bytes_at))]
 pub fn command_of<'a>(
     alloc: Global,
-    frame: &Frame,
+    scope: &Scope,
     standing: Standing,
     rest: Rest<'a>,
 ) -> Result<(Command, Rest<'a>), RecordFault>
-    ensures { Gives (λ x. (x.0, left_of x.1)) result (command_at frame.now standing (left_of rest.entry)) }
+    ensures { Gives (λ x. (x.0, left_of x.1)) result (command_at scope.now standing (left_of rest.entry)) }
 {
-    let (fields, rest) = submission_of(frame.total, frame.version, standing, rest)?;
-    let size = frame.geometry.block_size();
+    let (fields, rest) = submission_of(scope.total, scope.version, standing, rest)?;
+    let size = scope.geometry.block_size();
     let wanted = fields.op.data_length(fields.nlb, fields.nr, size);
     if rest.len() < wanted {
-        return Err(cut_short(frame.total, rest));
+        return Err(cut_short(scope.total, rest));
     }
     let command = Command {
         cid: fields.cid,
@@ -46,7 +46,7 @@ pub fn command_of<'a>(
         payload: rest.share(alloc, wanted)?,
     };
     if !follows(&command, fields.nr, size) {
-        return Err(refused(frame.total, rest));
+        return Err(refused(scope.total, rest));
     }
     Ok((command, rest.after(wanted)))
 }

@@ -188,7 +188,7 @@ fn result_of_code(code: u8) -> PartResult
 }
 
 /// A status for each command.
-fn statuses_of<'a>(
+pub fn statuses_of<'a>(
     body: &Body,
     total: usize,
     rest: Rest<'a>,
@@ -242,7 +242,7 @@ fn answer_length(geometry: &Geometry, job: &Job) -> Option<usize>
 }
 
 /// How many bytes are answered, where it is a Read.
-fn read_length(geometry: &Geometry, body: &Body) -> Option<usize>
+pub fn read_length(geometry: &Geometry, body: &Body) -> Option<usize>
     ensures { result ≡ spec.read_length geometry.now.block_size (operation_of_body geometry.now body.now) }
 {
     match body {
@@ -255,7 +255,7 @@ fn read_length(geometry: &Geometry, body: &Body) -> Option<usize>
 
 /// The data, if there is any: a flag of 0, or a flag of 1 and then the data, where there may be some.
 #[tactic(auto, unfolding(crate::specs::DoneReading::payload_at))]
-fn payload_of<'a>(
+pub fn payload_of<'a>(
     alloc: Global,
     total: usize,
     length: Option<usize>,

@@ -1,3 +1,7 @@
+ghost use Rattle.std.specs.Prelude.{◌≡◌};
+ghost use Rattle.nvm_file.specs.Reading.{scope_of};
+
+use crate::scope::Scope;
 use nvm_audit::Version;
 use nvm_geometry::Geometry;
 use nvm_store::Limit;
@@ -17,4 +21,17 @@ pub struct Frame {
     pub workers: u16,
     /// How many jobs there are.
     pub jobs: u32,
+}
+
+impl Frame {
+    /// What its commands are read by.
+    pub fn scope(&self) -> Scope
+        ensures { result ≡ scope_of self.now }
+    {
+        Scope {
+            total: self.total,
+            version: self.version,
+            geometry: self.geometry,
+        }
+    }
 }

@@ -30,7 +30,7 @@ const MOST_ENTRIES: u32 = 4_194_304;
 
 /// The numbers of a namespace, which may be any.
 #[derive(Clone, Copy)]
-struct Numbers {
+pub struct Numbers {
     nsze: u64,
     block_size: u32,
     nabsn: u16,
@@ -79,7 +79,21 @@ pub fn frame_of(total: usize, head: &Head) -> Frame
     requires limit { IsLimit head.now.limit }
     ensures { result ≡ frame_by total head.now }
 {
-    let numbers = head.numbers;
+    Frame {
+        total,
+        version: head.version,
+        geometry: geometry_by(&head.numbers),
+        limit: Limit::new(head.limit).unwrap(),
+        workers: head.workers,
+        jobs: head.jobs,
+    }
+}
+
+/// The geometry of numbers that are those of one.
+pub fn geometry_by(numbers: &Numbers) -> Geometry
+    requires { HasNoFault (namespace_with numbers.now) }
+    ensures { result ≡ namespace_with numbers.now }
+{
     let geometry = Geometry::new(
         numbers.nsze,
         numbers.block_size,
@@ -88,14 +102,7 @@ pub fn frame_of(total: usize, head: &Head) -> Frame
         numbers.nawun,
         numbers.nacwu,
     );
-    Frame {
-        total,
-        version: head.version,
-        geometry: geometry.unwrap(),
-        limit: Limit::new(head.limit).unwrap(),
-        workers: head.workers,
-        jobs: head.jobs,
-    }
+    geometry.unwrap()
 }
 
 /// The file's name and its version.
@@ -122,7 +129,7 @@ fn digit_of(rest: Rest<'_>) -> Result<(Version, Rest<'_>), RecordFault>
 
 /// The numbers of the namespace.
 #[tactic(auto, unfolding(crate::specs::HeadReading::numbers_at))]
-fn numbers_of(total: usize, rest: Rest<'_>) -> Result<(Numbers, Rest<'_>), RecordFault>
+pub fn numbers_of(total: usize, rest: Rest<'_>) -> Result<(Numbers, Rest<'_>), RecordFault>
     ensures { Gives (λ x. (namespace_with x.0, left_of x.1)) result (numbers_at total (left_of rest.entry)) }
 {
     let (nsze, rest) = u64_of(total, rest)?;
@@ -144,7 +151,7 @@ fn numbers_of(total: usize, rest: Rest<'_>) -> Result<(Numbers, Rest<'_>), Recor
 
 /// The geometry of these numbers, if they are those of one.
 #[tactic(auto, unfolding(crate::specs::HeadReading::judged))]
-fn geometry_of(numbers: &Numbers) -> Result<Geometry, RecordFault>
+pub fn geometry_of(numbers: &Numbers) -> Result<Geometry, RecordFault>
     ensures judged { Gives (λ _. namespace_with numbers.now) result (judged (namespace_with numbers.now)) }
     ensures sound { IfOk result (λ _. HasNoFault (namespace_with numbers.now)) }
 {

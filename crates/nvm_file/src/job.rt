@@ -1,16 +1,17 @@
 //! Jobs of a record file.
 ghost use Rattle.std.specs.Prelude.{◌≡◌};
-ghost use Rattle.nvm_file.specs.Fields.{Gives};
+ghost use Rattle.nvm_file.specs.Fields.{Gives, items_at};
 ghost use Rattle.nvm_file.specs.JobReading as spec;
 ghost use Rattle.nvm_file.specs.JobReading.{job_at, pair_at, single_at};
-ghost use Rattle.nvm_file.specs.Reading.{jobs_at};
 ghost use Rattle.nvm_file.specs.Inside.Rest.{left_of};
+ghost use Rattle.nvm_file.specs.Reading.{jobs_at};
 
 use crate::command::command_of;
 use crate::fields::{room_for, u8_in, u16_in};
 use crate::frame::Frame;
 use crate::record_fault::RecordFault;
 use crate::rest::Rest;
+use crate::scope::Scope;
 use crate::standing::Standing;
 use nvm_plan::{Body, Job, MOST_HOSTS};
 use std::alloc::Global;
@@ -19,18 +20,32 @@ use std::alloc::Global;
 const LEAST_BYTES: usize = 67;
 
 /// The jobs, each at the place of its number. Their data is shared with the file.
+#[tactic(auto, unfolding(crate::specs::Reading::jobs_at))]
 pub fn jobs_of<'a>(
     alloc: Global,
     frame: &Frame,
+    rest: Rest<'a>,
+) -> Result<(Vec<Job>, Rest<'a>), RecordFault>
+    ensures { Gives (λ x. (x.0.items, left_of x.1)) result (jobs_at frame.now (left_of rest.entry)) }
+{
+    let scope = frame.scope();
+    some_jobs_of(alloc, &scope, frame.jobs, rest)
+}
+
+/// So many jobs.
+fn some_jobs_of<'a>(
+    alloc: Global,
+    scope: &Scope,
+    count: u32,
     from: Rest<'a>,
 ) -> Result<(Vec<Job>, Rest<'a>), RecordFault>
-    ensures { Gives (λ x. (x.0.items, left_of x.1)) result (jobs_at frame.now (left_of from.entry)) }
+    ensures { Gives (λ x. (x.0.items, left_of x.1)) result (items_at (λ _. job_at scope.now) 0 count (left_of from.entry)) }
 {
-    let room = room_for(frame.jobs as usize, LEAST_BYTES, from);
+    let room = room_for(count as usize, LEAST_BYTES, from);
     let mut jobs = Vec::with_capacity(alloc, room)?;
     let mut rest = from;
-    for _ in 0..frame.jobs {
-        let (job, after) = job_of(alloc, frame, rest)?;
+    for _ in 0..count {
+        let (job, after) = job_of(alloc, scope, rest)?;
         jobs.push(job)?;
         rest = after;
     }
@@ -39,12 +54,16 @@ pub fn jobs_of<'a>(
 
 /// A job: the number of its host, its kind, and its command or commands.
 #[tactic(auto, unfolding(crate::specs::JobReading::job_at))]
-fn job_of<'a>(alloc: Global, frame: &Frame, rest: Rest<'a>) -> Result<(Job, Rest<'a>), RecordFault>
-    ensures { Gives (λ x. (x.0, left_of x.1)) result (job_at frame.now (left_of rest.entry)) }
+pub fn job_of<'a>(
+    alloc: Global,
+    scope: &Scope,
+    rest: Rest<'a>,
+) -> Result<(Job, Rest<'a>), RecordFault>
+    ensures { Gives (λ x. (x.0, left_of x.1)) result (job_at scope.now (left_of rest.entry)) }
 {
-    let (host, rest) = u16_in(frame.total, 1, MOST_HOSTS, rest)?;
-    let (kind, rest) = u8_in(frame.total, 0, 1, rest)?;
-    let (body, rest) = body_of(alloc, kind, frame, rest)?;
+    let (host, rest) = u16_in(scope.total, 1, MOST_HOSTS, rest)?;
+    let (kind, rest) = u8_in(scope.total, 0, 1, rest)?;
+    let (body, rest) = body_of(alloc, kind, scope, rest)?;
     Ok((Job { host, body }, rest))
 }
 
@@ -52,15 +71,15 @@ fn job_of<'a>(alloc: Global, frame: &Frame, rest: Rest<'a>) -> Result<(Job, Rest
 fn body_of<'a>(
     alloc: Global,
     kind: u8,
-    frame: &Frame,
+    scope: &Scope,
     rest: Rest<'a>,
 ) -> Result<(Body, Rest<'a>), RecordFault>
-    ensures { Gives (λ x. (x.0, left_of x.1)) result (spec.body_at kind frame.now (left_of rest.entry)) }
+    ensures { Gives (λ x. (x.0, left_of x.1)) result (spec.body_at kind scope.now (left_of rest.entry)) }
 {
     if kind == 0 {
-        single_of(alloc, frame, rest)
+        single_of(alloc, scope, rest)
     } else {
-        pair_of(alloc, frame, rest)
+        pair_of(alloc, scope, rest)
     }
 }
 
@@ -68,12 +87,12 @@ fn body_of<'a>(
 #[tactic(auto, unfolding(crate::specs::JobReading::single_at))]
 fn single_of<'a>(
     alloc: Global,
-    frame: &Frame,
+    scope: &Scope,
     rest: Rest<'a>,
 ) -> Result<(Body, Rest<'a>), RecordFault>
-    ensures { Gives (λ x. (x.0, left_of x.1)) result (single_at frame.now (left_of rest.entry)) }
+    ensures { Gives (λ x. (x.0, left_of x.1)) result (single_at scope.now (left_of rest.entry)) }
 {
-    let (command, rest) = command_of(alloc, frame, Standing::Alone, rest)?;
+    let (command, rest) = command_of(alloc, scope, Standing::Alone, rest)?;
     Ok((Body::Single(command), rest))
 }
 
@@ -81,12 +100,12 @@ fn single_of<'a>(
 #[tactic(auto, unfolding(crate::specs::JobReading::pair_at))]
 fn pair_of<'a>(
     alloc: Global,
-    frame: &Frame,
+    scope: &Scope,
     rest: Rest<'a>,
 ) -> Result<(Body, Rest<'a>), RecordFault>
-    ensures { Gives (λ x. (x.0, left_of x.1)) result (pair_at frame.now (left_of rest.entry)) }
+    ensures { Gives (λ x. (x.0, left_of x.1)) result (pair_at scope.now (left_of rest.entry)) }
 {
-    let (first, rest) = command_of(alloc, frame, Standing::FirstOfPair, rest)?;
-    let (second, rest) = command_of(alloc, frame, Standing::SecondOfPair, rest)?;
+    let (first, rest) = command_of(alloc, scope, Standing::FirstOfPair, rest)?;
+    let (second, rest) = command_of(alloc, scope, Standing::SecondOfPair, rest)?;
     Ok((Body::Pair(first, second), rest))
 }

@@ -1,4 +1,4 @@
-//! What holds of records and their spellings by their definitions alone. Each law is a call that does nothing and whose contract
+//! What holds of records, traces and their spellings by their definitions alone. Each law is a call that does nothing and whose contract
 //! is the law.
 ghost use Rattle.std.specs.Prelude.{◌≡◌, ◌↔◌, ◌<◌, ℕ, All, List};
 ghost use Rattle.nvm_audit.specs.declared.audit_fault.AuditFault.{AuditFault as Fault};
@@ -11,7 +11,12 @@ ghost use Rattle.nvm_audit.specs.Verdict.{IsVerdict};
 ghost use Rattle.nvm_file.specs.Fits.{FitsItsFields};
 ghost use Rattle.nvm_file.specs.RecordFile.{IsRecordFile};
 ghost use Rattle.nvm_file.specs.Spelling.{record_bytes};
+ghost use Rattle.nvm_file.specs.TraceFile.{IsTraceFile};
+ghost use Rattle.nvm_file.specs.TraceFits.{TraceFits};
+ghost use Rattle.nvm_file.specs.TraceSpelling.{trace_bytes};
 ghost use Rattle.nvm_file.specs.Upgrade.{AreKnown, second_version};
+ghost use Rattle.nvm_trace.specs.Traceable.{IsTraceable};
+ghost use Rattle.nvm_trace.specs.TraceView.{TraceView};
 
 use nvm_geometry::laws::each_unit_has_one_place;
 
@@ -27,6 +32,19 @@ pub fn upgraded_records_are_judged_alike()
 /// A file of a record is the record's one spelling, byte for byte, so what was read is written as it stood.
 pub fn files_are_spellings()
     ensures { (bytes : List ℕ) (r : RecordView) → All (λ b. b < 256) bytes → IsRecordFile bytes r → bytes ≡ record_bytes r }
+{}
+
+/// A trace's file is the trace's one spelling, byte for byte, so what was read is written as it stood.
+pub fn trace_files_are_spellings()
+    ensures { (bytes : List ℕ) (t : TraceView) → All (λ b. b < 256) bytes → IsTraceFile bytes t → bytes ≡ trace_bytes t }
+{}
+
+/// The spelling of a trace that can be made, and whose numbers fit their fields, is read as just that trace. So of such a trace the
+/// spelling is a file, and nothing else is.
+pub fn spellings_are_traces()
+    ensures read { (t : TraceView) → IsTraceable t → TraceFits t → IsTraceFile (trace_bytes t) t }
+    ensures alone { (bytes : List ℕ) (t : TraceView) → All (λ b. b < 256) bytes → IsTraceable t → TraceFits t
+        → IsTraceFile bytes t ↔ (bytes ≡ trace_bytes t) }
 {}
 
 /// The spelling of a record that a file can hold, and whose numbers fit their fields, is read as just that record. So of such a

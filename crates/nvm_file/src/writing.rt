@@ -15,11 +15,13 @@ mod done_jobs;
 mod entries;
 mod head;
 mod jobs;
+mod traces;
 
 use done_jobs::write_workers;
 use entries::write_units;
 use head::write_head;
 use jobs::write_jobs;
+pub use traces::write_trace;
 
 /// Writes the record as a file of its version, piece by piece. It takes no memory of its own, however large the record is. Most
 /// pieces are of a few bytes, so hand it a [`BufWriter`](std::io::BufWriter) where each write costs. It doesn't flush.

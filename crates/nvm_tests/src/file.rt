@@ -1,5 +1,6 @@
 //! Files that were written by hand, and what is read of them.
 mod threads;
+mod traces;
 mod worked_record;
 mod written;
 

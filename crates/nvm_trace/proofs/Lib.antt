@@ -1,5 +1,8 @@
 pub mod Places
 pub mod Gathered
+pub mod WriteLimit
+pub mod Matched
+pub mod Wholes
 pub mod Differing
 pub mod Rooms
 pub mod ShownSteps

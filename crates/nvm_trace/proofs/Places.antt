@@ -60,6 +60,11 @@ module _ {A B : Type 0} where
   at_map f (y ∷ ys) zero x e = ap (λ (z : A). some (f z)) (some-injective y x e)
   at_map f (y ∷ ys) (suc i) x e = at_map f ys i x e
 
+  pub out_of_map : (f : A → B) (xs : List A) (i : ℕ) (y : B) → IsAt (map f xs) i y → (x : A) × IsAt xs i x × (f x ≡ y)
+  out_of_map f [] i y e = absurd (none_stands i y e)
+  out_of_map f (x ∷ xs) zero y e = (x, refl, some-injective (f x) y e)
+  out_of_map f (x ∷ xs) (suc i) y e = out_of_map f xs i y e
+
   -- What a list gives comes of one of its elements.
   pub out_of_flat : (f : A → List B) (xs : List A) (y : B) → Contains (flat_map f xs) y
       → (i : ℕ) × (x : A) × IsAt xs i x × Contains (f x) y

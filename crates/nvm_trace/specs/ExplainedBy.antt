@@ -13,7 +13,9 @@ use Rattle.nvm_audit.specs.RecordedJob.{RecordedJob}
 use Rattle.nvm_audit.specs.RecordView.{RecordView}
 use Rattle.nvm_trace.specs.declared.start.Start.TheVariants.{Unknown}
 use Rattle.nvm_trace.specs.declared.traced_job.TracedJob.{TracedJob}
+use Rattle.nvm_trace.specs.declared.judging.Judging.{Judging}
 use Rattle.nvm_trace.specs.Agreement.{AgreesWith}
+use Rattle.nvm_trace.specs.Pieces.{Piece, pieces, wholes}
 use Rattle.nvm_trace.specs.Steps.{steps_of}
 use Rattle.nvm_trace.specs.Timely.{IsTimely}
 use Rattle.nvm_trace.specs.TraceView.{TraceView}
@@ -22,30 +24,31 @@ abbrev pub IsOneBlockWrite : Body → Type 0
 IsOneBlockWrite (Single c) = (c.op ≡ Write) × (c.nlb ≡ 0)
 IsOneBlockWrite (Pair c d) = ⊥
 
--- The record has the trace's job of this number at this number.
-abbrev pub HasJob : TraceView → RecordView → ℕ → Type 0
-HasJob t r number = (j : TracedJob) → IsAt t.jobs number j → IsAt r.jobs number j.job
+-- The record has the trace's piece of this number at this number.
+abbrev pub HasJob : Judging → TraceView → RecordView → ℕ → Type 0
+HasJob judging t r number = (p : Piece) → IsAt (pieces judging t) number p → IsAt r.jobs number p.job
 
 -- The record's job of this number, if it isn't the trace's, is a preparation: a Write of one block for what the block had
 -- before the trace. There are preparations only where that wasn't known.
-abbrev pub IsPrepared : TraceView → RecordView → ℕ → Type 0
-IsPrepared t r number =
-    (job : Job) → length t.jobs ≤ number → IsAt r.jobs number job → (t.start ≡ Unknown) × IsOneBlockWrite job.body
+abbrev pub IsPrepared : Judging → TraceView → RecordView → ℕ → Type 0
+IsPrepared judging t r number =
+    (job : Job) → length (pieces judging t) ≤ number → IsAt r.jobs number job → (t.start ≡ Unknown) × IsOneBlockWrite job.body
 
--- What the record shows of the trace's job of this number agrees with its reply.
-abbrev pub HasItsReply : TraceView → RecordView → ℕ → Type 0
-HasItsReply t r number =
+-- What the record shows of the piece of this number agrees with the reply to the command that it is of. Each piece of a write
+-- that succeeded did.
+abbrev pub HasItsReply : Judging → TraceView → RecordView → ℕ → Type 0
+HasItsReply judging t r number =
     (worker k : ℕ) (work : List RecordedJob) (d : RecordedJob) (j : TracedJob) → IsAt r.done worker work → IsAt work k d
-    → d.job ≡ number → IsAt t.jobs number j → AgreesWith t.namespace j d
+    → d.job ≡ number → IsAt (wholes judging t) number j → AgreesWith t.namespace j d
 
-pub record IsExplainedBy (t : TraceView) (r : RecordView) : Type 0 where
-  -- It is of the trace's namespace, and has the trace's jobs and preparations.
+pub record IsExplainedBy (judging : Judging) (t : TraceView) (r : RecordView) : Type 0 where
+  -- It is of the trace's namespace, and has the pieces of the trace's jobs, and preparations.
   pub namespace : r.namespace ≡ t.namespace
-  pub jobs : (number : ℕ) → HasJob t r number
-  pub prepared : (number : ℕ) → IsPrepared t r number
+  pub jobs : (number : ℕ) → HasJob judging t r number
+  pub prepared : (number : ℕ) → IsPrepared judging t r number
   -- In each unit the jobs were done one after the other.
   pub lawful : IsLawfulRecord r
   -- Each job was answered so.
-  pub replies : (number : ℕ) → HasItsReply t r number
+  pub replies : (number : ℕ) → HasItsReply judging t r number
   -- The order in each unit keeps real time: of two steps the later one's command hadn't ended when the earlier one's began.
-  pub timely : IsTimely (steps_of t.jobs r.done)
+  pub timely : IsTimely (steps_of (wholes judging t) r.done)

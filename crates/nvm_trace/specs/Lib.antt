@@ -1,6 +1,7 @@
 pub mod TraceView
 pub mod Traceable
 pub mod Saying
+pub mod Pieces
 pub mod Agreement
 pub mod Order
 pub mod Steps

@@ -28,7 +28,7 @@ pub record TakenStep : Type 0 where
 abbrev pub operation_taken : Namespace → TakenStep → Operation
 operation_taken ns s = part_in ns s.whole s.part.part.unit
 
--- The job does this, and the moment isn't before the job began, nor after it had ended.
+-- The job does this, and the moment isn't before the job began, nor after it had ended. `jobs` has the traced job of each of the record's.
 pub record IsInTime (jobs : List TracedJob) (r : RecordView) (s : TakenStep) : Type 0 where
   pub does : DoesOperation r.namespace r.jobs s.part.done.job s.whole
   pub after_beginning : (times_of jobs s.part.done.job).began ≤ s.moment

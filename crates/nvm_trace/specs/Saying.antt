@@ -53,11 +53,21 @@ abbrev pub is_success : Statuses → Bool
 is_success (One s) = is_status s successful_completion
 is_success (Two s t) = is_status s successful_completion && is_status t successful_completion
 
+-- One status of a pair says that the comparison held, and the other that it didn't. The Write's success says that it did, and
+-- 0/09 that it didn't. No step ends so, and each of the two statuses is one of the step: no error leaves open what was done.
+-- With another error beside them it is left open, as by (0/00, 0/06): the comparison held, and the Write may be done or not.
+abbrev pub contradicts_itself : Statuses → Bool
+contradicts_itself (One s) = false
+contradicts_itself (Two s t) =
+    is_failed_comparison s && is_status t successful_completion
+    || is_status s successful_completion && is_status t aborted_due_to_failed_fused_command
+
 -- Of a job that a check refuses, the refusal says that it was refused, and success that it wasn't. Of another job a status of
--- the step says what the step did.
+-- the step says what the step did. Statuses that contradict one another say what no record has.
 abbrev pub says_of : Option Statuses → Body → Statuses → Bool
-says_of (Some refusal) body statuses = is_served body && (are_statuses statuses refusal || is_success statuses)
-says_of None body statuses = can_be_of body statuses
+says_of (Some refusal) body statuses =
+    is_served body && (are_statuses statuses refusal || is_success statuses || contradicts_itself statuses)
+says_of None body statuses = can_be_of body statuses || contradicts_itself statuses
 
 abbrev pub says_at : Namespace → Job → Option Ending → Bool
 says_at ns job None = false

@@ -3,12 +3,14 @@
 ghost use Rattle.std.specs.Prelude.{ℕ, ◌<◌, List, All};
 ghost use Rattle.nvm_geometry.specs.Boundaries.{units_of};
 ghost use Rattle.nvm_audit.specs.RecordView.{RecordView};
+ghost use Rattle.nvm_trace.specs.declared.judging.Judging.{Judging};
 ghost use Rattle.nvm_trace.specs.declared.step.Step.{Step as StepView};
 ghost use Rattle.nvm_trace.specs.declared.witness_fault.WitnessFault.{WitnessFault as Fault};
 ghost use Rattle.nvm_trace.specs.ExplainedBy.{IsExplainedBy};
 ghost use Rattle.nvm_trace.specs.FirstFault.{IsFirstWitnessFault};
 ghost use Rattle.nvm_trace.specs.Linearization.{TakenStep, IsAtMoment, IsLinearization};
 ghost use Rattle.nvm_trace.specs.Moments.{HaveMoments};
+ghost use Rattle.nvm_trace.specs.Pieces.{wholes};
 ghost use Rattle.nvm_trace.specs.Steps.{steps_of};
 ghost use Rattle.nvm_trace.specs.Timely.{IsTimely};
 ghost use Rattle.nvm_trace.specs.Traceable.{IsTraceable};
@@ -23,8 +25,8 @@ use nvm_store::laws::next_point;
 /// Each step of an explained trace has a moment between its command's beginning and end, so that the moments never fall along
 /// the order of a unit. And steps that have such moments are timely.
 pub fn explained_traces_have_moments()
-    ensures moments { (t : TraceView) (r : RecordView) → IsTraceable t → IsExplainedBy t r
-        → HaveMoments (steps_of t.jobs r.done) }
+    ensures moments { (judging : Judging) (t : TraceView) (r : RecordView) → IsTraceable t → IsExplainedBy judging t r
+        → HaveMoments (steps_of (wholes judging t) r.done) }
     ensures timely { (steps : List StepView) → HaveMoments steps → IsTimely steps }
 {}
 
@@ -32,11 +34,13 @@ pub fn explained_traces_have_moments()
 /// moments, are a run of the step from zero bytes, in which each has the reply that was recorded. That is so whichever moments
 /// they have.
 pub fn explained_traces_are_runs()
-    ensures linearizable { (t : TraceView) (r : RecordView) (unit : ℕ) → IsTraceable t → IsExplainedBy t r
-        → unit < units_of r.namespace → (steps : List TakenStep) × IsLinearization t.jobs r unit steps }
-    ensures moments { (t : TraceView) (r : RecordView) (unit : ℕ) (moments : HaveMoments (steps_of t.jobs r.done))
-        → IsExplainedBy t r → unit < units_of r.namespace → (steps : List TakenStep) × IsLinearization t.jobs r unit steps
-        × All (IsAtMoment t.jobs moments.moment) steps }
+    ensures linearizable { (judging : Judging) (t : TraceView) (r : RecordView) (unit : ℕ) → IsTraceable t → IsExplainedBy judging t r
+        → unit < units_of r.namespace → (steps : List TakenStep) × IsLinearization (wholes judging t) r unit steps }
+    ensures moments { (judging : Judging) (t : TraceView) (r : RecordView) (unit : ℕ)
+        (moments : HaveMoments (steps_of (wholes judging t) r.done))
+        → IsExplainedBy judging t r → unit < units_of r.namespace
+        → (steps : List TakenStep) × IsLinearization (wholes judging t) r unit steps
+        × All (IsAtMoment (wholes judging t) moments.moment) steps }
 {
     explained_traces_have_moments();
     looks_change_nothing();
@@ -48,7 +52,7 @@ pub fn explained_traces_are_runs()
 
 /// A record that explains a trace has no fault as its witness.
 pub fn explained_traces_have_no_fault()
-    ensures { (t : TraceView) (r : RecordView) (fault : Fault) → IsExplainedBy t r → ¬ (IsFirstWitnessFault t r fault) }
+    ensures { (judging : Judging) (t : TraceView) (r : RecordView) (fault : Fault) → IsExplainedBy judging t r → ¬ (IsFirstWitnessFault judging t r fault) }
 {
     one_check_is_the_first_fault();
 }

@@ -6,8 +6,10 @@
 #![tactic(auto)]
 
 mod explained;
+mod judging;
 pub mod laws;
 mod matching;
+mod pieces;
 mod raising;
 mod reads;
 mod replies;
@@ -25,6 +27,7 @@ mod witness_fault;
 mod witnessing;
 
 pub use explained::Explained;
+pub use judging::Judging;
 pub use reads::Reads;
 pub use start::Start;
 pub use trace::Trace;

@@ -58,12 +58,12 @@ fn least_of(least: Option<u32>, number: u32) -> u32
 /// The least number of a job whose recorded outcome doesn't agree with its reply, where `least` is that of the jobs before.
 fn least_in_work(
     geometry: &Geometry,
-    traced: &Vec<TracedJob>,
+    traced: &Vec<&TracedJob>,
     work: &Vec<DoneJob>,
     least: Option<u32>,
 ) -> Option<u32>
-    ensures { (seen : List RecordedJob) → IsLeastWrong geometry.now traced.now.items seen least
-        → IsLeastWrong geometry.now traced.now.items (seen ++ work.now.items) result }
+    ensures { (seen : List RecordedJob) → IsLeastWrong geometry.now (map (λ j. j.now) traced.now.items) seen least
+        → IsLeastWrong geometry.now (map (λ j. j.now) traced.now.items) (seen ++ work.now.items) result }
 {
     let mut least = least;
     for k in 0..work.len() {
@@ -76,22 +76,22 @@ fn least_in_work(
 }
 
 /// Whether what was recorded of a job agrees with its reply, if it has one.
-fn agrees_if_traced(geometry: &Geometry, traced: &Vec<TracedJob>, done: &DoneJob) -> bool
-    ensures { IsTrue result ↔ Agrees geometry.now traced.now.items done.now }
+fn agrees_if_traced(geometry: &Geometry, traced: &Vec<&TracedJob>, done: &DoneJob) -> bool
+    ensures { IsTrue result ↔ Agrees geometry.now (map (λ j. j.now) traced.now.items) done.now }
 {
     let number = done.job as usize;
-    number >= traced.len() || agrees(geometry, &traced[number], done)
+    number >= traced.len() || agrees(geometry, traced[number], done)
 }
 
 /// The least number of a job whose recorded outcome doesn't agree with its reply.
 pub(crate) fn first_differing(
     geometry: &Geometry,
-    traced: &Vec<TracedJob>,
+    traced: &Vec<&TracedJob>,
     done: &Vec<Vec<DoneJob>>,
 ) -> Option<u32>
     ensures { MatchOption result
-        ((number : ℕ) → HasReplyAt geometry.now traced.now.items (map (λ work. work.items) done.now.items) number)
-        (IsFirstWithout (HasReplyAt geometry.now traced.now.items (map (λ work. work.items) done.now.items))) }
+        ((number : ℕ) → HasReplyAt geometry.now (map (λ j. j.now) traced.now.items) (map (λ work. work.items) done.now.items) number)
+        (IsFirstWithout (HasReplyAt geometry.now (map (λ j. j.now) traced.now.items) (map (λ work. work.items) done.now.items))) }
 {
     let mut least = None;
     for worker in 0..done.len() {

@@ -71,6 +71,20 @@ fn can_be_of(body: &Body, statuses: Statuses) -> bool
     }
 }
 
+/// Whether one status of a pair says that the comparison held, and the other that it didn't.
+fn contradicts_itself(statuses: Statuses) -> bool
+    ensures { result ≡ spec.contradicts_itself statuses }
+{
+    match statuses {
+        Statuses::One(_) => false,
+        Statuses::Two(first, second) => {
+            is_failed_comparison(first) && is_status(second, Status::SUCCESSFUL_COMPLETION)
+                || is_status(first, Status::SUCCESSFUL_COMPLETION)
+                    && is_status(second, Status::ABORTED_DUE_TO_FAILED_FUSED_COMMAND)
+        }
+    }
+}
+
 /// Whether the opcodes are of the profile.
 fn is_served(body: &Body) -> bool
     ensures { result ≡ spec.is_served body.now }
@@ -92,9 +106,14 @@ pub(crate) fn says_what_was_done(geometry: &Geometry, traced: &TracedJob) -> boo
         Some(ending) => match plan(geometry, &traced.job) {
             Plan::Refused(refusal) => {
                 is_served(&traced.job.body)
-                    && (are_statuses(ending.statuses, refusal) || is_success(ending.statuses))
+                    && (are_statuses(ending.statuses, refusal)
+                        || is_success(ending.statuses)
+                        || contradicts_itself(ending.statuses))
             }
-            Plan::Ready => can_be_of(&traced.job.body, ending.statuses),
+            Plan::Ready => {
+                can_be_of(&traced.job.body, ending.statuses)
+                    || contradicts_itself(ending.statuses)
+            }
         },
         None => false,
     }

@@ -10,8 +10,8 @@ use nvm_record::NoMemory;
 use std::alloc::Global;
 
 /// When the job of this number began and ended. One that isn't the trace's did so before it.
-fn times_of(traced: &Vec<TracedJob>, number: u32) -> Times
-    ensures { result ≡ spec.times_of traced.now.items number }
+fn times_of(traced: &Vec<&TracedJob>, number: u32) -> Times
+    ensures { result ≡ spec.times_of (map (λ j. j.now) traced.now.items) number }
 {
     let number = number as usize;
     if number >= traced.len() {
@@ -20,7 +20,7 @@ fn times_of(traced: &Vec<TracedJob>, number: u32) -> Times
             ended: Some(0),
         };
     }
-    let job = &traced[number];
+    let job = traced[number];
     let ended = match &job.ended {
         Some(ending) => Some(ending.time),
         None => None,
@@ -52,8 +52,8 @@ fn put_part(times: Times, job: u32, part: Part, steps: &mut Vec<Step>) -> Result
 }
 
 /// Puts the steps of the job at the end.
-fn put_job(traced: &Vec<TracedJob>, done: &DoneJob, steps: &mut Vec<Step>) -> Result<(), NoMemory>
-    ensures { OnOk result (steps.new.items ≡ steps.old.items ++ steps_of_job traced.now.items done.now) }
+fn put_job(traced: &Vec<&TracedJob>, done: &DoneJob, steps: &mut Vec<Step>) -> Result<(), NoMemory>
+    ensures { OnOk result (steps.new.items ≡ steps.old.items ++ steps_of_job (map (λ j. j.now) traced.now.items) done.now) }
 {
     let times = times_of(traced, done.job);
     for i in 0..done.parts.len() {
@@ -64,11 +64,11 @@ fn put_job(traced: &Vec<TracedJob>, done: &DoneJob, steps: &mut Vec<Step>) -> Re
 
 /// Puts the steps of what a worker did at the end.
 fn put_work(
-    traced: &Vec<TracedJob>,
+    traced: &Vec<&TracedJob>,
     work: &Vec<DoneJob>,
     steps: &mut Vec<Step>,
 ) -> Result<(), NoMemory>
-    ensures { OnOk result (steps.new.items ≡ steps.old.items ++ steps_of_work traced.now.items work.now.items) }
+    ensures { OnOk result (steps.new.items ≡ steps.old.items ++ steps_of_work (map (λ j. j.now) traced.now.items) work.now.items) }
 {
     for k in 0..work.len() {
         put_job(traced, &work[k], steps)?;
@@ -79,10 +79,10 @@ fn put_work(
 /// The steps that a record shows, by worker and in the worker's order.
 pub(crate) fn steps_of(
     alloc: Global,
-    traced: &Vec<TracedJob>,
+    traced: &Vec<&TracedJob>,
     done: &Vec<Vec<DoneJob>>,
 ) -> Result<Vec<Step>, NoMemory>
-    ensures { IfOk result (λ steps. steps.items ≡ spec.steps_of traced.now.items (map (λ work. work.items) done.now.items)) }
+    ensures { IfOk result (λ steps. steps.items ≡ spec.steps_of (map (λ j. j.now) traced.now.items) (map (λ work. work.items) done.now.items)) }
 {
     let mut steps = Vec::new(alloc);
     for worker in 0..done.len() {

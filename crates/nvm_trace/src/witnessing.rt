@@ -1,17 +1,20 @@
-ghost use Rattle.std.specs.Prelude.{◌≡◌, ◌⊎◌, ℕ, ◌≤◌, length, not, count_by, All, IfOk, IfErr, MatchOption};
+ghost use Rattle.std.specs.Prelude.{◌≡◌, ◌⊎◌, ℕ, ◌≤◌, length, map, not, count_by, All, IfOk, IfErr, MatchOption, MatchResult};
 ghost use Rattle.nvm_audit.specs.LawfulRecord.{IsLawfulRecord};
 ghost use Rattle.nvm_audit.specs.Recordable.{most_jobs};
+ghost use Rattle.nvm_trace.specs.declared.judging.Judging.{Judging as JudgingView};
 ghost use Rattle.nvm_trace.specs.declared.witness_fault.WitnessFault.TheVariants.{NoMemory as NoMemoryFault};
 ghost use Rattle.nvm_trace.specs.ExplainedBy.{HasItsReply, IsExplainedBy};
 ghost use Rattle.nvm_trace.specs.FirstFault.{HasJobsOf, IsFirstWitnessFault};
 ghost use Rattle.nvm_trace.specs.Inside.Table.{HasPlace};
 ghost use Rattle.nvm_trace.specs.Numbers.{HasNumbers};
+ghost use Rattle.nvm_trace.specs.Pieces.{wholes};
 ghost use Rattle.nvm_trace.specs.Saying as saying;
 ghost use Rattle.nvm_trace.specs.Steps.{steps_of as steps_shown};
 ghost use Rattle.nvm_trace.specs.Timely.{IsTimely, IsFirstLate};
 
 use crate::explained::Explained;
-use crate::matching::{first_other, first_unprepared};
+use crate::judging::Judging;
+use crate::matching::{first_unprepared, owners_of};
 use crate::replies::first_differing;
 use crate::saying::says_what_was_done;
 use crate::step::Step;
@@ -28,31 +31,38 @@ use nvm_record::NoMemory;
 use std::alloc::Global;
 use std::thread::Threads;
 
-/// What is first found wrong of the namespace and the jobs, if anything is.
-fn job_fault(trace: &Trace, record: &Record) -> Option<WitnessFault>
-    ensures { MatchOption result (HasJobsOf «trace».now «record».now) (IsFirstWitnessFault «trace».now «record».now) }
+/// The traced job that each of the record's jobs is of, but for preparations, or what is first found wrong of the namespace and
+/// the jobs.
+fn matched<'a>(
+    alloc: Global,
+    judging: Judging,
+    trace: &'a Trace,
+    record: &Record,
+) -> Result<Vec<&'a TracedJob>, WitnessFault>
+    ensures few { IfOk result (λ owners. length owners.items ≤ length «record».now.jobs) }
+    ensures owners { IfOk result (λ owners. map (λ j. j.now) owners.items ≡ wholes judging «trace».now) }
+    ensures jobs { IfOk result (λ _. HasJobsOf judging «trace».now «record».now) }
+    ensures fault { IfErr result
+        (λ fault. IsFirstWitnessFault judging «trace».now «record».now fault ⊎ (fault ≡ NoMemoryFault)) }
 {
     if record.geometry != trace.geometry {
-        return Some(WitnessFault::NamespaceDiffers);
+        return Err(WitnessFault::NamespaceDiffers);
     }
-    match first_other(&trace.jobs, &record.jobs) {
-        Some(job) => return Some(WitnessFault::JobDiffers { job }),
-        None => {}
-    }
-    match first_unprepared(trace.start, trace.jobs.len(), &record.jobs) {
-        Some(job) => Some(WitnessFault::NoPreparation { job }),
-        None => None,
+    let owners = owners_of(alloc, judging, &trace.geometry, &trace.jobs, &record.jobs)?;
+    match first_unprepared(trace.start, owners.len(), &record.jobs) {
+        Some(job) => Err(WitnessFault::NoPreparation { job }),
+        None => Ok(owners),
     }
 }
 
 /// What is first found wrong of the replies, if anything is.
-fn reply_fault(trace: &Trace, record: &Record) -> Option<WitnessFault>
-    requires jobs { HasJobsOf «trace».now «record».now }
-    requires lawful { IsLawfulRecord «record».now }
-    ensures { MatchOption result ((number : ℕ) → HasItsReply «trace».now «record».now number)
-        (IsFirstWitnessFault «trace».now «record».now) }
+fn reply_fault(trace: &Trace, owners: &Vec<&TracedJob>, record: &Record) -> Option<WitnessFault>
+    ensures { (judging : JudgingView) → map (λ j. j.now) owners.now.items ≡ wholes judging «trace».now
+        → HasJobsOf judging «trace».now «record».now → IsLawfulRecord «record».now
+        → MatchOption result ((number : ℕ) → HasItsReply judging «trace».now «record».now number)
+        (IsFirstWitnessFault judging «trace».now «record».now) }
 {
-    match first_differing(&trace.geometry, &trace.jobs, &record.done) {
+    match first_differing(&trace.geometry, owners, &record.done) {
         Some(job) => Some(WitnessFault::ReplyDiffers { job }),
         None => None,
     }
@@ -82,15 +92,21 @@ fn excused(geometry: &Geometry, traced: &Vec<TracedJob>) -> u32
 }
 
 /// What is first found wrong of the times, or else the numbers.
-fn time_fault(alloc: Global, trace: &Trace, record: &Record) -> Result<Explained, WitnessFault>
-    requires jobs { HasJobsOf «trace».now «record».now }
+fn time_fault(
+    alloc: Global,
+    trace: &Trace,
+    owners: &Vec<&TracedJob>,
+    record: &Record,
+) -> Result<Explained, WitnessFault>
+    requires few { length owners.now.items ≤ length «record».now.jobs }
     requires lawful { IsLawfulRecord «record».now }
-    requires replies { (number : ℕ) → HasItsReply «trace».now «record».now number }
-    ensures explained { IfOk result (λ _. IsExplainedBy «trace».now «record».now) }
-    ensures numbers { IfOk result (HasNumbers «trace».now «record».now) }
-    ensures fault { IfErr result (λ fault. IsFirstWitnessFault «trace».now «record».now fault ⊎ (fault ≡ NoMemoryFault)) }
+    ensures { (judging : JudgingView) → map (λ j. j.now) owners.now.items ≡ wholes judging «trace».now
+        → HasJobsOf judging «trace».now «record».now → ((number : ℕ) → HasItsReply judging «trace».now «record».now number)
+        → MatchResult result
+        (λ explained. IsExplainedBy judging «trace».now «record».now × HasNumbers judging «trace».now «record».now explained)
+        (λ fault. IsFirstWitnessFault judging «trace».now «record».now fault ⊎ (fault ≡ NoMemoryFault)) }
 {
-    let steps = steps_of(alloc, &trace.jobs, &record.done)?;
+    let steps = steps_of(alloc, owners, &record.done)?;
     match late_step(alloc, record, &steps)? {
         Some(place) => {
             let late = &steps[place];
@@ -107,38 +123,37 @@ fn time_fault(alloc: Global, trace: &Trace, record: &Record) -> Result<Explained
             units: record.units.len() as u16,
             steps: steps.len() as u64,
             excused: excused(&trace.geometry, &trace.jobs),
-            preparations: (record.jobs.len() - trace.jobs.len()) as u32,
+            preparations: (record.jobs.len() - owners.len()) as u32,
         }),
     }
 }
 
 /// Whether the record explains the trace: the numbers of the two, or the first fault.
 ///
-/// It audits the record, and then looks at each done job and each part once. All is linear in the record and the trace. After
-/// `NoMemory` nothing is known.
+/// It finds the pieces of the trace's commands among the record's jobs, audits the record, and then looks at each done job and each
+/// part once. All is linear in the record and the trace. After `NoMemory` nothing is known.
 pub fn witness(
     rt: &(impl Threads + Sync),
     alloc: Global,
+    judging: Judging,
     trace: &Trace,
     record: &Record,
 ) -> Result<Explained, WitnessFault>
-    ensures explained { IfOk result (λ _. IsExplainedBy «trace».now «record».now) }
-    ensures numbers { IfOk result (HasNumbers «trace».now «record».now) }
-    ensures fault { IfErr result (λ fault. IsFirstWitnessFault «trace».now «record».now fault ⊎ (fault ≡ NoMemoryFault)) }
-    ensures accepted { IsExplainedBy «trace».now «record».now → IfErr result (λ fault. fault ≡ NoMemoryFault) }
+    ensures explained { IfOk result (λ _. IsExplainedBy judging «trace».now «record».now) }
+    ensures numbers { IfOk result (HasNumbers judging «trace».now «record».now) }
+    ensures fault { IfErr result
+        (λ fault. IsFirstWitnessFault judging «trace».now «record».now fault ⊎ (fault ≡ NoMemoryFault)) }
+    ensures accepted { IsExplainedBy judging «trace».now «record».now → IfErr result (λ fault. fault ≡ NoMemoryFault) }
 {
     one_check_is_the_first_fault();
-    match job_fault(trace, record) {
-        Some(fault) => return Err(fault),
-        None => {}
-    }
+    let owners = matched(alloc, judging, trace, record)?;
     match audit(rt, alloc, record) {
         Ok(_) => {}
         Err(AuditFault::NoMemory) => return Err(WitnessFault::NoMemory),
         Err(fault) => return Err(WitnessFault::Unlawful { fault }),
     }
-    match reply_fault(trace, record) {
+    match reply_fault(trace, &owners, record) {
         Some(fault) => Err(fault),
-        None => time_fault(alloc, trace, record),
+        None => time_fault(alloc, trace, &owners, record),
     }
 }

@@ -22,6 +22,15 @@ pub fn four_bytes(number: u32) -> [u8; 4]
     bytes
 }
 
+/// A number in eight bytes.
+pub fn eight_bytes(number: u64) -> [u8; 8]
+    ensures { result ≡ little_bytes 8 number }
+{
+    let mut bytes = [0; 8];
+    LittleEndian::write_u64(&mut bytes, number);
+    bytes
+}
+
 /// How many items there are, in four bytes.
 pub fn count_bytes(count: usize) -> [u8; 4]
     requires { count < 2 ^ 32 }

@@ -104,7 +104,8 @@ fn result_code(end: PartResult) -> u8
     }
 }
 
-fn write_statuses<W: Write>(writer: &mut W, statuses: Statuses) -> io::Result<()>
+/// Writes the status of each command.
+pub fn write_statuses<W: Write>(writer: &mut W, statuses: Statuses) -> io::Result<()>
     ensures whole { OnOk result (Appends (W.contents writer.old) (W.contents writer.new) (statuses_bytes statuses)) }
     ensures front { OnErr result (TakesFront (W.contents writer.old) (W.contents writer.new) (statuses_bytes statuses)) }
     ensures fit { StatusesFit statuses }
@@ -118,7 +119,7 @@ fn write_statuses<W: Write>(writer: &mut W, statuses: Statuses) -> io::Result<()
 }
 
 /// Writes whether there is data, and the data.
-fn write_payload<W: Write>(writer: &mut W, payload: &Option<ReadData>) -> io::Result<()>
+pub fn write_payload<W: Write>(writer: &mut W, payload: &Option<ReadData>) -> io::Result<()>
     ensures whole { OnOk result (Appends (W.contents writer.old) (W.contents writer.new) (payload_bytes payload.now)) }
     ensures front { OnErr result (TakesFront (W.contents writer.old) (W.contents writer.new) (payload_bytes payload.now)) }
 {

@@ -38,7 +38,7 @@ fn name(version: Version) -> &'static [u8]
 }
 
 /// The numbers of the namespace.
-fn namespace_bytes(geometry: Geometry) -> [u8; 20]
+pub fn namespace_bytes(geometry: Geometry) -> [u8; 20]
     ensures bytes { result ≡ spec.namespace_bytes geometry }
     ensures fit { NumbersFit geometry }
 {

@@ -29,7 +29,8 @@ pub fn write_jobs<W: Write>(writer: &mut W, jobs: &[Job]) -> io::Result<()>
     Ok(())
 }
 
-fn write_job<W: Write>(writer: &mut W, job: &Job) -> io::Result<()>
+/// Writes a job.
+pub fn write_job<W: Write>(writer: &mut W, job: &Job) -> io::Result<()>
     ensures whole { OnOk result (Appends (W.contents writer.old) (W.contents writer.new) (job_bytes job.now)) }
     ensures front { OnErr result (TakesFront (W.contents writer.old) (W.contents writer.new) (job_bytes job.now)) }
     ensures fits { OnOk result (JobFits job.now) }

@@ -1,7 +1,9 @@
 use super::audit::{record, spoiled};
+use crate::file::trace_file_of;
 use crate::tests::namespace;
 use crate::trace::{Unnoted, is_certified, note};
 use nvm_audit::{AuditFault, Record, Spot};
+use nvm_file::read_trace;
 use nvm_geometry::Geometry;
 use nvm_record::{Status, Statuses};
 use nvm_trace::{Ending, Reads, Start, Trace, TracedJob, WitnessFault, witness};
@@ -86,6 +88,8 @@ fn record_explains_what_was_seen(rt: HostRuntime) -> Result<(), Fail> {
     let record = record(&rt, alloc)?;
     let trace = seen(alloc, namespace()?, &record, Order::AsRecorded, 0, 2, None)?;
     assert_eq!(rt; is_certified(&rt, alloc, &trace, &record), Ok(true));
+    let kept = read_trace(alloc, &trace_file_of(alloc, &trace)?)?;
+    assert_eq!(rt; is_certified(&rt, alloc, &kept, &record), Ok(true));
     let failed = seen(
         alloc,
         namespace()?,

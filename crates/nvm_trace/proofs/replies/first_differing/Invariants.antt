@@ -5,4 +5,4 @@ use Rattle.nvm_trace.proofs.replies.first_differing.Given as goal
 
 abbrev pub invariant-loop-worker : goal.invariant-loop-worker
 invariant-loop-worker l =
-    IsLeastWrong l.geometry l.traced.items (flat_map (λ work. work) (take l.worker (map (λ work. work.items) l.done.items))) l.least
+    IsLeastWrong l.geometry (map (λ j. j.now) l.traced.items) (flat_map (λ work. work) (take l.worker (map (λ work. work.items) l.done.items))) l.least

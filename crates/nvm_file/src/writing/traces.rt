@@ -1,0 +1,133 @@
+ghost use Rattle.std.specs.Prelude.{◌≡◌, ◌∷◌, [], ◌++◌, ◌<◌, ◌^◌, All, IfSome, OnErr, OnOk, length};
+ghost use Rattle.std.specs.Io.KnownBytes.{Appends};
+ghost use Rattle.byteorder.specs.Endian.{little_bytes};
+ghost use Rattle.nvm_file.specs.Counted.{counted};
+ghost use Rattle.nvm_file.specs.Fits.{NumbersFit};
+ghost use Rattle.nvm_file.specs.TraceFile.{IsTraceFile};
+ghost use Rattle.nvm_file.specs.TraceFits.{EndingFits, TraceFits, TracedJobFits};
+ghost use Rattle.nvm_file.specs.TraceSpelling.{ended_bytes, ending_bytes, reads_byte, start_byte, trace_bytes, trace_head_bytes, traced_bytes};
+ghost use Rattle.nvm_write.specs.Handed.{TakesFront};
+
+use super::bytes::{count_bytes, eight_bytes};
+use super::done_jobs::{write_payload, write_statuses};
+use super::head::namespace_bytes;
+use super::jobs::write_job;
+use crate::laws::spellings_are_traces;
+use byteorder::{ByteOrder, LittleEndian};
+use nvm_trace::{Ending, Reads, Start, Trace, TracedJob};
+use nvm_write::hand;
+use std::io;
+use std::io::{ErrorKind, Write};
+
+/// The time of an end that wasn't seen.
+const NEVER: u64 = u64::MAX;
+
+/// Writes the trace as a file, piece by piece. It takes no memory of its own, however large the trace is. Most pieces are of a
+/// few bytes, so hand it a [`BufWriter`](std::io::BufWriter) where each write costs. It doesn't flush.
+///
+/// What was handed over whole is a file of the trace, by [`spellings_are_traces`]: it is read as just that trace.
+///
+/// Where the writer fails, its error is answered, and it has taken a front of the file. A job that ended at time 2^64 - 1 has no
+/// spelling, since that stands for an end that wasn't seen: the error is `InvalidInput` then, also with a front of the file.
+pub fn write_trace<W: Write>(writer: &mut W, trace: &Trace) -> io::Result<()>
+    ensures whole { OnOk result (Appends (W.contents writer.old) (W.contents writer.new) (trace_bytes trace.now)) }
+    ensures front { OnErr result (TakesFront (W.contents writer.old) (W.contents writer.new) (trace_bytes trace.now)) }
+    ensures fits { OnOk result (TraceFits trace.now) }
+    ensures file { OnOk result (IsTraceFile (trace_bytes trace.now) trace.now) }
+{
+    spellings_are_traces();
+    write_trace_head(writer, trace)?;
+    write_traced_jobs(writer, &trace.jobs)
+}
+
+/// Writes what stands before the jobs.
+fn write_trace_head<W: Write>(writer: &mut W, trace: &Trace) -> io::Result<()>
+    ensures whole { OnOk result (Appends (W.contents writer.old) (W.contents writer.new) (trace_head_bytes trace.now)) }
+    ensures front { OnErr result (TakesFront (W.contents writer.old) (W.contents writer.new) (trace_head_bytes trace.now)) }
+    ensures fit { OnOk result (NumbersFit trace.now.namespace) }
+    ensures window { OnOk result (trace.now.first < 2 ^ 64) }
+{
+    hand(writer, b"NVT1")?;
+    hand(writer, &namespace_bytes(trace.geometry))?;
+    hand(writer, &window_bytes(trace.first, trace.start, trace.reads))
+}
+
+/// The first LBA, what was known of the blocks, and what Reads are held to.
+fn window_bytes(first: u64, start: Start, reads: Reads) -> [u8; 10]
+    ensures { result ≡ little_bytes 8 first ++ (start_byte start ∷ reads_byte reads ∷ []) }
+{
+    let mut bytes = [0; 10];
+    LittleEndian::write_u64(&mut bytes, first);
+    bytes[8] = start_code(start);
+    bytes[9] = reads_code(reads);
+    bytes
+}
+
+fn start_code(start: Start) -> u8
+    ensures { result ≡ start_byte start }
+{
+    match start {
+        Start::Zeroes => 0,
+        Start::Unknown => 1,
+    }
+}
+
+fn reads_code(reads: Reads) -> u8
+    ensures { result ≡ reads_byte reads }
+{
+    match reads {
+        Reads::Whole => 0,
+        Reads::ByBlocks => 1,
+    }
+}
+
+/// Writes how many jobs there are, and each of them.
+fn write_traced_jobs<W: Write>(writer: &mut W, jobs: &[TracedJob]) -> io::Result<()>
+    requires { length jobs.now < 2 ^ 32 }
+    ensures whole { OnOk result (Appends (W.contents writer.old) (W.contents writer.new) (counted traced_bytes jobs.now)) }
+    ensures front { OnErr result (TakesFront (W.contents writer.old) (W.contents writer.new) (counted traced_bytes jobs.now)) }
+    ensures fit { OnOk result (All TracedJobFits jobs.now) }
+{
+    hand(writer, &count_bytes(jobs.len()))?;
+    for job in jobs {
+        write_traced_job(writer, job)?;
+    }
+    Ok(())
+}
+
+/// Writes a job, when it began, and how it ended.
+fn write_traced_job<W: Write>(writer: &mut W, job: &TracedJob) -> io::Result<()>
+    ensures whole { OnOk result (Appends (W.contents writer.old) (W.contents writer.new) (traced_bytes job.now)) }
+    ensures front { OnErr result (TakesFront (W.contents writer.old) (W.contents writer.new) (traced_bytes job.now)) }
+    ensures fits { OnOk result (TracedJobFits job.now) }
+{
+    write_job(writer, &job.job)?;
+    hand(writer, &eight_bytes(job.began))?;
+    write_ended(writer, &job.ended)
+}
+
+/// Writes when a job ended and what came back, or that its end wasn't seen.
+fn write_ended<W: Write>(writer: &mut W, ended: &Option<Ending>) -> io::Result<()>
+    ensures whole { OnOk result (Appends (W.contents writer.old) (W.contents writer.new) (ended_bytes ended.now)) }
+    ensures front { OnErr result (TakesFront (W.contents writer.old) (W.contents writer.new) (ended_bytes ended.now)) }
+    ensures fits { OnOk result (IfSome ended.now EndingFits) }
+{
+    match ended {
+        None => hand(writer, &eight_bytes(NEVER)),
+        Some(ending) => write_ending(writer, ending),
+    }
+}
+
+/// Writes when a job ended, and what came back.
+fn write_ending<W: Write>(writer: &mut W, ending: &Ending) -> io::Result<()>
+    ensures whole { OnOk result (Appends (W.contents writer.old) (W.contents writer.new) (ending_bytes ending.now)) }
+    ensures front { OnErr result (TakesFront (W.contents writer.old) (W.contents writer.new) (ending_bytes ending.now)) }
+    ensures fits { OnOk result (EndingFits ending.now) }
+{
+    if ending.time == NEVER {
+        return Err(io::Error::from(ErrorKind::InvalidInput));
+    }
+    hand(writer, &eight_bytes(ending.time))?;
+    write_statuses(writer, ending.statuses)?;
+    write_payload(writer, &ending.payload)
+}
