@@ -1,2 +1,2 @@
 pub mod MarkPlaces
-pub mod TextReading
+pub mod HeadFaults
