@@ -1,2 +1,3 @@
 pub mod MarkPlaces
 pub mod HeadFaults
+pub mod OneTrace
