@@ -1,2 +1,3 @@
 pub mod MarkPlaces
-pub mod TextReading
+pub mod HeadFaults
+pub mod OneTrace

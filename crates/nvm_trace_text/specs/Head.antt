@@ -72,15 +72,20 @@ numbers_of words = do
     nacwu.1,
   )
 
+-- the head of these numbers, and of the words behind them
+unfoldable pub head_with : Numbers → List (List ℕ) → Result Head TraceExpected
+head_with numbers words = do
+  lba ← keyed (codes "first") 18446744073709551615 words
+  start ← start_of lba.1
+  reads ← reads_of start.1
+  ended_with (record { numbers = numbers; first = lba.0; start = start.0; reads = reads.0 }) expecting.Head reads.1
+
 -- the head that the words of a line say
-unfoldable pub head : List (List ℕ) → Result Head TraceExpected
+abbrev pub head : List (List ℕ) → Result Head TraceExpected
 head words = do
   rest ← behind_key (codes "trace") words
   ns ← numbers_of rest
-  lba ← keyed (codes "first") 18446744073709551615 ns.1
-  start ← start_of lba.1
-  reads ← reads_of start.1
-  ended_with (record { numbers = ns.0; first = lba.0; start = start.0; reads = reads.0 }) expecting.Head reads.1
+  head_with ns.0 ns.1
 
 abbrev pub namespace_in : Numbers → Namespace
 namespace_in n = namespace_of n.nsze n.block n.nabsn n.nabo n.nawun n.nacwu

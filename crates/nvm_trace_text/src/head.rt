@@ -29,13 +29,20 @@ pub(crate) struct Numbers {
 }
 
 /// The head that the words of a line say.
-#[tactic(auto, unfolding(crate::specs::Head::head))]
 pub(crate) fn read_head(words: &[u8]) -> Result<Head, TraceExpected>
     ensures { result ≡ spec.head (words_in words.now) }
 {
     let rest = behind_key(words, b"trace")?;
     let (numbers, rest) = numbers_of(rest)?;
-    let (first, rest) = keyed(rest, b"first", u64::MAX)?;
+    head_with(numbers, rest)
+}
+
+/// The head of these numbers, and of the words behind them.
+#[tactic(auto, unfolding(crate::specs::Head::head_with))]
+fn head_with(numbers: Numbers, words: &[u8]) -> Result<Head, TraceExpected>
+    ensures { result ≡ spec.head_with numbers (words_in words.now) }
+{
+    let (first, rest) = keyed(words, b"first", u64::MAX)?;
     let (start, rest) = start_of(rest)?;
     let (reads, rest) = reads_of(rest)?;
     if !is_end(rest) {

@@ -10,6 +10,7 @@ mod fields;
 mod head;
 mod job_line;
 mod job_text;
+pub mod laws;
 mod listing;
 mod mark;
 mod reading;
