@@ -2,7 +2,7 @@ ghost use Rattle.std.specs.Prelude.{◌≡◌, [], ◌∷◌, ◌++◌, IfOk, Is
 ghost use Rattle.nvm_trace.specs.ExplainedBy.{IsExplainedBy};
 
 use nvm_audit::Record;
-use nvm_trace::{Trace, TraceFault, TracedJob, WitnessFault, witness};
+use nvm_trace::{Judging, Trace, TraceFault, TracedJob, WitnessFault, witness};
 use std::alloc::Global;
 use std::thread::Threads;
 
@@ -34,11 +34,12 @@ pub fn note(trace: &mut Trace, seen: TracedJob) -> Result<(), Unnoted>
 pub fn is_certified(
     rt: &(impl Threads + Sync),
     alloc: Global,
+    judging: Judging,
     trace: &Trace,
     record: &Record,
 ) -> Result<bool, WitnessFault>
-    ensures { IfOk result (λ certified. IsTrue certified → IsExplainedBy «trace».now «record».now) }
+    ensures { IfOk result (λ certified. IsTrue certified → IsExplainedBy judging «trace».now «record».now) }
 {
-    let explained = witness(rt, alloc, trace, record)?;
+    let explained = witness(rt, alloc, judging, trace, record)?;
     Ok(explained.excused == 0)
 }

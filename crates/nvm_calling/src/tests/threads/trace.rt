@@ -1,13 +1,19 @@
 use super::audit::{record, spoiled};
 use crate::file::trace_file_of;
-use crate::tests::namespace;
+use crate::run::record_of;
+use crate::tests::{command, filled, namespace};
 use crate::trace::{Unnoted, is_certified, note};
 use nvm_audit::{AuditFault, Record, Spot};
 use nvm_file::read_trace;
 use nvm_geometry::Geometry;
-use nvm_record::{Status, Statuses};
-use nvm_trace::{Ending, Reads, Start, Trace, TracedJob, WitnessFault, witness};
+use nvm_record::{Fuse, Op, Payload, ReadData, Status, Statuses};
+use nvm_store::Limit;
+use nvm_plan::{Body, Job, PartResult};
+use nvm_trace::{
+    Ending, Explained, Judging, Reads, Start, Trace, TracedJob, WitnessFault, witness,
+};
 use std::alloc::Global;
+use std::sync::Wait;
 use std::test::Fail;
 use std::thread::Threads;
 
@@ -79,7 +85,7 @@ fn fault<R: Threads + Sync>(
     trace: &Trace,
     record: &Record,
 ) -> Option<WitnessFault> {
-    witness(rt, alloc, trace, record).err()
+    witness(rt, alloc, Judging::Strict, trace, record).err()
 }
 
 #[test]
@@ -87,9 +93,9 @@ fn record_explains_what_was_seen(rt: HostRuntime) -> Result<(), Fail> {
     let alloc = rt.alloc();
     let record = record(&rt, alloc)?;
     let trace = seen(alloc, namespace()?, &record, Order::AsRecorded, 0, 2, None)?;
-    assert_eq!(rt; is_certified(&rt, alloc, &trace, &record), Ok(true));
+    assert_eq!(rt; is_certified(&rt, alloc, Judging::Strict, &trace, &record), Ok(true));
     let kept = read_trace(alloc, &trace_file_of(alloc, &trace)?)?;
-    assert_eq!(rt; is_certified(&rt, alloc, &kept, &record), Ok(true));
+    assert_eq!(rt; is_certified(&rt, alloc, Judging::Strict, &kept, &record), Ok(true));
     let failed = seen(
         alloc,
         namespace()?,
@@ -99,7 +105,7 @@ fn record_explains_what_was_seen(rt: HostRuntime) -> Result<(), Fail> {
         2,
         Some(Status::COMPARE_FAILURE),
     )?;
-    assert_eq!(rt; is_certified(&rt, alloc, &failed, &record), Ok(false));
+    assert_eq!(rt; is_certified(&rt, alloc, Judging::Strict, &failed, &record), Ok(false));
     Ok(())
 }
 
@@ -153,6 +159,149 @@ fn first_fault_of_a_witness(rt: HostRuntime) -> Result<(), Fail> {
     assert_eq!(rt;
         fault(&rt, alloc, &reversed, &record),
         Some(WitnessFault::TimeBack { job: 1, spot })
+    );
+    Ok(())
+}
+
+/// A namespace that keeps writes of up to 2 blocks whole, with a boundary at LBA 8.
+fn narrow() -> Result<Geometry, Fail> {
+    match Geometry::new(32, 512, 7, 0, 1, 1) {
+        Ok(geometry) => Ok(geometry),
+        Err(_) => Err(Fail::new("there is no such namespace")),
+    }
+}
+
+/// A command of host 1 by itself, on `nlb` + 1 blocks.
+fn single(op: Op, slba: u64, nlb: u16, payload: Payload) -> Job {
+    Job {
+        host: 1,
+        body: Body::Single(command(Fuse::Normal, op, slba, nlb, payload)),
+    }
+}
+
+/// A job that began then and succeeded.
+fn succeeded(job: Job, began: u8, payload: Option<ReadData>) -> TracedJob {
+    let began = u64::from(began);
+    TracedJob {
+        job,
+        began,
+        ended: Some(Ending {
+            time: began + 5,
+            statuses: Statuses::One(Status::SUCCESSFUL_COMPLETION),
+            payload,
+        }),
+    }
+}
+
+/// The trace of these jobs, on blocks that had zero bytes.
+fn trace_of(alloc: Global, geometry: Geometry, jobs: Vec<TracedJob>) -> Result<Trace, Fail> {
+    let mut trace = Trace::new(alloc, geometry, 0, Start::Zeroes, Reads::Whole);
+    for job in jobs {
+        match note(&mut trace, job) {
+            Ok(()) => {}
+            Err(Unnoted::NoMemory) => return Err(Fail::new("there was no memory")),
+            Err(Unnoted::Wrong { .. }) => return Err(Fail::new("the job can't be noted")),
+        }
+    }
+    Ok(trace)
+}
+
+/// The record of these jobs, done in their order, where each unit takes one change.
+fn record_of_one_change<R: Threads + Wait + Sync>(
+    rt: &R,
+    alloc: Global,
+    geometry: Geometry,
+    jobs: &[Job],
+) -> Result<Record, Fail> {
+    let limit = Limit::new(1).ok_or("there is no such limit")?;
+    let Ok(record) = record_of(rt, alloc, geometry, jobs, 1, limit) else {
+        return Err(Fail::new("there was no memory"));
+    };
+    for work in &record.done {
+        for done in work {
+            let full = done.parts.iter().any(|part| part.result == PartResult::Full);
+            if done.statuses == Statuses::One(Status::INTERNAL_ERROR) && !full {
+                return Err(Fail::new("there was no memory"));
+            }
+        }
+    }
+    Ok(record)
+}
+
+/// One block of bytes 41h behind or before so many of zeroes.
+fn torn_data(alloc: Global, before: u8, after: u8) -> Result<ReadData, Fail> {
+    let mut bytes = vec![in alloc; 0; usize::from(before) * 512]?;
+    bytes.extend_from_slice(&[0x41; 512])?;
+    for _ in 0..usize::from(after) * 512 {
+        bytes.push(0)?;
+    }
+    Ok(ReadData::new(bytes))
+}
+
+#[test]
+fn torn_write_is_a_fault_only_strictly(rt: HostRuntime) -> Result<(), Fail> {
+    let alloc = rt.alloc();
+    let mut seen = Vec::with_capacity(alloc, 2)?;
+    seen.push(TracedJob {
+        job: single(Op::Write, 0, 2, filled(alloc, 0x41, 3)?),
+        began: 10,
+        ended: None,
+    })?;
+    let read = single(Op::Read, 0, 2, Payload::empty());
+    seen.push(succeeded(read, 20, Some(torn_data(alloc, 0, 2)?)))?;
+    let trace = trace_of(alloc, narrow()?, seen)?;
+    let mut jobs = Vec::with_capacity(alloc, 4)?;
+    for lba in 0..3u64 {
+        jobs.push(single(Op::Write, lba, 0, filled(alloc, 0x41, 1)?))?;
+    }
+    jobs.push(single(Op::Read, 0, 2, Payload::empty()))?;
+    let record = record_of_one_change(&rt, alloc, narrow()?, &jobs)?;
+    let explained = Explained {
+        jobs: 2,
+        units: 4,
+        steps: 2,
+        excused: 1,
+        preparations: 0,
+    };
+    assert_eq!(rt; witness(&rt, alloc, Judging::Standard, &trace, &record), Ok(explained));
+    assert_eq!(rt;
+        fault(&rt, alloc, &trace, &record),
+        Some(WitnessFault::JobDiffers { job: 0 })
+    );
+    Ok(())
+}
+
+#[test]
+fn unended_write_is_done_in_its_second_unit(rt: HostRuntime) -> Result<(), Fail> {
+    let alloc = rt.alloc();
+    let mut seen = Vec::with_capacity(alloc, 3)?;
+    let first = single(Op::Write, 0, 0, filled(alloc, 0x42, 1)?);
+    seen.push(succeeded(first, 10, None))?;
+    seen.push(TracedJob {
+        job: single(Op::Write, 7, 1, filled(alloc, 0x41, 2)?),
+        began: 20,
+        ended: None,
+    })?;
+    let read = single(Op::Read, 7, 1, Payload::empty());
+    seen.push(succeeded(read, 30, Some(torn_data(alloc, 1, 0)?)))?;
+    let trace = trace_of(alloc, narrow()?, seen)?;
+    let mut jobs = Vec::with_capacity(alloc, 4)?;
+    jobs.push(single(Op::Write, 0, 0, filled(alloc, 0x42, 1)?))?;
+    jobs.push(single(Op::Write, 7, 0, filled(alloc, 0x41, 1)?))?;
+    jobs.push(single(Op::Write, 8, 0, filled(alloc, 0x41, 1)?))?;
+    jobs.push(single(Op::Read, 7, 1, Payload::empty()))?;
+    let record = record_of_one_change(&rt, alloc, narrow()?, &jobs)?;
+    let explained = Explained {
+        jobs: 3,
+        units: 4,
+        steps: 4,
+        excused: 1,
+        preparations: 0,
+    };
+    assert_eq!(rt; witness(&rt, alloc, Judging::Standard, &trace, &record), Ok(explained));
+    assert_eq!(rt;
+        fault(&rt, alloc, &trace, &record),
+        Some(WitnessFault::JobDiffers { job: 1 })
     );
     Ok(())
 }
