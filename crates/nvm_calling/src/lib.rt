@@ -13,4 +13,5 @@ pub mod store;
 #[cfg(test)]
 mod tests;
 pub mod trace;
+pub mod trace_text;
 pub mod unit;
