@@ -14,7 +14,7 @@ import tempfile
 
 TOP = os.path.dirname(os.path.dirname(os.path.realpath(__file__)))
 FAULTS = ("nvq: ", "nvmu: ")
-COMMANDS = ("./", "crates/", "examples/", "edits/", "bench/", "sweep/", "mkdir ", "printf ", "cp ", "(cd ", "rt ", "git ", "nvq ", "nvmu ")
+COMMANDS = ("./", "crates/", "examples/", "edits/", "bench/", "sweep/", "mkdir ", "printf ", "cat > ", "sed -i ", "cp ", "(cd ", "rt ", "git ", "nvq ", "nvmu ")
 # What isn't run as it stands, and what is run in its place: a word of itself, or nothing.
 APART = {
     "./test": None,  # the gate, which calls this
@@ -93,8 +93,8 @@ def held(page, folder):
             is_told, is_ended = matches(ran.stderr, told), ran.returncode == 1
         else:
             is_told = told is None or is_apart(block) or matches(ran.stdout, told)
-            # a verdict of unlawful ends with 2, which the page shows by its line
-            is_ended = ran.returncode == 0 or ran.returncode == 2 and ran.stdout.startswith("unlawful ")
+            # a verdict of unlawful or unexplained ends with 2, which the page shows by its line
+            is_ended = ran.returncode == 0 or ran.returncode == 2 and ran.stdout.startswith(("unlawful ", "unexplained "))
         if is_told and is_ended:
             passed += 1
         else:
