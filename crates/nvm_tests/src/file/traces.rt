@@ -35,7 +35,9 @@ fn bytes_of_four_jobs(alloc: Global) -> Result<Vec<u8>, AllocError> {
     file.extend_from_slice(&[1, 2, 3, 0, 1, 0, 0, 0])?;
     file.extend_from_slice(&[0; 56])?;
     file.extend_from_slice(&[0x43; 512])?;
-    file.extend_from_slice(&[6, 0, 0, 0, 0, 0, 0, 0, 7, 0, 0, 0, 0, 0, 0, 0, 2, 0x85, 0, 9, 0])?;
+    file.extend_from_slice(&[
+        6, 0, 0, 0, 0, 0, 0, 0, 7, 0, 0, 0, 0, 0, 0, 0, 2, 0x85, 0, 9, 0,
+    ])?;
     // A Write by host 1, from 8, that never ended.
     file.extend_from_slice(&[1, 0, 0, 1, 0, 4, 0, 1, 0, 0, 0])?;
     file.extend_from_slice(&[0; 56])?;
@@ -80,7 +82,10 @@ fn a_trace_is_read_and_written_as_it_stood(rt: HostRuntime) -> Result<(), Fail> 
     assert_eq!(rt; (read.job.host, read.began), (1, 5));
     assert_eq!(rt; (pair.job.host, pair.began), (2, 6));
     let failed = Statuses::Two(Status { sct: 2, sc: 0x85 }, Status { sct: 0, sc: 9 });
-    assert_eq!(rt; pair.ended.as_ref().map(|e| (e.time, e.statuses)), Some((7, failed)));
+    assert_eq!(rt;
+        pair.ended.as_ref().map(|e| (e.time, e.statuses)),
+        Some((7, failed))
+    );
     assert_eq!(rt; write.ended, None);
     assert_eq!(rt; deallocate.ended.as_ref().map(|e| e.time), Some(9));
     let mut written = Vec::new(alloc);
@@ -104,13 +109,22 @@ fn each_fault_is_told_with_its_offset(rt: HostRuntime) -> Result<(), Fail> {
     assert_eq!(rt; refusal(alloc, 40, &[2])?, bad(40));
     // a reserved bit
     assert_eq!(rt; refusal(alloc, 104, &[1])?, bad(41));
-    assert_eq!(rt; refusal(alloc, 105, &[0])?, Some(TraceFileFault::BeganAtZero { at: 105 }));
-    assert_eq!(rt; refusal(alloc, 113, &[4])?, Some(TraceFileFault::EndedBefore { at: 113 }));
+    assert_eq!(rt;
+        refusal(alloc, 105, &[0])?,
+        Some(TraceFileFault::BeganAtZero { at: 105 })
+    );
+    assert_eq!(rt;
+        refusal(alloc, 113, &[4])?,
+        Some(TraceFileFault::EndedBefore { at: 113 })
+    );
     assert_eq!(rt; refusal(alloc, 123, &[2])?, bad(123));
     // data of a pair
     assert_eq!(rt; refusal(alloc, 1811, &[1])?, bad(1811));
     // an end that wasn't seen has no status behind it
-    assert_eq!(rt; refusal(alloc, 2498, &[0xff; 8])?, Some(TraceFileFault::Trailing { at: 2506 }));
+    assert_eq!(rt;
+        refusal(alloc, 2498, &[0xff; 8])?,
+        Some(TraceFileFault::Trailing { at: 2506 })
+    );
     Ok(())
 }
 
@@ -119,9 +133,14 @@ fn each_fault_is_told_with_its_offset(rt: HostRuntime) -> Result<(), Fail> {
 fn no_front_of_a_file_is_one(rt: HostRuntime) -> Result<(), Fail> {
     let alloc = rt.alloc();
     let file = Payload::new(alloc, bytes_of_four_jobs(alloc)?)?;
-    assert_eq!(rt; read_trace(alloc, &file.part(0, 3)?).err(), Some(TraceFileFault::BadName));
+    assert_eq!(rt;
+        read_trace(alloc, &file.part(0, 3)?).err(),
+        Some(TraceFileFault::BadName)
+    );
     for field in FIELDS.windows(2) {
-        let told = TraceFileFault::Truncated { at: field[0] as u64 };
+        let told = TraceFileFault::Truncated {
+            at: field[0] as u64,
+        };
         for end in [field[0], field[1].saturating_sub(1)] {
             let front = file.part(0, end.min(file.len()))?;
             assert_eq!(rt; read_trace(alloc, &front).err(), Some(told));
