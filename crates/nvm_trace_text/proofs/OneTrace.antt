@@ -11,7 +11,6 @@ use Rattle.nvm_trace.specs.Traceable.{IsDataOf, IsEndingOf}
 use Rattle.nvm_trace.specs.TraceView.{TraceView}
 use Rattle.nvm_trace.specs.declared.trace_fault.TraceFault.{TraceFault}
 use Rattle.nvm_trace.specs.declared.trace_fault.TraceFault.TheVariants.{Full, JobUnfit, BeganAtZero, EndedBefore, StatusesWrong, DataWrong}
-use Rattle.nvm_trace.specs.declared.traced_job.Ending.{Ending}
 use Rattle.nvm_trace.specs.declared.traced_job.TracedJob.{TracedJob}
 use Rattle.nvm_trace_text.specs.Head.{head, namespace_in, trace_under}
 use Rattle.nvm_trace_text.specs.Texts.{uncommented, on_line, with_job, GoesOn, SayBehind, FailsAt, FailBehind, IsHead, UnderHead, Say, IsHeadFault, FailsAtHead, Fail}

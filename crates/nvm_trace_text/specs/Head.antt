@@ -1,6 +1,6 @@
 -- The head of a trace's text: the numbers of its namespace, where it begins on the device, what was known of its blocks, and what its
 -- Reads are held to.
-use Rattle.std.specs.Prelude.{ℕ, Bool, true, false, if◌then◌else◌, List, [], ◌∷◌, codes, Option, Some, None, Result, Ok, Err}
+use Rattle.std.specs.Prelude.{ℕ, Bool, true, false, if◌then◌else◌, List, [], ◌∷◌, codes, Result, Ok, Err}
 use Rattle.std.specs.Str.{bytes_eq}
 use Rattle.nvm_geometry.specs.Namespace.{Namespace, namespace_of}
 use Rattle.nvm_list.specs.Numbers.{number}

@@ -14,7 +14,7 @@ use Rattle.nvm_list.specs.Numbers.{number, hex_byte}
 use Rattle.nvm_list.specs.Words.{is, first, others, words_in}
 use Rattle.nvm_trace.specs.declared.traced_job.Ending.{Ending}
 use Rattle.nvm_trace.specs.declared.traced_job.TracedJob.{TracedJob}
-use Rattle.nvm_trace_text.specs.Expecting.{◌>>=◌, expect, as_listed}
+use Rattle.nvm_trace_text.specs.Expecting.{◌>>=◌, as_listed}
 use Rattle.nvm_trace_text.specs.Head.{ended_with}
 use Rattle.nvm_trace_text.specs.Marks.{before_mark, behind_mark}
 use Rattle.nvm_trace_text.specs.declared.expected.TraceExpected.{TraceExpected}

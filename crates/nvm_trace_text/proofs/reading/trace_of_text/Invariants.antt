@@ -1,4 +1,4 @@
-use Rattle.std.proofs.Common.{◌≡◌, ◌≤◌, ◌+◌, length}
+use Rattle.std.proofs.Common.{◌≤◌, ◌+◌, length}
 use Rattle.nvm_list.specs.Rest.{parts_left, bytes_left}
 use Rattle.nvm_list.specs.Words.{is, text_lines}
 use Rattle.nvm_trace.specs.TraceView.{TraceView}

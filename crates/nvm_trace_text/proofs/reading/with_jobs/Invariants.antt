@@ -1,4 +1,4 @@
-use Rattle.std.proofs.Common.{◌≡◌, ◌+◌, ◌^◌, ◌<◌}
+use Rattle.std.proofs.Common.{◌+◌, ◌^◌, ◌<◌}
 use Rattle.nvm_list.specs.Rest.{parts_left, bytes_left}
 use Rattle.nvm_list.specs.Words.{is}
 use Rattle.nvm_trace.specs.TraceView.{TraceView}
