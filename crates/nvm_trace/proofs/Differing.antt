@@ -7,7 +7,7 @@ use mathlib.Core.Option.{some-injective}
 use Rattle.nvm_record.specs.Lists.{IsAt}
 use Rattle.nvm_geometry.specs.Namespace.{Namespace}
 use Rattle.nvm_audit.specs.RecordedJob.{RecordedJob}
-use Rattle.nvm_trace.specs.declared.traced_job.TracedJob.{TracedJob}
+use Rattle.nvm_trace.specs.Pieces.{Piece}
 use Rattle.nvm_trace.specs.FirstFault.{IsFirstWithout}
 use Rattle.nvm_trace.specs.Inside.Replies.{Agrees, IsLeastWrong, HasReplyAt}
 use Rattle.nvm_trace.proofs.Places.{contained, placed, none_stands}
@@ -31,7 +31,7 @@ module _ {A : Type 0} where
     | inr after ↦ let rest = out_of_all ws d after in (suc rest.0, rest.1, rest.2, rest.3, rest.4)
   ]
 
-module _ (ns : Namespace) (traced : List TracedJob) (seen : List RecordedJob) (d : RecordedJob) where
+module _ (ns : Namespace) (traced : List Piece) (seen : List RecordedJob) (d : RecordedJob) where
   -- One done job more agrees.
   pub least_kept : (least : Option ℕ) → Agrees ns traced d → IsLeastWrong ns traced seen least → IsLeastWrong ns traced (seen ++ d ∷ []) least
   least_kept None agrees old = λ e has. elim (Contains-push_cases seen d e has) [
@@ -71,7 +71,7 @@ module _ (ns : Namespace) (traced : List TracedJob) (seen : List RecordedJob) (d
   )
 
 -- Which job's it is, by its number.
-pub least_is_first : (ns : Namespace) (traced : List TracedJob) (done : List (List RecordedJob)) (least : Option ℕ)
+pub least_is_first : (ns : Namespace) (traced : List Piece) (done : List (List RecordedJob)) (least : Option ℕ)
     → IsLeastWrong ns traced (all_of done) least
     → MatchOption least ((number : ℕ) → HasReplyAt ns traced done number) (IsFirstWithout (HasReplyAt ns traced done))
 least_is_first ns traced done None all = λ number worker k work d j by at is its.

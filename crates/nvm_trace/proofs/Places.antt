@@ -54,6 +54,10 @@ module _ {A : Type 0} where
       by true h = (suc h.0, h.1)
       by false h = h
 
+pub map_of_map : {A B C : Type 0} (f : A → B) (g : B → C) (xs : List A) → map g (map f xs) ≡ map (λ x. g (f x)) xs
+map_of_map f g [] = refl
+map_of_map f g (x ∷ xs) = ap (λ ys. g (f x) ∷ ys) (map_of_map f g xs)
+
 module _ {A B : Type 0} where
   pub at_map : (f : A → B) (xs : List A) (i : ℕ) (x : A) → IsAt xs i x → IsAt (map f xs) i (f x)
   at_map f [] i x e = absurd (none_stands i x e)

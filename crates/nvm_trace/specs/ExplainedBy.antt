@@ -12,10 +12,9 @@ use Rattle.nvm_audit.specs.LawfulRecord.{IsLawfulRecord}
 use Rattle.nvm_audit.specs.RecordedJob.{RecordedJob}
 use Rattle.nvm_audit.specs.RecordView.{RecordView}
 use Rattle.nvm_trace.specs.declared.start.Start.TheVariants.{Unknown}
-use Rattle.nvm_trace.specs.declared.traced_job.TracedJob.{TracedJob}
 use Rattle.nvm_trace.specs.declared.judging.Judging.{Judging}
 use Rattle.nvm_trace.specs.Agreement.{AgreesWith}
-use Rattle.nvm_trace.specs.Pieces.{Piece, pieces, wholes}
+use Rattle.nvm_trace.specs.Pieces.{Piece, pieces, wholes, job_of}
 use Rattle.nvm_trace.specs.Steps.{steps_of}
 use Rattle.nvm_trace.specs.Timely.{IsTimely}
 use Rattle.nvm_trace.specs.TraceView.{TraceView}
@@ -26,7 +25,7 @@ IsOneBlockWrite (Pair c d) = ⊥
 
 -- The record has the trace's piece of this number at this number.
 abbrev pub HasJob : Judging → TraceView → RecordView → ℕ → Type 0
-HasJob judging t r number = (p : Piece) → IsAt (pieces judging t) number p → IsAt r.jobs number p.job
+HasJob judging t r number = (p : Piece) → IsAt (pieces judging t) number p → IsAt r.jobs number (job_of t.namespace p)
 
 -- The record's job of this number, if it isn't the trace's, is a preparation: a Write of one block for what the block had
 -- before the trace. There are preparations only where that wasn't known.
@@ -34,12 +33,11 @@ abbrev pub IsPrepared : Judging → TraceView → RecordView → ℕ → Type 0
 IsPrepared judging t r number =
     (job : Job) → length (pieces judging t) ≤ number → IsAt r.jobs number job → (t.start ≡ Unknown) × IsOneBlockWrite job.body
 
--- What the record shows of the piece of this number agrees with the reply to the command that it is of. Each piece of a write
--- that succeeded did.
+-- What the record shows of the piece of this number agrees with the reply to its command.
 abbrev pub HasItsReply : Judging → TraceView → RecordView → ℕ → Type 0
 HasItsReply judging t r number =
-    (worker k : ℕ) (work : List RecordedJob) (d : RecordedJob) (j : TracedJob) → IsAt r.done worker work → IsAt work k d
-    → d.job ≡ number → IsAt (wholes judging t) number j → AgreesWith t.namespace j d
+    (worker k : ℕ) (work : List RecordedJob) (d : RecordedJob) (p : Piece) → IsAt r.done worker work → IsAt work k d
+    → d.job ≡ number → IsAt (pieces judging t) number p → AgreesWith t.namespace p d
 
 pub record IsExplainedBy (judging : Judging) (t : TraceView) (r : RecordView) : Type 0 where
   -- It is of the trace's namespace, and has the pieces of the trace's jobs, and preparations.

@@ -5,10 +5,12 @@
 //! in each unit. [`witness`] says whether it does, or names the first fault; [`laws`] have what holds of explained traces.
 #![tactic(auto)]
 
+mod cut;
 mod explained;
 mod judging;
 pub mod laws;
 mod matching;
+mod owner;
 mod pieces;
 mod raising;
 mod reads;

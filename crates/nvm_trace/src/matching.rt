@@ -1,15 +1,19 @@
-ghost use Rattle.std.specs.Prelude.{◌≡◌, ◌↔◌, ℕ, ◌+◌, ◌≤◌, List, [], ◌∷◌, ◌++◌, length, map, IsTrue, IfOk, OnOk, MatchOption, MatchResult};
+ghost use Rattle.std.specs.Prelude.{◌≡◌, ◌↔◌, ℕ, ◌+◌, ◌<◌, ◌≤◌, List, [], ◌∷◌, ◌++◌, length, map, IsTrue, IfOk, OnOk, MatchOption, MatchResult};
+ghost use Rattle.std.specs.List.{range_with_len};
 ghost use Rattle.nvm_record.specs.Lists.{IsAt};
 ghost use Rattle.nvm_audit.specs.Recordable.{most_jobs};
 ghost use Rattle.nvm_trace.specs.declared.start.Start.TheVariants.{Unknown};
 ghost use Rattle.nvm_trace.specs.ExplainedBy.{IsOneBlockWrite};
 ghost use Rattle.nvm_trace.specs.FirstFault.{IsFirstWithout};
-ghost use Rattle.nvm_plan.specs.declared.job.Job.{Job as JobView};
 ghost use Rattle.nvm_trace.specs.Inside.Matching.{AreMatched, IsOtherFault, IsPreparedAt};
-ghost use Rattle.nvm_trace.specs.Pieces.{Piece, piece, pieces_of, pieces_in, block_of, blocks_of, single_job};
+ghost use Rattle.nvm_trace.specs.declared.cut.Cut.TheVariants.{Block};
+ghost use Rattle.nvm_trace.specs.Pieces.{Piece, piece, pieces_of, pieces_in, block_of_body, job_at};
 
+use crate::cut::Cut;
 use crate::judging::Judging;
-use crate::pieces::{is_block, torn};
+use crate::owner::Owner;
+use crate::pieces::{blocks_cut, is_block};
+use crate::reads::Reads;
 use crate::start::Start;
 use crate::traced_job::TracedJob;
 use crate::witness_fault::WitnessFault;
@@ -43,70 +47,80 @@ fn same_job(job: &Job, other: &Job) -> bool
     job.host == other.host && same_body(&job.body, &other.body)
 }
 
-/// Whether this job is at this place.
-fn has_job(jobs: &Vec<Job>, place: usize, job: &Job) -> bool
-    ensures { IsTrue result ↔ IsAt jobs.now.items place job.now }
+/// Whether it is just this block of the body's command.
+fn is_block_of(body: &Body, size: BlockSize, whole: &Body, k: u32) -> bool
+    ensures { IsTrue result ↔ (body.now ≡ block_of_body size whole.now k) }
 {
-    place < jobs.len() && same_job(&jobs[place], job)
-}
-
-/// Whether the job is just this block of the host's command.
-fn is_block_job(job: &Job, size: BlockSize, host: u16, command: &Command, k: u32) -> bool
-    ensures { IsTrue result ↔ (job.now ≡ single_job host (block_of size command.now k)) }
-{
-    match &job.body {
-        Body::Single(block) => job.host == host && is_block(block, size, command, k),
-        Body::Pair(_, _) => false,
+    match (body, whole) {
+        (Body::Single(block), Body::Single(command)) => is_block(block, size, command, k),
+        (Body::Pair(first, second), Body::Pair(against, after)) => {
+            same_command(first, against) && same_command(second, after)
+        }
+        _ => false,
     }
 }
 
-/// Whether just this block of the host's command is at this place.
-fn has_block(jobs: &Vec<Job>, place: usize, size: BlockSize, host: u16, command: &Command, k: u32) -> bool
-    ensures { IsTrue result ↔ IsAt jobs.now.items place (single_job host (block_of size command.now k)) }
+/// Whether the job is this of the whole one.
+fn is_piece(job: &Job, size: BlockSize, whole: &Job, cut: Cut) -> bool
+    ensures { IsTrue result ↔ (job.now ≡ job_at size whole.now cut) }
 {
-    place < jobs.len() && is_block_job(&jobs[place], size, host, command, k)
+    match cut {
+        Cut::Whole => same_job(job, whole),
+        Cut::Block(k) => job.host == whole.host && is_block_of(&job.body, size, &whole.body, k),
+    }
 }
 
-/// Notes the traced job as the owner of the next of the record's jobs, if that is the right one.
+/// Whether this of the whole job is at this place.
+fn has_piece(jobs: &Vec<Job>, place: usize, size: BlockSize, whole: &Job, cut: Cut) -> bool
+    ensures { IsTrue result ↔ IsAt jobs.now.items place (job_at size whole.now cut) }
+{
+    place < jobs.len() && is_piece(&jobs[place], size, whole, cut)
+}
+
+/// Notes the owner of the next of the record's jobs, if that is the right one.
 fn put_owner<'a>(
-    right: bool,
-    traced: &'a TracedJob,
-    owners: &mut Vec<&'a TracedJob>,
+    geometry: &Geometry,
+    jobs: &Vec<Job>,
+    owner: Owner<'a>,
+    owners: &mut Vec<Owner<'a>>,
 ) -> Result<(), WitnessFault>
     requires { length owners.old.items ≤ most_jobs }
-    ensures next { OnOk result (IsTrue right × (length owners.new.items ≡ length owners.old.items + 1)) }
-    ensures matched { (jobs : List JobView) (ps : List Piece) (job : JobView) → AreMatched ps jobs (map (λ j. j.now) owners.old.items)
-        → IsTrue right ↔ IsAt jobs (length owners.old.items) job
-        → MatchResult result (λ _. AreMatched (ps ++ piece traced.now job ∷ []) jobs (map (λ j. j.now) owners.new.items))
-        (IsOtherFault (ps ++ piece traced.now job ∷ []) jobs) }
+    ensures next { OnOk result ((length owners.old.items < length jobs.now.items) × (length owners.new.items ≡ length owners.old.items + 1)) }
+    ensures matched { (ps : List Piece) → AreMatched geometry.now ps jobs.now.items (map (λ o. piece o.whole.now o.cut) owners.old.items)
+        → MatchResult result
+        (λ _. AreMatched geometry.now (ps ++ piece owner.entry.whole.now owner.entry.cut ∷ []) jobs.now.items (map (λ o. piece o.whole.now o.cut) owners.new.items))
+        (IsOtherFault geometry.now (ps ++ piece owner.entry.whole.now owner.entry.cut ∷ []) jobs.now.items) }
 {
-    if !right {
-        let job = owners.len() as u32;
-        return Err(WitnessFault::JobDiffers { job });
+    let number = owners.len();
+    if !has_piece(jobs, number, geometry.block_size(), &owner.whole.job, owner.cut) {
+        return Err(WitnessFault::JobDiffers { job: number as u32 });
     }
-    owners.push(traced)?;
+    owners.push(owner)?;
     Ok(())
 }
 
 /// Notes the traced job as the owner of each of the next jobs of the record, which are to be its command's blocks.
 fn match_blocks<'a>(
-    size: BlockSize,
+    geometry: &Geometry,
     jobs: &Vec<Job>,
     traced: &'a TracedJob,
-    command: &Command,
-    owners: &mut Vec<&'a TracedJob>,
+    blocks: u32,
+    owners: &mut Vec<Owner<'a>>,
 ) -> Result<(), WitnessFault>
     requires few { length jobs.now.items ≤ most_jobs }
     requires within { length owners.old.items ≤ length jobs.now.items }
     ensures within { OnOk result (length owners.new.items ≤ length jobs.now.items) }
-    ensures matched { (ps : List Piece) → AreMatched ps jobs.now.items (map (λ j. j.now) owners.old.items)
+    ensures matched { (ps : List Piece) → AreMatched geometry.now ps jobs.now.items (map (λ o. piece o.whole.now o.cut) owners.old.items)
         → MatchResult result
-        (λ _. AreMatched (ps ++ map (piece traced.now) (blocks_of size traced.now.job.host command.now)) jobs.now.items (map (λ j. j.now) owners.new.items))
-        (IsOtherFault (ps ++ map (piece traced.now) (blocks_of size traced.now.job.host command.now)) jobs.now.items) }
+        (λ _. AreMatched geometry.now (ps ++ map (piece traced.now) (map Block (range_with_len 0 blocks))) jobs.now.items (map (λ o. piece o.whole.now o.cut) owners.new.items))
+        (IsOtherFault geometry.now (ps ++ map (piece traced.now) (map Block (range_with_len 0 blocks))) jobs.now.items) }
 {
-    for k in 0..u32::from(command.nlb) + 1 {
-        let right = has_block(jobs, owners.len(), size, traced.job.host, command, k);
-        put_owner(right, traced, owners)?;
+    for k in 0..blocks {
+        let owner = Owner {
+            whole: traced,
+            cut: Cut::Block(k),
+        };
+        put_owner(geometry, jobs, owner, owners)?;
     }
     Ok(())
 }
@@ -115,44 +129,49 @@ fn match_blocks<'a>(
 fn match_pieces<'a>(
     judging: Judging,
     geometry: &Geometry,
+    reads: Reads,
     jobs: &Vec<Job>,
     traced: &'a TracedJob,
-    owners: &mut Vec<&'a TracedJob>,
+    owners: &mut Vec<Owner<'a>>,
 ) -> Result<(), WitnessFault>
     requires few { length jobs.now.items ≤ most_jobs }
     requires within { length owners.old.items ≤ length jobs.now.items }
     ensures within { OnOk result (length owners.new.items ≤ length jobs.now.items) }
-    ensures matched { (ps : List Piece) → AreMatched ps jobs.now.items (map (λ j. j.now) owners.old.items)
+    ensures matched { (ps : List Piece) → AreMatched geometry.now ps jobs.now.items (map (λ o. piece o.whole.now o.cut) owners.old.items)
         → MatchResult result
-        (λ _. AreMatched (ps ++ pieces_of judging geometry.now traced.now) jobs.now.items (map (λ j. j.now) owners.new.items))
-        (IsOtherFault (ps ++ pieces_of judging geometry.now traced.now) jobs.now.items) }
+        (λ _. AreMatched geometry.now (ps ++ pieces_of judging geometry.now reads traced.now) jobs.now.items (map (λ o. piece o.whole.now o.cut) owners.new.items))
+        (IsOtherFault geometry.now (ps ++ pieces_of judging geometry.now reads traced.now) jobs.now.items) }
 {
-    match torn(judging, geometry, &traced.job) {
-        Some(command) => match_blocks(geometry.block_size(), jobs, traced, command, owners),
+    match blocks_cut(judging, geometry, reads, traced) {
+        Some(blocks) => match_blocks(geometry, jobs, traced, blocks, owners),
         None => {
-            let right = has_job(jobs, owners.len(), &traced.job);
-            put_owner(right, traced, owners)
+            let owner = Owner {
+                whole: traced,
+                cut: Cut::Whole,
+            };
+            put_owner(geometry, jobs, owner, owners)
         }
     }
 }
 
-/// The traced job that each of the record's first jobs is of, if these are the trace's pieces: all but preparations.
+/// The owner of each of the record's first jobs, if these are the trace's pieces: all but preparations.
 pub(crate) fn owners_of<'a>(
     alloc: Global,
     judging: Judging,
     geometry: &Geometry,
+    reads: Reads,
     traced: &'a Vec<TracedJob>,
     jobs: &Vec<Job>,
-) -> Result<Vec<&'a TracedJob>, WitnessFault>
+) -> Result<Vec<Owner<'a>>, WitnessFault>
     requires { length jobs.now.items ≤ most_jobs }
     ensures within { IfOk result (λ owners. length owners.items ≤ length jobs.now.items) }
     ensures matched { MatchResult result
-        (λ owners. AreMatched (pieces_in judging geometry.now traced.now.items) jobs.now.items (map (λ j. j.now) owners.items))
-        (IsOtherFault (pieces_in judging geometry.now traced.now.items) jobs.now.items) }
+        (λ owners. AreMatched geometry.now (pieces_in judging geometry.now reads traced.now.items) jobs.now.items (map (λ o. piece o.whole.now o.cut) owners.items))
+        (IsOtherFault geometry.now (pieces_in judging geometry.now reads traced.now.items) jobs.now.items) }
 {
     let mut owners = Vec::with_capacity(alloc, traced.len())?;
     for number in 0..traced.len() {
-        match_pieces(judging, geometry, jobs, &traced[number], &mut owners)?;
+        match_pieces(judging, geometry, reads, jobs, &traced[number], &mut owners)?;
     }
     Ok(owners)
 }

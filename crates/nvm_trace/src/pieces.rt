@@ -1,49 +1,88 @@
-ghost use Rattle.std.specs.Prelude.{◌≡◌, ◌↔◌, ◌+◌, ◌≤◌, ◌<◌, [], ◌∷◌, ℕ, IsTrue, MatchOption};
+ghost use Rattle.std.specs.Prelude.{◌≡◌, ◌↔◌, ◌+◌, ◌≤◌, ◌<◌, [], ◌∷◌, map, IsTrue, MatchOption};
+ghost use Rattle.std.specs.List.{range_with_len};
 ghost use Rattle.nvm_geometry.specs.Parts.{data_part};
-ghost use Rattle.nvm_plan.specs.Ready.{IsReadyBody};
+ghost use Rattle.nvm_plan.specs.Ready.{IsReadyBody, IsReadySingle};
+ghost use Rattle.nvm_trace.specs.declared.cut.Cut.TheVariants.{Whole, Block};
 ghost use Rattle.nvm_trace.specs.Pieces as spec;
-ghost use Rattle.nvm_trace.specs.Pieces.{block_of, blocks_of, jobs_of, jobs_of_body};
+ghost use Rattle.nvm_trace.specs.Pieces.{block_of, cuts_of, cuts_of_body};
 
 use crate::judging::Judging;
+use crate::reads::Reads;
+use crate::saying::is_success;
+use crate::traced_job::{Ending, TracedJob};
 use nvm_geometry::Geometry;
 use nvm_geometry::laws::sharing_is_one_number;
-use nvm_plan::{Body, Job, Plan, plan};
+use nvm_plan::{Body, Plan, plan};
 use nvm_record::{BlockSize, Command, Op};
 
-/// The write that the record has block by block, if the job is one.
-pub(crate) fn torn<'a>(judging: Judging, geometry: &Geometry, job: &'a Job) -> Option<&'a Command>
-    ensures { MatchOption result (jobs_of judging geometry.now job.now ≡ job.now ∷ [])
-        (λ command. jobs_of judging geometry.now job.now ≡ blocks_of geometry.now.block_size job.now.host command.now) }
+/// Into how many blocks the job is cut, if it is.
+pub(crate) fn blocks_cut(
+    judging: Judging,
+    geometry: &Geometry,
+    reads: Reads,
+    job: &TracedJob,
+) -> Option<u32>
+    ensures { MatchOption result (cuts_of judging geometry.now reads job.now ≡ Whole ∷ [])
+        (λ blocks. cuts_of judging geometry.now reads job.now ≡ map Block (range_with_len 0 blocks)) }
 {
     match judging {
         Judging::Strict => None,
-        Judging::Standard => match plan(geometry, job) {
+        Judging::Standard => match plan(geometry, &job.job) {
             Plan::Refused(_) => None,
-            Plan::Ready => torn_of(*geometry, &job.body),
+            Plan::Ready => blocks_cut_of(*geometry, reads, &job.ended, &job.job.body),
         },
     }
 }
 
-/// The write that the standard doesn't keep whole, if the body is one.
-fn torn_of<'a>(geometry: Geometry, body: &'a Body) -> Option<&'a Command>
+/// Into how many blocks the body is cut, if it is, where it ended so.
+fn blocks_cut_of(geometry: Geometry, reads: Reads, ended: &Option<Ending>, body: &Body) -> Option<u32>
     requires { IsReadyBody geometry body.now }
-    ensures { (host : ℕ) → MatchOption result
-        (jobs_of_body geometry host body.now ≡ record { host = host; body = body.now } ∷ [])
-        (λ command. jobs_of_body geometry host body.now ≡ blocks_of geometry.block_size host command.now) }
+    ensures { MatchOption result (cuts_of_body geometry reads ended.now body.now ≡ Whole ∷ [])
+        (λ blocks. cuts_of_body geometry reads ended.now body.now ≡ map Block (range_with_len 0 blocks)) }
 {
     match body {
-        Body::Single(command) => match command.op {
-            Op::Write | Op::WriteUncorrectable | Op::WriteZeroes => {
-                let blocks = u32::from(command.nlb) + 1;
-                if exceeds_write_limit(geometry, command.slba, blocks) {
-                    Some(command)
-                } else {
-                    None
-                }
+        Body::Single(command) => {
+            if is_cut(geometry, reads, ended, command) {
+                Some(u32::from(command.nlb) + 1)
+            } else {
+                None
             }
-            _ => None,
-        },
+        }
         Body::Pair(_, _) => None,
+    }
+}
+
+/// Whether the command is cut into blocks, where it ended so.
+fn is_cut(geometry: Geometry, reads: Reads, ended: &Option<Ending>, command: &Command) -> bool
+    requires { IsReadySingle geometry command.now }
+    ensures { result ≡ spec.is_cut geometry reads ended.now command.now }
+{
+    match command.op {
+        Op::Write | Op::WriteUncorrectable | Op::WriteZeroes => {
+            exceeds_write_limit(geometry, command.slba, u32::from(command.nlb) + 1)
+        }
+        Op::Read | Op::Compare => by_blocks(reads) && has_succeeded(ended),
+        _ => false,
+    }
+}
+
+/// Whether a Read or a Compare may find each of its blocks at a moment of its own.
+fn by_blocks(reads: Reads) -> bool
+    ensures { result ≡ spec.by_blocks reads }
+{
+    match reads {
+        Reads::Whole => false,
+        Reads::ByBlocks => true,
+    }
+}
+
+/// Whether the job ended with success.
+fn has_succeeded(ended: &Option<Ending>) -> bool
+    ensures { result ≡ spec.has_succeeded ended.now }
+{
+    match ended {
+        Some(ending) => is_success(ending.statuses),
+        None => false,
     }
 }
 
@@ -64,15 +103,14 @@ fn is_after(lba: u64, first: u64, blocks: u32) -> bool
     lba >= first && lba - first == u64::from(blocks)
 }
 
-/// The data of one block of the command.
-fn data_of_block(command: &Command, size: BlockSize, k: u32) -> &[u8]
-    ensures { result.now ≡ data_part size k 1 command.now.payload }
+/// The data of one block.
+pub(crate) fn block_data(bytes: &[u8], size: BlockSize, k: u32) -> &[u8]
+    ensures { result.now ≡ data_part size k 1 bytes.now }
 {
-    let data = command.payload.as_slice();
     let size = size.bytes() as usize;
-    let start = (k as usize * size).min(data.len());
-    let end = (start + size).min(data.len());
-    &data[start..end]
+    let start = (k as usize * size).min(bytes.len());
+    let end = (start + size).min(bytes.len());
+    &bytes[start..end]
 }
 
 /// Whether it is just this block of the command.
@@ -85,5 +123,5 @@ pub(crate) fn is_block(block: &Command, size: BlockSize, command: &Command, k: u
         && block.op == command.op
         && is_after(block.slba, command.slba, k)
         && block.nlb == 0
-        && block.payload.as_slice() == data_of_block(command, size, k)
+        && block.payload.as_slice() == block_data(command.payload.as_slice(), size, k)
 }

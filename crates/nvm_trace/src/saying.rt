@@ -42,7 +42,8 @@ fn is_error_of(op: Op, status: Status) -> bool
     }
 }
 
-fn is_success(statuses: Statuses) -> bool
+/// Whether it is success of each command.
+pub(crate) fn is_success(statuses: Statuses) -> bool
     ensures { result ≡ spec.is_success statuses }
 {
     match statuses {

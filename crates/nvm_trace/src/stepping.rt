@@ -2,25 +2,25 @@ ghost use Rattle.std.specs.Prelude.{◌≡◌, ◌++◌, IfOk, OnOk, map};
 ghost use Rattle.nvm_trace.specs.Steps as spec;
 ghost use Rattle.nvm_trace.specs.Steps.{steps_of_part, steps_of_job, steps_of_work};
 
+use crate::owner::Owner;
 use crate::step::{Step, Times};
-use crate::traced_job::TracedJob;
 use nvm_audit::DoneJob;
 use nvm_plan::{Part, PartResult};
 use nvm_record::NoMemory;
 use std::alloc::Global;
 
 /// When the job of this number began and ended. One that isn't the trace's did so before it.
-fn times_of(traced: &Vec<&TracedJob>, number: u32) -> Times
-    ensures { result ≡ spec.times_of (map (λ j. j.now) traced.now.items) number }
+fn times_of(owners: &Vec<Owner<'_>>, number: u32) -> Times
+    ensures { result ≡ spec.times_of (map (λ o. o.whole.now) owners.now.items) number }
 {
     let number = number as usize;
-    if number >= traced.len() {
+    if number >= owners.len() {
         return Times {
             began: 0,
             ended: Some(0),
         };
     }
-    let job = traced[number];
+    let job = owners[number].whole;
     let ended = match &job.ended {
         Some(ending) => Some(ending.time),
         None => None,
@@ -52,10 +52,10 @@ fn put_part(times: Times, job: u32, part: Part, steps: &mut Vec<Step>) -> Result
 }
 
 /// Puts the steps of the job at the end.
-fn put_job(traced: &Vec<&TracedJob>, done: &DoneJob, steps: &mut Vec<Step>) -> Result<(), NoMemory>
-    ensures { OnOk result (steps.new.items ≡ steps.old.items ++ steps_of_job (map (λ j. j.now) traced.now.items) done.now) }
+fn put_job(owners: &Vec<Owner<'_>>, done: &DoneJob, steps: &mut Vec<Step>) -> Result<(), NoMemory>
+    ensures { OnOk result (steps.new.items ≡ steps.old.items ++ steps_of_job (map (λ o. o.whole.now) owners.now.items) done.now) }
 {
-    let times = times_of(traced, done.job);
+    let times = times_of(owners, done.job);
     for i in 0..done.parts.len() {
         put_part(times, done.job, done.parts[i], steps)?;
     }
@@ -64,14 +64,14 @@ fn put_job(traced: &Vec<&TracedJob>, done: &DoneJob, steps: &mut Vec<Step>) -> R
 
 /// Puts the steps of what a worker did at the end.
 fn put_work(
-    traced: &Vec<&TracedJob>,
+    owners: &Vec<Owner<'_>>,
     work: &Vec<DoneJob>,
     steps: &mut Vec<Step>,
 ) -> Result<(), NoMemory>
-    ensures { OnOk result (steps.new.items ≡ steps.old.items ++ steps_of_work (map (λ j. j.now) traced.now.items) work.now.items) }
+    ensures { OnOk result (steps.new.items ≡ steps.old.items ++ steps_of_work (map (λ o. o.whole.now) owners.now.items) work.now.items) }
 {
     for k in 0..work.len() {
-        put_job(traced, &work[k], steps)?;
+        put_job(owners, &work[k], steps)?;
     }
     Ok(())
 }
@@ -79,14 +79,14 @@ fn put_work(
 /// The steps that a record shows, by worker and in the worker's order.
 pub(crate) fn steps_of(
     alloc: Global,
-    traced: &Vec<&TracedJob>,
+    owners: &Vec<Owner<'_>>,
     done: &Vec<Vec<DoneJob>>,
 ) -> Result<Vec<Step>, NoMemory>
-    ensures { IfOk result (λ steps. steps.items ≡ spec.steps_of (map (λ j. j.now) traced.now.items) (map (λ work. work.items) done.now.items)) }
+    ensures { IfOk result (λ steps. steps.items ≡ spec.steps_of (map (λ o. o.whole.now) owners.now.items) (map (λ work. work.items) done.now.items)) }
 {
     let mut steps = Vec::new(alloc);
     for worker in 0..done.len() {
-        put_work(traced, &done[worker], &mut steps)?;
+        put_work(owners, &done[worker], &mut steps)?;
     }
     Ok(steps)
 }

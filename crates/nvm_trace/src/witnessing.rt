@@ -7,7 +7,7 @@ ghost use Rattle.nvm_trace.specs.ExplainedBy.{HasItsReply, IsExplainedBy};
 ghost use Rattle.nvm_trace.specs.FirstFault.{HasJobsOf, IsFirstWitnessFault};
 ghost use Rattle.nvm_trace.specs.Inside.Table.{HasPlace};
 ghost use Rattle.nvm_trace.specs.Numbers.{HasNumbers};
-ghost use Rattle.nvm_trace.specs.Pieces.{wholes};
+ghost use Rattle.nvm_trace.specs.Pieces.{piece, pieces};
 ghost use Rattle.nvm_trace.specs.Saying as saying;
 ghost use Rattle.nvm_trace.specs.Steps.{steps_of as steps_shown};
 ghost use Rattle.nvm_trace.specs.Timely.{IsTimely, IsFirstLate};
@@ -15,6 +15,7 @@ ghost use Rattle.nvm_trace.specs.Timely.{IsTimely, IsFirstLate};
 use crate::explained::Explained;
 use crate::judging::Judging;
 use crate::matching::{first_unprepared, owners_of};
+use crate::owner::Owner;
 use crate::replies::first_differing;
 use crate::saying::says_what_was_done;
 use crate::step::Step;
@@ -31,16 +32,16 @@ use nvm_record::NoMemory;
 use std::alloc::Global;
 use std::thread::Threads;
 
-/// The traced job that each of the record's jobs is of, but for preparations, or what is first found wrong of the namespace and
+/// The owner of each of the record's jobs, but for preparations, or what is first found wrong of the namespace and
 /// the jobs.
 fn matched<'a>(
     alloc: Global,
     judging: Judging,
     trace: &'a Trace,
     record: &Record,
-) -> Result<Vec<&'a TracedJob>, WitnessFault>
+) -> Result<Vec<Owner<'a>>, WitnessFault>
     ensures few { IfOk result (λ owners. length owners.items ≤ length «record».now.jobs) }
-    ensures owners { IfOk result (λ owners. map (λ j. j.now) owners.items ≡ wholes judging «trace».now) }
+    ensures owners { IfOk result (λ owners. map (λ o. piece o.whole.now o.cut) owners.items ≡ pieces judging «trace».now) }
     ensures jobs { IfOk result (λ _. HasJobsOf judging «trace».now «record».now) }
     ensures fault { IfErr result
         (λ fault. IsFirstWitnessFault judging «trace».now «record».now fault ⊎ (fault ≡ NoMemoryFault)) }
@@ -48,7 +49,14 @@ fn matched<'a>(
     if record.geometry != trace.geometry {
         return Err(WitnessFault::NamespaceDiffers);
     }
-    let owners = owners_of(alloc, judging, &trace.geometry, &trace.jobs, &record.jobs)?;
+    let owners = owners_of(
+        alloc,
+        judging,
+        &trace.geometry,
+        trace.reads,
+        &trace.jobs,
+        &record.jobs,
+    )?;
     match first_unprepared(trace.start, owners.len(), &record.jobs) {
         Some(job) => Err(WitnessFault::NoPreparation { job }),
         None => Ok(owners),
@@ -56,8 +64,8 @@ fn matched<'a>(
 }
 
 /// What is first found wrong of the replies, if anything is.
-fn reply_fault(trace: &Trace, owners: &Vec<&TracedJob>, record: &Record) -> Option<WitnessFault>
-    ensures { (judging : JudgingView) → map (λ j. j.now) owners.now.items ≡ wholes judging «trace».now
+fn reply_fault(trace: &Trace, owners: &Vec<Owner<'_>>, record: &Record) -> Option<WitnessFault>
+    ensures { (judging : JudgingView) → map (λ o. piece o.whole.now o.cut) owners.now.items ≡ pieces judging «trace».now
         → HasJobsOf judging «trace».now «record».now → IsLawfulRecord «record».now
         → MatchOption result ((number : ℕ) → HasItsReply judging «trace».now «record».now number)
         (IsFirstWitnessFault judging «trace».now «record».now) }
@@ -95,12 +103,12 @@ fn excused(geometry: &Geometry, traced: &Vec<TracedJob>) -> u32
 fn time_fault(
     alloc: Global,
     trace: &Trace,
-    owners: &Vec<&TracedJob>,
+    owners: &Vec<Owner<'_>>,
     record: &Record,
 ) -> Result<Explained, WitnessFault>
     requires few { length owners.now.items ≤ length «record».now.jobs }
     requires lawful { IsLawfulRecord «record».now }
-    ensures { (judging : JudgingView) → map (λ j. j.now) owners.now.items ≡ wholes judging «trace».now
+    ensures { (judging : JudgingView) → map (λ o. piece o.whole.now o.cut) owners.now.items ≡ pieces judging «trace».now
         → HasJobsOf judging «trace».now «record».now → ((number : ℕ) → HasItsReply judging «trace».now «record».now number)
         → MatchResult result
         (λ explained. IsExplainedBy judging «trace».now «record».now × HasNumbers judging «trace».now «record».now explained)

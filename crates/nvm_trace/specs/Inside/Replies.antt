@@ -3,22 +3,22 @@ use Rattle.std.specs.Prelude.{◌≡◌, ℕ, ◌<◌, List, Contains, Option, S
 use Rattle.nvm_record.specs.Lists.{IsAt}
 use Rattle.nvm_geometry.specs.Namespace.{Namespace}
 use Rattle.nvm_audit.specs.RecordedJob.{RecordedJob}
-use Rattle.nvm_trace.specs.declared.traced_job.TracedJob.{TracedJob}
 use Rattle.nvm_trace.specs.Agreement.{AgreesWith}
+use Rattle.nvm_trace.specs.Pieces.{Piece}
 
--- What is recorded agrees with the reply, if the job is traced.
-abbrev pub Agrees : Namespace → List TracedJob → RecordedJob → Type 0
-Agrees ns traced d = (j : TracedJob) → IsAt traced d.job j → AgreesWith ns j d
+-- What is recorded agrees with the reply, if the job is a piece.
+abbrev pub Agrees : Namespace → List Piece → RecordedJob → Type 0
+Agrees ns pieces d = (p : Piece) → IsAt pieces d.job p → AgreesWith ns p d
 
 -- It is the least number of these done jobs of which one doesn't agree, if there is one.
-abbrev pub IsLeastWrong : Namespace → List TracedJob → List RecordedJob → Option ℕ → Type 0
-IsLeastWrong ns traced seen None = (d : RecordedJob) → Contains seen d → Agrees ns traced d
-IsLeastWrong ns traced seen (Some number) =
-    ((d : RecordedJob) → Contains seen d → d.job < number → Agrees ns traced d)
-    × ((d : RecordedJob) × Contains seen d × (d.job ≡ number) × (¬ (Agrees ns traced d)))
+abbrev pub IsLeastWrong : Namespace → List Piece → List RecordedJob → Option ℕ → Type 0
+IsLeastWrong ns pieces seen None = (d : RecordedJob) → Contains seen d → Agrees ns pieces d
+IsLeastWrong ns pieces seen (Some number) =
+    ((d : RecordedJob) → Contains seen d → d.job < number → Agrees ns pieces d)
+    × ((d : RecordedJob) × Contains seen d × (d.job ≡ number) × (¬ (Agrees ns pieces d)))
 
 -- What is recorded of the job of this number agrees with its reply.
-abbrev pub HasReplyAt : Namespace → List TracedJob → List (List RecordedJob) → ℕ → Type 0
-HasReplyAt ns traced done number =
-    (worker k : ℕ) (work : List RecordedJob) (d : RecordedJob) (j : TracedJob) → IsAt done worker work → IsAt work k d
-    → d.job ≡ number → IsAt traced number j → AgreesWith ns j d
+abbrev pub HasReplyAt : Namespace → List Piece → List (List RecordedJob) → ℕ → Type 0
+HasReplyAt ns pieces done number =
+    (worker k : ℕ) (work : List RecordedJob) (d : RecordedJob) (p : Piece) → IsAt done worker work → IsAt work k d
+    → d.job ≡ number → IsAt pieces number p → AgreesWith ns p d

@@ -11,6 +11,6 @@ returns-in_err-match_pieces-clause-matched c =
     let low : number < length traced = omega (arith, c.loop-number-test.true, c.len-number-end.ensures) in
     let p = err_from_is_err_and c.from_residual-in_err-match_pieces.result c.from_residual-in_err-match_pieces.ensures.1 in
     rw (p.1, p.2)
-    (fault_in_all c.args.judging c.args.geometry.now traced number c.index.result.now low c.index.ensures c.args.jobs.now.items
+    (fault_in_all c.args.judging c.args.geometry.now c.args.reads traced number c.index.result.now low c.index.ensures c.args.jobs.now.items
     c.in_err-match_pieces.field-0.0
-    (c.in_err-match_pieces.ensures.matched (pieces_in c.args.judging c.args.geometry.now (take number traced)) c.loop-number.invariant.matched))
+    (c.in_err-match_pieces.ensures.matched (pieces_in c.args.judging c.args.geometry.now c.args.reads (take number traced)) c.loop-number.invariant.matched))

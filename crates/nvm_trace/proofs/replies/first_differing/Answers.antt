@@ -1,6 +1,7 @@
 use Rattle.std.proofs.Common.{◌≡◌, [], ◌<◌, List, length, map, take, get_or, sym, ap, subst, ◌∙◌, arith}
 use Rattle.std.proofs.lemmas.List.{take_all, length-map, get_or-map}
 use Rattle.nvm_audit.specs.RecordedJob.{RecordedJob}
+use Rattle.nvm_trace.specs.Pieces.{piece}
 use Rattle.nvm_trace.specs.Inside.Replies.{IsLeastWrong}
 use Rattle.nvm_trace.proofs.Gathered.{flat_taken}
 use Rattle.nvm_trace.proofs.Differing.{all_of, least_is_first}
@@ -19,7 +20,7 @@ loop-worker-preserved c =
     let long = length-map done (λ work. work.items) in
     let read : work.items ≡ get_or all worker work.items =
     ap (λ w. w.items) c.index.ensures ∙ sym (get_or-map (λ work. work.items) done worker work work.items low) in
-    subst (λ (s : List RecordedJob). IsLeastWrong c.args.geometry.now (map (λ j. j.now) c.args.traced.now.items) s c.least_in_work-least.result)
+    subst (λ (s : List RecordedJob). IsLeastWrong c.args.geometry.now (map (λ o. piece o.whole.now o.cut) c.args.owners.now.items) s c.least_in_work-least.result)
     (flat_taken (λ work. work) [] all worker work.items (omega (arith, low, long)) read)
     (c.least_in_work-least.ensures (all_of (take worker all)) c.loop-worker.invariant)
 
@@ -29,6 +30,6 @@ returns c =
     let all : List (List RecordedJob) = map (λ work. work.items) done in
     let long = length-map done (λ work. work.items) in
     let end = take_all c.loop-worker.worker all (omega (arith, long, c.loop-worker-test.false, c.len-worker-end.ensures)) in
-    least_is_first c.args.geometry.now (map (λ j. j.now) c.args.traced.now.items) all c.loop-worker.least
-    (subst (λ (ws : List (List RecordedJob)). IsLeastWrong c.args.geometry.now (map (λ j. j.now) c.args.traced.now.items) (all_of ws) c.loop-worker.least) end
+    least_is_first c.args.geometry.now (map (λ o. piece o.whole.now o.cut) c.args.owners.now.items) all c.loop-worker.least
+    (subst (λ (ws : List (List RecordedJob)). IsLeastWrong c.args.geometry.now (map (λ o. piece o.whole.now o.cut) c.args.owners.now.items) (all_of ws) c.loop-worker.least) end
     c.loop-worker.invariant)

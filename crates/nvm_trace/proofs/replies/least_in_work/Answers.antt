@@ -2,6 +2,7 @@ use Rattle.std.proofs.Common.{◌≡◌, ◌++◌, ◌∷◌, [], ◌+◌, ◌<�
 use Rattle.std.proofs.lemmas.Bool.{false≢true}
 use Rattle.std.proofs.lemmas.List.{take_all}
 use Rattle.nvm_audit.specs.RecordedJob.{RecordedJob}
+use Rattle.nvm_trace.specs.Pieces.{piece}
 use Rattle.nvm_trace.specs.Inside.Replies.{IsLeastWrong}
 use Rattle.nvm_trace.proofs.Gathered.{taken}
 use Rattle.nvm_trace.proofs.Differing.{least_kept, least_taken}
@@ -10,12 +11,12 @@ use Rattle.nvm_trace.proofs.replies.least_in_work.Goals.{then-not-agrees_if_trac
 
 pub loop-k-init : goal.loop-k-init
 loop-k-init c = λ seen old.
-    subst (λ (s : List RecordedJob). IsLeastWrong c.args.geometry.now (map (λ j. j.now) c.args.traced.now.items) s c.args.least) (sym (append-nil seen)) old
+    subst (λ (s : List RecordedJob). IsLeastWrong c.args.geometry.now (map (λ o. piece o.whole.now o.cut) c.args.owners.now.items) s c.args.least) (sym (append-nil seen)) old
 
 pub loop-k-preserved : goal.loop-k-preserved
 loop-k-preserved c = λ seen old.
     let ns = c.args.geometry.now in
-    let traced = (map (λ j. j.now) c.args.traced.now.items) in
+    let traced = (map (λ o. piece o.whole.now o.cut) c.args.owners.now.items) in
     let work = c.args.work.now.items in
     let k = c.loop-k.k in
     let d = c.index-done.result.now in
@@ -42,5 +43,5 @@ pub returns : goal.returns
 returns c = λ seen old.
     let work = c.args.work.now.items in
     let all = take_all c.loop-k.k work (omega (arith, c.loop-k-test.false, c.len-k-end.ensures)) in
-    subst (λ (ds : List RecordedJob). IsLeastWrong c.args.geometry.now (map (λ j. j.now) c.args.traced.now.items) (seen ++ ds) c.loop-k.least) all
+    subst (λ (ds : List RecordedJob). IsLeastWrong c.args.geometry.now (map (λ o. piece o.whole.now o.cut) c.args.owners.now.items) (seen ++ ds) c.loop-k.least) all
     (c.loop-k.invariant seen old)

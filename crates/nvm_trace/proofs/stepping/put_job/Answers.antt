@@ -12,7 +12,7 @@ use Rattle.nvm_trace.proofs.stepping.put_job.Goals as goal
 pub loop-i-preserved : goal.loop-i-preserved
 loop-i-preserved c =
     let d = c.args.done.now in
-    let traced = (map (λ j. j.now) c.args.traced.now.items) in
+    let traced = (map (λ o. o.whole.now) c.args.owners.now.items) in
     let i = c.loop-i.i in
     let part = c.index.result.now in
     let parts_are : c.done.inside.parts.items ≡ d.parts = ap (λ (e : RecordedJob). e.parts) c.done.view_is in
@@ -37,4 +37,4 @@ returns c =
     let long = ap length parts_are in
     let all = take_all c.loop-i.i d.parts (omega (arith, long, c.loop-i-test.false, c.len-i-end.ensures)) in
     c.loop-i.invariant
-    ∙ ap (λ ps. c.args.steps.now.items ++ flat_map (steps_of_part (times_of (map (λ j. j.now) c.args.traced.now.items) d.job) d.job) ps) all
+    ∙ ap (λ ps. c.args.steps.now.items ++ flat_map (steps_of_part (times_of (map (λ o. o.whole.now) c.args.owners.now.items) d.job) d.job) ps) all

@@ -7,7 +7,7 @@ use Rattle.nvm_trace.proofs.stepping.put_work.Goals as goal
 
 pub loop-k-preserved : goal.loop-k-preserved
 loop-k-preserved c =
-    let traced = (map (λ j. j.now) c.args.traced.now.items) in
+    let traced = (map (λ o. o.whole.now) c.args.owners.now.items) in
     let work = c.args.work.now.items in
     let k = c.loop-k.k in
     let d = c.index.result.now in
@@ -19,4 +19,4 @@ pub returns : goal.returns
 returns c =
     let work = c.args.work.now.items in
     let all = take_all c.loop-k.k work (search rules) in
-    c.loop-k.invariant ∙ ap (λ ds. c.args.steps.now.items ++ steps_of_work (map (λ j. j.now) c.args.traced.now.items) ds) all
+    c.loop-k.invariant ∙ ap (λ ds. c.args.steps.now.items ++ steps_of_work (map (λ o. o.whole.now) c.args.owners.now.items) ds) all

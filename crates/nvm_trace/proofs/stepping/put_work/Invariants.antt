@@ -3,4 +3,4 @@ use Rattle.nvm_trace.specs.Steps.{steps_of_work}
 use Rattle.nvm_trace.proofs.stepping.put_work.Given as goal
 
 abbrev pub invariant-loop-k : goal.invariant-loop-k
-invariant-loop-k l = l.steps.items ≡ l.fn.steps.items ++ steps_of_work (map (λ j. j.now) l.traced.items) (take l.k l.work.items)
+invariant-loop-k l = l.steps.items ≡ l.fn.steps.items ++ steps_of_work (map (λ o. o.whole.now) l.owners.items) (take l.k l.work.items)

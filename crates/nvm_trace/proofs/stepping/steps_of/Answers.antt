@@ -8,7 +8,7 @@ use Rattle.nvm_trace.proofs.stepping.steps_of.Goals as goal
 
 pub loop-worker-preserved : goal.loop-worker-preserved
 loop-worker-preserved c =
-    let traced = (map (λ j. j.now) c.args.traced.now.items) in
+    let traced = (map (λ o. o.whole.now) c.args.owners.now.items) in
     let done = c.args.done.now.items in
     let all : List (List RecordedJob) = map (λ work. work.items) done in
     let worker = c.loop-worker.worker in
@@ -26,4 +26,4 @@ returns c =
     let all : List (List RecordedJob) = map (λ work. work.items) done in
     let long = length-map done (λ work. work.items) in
     let low : length done ≤ c.loop-worker.worker = search rules in
-    c.loop-worker.invariant ∙ ap (λ ws. steps_of (map (λ j. j.now) c.args.traced.now.items) ws) (take_all c.loop-worker.worker all (omega (arith, low, long)))
+    c.loop-worker.invariant ∙ ap (λ ws. steps_of (map (λ o. o.whole.now) c.args.owners.now.items) ws) (take_all c.loop-worker.worker all (omega (arith, low, long)))

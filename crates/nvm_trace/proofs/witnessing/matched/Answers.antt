@@ -1,12 +1,11 @@
-use Rattle.std.proofs.Common.{◌≡◌, ◌≤◌, List, length, map, subst, arith, rules}
+use Rattle.std.proofs.Common.{◌≡◌, ◌≤◌, List, length, ap, subst, arith, rules}
 use Rattle.std.proofs.lemmas.List.{length-map}
 use Rattle.nvm_audit.specs.RecordView.{RecordView}
 use Rattle.nvm_audit.specs.Shown.{shown_by as record_by}
 use Rattle.nvm_trace.specs.FirstFault.{HasJobsOf}
-use Rattle.nvm_trace.specs.Pieces.{pieces}
+use Rattle.nvm_trace.specs.Pieces.{piece}
 use Rattle.nvm_trace.specs.Shown.{shown_by}
 use Rattle.nvm_trace.specs.TraceView.{TraceView}
-use Rattle.nvm_trace.proofs.Matched.{as_long}
 use Rattle.nvm_trace.proofs.witnessing.matched.Goals as goal
 
 pub returns-clause-jobs : goal.returns-clause-jobs
@@ -21,8 +20,8 @@ returns-clause-jobs c =
       namespace = same;
       jobs = matched.each;
       prepared = λ number job high at.
-          let long = length-map owners (λ j. j.now) in
-          let all = as_long (pieces c.args.judging t) r.jobs (map (λ j. j.now) owners) matched in
+          let long = length-map owners (λ o. piece o.whole.now o.cut) in
+          let all = ap length matched.owners_are in
           c.in-None.ensures number job (omega (arith, high, long, all, c.len.ensures)) at;
     } in
     subst (λ (v : RecordView). HasJobsOf c.args.judging c.args.trace.now v) c.record.view_is

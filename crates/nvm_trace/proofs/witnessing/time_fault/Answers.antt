@@ -7,13 +7,13 @@ use Rattle.nvm_audit.specs.Shown.{shown_by as record_by}
 use Rattle.nvm_trace.specs.declared.step.Step.{Step}
 use Rattle.nvm_trace.specs.declared.traced_job.TracedJob.{TracedJob}
 use Rattle.nvm_trace.specs.Inside.Table.{HasPlace}
-use Rattle.nvm_trace.specs.Pieces.{pieces, wholes}
+use Rattle.nvm_trace.specs.Pieces.{piece, wholes}
 use Rattle.nvm_trace.specs.Saying.{says_what_was_done}
 use Rattle.nvm_trace.specs.Steps.{steps_of}
 use Rattle.nvm_trace.specs.Timely.{IsTimely, IsFirstLate}
 use Rattle.nvm_trace.specs.TraceView.{TraceView}
 use Rattle.nvm_trace.proofs.NoFault.{first_back}
-use Rattle.nvm_trace.proofs.Places.{below, one_there, stands_read}
+use Rattle.nvm_trace.proofs.Places.{below, one_there, stands_read, map_of_map}
 use Rattle.nvm_trace.proofs.ShownSteps.{steps_have_places}
 use Rattle.nvm_trace.proofs.witnessing.time_fault.Goals as goal
 
@@ -28,7 +28,7 @@ late_step-requires c =
     let shown = record_by c.record.inside in
     subst (λ (r : RecordView). All (HasPlace r.units) c.in_ok-steps.steps.items) c.record.view_is
     (steps_have_places shown c.record.invariant (subst (λ (r : RecordView). IsLawfulRecord r) (sym c.record.view_is) c.requires.lawful)
-    (map (λ j. j.now) c.args.owners.now.items) c.in_ok-steps.steps.items c.in_ok-steps.ensures)
+    (map (λ o. o.whole.now) c.args.owners.now.items) c.in_ok-steps.steps.items c.in_ok-steps.ensures)
 
 pub index-late-requires : goal.index-late-requires
 index-late-requires c =
@@ -45,9 +45,12 @@ returns-in-Some c = λ judging same jobs replies.
     let first : IsFirstLate steps place = rw c.in-Some.is at c.in_ok-place.ensures in
     let low = below steps place first.late first.there in
     let is : first.late ≡ late = one_there steps place first.late late first.there (stands_read steps place late low c.index-late.ensures) in
-    let owners = map (λ j. j.now) c.args.owners.now.items in
+    let owners = c.args.owners.now.items in
+    let its : map (λ o. o.whole.now) owners ≡ wholes judging c.args.trace.now =
+    sym (map_of_map (λ o. piece o.whole.now o.cut) (λ p. p.whole) owners) ∙ ap (λ ps. map (λ p. p.whole) ps) same in
     let are =
-    steps_shown steps owners (wholes judging c.args.trace.now) (record_by c.record.inside) c.args.record.now c.in_ok-steps.ensures same c.record.view_is in
+    steps_shown steps (map (λ o. o.whole.now) owners) (wholes judging c.args.trace.now) (record_by c.record.inside) c.args.record.now
+    c.in_ok-steps.ensures its c.record.view_is in
     inl (jobs, c.requires.lawful, replies, first_back judging c.args.trace.now c.args.record.now steps place late are first is)
 
 pub overflow_sub-result : goal.overflow_sub-result
@@ -59,9 +62,12 @@ overflow_sub-result c =
 pub returns : goal.returns
 returns c = λ judging same jobs replies.
     let steps = c.in_ok-steps.steps.items in
-    let owners = map (λ j. j.now) c.args.owners.now.items in
+    let owners = c.args.owners.now.items in
+    let its : map (λ o. o.whole.now) owners ≡ wholes judging c.args.trace.now =
+    sym (map_of_map (λ o. piece o.whole.now o.cut) (λ p. p.whole) owners) ∙ ap (λ ps. map (λ p. p.whole) ps) same in
     let are =
-    steps_shown steps owners (wholes judging c.args.trace.now) (record_by c.record.inside) c.args.record.now c.in_ok-steps.ensures same c.record.view_is in
+    steps_shown steps (map (λ o. o.whole.now) owners) (wholes judging c.args.trace.now) (record_by c.record.inside) c.args.record.now
+    c.in_ok-steps.ensures its c.record.view_is in
     let timely : IsTimely steps = rw c.in-None.is at c.in_ok-place.ensures in
     let few = c.requires.few in
     let traced = ap (λ (t : TraceView). length t.jobs) c.trace.view_is in
@@ -69,9 +75,8 @@ returns c = λ judging same jobs replies.
     let units = ap (λ (r : RecordView). length r.units) c.record.view_is in
     let histories = length-map c.record.inside.units.items (λ history. history.items) in
     let shown = ap length are in
-    let long = length-map c.args.owners.now.items (λ j. j.now) in
+    let long = length-map c.args.owners.now.items (λ o. piece o.whole.now o.cut) in
     let all = ap length same in
-    let each = length-map (pieces judging c.args.trace.now) (λ p. p.whole) in
     (record {
       namespace = jobs.namespace;
       jobs = jobs.jobs;
@@ -85,5 +90,5 @@ returns c = λ judging same jobs replies.
       steps = omega (arith, shown, c.len-in-None-2.ensures);
       excused =
           c.excused.ensures ∙ ap (λ (t : TraceView). count_by (λ j. not (says_what_was_done t.namespace j)) t.jobs) c.trace.view_is;
-      preparations = omega (arith, few, recorded, long, all, each, c.len-in-None-3.ensures, c.len-in-None-4.ensures);
+      preparations = omega (arith, few, recorded, long, all, c.len-in-None-3.ensures, c.len-in-None-4.ensures);
     })
