@@ -1,5 +1,5 @@
 -- The pieces of a trace beside a record's jobs, one piece after the other.
-use Rattle.std.proofs.Common.{◌≡◌, ◌≢◌, ℕ, zero, suc, ◌+◌, ◌<◌, ◌≤◌, List, [], ◌∷◌, ◌++◌, length, map, take, drop, get_or, sym, ap, subst, ◌∙◌, refl, inl, inr, arith}
+use Rattle.std.proofs.Common.{◌≡◌, ℕ, zero, suc, ◌+◌, ◌<◌, List, [], ◌∷◌, ◌++◌, length, map, take, drop, get_or, sym, ap, subst, ◌∙◌, refl, inl, inr, arith}
 use Rattle.std.proofs.lemmas.Bool.{cases_lt}
 use Rattle.std.proofs.lemmas.List.{length-append, append_assoc, take-append-drop}
 use Rattle.std.proofs.lemmas.Grind.{flat_map-append}
@@ -9,7 +9,6 @@ use mathlib.Core.Option.{some-injective}
 use Rattle.nvm_record.specs.Lists.{IsAt}
 use Rattle.nvm_plan.specs.declared.job.Job.{Job}
 use Rattle.nvm_geometry.specs.Namespace.{Namespace}
-use Rattle.nvm_trace.specs.declared.cut.Cut.{Cut}
 use Rattle.nvm_trace.specs.declared.cut.Cut.TheVariants.{Block}
 use Rattle.nvm_trace.specs.declared.reads.Reads.{Reads}
 use Rattle.nvm_trace.specs.declared.judging.Judging.{Judging}

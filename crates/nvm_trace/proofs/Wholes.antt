@@ -1,11 +1,10 @@
 -- The traced jobs of which the pieces are.
-use Rattle.std.proofs.Common.{◌≡◌, ℕ, zero, suc, List, [], ◌∷◌, map, Contains, sym, subst, ◌∙◌}
-use Rattle.nvm_record.specs.Lists.{IsAt}
+use Rattle.std.proofs.Common.{◌≡◌, Contains, subst, ◌∙◌}
 use Rattle.nvm_trace.specs.declared.judging.Judging.{Judging}
 use Rattle.nvm_trace.specs.declared.traced_job.TracedJob.{TracedJob}
 use Rattle.nvm_trace.specs.Pieces.{Piece, piece, cuts_of, pieces_of, pieces, wholes}
 use Rattle.nvm_trace.specs.TraceView.{TraceView}
-use Rattle.nvm_trace.proofs.Places.{none_stands, contained, placed, out_of_flat, out_of_map}
+use Rattle.nvm_trace.proofs.Places.{contained, placed, out_of_flat, out_of_map}
 
 -- Each is one of the trace's.
 pub whole_traced : (judging : Judging) (t : TraceView) (j : TracedJob) → Contains (wholes judging t) j → Contains t.jobs j

@@ -92,7 +92,13 @@ fn put_owner<'a>(
         (IsOtherFault geometry.now (ps ++ piece owner.entry.whole.now owner.entry.cut ∷ []) jobs.now.items) }
 {
     let number = owners.len();
-    if !has_piece(jobs, number, geometry.block_size(), &owner.whole.job, owner.cut) {
+    if !has_piece(
+        jobs,
+        number,
+        geometry.block_size(),
+        &owner.whole.job,
+        owner.cut,
+    ) {
         return Err(WitnessFault::JobDiffers { job: number as u32 });
     }
     owners.push(owner)?;

@@ -35,7 +35,12 @@ pub(crate) fn blocks_cut(
 }
 
 /// Into how many blocks the body is cut, if it is, where it ended so.
-fn blocks_cut_of(geometry: Geometry, reads: Reads, ended: &Option<Ending>, body: &Body) -> Option<u32>
+fn blocks_cut_of(
+    geometry: Geometry,
+    reads: Reads,
+    ended: &Option<Ending>,
+    body: &Body,
+) -> Option<u32>
     requires { IsReadyBody geometry body.now }
     ensures { MatchOption result (cuts_of_body geometry reads ended.now body.now ≡ Whole ∷ [])
         (λ blocks. cuts_of_body geometry reads ended.now body.now ≡ map Block (range_with_len 0 blocks)) }

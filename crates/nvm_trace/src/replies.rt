@@ -29,12 +29,7 @@ fn made_no_entry(parts: &Vec<Part>) -> bool
 }
 
 /// Whether the data that was found is that of the piece in what came back.
-fn has_data(
-    size: BlockSize,
-    cut: Cut,
-    found: &Option<ReadData>,
-    told: &Option<ReadData>,
-) -> bool
+fn has_data(size: BlockSize, cut: Cut, found: &Option<ReadData>, told: &Option<ReadData>) -> bool
     ensures { IsTrue result ↔ (found.now ≡ data_at size cut told.now) }
 {
     match cut {
@@ -52,7 +47,12 @@ fn has_reply(geometry: &Geometry, owner: &Owner<'_>, done: &DoneJob, ending: &En
     ensures { IsTrue result ↔ HasReply geometry.now (piece owner.now.whole.now owner.now.cut) done.now ending.now }
 {
     done.statuses == ending.statuses
-        && has_data(geometry.block_size(), owner.cut, &done.payload, &ending.payload)
+        && has_data(
+            geometry.block_size(),
+            owner.cut,
+            &done.payload,
+            &ending.payload,
+        )
 }
 
 /// Whether what was recorded of a piece agrees with its reply.

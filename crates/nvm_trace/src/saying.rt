@@ -112,8 +112,7 @@ pub(crate) fn says_what_was_done(geometry: &Geometry, traced: &TracedJob) -> boo
                         || contradicts_itself(ending.statuses))
             }
             Plan::Ready => {
-                can_be_of(&traced.job.body, ending.statuses)
-                    || contradicts_itself(ending.statuses)
+                can_be_of(&traced.job.body, ending.statuses) || contradicts_itself(ending.statuses)
             }
         },
         None => false,

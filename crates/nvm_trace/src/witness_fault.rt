@@ -6,16 +6,17 @@ use nvm_audit::{AuditFault, Spot};
 use std::alloc::{AllocError, AllocFailed};
 use thiserror::Error;
 
-/// Why a record doesn't explain a trace: the first thing found wrong, in the order of these cases. Jobs are numbered from 0.
+/// Why a record doesn't explain a trace: the first thing found wrong, in the order of these cases. Jobs are the record's, numbered
+/// from 0: the pieces of the trace's commands, and preparations.
 #[derive(Clone, Copy, Debug, PartialEq, Eq, Error)]
 pub enum WitnessFault {
     /// The record is of another namespace.
     #[error("NamespaceDiffers")]
     NamespaceDiffers,
-    /// The record hasn't the trace's job of this number there.
+    /// The record hasn't the piece of this number there, as it is to be judged.
     #[error("JobDiffers")]
     JobDiffers { job: u32 },
-    /// The record's job of this number isn't the trace's, and it is no Write of one block by itself, or the trace starts from
+    /// The record's job of this number is no piece, and it is no Write of one block by itself, or the trace starts from
     /// zeroes.
     #[error("NoPreparation")]
     NoPreparation { job: u32 },

@@ -6,9 +6,9 @@ use crate::trace::{Unnoted, is_certified, note};
 use nvm_audit::{AuditFault, Record, Spot};
 use nvm_file::read_trace;
 use nvm_geometry::Geometry;
+use nvm_plan::{Body, Job, PartResult};
 use nvm_record::{Fuse, Op, Payload, ReadData, Status, Statuses};
 use nvm_store::Limit;
-use nvm_plan::{Body, Job, PartResult};
 use nvm_trace::{
     Ending, Explained, Judging, Reads, Start, Trace, TracedJob, WitnessFault, witness,
 };
@@ -93,7 +93,10 @@ fn record_explains_what_was_seen(rt: HostRuntime) -> Result<(), Fail> {
     let alloc = rt.alloc();
     let record = record(&rt, alloc)?;
     let trace = seen(alloc, namespace()?, &record, Order::AsRecorded, 0, 2, None)?;
-    assert_eq!(rt; is_certified(&rt, alloc, Judging::Strict, &trace, &record), Ok(true));
+    assert_eq!(rt;
+        is_certified(&rt, alloc, Judging::Strict, &trace, &record),
+        Ok(true)
+    );
     let kept = read_trace(alloc, &trace_file_of(alloc, &trace)?)?;
     assert_eq!(rt; is_certified(&rt, alloc, Judging::Strict, &kept, &record), Ok(true));
     let failed = seen(
@@ -105,7 +108,10 @@ fn record_explains_what_was_seen(rt: HostRuntime) -> Result<(), Fail> {
         2,
         Some(Status::COMPARE_FAILURE),
     )?;
-    assert_eq!(rt; is_certified(&rt, alloc, Judging::Strict, &failed, &record), Ok(false));
+    assert_eq!(rt;
+        is_certified(&rt, alloc, Judging::Strict, &failed, &record),
+        Ok(false)
+    );
     Ok(())
 }
 
@@ -194,8 +200,13 @@ fn succeeded(job: Job, began: u8, payload: Option<ReadData>) -> TracedJob {
 }
 
 /// The trace of these jobs, on blocks that had zero bytes.
-fn trace_of(alloc: Global, geometry: Geometry, jobs: Vec<TracedJob>) -> Result<Trace, Fail> {
-    let mut trace = Trace::new(alloc, geometry, 0, Start::Zeroes, Reads::Whole);
+fn trace_of(
+    alloc: Global,
+    geometry: Geometry,
+    reads: Reads,
+    jobs: Vec<TracedJob>,
+) -> Result<Trace, Fail> {
+    let mut trace = Trace::new(alloc, geometry, 0, Start::Zeroes, reads);
     for job in jobs {
         match note(&mut trace, job) {
             Ok(()) => {}
@@ -219,7 +230,10 @@ fn record_of_one_change<R: Threads + Wait + Sync>(
     };
     for work in &record.done {
         for done in work {
-            let full = done.parts.iter().any(|part| part.result == PartResult::Full);
+            let full = done
+                .parts
+                .iter()
+                .any(|part| part.result == PartResult::Full);
             if done.statuses == Statuses::One(Status::INTERNAL_ERROR) && !full {
                 return Err(Fail::new("there was no memory"));
             }
@@ -249,7 +263,7 @@ fn torn_write_is_a_fault_only_strictly(rt: HostRuntime) -> Result<(), Fail> {
     })?;
     let read = single(Op::Read, 0, 2, Payload::empty());
     seen.push(succeeded(read, 20, Some(torn_data(alloc, 0, 2)?)))?;
-    let trace = trace_of(alloc, narrow()?, seen)?;
+    let trace = trace_of(alloc, narrow()?, Reads::Whole, seen)?;
     let mut jobs = Vec::with_capacity(alloc, 4)?;
     for lba in 0..3u64 {
         jobs.push(single(Op::Write, lba, 0, filled(alloc, 0x41, 1)?))?;
@@ -263,7 +277,10 @@ fn torn_write_is_a_fault_only_strictly(rt: HostRuntime) -> Result<(), Fail> {
         excused: 1,
         preparations: 0,
     };
-    assert_eq!(rt; witness(&rt, alloc, Judging::Standard, &trace, &record), Ok(explained));
+    assert_eq!(rt;
+        witness(&rt, alloc, Judging::Standard, &trace, &record),
+        Ok(explained)
+    );
     assert_eq!(rt;
         fault(&rt, alloc, &trace, &record),
         Some(WitnessFault::JobDiffers { job: 0 })
@@ -284,7 +301,7 @@ fn unended_write_is_done_in_its_second_unit(rt: HostRuntime) -> Result<(), Fail>
     })?;
     let read = single(Op::Read, 7, 1, Payload::empty());
     seen.push(succeeded(read, 30, Some(torn_data(alloc, 1, 0)?)))?;
-    let trace = trace_of(alloc, narrow()?, seen)?;
+    let trace = trace_of(alloc, narrow()?, Reads::Whole, seen)?;
     let mut jobs = Vec::with_capacity(alloc, 4)?;
     jobs.push(single(Op::Write, 0, 0, filled(alloc, 0x42, 1)?))?;
     jobs.push(single(Op::Write, 7, 0, filled(alloc, 0x41, 1)?))?;
@@ -298,10 +315,66 @@ fn unended_write_is_done_in_its_second_unit(rt: HostRuntime) -> Result<(), Fail>
         excused: 1,
         preparations: 0,
     };
-    assert_eq!(rt; witness(&rt, alloc, Judging::Standard, &trace, &record), Ok(explained));
+    assert_eq!(rt;
+        witness(&rt, alloc, Judging::Standard, &trace, &record),
+        Ok(explained)
+    );
     assert_eq!(rt;
         fault(&rt, alloc, &trace, &record),
         Some(WitnessFault::JobDiffers { job: 1 })
+    );
+    Ok(())
+}
+
+/// A block of bytes 41h and one of bytes 42h, or the other way round.
+fn two_blocks(alloc: Global, swapped: bool) -> Result<Vec<u8>, Fail> {
+    let (first, second) = if swapped { (0x42, 0x41) } else { (0x41, 0x42) };
+    let mut bytes = vec![in alloc; first; 512]?;
+    bytes.extend_from_slice(&[second; 512])?;
+    Ok(bytes)
+}
+
+/// The trace of a Write of the two blocks, and of a Read of them.
+fn written_and_read(alloc: Global, reads: Reads, swapped: bool) -> Result<Trace, Fail> {
+    let mut seen = Vec::with_capacity(alloc, 2)?;
+    let payload = Payload::new(alloc, two_blocks(alloc, false)?)?;
+    seen.push(succeeded(single(Op::Write, 0, 1, payload), 10, None))?;
+    let data = ReadData::new(two_blocks(alloc, swapped)?);
+    let read = single(Op::Read, 0, 1, Payload::empty());
+    seen.push(succeeded(read, 20, Some(data)))?;
+    trace_of(alloc, narrow()?, reads, seen)
+}
+
+#[test]
+fn read_is_explained_block_by_block(rt: HostRuntime) -> Result<(), Fail> {
+    let alloc = rt.alloc();
+    let mut jobs = Vec::with_capacity(alloc, 3)?;
+    let payload = Payload::new(alloc, two_blocks(alloc, false)?)?;
+    jobs.push(single(Op::Write, 0, 1, payload))?;
+    jobs.push(single(Op::Read, 0, 0, Payload::empty()))?;
+    jobs.push(single(Op::Read, 1, 0, Payload::empty()))?;
+    let record = record_of_one_change(&rt, alloc, narrow()?, &jobs)?;
+    let explained = Explained {
+        jobs: 2,
+        units: 4,
+        steps: 3,
+        excused: 0,
+        preparations: 0,
+    };
+    let by_blocks = written_and_read(alloc, Reads::ByBlocks, false)?;
+    assert_eq!(rt;
+        witness(&rt, alloc, Judging::Standard, &by_blocks, &record),
+        Ok(explained)
+    );
+    let swapped = written_and_read(alloc, Reads::ByBlocks, true)?;
+    assert_eq!(rt;
+        witness(&rt, alloc, Judging::Standard, &swapped, &record),
+        Err(WitnessFault::ReplyDiffers { job: 1 })
+    );
+    let whole = written_and_read(alloc, Reads::Whole, false)?;
+    assert_eq!(rt;
+        witness(&rt, alloc, Judging::Standard, &whole, &record),
+        Err(WitnessFault::JobDiffers { job: 1 })
     );
     Ok(())
 }

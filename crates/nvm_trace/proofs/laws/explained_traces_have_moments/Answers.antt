@@ -21,8 +21,8 @@ returns-clause-moments c = λ judging t r held explained.
     have_moments (steps_of (wholes judging t) r.done)
     (steps_end (wholes judging t)
     (λ j has.
-        let its = All-contains (IsTraceableJob t.namespace) t.jobs j held.jobs (whole_traced judging t j has) in
-        ends_after t.namespace j j.ended its.ended) r.done) explained.timely
+    let its = All-contains (IsTraceableJob t.namespace) t.jobs j held.jobs (whole_traced judging t j has) in
+    ends_after t.namespace j j.ended its.ended) r.done) explained.timely
 
 pub returns-clause-timely : goal.returns-clause-timely
 returns-clause-timely c = moments_are_timely

@@ -1,4 +1,4 @@
-use Rattle.std.proofs.Common.{◌≡◌, ◌++◌, List, length, map, sym, subst, arith}
+use Rattle.std.proofs.Common.{◌++◌, List, map, sym, subst, arith}
 use Rattle.std.specs.Prelude.{MatchResult}
 use Rattle.std.proofs.lemmas.Result.{on_ok_weaker}
 use Rattle.nvm_trace.specs.declared.cut.Cut.{Cut}
@@ -10,9 +10,9 @@ pub returns-in-None-clause-within : goal.returns-in-None-clause-within
 returns-in-None-clause-within c =
     on_ok_weaker c.put_owner.result
     (λ next.
-        let low = next.0 in
-        let long = next.1 in
-        omega (arith, low, long)) c.put_owner.ensures.next
+    let low = next.0 in
+    let long = next.1 in
+    omega (arith, low, long)) c.put_owner.ensures.next
 
 pub returns-in-Some-clause-matched : goal.returns-in-Some-clause-matched
 returns-in-Some-clause-matched c = λ ps matched.

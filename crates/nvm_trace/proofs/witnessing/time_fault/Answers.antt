@@ -1,4 +1,4 @@
-use Rattle.std.proofs.Common.{◌≡◌, ℕ, List, All, length, map, sym, ap, subst, ◌∙◌, inl, arith}
+use Rattle.std.proofs.Common.{◌≡◌, List, All, length, map, sym, ap, subst, ◌∙◌, inl, arith}
 use Rattle.std.proofs.lemmas.List.{length-map}
 use Rattle.std.specs.Prelude.{not, count_by}
 use Rattle.nvm_audit.specs.LawfulRecord.{IsLawfulRecord}
@@ -76,19 +76,21 @@ returns c = λ judging same jobs replies.
     let histories = length-map c.record.inside.units.items (λ history. history.items) in
     let shown = ap length are in
     let long = length-map c.args.owners.now.items (λ o. piece o.whole.now o.cut) in
-    let all = ap length same in
-    (record {
-      namespace = jobs.namespace;
-      jobs = jobs.jobs;
-      prepared = jobs.prepared;
-      lawful = c.requires.lawful;
-      replies = replies;
-      timely = subst (λ (ss : List Step). IsTimely ss) are timely;
-    }, record {
-      jobs = omega (arith, traced, c.len.ensures);
-      units = omega (arith, units, histories, c.len-in-None.ensures);
-      steps = omega (arith, shown, c.len-in-None-2.ensures);
-      excused =
-          c.excused.ensures ∙ ap (λ (t : TraceView). count_by (λ j. not (says_what_was_done t.namespace j)) t.jobs) c.trace.view_is;
-      preparations = omega (arith, few, recorded, long, all, c.len-in-None-3.ensures, c.len-in-None-4.ensures);
-    })
+    let all = ap length same in (
+      record {
+        namespace = jobs.namespace;
+        jobs = jobs.jobs;
+        prepared = jobs.prepared;
+        lawful = c.requires.lawful;
+        replies = replies;
+        timely = subst (λ (ss : List Step). IsTimely ss) are timely;
+      },
+      record {
+        jobs = omega (arith, traced, c.len.ensures);
+        units = omega (arith, units, histories, c.len-in-None.ensures);
+        steps = omega (arith, shown, c.len-in-None-2.ensures);
+        excused =
+            c.excused.ensures ∙ ap (λ (t : TraceView). count_by (λ j. not (says_what_was_done t.namespace j)) t.jobs) c.trace.view_is;
+        preparations = omega (arith, few, recorded, long, all, c.len-in-None-3.ensures, c.len-in-None-4.ensures);
+      },
+    )

@@ -1,6 +1,5 @@
-use Rattle.std.proofs.Common.{◌≡◌, ◌⊎◌, inl, inr}
+use Rattle.std.proofs.Common.{◌≡◌, inl, inr}
 use Rattle.std.proofs.lemmas.Result.{err_from_is_err_and, MatchResult-weaker}
-use Rattle.std.specs.Prelude.{IfErr, MatchResult}
 use Rattle.nvm_trace.specs.declared.witness_fault.WitnessFault.TheVariants.{NoMemory}
 use Rattle.nvm_trace.proofs.NoFault.{no_fault}
 use Rattle.nvm_trace.proofs.witnessing.witness.Goals as goal
