@@ -1,0 +1,2 @@
+pub mod ThreeBits
+pub mod Words
