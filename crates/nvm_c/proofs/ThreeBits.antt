@@ -2,7 +2,6 @@
 use Rattle.std.proofs.Common.{◌≡◌, if◌then◌else◌, Bool, true, false, ℕ, ◌≤◌, List, [], ◌∷◌, Option, Some, None, MatchOption, IsSomeAnd, refl, sym, subst, inl, inr, arith}
 use Rattle.std.specs.List.{AllByRecursion}
 use Rattle.nvm_record.specs.Deeds.{is_pair, success_of}
-use Rattle.nvm_record.specs.Status.{status, internal_error, successful_completion, aborted_due_to_failed_fused_command}
 use Rattle.nvm_record.specs.Step.{Deed, Operation, writes, zeroes, uncorrectable, reads, compares, pairs, deallocates}
 use Rattle.nvm_record.specs.declared.command.Command.{Command}
 use Rattle.nvm_record.specs.declared.status.Status.{Status}
@@ -28,10 +27,10 @@ abbrev pub AllFit : Statuses → Type 0
 AllFit (One s) = Fits s
 AllFit (Two s t) = Fits s × Fits t
 
-generic : {sc : ℕ} → Fits (status 0 sc)
+generic : 0 ≤ 7
 generic = omega arith
 
-media : {sc : ℕ} → Fits (status 2 sc)
+media : 2 ≤ 7
 media = omega arith
 
 -- one of two, by what the job is
@@ -43,14 +42,14 @@ rows_fit : (ns : Namespace) (body : Body) → AllByRecursion (λ (row : Check). 
 rows_fit ns (Single c) = (generic, (generic, (generic, (generic, (generic, tt)))))
 rows_fit ns (Pair c d) = ((generic, generic), ((generic, generic), ((generic, generic), ((generic, generic), ((generic, generic), tt)))))
 
-row_fits : (row : Check) (rows : List Check) (applies : Bool) → AllFit row.answer → MatchOption (first_answer rows) (Unit {0}) AllFit
+one_row_fits : (row : Check) (rows : List Check) (applies : Bool) → AllFit row.answer → MatchOption (first_answer rows) (Unit {0}) AllFit
     → MatchOption (if applies then Some row.answer else first_answer rows) (Unit {0}) AllFit
-row_fits row rows true here rest = here
-row_fits row rows false here rest = rest
+one_row_fits row rows true here rest = here
+one_row_fits row rows false here rest = rest
 
 found_fits : (rows : List Check) → AllByRecursion (λ (row : Check). AllFit row.answer) rows → MatchOption (first_answer rows) (Unit {0}) AllFit
 found_fits [] all = tt
-found_fits (row ∷ rows) all = row_fits row rows row.applies all.0 (found_fits rows all.1)
+found_fits (row ∷ rows) all = one_row_fits row rows row.applies all.0 (found_fits rows all.1)
 
 failed_fits : (s : Status) → IsFailedComparison s → Fits s
 failed_fits s (inl is) = subst Fits (sym is) media

@@ -1,5 +1,6 @@
 -- The job for which C's entries ask.
-use Rattle.std.specs.Prelude.{◌≡◌, ℕ, ◌+◌, ◌*◌, List, [], ◌++◌, length, take, drop, slice_index}
+use Rattle.std.specs.Prelude.{◌≡◌, ℕ, ◌+◌, ◌*◌, Bool, true, false, if◌then◌else◌, IsTrue, List, [], ◌++◌, length, take, drop, slice_index}
+use Rattle.byteorder.specs.Endian.{little_number}
 use Rattle.nvm_record.specs.Entry.{IsSpelling, called_for}
 use Rattle.nvm_record.specs.Op.{op_of, deallocate_of}
 use Rattle.nvm_record.specs.declared.op.Op.{Op}
@@ -13,20 +14,24 @@ use Rattle.nvm_plan.specs.declared.job.Job.{Job}
 abbrev pub op_in : List ℕ → Op
 op_in entry = op_of (slice_index entry 0) (deallocate_of (slice_index entry 44))
 
+-- whether it is a Read
+abbrev pub reads : Op → Bool
+reads Read = true
+reads Write = false
+reads WriteUncorrectable = false
+reads Compare = false
+reads WriteZeroes = false
+reads (Dataset deallocate) = false
+reads (Other opcode) = false
+
 -- what of the buffer goes with a command: nothing with a Read, for which it is room
 abbrev pub sent_with : Op → List ℕ → List ℕ
-sent_with Read buffer = []
-sent_with Write buffer = buffer
-sent_with WriteUncorrectable buffer = buffer
-sent_with Compare buffer = buffer
-sent_with WriteZeroes buffer = buffer
-sent_with (Dataset deallocate) buffer = buffer
-sent_with (Other opcode) buffer = buffer
+sent_with op buffer = if reads op then [] else buffer
 
 -- An entry by itself asks for the command, with the buffer that it calls for.
 pub record IsAskedAlone (size : ℕ) (entry buffer : List ℕ) (c : Command) : Type 0 where
   pub spelled : IsSpelling size (entry ++ sent_with (op_in entry) buffer) c
-  pub room : c.op ≡ Read → length buffer ≡ (c.nlb + 1) * size
+  pub room : IsTrue (reads (op_in entry)) → length buffer ≡ (little_number 2 (drop 48 entry) + 1) * size
 
 -- Two entries ask for the commands, the data of the first before that of the second.
 pub record IsAskedTogether (size : ℕ) (entries buffer : List ℕ) (c d : Command) : Type 0 where
@@ -39,5 +44,5 @@ AskFor size entries buffer (Pair c d) = IsAskedTogether size entries buffer c d
 
 -- The entries ask for the job, by the host of this number.
 pub record IsAsked (size host : ℕ) (entries buffer : List ℕ) (job : Job) : Type 0 where
-  pub host : job.host ≡ host
+  pub by_host : job.host ≡ host
   pub body : AskFor size entries buffer job.body

@@ -7,8 +7,8 @@ use Rattle.nvm_c.specs.declared.engine.Engine.{Engine}
 
 -- The handle held no engine, and nothing was done.
 pub record IsShut (code : Code) (engine' : Option Engine) (old new : Buffers) : Type 0 where
-  pub code : code ≡ NotOpen
-  pub engine : engine' ≡ None
+  pub answer : code ≡ NotOpen
+  pub shut : engine' ≡ None
   pub buffers : new ≡ old
 
 abbrev pub SubmitsAt : Code → Option Engine → Option Engine → List ℕ → Buffers → Buffers → Type 0

@@ -31,7 +31,7 @@ pub record IsDone (ns : Namespace) (number : ℕ) (job : Job) (start now : List 
 pub record IsPending (ns : Namespace) (number : ℕ) (job : Job) (start now : List PassView) (pending : Option PendingJob)
     (old new : Buffers) : Type 0 where
   pub under_way : UnderWay
-  pub number : under_way.number ≡ number
+  pub same : under_way.number ≡ number
   pub goes : IsUnderWay ns job under_way start now
   pub kept : pending ≡ Some (record { job = job; under_way = under_way })
   pub buffers : new ≡ old

@@ -16,7 +16,12 @@ abbrev pub all_posted : Completions → List ℕ
 all_posted (One c) = posted c
 all_posted (Two c d) = posted c ++ posted d
 
--- how many bytes the entries of this many completions are
+-- how many bytes they are
+abbrev pub told_length : Completions → ℕ
+told_length (One c) = 16
+told_length (Two c d) = 32
+
+-- how many bytes the entries of a job's completions are
 abbrev pub posted_length : Body → ℕ
 posted_length (Single c) = 16
 posted_length (Pair c d) = 32

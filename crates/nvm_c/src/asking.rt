@@ -3,6 +3,7 @@ ghost use Rattle.std.specs.Prelude.{◌≡◌, ◌⊎◌, ◌++◌, ◌+◌, ◌
 ghost use Rattle.nvm_geometry.specs.Namespace.{Namespace};
 ghost use Rattle.nvm_record.specs.Entry.{IsSpelling, IsWhole, called_for};
 ghost use Rattle.nvm_plan.specs.Fits.{FitsNamespace};
+ghost use Rattle.nvm_c.specs.Asked as spec;
 ghost use Rattle.nvm_c.specs.Asked.{IsAsked, IsAskedAlone, IsAskedTogether};
 ghost use Rattle.nvm_c.specs.Refused.{IsRefusal};
 
@@ -54,13 +55,22 @@ fn asked_alone(
     ensures refused { IfErr result IsRefusal }
 {
     let fields = entry_fields(entry);
-    if fields.op == Op::Read {
+    if reads(fields.op) {
         if buffer.len() != (usize::from(fields.nlb) + 1) * size.bytes() as usize {
             return Err(Code::BadLength);
         }
-        return command_of(alloc, size, entry, &[]);
+        let command = command_of(alloc, size, entry, &[])?;
+        return Ok(command);
     }
-    command_of(alloc, size, entry, buffer)
+    let command = command_of(alloc, size, entry, buffer)?;
+    Ok(command)
+}
+
+/// Whether it is a Read, for which the buffer is room.
+fn reads(op: Op) -> bool
+    ensures { result ≡ spec.reads op }
+{
+    matches!(op, Op::Read)
 }
 
 /// The commands of two entries, whose data stands in the buffer in their order.

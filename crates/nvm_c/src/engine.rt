@@ -1,5 +1,5 @@
 //! A port of a namespace as C works with it: a job is begun and gone on with, and C is told when it is done.
-ghost use Rattle.std.specs.Prelude.{◌≡◌, ◌+◌, ◌%◌, ◌^◌, ◌≤◌, ℕ, List, None, length};
+ghost use Rattle.std.specs.Prelude.{◌≡◌, ◌+◌, ◌%◌, ◌^◌, ◌<◌, ◌≤◌, ℕ, List, None, length};
 ghost use Rattle.std.specs.Arc.{arc_value};
 ghost use Rattle.nvm_geometry.specs.Namespace.{Namespace};
 ghost use Rattle.nvm_plan.specs.Fits.{FitsNamespace};
@@ -11,12 +11,12 @@ ghost use Rattle.nvm_space.specs.UnderWay.{IsUnderWay};
 ghost use Rattle.nvm_space.specs.declared.job_done.JobDone.{JobDone as Told};
 ghost use Rattle.nvm_c.specs.Engines.{IsSound, namespace_of, seen_by, space_of};
 ghost use Rattle.nvm_c.specs.Submitted.{Polls, Progresses, Submits};
-ghost use Rattle.nvm_c.specs.Told.{FitEntries, all_posted, posted_length};
+ghost use Rattle.nvm_c.specs.Told.{FitEntries, posted_length, told_length};
 
 use crate::asking::asked_job;
 use crate::code::Code;
 use crate::quiet::Quiet;
-use crate::telling::{tell, told_length};
+use crate::telling::{entries_length, tell};
 use nvm_plan::{Body, Job};
 use nvm_record::Op;
 use nvm_space::{JobUnderWay, Port, Progress, Space};
@@ -56,15 +56,16 @@ impl Engine {
             (record { bytes = data.old; posted = posted.old }) (record { bytes = data.new; posted = posted.new }) }
     {
         told_statuses_fit_their_entries();
-        if self.pending.is_some() {
-            return Code::Busy;
+        match &self.pending {
+            Some(_) => return Code::Busy,
+            None => {}
         }
         let host = self.port.number() + 1;
         let job = match asked_job(alloc, &self.space.geometry(), host, entries, data) {
             Ok(job) => job,
             Err(code) => return code,
         };
-        if posted.len() != told_length(&job) {
+        if posted.len() != entries_length(&job) {
             return Code::BadLength;
         }
         let number = self.number;
@@ -88,7 +89,7 @@ impl Engine {
         let Some(pending) = &self.pending else {
             return Code::Idle;
         };
-        if posted.len() != told_length(&pending.job) || data.len() < room(&pending.job, &self.space)
+        if posted.len() != entries_length(&pending.job) || data.len() < room(&pending.job, &self.space)
         {
             return Code::BadLength;
         }
@@ -108,13 +109,13 @@ impl Engine {
         posted: &mut [u8],
     ) -> Code
         requires of { IsPortOf (space_of self.old) self.old.port }
+        requires few { self.old.port.number < 64 }
         requires idle { self.old.pending ≡ None }
         requires fits { FitsNamespace (namespace_of self.old) job }
         requires under_way { (start : List PassView)
             × IsUnderWay (namespace_of self.old) job under_way start (seen_by self.old) }
         requires room { length posted.old ≡ posted_length job.body }
-        ensures of { IsPortOf (space_of self.new) self.new.port }
-        ensures port { self.new.port.number ≡ self.old.port.number }
+        ensures sound { IsSound self.new }
         ensures space { space_of self.new ≡ space_of self.old }
         ensures number { self.new.number ≡ self.old.number }
         ensures progress { (start : List PassView)
@@ -154,5 +155,5 @@ fn told_statuses_fit_their_entries()
     ensures fit { (ns : Namespace) (number : ℕ) (job : Asked) (start now : List PassView) (done : Told)
         → DoesJob ns number job start now done → FitEntries done.completions }
     ensures each { (ns : Namespace) (number : ℕ) (job : Asked) (start now : List PassView) (done : Told)
-        → DoesJob ns number job start now done → length (all_posted done.completions) ≡ posted_length job.body }
+        → DoesJob ns number job start now done → told_length done.completions ≡ posted_length job.body }
 {}
