@@ -93,9 +93,10 @@ impl Engine {
         {
             return Code::BadLength;
         }
-        let Some(Pending { job, under_way }) = self.pending.take() else {
+        let Some(taken) = self.pending.take() else {
             unreachable!("a job is pending")
         };
+        let Pending { job, under_way } = taken;
         self.go_on(alloc, job, under_way, data, posted)
     }
 

@@ -1,9 +1,9 @@
 //! How a namespace is opened: its space, an engine for each port, and a handle for each engine.
 ghost use Rattle.std.specs.Prelude.{◌≡◌, ◌<◌, ◌≤◌, IfOk, length, map, Some};
-ghost use Rattle.std.specs.List.{AllByRecursion};
+ghost use Rattle.std.specs.List.{AllByRecursion, list_any};
 ghost use Rattle.nvm_space.specs.Spaces.{IsPortCount};
 ghost use Rattle.nvm_c.specs.Engines.{IsSound, state_of};
-ghost use Rattle.nvm_c.specs.Opening.{IsOpened, NewPorts, Opens, engines_of, numbers_of};
+ghost use Rattle.nvm_c.specs.Opening.{IsOpened, NewPorts, Opens, engines_of, is_open, numbers_of};
 
 use crate::code::Code;
 use crate::engine::Engine;
@@ -37,7 +37,7 @@ pub(crate) fn open_ports(
 ) -> Code
     ensures { Opens result (numbers_of numbers.now) limit versions ports.old ports.new }
 {
-    if ports.iter().any(|port| port.is_open()) {
+    if any_open(ports) {
         return Code::IsOpen;
     }
     if ports.len() == 0 || ports.len() > 64 {
@@ -62,6 +62,18 @@ pub(crate) fn open_ports(
     };
     ports.swap_with_slice(&mut held);
     Code::Done
+}
+
+/// Whether one of them is open.
+fn any_open(ports: &[Handle]) -> bool
+    ensures { result ≡ list_any is_open ports.now }
+{
+    for port in ports {
+        if port.is_open() {
+            return true;
+        }
+    }
+    false
 }
 
 /// Handles on the ports of a new namespace, in their order.
