@@ -1,14 +1,14 @@
 -- A new space's ports, one by one, and the handles that are made of them.
-use Rattle.std.proofs.Common.{◌≡◌, ◌∙◌, ℕ, zero, suc, ◌+◌, ◌<◌, ◌≤◌, Bool, List, [], ◌∷◌, ◌++◌, length, map, Option, Some, Box, Global, refl, sym, ap, subst, arith}
+use Rattle.std.proofs.Common.{◌≡◌, ◌∙◌, ℕ, zero, suc, ◌<◌, ◌≤◌, Bool, List, [], ◌∷◌, ◌++◌, length, map, Option, Some, Box, Global, refl, sym, ap, subst, arith}
 use Rattle.std.specs.List.{AllByRecursion}
 use Rattle.std.proofs.lemmas.List.{append-nil, length-map, map-append}
 use Rattle.std.proofs.lemmas.List.FromFn.{length-map-range_with_len}
-use mathlib.Core.Option.{some, some-injective, some-ne-none}
+use mathlib.Core.Option.{some-ne-none}
 use Rattle.nvm_record.specs.Lists.{IsAt}
 use Rattle.nvm_geometry.specs.Namespace.{Namespace}
 use Rattle.nvm_space.specs.Ports.{PortState, IsPortOf, AreAllPortsOf, new_port, new_ports}
 use Rattle.nvm_space.specs.Spaces.{SpaceName}
-use Rattle.nvm_c.specs.Engines.{EngineState, IsSound, state_of}
+use Rattle.nvm_c.specs.Engines.{state_of}
 use Rattle.nvm_c.specs.Opening.{NewPorts, IsOpened, engines_of, new_engine}
 use Rattle.nvm_c.specs.declared.engine.Engine.{Engine}
 use Rattle.nvm_c.specs.declared.handle.Handle.{Handle}
@@ -67,10 +67,11 @@ module _ (ns : Namespace) (limit : ℕ) (versions : Bool) (count : ℕ) where
       let bare : map state_of made.engines ++ [] ≡ map state_of made.engines = append-nil (map state_of made.engines) in
       let new = subst (NewPorts ns limit versions count) bare news in
       let many : length (engines_of held) ≡ count =
-          ap length made.hold ∙ length-map made.engines (λ e. Some e) ∙ sym (length-map made.engines state_of) ∙ ap length new.all
-          ∙ length-map (new_ports new.space) (new_engine new.space) ∙ length-map-range_with_len (new_port new.space.units) 0 new.space.ports ∙ new.ports in
-      (record { engines = made.engines; hold = made.hold; new = subst (λ (n : ℕ). NewPorts ns limit versions n (map state_of made.engines)) (sym many) new },
-      sym (length-map held (λ h. h.held.engine)) ∙ many)
+      ap length made.hold ∙ length-map made.engines (λ e. Some e) ∙ sym (length-map made.engines state_of) ∙ ap length new.all
+      ∙ length-map (new_ports new.space) (new_engine new.space) ∙ length-map-range_with_len (new_port new.space.units) 0 new.space.ports ∙ new.ports in (
+        record { engines = made.engines; hold = made.hold; new = subst (λ (n : ℕ). NewPorts ns limit versions n (map state_of made.engines)) (sym many) new },
+        sym (length-map held (λ h. h.held.engine)) ∙ many,
+      )
 
   -- Before the first, none is held.
   pub none_made : (bs : List (Box Engine Global)) → NewPorts ns limit versions count (map (λ b. state_of b.value) bs) → AreMade ns limit versions count [] bs

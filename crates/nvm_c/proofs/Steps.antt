@@ -1,11 +1,9 @@
 -- What a code says of a job that was gone on with, by the code alone.
-use Rattle.std.proofs.Common.{◌≡◌, List, ℕ, Option, Some, None}
-use Rattle.nvm_geometry.specs.Namespace.{Namespace}
-use Rattle.nvm_plan.specs.declared.job.Job.{Job}
+use Rattle.std.proofs.Common.{◌≡◌, List, ℕ, Some, None}
 use Rattle.nvm_unit.specs.declared.views.PassView.{PassView}
 use Rattle.nvm_space.specs.UnderWay.{IsUnderWay}
 use Rattle.nvm_c.specs.Engines.{namespace_of, seen_by}
-use Rattle.nvm_c.specs.Submitted.{Buffers, Begins, GoesOn, Polls, Progresses, Submits}
+use Rattle.nvm_c.specs.Submitted.{Buffers, Begins, GoesOn, Polls, Submits}
 use Rattle.nvm_c.specs.declared.code.Code.{Code}
 use Rattle.nvm_c.specs.declared.code.Code.TheVariants.{Done, Pending, NotOpen, IsOpen, NoMemory, BadNamespace, BadPorts, BadLimit, BadLength, NoPair, Busy, Idle}
 use Rattle.nvm_c.specs.declared.engine.Engine.{Engine}

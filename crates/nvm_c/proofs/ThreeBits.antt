@@ -1,9 +1,8 @@
 -- Each status that a job ends with is of type 0 or 2, so it fits the three bits of its entry.
-use Rattle.std.proofs.Common.{◌≡◌, if◌then◌else◌, Bool, true, false, ℕ, ◌≤◌, List, [], ◌∷◌, Option, Some, None, MatchOption, IsSomeAnd, refl, sym, subst, inl, inr, arith}
+use Rattle.std.proofs.Common.{if◌then◌else◌, Bool, true, false, ℕ, ◌≤◌, List, [], ◌∷◌, Option, Some, None, MatchOption, IsSomeAnd, sym, subst, inl, inr, arith}
 use Rattle.std.specs.List.{AllByRecursion}
-use Rattle.nvm_record.specs.Deeds.{is_pair, success_of}
+use Rattle.nvm_record.specs.Deeds.{is_pair}
 use Rattle.nvm_record.specs.Step.{Deed, Operation, writes, zeroes, uncorrectable, reads, compares, pairs, deallocates}
-use Rattle.nvm_record.specs.declared.command.Command.{Command}
 use Rattle.nvm_record.specs.declared.status.Status.{Status}
 use Rattle.nvm_record.specs.declared.status.Statuses.{Statuses}
 use Rattle.nvm_record.specs.declared.status.Statuses.TheVariants.{One, Two}

@@ -1,7 +1,7 @@
 -- The machine's values of what holds a pointer, and that such a struct's fields own nothing.
 --     word_of      of an address: the pointer, and the mark that names the allocator, which is empty
 --     held_word    of what C holds: the pointer
-use Rattle.std.proofs.Common.{List, [], ◌∷◌, refl}
+use Rattle.std.proofs.Common.{[], ◌∷◌, refl}
 use lib.Dec.{T, lit<}
 use seplogic.Ra.Ura.{Ura}
 use mir.Syntax.{ty_ptr}

@@ -1,6 +1,6 @@
 -- What C holds once a namespace was opened: at each place a port of one new space.
 use Rattle.std.specs.Prelude.{◌≡◌, ℕ, Bool, IsTrue, List, length, map, Option, Some, None, is_some, false}
-use Rattle.std.specs.List.{AllByRecursion, list_any}
+use Rattle.std.specs.List.{list_any}
 use Rattle.nvm_geometry.specs.Faults.{IsFirstGeometryFault}
 use Rattle.nvm_geometry.specs.Namespace.{Namespace, namespace_of}
 use Rattle.nvm_geometry.specs.declared.geometry_fault.GeometryFault.{GeometryFault}

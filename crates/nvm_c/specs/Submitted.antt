@@ -1,5 +1,5 @@
 -- What a submission does to an engine, and what a poll does.
-use Rattle.std.specs.Prelude.{◌≡◌, ◌⊎◌, ℕ, ◌+◌, ◌%◌, ◌^◌, List, Option, Some, None}
+use Rattle.std.specs.Prelude.{◌≡◌, ℕ, ◌+◌, ◌%◌, ◌^◌, List, Option, Some, None}
 use Rattle.nvm_geometry.specs.Namespace.{Namespace}
 use Rattle.nvm_plan.specs.declared.job.Job.{Job}
 use Rattle.nvm_unit.specs.declared.views.PassView.{PassView}

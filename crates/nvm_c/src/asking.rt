@@ -44,12 +44,7 @@ pub(crate) fn asked_job(
 }
 
 /// The command of an entry by itself. The buffer is room for what a Read reads, and data of any other.
-fn asked_alone(
-    alloc: Global,
-    size: BlockSize,
-    entry: &[u8],
-    buffer: &[u8],
-) -> Result<Command, Code>
+fn asked_alone(alloc: Global, size: BlockSize, entry: &[u8], buffer: &[u8]) -> Result<Command, Code>
     requires { length entry.now ≡ 64 }
     ensures asked { IfOk result (λ c. IsAskedAlone size entry.now buffer.now c) }
     ensures refused { IfErr result IsRefusal }

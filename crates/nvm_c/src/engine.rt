@@ -89,7 +89,8 @@ impl Engine {
         let Some(pending) = &self.pending else {
             return Code::Idle;
         };
-        if posted.len() != entries_length(&pending.job) || data.len() < room(&pending.job, &self.space)
+        if posted.len() != entries_length(&pending.job)
+            || data.len() < room(&pending.job, &self.space)
         {
             return Code::BadLength;
         }

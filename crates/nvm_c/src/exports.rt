@@ -105,12 +105,7 @@ fn submitted(
     code
 }
 
-fn polled(
-    alloc: Global,
-    port: &mut Handle,
-    data: &mut [u8],
-    completions: &mut [u8],
-) -> Code
+fn polled(alloc: Global, port: &mut Handle, data: &mut [u8], completions: &mut [u8]) -> Code
     ensures { PollsAt result port.old.held.engine port.new.held.engine
         (record { bytes = data.old; posted = completions.old }) (record { bytes = data.new; posted = completions.new }) }
 {

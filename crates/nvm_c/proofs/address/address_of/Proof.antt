@@ -1,8 +1,8 @@
 -- `into_raw` is handed all that came in. What it leaves is the address's.
-use Rattle.std.proofs.Common.{◌≡◌, List, [], ◌∷◌, ◌++◌, refl, sym, ap, ◌∙◌}
+use Rattle.std.proofs.Common.{◌≡◌, List, [], ◌∷◌, ◌++◌, refl, ap}
 use mir.Syntax.{a_type, dcons, dnil}
 use mir.MapTy.{inst_fn}
-use mir.Val.{Val, vstruct, vnil}
+use mir.Val.{Val}
 use base.Logic.{SProp, emp, id⊢}
 use base.Fml.{flft, ftrue}
 use prog.Wp.{WpFn}
@@ -16,7 +16,7 @@ use denote.Builtin.{RawPtr}
 use denote.Exit.{no}
 use denote.Param.{param, layout, bounded}
 use denote.Param.Laws.{param_laws}
-use denote.RawPtr.{Ptr, ptr_val}
+use denote.RawPtr.{Ptr}
 use denote.RattleType.{RattleType}
 use denote.Signature.{plain}
 use denote.Steps.{nothing, only}

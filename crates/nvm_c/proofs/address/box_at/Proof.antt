@@ -1,5 +1,5 @@
 -- What the address owns is what `from_raw` asks for, at the allocator that is brought.
-use Rattle.std.proofs.Common.{◌≡◌, List, [], ◌∷◌, ◌++◌, refl, sym, ap, ◌∙◌}
+use Rattle.std.proofs.Common.{◌≡◌, List, [], ◌∷◌, ◌++◌, refl}
 use mir.Syntax.{a_type, dcons, dnil}
 use mir.MapTy.{inst_fn}
 use mir.Val.{Val}
@@ -13,7 +13,6 @@ use types.Kit.{‵, raw, prop, at_ret, ◌⊛◌, some, later, ◌$◌, ◌∵�
 use types.Run.{stop, fld, of_opd, no_more, and_then, first, blocks, exec, returns, enter}
 use types.ByLocal.{alloc_all, pass_all, free_all, look_at, get, get_in, sets, lands_last, env}
 use types.Part.{whole, sub}
-use denote.Exit.{no}
 use denote.Laws.{Is, shows}
 use denote.Param.{param, layout, bounded}
 use denote.Param.Laws.{param_laws}

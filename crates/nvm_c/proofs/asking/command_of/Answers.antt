@@ -10,5 +10,5 @@ returns-then-is_empty-clause-spelled c =
     let front = begins.0 in
     let none : c.in-Ok-read_command.rest ≡ [] = c.if-is_empty.ensures.0 refl in
     let whole : front ≡ c.args.entry.now ++ c.args.data.now =
-        sym (append-nil front) ∙ ap (λ (rest : List ℕ). front ++ rest) (sym none) ∙ sym begins.1 ∙ c.in-Ok.ensures in
+    sym (append-nil front) ∙ ap (λ (rest : List ℕ). front ++ rest) (sym none) ∙ sym begins.1 ∙ c.in-Ok.ensures in
     subst (λ (bytes : List ℕ). IsSpelling c.args.size bytes c.in-Ok-read_command.command) whole begins.2

@@ -3,8 +3,7 @@ use Rattle.std.proofs.Common.{◌≡◌, [], ◌∷◌, refl}
 use base.Logic.{emp}
 use base.Fml.{ftrue}
 use contract.Monad.{fact, fact_i}
-use contract.Running.{tables}
-use types.Kit.{‵, raw, ◌$◌, ◌∵◌, !, qed, by, move, drop, use0, fjoin}
+use types.Kit.{‵, raw, ◌$◌, ◌∵◌, !, qed, by, drop, use0, fjoin}
 use types.Run.{lit, no_more, and_then, returns, enter}
 use types.ByLocal.{alloc_all, pass_all, free_all, look_at, sets}
 use types.Part.{agg}
@@ -13,7 +12,7 @@ use denote.Steps.{nothing}
 use denote.Triple.Entry.{on_entry}
 use denote.Triple.Walked.{Stays}
 use Rattle.std.proofs.raw_atomic.Walks.{proved, leaves}
-use Rattle.std.specs.Prelude.{Option, None}
+use Rattle.std.specs.Prelude.{None}
 use Rattle.nvm_c.proofs.Words.{held_word, held_fits, HeldFields, held_fields}
 use Rattle.nvm_c.specs.contracts.handle.Held.{the_row}
 use Rattle.nvm_c.specs.contracts.handle.nothing as f

@@ -1,8 +1,7 @@
 -- The address of the engine that is held, with what was kept of it.
 use Rattle.std.proofs.Common.{◌≡◌, List, [], ◌∷◌, ◌++◌, refl}
-use mir.Val.{Val, vstruct, vnil}
+use mir.Val.{Val}
 use base.Logic.{SProp, emp}
-use base.Fml.{ftrue}
 use prog.Wp.{WpFn}
 use contract.Monad.{fact, fact_i}
 use contract.Running.{tables}

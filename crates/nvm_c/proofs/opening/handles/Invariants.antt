@@ -1,7 +1,6 @@
-use Rattle.std.proofs.Common.{◌≡◌, ◌≤◌, ◌+◌, ◌++◌, length, map, Some, vec_len, vec_capacity}
+use Rattle.std.proofs.Common.{◌≤◌, ◌+◌, length, vec_len, vec_capacity}
 use Rattle.std.specs.List.{AllByRecursion}
-use Rattle.nvm_c.specs.Engines.{IsSound, state_of}
-use Rattle.nvm_c.specs.Opening.{NewPorts, engines_of}
+use Rattle.nvm_c.specs.Engines.{IsSound}
 use Rattle.nvm_c.proofs.Ports.{AreMade}
 use Rattle.nvm_c.proofs.opening.handles.Given as goal
 

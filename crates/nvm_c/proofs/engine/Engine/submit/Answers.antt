@@ -27,20 +27,22 @@ pub returns-in-Done-clause-submits : goal.returns-in-Done-clause-submits
 returns-in-Done-clause-submits c =
     let e = c.args.self.now in let views = seen_by e in
     let here : c.geometry.result ≡ namespace_of e = c.geometry.ensures ∙ ap (λ (s : SpaceName). s.namespace) c.deref.ensures in
-    let same : c.deref-2.result.now.namespace ≡ namespace_of e = ap (λ (s : SpaceName). s.namespace) c.deref-2.ensures in
-    (c.in-None.is, record {
-      job = c.in-Ok.job;
-      asked = subst (λ (host : ℕ). IsAsked (namespace_of e).block_size (host + 1) c.args.entries.now c.args.data.now c.in-Ok.job) c.number-host.ensures
-          (subst (λ (ns : Namespace). IsAsked ns.block_size (c.number-host.result + 1) c.args.entries.now c.args.data.now c.in-Ok.job) here c.in-Ok.ensures.asked);
-      progress = record {
-        told = c.in-Done.done;
-        does = subst (λ (ns : Namespace). DoesJob ns e.number c.in-Ok.job views views c.in-Done.done) same (c.in-Done.ensures views);
-        buffers = c.tell.ensures;
-        idle = c.in-None.is;
-      };
-      space = refl;
-      next = refl;
-    })
+    let same : c.deref-2.result.now.namespace ≡ namespace_of e = ap (λ (s : SpaceName). s.namespace) c.deref-2.ensures in (
+      c.in-None.is,
+      record {
+        job = c.in-Ok.job;
+        asked = subst (λ (host : ℕ). IsAsked (namespace_of e).block_size (host + 1) c.args.entries.now c.args.data.now c.in-Ok.job) c.number-host.ensures
+            (subst (λ (ns : Namespace). IsAsked ns.block_size (c.number-host.result + 1) c.args.entries.now c.args.data.now c.in-Ok.job) here c.in-Ok.ensures.asked);
+        progress = record {
+          told = c.in-Done.done;
+          does = subst (λ (ns : Namespace). DoesJob ns e.number c.in-Ok.job views views c.in-Done.done) same (c.in-Done.ensures views);
+          buffers = c.tell.ensures;
+          idle = c.in-None.is;
+        };
+        space = refl;
+        next = refl;
+      },
+    )
 
 pub returns-in-Pending-clause-submits : goal.returns-in-Pending-clause-submits
 returns-in-Pending-clause-submits c =
