@@ -255,7 +255,7 @@ fn poll_part<G: Gate>(
             Some(reply_of_change(place, act, changed))
         }
         LentPart::Look(look) => {
-            let answer = unit.poll_observe(alloc, pass, look)?;
+            let answer = unit.poll_observe(alloc, pass, look, gate)?;
             Some(reply_of_look(place, look, answer))
         }
     }

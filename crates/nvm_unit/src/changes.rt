@@ -41,7 +41,9 @@ impl Unit {
         // Each answer brings a new snapshot, so the old version goes before anybody has to wait for it.
         pass.parts.snapshot.drop_version();
         let book = self.take(rt, &mut pass.parts.token);
-        self.change_held(alloc, &mut pass.parts, book, job, act, gate)
+        let changed = self.change_held(alloc, &mut pass.parts, book, job, act, gate);
+        self.wake();
+        changed
     }
 
     /// A [`change`](Unit::change) that gives up at once where it would wait: another pass has the unit, or takes it
@@ -64,7 +66,10 @@ impl Unit {
         ensures proper { IsProperPass pass.new.view }
     {
         match self.change_if_free::<Always, G>(alloc, pass, job, act, gate) {
-            Ok(changed) => Ok(changed),
+            Ok(changed) => {
+                self.wake();
+                Ok(changed)
+            }
             Err(word) => Err(Busy { word }),
         }
     }
@@ -89,7 +94,10 @@ impl Unit {
         ensures proper { IsProperPass pass.new.view }
     {
         match self.change_if_free::<Never, G>(alloc, pass, job, act, gate) {
-            Ok(changed) => Some(changed),
+            Ok(changed) => {
+                gate.after_put(self);
+                Some(changed)
+            }
             Err(_) => None,
         }
     }
@@ -118,7 +126,7 @@ impl Unit {
         Ok(self.change_held(alloc, &mut pass.parts, book, job, act, gate))
     }
 
-    /// Does the act on the book in hand and gives the unit back, so that the parts are a pass again.
+    /// Does the act on the book in hand and gives the unit back, so that the parts are a pass again. It wakes nobody.
     fn change_held<G: Gate>(
         &self,
         alloc: Global,

@@ -1,7 +1,15 @@
+use crate::unit::Unit;
+
 /// What is told of the course of jobs. Each method returns, and waits for nothing.
 pub trait Gate {
     /// The unit of this number, which a change of the job holds, is about to be put back.
     fn before_put(&self, unit: u16, job: u32);
+
+    /// A polled call has put the unit back. It wakes one of those who wait for the unit. Only where nobody ever waits for it,
+    /// since all calls are polled, may a gate leave that out.
+    fn after_put(&self, unit: &Unit) {
+        unit.wake();
+    }
 
     /// The job is done.
     fn after_job(&self, job: u32);

@@ -105,7 +105,7 @@ impl Latch {
         unreachable!()
     }
 
-    /// Puts the book and the unit back, and wakes one of those who sleep, if somebody does.
+    /// Puts the book and the unit back. Those who sleep are left asleep: the caller wakes one.
     pub(crate) fn release<D: Decides>(&self, token: &mut Token, book: Book)
         requires at { token.old.seat.table_id ≡ self.now.desk.table.shared.table_id }
         requires few { length book.history < 2 ^ 32 }
@@ -120,7 +120,6 @@ impl Latch {
         let entries = book.entries() as u64;
         steps::lay_book(&self.desk, token, book);
         steps::put::<D>(&self.desk, token, entries);
-        self.wake();
     }
 
     /// One step shows both passes the same history. Hands out a snapshot of it for each.
@@ -149,12 +148,13 @@ impl Latch {
         let book = self.hold(rt, one);
         let snapshots = (book.snapshot(versions), book.snapshot(versions));
         self.release::<Never>(one, book);
+        self.wake();
         *other = steps::split(&self.desk, one);
         snapshots
     }
 
     /// Wakes one of those who sleep, if somebody does.
-    fn wake(&self) {
+    pub(crate) fn wake(&self) {
         if self.sleepers.load(Ordering::SeqCst) > 0 {
             steps::wake(&self.desk);
         }

@@ -11,6 +11,7 @@ ghost use Rattle.nvm_unit.specs.Views.{shown};
 
 use crate::attempt::{looked, observed};
 use crate::book::Book;
+use crate::gate::Gate;
 use crate::pass::{Parts, Pass};
 use crate::replies::{LookFault, ObserveFault, Observed};
 use crate::rule::{Always, Never};
@@ -38,16 +39,19 @@ impl Unit {
         ensures proper { IsProperPass pass.new.view }
     {
         let book = self.take(rt, &mut pass.parts.token);
-        self.observe_held(alloc, &mut pass.parts, book, look)
+        let answer = self.observe_held(alloc, &mut pass.parts, book, look);
+        self.wake();
+        answer
     }
 
     /// An [`observe`](Unit::observe) in pieces, for callers that may not wait: `None` says that the unit was not free,
     /// and the same call can be made again. All calls of one look leave one mark together, which is that of the last.
-    pub fn poll_observe(
+    pub fn poll_observe<G: Gate>(
         &self,
         alloc: Global,
         pass: &mut Pass,
         look: Look<'_>,
+        gate: &G,
     ) -> Option<Result<Observed, ObserveFault>>
         requires of { IsPassOf self.now pass.old }
         requires covered { IsCovered self.now.bounds.place (look_operation_of look) }
@@ -58,12 +62,16 @@ impl Unit {
         ensures proper { IsProperPass pass.new.view }
     {
         match self.take_if_free::<Never>(&mut pass.parts.token) {
-            Ok(book) => Some(self.observe_held(alloc, &mut pass.parts, book, look)),
+            Ok(book) => {
+                let answer = self.observe_held(alloc, &mut pass.parts, book, look);
+                gate.after_put(self);
+                Some(answer)
+            }
             Err(_) => None,
         }
     }
 
-    /// Answers the look at the book in hand and gives the unit back, so that the parts are a pass again.
+    /// Answers the look at the book in hand and gives the unit back, so that the parts are a pass again. It wakes nobody.
     fn observe_held(
         &self,
         alloc: Global,

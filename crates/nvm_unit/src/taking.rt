@@ -37,7 +37,12 @@ impl Unit {
         self.latch.try_hold::<D>(token)
     }
 
-    /// Gives the unit back unchanged.
+    /// Wakes one of those who wait for the unit, if somebody does.
+    pub(crate) fn wake(&self) {
+        self.latch.wake();
+    }
+
+    /// Gives the unit back unchanged. It wakes nobody.
     pub(crate) fn give_back<D: Decides>(&self, token: &mut Token, book: Book)
         requires at { token.old.seat.table_id ≡ self.now.table }
         requires has { HasUnit self.now book token.old.seat.me }

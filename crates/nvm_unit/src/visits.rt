@@ -57,6 +57,7 @@ impl Unit {
         let answer = read(&book);
         let old = book.renew(&mut pass.parts.snapshot, self.versions);
         self.give_back::<Never>(&mut pass.parts.token, book);
+        self.wake();
         drop(old);
         answer
     }

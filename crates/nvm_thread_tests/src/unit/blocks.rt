@@ -176,7 +176,7 @@ pub(super) fn poll_at(
     if !unit.covers_look(look) {
         return Err("the unit doesn't cover the Read");
     }
-    match unit.poll_observe(alloc, pass, look) {
+    match unit.poll_observe(alloc, pass, look, &Open) {
         Some(Ok(observed)) => {
             let read = read_of(&observed)?;
             Ok(Some(read))

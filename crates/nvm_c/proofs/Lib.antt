@@ -1,0 +1,4 @@
+pub mod Ports
+pub mod Steps
+pub mod ThreeBits
+pub mod Words

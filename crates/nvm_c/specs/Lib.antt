@@ -1,0 +1,9 @@
+pub mod Codes
+pub mod Engines
+pub mod Held
+pub mod Opening
+pub mod Asked
+pub mod Refused
+pub mod Told
+pub mod Submitted
+pub mod Exports

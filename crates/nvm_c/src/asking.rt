@@ -1,0 +1,133 @@
+//! The job for which C's entries ask.
+ghost use Rattle.std.specs.Prelude.{◌≡◌, ◌⊎◌, ◌++◌, ◌+◌, ◌*◌, ◌<◌, ◌≤◌, IfOk, IfErr, length};
+ghost use Rattle.nvm_geometry.specs.Namespace.{Namespace};
+ghost use Rattle.nvm_record.specs.Entry.{IsSpelling, IsWhole, called_for};
+ghost use Rattle.nvm_plan.specs.Fits.{FitsNamespace};
+ghost use Rattle.nvm_c.specs.Asked as spec;
+ghost use Rattle.nvm_c.specs.Asked.{IsAsked, IsAskedAlone, IsAskedTogether};
+ghost use Rattle.nvm_c.specs.Refused.{IsRefusal};
+
+use crate::code::Code;
+use nvm_geometry::Geometry;
+use nvm_plan::{Body, Job, fits};
+use nvm_record::{
+    BlockSize, Command, CommandFault, NoMemory, Op, Payload, entry_fields, read_command,
+};
+use std::alloc::Global;
+
+/// The job of one entry, or of two that are a fused pair.
+pub(crate) fn asked_job(
+    alloc: Global,
+    geometry: &Geometry,
+    host: u16,
+    entries: &[u8],
+    buffer: &[u8],
+) -> Result<Job, Code>
+    ensures asked { IfOk result (λ job. IsAsked geometry.now.block_size host entries.now buffer.now job) }
+    ensures fits { IfOk result (λ job. FitsNamespace geometry.now job) }
+    ensures refused { IfErr result IsRefusal }
+{
+    let size = geometry.block_size();
+    let body = match entries.len() {
+        64 => Body::Single(asked_alone(alloc, size, entries, buffer)?),
+        128 => {
+            let (first, second) = asked_together(alloc, size, entries, buffer)?;
+            Body::Pair(first, second)
+        }
+        _ => return Err(Code::BadLength),
+    };
+    let job = Job { host, body };
+    if !fits(geometry, &job) {
+        return Err(Code::NoPair);
+    }
+    Ok(job)
+}
+
+/// The command of an entry by itself. The buffer is room for what a Read reads, and data of any other.
+fn asked_alone(alloc: Global, size: BlockSize, entry: &[u8], buffer: &[u8]) -> Result<Command, Code>
+    requires { length entry.now ≡ 64 }
+    ensures asked { IfOk result (λ c. IsAskedAlone size entry.now buffer.now c) }
+    ensures refused { IfErr result IsRefusal }
+{
+    let fields = entry_fields(entry);
+    if reads(fields.op) {
+        if buffer.len() != (usize::from(fields.nlb) + 1) * size.bytes() as usize {
+            return Err(Code::BadLength);
+        }
+        let command = command_of(alloc, size, entry, &[])?;
+        return Ok(command);
+    }
+    let command = command_of(alloc, size, entry, buffer)?;
+    Ok(command)
+}
+
+/// Whether it is a Read, for which the buffer is room.
+fn reads(op: Op) -> bool
+    ensures { result ≡ spec.reads op }
+{
+    matches!(op, Op::Read)
+}
+
+/// The commands of two entries, whose data stands in the buffer in their order.
+fn asked_together(
+    alloc: Global,
+    size: BlockSize,
+    entries: &[u8],
+    buffer: &[u8],
+) -> Result<(Command, Command), Code>
+    requires { length entries.now ≡ 128 }
+    ensures asked { IfOk result (λ cs. IsAskedTogether size entries.now buffer.now cs.0 cs.1) }
+    ensures refused { IfErr result IsRefusal }
+{
+    let (first, second) = entries.split_at(64);
+    let called = called(size, first);
+    if buffer.len() < called {
+        return Err(Code::BadLength);
+    }
+    let (data, rest) = buffer.split_at(called);
+    let first = command_of(alloc, size, first, data)?;
+    let second = command_of(alloc, size, second, rest)?;
+    Ok((first, second))
+}
+
+/// How many bytes of data an entry calls for.
+fn called(size: BlockSize, entry: &[u8]) -> usize
+    requires { length entry.now ≡ 64 }
+    ensures { result ≡ called_for size entry.now }
+{
+    let fields = entry_fields(entry);
+    fields.op.data_length(fields.nlb, fields.nr, size)
+}
+
+/// The command of the entry and this data, which has to be as long as it calls for.
+fn command_of(alloc: Global, size: BlockSize, entry: &[u8], data: &[u8]) -> Result<Command, Code>
+    requires { length entry.now ≡ 64 }
+    ensures spelled { IfOk result (λ c. IsSpelling size (entry.now ++ data.now) c) }
+    ensures whole { IfOk result (λ c. IsWhole size c) }
+    ensures refused { IfErr result IsRefusal }
+{
+    let Ok(bytes) = joined(alloc, entry, data) else {
+        return Err(Code::NoMemory);
+    };
+    match read_command(alloc, &bytes, size) {
+        Ok((command, rest)) => {
+            if rest.is_empty() {
+                Ok(command)
+            } else {
+                Err(Code::BadLength)
+            }
+        }
+        Err(CommandFault::NoMemory) => Err(Code::NoMemory),
+        Err(_) => Err(Code::BadLength),
+    }
+}
+
+/// The entry, and the data behind it.
+fn joined(alloc: Global, entry: &[u8], data: &[u8]) -> Result<Payload, NoMemory>
+    ensures { IfOk result (λ p. p ≡ entry.now ++ data.now) }
+{
+    let mut bytes = Vec::with_capacity(alloc, entry.len().saturating_add(data.len()))?;
+    bytes.extend_from_slice(entry)?;
+    bytes.extend_from_slice(data)?;
+    Payload::new(alloc, bytes)
+}

@@ -1,0 +1,161 @@
+//! A port of a namespace as C works with it: a job is begun and gone on with, and C is told when it is done.
+ghost use Rattle.std.specs.Prelude.{◌≡◌, ◌+◌, ◌%◌, ◌^◌, ◌<◌, ◌≤◌, ℕ, List, None, length};
+ghost use Rattle.std.specs.Arc.{arc_value};
+ghost use Rattle.nvm_geometry.specs.Namespace.{Namespace};
+ghost use Rattle.nvm_plan.specs.Fits.{FitsNamespace};
+ghost use Rattle.nvm_plan.specs.declared.job.Job.{Job as Asked};
+ghost use Rattle.nvm_unit.specs.declared.views.PassView.{PassView};
+ghost use Rattle.nvm_space.specs.Ports.{IsPortOf};
+ghost use Rattle.nvm_space.specs.Trace.{DoesJob};
+ghost use Rattle.nvm_space.specs.UnderWay.{IsUnderWay};
+ghost use Rattle.nvm_space.specs.declared.job_done.JobDone.{JobDone as Told};
+ghost use Rattle.nvm_c.specs.Engines.{IsSound, namespace_of, seen_by, space_of};
+ghost use Rattle.nvm_c.specs.Submitted.{Polls, Progresses, Submits};
+ghost use Rattle.nvm_c.specs.Told.{FitEntries, posted_length, told_length};
+
+use crate::asking::asked_job;
+use crate::code::Code;
+use crate::quiet::Quiet;
+use crate::telling::{entries_length, tell};
+use nvm_plan::{Body, Job};
+use nvm_record::Op;
+use nvm_space::{JobUnderWay, Port, Progress, Space};
+use std::alloc::Global;
+use std::sync::Arc;
+
+/// A port of a namespace that others share, with the job that is pending in it.
+#[derive(Drop)]
+pub struct Engine {
+    pub(crate) space: Arc<Space, Global>,
+    pub(crate) port: Port,
+    /// The number of the next job.
+    pub(crate) number: u32,
+    pub(crate) pending: Option<Pending>,
+}
+
+/// A job that was begun, and how far it is.
+#[derive(Drop)]
+pub struct Pending {
+    pub(crate) job: Job,
+    pub(crate) under_way: JobUnderWay,
+}
+
+impl Engine {
+    /// Begins the job that the entries ask for, and goes on with it up to the first unit that isn't to be had. It waits
+    /// for nothing.
+    pub(crate) fn submit(
+        &mut self,
+        alloc: Global,
+        entries: &[u8],
+        data: &mut [u8],
+        posted: &mut [u8],
+    ) -> Code
+        requires { IsSound self.old }
+        ensures sound { IsSound self.new }
+        ensures submits { Submits result self.old self.new entries.now
+            (record { bytes = data.old; posted = posted.old }) (record { bytes = data.new; posted = posted.new }) }
+    {
+        told_statuses_fit_their_entries();
+        match &self.pending {
+            Some(_) => return Code::Busy,
+            None => {}
+        }
+        let host = self.port.number() + 1;
+        let job = match asked_job(alloc, &self.space.geometry(), host, entries, data) {
+            Ok(job) => job,
+            Err(code) => return code,
+        };
+        if posted.len() != entries_length(&job) {
+            return Code::BadLength;
+        }
+        let number = self.number;
+        self.number = number.wrapping_add(1);
+        match self.space.begin_job(alloc, number, &job) {
+            Progress::Done(done) => {
+                tell(&done.completions, data, posted);
+                Code::Done
+            }
+            Progress::Pending(under_way) => self.go_on(alloc, job, under_way, data, posted),
+        }
+    }
+
+    /// Goes on with the job that is pending.
+    pub(crate) fn poll(&mut self, alloc: Global, data: &mut [u8], posted: &mut [u8]) -> Code
+        requires { IsSound self.old }
+        ensures sound { IsSound self.new }
+        ensures polls { Polls result self.old self.new
+            (record { bytes = data.old; posted = posted.old }) (record { bytes = data.new; posted = posted.new }) }
+    {
+        let Some(pending) = &self.pending else {
+            return Code::Idle;
+        };
+        if posted.len() != entries_length(&pending.job)
+            || data.len() < room(&pending.job, &self.space)
+        {
+            return Code::BadLength;
+        }
+        let Some(taken) = self.pending.take() else {
+            unreachable!("a job is pending")
+        };
+        let Pending { job, under_way } = taken;
+        self.go_on(alloc, job, under_way, data, posted)
+    }
+
+    /// Goes on with a job that isn't in `pending`.
+    fn go_on(
+        &mut self,
+        alloc: Global,
+        job: Job,
+        under_way: JobUnderWay,
+        data: &mut [u8],
+        posted: &mut [u8],
+    ) -> Code
+        requires of { IsPortOf (space_of self.old) self.old.port }
+        requires few { self.old.port.number < 64 }
+        requires idle { self.old.pending ≡ None }
+        requires fits { FitsNamespace (namespace_of self.old) job }
+        requires under_way { (start : List PassView)
+            × IsUnderWay (namespace_of self.old) job under_way start (seen_by self.old) }
+        requires room { length posted.old ≡ posted_length job.body }
+        ensures sound { IsSound self.new }
+        ensures space { space_of self.new ≡ space_of self.old }
+        ensures number { self.new.number ≡ self.old.number }
+        ensures progress { (start : List PassView)
+            → IsUnderWay (namespace_of self.old) job under_way start (seen_by self.old)
+            → Progresses result (namespace_of self.old) under_way.number job start (seen_by self.new) self.new.pending
+            (record { bytes = data.old; posted = posted.old }) (record { bytes = data.new; posted = posted.new }) }
+    {
+        told_statuses_fit_their_entries();
+        match self
+            .space
+            .poll_job(alloc, &mut self.port, &job, under_way, &Quiet)
+        {
+            Progress::Done(done) => {
+                tell(&done.completions, data, posted);
+                Code::Done
+            }
+            Progress::Pending(under_way) => {
+                self.pending = Some(Pending { job, under_way });
+                Code::Pending
+            }
+        }
+    }
+}
+
+/// How many bytes the job reads, if it succeeds.
+fn room(job: &Job, space: &Space) -> usize {
+    match &job.body {
+        Body::Single(command) if command.op == Op::Read => {
+            (usize::from(command.nlb) + 1) * space.geometry().block_size().bytes() as usize
+        }
+        _ => 0,
+    }
+}
+
+/// Each status of a job that was done fits its entry, and there is an entry for each of the job's commands.
+fn told_statuses_fit_their_entries()
+    ensures fit { (ns : Namespace) (number : ℕ) (job : Asked) (start now : List PassView) (done : Told)
+        → DoesJob ns number job start now done → FitEntries done.completions }
+    ensures each { (ns : Namespace) (number : ℕ) (job : Asked) (start now : List PassView) (done : Told)
+        → DoesJob ns number job start now done → told_length done.completions ≡ posted_length job.body }
+{}

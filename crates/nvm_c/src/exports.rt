@@ -1,0 +1,118 @@
+//! What C calls. Each export is the call that it stands for, at the engine of its handle.
+ghost use Rattle.std.specs.Prelude.{◌≡◌};
+ghost use Rattle.nvm_c.specs.Codes.{number_of};
+ghost use Rattle.nvm_c.specs.Exports.{Closes, PollsAt, SubmitsAt};
+ghost use Rattle.nvm_c.specs.Opening.{Opens, numbers_of};
+ghost use Rattle.nvm_c.specs.declared.code.Code.{Code as Answer};
+
+use crate::code::Code;
+use crate::handle::Handle;
+use crate::opening::{Numbers, open_ports};
+use std::alloc::Global;
+
+/// The version of the header that goes with this library.
+const VERSION: u32 = 1;
+
+/// The version of the header that goes with this library.
+#[unsafe(no_mangle)]
+pub extern "C" fn zk_version() -> u32
+    ensures { result ≡ VERSION }
+{
+    VERSION
+}
+
+/// Opens each port of the array on a port of a new namespace, whose blocks are zero bytes.
+#[unsafe(no_mangle)]
+pub extern "C" fn zk_open(
+    alloc: Global,
+    ports: &mut [Handle],
+    namespace: &Numbers,
+    limit: u32,
+    versions: bool,
+) -> i32
+    ensures { (code : Answer) × (result ≡ number_of code)
+        × Opens code (numbers_of namespace.now) limit versions ports.old ports.new }
+{
+    open_ports(alloc, ports, namespace, limit, versions).number()
+}
+
+/// Closes the port. The namespace goes with its last port.
+#[unsafe(no_mangle)]
+pub extern "C" fn zk_close(alloc: Global, port: &mut Handle) -> i32
+    ensures { (code : Answer) × (result ≡ number_of code) × Closes code port.old.held.engine port.new.held.engine }
+{
+    closed(alloc, port).number()
+}
+
+/// Begins the job of one submission queue entry of 64 bytes, or of a fused pair of two, and goes on with it.
+#[unsafe(no_mangle)]
+pub extern "C" fn zk_submit(
+    alloc: Global,
+    port: &mut Handle,
+    entries: &[u8],
+    data: &mut [u8],
+    completions: &mut [u8],
+) -> i32
+    ensures { (code : Answer) × (result ≡ number_of code)
+        × SubmitsAt code port.old.held.engine port.new.held.engine entries.now
+        (record { bytes = data.old; posted = completions.old }) (record { bytes = data.new; posted = completions.new }) }
+{
+    submitted(alloc, port, entries, data, completions).number()
+}
+
+/// Goes on with the job that is pending in the port.
+#[unsafe(no_mangle)]
+pub extern "C" fn zk_poll(
+    alloc: Global,
+    port: &mut Handle,
+    data: &mut [u8],
+    completions: &mut [u8],
+) -> i32
+    ensures { (code : Answer) × (result ≡ number_of code)
+        × PollsAt code port.old.held.engine port.new.held.engine
+        (record { bytes = data.old; posted = completions.old }) (record { bytes = data.new; posted = completions.new }) }
+{
+    polled(alloc, port, data, completions).number()
+}
+
+fn closed(alloc: Global, port: &mut Handle) -> Code
+    ensures { Closes result port.old.held.engine port.new.held.engine }
+{
+    match port.take(alloc) {
+        Some(engine) => {
+            drop(engine);
+            Code::Done
+        }
+        None => Code::NotOpen,
+    }
+}
+
+fn submitted(
+    alloc: Global,
+    port: &mut Handle,
+    entries: &[u8],
+    data: &mut [u8],
+    completions: &mut [u8],
+) -> Code
+    ensures { SubmitsAt result port.old.held.engine port.new.held.engine entries.now
+        (record { bytes = data.old; posted = completions.old }) (record { bytes = data.new; posted = completions.new }) }
+{
+    let Some(mut engine) = port.take(alloc) else {
+        return Code::NotOpen;
+    };
+    let code = engine.submit(alloc, entries, data, completions);
+    port.put(engine);
+    code
+}
+
+fn polled(alloc: Global, port: &mut Handle, data: &mut [u8], completions: &mut [u8]) -> Code
+    ensures { PollsAt result port.old.held.engine port.new.held.engine
+        (record { bytes = data.old; posted = completions.old }) (record { bytes = data.new; posted = completions.new }) }
+{
+    let Some(mut engine) = port.take(alloc) else {
+        return Code::NotOpen;
+    };
+    let code = engine.poll(alloc, data, completions);
+    port.put(engine);
+    code
+}

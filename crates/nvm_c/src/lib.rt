@@ -1,0 +1,14 @@
+//! The live engine, for C: handles on the ports of a namespace, and jobs that are begun and polled by them.
+//!
+//! `include/zalkvorn.h` says to C what the exports are. Nothing here waits, wakes or starts a thread.
+#![tactic(auto)]
+
+mod address;
+mod asking;
+mod code;
+mod engine;
+mod exports;
+mod handle;
+mod opening;
+mod quiet;
+mod telling;

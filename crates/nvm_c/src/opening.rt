@@ -1,0 +1,130 @@
+//! How a namespace is opened: its space, an engine for each port, and a handle for each engine.
+ghost use Rattle.std.specs.Prelude.{◌≡◌, ◌<◌, ◌≤◌, IfOk, length, map, Some};
+ghost use Rattle.std.specs.List.{AllByRecursion, list_any};
+ghost use Rattle.nvm_space.specs.Spaces.{IsPortCount};
+ghost use Rattle.nvm_c.specs.Engines.{IsSound, state_of};
+ghost use Rattle.nvm_c.specs.Opening.{IsOpened, NewPorts, Opens, engines_of, is_open, numbers_of};
+
+use crate::code::Code;
+use crate::engine::Engine;
+use crate::handle::Handle;
+use nvm_geometry::Geometry;
+use nvm_record::NoMemory;
+use nvm_space::Space;
+use nvm_store::Limit;
+use std::alloc::{AllocError, Global};
+use std::sync::Arc;
+
+/// The numbers of a namespace as C writes them: those of `Geometry::new`.
+#[repr(C)]
+#[derive(Clone, Copy)]
+pub struct Numbers {
+    pub nsze: u64,
+    pub block_size: u32,
+    pub nabsn: u16,
+    pub nabo: u16,
+    pub nawun: u16,
+    pub nacwu: u16,
+}
+
+/// Opens each handle on a port of a new namespace, or leaves all as they were.
+pub(crate) fn open_ports(
+    alloc: Global,
+    ports: &mut [Handle],
+    numbers: &Numbers,
+    limit: u32,
+    versions: bool,
+) -> Code
+    ensures { Opens result (numbers_of numbers.now) limit versions ports.old ports.new }
+{
+    if any_open(ports) {
+        return Code::IsOpen;
+    }
+    if ports.len() == 0 || ports.len() > 64 {
+        return Code::BadPorts;
+    }
+    let Ok(geometry) = Geometry::new(
+        numbers.nsze,
+        numbers.block_size,
+        numbers.nabsn,
+        numbers.nabo,
+        numbers.nawun,
+        numbers.nacwu,
+    ) else {
+        return Code::BadNamespace;
+    };
+    let Some(limit) = Limit::new(limit) else {
+        return Code::BadLimit;
+    };
+    let count = ports.len() as u16;
+    let Ok(mut held) = handles(alloc, geometry, count, limit, versions) else {
+        return Code::NoMemory;
+    };
+    ports.swap_with_slice(&mut held);
+    Code::Done
+}
+
+/// Whether one of them is open.
+fn any_open(ports: &[Handle]) -> bool
+    ensures { result ≡ list_any is_open ports.now }
+{
+    for port in ports {
+        if port.is_open() {
+            return true;
+        }
+    }
+    false
+}
+
+/// Handles on the ports of a new namespace, in their order.
+fn handles(
+    alloc: Global,
+    geometry: Geometry,
+    count: u16,
+    limit: Limit,
+    versions: bool,
+) -> Result<Vec<Handle>, NoMemory>
+    requires { IsPortCount count }
+    ensures opened { IfOk result (λ hs. IsOpened geometry limit versions (engines_of hs.items)) }
+    ensures count { IfOk result (λ hs. length hs.items ≡ count) }
+{
+    let engines = engines(alloc, geometry, count, limit, versions)?;
+    let mut held = Vec::with_capacity(alloc, engines.len())?;
+    for engine in engines {
+        held.push_reserved(Handle::of(engine));
+    }
+    Ok(held)
+}
+
+/// An engine for each port of a new namespace, in their order.
+fn engines(
+    alloc: Global,
+    geometry: Geometry,
+    count: u16,
+    limit: Limit,
+    versions: bool,
+) -> Result<Vec<Box<Engine>>, NoMemory>
+    requires { IsPortCount count }
+    ensures new { IfOk result (λ bs. NewPorts geometry limit versions count (map (λ b. state_of b.value) bs.items)) }
+    ensures sound { IfOk result (λ bs. AllByRecursion (λ b. IsSound b.value) bs.items) }
+{
+    let Ok((space, ports)) = Space::open(alloc, geometry, count, limit, versions) else {
+        return Err(AllocError);
+    };
+    let space = Arc::new(alloc, space)?;
+    let mut engines = Vec::with_capacity(alloc, ports.len())?;
+    for port in ports {
+        let space = Arc::try_clone(&space)?;
+        let engine = Box::new(
+            alloc,
+            Engine {
+                space,
+                port,
+                number: 0,
+                pending: None,
+            },
+        )?;
+        engines.push_reserved(engine);
+    }
+    Ok(engines)
+}

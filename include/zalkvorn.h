@@ -1,0 +1,131 @@
+/* The media side of an NVM Express controller: a namespace in memory whose atomic units any number of threads
+ * read and change. Link libnvm_c.a and, for malloc and free, the toolchain's liblibc_c.a.
+ *
+ * A thread works through a port. Open a namespace with one port for each thread (or queue, or reactor), and give
+ * each thread its own. No call waits, blocks or starts a thread: where another port holds the atomic unit that a
+ * command needs, the answer is ZK_PENDING, and zk_poll goes on later.
+ *
+ * What is proved of this library rests on C for four things.
+ *   1. A port is in one call at a time, is handed from thread to thread by a lock, a join or an atomic, and is
+ *      never copied while it is open.
+ *   2. A port is bytes of 0 before it is opened, and nothing but these calls writes to it.
+ *   3. Each pointer is not NULL and is good for the length that is passed with it, also where that length is 0, and
+ *      no two buffers of a call overlap.
+ *   4. malloc, realloc and free are a usual allocator's, and no call is made from a signal handler or a forked child.
+ */
+#ifndef ZALKVORN_H
+#define ZALKVORN_H
+
+#include <stdbool.h>
+#include <stddef.h>
+#include <stdint.h>
+
+#ifdef __cplusplus
+extern "C" {
+#endif
+
+/* The version of this header. zk_version() gives that of the library; the two must be equal. */
+#define ZK_VERSION 1
+
+/* The most ports of a namespace, and the most changes of an atomic unit that its history can keep. */
+#define ZK_MOST_PORTS 64
+#define ZK_MOST_CHANGES 4194304
+
+/* The bytes of a submission queue entry and of a completion queue entry. */
+#define ZK_ENTRY_BYTES 64
+#define ZK_COMPLETION_BYTES 16
+
+/* What a call answers. Only ZK_DONE and ZK_PENDING change anything. */
+enum zk_code {
+    ZK_DONE = 0,          /* It was done. */
+    ZK_PENDING = 1,       /* The command is not done yet: call zk_poll. */
+    ZK_NOT_OPEN = 2,      /* The port is not open. */
+    ZK_IS_OPEN = 3,       /* A port is open already. */
+    ZK_NO_MEMORY = 4,     /* malloc refused before anything was done. */
+    ZK_BAD_NAMESPACE = 5, /* There is no namespace of these numbers. */
+    ZK_BAD_PORTS = 6,     /* There are no ports, or more than ZK_MOST_PORTS. */
+    ZK_BAD_LIMIT = 7,     /* The limit is 0, or above ZK_MOST_CHANGES. */
+    ZK_BAD_LENGTH = 8,    /* Entries, data or completions of another length than the command calls for. */
+    ZK_NO_PAIR = 9,       /* Two entries that are not a fused pair. */
+    ZK_BUSY = 10,         /* A command is pending in the port. */
+    ZK_IDLE = 11          /* No command is pending in the port. */
+};
+
+/* A port. Its bytes are the library's own. */
+struct zk_port {
+    uint64_t opaque[2];
+};
+
+/* A port that is not open. */
+#define ZK_PORT_INIT { { 0, 0 } }
+
+/* What a namespace advertises. NABSN, NAWUN and NACWU are zeroes-based, as in Identify Namespace; a NABSN of 0 is
+ * no boundary. A namespace has 1 to 65,536 blocks and at most 4,096 atomic units. */
+struct zk_namespace {
+    uint64_t nsze;       /* blocks */
+    uint32_t block_size; /* bytes of a block */
+    uint16_t nabsn;      /* blocks from one atomic boundary to the next */
+    uint16_t nabo;       /* the LBA of the first boundary */
+    uint16_t nawun;      /* blocks of an atomic write */
+    uint16_t nacwu;      /* blocks of an atomic fused pair */
+};
+
+/* The library's version. Any thread, any time. */
+uint32_t zk_version(void);
+
+/* Opens `count` ports on a new namespace whose blocks are zero bytes. Each atomic unit keeps up to `limit` changes
+ * in its history; a change beyond ends with status 0/06. With `versions` each port keeps what it has seen.
+ * ZK_DONE, ZK_IS_OPEN, ZK_BAD_PORTS, ZK_BAD_NAMESPACE, ZK_BAD_LIMIT or ZK_NO_MEMORY, tried in this order. Where it
+ * is not ZK_DONE, every port is as it was.
+ * Threads: nobody else uses these ports during the call. */
+int zk_open(struct zk_port *ports, size_t count, const struct zk_namespace *ns, uint32_t limit, bool versions);
+
+/* Closes the port, and forgets a pending command, whose parts that were done stay done. The namespace is freed with
+ * its last port. ZK_DONE or ZK_NOT_OPEN: a second close does nothing.
+ * Threads: nobody else uses this port; other ports of the namespace may be in use. */
+int zk_close(struct zk_port *port);
+
+/* Does a command, or as much of it as can be done without waiting.
+ *
+ * `entries` is one submission queue entry of 64 bytes, or two that are a fused Compare and Write. `data` is what the
+ * command carries: the blocks of a Write or a Compare, the ranges of a Dataset Management, for a pair those of the
+ * first entry and then those of the second. For a Read it is room for its blocks. A command without data takes any
+ * pointer that is not NULL, and a length of 0. `completions` is room for a completion queue entry of 16 bytes for
+ * each entry.
+ *
+ * ZK_DONE: the completions are written, and after a Read of status 0/00 its blocks. How the command ended, an unknown
+ * opcode or an LBA out of range included, is the status there. The SQ identifier is the port's place in zk_open,
+ * from 1; the SQ head pointer and the phase tag are 0 and yours to set.
+ * ZK_PENDING: the command stays in the port and nothing was written yet. The entries and data may be reused.
+ * ZK_NOT_OPEN, ZK_BUSY, ZK_BAD_LENGTH, ZK_NO_PAIR, ZK_NO_MEMORY: nothing was done and nothing was written.
+ * Threads: one call at a time on a port; ports of one namespace may be used at the same time. */
+int zk_submit(struct zk_port *port, const uint8_t *entries, size_t entries_length, uint8_t *data, size_t data_length,
+              uint8_t *completions, size_t completions_length);
+
+/* Goes on with the command that is pending in the port. The buffers are as in zk_submit; those of a Read need at
+ * least the room of its blocks, and any other command's data is not looked at.
+ * ZK_DONE and ZK_PENDING as in zk_submit. ZK_NOT_OPEN, ZK_IDLE, ZK_BAD_LENGTH: nothing was done.
+ * Threads: as zk_submit. */
+int zk_poll(struct zk_port *port, uint8_t *data, size_t data_length, uint8_t *completions, size_t completions_length);
+
+/* The command identifier, the status code type and the status code of a completion queue entry. */
+static inline uint16_t zk_cid(const uint8_t *completion)
+{
+    return (uint16_t)(completion[12] | completion[13] << 8);
+}
+
+static inline uint8_t zk_status_type(const uint8_t *completion)
+{
+    return (uint8_t)(completion[15] >> 1 & 7);
+}
+
+static inline uint8_t zk_status_code(const uint8_t *completion)
+{
+    return (uint8_t)((completion[14] | completion[15] << 8) >> 1 & 0xff);
+}
+
+#ifdef __cplusplus
+}
+#endif
+
+#endif
