@@ -42,9 +42,7 @@ pub fn no_host_file(alloc: Global, path: &str, bytes: &[u8]) -> Result<String, A
             )
         }
         Content::Trace => {
-            format!(in alloc;
-                "{name} is a trace: nvmu witness {path} REC judges it by a record"
-            )
+            format!(in alloc; "{name} is a trace: nvmu witness {path} REC judges it by a record")
         }
         Content::HostFile | Content::Unknown => {
             format!(in alloc; "{name} is no host file, which begins with NVQ1")
@@ -70,9 +68,7 @@ pub fn no_record(alloc: Global, path: &str, bytes: &[u8]) -> Result<String, Allo
             )
         }
         Content::Trace => {
-            format!(in alloc;
-                "{name} is a trace: nvmu witness {path} REC judges it by a record"
-            )
+            format!(in alloc; "{name} is a trace: nvmu witness {path} REC judges it by a record")
         }
         Content::Record | Content::Unknown => {
             format!(in alloc; "{name} is no record, which begins with NVR1 or NVR2")
@@ -86,9 +82,7 @@ pub fn no_trace(alloc: Global, path: &str, bytes: &[u8]) -> Result<String, Alloc
     match Content::of(bytes) {
         Content::Empty => format!(in alloc; "{name} is empty, and a trace begins with NVT1"),
         Content::Text => {
-            format!(in alloc;
-                "{name} is text: nvq trace {path} TRACE makes a trace of its lines"
-            )
+            format!(in alloc; "{name} is text: nvq trace {path} TRACE makes a trace of its lines")
         }
         Content::HostFile => {
             format!(in alloc;
@@ -96,9 +90,7 @@ pub fn no_trace(alloc: Global, path: &str, bytes: &[u8]) -> Result<String, Alloc
             )
         }
         Content::Record => {
-            format!(in alloc;
-                "{name} is a record: the trace comes first, and then the record"
-            )
+            format!(in alloc; "{name} is a record: the trace comes first, and then the record")
         }
         Content::Trace | Content::Unknown => {
             format!(in alloc; "{name} is no trace, which begins with NVT1")

@@ -170,12 +170,7 @@ fn witnessed<R: AllocGlobal + Files + Input + Eprint + Threads + Sync>(
     let held = bytes_of(rt, record, progress)?;
     match witness_bytes(rt, rt.alloc(), judging, &seen, &held) {
         Ok(witnessed) => Ok(witnessed),
-        Err(fault) => Err(of_witness(
-            rt.alloc(),
-            fault,
-            (trace, &seen),
-            (record, &held),
-        )),
+        Err(fault) => Err(of_witness(rt.alloc(), fault, (trace, &seen), (record, &held))),
     }
 }
 

@@ -98,7 +98,10 @@ fn record_explains_what_was_seen(rt: HostRuntime) -> Result<(), Fail> {
         Ok(true)
     );
     let kept = read_trace(alloc, &trace_file_of(alloc, &trace)?)?;
-    assert_eq!(rt; is_certified(&rt, alloc, Judging::Strict, &kept, &record), Ok(true));
+    assert_eq!(rt;
+        is_certified(&rt, alloc, Judging::Strict, &kept, &record),
+        Ok(true)
+    );
     let failed = seen(
         alloc,
         namespace()?,
