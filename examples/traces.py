@@ -8,7 +8,7 @@ from host_files import compare, dataset, file_of, pair, read, unknown, write, ze
 from recorded import jobs_of, recorded
 from records import DONE, FAILED, KIND_WRITE, LOOKED, Done, Entry, Record
 from records import spelled as record_bytes
-from trace_files import Seen, Trace, spelled, text_of, trace_bytes
+from trace_files import Seen, Trace, spelled, text_of, trace_bytes, with_seen
 
 HEAD = "expected trace, then nsze, block, nabsn, nabo, nawun, nacwu and first, each with its number, start zeroes or start unknown, and reads whole or reads by-blocks"
 SUCCESS = ((0, 0),)
@@ -24,13 +24,6 @@ def as_recorded(record, **more):
         for number, job in enumerate(record.jobs)
     )
     return Trace(record.namespace, jobs, **more)
-
-
-def other(trace, number, **changed):
-    """The trace with something else seen of one job."""
-    jobs = list(trace.jobs)
-    jobs[number] = replace(jobs[number], **changed)
-    return replace(trace, jobs=tuple(jobs))
 
 
 TRACE = as_recorded(TWO)
@@ -66,23 +59,23 @@ WITNESSED = [
     (TRACE, TWO, explained(3, 3)),
     (replace(TRACE, first=4096), TWO, explained(3, 3)),
     # Time: the first job's entry comes after that of the second, and the Read after both.
-    (other(other(TRACE, 0, began=1, ended=3), 1, began=3, ended=9), TWO, explained(3, 3)),
-    (other(other(TRACE, 0, began=1, ended=2), 1, began=3, ended=9), TWO, unexplained("TimeBack", 0, 0, 1)),
-    (other(TRACE, 2, began=1, ended=19), TWO, unexplained("TimeBack", 2, 0, 2)),
-    (other(TRACE, 2, began=1, ended=20), TWO, explained(3, 3)),
-    (other(TRACE, 1, began=36, ended=37), TWO, unexplained("TimeBack", 0, 0, 1)),
-    (other(TRACE, 1, began=1, ended=None, statuses=()), TWO, explained(3, 3, 1)),
+    (with_seen(with_seen(TRACE, 0, began=1, ended=3), 1, began=3, ended=9), TWO, explained(3, 3)),
+    (with_seen(with_seen(TRACE, 0, began=1, ended=2), 1, began=3, ended=9), TWO, unexplained("TimeBack", 0, 0, 1)),
+    (with_seen(TRACE, 2, began=1, ended=19), TWO, unexplained("TimeBack", 2, 0, 2)),
+    (with_seen(TRACE, 2, began=1, ended=20), TWO, explained(3, 3)),
+    (with_seen(TRACE, 1, began=36, ended=37), TWO, unexplained("TimeBack", 0, 0, 1)),
+    (with_seen(TRACE, 1, began=1, ended=None, statuses=()), TWO, explained(3, 3, 1)),
     # Replies.
-    *((other(TRACE, 2, data=b"\x41" * k + b"\x42" + b"\x41" * (511 - k)), TWO, unexplained("ReplyDiffers", 2)) for k in (0, 1, 255, 511)),
-    (other(TRACE, 2, data=None), TWO, unexplained("ReplyDiffers", 2)),
-    (other(TRACE, 2, data=None, statuses=((2, 0x81),)), TWO, unexplained("ReplyDiffers", 2)),
-    (other(TRACE, 2, data=None, statuses=((0, 6),)), TWO, explained(3, 3, 1)),
-    (other(TRACE, 0, statuses=((0, 6),)), TWO, explained(3, 3, 1)),
-    (other(TRACE, 0, statuses=((0, 0x80),)), TWO, unexplained("ReplyDiffers", 0)),
+    *((with_seen(TRACE, 2, data=b"\x41" * k + b"\x42" + b"\x41" * (511 - k)), TWO, unexplained("ReplyDiffers", 2)) for k in (0, 1, 255, 511)),
+    (with_seen(TRACE, 2, data=None), TWO, unexplained("ReplyDiffers", 2)),
+    (with_seen(TRACE, 2, data=None, statuses=((2, 0x81),)), TWO, unexplained("ReplyDiffers", 2)),
+    (with_seen(TRACE, 2, data=None, statuses=((0, 6),)), TWO, explained(3, 3, 1)),
+    (with_seen(TRACE, 0, statuses=((0, 6),)), TWO, explained(3, 3, 1)),
+    (with_seen(TRACE, 0, statuses=((0, 0x80),)), TWO, unexplained("ReplyDiffers", 0)),
     (Trace(SPACE, tuple(replace(it, statuses=((0, 6),), data=None) for it in TRACE.jobs)), TWO, explained(3, 3, 3)),
     # Jobs and the namespace.
-    (other(TRACE, 1, host=3), TWO, unexplained("JobDiffers", 1)),
-    (other(TRACE, 0, body=(replace(TRACE.jobs[0].body[0], cid=9),)), TWO, unexplained("JobDiffers", 0)),
+    (with_seen(TRACE, 1, host=3), TWO, unexplained("JobDiffers", 1)),
+    (with_seen(TRACE, 0, body=(replace(TRACE.jobs[0].body[0], cid=9),)), TWO, unexplained("JobDiffers", 0)),
     (replace(TRACE, jobs=TRACE.jobs[:2]), TWO, unexplained("NoPreparation", 2)),
     (replace(TRACE, jobs=TRACE.jobs[:2], unknown=True), TWO, unexplained("NoPreparation", 2)),
     (replace(TRACE, namespace=replace(SPACE, nacwu=2)), TWO, unexplained("NamespaceDiffers")),
@@ -97,12 +90,12 @@ WITNESSED = [
     (LONG, recorded(LONG.namespace, [file_of([write(0, *[0x41] * 8)])]), explained(1, 1), "--strict"),
     (LONG, recorded(LONG.namespace, [file_of([write(0, *[0x41] * 8)])]), unexplained("JobDiffers", 0)),
     # A Write over two units that never ended, and a Read of what it did in the first.
-    (other(as_recorded(UNENDED), 0, ended=None, statuses=()), UNENDED, explained(2, 3, 1), "--strict"),
+    (with_seen(as_recorded(UNENDED), 0, ended=None, statuses=()), UNENDED, explained(2, 3, 1), "--strict"),
     # A pair.
     (as_recorded(PAIR), PAIR, explained(1, 1)),
-    (other(as_recorded(PAIR), 0, statuses=((2, 0x81), (0, 9))), PAIR, unexplained("ReplyDiffers", 0)),
-    (other(as_recorded(PAIR), 0, statuses=((2, 0x85), (0, 0))), PAIR, unexplained("ReplyDiffers", 0)),
-    (other(as_recorded(PAIR), 0, statuses=((0, 6), (0, 6))), PAIR, explained(1, 1, 1)),
+    (with_seen(as_recorded(PAIR), 0, statuses=((2, 0x81), (0, 9))), PAIR, unexplained("ReplyDiffers", 0)),
+    (with_seen(as_recorded(PAIR), 0, statuses=((2, 0x85), (0, 0))), PAIR, unexplained("ReplyDiffers", 0)),
+    (with_seen(as_recorded(PAIR), 0, statuses=((0, 6), (0, 6))), PAIR, explained(1, 1, 1)),
 ]
 
 # Jobs of all kinds, with other identifiers, namespaces and replies.

@@ -1,7 +1,7 @@
 """Traces as files and as text, by the tables of docs/FORMATS.md. It knows nothing of how the programs are made."""
 
 import struct
-from dataclasses import dataclass
+from dataclasses import dataclass, replace
 from itertools import groupby
 
 from model import COMPARE, DATASET, NAMES, WRITE, Namespace
@@ -98,3 +98,25 @@ def text_of(trace):
     start, reads = "unknown" if trace.unknown else "zeroes", "by-blocks" if trace.by_blocks else "whole"
     head = f"trace {numbers} first {trace.first} start {start} reads {reads}\n"
     return head + "".join(f"{seen_text(seen)}\n" for seen in trace.jobs)
+
+
+def in_turn(record, **more):
+    """What hosts would have seen of a record by one worker: each job began after the one before it had ended."""
+    done = {it.job: it for jobs in record.done for it in jobs}
+    jobs = tuple(
+        Seen(job.host, job.body, 10 * number + 10, 10 * number + 15, done[number].statuses, done[number].data)
+        for number, job in enumerate(record.jobs)
+    )
+    return Trace(record.namespace, jobs, **more)
+
+
+def with_seen(trace, number, **changed):
+    """The trace with something else seen of one job."""
+    jobs = list(trace.jobs)
+    jobs[number] = replace(jobs[number], **changed)
+    return replace(trace, jobs=tuple(jobs))
+
+
+def no_trace(path, content):
+    """What stands below the line of a file that is no trace, as far as it is swept."""
+    return f"{path} is empty, and a trace begins with NVT1" if not content else f"{path} is no trace, which begins with NVT1"
