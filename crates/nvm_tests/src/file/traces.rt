@@ -133,6 +133,7 @@ fn each_fault_is_told_with_its_offset(rt: HostRuntime) -> Result<(), Fail> {
 fn no_front_of_a_file_is_one(rt: HostRuntime) -> Result<(), Fail> {
     let alloc = rt.alloc();
     let file = Payload::new(alloc, bytes_of_four_jobs(alloc)?)?;
+    assert_eq!(rt; file.len(), 2509);
     assert_eq!(rt;
         read_trace(alloc, &file.part(0, 3)?).err(),
         Some(TraceFileFault::BadName)
