@@ -91,7 +91,7 @@ static int refusals(void)
 {
     struct zk_namespace ns = { 64, BLOCK, 7, 0, 7, 7 }, none = { 0, BLOCK, 0, 0, 0, 0 };
     struct zk_port ports[2] = { ZK_PORT_INIT, ZK_PORT_INIT };
-    uint8_t entries[2 * ZK_ENTRY_BYTES], told[2 * ZK_COMPLETION_BYTES], block[BLOCK] = { 0 };
+    uint8_t entries[2 * ZK_ENTRY_BYTES], told[2 * ZK_COMPLETION_BYTES], block[BLOCK] = { 0 }, blocks[2 * BLOCK];
     struct zk_port *port = &ports[0];
     entry_of(entries, READ, 0, 1, 0);
     entry_of(entries + ZK_ENTRY_BYTES, READ, 0, 2, 0);
@@ -118,9 +118,26 @@ static int refusals(void)
     entry_of(entries, READ, 0, 1, 64);
     MUST(zk_submit(port, entries, 64, block, BLOCK, told, 16), ZK_DONE);
     MUST(zk_status_code(told), 0x80);
+    struct zk_status status;
+    MUST(zk_read_now(port, 0, 0, block, BLOCK, &status), ZK_DONE);
+    MUST(status.type + status.code, 0);
+    MUST(zk_read_now(port, 0, 0, block, BLOCK - 1, &status), ZK_BAD_LENGTH);
+    MUST(zk_read_now(port, 64, 0, block, BLOCK, &status), ZK_OUT_OF_RANGE);
+    MUST(zk_read_now(port, 7, 1, blocks, sizeof blocks, &status), ZK_CROSSES);
+    entry_of(entries, WRITE, 0, 3, 0);
+    block[0] = 0xa5;
+    MUST(zk_submit(&ports[1], entries, 64, block, BLOCK, told, 16), ZK_DONE);
+    MUST(zk_read_now(port, 0, 0, block, BLOCK, &status), ZK_NEWER);
+    block[0] = 0;
+    MUST(zk_read_now(&ports[1], 0, 0, block, BLOCK, &status), ZK_DONE);
+    MUST(block[0], 0xa5);
     MUST(zk_close(port), ZK_DONE);
     MUST(zk_close(port), ZK_NOT_OPEN);
+    MUST(zk_read_now(port, 0, 0, block, BLOCK, &status), ZK_NOT_OPEN);
     MUST(zk_close(&ports[1]), ZK_DONE);
+    MUST(zk_open(ports, 1, &ns, 100, false), ZK_DONE);
+    MUST(zk_read_now(port, 0, 0, block, BLOCK, &status), ZK_NO_VERSIONS);
+    MUST(zk_close(port), ZK_DONE);
     return 0;
 }
 

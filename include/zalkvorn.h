@@ -35,7 +35,7 @@ extern "C" {
 #define ZK_ENTRY_BYTES 64
 #define ZK_COMPLETION_BYTES 16
 
-/* What a call answers. Only ZK_DONE and ZK_PENDING change anything. */
+/* What a call answers. Only with ZK_DONE and ZK_PENDING was anything done, and only with ZK_DONE is anything written. */
 enum zk_code {
     ZK_DONE = 0,          /* It was done. */
     ZK_PENDING = 1,       /* The command is not done yet: call zk_poll. */
@@ -48,7 +48,11 @@ enum zk_code {
     ZK_BAD_LENGTH = 8,    /* Entries, data or completions of another length than the command calls for. */
     ZK_NO_PAIR = 9,       /* Two entries that are not a fused pair. */
     ZK_BUSY = 10,         /* A command is pending in the port. */
-    ZK_IDLE = 11          /* No command is pending in the port. */
+    ZK_IDLE = 11,         /* No command is pending in the port. */
+    ZK_NEWER = 12,        /* Another port has changed the unit since this one has seen it. */
+    ZK_OUT_OF_RANGE = 13, /* The range ends above the namespace. */
+    ZK_CROSSES = 14,      /* The range lies in more than one atomic unit. */
+    ZK_NO_VERSIONS = 15   /* The namespace was opened without versions. */
 };
 
 /* A port. Its bytes are the library's own. */
@@ -74,7 +78,8 @@ struct zk_namespace {
 uint32_t zk_version(void);
 
 /* Opens `count` ports on a new namespace whose blocks are zero bytes. Each atomic unit keeps up to `limit` changes
- * in its history; a change beyond ends with status 0/06. With `versions` each port keeps what it has seen.
+ * in its history; a change beyond ends with status 0/06. With `versions` each port keeps what it has seen, for
+ * zk_read_now.
  * ZK_DONE, ZK_IS_OPEN, ZK_BAD_PORTS, ZK_BAD_NAMESPACE, ZK_BAD_LIMIT or ZK_NO_MEMORY, tried in this order. Where it
  * is not ZK_DONE, every port is as it was.
  * Threads: nobody else uses these ports during the call. */
@@ -107,6 +112,21 @@ int zk_submit(struct zk_port *port, const uint8_t *entries, size_t entries_lengt
  * ZK_DONE and ZK_PENDING as in zk_submit. ZK_NOT_OPEN, ZK_IDLE, ZK_BAD_LENGTH: nothing was done.
  * Threads: as zk_submit. */
 int zk_poll(struct zk_port *port, uint8_t *data, size_t data_length, uint8_t *completions, size_t completions_length);
+
+/* How a Read ended that zk_read_now answers: 0/00 with its blocks, or 2/81 without. */
+struct zk_status {
+    uint8_t type;
+    uint8_t code;
+};
+
+/* Answers a Read of `nlb` + 1 blocks inside one atomic unit from what the port keeps, without taking the unit: even
+ * while another port has it. The port has to have seen the unit's last change; a command of its own on the unit brings
+ * it up. `data` is room for exactly these blocks.
+ * ZK_DONE: the status is written, and with 0/00 the blocks. ZK_NEWER, ZK_OUT_OF_RANGE, ZK_CROSSES, ZK_NO_VERSIONS,
+ * ZK_NO_MEMORY, ZK_BAD_LENGTH, ZK_NOT_OPEN, ZK_BUSY: nothing was written.
+ * Threads: as zk_submit. */
+int zk_read_now(struct zk_port *port, uint64_t slba, uint16_t nlb, uint8_t *data, size_t data_length,
+                struct zk_status *status);
 
 /* The command identifier, the status code type and the status code of a completion queue entry. */
 static inline uint16_t zk_cid(const uint8_t *completion)

@@ -5,7 +5,7 @@ use Rattle.nvm_space.specs.UnderWay.{IsUnderWay}
 use Rattle.nvm_c.specs.Engines.{namespace_of, seen_by}
 use Rattle.nvm_c.specs.Submitted.{Buffers, Begins, GoesOn, Polls, Submits}
 use Rattle.nvm_c.specs.declared.code.Code.{Code}
-use Rattle.nvm_c.specs.declared.code.Code.TheVariants.{Done, Pending, NotOpen, IsOpen, NoMemory, BadNamespace, BadPorts, BadLimit, BadLength, NoPair, Busy, Idle}
+use Rattle.nvm_c.specs.declared.code.Code.TheVariants.{Done, Pending, NotOpen, IsOpen, NoMemory, BadNamespace, BadPorts, BadLimit, BadLength, NoPair, Busy, Idle, Newer, OutOfRange, Crosses, NoVersions}
 use Rattle.nvm_c.specs.declared.engine.Engine.{Engine}
 use Rattle.nvm_c.specs.declared.engine.Pending.{Pending as PendingJob}
 
@@ -23,6 +23,10 @@ submits_of BadLength e e' entries old new none begins = absurd begins.progress
 submits_of NoPair e e' entries old new none begins = absurd begins.progress
 submits_of Busy e e' entries old new none begins = absurd begins.progress
 submits_of Idle e e' entries old new none begins = absurd begins.progress
+submits_of Newer e e' entries old new none begins = absurd begins.progress
+submits_of OutOfRange e e' entries old new none begins = absurd begins.progress
+submits_of Crosses e e' entries old new none begins = absurd begins.progress
+submits_of NoVersions e e' entries old new none begins = absurd begins.progress
 
 module _ (e e' : Engine) (p : PendingJob) (old new : Buffers) (is : e.pending ≡ Some p)
     (under : (start : List PassView) × IsUnderWay (namespace_of e) p.job p.under_way start (seen_by e)) where
@@ -39,3 +43,7 @@ module _ (e e' : Engine) (p : PendingJob) (old new : Buffers) (is : e.pending �
   polls_of NoPair goes = absurd (goes.progress under.0 under.1)
   polls_of Busy goes = absurd (goes.progress under.0 under.1)
   polls_of Idle goes = absurd (goes.progress under.0 under.1)
+  polls_of Newer goes = absurd (goes.progress under.0 under.1)
+  polls_of OutOfRange goes = absurd (goes.progress under.0 under.1)
+  polls_of Crosses goes = absurd (goes.progress under.0 under.1)
+  polls_of NoVersions goes = absurd (goes.progress under.0 under.1)

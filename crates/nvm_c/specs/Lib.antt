@@ -7,3 +7,4 @@ pub mod Refused
 pub mod Told
 pub mod Submitted
 pub mod Exports
+pub mod ReadNow

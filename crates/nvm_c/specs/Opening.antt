@@ -9,7 +9,7 @@ use Rattle.nvm_space.specs.Ports.{PortState, new_ports}
 use Rattle.nvm_space.specs.Spaces.{SpaceName, IsLaidOut, IsPortCount}
 use Rattle.nvm_c.specs.Engines.{EngineState, state_of}
 use Rattle.nvm_c.specs.declared.code.Code.{Code}
-use Rattle.nvm_c.specs.declared.code.Code.TheVariants.{Done, Pending, NotOpen, IsOpen, NoMemory, BadNamespace, BadPorts, BadLimit, BadLength, NoPair, Busy, Idle}
+use Rattle.nvm_c.specs.declared.code.Code.TheVariants.{Done, Pending, NotOpen, IsOpen, NoMemory, BadNamespace, BadPorts, BadLimit, BadLength, NoPair, Busy, Idle, Newer, OutOfRange, Crosses, NoVersions}
 use Rattle.nvm_c.specs.declared.engine.Engine.{Engine}
 use Rattle.nvm_c.specs.declared.handle.Handle.{Handle}
 use Rattle.nvm_c.specs.declared.opening.Numbers.{Numbers}
@@ -60,3 +60,7 @@ Opens BadLength ns limit versions old new = ⊥
 Opens NoPair ns limit versions old new = ⊥
 Opens Busy ns limit versions old new = ⊥
 Opens Idle ns limit versions old new = ⊥
+Opens Newer ns limit versions old new = ⊥
+Opens OutOfRange ns limit versions old new = ⊥
+Opens Crosses ns limit versions old new = ⊥
+Opens NoVersions ns limit versions old new = ⊥

@@ -10,7 +10,7 @@ use Rattle.nvm_c.specs.Asked.{IsAsked}
 use Rattle.nvm_c.specs.Engines.{space_of, namespace_of, seen_by}
 use Rattle.nvm_c.specs.Told.{AreTold}
 use Rattle.nvm_c.specs.declared.code.Code.{Code}
-use Rattle.nvm_c.specs.declared.code.Code.TheVariants.{Done, Pending, NotOpen, IsOpen, NoMemory, BadNamespace, BadPorts, BadLimit, BadLength, NoPair, Busy, Idle}
+use Rattle.nvm_c.specs.declared.code.Code.TheVariants.{Done, Pending, NotOpen, IsOpen, NoMemory, BadNamespace, BadPorts, BadLimit, BadLength, NoPair, Busy, Idle, Newer, OutOfRange, Crosses, NoVersions}
 use Rattle.nvm_c.specs.declared.engine.Engine.{Engine}
 use Rattle.nvm_c.specs.declared.engine.Pending.{Pending as PendingJob}
 
@@ -50,6 +50,10 @@ Progresses BadLength ns number job start now pending old new = ⊥
 Progresses NoPair ns number job start now pending old new = ⊥
 Progresses Busy ns number job start now pending old new = ⊥
 Progresses Idle ns number job start now pending old new = ⊥
+Progresses Newer ns number job start now pending old new = ⊥
+Progresses OutOfRange ns number job start now pending old new = ⊥
+Progresses Crosses ns number job start now pending old new = ⊥
+Progresses NoVersions ns number job start now pending old new = ⊥
 
 -- A job that the entries ask for was begun, as the next of the engine, and gone on with.
 pub record Begins (code : Code) (e e' : Engine) (entries : List ℕ) (old new : Buffers) : Type 0 where
@@ -84,6 +88,10 @@ Submits BadLength e e' entries old new = IsRefused e e' old new
 Submits NoPair e e' entries old new = IsRefused e e' old new
 Submits Busy e e' entries old new = IsRefused e e' old new × ((p : PendingJob) × (e.pending ≡ Some p))
 Submits Idle e e' entries old new = ⊥
+Submits Newer e e' entries old new = ⊥
+Submits OutOfRange e e' entries old new = ⊥
+Submits Crosses e e' entries old new = ⊥
+Submits NoVersions e e' entries old new = ⊥
 
 -- what a poll does
 abbrev pub Polls : Code → Engine → Engine → Buffers → Buffers → Type 0
@@ -99,3 +107,7 @@ Polls BadLength e e' old new = IsRefused e e' old new
 Polls NoPair e e' old new = ⊥
 Polls Busy e e' old new = ⊥
 Polls Idle e e' old new = IsRefused e e' old new × (e.pending ≡ None)
+Polls Newer e e' old new = ⊥
+Polls OutOfRange e e' old new = ⊥
+Polls Crosses e e' old new = ⊥
+Polls NoVersions e e' old new = ⊥

@@ -28,6 +28,14 @@ pub enum Code {
     Busy,
     /// No job is pending in the port.
     Idle,
+    /// Another port has changed the unit since this one has seen it.
+    Newer,
+    /// The range ends above the namespace.
+    OutOfRange,
+    /// The range lies in more than one unit.
+    Crosses,
+    /// The namespace was opened without versions.
+    NoVersions,
 }
 
 impl Code {
@@ -48,6 +56,10 @@ impl Code {
             Code::NoPair => 9,
             Code::Busy => 10,
             Code::Idle => 11,
+            Code::Newer => 12,
+            Code::OutOfRange => 13,
+            Code::Crosses => 14,
+            Code::NoVersions => 15,
         }
     }
 }

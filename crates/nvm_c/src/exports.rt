@@ -3,11 +3,13 @@ ghost use Rattle.std.specs.Prelude.{◌≡◌};
 ghost use Rattle.nvm_c.specs.Codes.{number_of};
 ghost use Rattle.nvm_c.specs.Exports.{Closes, PollsAt, SubmitsAt};
 ghost use Rattle.nvm_c.specs.Opening.{Opens, numbers_of};
+ghost use Rattle.nvm_c.specs.ReadNow.{ReadsAt};
 ghost use Rattle.nvm_c.specs.declared.code.Code.{Code as Answer};
 
 use crate::code::Code;
 use crate::handle::Handle;
 use crate::opening::{Numbers, open_ports};
+use crate::reading::ReadStatus;
 use std::alloc::Global;
 
 /// The version of the header that goes with this library.
@@ -73,6 +75,42 @@ pub extern "C" fn zk_poll(
         (record { bytes = data.old; posted = completions.old }) (record { bytes = data.new; posted = completions.new }) }
 {
     polled(alloc, port, data, completions).number()
+}
+
+/// Answers a Read of `nlb + 1` blocks without a wait, from what the port keeps.
+#[unsafe(no_mangle)]
+pub extern "C" fn zk_read_now(
+    alloc: Global,
+    port: &mut Handle,
+    slba: u64,
+    nlb: u16,
+    buffer: &mut [u8],
+    status: &mut ReadStatus,
+) -> i32
+    ensures { (code : Answer) × (result ≡ number_of code)
+        × ReadsAt code port.old.held.engine port.new.held.engine slba nlb
+        (record { bytes = buffer.old; status = status.old }) (record { bytes = buffer.new; status = status.new }) }
+{
+    read_now(alloc, port, slba, nlb, buffer, status).number()
+}
+
+fn read_now(
+    alloc: Global,
+    port: &mut Handle,
+    slba: u64,
+    nlb: u16,
+    buffer: &mut [u8],
+    status: &mut ReadStatus,
+) -> Code
+    ensures { ReadsAt result port.old.held.engine port.new.held.engine slba nlb
+        (record { bytes = buffer.old; status = status.old }) (record { bytes = buffer.new; status = status.new }) }
+{
+    let Some(mut engine) = port.take(alloc) else {
+        return Code::NotOpen;
+    };
+    let code = engine.read_now(alloc, slba, nlb, buffer, status);
+    port.put(engine);
+    code
 }
 
 fn closed(alloc: Global, port: &mut Handle) -> Code

@@ -11,4 +11,5 @@ mod exports;
 mod handle;
 mod opening;
 mod quiet;
+mod reading;
 mod telling;

@@ -47,7 +47,7 @@ fn post(completion: &Completion, place: &mut [u8])
 }
 
 /// Writes the bytes into the front of the buffer, as far as it reaches.
-fn overwrite(buffer: &mut [u8], bytes: &[u8])
+pub(crate) fn overwrite(buffer: &mut [u8], bytes: &[u8])
     ensures { buffer.new ≡ overwritten bytes.now buffer.old }
 {
     if bytes.len() < buffer.len() {

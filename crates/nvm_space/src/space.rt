@@ -133,6 +133,13 @@ impl Space {
         self.limit
     }
 
+    /// Whether it was opened with versions.
+    pub fn versions(&self) -> bool
+        ensures { result ≡ self.now.versions }
+    {
+        self.versions
+    }
+
     /// Brings the port's pass of the unit to the history that it finds. It waits for the unit, and takes no
     /// memory.
     pub fn refresh<R: Wait>(&self, rt: &R, port: &mut Port, unit: u16)
