@@ -5,7 +5,6 @@ use Rattle.std.proofs.lemmas.List.{length-take}
 use Rattle.std.proofs.lemmas.List.Elements.{All-nil, All-cons}
 use mathlib.Core.Option.{some-injective, some-ne-none}
 use Rattle.nvm_record.specs.Lists.{IsAt}
-use Rattle.nvm_file.specs.declared.record_fault.RecordFault.{RecordFault}
 use Rattle.nvm_file.specs.declared.record_fault.RecordFault.TheVariants.{Truncated, BadValue}
 use Rattle.nvm_file.specs.Fields.{◌>>=◌, offset, refused, bytes_at, number_at, number_in, number_below, items_at}
 

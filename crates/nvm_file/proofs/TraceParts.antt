@@ -1,5 +1,5 @@
 -- What is known of a value that was read of a trace's file, and codes that are read again.
-use Rattle.std.proofs.Common.{◌≡◌, ℕ, zero, suc, ◌≤◌, List, [], ◌∷◌, ◌++◌, Result, Ok, Err, refl, ap, arith}
+use Rattle.std.proofs.Common.{◌≡◌, ℕ, zero, suc, ◌≤◌, List, [], ◌∷◌, Result, Ok, Err, refl, ap, arith}
 use Rattle.byteorder.specs.Endian.{little_bytes}
 use Rattle.nvm_trace.specs.declared.reads.Reads.{Reads}
 use Rattle.nvm_trace.specs.declared.reads.Reads.TheVariants.{Whole, ByBlocks}

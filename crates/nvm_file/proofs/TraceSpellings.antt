@@ -24,7 +24,6 @@ use Rattle.nvm_file.specs.TracedJobReading.{began_at, ended_at, ended_by, ending
 use Rattle.nvm_file.specs.TraceHeadReading.{trace_frame_with, reads_of, start_of, trace_head_at, trace_name, trace_name_at}
 use Rattle.nvm_file.specs.TraceReading.{trace_at, trace_behind, trace_with, whole_trace}
 use Rattle.nvm_file.specs.TraceSpelling.{ended_bytes, ending_bytes, reads_byte, start_byte, trace_bytes, traced_bytes}
-use Rattle.nvm_file.specs.WorkSpelling.{payload_bytes, statuses_bytes}
 use Rattle.nvm_file.proofs.CommandSpellings.{job_takes}
 use Rattle.nvm_file.proofs.DoneSpellings.{payload_takes, statuses_take}
 use Rattle.nvm_file.proofs.FieldSpellings.{Takes, and_then, dropped, how_many, in_takes, items_take, number_takes, spelled_as}

@@ -1,5 +1,5 @@
 -- The trace that is read is one that a trace can hold.
-use Rattle.std.proofs.Common.{◌≡◌, inl, inr, ℕ, ◌*◌, ◌+◌, ◌≤◌, ◌==◌, ltb, cond, List, length, All, Option, Some, None, Ok, Err, refl, sym, ap, subst, ◌∙◌, arith}
+use Rattle.std.proofs.Common.{◌≡◌, inl, inr, ℕ, ◌*◌, ◌+◌, ◌≤◌, ◌==◌, ltb, cond, List, length, All, Option, Some, None, Ok, Err, refl, sym, subst, arith}
 use Rattle.std.specs.Prelude.{IfSome}
 use Rattle.std.proofs.lemmas.Bool.{eqb-false, ltb-false}
 use Rattle.std.proofs.lemmas.Option.{same_Some}
@@ -10,16 +10,13 @@ use Rattle.nvm_geometry.specs.Namespace.{Namespace}
 use Rattle.nvm_plan.specs.declared.job.Body.{Body}
 use Rattle.nvm_plan.specs.declared.job.Body.TheVariants.{Single, Pair}
 use Rattle.nvm_plan.specs.declared.job.Job.{Job}
-use Rattle.nvm_plan.specs.Fits.{FitsNamespace}
 use Rattle.nvm_plan.specs.Operation.{fused_operation, operation_of_body, single_operation}
-use Rattle.nvm_plan.specs.Shape.{IsForEach}
 use Rattle.nvm_audit.specs.declared.version.Version.{Version}
 use Rattle.nvm_audit.specs.declared.version.Version.TheVariants.{Two}
 use Rattle.nvm_audit.specs.Recordable.{HoldsBody, most_jobs}
 use Rattle.nvm_trace.specs.declared.traced_job.Ending.{Ending}
 use Rattle.nvm_trace.specs.declared.traced_job.TracedJob.{TracedJob}
 use Rattle.nvm_trace.specs.Traceable.{IsDataOf, IsEndingOf, IsTraceable, IsTraceableJob}
-use Rattle.nvm_trace.specs.TraceView.{TraceView}
 use Rattle.nvm_file.specs.declared.scope.Scope.{Scope}
 use Rattle.nvm_file.specs.declared.trace_file_fault.TraceFileFault.TheVariants.{BeganAtZero, EndedBefore}
 use Rattle.nvm_file.specs.declared.trace_frame.TraceFrame.{TraceFrame}

@@ -1,5 +1,5 @@
 -- A trace is read of its spelling.
-use Rattle.std.proofs.Common.{◌≡◌, ℕ, ◌*◌, ◌+◌, ◌^◌, ◌<◌, ◌≤◌, List, [], ◌∷◌, ◌++◌, length, append-nil, append_assoc, All, Option, Some, None, Ok, refl, sym, ap, ◌∙◌, arith}
+use Rattle.std.proofs.Common.{◌≡◌, ℕ, ◌^◌, ◌<◌, ◌≤◌, List, [], ◌∷◌, ◌++◌, length, append-nil, append_assoc, All, Option, Some, None, Ok, refl, sym, ap, ◌∙◌, arith}
 use Rattle.std.specs.Prelude.{IfSome}
 use Rattle.std.specs.List.{flat_map}
 use Rattle.std.proofs.lemmas.Bool.{le-ltb, ne_eqb}
@@ -28,9 +28,9 @@ use Rattle.nvm_file.specs.HeadSpelling.{namespace_bytes}
 use Rattle.nvm_file.specs.JobSpelling.{job_bytes}
 use Rattle.nvm_file.specs.TracedJobReading.{began_at, ended_at, ended_by, ending_at, never, seen_at, traced_at}
 use Rattle.nvm_file.specs.TraceFits.{EndingFits, TraceFits, TracedJobFits}
-use Rattle.nvm_file.specs.TraceHeadReading.{reads_of, start_of, trace_head_at, trace_name, trace_name_at}
+use Rattle.nvm_file.specs.TraceHeadReading.{reads_of, trace_head_at, trace_name, trace_name_at}
 use Rattle.nvm_file.specs.TraceReading.{trace_at, trace_behind}
-use Rattle.nvm_file.specs.TraceSpelling.{ended_bytes, ending_bytes, reads_byte, start_byte, trace_bytes, trace_head_bytes, traced_bytes}
+use Rattle.nvm_file.specs.TraceSpelling.{ended_bytes, reads_byte, start_byte, trace_bytes, trace_head_bytes, traced_bytes}
 use Rattle.nvm_file.specs.WorkSpelling.{payload_bytes, statuses_bytes}
 use Rattle.nvm_file.proofs.DoneReturn.{none_returns, some_returns, statuses_return}
 use Rattle.nvm_file.proofs.HeadsReturn.{judged_valid, numbers_return}

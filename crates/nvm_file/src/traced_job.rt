@@ -20,7 +20,7 @@ use std::alloc::Global;
 const LEAST_BYTES: usize = 83;
 
 /// The time of an end that wasn't seen.
-const NEVER: u64 = u64::MAX;
+pub const NEVER: u64 = u64::MAX;
 
 /// So many jobs, each at the place of its number. The data of their commands is shared with the file.
 pub fn traced_jobs_of<'a>(

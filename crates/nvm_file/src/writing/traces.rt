@@ -13,14 +13,12 @@ use super::done_jobs::{write_payload, write_statuses};
 use super::head::namespace_bytes;
 use super::jobs::write_job;
 use crate::laws::spellings_are_traces;
+use crate::traced_job::NEVER;
 use byteorder::{ByteOrder, LittleEndian};
 use nvm_trace::{Ending, Reads, Start, Trace, TracedJob};
 use nvm_write::hand;
 use std::io;
 use std::io::{ErrorKind, Write};
-
-/// The time of an end that wasn't seen.
-const NEVER: u64 = u64::MAX;
 
 /// Writes the trace as a file, piece by piece. It takes no memory of its own, however large the trace is. Most pieces are of a
 /// few bytes, so hand it a [`BufWriter`](std::io::BufWriter) where each write costs. It doesn't flush.

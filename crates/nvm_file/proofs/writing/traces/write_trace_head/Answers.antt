@@ -1,4 +1,4 @@
-use Rattle.std.proofs.Common.{◌++◌, [], ◌∷◌, ap, refl, subst}
+use Rattle.std.proofs.Common.{◌++◌, ap, refl, subst}
 use Rattle.std.specs.Io.KnownBytes.{Appends}
 use Rattle.nvm_write.specs.Handed.{TakesFront}
 use Rattle.nvm_file.specs.HeadSpelling.{namespace_bytes}
