@@ -98,6 +98,7 @@ static int refusals(void)
 #define MUST(call, code) do { int got = (call); if (got != (code)) { \
         fprintf(stderr, "%s: %d, not %d\n", #call, got, (int)(code)); return 1; } } while (0)
     MUST(zk_close(port), ZK_NOT_OPEN);
+    MUST(zk_identify(port, block, BLOCK), ZK_NOT_OPEN);
     MUST(zk_submit(port, entries, 64, block, BLOCK, told, 16), ZK_NOT_OPEN);
     MUST(zk_poll(port, block, BLOCK, told, 16), ZK_NOT_OPEN);
     MUST(zk_open(ports, 0, &ns, 100, true), ZK_BAD_PORTS);
@@ -118,6 +119,14 @@ static int refusals(void)
     entry_of(entries, READ, 0, 1, 64);
     MUST(zk_submit(port, entries, 64, block, BLOCK, told, 16), ZK_DONE);
     MUST(zk_status_code(told), 0x80);
+    static uint8_t identity[ZK_IDENTIFY_BYTES];
+    MUST(zk_identify(port, identity, sizeof identity - 1), ZK_BAD_LENGTH);
+    memset(identity, 0xff, sizeof identity);
+    MUST(zk_identify(port, identity, sizeof identity), ZK_DONE);
+    MUST(identity[0], 64);
+    MUST(identity[24], 2);
+    MUST(identity[34] + identity[38] + identity[40] + identity[42], 7 + 7 + 7 + 0);
+    MUST(identity[ZK_IDENTIFY_BYTES - 1], 0);
     struct zk_status status;
     MUST(zk_read_now(port, 0, 0, block, BLOCK, &status), ZK_DONE);
     MUST(status.type + status.code, 0);

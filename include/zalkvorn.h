@@ -35,6 +35,9 @@ extern "C" {
 #define ZK_ENTRY_BYTES 64
 #define ZK_COMPLETION_BYTES 16
 
+/* The bytes of an Identify Namespace data structure. */
+#define ZK_IDENTIFY_BYTES 4096
+
 /* What a call answers. Only with ZK_DONE and ZK_PENDING was anything done, and only with ZK_DONE is anything written. */
 enum zk_code {
     ZK_DONE = 0,          /* It was done. */
@@ -112,6 +115,13 @@ int zk_submit(struct zk_port *port, const uint8_t *entries, size_t entries_lengt
  * ZK_DONE and ZK_PENDING as in zk_submit. ZK_NOT_OPEN, ZK_IDLE, ZK_BAD_LENGTH: nothing was done.
  * Threads: as zk_submit. */
 int zk_poll(struct zk_port *port, uint8_t *data, size_t data_length, uint8_t *completions, size_t completions_length);
+
+/* Writes the Identify Namespace data structure of the port's namespace: NSZE, NAWUN, NACWU, NABSN and NABO at their
+ * places, and bit 1 of NSFEAT, which says that the namespace has atomic limits of its own. All other bytes are 0, and
+ * yours to set. `data` is ZK_IDENTIFY_BYTES long.
+ * ZK_DONE. ZK_NOT_OPEN, ZK_BAD_LENGTH: nothing was written.
+ * Threads: as zk_submit. */
+int zk_identify(struct zk_port *port, uint8_t *data, size_t data_length);
 
 /* How a Read ended that zk_read_now answers: 0/00 with its blocks, or 2/81 without. */
 struct zk_status {

@@ -8,3 +8,4 @@ pub mod Told
 pub mod Submitted
 pub mod Exports
 pub mod ReadNow
+pub mod Identify

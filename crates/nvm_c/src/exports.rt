@@ -2,12 +2,14 @@
 ghost use Rattle.std.specs.Prelude.{◌≡◌};
 ghost use Rattle.nvm_c.specs.Codes.{number_of};
 ghost use Rattle.nvm_c.specs.Exports.{Closes, PollsAt, SubmitsAt};
+ghost use Rattle.nvm_c.specs.Identify.{IdentifiesAt};
 ghost use Rattle.nvm_c.specs.Opening.{Opens, numbers_of};
 ghost use Rattle.nvm_c.specs.ReadNow.{ReadsAt};
 ghost use Rattle.nvm_c.specs.declared.code.Code.{Code as Answer};
 
 use crate::code::Code;
 use crate::handle::Handle;
+use crate::identify::{IDENTIFY_BYTES, identify};
 use crate::opening::{Numbers, open_ports};
 use crate::reading::ReadStatus;
 use std::alloc::Global;
@@ -111,6 +113,30 @@ fn read_now(
     let code = engine.read_now(alloc, slba, nlb, buffer, status);
     port.put(engine);
     code
+}
+
+/// Writes the Identify Namespace data structure of the port's namespace, 4,096 bytes.
+#[unsafe(no_mangle)]
+pub extern "C" fn zk_identify(alloc: Global, port: &mut Handle, buffer: &mut [u8]) -> i32
+    ensures { (code : Answer) × (result ≡ number_of code)
+        × IdentifiesAt code port.old.held.engine port.new.held.engine buffer.old buffer.new }
+{
+    identified(alloc, port, buffer).number()
+}
+
+fn identified(alloc: Global, port: &mut Handle, buffer: &mut [u8]) -> Code
+    ensures { IdentifiesAt result port.old.held.engine port.new.held.engine buffer.old buffer.new }
+{
+    let Some(engine) = port.take(alloc) else {
+        return Code::NotOpen;
+    };
+    let geometry = engine.space.geometry();
+    port.put(engine);
+    if buffer.len() != IDENTIFY_BYTES {
+        return Code::BadLength;
+    }
+    identify(geometry, buffer);
+    Code::Done
 }
 
 fn closed(alloc: Global, port: &mut Handle) -> Code

@@ -60,12 +60,16 @@ fn unsealed(held: Held) -> Address<Engine, Global>
     }
 }
 
+/// Asks that the value may go to another thread, since C may take a port there.
+fn may_change_threads<T: Send>(_value: &T) {}
+
 impl Handle {
     /// A handle on the engine.
     pub(crate) fn of(engine: Box<Engine>) -> Handle
         requires { IsSound engine.value }
         ensures { result.held.engine ≡ Some engine.value }
     {
+        may_change_threads(&*engine);
         Handle {
             is_open: true,
             held: sealed(address_of(engine)),

@@ -9,6 +9,7 @@ mod code;
 mod engine;
 mod exports;
 mod handle;
+mod identify;
 mod opening;
 mod quiet;
 mod reading;
