@@ -28,12 +28,12 @@ from_least least expected (Some n) = if nat_le least n then Ok n else Err expect
 abbrev pub field : ℕ → ℕ → TraceExpected → List (List ℕ) → Result (ℕ × List (List ℕ)) TraceExpected
 field least most expected words = from_least least expected (number most (first words)) >>= λ n. Ok (n, others words)
 
--- when it ended, or `-`, and the words behind
+-- when it ended, or `-`, and the words behind; the last number of 64 bits is no such time, since in a file it stands for no end
 abbrev pub end_time : List (List ℕ) → Result (Option ℕ × List (List ℕ)) TraceExpected
 end_time words =
     if bytes_eq (first words) (codes "-")
     then Ok (None, others words)
-    else (field 0 18446744073709551615 expecting.Ended words >>= λ t. Ok (Some t.0, t.1))
+    else (field 0 18446744073709551614 expecting.Ended words >>= λ t. Ok (Some t.0, t.1))
 
 -- a command behind its identifier; a word `cid=` may only repeat it
 abbrev pub identified : ℕ → List (List ℕ) → Result Command TraceExpected

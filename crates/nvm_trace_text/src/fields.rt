@@ -24,7 +24,8 @@ pub(crate) fn field(
     }
 }
 
-/// The time at which something ended, or `None` for `-`, and what stands after it.
+/// The time at which something ended, or `None` for `-`, and what stands after it. The last number of 64 bits is no such time, since in a
+/// file it stands for no end.
 pub(crate) fn end_time(words: &[u8]) -> Result<(Option<u64>, &[u8]), TraceExpected>
     ensures { AnswersWith (λ x. (x.0, words_in x.1.now)) result (spec.end_time (words_in words.now)) }
 {
@@ -32,7 +33,7 @@ pub(crate) fn end_time(words: &[u8]) -> Result<(Option<u64>, &[u8]), TraceExpect
     if word == b"-".as_slice() {
         return Ok((None, rest));
     }
-    let (time, rest) = field(words, 0, u64::MAX, TraceExpected::Ended)?;
+    let (time, rest) = field(words, 0, u64::MAX - 1, TraceExpected::Ended)?;
     Ok((Some(time), rest))
 }
 
