@@ -16,6 +16,7 @@ use Rattle.nvm_trace.specs.declared.witness_fault.WitnessFault.TheVariants.{NoMe
 use Rattle.nvm_engine.specs.Fault.{fault_of_trace}
 use Rattle.nvm_engine.specs.Judged.{IsUnreadFault}
 use Rattle.nvm_engine.specs.declared.fault.Fault.{Fault}
+use Rattle.nvm_engine.specs.declared.fault.Fault.TheVariants.{NoMemory}
 
 -- The answer is one on the two: it isn't want of memory.
 abbrev pub IsKnownAnswer : Result Explained WitnessFault → Type 0
@@ -38,6 +39,7 @@ pub record IsWitnessed (judging : Judging) (trace run : List ℕ) (answer : Resu
 abbrev pub IsTraceFault : List ℕ → Fault → Type 0
 IsTraceFault trace fault = (of : TraceFileFault) × (trace_at trace ≡ Err of) × (fault ≡ fault_of_trace of)
 
--- It is the first fault of the trace's file, or else of the record's. Want of memory stands beside them.
+-- It is the first fault of the trace's file, or else, where that is one, of the record's. Want of memory stands beside them.
 abbrev pub IsUnwitnessedFault : List ℕ → List ℕ → Fault → Type 0
-IsUnwitnessedFault trace run fault = IsTraceFault trace fault ⊎ IsUnreadFault run fault
+IsUnwitnessedFault trace run fault =
+    IsTraceFault trace fault ⊎ ((((t : TraceView) × IsTraceFile trace t) × IsUnreadFault run fault) ⊎ (fault ≡ NoMemory))
