@@ -1,17 +1,24 @@
-/* The media side of an NVM Express controller: a namespace in memory whose atomic units any number of threads
- * read and change. Link libnvm_c.a and, for malloc and free, the toolchain's liblibc_c.a.
+/* The media side of an NVM Express controller: a namespace in memory that threads read and change through up to
+ * ZK_MOST_PORTS ports. Little-endian 64-bit machines. Link libnvm_c.a and, for malloc and free, the toolchain's liblibc_c.a.
  *
  * A thread works through a port. Open a namespace with one port for each thread (or queue, or reactor), and give
  * each thread its own. No call waits, blocks or starts a thread: where another port holds the atomic unit that a
  * command needs, the answer is ZK_PENDING, and zk_poll goes on later.
  *
  * What is proved of this library rests on C for four things.
- *   1. A port is in one call at a time, is handed from thread to thread by a lock, a join or an atomic, and is
- *      never copied while it is open.
+ *   1. A port is in one call at a time, is handed from thread to thread by a lock, a thread's start or join, or a
+ *      seq_cst atomic, and is never copied while it is open: a queue keeps a pointer to its port.
  *   2. A port is bytes of 0 before it is opened, and nothing but these calls writes to it.
- *   3. Each pointer is not NULL and is good for the length that is passed with it, also where that length is 0, and
- *      no two buffers of a call overlap.
+ *   3. Each pointer is not NULL and is good for the length that is passed with it, also where that length is 0. No two
+ *      pointers of a call lead to bytes in common, and nobody else writes to these bytes while the call runs: copy a
+ *      guest's entries and data out of its memory first.
  *   4. malloc, realloc and free are a usual allocator's, and no call is made from a signal handler or a forked child.
+ *
+ * Commands: Write (01h), Read (02h), Write Uncorrectable (04h), Compare (05h), Write Zeroes (08h) and Dataset Management
+ * (09h), and Compare and Write as a fused pair. NSID is 1. Any other opcode, Flush too, ends with status 0/01: a
+ * controller answers Flush itself, since nothing is cached here. PRINFO, PSDT, FUA, LR and DEAC are not looked at.
+ * A status is written T/CC, status code type and status code: 0/00 is Successful Completion, 0/06 is Internal Error,
+ * 2/81 is Unrecovered Read Error.
  */
 #ifndef ZALKVORN_H
 #define ZALKVORN_H
@@ -43,7 +50,7 @@ enum zk_code {
     ZK_DONE = 0,          /* It was done. */
     ZK_PENDING = 1,       /* The command is not done yet: call zk_poll. */
     ZK_NOT_OPEN = 2,      /* The port is not open. */
-    ZK_IS_OPEN = 3,       /* A port is open already. */
+    ZK_IS_OPEN = 3,       /* One of the ports is open. */
     ZK_NO_MEMORY = 4,     /* malloc refused before anything was done. */
     ZK_BAD_NAMESPACE = 5, /* There is no namespace of these numbers. */
     ZK_BAD_PORTS = 6,     /* There are no ports, or more than ZK_MOST_PORTS. */
@@ -66,8 +73,9 @@ struct zk_port {
 /* A port that is not open. */
 #define ZK_PORT_INIT { { 0, 0 } }
 
-/* What a namespace advertises. NABSN, NAWUN and NACWU are zeroes-based, as in Identify Namespace; a NABSN of 0 is
- * no boundary. A namespace has 1 to 65,536 blocks and at most 4,096 atomic units. */
+/* What a namespace advertises. NABSN, NAWUN and NACWU are 0's based values, as in Identify Namespace; a NABSN of 0 is
+ * no boundary, and then NABO is 0. Else NABO, NAWUN and NACWU are at most NABSN. A namespace has 1 to 65,536 blocks of
+ * 512 or 4,096 bytes and at most 4,096 atomic units. */
 struct zk_namespace {
     uint64_t nsze;       /* blocks */
     uint32_t block_size; /* bytes of a block */
@@ -81,10 +89,10 @@ struct zk_namespace {
 uint32_t zk_version(void);
 
 /* Opens `count` ports on a new namespace whose blocks are zero bytes. Each atomic unit keeps up to `limit` changes
- * in its history; a change beyond ends with status 0/06. With `versions` each port keeps what it has seen, for
+ * in its history; a change beyond ends with status 0/06, as does a command that finds no memory once it is under way. With `versions` each port keeps what it has seen, for
  * zk_read_now.
- * ZK_DONE, ZK_IS_OPEN, ZK_BAD_PORTS, ZK_BAD_NAMESPACE, ZK_BAD_LIMIT or ZK_NO_MEMORY, tried in this order. Where it
- * is not ZK_DONE, every port is as it was.
+ * ZK_DONE; or ZK_IS_OPEN, ZK_BAD_PORTS, ZK_BAD_NAMESPACE, ZK_BAD_LIMIT or ZK_NO_MEMORY, tried in this order, and every
+ * port is as it was.
  * Threads: nobody else uses these ports during the call. */
 int zk_open(struct zk_port *ports, size_t count, const struct zk_namespace *ns, uint32_t limit, bool versions);
 
@@ -103,22 +111,26 @@ int zk_close(struct zk_port *port);
  *
  * ZK_DONE: the completions are written, and after a Read of status 0/00 its blocks. How the command ended, an unknown
  * opcode or an LBA out of range included, is the status there. The SQ identifier is the port's place in zk_open,
- * from 1; the SQ head pointer and the phase tag are 0 and yours to set.
+ * from 1: set your own where that is another. The SQ head pointer, the phase tag and DNR are 0 and yours to set.
  * ZK_PENDING: the command stays in the port and nothing was written yet. The entries and data may be reused.
- * ZK_NOT_OPEN, ZK_BUSY, ZK_BAD_LENGTH, ZK_NO_PAIR, ZK_NO_MEMORY: nothing was done and nothing was written.
+ * ZK_NOT_OPEN, ZK_BUSY, ZK_BAD_LENGTH, ZK_NO_PAIR, ZK_NO_MEMORY: nothing was done and nothing was written. The length of
+ * the data is asked for before a command is checked, so apply the transfer limit of your controller first. An opcode that
+ * is not served carries no data.
  * Threads: one call at a time on a port; ports of one namespace may be used at the same time. */
 int zk_submit(struct zk_port *port, const uint8_t *entries, size_t entries_length, uint8_t *data, size_t data_length,
               uint8_t *completions, size_t completions_length);
 
 /* Goes on with the command that is pending in the port. The buffers are as in zk_submit; those of a Read need at
  * least the room of its blocks, and any other command's data is not looked at.
- * ZK_DONE and ZK_PENDING as in zk_submit. ZK_NOT_OPEN, ZK_IDLE, ZK_BAD_LENGTH: nothing was done.
+ * ZK_DONE and ZK_PENDING as in zk_submit. ZK_NOT_OPEN, ZK_IDLE, ZK_BAD_LENGTH: nothing was done, and a pending command
+ * is still pending.
  * Threads: as zk_submit. */
 int zk_poll(struct zk_port *port, uint8_t *data, size_t data_length, uint8_t *completions, size_t completions_length);
 
 /* Writes the Identify Namespace data structure of the port's namespace: NSZE, NAWUN, NACWU, NABSN and NABO at their
  * places, and bit 1 of NSFEAT, which says that the namespace has atomic limits of its own. All other bytes are 0, and
- * yours to set. `data` is ZK_IDENTIFY_BYTES long.
+ * yours to set: NCAP, NUSE and the LBA format among them. A NAWUN or NACWU of 0 stands for AWUN or ACWU of the controller
+ * there, so report 0 in those. `data` is ZK_IDENTIFY_BYTES long.
  * ZK_DONE. ZK_NOT_OPEN, ZK_BAD_LENGTH: nothing was written.
  * Threads: as zk_submit. */
 int zk_identify(struct zk_port *port, uint8_t *data, size_t data_length);
@@ -130,10 +142,10 @@ struct zk_status {
 };
 
 /* Answers a Read of `nlb` + 1 blocks inside one atomic unit from what the port keeps, without taking the unit: even
- * while another port has it. The port has to have seen the unit's last change; a command of its own on the unit brings
- * it up. `data` is room for exactly these blocks.
- * ZK_DONE: the status is written, and with 0/00 the blocks. ZK_NEWER, ZK_OUT_OF_RANGE, ZK_CROSSES, ZK_NO_VERSIONS,
- * ZK_NO_MEMORY, ZK_BAD_LENGTH, ZK_NOT_OPEN, ZK_BUSY: nothing was written.
+ * while another port has it. The port has to have seen the unit's last change; a command of its own on the unit makes it
+ * current. `data` is room for exactly these blocks.
+ * ZK_DONE: the status is written, and with 0/00 the blocks. ZK_NOT_OPEN, ZK_BUSY, ZK_NO_VERSIONS, ZK_BAD_LENGTH,
+ * ZK_OUT_OF_RANGE, ZK_CROSSES, ZK_NEWER, ZK_NO_MEMORY: nothing was written.
  * Threads: as zk_submit. */
 int zk_read_now(struct zk_port *port, uint64_t slba, uint16_t nlb, uint8_t *data, size_t data_length,
                 struct zk_status *status);
@@ -153,6 +165,11 @@ static inline uint8_t zk_status_code(const uint8_t *completion)
 {
     return (uint8_t)((completion[14] | completion[15] << 8) >> 1 & 0xff);
 }
+
+#ifndef __cplusplus
+_Static_assert(sizeof(void *) == 8 && sizeof(struct zk_port) == 16, "a port has two words of 64 bits");
+_Static_assert(sizeof(struct zk_namespace) == 24 && sizeof(struct zk_status) == 2, "no other padding than at the ends");
+#endif
 
 #ifdef __cplusplus
 }
