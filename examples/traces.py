@@ -42,7 +42,8 @@ THERE = Record(
 FOUND = Trace(SPACE, (Seen(1, THERE.jobs[0].body, 3, 4, SUCCESS, b"\x41" * 512),), unknown=True)
 # A Write over two units that never ended, done in the first alone.
 UNENDED = recorded(SPACE, [file_of([write(7, 0x41, 0x41), read(7, 2)])], wants={0: 1})
-# A pair whose comparison fails.
+# A pair whose comparison holds, and one whose comparison fails.
+HELD = recorded(SPACE, [file_of(pair(compare(0, 0), write(0, 0x55)))])
 PAIR = one(pair(compare(0, 1), write(0, 0x55)), Done(0, ((0, 0, FAILED),), ((2, 0x85), (0, 9))))
 
 
@@ -96,6 +97,12 @@ WITNESSED = [
     (with_seen(as_recorded(PAIR), 0, statuses=((2, 0x81), (0, 9))), PAIR, unexplained("ReplyDiffers", 0)),
     (with_seen(as_recorded(PAIR), 0, statuses=((2, 0x85), (0, 0))), PAIR, unexplained("ReplyDiffers", 0)),
     (with_seen(as_recorded(PAIR), 0, statuses=((0, 6), (0, 6))), PAIR, explained(1, 1, 1)),
+    (with_seen(as_recorded(PAIR), 0, statuses=((0, 6), (0, 0))), PAIR, unexplained("ReplyDiffers", 0)),
+    (with_seen(as_recorded(PAIR), 0, statuses=((2, 0x85), (0, 6))), PAIR, explained(1, 1, 1)),
+    (as_recorded(HELD), HELD, explained(1, 1)),
+    (with_seen(as_recorded(HELD), 0, statuses=((0, 0), (0, 6))), HELD, explained(1, 1, 1)),
+    (with_seen(as_recorded(HELD), 0, statuses=((2, 0x85), (0, 6))), HELD, unexplained("ReplyDiffers", 0)),
+    (with_seen(as_recorded(HELD), 0, statuses=((0, 0), (0, 9))), HELD, unexplained("ReplyDiffers", 0)),
 ]
 
 # Jobs of all kinds, with other identifiers, namespaces and replies.

@@ -1,6 +1,6 @@
 -- What the reply to a job says of it: Base Specification, "Status Field". Which statuses leave open what was done is this
 -- project's own.
-use Rattle.std.specs.Prelude.{nat_eq, Bool, true, false, ◌&&◌, ◌||◌, Option, Some, None}
+use Rattle.std.specs.Prelude.{nat_eq, not, Bool, true, false, ◌&&◌, ◌||◌, Option, Some, None}
 use Rattle.nvm_record.specs.declared.op.Op.{Op}
 use Rattle.nvm_record.specs.declared.op.Op.TheVariants.{Read, Compare}
 use Rattle.nvm_record.specs.declared.status.Status.{Status}
@@ -53,13 +53,13 @@ abbrev pub is_success : Statuses → Bool
 is_success (One s) = is_status s successful_completion
 is_success (Two s t) = is_status s successful_completion && is_status t successful_completion
 
--- One status of a pair says that the comparison held, and the other that it didn't. The Write's success says that it did, and
--- 0/09 that it didn't. No step ends so, and each of the two statuses is one of the step: no error leaves open what was done.
--- With another error beside them it is left open, as by (0/00, 0/06): the comparison held, and the Write may be done or not.
+-- One status of a pair says that the comparison held, and the other that it didn't. The Write's success says that it did, so the
+-- Compare's status has to be success, too; and 0/09 says that it didn't. No step ends so, and no error leaves open what was done.
+-- An error of the Write alone leaves it open, as (0/00, 0/06) does.
 abbrev pub contradicts_itself : Statuses → Bool
 contradicts_itself (One s) = false
 contradicts_itself (Two s t) =
-    is_failed_comparison s && is_status t successful_completion
+    not (is_status s successful_completion) && is_status t successful_completion
     || is_status s successful_completion && is_status t aborted_due_to_failed_fused_command
 
 -- Of a job that a check refuses, the refusal says that it was refused, and success that it wasn't. Of another job a status of
@@ -87,12 +87,13 @@ is_found_before s =
 
 abbrev pub are_found_before : Statuses → Bool
 are_found_before (One s) = is_found_before s
-are_found_before (Two s t) = is_found_before t
+are_found_before (Two s t) = is_failed_comparison s || is_found_before t
 
 abbrev pub found_before_at : Option Ending → Bool
 found_before_at None = false
 found_before_at (Some e) = are_found_before e.statuses
 
--- The reply says that nothing was written: the command, or the Write of a pair, was aborted before it was executed.
+-- The reply says that nothing was written: the command, or the Write of a pair, was aborted before it was executed, or the Compare
+-- of a pair failed.
 abbrev pub says_nothing_was_written : TracedJob → Bool
 says_nothing_was_written j = found_before_at j.ended

@@ -79,7 +79,8 @@ fn contradicts_itself(statuses: Statuses) -> bool
     match statuses {
         Statuses::One(_) => false,
         Statuses::Two(first, second) => {
-            is_failed_comparison(first) && is_status(second, Status::SUCCESSFUL_COMPLETION)
+            !is_status(first, Status::SUCCESSFUL_COMPLETION)
+                && is_status(second, Status::SUCCESSFUL_COMPLETION)
                 || is_status(first, Status::SUCCESSFUL_COMPLETION)
                     && is_status(second, Status::ABORTED_DUE_TO_FAILED_FUSED_COMMAND)
         }
@@ -139,7 +140,7 @@ pub(crate) fn says_nothing_was_written(traced: &TracedJob) -> bool
     match &traced.ended {
         Some(ending) => match ending.statuses {
             Statuses::One(status) => is_found_before(status),
-            Statuses::Two(_, second) => is_found_before(second),
+            Statuses::Two(first, second) => is_failed_comparison(first) || is_found_before(second),
         },
         None => false,
     }
