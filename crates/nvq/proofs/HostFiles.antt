@@ -26,6 +26,7 @@ no_file_fault size number file cs of_run.RecordUnknownVersion h k = k
 no_file_fault size number file cs (of_run.RecordTruncated at) h k = k
 no_file_fault size number file cs (of_run.RecordTrailing at) h k = k
 no_file_fault size number file cs (of_run.RecordBadValue at) h k = k
+no_file_fault size number file cs (of_run.Trace fault) h k = k
 no_file_fault size number file cs of_run.NoMemory h k = k
 
 no_files_fault : (size number : ℕ) (texts files : List (List ℕ)) (fault : FaultOfRun) → AreFilesOf size texts files
@@ -51,6 +52,7 @@ geometry_is_told s of_run.RecordUnknownVersion k = k
 geometry_is_told s (of_run.RecordTruncated at) k = k
 geometry_is_told s (of_run.RecordTrailing at) k = k
 geometry_is_told s (of_run.RecordBadValue at) k = k
+geometry_is_told s (of_run.Trace fault) k = k
 
 pub told_alone : (s : Settings) (texts files : List (List ℕ)) (fault : FaultOfRun) → AreFilesOf s.block texts files
     → IsFirstRunFault s files fault → IsToldFault fault

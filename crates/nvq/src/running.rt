@@ -289,7 +289,8 @@ fn told(fault: RunFault) -> Fault
         | RunFault::RecordUnknownVersion
         | RunFault::RecordTruncated { .. }
         | RunFault::RecordTrailing { .. }
-        | RunFault::RecordBadValue { .. } => unreachable!("what is assembled is a host file"),
+        | RunFault::RecordBadValue { .. }
+        | RunFault::Trace(_) => unreachable!("what is assembled is a host file"),
     }
 }
 
