@@ -25,7 +25,6 @@ from outs import outs_of_nvmu, outs_of_nvq, outs_that_are_read, shown_nowhere
 from progress import progress
 from rows import rows
 from runs import runs
-from traces import traces
 from two_owners import two_owners
 from words import (
     SEVERAL,
@@ -292,7 +291,7 @@ def words_of_unit_bench(run):
 
 TABLES = [lists, words_of_nvq, listings, lists_run, explained, pictures, outs_of_nvq, words_of_nvmu, files_of_nvmu, files_that_stop, several_workers]
 TABLES += [versions, standard_input, files_of_another_kind, outs_that_are_read]
-TABLES += [traces, outs_of_nvmu, shown_nowhere, progress, runs, rows, forged, spoiled, two_owners, words_of_unit_bench]
+TABLES += [outs_of_nvmu, shown_nowhere, progress, runs, rows, forged, spoiled, two_owners, words_of_unit_bench]
 
 
 def tried():

@@ -58,18 +58,7 @@ pub fn of_record(alloc: Global, fault: Fault, path: &str, file: &[u8]) -> Failur
     Failure::hinted(fault, hint)
 }
 
-/// The failure of a trace's text that was read from a path. What helps is what the file is instead, or else the line.
-pub fn of_text(alloc: Global, fault: Fault, path: &str, text: &[u8]) -> Failure
-    ensures { result.fault ≡ fault }
-{
-    let hint = match fault {
-        Fault::TraceLine { line, .. } => wrong_line(alloc, path, text, line),
-        _ => Ok(None),
-    };
-    Failure::hinted(fault, hint)
-}
-
-/// What helps where a line of text is wrong: what the file is instead, or else the line.
+/// What helps where a list has a line that is no command: what the file is instead, or else the line.
 fn wrong_line(
     alloc: Global,
     path: &str,

@@ -1,5 +1,5 @@
-//! The program `nvq`: runs lists of commands, which people write, makes them into host files, lists those, records and
-//! traces, makes the text of traces into files, and explains and draws records.
+//! The program `nvq`: runs lists of commands, which people write, makes them into host files, lists those and records, and
+//! explains and draws records.
 #![tactic(auto)]
 
 ghost use Rattle.std.specs.Prelude.{IfErr};
@@ -13,7 +13,6 @@ mod fault;
 mod files;
 mod running;
 mod running_words;
-mod tracing;
 mod words;
 
 use crate::conversion::{file_of, list_of};
@@ -22,7 +21,6 @@ use crate::explaining::run_explain;
 use crate::failure::{Failure, of_file, of_list};
 use crate::files::{bytes_of, check_output, write_bytes};
 use crate::running::run_lists;
-use crate::tracing::run_trace;
 use crate::words::{Asked, read_words};
 use nvm_front::{Progress, WordFault, failed, tell, texts_of, words_given};
 use nvm_record::{BlockSize, Payload};
@@ -75,7 +73,6 @@ fn run<R: AllocGlobal + Files + Input + Print + Eprint + Threads + Wait + Sync>(
         Asked::Assemble { size, list, out } => {
             run_assemble(rt, size, list.as_str(), out.as_str(), progress)
         }
-        Asked::Trace { text, out } => run_trace(rt, text.as_str(), out.as_str(), progress),
         Asked::List { size, file } => run_list(rt, size, file, progress),
         Asked::Run(words) => run_lists(rt, &words, progress),
         Asked::Explain { file } => run_explain(rt, file.as_str(), progress),
@@ -103,7 +100,7 @@ fn run_assemble<R: AllocGlobal + Files + Input + Print + Eprint>(
     }
 }
 
-/// Lists a host file, a record or a trace on standard output.
+/// Lists a host file or a record on standard output.
 fn run_list<R: AllocGlobal + Files + Input + Print + Eprint>(
     rt: &R,
     size: BlockSize,

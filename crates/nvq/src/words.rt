@@ -18,12 +18,7 @@ pub enum Asked {
         list: String,
         out: String,
     },
-    /// `nvq trace`: make the text of a trace into its file.
-    Trace {
-        text: String,
-        out: String,
-    },
-    /// `nvq list`: list a host file, a record or a trace.
+    /// `nvq list`: list a host file or a record.
     List {
         size: BlockSize,
         file: String,
@@ -63,7 +58,6 @@ fn asked_of(alloc: Global, matches: &ArgMatches<'_>) -> Result<Option<Asked>, Wo
 {
     match matches.subcommand() {
         Some(("assemble", words)) => assemble_asked(alloc, words),
-        Some(("trace", words)) => trace_asked(alloc, words),
         Some(("list", words)) => list_asked(alloc, words),
         Some(("run", words)) => run_asked(alloc, words),
         Some(("explain", words)) => explain_asked(alloc, words),
@@ -86,18 +80,6 @@ fn assemble_asked(alloc: Global, words: &ArgMatches<'_>) -> Result<Option<Asked>
     let list = String::from_str(alloc, list)?;
     let out = String::from_str(alloc, out)?;
     Ok(Some(Asked::Assemble { size, list, out }))
-}
-
-/// What `nvq trace` is asked, or `None` where a path is missing.
-fn trace_asked(alloc: Global, words: &ArgMatches<'_>) -> Result<Option<Asked>, WordFault>
-    ensures { IfOk result (λ asked. IfSome asked IsAsked) }
-{
-    let (Some(text), Some(out)) = (words.get_str("text"), words.get_str("out")) else {
-        return Ok(None);
-    };
-    let text = String::from_str(alloc, text)?;
-    let out = String::from_str(alloc, out)?;
-    Ok(Some(Asked::Trace { text, out }))
 }
 
 /// What `nvq list` is asked, or `None` where a value is missing.
@@ -160,7 +142,6 @@ pub fn size_of(words: &ArgMatches<'_>) -> Option<BlockSize> {
 /// The command line of the program.
 fn program<'a>(alloc: Global) -> Result<Command<'a>, Error> {
     let assemble = assemble_command(alloc)?;
-    let trace = trace_command(alloc)?;
     let list = list_command(alloc)?;
     let run = run_command(alloc)?;
     let explain = explain_command(alloc)?;
@@ -170,13 +151,12 @@ fn program<'a>(alloc: Global) -> Result<Command<'a>, Error> {
             .bin_name("nvq")?
             .version(VERSION)
             .about(
-                "Runs lists of NVM commands, makes them into host files, lists those, records and traces, and explains and draws records",
+                "Runs lists of NVM commands, makes them into host files, lists those and records, and explains and draws records",
             )
             .no_binary_name(true)
             .subcommand_required(true)
             .subcommand(run)?
             .subcommand(assemble)?
-            .subcommand(trace)?
             .subcommand(list)?
             .subcommand(explain)?
             .subcommand(draw)?,
@@ -196,29 +176,16 @@ fn assemble_command<'a>(alloc: Global) -> Result<Command<'a>, Error> {
     Ok(command.arg(block(alloc))?.arg(list)?.arg(out)?)
 }
 
-/// `nvq trace`.
-fn trace_command<'a>(alloc: Global) -> Result<Command<'a>, Error> {
-    let command = Command::new(alloc, "trace").about("Makes the text of a trace into its file");
-    let text = file(alloc, "text", "TEXT", "The text, or - for standard input");
-    let out = file(
-        alloc,
-        "out",
-        "OUT",
-        "The trace's file, or - for standard output",
-    );
-    Ok(command.arg(text)?.arg(out)?)
-}
-
 /// `nvq list`.
 fn list_command<'a>(alloc: Global) -> Result<Command<'a>, Error> {
     let command = Command::new(alloc, "list").about(
-        "Lists the commands of a host file, a record, or a trace",
+        "Lists the commands of a host file, or a record",
     );
     let file = file(
         alloc,
         "file",
         "FILE",
-        "The host file, record or trace, or - for standard input",
+        "The host file or record, or - for standard input",
     );
     Ok(command.arg(block(alloc))?.arg(file)?)
 }
