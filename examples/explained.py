@@ -11,6 +11,7 @@ from host_files import compare, file_of, pair, read, write
 from record_explaining import lawful_explanation
 from recorded import recorded
 from records import LOOKED, Done, record_of, spelled
+from stories import stories
 
 READ = "job 2 host 1 cid 2 nsid 1 read 0 1\n"
 FIRST = "unit 0 place 0 worker 1 job 1 write 0 1 512*42\n"
@@ -175,5 +176,6 @@ def explained(run):
         run.keep("wrong", given)
         run.expect(["nvq", "explain", "wrong"], 1, err=told(f"nvq: wrong: {fault}", hint))
     run.expect(["nvq", "explain", "missing"], 1, err=told("nvq: cannot read missing", MISSING))
-    for words in ("explain", "explain a b", "explain --block 512 a"):
+    for words in ("explain", "explain --block 512 a"):
         run.refuse(["nvq", *words.split()])
+    stories(run)

@@ -14,10 +14,11 @@ TOP = os.path.dirname(HERE)
 sys.dont_write_bytecode = True
 sys.path.insert(0, os.path.join(TOP, "sweep"))
 
+from devices import devices
 from drawn import pictures
 from explained import explained
 from forged import forged, spoiled
-from hints import MISSING, no_host_file, the_line, told
+from hints import FOLDER, IS_OUTPUT, MISSING, NO_SPACE, no_host_file, the_line, told
 from host_files import Asked, compare, dataset, file_of, read, uncorrectable, unknown, write, zeroes
 from lists_run import lists_run
 from listings import listings
@@ -25,6 +26,8 @@ from outs import outs_of_nvmu, outs_of_nvq, outs_that_are_read, shown_nowhere
 from progress import progress
 from rows import rows
 from runs import runs
+from trace_files import spelled, text_of, with_seen
+from traces import TRACE, traces
 from two_owners import two_owners
 from words import (
     SEVERAL,
@@ -269,8 +272,75 @@ def words_of_nvq(run):
         run.refuse(["nvq", *words.split()])
     for words in ("list --bogus 1 a", "list --block 512 --block 512 a", "list --block"):
         run.refuse(["nvq", *words.split()])
-    for words in ("--help", "assemble --help", "list --help", "explain --help"):
+    for words in ("--help", "assemble --help", "list --help", "explain --help", "certify --help"):
         run.expect(["nvq", *words.split()], out=SOME)
+
+
+# A trace that a record explains, and one with a Read of what nobody wrote.
+EXPLAINED = "explained jobs 3 units 4 steps 3 excused 0 preparations 0\n"
+WRONG = with_seen(TRACE, 2, data=b"\x43" * 512)
+CONTRADICTION = f"contradiction unit 0 commands 1\njob 2 {text_of(WRONG).splitlines()[3]}\njob 2 found in LBA 0 what nobody put there\n"
+# What should be a trace, its fault, and what helps.
+NO_TRACES = [
+    (b"", "bad name", "it is empty, and a trace begins with NVT1"),
+    (b"NVT2", "bad name", "it is no trace, which begins with NVT1"),
+    (file_of([]), "bad name", "it is a host file: nvmu run does its commands and writes a record"),
+    (b"NVR2", "bad name", "it is a record: the trace comes first, and then the record"),
+    (text_of(TRACE).encode(), "bad name", "it is text: nvq trace it TRACE makes a trace of its lines"),
+    (b"NVT1", "truncated at 4", ""),
+    (spelled(TRACE) + b"0", f"trailing at {len(spelled(TRACE))}", ""),
+    (spelled(TRACE)[:32] + b"\2" + spelled(TRACE)[33:], "bad value at 32", ""),
+]
+
+
+def words_of_certify(run):
+    run.keep("right.nvt", spelled(TRACE))
+    run.keep("wrong.nvt", spelled(WRONG))
+    for words in ("", "--strict", "--effort 4294967295", "--effort=1000 --strict"):
+        run.expect(["nvq", "certify", *words.split(), "right.nvt"], out=EXPLAINED)
+        run.expect(["nvq", "certify", *words.split(), "wrong.nvt"], 2, out=CONTRADICTION)
+    run.expect(["nvq", "certify", "-"], given=spelled(TRACE), out=EXPLAINED)
+    for words in ("certify", "certify a b", "certify --strictly a", "certify --record", "certify --record a --record b c"):
+        run.refuse(["nvq", *words.split()])
+    for effort in ("4294967296", "-1", "x", ""):
+        run.refuse(["nvq", "certify", f"--effort={effort}", "right.nvt"])
+    for content, fault, hint in NO_TRACES:
+        run.keep("it", content)
+        run.expect(["nvq", "certify", "it"], 1, err=told(f"nvq: it: {fault}", hint))
+    run.expect(["nvq", "certify", "missing"], 1, err=told("nvq: cannot read missing", MISSING))
+    run.expect(["nvq", "certify", "."], 1, err=told("nvq: cannot read .", FOLDER))
+
+
+def records_of_certify(run):
+    """The record that explains a trace is written, and none where there is none."""
+    run.keep("right.nvt", spelled(TRACE))
+    run.keep("wrong.nvt", spelled(WRONG))
+    run.keep("kept", b"old")
+    for record in ("right.nvr", "kept"):
+        run.expect(["nvq", "certify", "right.nvt", "--record", record], out=EXPLAINED)
+        run.expect(["nvmu", "witness", "right.nvt", record], out=EXPLAINED)
+    run.keep("kept", b"old")
+    for record in ("unmade", "kept"):
+        run.expect(["nvq", "certify", "--record", record, "wrong.nvt"], 2, out=CONTRADICTION, files={"kept": b"old"})
+    run.hold("no record", os.path.exists(os.path.join(run.folder, "unmade")), False)
+    # Where it can't go is told before the trace is read.
+    run.expect(["nvq", "certify", "missing", "--record", "-"], 1, err="nvq: the record can't go to standard output\n")
+    for record in ("right.nvt", "./right.nvt"):
+        err = told(f"nvq: cannot write {record}", "it is the trace")
+        run.expect(["nvq", "certify", "right.nvt", "--record", record], 1, err=err, files={"right.nvt": spelled(TRACE)})
+    with open(os.path.join(run.folder, "right.nvt"), "rb") as given:
+        found = run.status_of(["nvq", "certify", "--record", "right.nvt", "-"], stdin=given)
+    run.hold("standard input is the trace", found, (1, told("nvq: cannot write right.nvt", "it is the trace").encode()))
+    with open(os.path.join(run.folder, "shown"), "wb") as shown:
+        found = run.status_of(["nvq", "certify", "--record", "shown", "right.nvt"], stdout=shown)
+    run.hold("the record > shown", (found, run.kept("shown")), ((1, told("nvq: cannot write shown", IS_OUTPUT).encode()), b""))
+    # Nothing is printed of a record that couldn't be written.
+    for record, hint in (("missing/record", MISSING), (".", FOLDER)):
+        run.expect(["nvq", "certify", "right.nvt", "--record", record], 1, err=told(f"nvq: cannot write {record}", hint))
+    with open("/dev/full", "wb") as full:
+        found = run.status_of(["nvq", "certify", "right.nvt", "--record", "right.nvr"], stdout=full)
+    run.hold("the verdict > /dev/full", found, (1, told("nvq: cannot write -", NO_SPACE).encode()))
+    run.expect(["nvmu", "witness", "right.nvt", "right.nvr"], out=EXPLAINED)
 
 
 def words_of_unit_bench(run):
@@ -291,7 +361,7 @@ def words_of_unit_bench(run):
 
 TABLES = [lists, words_of_nvq, listings, lists_run, explained, pictures, outs_of_nvq, words_of_nvmu, files_of_nvmu, files_that_stop, several_workers]
 TABLES += [versions, standard_input, files_of_another_kind, outs_that_are_read]
-TABLES += [outs_of_nvmu, shown_nowhere, progress, runs, rows, forged, spoiled, two_owners, words_of_unit_bench]
+TABLES += [traces, words_of_certify, records_of_certify, devices, outs_of_nvmu, shown_nowhere, progress, runs, rows, forged, spoiled, two_owners, words_of_unit_bench]
 
 
 def tried():

@@ -22,11 +22,13 @@ APART = {
     "(cd crates/unit_bench &&": None,  # the gate has built it, and another build would prove it again
     "bench/": "--help",  # these take minutes
     "edits/try": "--help",
+    "rt try": None,  # using.py does what that page says
 }
 
 
 def blocks(text):
-    """The blocks of indented lines, in their order."""
+    """The blocks of indented lines outside fences, in their order."""
+    text = re.sub(r"^```.*?^```$", "```", text, flags=re.DOTALL | re.MULTILINE)
     found, lines = [], []
     for line in text.split("\n") + [""]:
         if line.startswith("    "):
@@ -93,8 +95,8 @@ def held(page, folder):
             is_told, is_ended = matches(ran.stderr, told), ran.returncode == 1
         else:
             is_told = told is None or is_apart(block) or matches(ran.stdout, told)
-            # a verdict of unlawful or unexplained ends with 2, which the page shows by its line
-            is_ended = ran.returncode == 0 or ran.returncode == 2 and ran.stdout.startswith(("unlawful ", "unexplained "))
+            # such a verdict ends with 2, which the page shows by its line
+            is_ended = ran.returncode == 0 or ran.returncode == 2 and ran.stdout.startswith(("unlawful ", "unexplained ", "contradiction "))
         if is_told and is_ended:
             passed += 1
         else:

@@ -166,6 +166,38 @@ static inline uint8_t zk_status_code(const uint8_t *completion)
     return (uint8_t)((completion[14] | completion[15] << 8) >> 1 & 0xff);
 }
 
+/* What a status means, in the standard's words (Base Specification, "Status Field"; NVM Command Set, "Status Codes"): for 2/85
+ * "Compare Failure". "Unknown status" where no command that is answered here ends so. Any thread, any time. */
+static inline const char *zk_status_name(uint8_t type, uint8_t code)
+{
+    switch (type << 8 | code) {
+    case 0x000:
+        return "Successful Completion";
+    case 0x001:
+        return "Invalid Command Opcode";
+    case 0x002:
+        return "Invalid Field in Command";
+    case 0x006:
+        return "Internal Error";
+    case 0x009:
+        return "Command Aborted due to Failed Fused Command";
+    case 0x00a:
+        return "Command Aborted due to Missing Fused Command";
+    case 0x00b:
+        return "Invalid Namespace or Format";
+    case 0x014:
+        return "Atomic Write Unit Exceeded";
+    case 0x080:
+        return "LBA Out of Range";
+    case 0x281:
+        return "Unrecovered Read Error";
+    case 0x285:
+        return "Compare Failure";
+    default:
+        return "Unknown status";
+    }
+}
+
 #ifndef __cplusplus
 _Static_assert(sizeof(void *) == 8 && sizeof(struct zk_port) == 16, "a port has two words of 64 bits");
 _Static_assert(sizeof(struct zk_namespace) == 24 && sizeof(struct zk_status) == 2, "no other padding than at the ends");

@@ -88,6 +88,7 @@ class Run:
     before: dict = field(default_factory=dict)  # what stands there before, and stays where it ends in a fault
     model: Recording = None  # of a run of host files
     units: int = 0  # of the record that it audits
+    rounds: int = 1  # how often it goes through these in several threads
     # It ends in a fault that comes after its commands, and shows nothing of them; or help is looked for in vain, which memory can be refused.
     hides_wants: bool = False
     input: str = None  # the path of its standard input
@@ -103,7 +104,7 @@ class Run:
         units = self.model.units() if self.model else self.units
         workers = self.model.workers if self.model else 0
         workers = 3 * workers if workers > 1 else workers
-        return workers + 3 * max(0, min(units, 2 * os.cpu_count()) - 1)
+        return workers + 3 * self.rounds * max(0, min(units, 2 * os.cpu_count()) - 1)
 
     def whole(self, end):
         if end.status != self.status:

@@ -19,6 +19,7 @@ from hints import (
 )
 from host_files import compare, dataset, file_of, mixed, pair, read, uncorrectable, unknown, write, zeroes
 from model import Namespace
+from witnesses import witnesses
 
 # Units of 8 blocks, the first of which has 3.
 EIGHTS = {"nabsn": 7, "nabo": 3}
@@ -285,6 +286,8 @@ def runs(folder):
         fault("too many units", "geometry: TooManyUnits", [whole], hint=GEOMETRY["TooManyUnits"], nsze=65_536, nabsn=1, nawun=1, nacwu=1),
         fault("a record that can't be written", "cannot write missing/record", [whole], True, MISSING, out="missing/record"),
         *audits(kept, missing, [served, pairs(), ranges()], none),
+        *witnesses(kept),
+        refused("help on the witness", ["witness", "--help"], 0),
         refused("an audit of two files", ["audit", "a", "b"]),
         refused("help on the audit", ["audit", "--help"], 0),
         refused("no words", []),

@@ -15,6 +15,7 @@ from record_explaining import lawful_explanation
 from record_listing import record_listing
 from recorded import recorded
 from records import spelled
+from witnesses import certified, explained, of_text
 
 # What is expected at the front of a list's line.
 NO_COMMAND = "expected write, read, compare, zeroes, uncorrectable, dataset, or op- and another opcode in two hexadecimal digits"
@@ -173,6 +174,9 @@ def runs(folder):
         fault("no workers", f"{no_workers}: bad value at 28", "list", no_workers),
         fault("a record of a later version", f"{later}: unknown version", "list", later, hint=VERSIONS),
         fault("a missing file", f"cannot read {missing}", "list", missing, hint=MISSING),
+        *of_text(kept),
+        *certified(kept),
+        *explained(kept),
         ran("lists that are run", [plain, file_of([read(0, 2), dataset((0, 1))])]),
         ran("a list that is run and a record before", [plain], **{Recording.name: b"old"}),
         ran("no commands that are run", [file_of([])]),

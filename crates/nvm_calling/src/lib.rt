@@ -3,6 +3,7 @@
 #![tactic(auto)]
 
 pub mod audit;
+pub mod certify;
 pub mod file;
 pub mod geometry;
 pub mod plan;

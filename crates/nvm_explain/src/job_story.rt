@@ -7,9 +7,10 @@ use nvm_plan::Job;
 use nvm_record::NoMemory;
 use nvm_report::{push_body, push_done};
 
-/// Appends the lines of a job's commands, and of what was done of the job.
+/// Appends the lines of a job's commands, and of what was done of the job, as a record's listing has them. Where memory is refused the
+/// text has what it had, and maybe a front of the lines.
 #[tactic(auto, unfolding(crate::specs::JobStory::job_story))]
-pub(crate) fn push_job(text: &mut String, run: &Record, number: u32) -> Result<(), NoMemory>
+pub fn push_job(text: &mut String, run: &Record, number: u32) -> Result<(), NoMemory>
     ensures { OnOk result (string_bytes text.new ≡ string_bytes text.old ++ spec.job_story run.now number) }
 {
     push_asked(text, &run.jobs, number)?;

@@ -2,7 +2,8 @@
 //!
 //! [`explain`] audits a record and tells the verdict, as an audit prints it. Of a first fault it tells what such a fault means,
 //! the job and what was done of it, the unit's entries round the place, and what the step gives at that point beside what was
-//! recorded there. Explanations that were written by hand stand in `examples/explained.py`, which holds the built `nvq` to them.
+//! recorded there. [`push_job`] appends what a record has of one job. Explanations that were written by hand stand in
+//! `examples/explained.py`, which holds the built `nvq` to them.
 #![tactic(auto)]
 
 mod around;
@@ -28,3 +29,4 @@ mod unit_counts;
 mod verdict_line;
 
 pub use explaining::explain;
+pub use job_story::push_job;

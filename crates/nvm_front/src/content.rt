@@ -7,6 +7,8 @@ pub enum Content {
     HostFile,
     /// A record of any version, `NVR`.
     Record,
+    /// A trace of any version, `NVT`.
+    Trace,
     /// Text, as a command list is.
     Text,
     /// None of these.
@@ -29,6 +31,8 @@ impl Content {
             Content::HostFile
         } else if front.starts_with(b"NVR") {
             Content::Record
+        } else if front.starts_with(b"NVT") {
+            Content::Trace
         } else if front.len() >= NAME && front.iter().all(|byte| is_of_text(*byte)) {
             Content::Text
         } else {

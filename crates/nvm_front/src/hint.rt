@@ -41,6 +41,9 @@ pub fn no_host_file(alloc: Global, path: &str, bytes: &[u8]) -> Result<String, A
                 "{name} is a record: nvmu audit {path} judges it, nvq list {path} shows it"
             )
         }
+        Content::Trace => {
+            format!(in alloc; "{name} is a trace: nvmu witness {path} REC judges it by a record")
+        }
         Content::HostFile | Content::Unknown => {
             format!(in alloc; "{name} is no host file, which begins with NVQ1")
         }
@@ -64,13 +67,38 @@ pub fn no_record(alloc: Global, path: &str, bytes: &[u8]) -> Result<String, Allo
                 "{name} is a host file: nvmu run does its commands and writes a record"
             )
         }
+        Content::Trace => {
+            format!(in alloc; "{name} is a trace: nvmu witness {path} REC judges it by a record")
+        }
         Content::Record | Content::Unknown => {
             format!(in alloc; "{name} is no record, which begins with NVR1 or NVR2")
         }
     }
 }
 
-/// What a file is, of which a command list was expected, where it is none: a host file or a record.
+/// What a file is, of which a trace was expected at its front.
+pub fn no_trace(alloc: Global, path: &str, bytes: &[u8]) -> Result<String, AllocError> {
+    let name = name_of(path);
+    match Content::of(bytes) {
+        Content::Empty => format!(in alloc; "{name} is empty, and a trace begins with NVT1"),
+        Content::Text => {
+            format!(in alloc; "{name} is text: nvq trace {path} TRACE makes a trace of its lines")
+        }
+        Content::HostFile => {
+            format!(in alloc;
+                "{name} is a host file: nvmu run does its commands and writes a record"
+            )
+        }
+        Content::Record => {
+            format!(in alloc; "{name} is a record: the trace comes first, and then the record")
+        }
+        Content::Trace | Content::Unknown => {
+            format!(in alloc; "{name} is no trace, which begins with NVT1")
+        }
+    }
+}
+
+/// What a file is, of which a command list was expected, where it is none: a host file, a record or a trace.
 pub fn no_list(alloc: Global, path: &str, bytes: &[u8]) -> Result<Option<String>, AllocError> {
     let name = name_of(path);
     match Content::of(bytes) {
@@ -79,6 +107,9 @@ pub fn no_list(alloc: Global, path: &str, bytes: &[u8]) -> Result<Option<String>
         )?)),
         Content::Record => Ok(Some(format!(in alloc;
             "{name} is a record: nvq list {path} shows it"
+        )?)),
+        Content::Trace => Ok(Some(format!(in alloc;
+            "{name} is a trace: nvq list {path} shows it"
         )?)),
         Content::Empty | Content::Text | Content::Unknown => Ok(None),
     }

@@ -2,6 +2,7 @@ pub mod Places
 pub mod Gathered
 pub mod WriteLimit
 pub mod Matched
+pub mod Topped
 pub mod Wholes
 pub mod Differing
 pub mod Rooms
@@ -15,3 +16,5 @@ pub mod Walk
 pub mod UnitParts
 pub mod RightSteps
 pub mod Runs
+mod CutRanges
+mod UnitPieces

@@ -1,8 +1,9 @@
 -- When a record explains a trace: the device, seen from outside, behaved as one block store with one thread could have in each
 -- atomic unit, in real time. So each atomic unit is linearizable (own). How the record came about isn't asked. The record has the
 -- pieces of the trace's commands (specs/Pieces.antt). Each part of a piece in a unit is one step, however many blocks it has, and
--- a piece's parts are done in the order of its units, up to the first that fails. So a Deallocate over several units that never
--- ended was done from its first unit on. It isn't the other way round: units that are linearizable one by one may want more workers than a record has.
+-- a piece's parts are done in the order of its units, up to the first that fails. A command of which the reply leaves open what was
+-- done has a piece for each of its units, and any of these may have been done. It isn't the other way round: units that are
+-- linearizable one by one may want more workers than a record has.
 use Rattle.std.specs.Prelude.{◌≡◌, ℕ, ◌≤◌, List, length}
 use Rattle.nvm_record.specs.declared.op.Op.TheVariants.{Write}
 use Rattle.nvm_record.specs.Lists.{IsAt}

@@ -97,3 +97,7 @@ found_before_at (Some e) = are_found_before e.statuses
 -- of a pair failed.
 abbrev pub says_nothing_was_written : TracedJob → Bool
 says_nothing_was_written j = found_before_at j.ended
+
+-- The reply, if there is one, leaves open what was done.
+abbrev pub leaves_open : Namespace → TracedJob → Bool
+leaves_open ns j = not (says_what_was_done ns j) && not (says_nothing_was_written j)

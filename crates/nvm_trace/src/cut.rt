@@ -5,4 +5,6 @@ pub enum Cut {
     Whole,
     /// Its block of this number, counted from 0.
     Block(u32),
+    /// Its part in the unit of this number.
+    InUnit(u16),
 }

@@ -6,12 +6,14 @@
 #![tactic(auto)]
 
 mod cut;
+mod cuts;
 mod explained;
 mod judging;
 pub mod laws;
 mod matching;
 mod owner;
 mod pieces;
+mod piecing;
 mod raising;
 mod reads;
 mod replies;
@@ -28,10 +30,18 @@ mod traced_job;
 mod witness_fault;
 mod witnessing;
 
+pub use cut::Cut;
+pub use cuts::Cuts;
 pub use explained::Explained;
 pub use judging::Judging;
+pub use owner::Owner;
+pub use pieces::cuts_of;
+pub use piecing::{first_pieces, traced_pieces};
 pub use reads::Reads;
+pub use saying::{is_success, says_nothing_was_written, says_what_was_done};
 pub use start::Start;
+pub use step::Step;
+pub use stepping::steps_of;
 pub use trace::Trace;
 pub use trace_fault::TraceFault;
 pub use traced_job::{Ending, TracedJob};

@@ -1,24 +1,30 @@
-ghost use Rattle.std.specs.Prelude.{◌≡◌, ◌↔◌, ℕ, ◌+◌, ◌<◌, ◌≤◌, List, [], ◌∷◌, ◌++◌, length, map, IsTrue, IfOk, OnOk, MatchOption, MatchResult};
+ghost use Rattle.std.specs.Prelude.{◌≡◌, ◌↔◌, ℕ, ◌+◌, ◌<◌, ◌≤◌, List, [], ◌∷◌, ◌++◌, length, map, IsTrue, None, IfOk, OnOk, MatchOption, MatchResult};
 ghost use Rattle.std.specs.List.{range_with_len};
 ghost use Rattle.nvm_record.specs.Lists.{IsAt};
 ghost use Rattle.nvm_audit.specs.Recordable.{most_jobs};
 ghost use Rattle.nvm_trace.specs.declared.start.Start.TheVariants.{Unknown};
 ghost use Rattle.nvm_trace.specs.ExplainedBy.{IsOneBlockWrite};
 ghost use Rattle.nvm_trace.specs.FirstFault.{IsFirstWithout};
+ghost use Rattle.nvm_plan.specs.Checks.{refusal_of};
+ghost use Rattle.nvm_plan.specs.JobPart.{job_units as units_of_job};
+ghost use Rattle.nvm_trace.specs.Inside.Cutting.{HasBodyIn, HasPart};
 ghost use Rattle.nvm_trace.specs.Inside.Matching.{AreMatched, IsOtherFault, IsPreparedAt};
-ghost use Rattle.nvm_trace.specs.declared.cut.Cut.TheVariants.{Block};
-ghost use Rattle.nvm_trace.specs.Pieces.{Piece, piece, pieces_of, pieces_in, block_of_body, job_at};
+ghost use Rattle.nvm_trace.specs.declared.cut.Cut.TheVariants.{Block, InUnit};
+ghost use Rattle.nvm_trace.specs.Pieces.{Piece, piece, pieces_of, pieces_in, block_of_body, part_of_body, job_at};
 
 use crate::cut::Cut;
+use crate::cuts::Cuts;
 use crate::judging::Judging;
 use crate::owner::Owner;
-use crate::pieces::{blocks_cut, is_block};
+use crate::pieces::{cuts_of, is_block, is_part};
 use crate::reads::Reads;
 use crate::start::Start;
 use crate::traced_job::TracedJob;
 use crate::witness_fault::WitnessFault;
 use nvm_geometry::Geometry;
-use nvm_plan::{Body, Job};
+use nvm_geometry::laws::{each_unit_has_one_place, whole_ranges_are_reached};
+use nvm_plan::laws::{parts_of_jobs, ready_jobs};
+use nvm_plan::{Body, Job, job_units};
 use nvm_record::{BlockSize, Command, Op};
 use std::alloc::Global;
 
@@ -60,21 +66,42 @@ fn is_block_of(body: &Body, size: BlockSize, whole: &Body, k: u32) -> bool
     }
 }
 
+/// Whether it is just the part in this unit of the body's command.
+fn is_part_of(body: &Body, geometry: &Geometry, whole: &Body, unit: u16) -> bool
+    requires { HasBodyIn geometry.now whole.now unit }
+    ensures { IsTrue result ↔ (body.now ≡ part_of_body geometry.now whole.now unit) }
+{
+    match (body, whole) {
+        (Body::Single(part), Body::Single(command)) => is_part(part, geometry, command, unit),
+        (Body::Pair(first, second), Body::Pair(against, after)) => {
+            same_command(first, against) && same_command(second, after)
+        }
+        _ => false,
+    }
+}
+
 /// Whether the job is this of the whole one.
-fn is_piece(job: &Job, size: BlockSize, whole: &Job, cut: Cut) -> bool
-    ensures { IsTrue result ↔ (job.now ≡ job_at size whole.now cut) }
+fn is_piece(job: &Job, geometry: &Geometry, whole: &Job, cut: Cut) -> bool
+    requires { HasPart geometry.now whole.now cut }
+    ensures { IsTrue result ↔ (job.now ≡ job_at geometry.now whole.now cut) }
 {
     match cut {
         Cut::Whole => same_job(job, whole),
-        Cut::Block(k) => job.host == whole.host && is_block_of(&job.body, size, &whole.body, k),
+        Cut::Block(k) => {
+            job.host == whole.host && is_block_of(&job.body, geometry.block_size(), &whole.body, k)
+        }
+        Cut::InUnit(unit) => {
+            job.host == whole.host && is_part_of(&job.body, geometry, &whole.body, unit)
+        }
     }
 }
 
 /// Whether this of the whole job is at this place.
-fn has_piece(jobs: &Vec<Job>, place: usize, size: BlockSize, whole: &Job, cut: Cut) -> bool
-    ensures { IsTrue result ↔ IsAt jobs.now.items place (job_at size whole.now cut) }
+fn has_piece(jobs: &Vec<Job>, place: usize, geometry: &Geometry, whole: &Job, cut: Cut) -> bool
+    requires { HasPart geometry.now whole.now cut }
+    ensures { IsTrue result ↔ IsAt jobs.now.items place (job_at geometry.now whole.now cut) }
 {
-    place < jobs.len() && is_piece(&jobs[place], size, whole, cut)
+    place < jobs.len() && is_piece(&jobs[place], geometry, whole, cut)
 }
 
 /// Notes the owner of the next of the record's jobs, if that is the right one.
@@ -84,7 +111,8 @@ fn put_owner<'a>(
     owner: Owner<'a>,
     owners: &mut Vec<Owner<'a>>,
 ) -> Result<(), WitnessFault>
-    requires { length owners.old.items ≤ most_jobs }
+    requires few { length owners.old.items ≤ most_jobs }
+    requires part { HasPart geometry.now owner.whole.now.job owner.cut }
     ensures next { OnOk result ((length owners.old.items < length jobs.now.items) × (length owners.new.items ≡ length owners.old.items + 1)) }
     ensures matched { (ps : List Piece) → AreMatched geometry.now ps jobs.now.items (map (λ o. piece o.whole.now o.cut) owners.old.items)
         → MatchResult result
@@ -92,13 +120,7 @@ fn put_owner<'a>(
         (IsOtherFault geometry.now (ps ++ piece owner.entry.whole.now owner.entry.cut ∷ []) jobs.now.items) }
 {
     let number = owners.len();
-    if !has_piece(
-        jobs,
-        number,
-        geometry.block_size(),
-        &owner.whole.job,
-        owner.cut,
-    ) {
+    if !has_piece(jobs, number, geometry, &owner.whole.job, owner.cut) {
         return Err(WitnessFault::JobDiffers { job: number as u32 });
     }
     owners.push(owner)?;
@@ -131,6 +153,37 @@ fn match_blocks<'a>(
     Ok(())
 }
 
+/// Notes the traced job as the owner of each of the next jobs of the record, which are to be its command's parts in its units.
+fn match_units<'a>(
+    geometry: &Geometry,
+    jobs: &Vec<Job>,
+    traced: &'a TracedJob,
+    owners: &mut Vec<Owner<'a>>,
+) -> Result<(), WitnessFault>
+    requires ready { refusal_of geometry.now traced.now.job ≡ None }
+    requires few { length jobs.now.items ≤ most_jobs }
+    requires within { length owners.old.items ≤ length jobs.now.items }
+    ensures within { OnOk result (length owners.new.items ≤ length jobs.now.items) }
+    ensures matched { (ps : List Piece) → AreMatched geometry.now ps jobs.now.items (map (λ o. piece o.whole.now o.cut) owners.old.items)
+        → MatchResult result
+        (λ _. AreMatched geometry.now (ps ++ map (piece traced.now) (map InUnit (units_of_job geometry.now traced.now.job))) jobs.now.items (map (λ o. piece o.whole.now o.cut) owners.new.items))
+        (IsOtherFault geometry.now (ps ++ map (piece traced.now) (map InUnit (units_of_job geometry.now traced.now.job))) jobs.now.items) }
+{
+    ready_jobs();
+    parts_of_jobs();
+    whole_ranges_are_reached();
+    each_unit_has_one_place();
+    let _blocks = geometry.nsze();
+    for unit in job_units(geometry, &traced.job) {
+        let owner = Owner {
+            whole: traced,
+            cut: Cut::InUnit(unit),
+        };
+        put_owner(geometry, jobs, owner, owners)?;
+    }
+    Ok(())
+}
+
 /// Notes the traced job as the owner of the next jobs of the record, which are to be its pieces.
 fn match_pieces<'a>(
     judging: Judging,
@@ -148,9 +201,10 @@ fn match_pieces<'a>(
         (λ _. AreMatched geometry.now (ps ++ pieces_of judging geometry.now reads traced.now) jobs.now.items (map (λ o. piece o.whole.now o.cut) owners.new.items))
         (IsOtherFault geometry.now (ps ++ pieces_of judging geometry.now reads traced.now) jobs.now.items) }
 {
-    match blocks_cut(judging, geometry, reads, traced) {
-        Some(blocks) => match_blocks(geometry, jobs, traced, blocks, owners),
-        None => {
+    match cuts_of(judging, geometry, reads, traced) {
+        Cuts::Blocks(blocks) => match_blocks(geometry, jobs, traced, blocks, owners),
+        Cuts::Units => match_units(geometry, jobs, traced, owners),
+        Cuts::Whole => {
             let owner = Owner {
                 whole: traced,
                 cut: Cut::Whole,

@@ -33,7 +33,7 @@ fn has_data(size: BlockSize, cut: Cut, found: &Option<ReadData>, told: &Option<R
     ensures { IsTrue result ↔ (found.now ≡ data_at size cut told.now) }
 {
     match cut {
-        Cut::Whole => found == told,
+        Cut::Whole | Cut::InUnit(_) => found == told,
         Cut::Block(k) => match (found, told) {
             (Some(found), Some(told)) => found.as_slice() == block_data(told.as_slice(), size, k),
             (None, None) => true,

@@ -43,7 +43,7 @@ fn is_error_of(op: Op, status: Status) -> bool
 }
 
 /// Whether it is success of each command.
-pub(crate) fn is_success(statuses: Statuses) -> bool
+pub fn is_success(statuses: Statuses) -> bool
     ensures { result ≡ spec.is_success statuses }
 {
     match statuses {
@@ -101,7 +101,7 @@ fn is_served(body: &Body) -> bool
 }
 
 /// Whether the job's reply says what was done.
-pub(crate) fn says_what_was_done(geometry: &Geometry, traced: &TracedJob) -> bool
+pub fn says_what_was_done(geometry: &Geometry, traced: &TracedJob) -> bool
     ensures { result ≡ spec.says_what_was_done geometry.now traced.now }
 {
     match &traced.ended {
@@ -134,7 +134,7 @@ fn is_found_before(status: Status) -> bool
 }
 
 /// Whether the job's reply says that nothing was written.
-pub(crate) fn says_nothing_was_written(traced: &TracedJob) -> bool
+pub fn says_nothing_was_written(traced: &TracedJob) -> bool
     ensures { result ≡ spec.says_nothing_was_written traced.now }
 {
     match &traced.ended {
@@ -144,4 +144,11 @@ pub(crate) fn says_nothing_was_written(traced: &TracedJob) -> bool
         },
         None => false,
     }
+}
+
+/// Whether the job's reply, if there is one, leaves open what was done.
+pub(crate) fn leaves_open(geometry: &Geometry, traced: &TracedJob) -> bool
+    ensures { result ≡ spec.leaves_open geometry.now traced.now }
+{
+    !says_what_was_done(geometry, traced) && !says_nothing_was_written(traced)
 }

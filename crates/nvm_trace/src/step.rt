@@ -20,7 +20,7 @@ pub struct Step {
 
 impl Step {
     /// The step's place in its unit's order.
-    pub(crate) fn level(&self) -> usize
+    pub fn level(&self) -> usize
         ensures { result ≡ level_of self.now }
     {
         let before = 2 * self.point as usize;

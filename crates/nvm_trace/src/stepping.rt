@@ -77,7 +77,7 @@ fn put_work(
 }
 
 /// The steps that a record shows, by worker and in the worker's order.
-pub(crate) fn steps_of(
+pub fn steps_of(
     alloc: Global,
     owners: &Vec<Owner<'_>>,
     done: &Vec<Vec<DoneJob>>,

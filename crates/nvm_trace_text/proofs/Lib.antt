@@ -1,3 +1,10 @@
 pub mod MarkPlaces
 pub mod HeadFaults
 pub mod OneTrace
+pub mod MarkWords
+pub mod SentWords
+pub mod LineWords
+pub mod LineAgain
+pub mod HeadAgain
+pub mod TextAgain
+pub mod EndTimes

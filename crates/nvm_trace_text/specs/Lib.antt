@@ -6,3 +6,5 @@ pub mod Texts
 pub mod OneThing
 pub mod Listing
 pub mod Inside
+pub mod Spelled
+pub mod ReadBack

@@ -1,6 +1,7 @@
 //! Traces as text that scripts write and read: a head, and then a line for each command or fused pair.
 //!
-//! [`trace_of_text`] reads a text, or names the first line that is wrong and what was expected there. [`text_of_trace`] writes one.
+//! [`trace_of_text`] reads a text, or names the first line that is wrong and what was expected there. [`text_of_trace`] writes one,
+//! and [`push_job`] a single line.
 //! Commands stand in it as in a command list ([`nvm_list`]), and statuses and data as they are printed ([`nvm_text`]).
 #![tactic(auto)]
 
@@ -20,5 +21,5 @@ mod tests;
 
 pub use expected::TraceExpected;
 pub use fault::TextFault;
-pub use listing::text_of_trace;
+pub use listing::{push_job, text_of_trace};
 pub use reading::trace_of_text;

@@ -10,6 +10,9 @@ use nvm_trace::{Reads, Start, Trace, TracedJob};
 use std::alloc::Global;
 
 /// The text of a trace: its head, and a line for each job.
+///
+/// It says this very trace, by [`texts_are_read_back`](crate::laws::texts_are_read_back), where no job ended at time 2^64 - 1: no text
+/// says such an end.
 pub fn text_of_trace(alloc: Global, trace: &Trace) -> Result<String, NoMemory>
     ensures { IfOk result (λ text. string_bytes text ≡ text_of trace.now) }
 {
@@ -85,8 +88,8 @@ fn reads_word(reads: Reads) -> &'static str
     }
 }
 
-/// Appends the line of a job.
-fn push_job(text: &mut String, job: &TracedJob) -> Result<(), NoMemory>
+/// Appends the line of a job, as a trace's text has it. Where memory is refused the text has what it had, and maybe a front of the line.
+pub fn push_job(text: &mut String, job: &TracedJob) -> Result<(), NoMemory>
     ensures { OnOk result (string_bytes text.new ≡ string_bytes text.old ++ spec.job_line job.now) }
 {
     let began = job.began;

@@ -1,7 +1,8 @@
 ghost use Rattle.std.specs.Prelude.{◌≡◌};
 
 use nvm_engine::Fault;
-use nvm_front::{VERSIONS, no_host_file, no_namespace, no_record, other_block};
+use nvm_file::TraceFileFault;
+use nvm_front::{VERSIONS, no_host_file, no_namespace, no_record, no_trace, other_block};
 use nvm_record::Payload;
 use std::alloc::{AllocError, Global};
 
@@ -27,6 +28,24 @@ pub fn of_audit(alloc: Global, fault: Fault, path: &str, bytes: &Payload) -> Fai
     ensures { result.fault ≡ fault }
 {
     let hint = hint_of_audit(alloc, &fault, path, bytes);
+    Failure::hinted(fault, hint)
+}
+
+/// The failure of a witness, of a trace's file and a record's, each with its path and its bytes.
+pub fn of_witness(
+    alloc: Global,
+    fault: Fault,
+    trace: (&str, &Payload),
+    record: (&str, &Payload),
+) -> Failure
+    ensures { result.fault ≡ fault }
+{
+    let hint = match &fault {
+        Fault::Trace(TraceFileFault::BadName) => {
+            no_trace(alloc, trace.0, trace.1.as_slice()).map(Some)
+        }
+        _ => hint_of_audit(alloc, &fault, record.0, record.1),
+    };
     Failure::hinted(fault, hint)
 }
 

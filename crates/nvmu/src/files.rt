@@ -59,6 +59,17 @@ pub fn check_inputs(alloc: Global, paths: &[String]) -> Result<(), Failure>
     Ok(())
 }
 
+/// Refuses to read standard input as the trace and as the record.
+pub fn check_pair(alloc: Global, trace: &str, record: &str) -> Result<(), Failure>
+    ensures { IfErr result (λ failure. IsReadFault «record».now failure.fault) }
+{
+    if is_input(trace) && is_input(record) {
+        let why = Some("standard input is the trace, and can't be the record, too");
+        return Err(unread(alloc, record, why));
+    }
+    Ok(())
+}
+
 /// Refuses a path for the record at which one of the files to read stands or that standard output goes to, and `-`, before
 /// anything is done.
 pub fn check_output<R: Files + AllocGlobal>(

@@ -1,24 +1,29 @@
 //! The program `nvmu`: reads the words of its command line and the hosts' files, has their commands done by workers, and
-//! writes the record of that and its text. Or it audits a record.
+//! writes the record of that and its text. Or it audits a record, or judges a trace by one.
 #![tactic(auto)]
 
 ghost use Rattle.std.specs.Prelude.{◌≡◌, ◌⊎◌, IfOk, IfErr, map, string_bytes};
 ghost use Rattle.nvm_engine.specs.VerdictLine.{answer_status};
-ghost use Rattle.nvmu.specs.Runs.{IsShownOn, IsFaultOn, IsJudgedFile, IsJudgeFaultOn, IsRunFaultOn};
+ghost use Rattle.nvm_engine.specs.WitnessLine.{witness_status};
+ghost use Rattle.nvmu.specs.Runs.{IsShownOn, IsFaultOn, IsJudgedFile, IsJudgeFaultOn, IsRunFaultOn, AreWitnessedFiles, IsWitnessedBy, IsWitnessFaultOn, IsWitnessFaultBy};
 
 mod failure;
 mod files;
 mod words;
 
-use crate::failure::{Failure, of_audit, of_run};
-use crate::files::{bytes_of, check_inputs, check_output, read_files, write_file};
+use crate::failure::{Failure, of_audit, of_run, of_witness};
+use crate::files::{bytes_of, check_inputs, check_output, check_pair, read_files, write_file};
 use crate::words::{Asked, read_words};
-use nvm_engine::{Judged, Settings, Shown, audit_bytes_watched, execute_watched};
+use nvm_engine::{
+    Judged, Settings, Shown, Witnessed, audit_bytes_watched, execute_watched, witness_bytes,
+};
 use nvm_front::{
     FileFault, Output, Progress, WordFault, failed, tell, tell_unwritten, texts_of, words_given,
 };
+use nvm_record::Payload;
+use nvm_trace::Judging;
 use std::alloc::AllocError;
-use std::io::{ErrorKind, IsTerminal};
+use std::io::{ErrorKind, IsTerminal, Write};
 use std::process::ExitCode;
 use std::rt::{Env, Files};
 use std::sync::Wait;
@@ -32,8 +37,8 @@ fn main(rt: HostRuntime) -> ExitCode {
     ExitCode::from(status_of(&rt, &progress))
 }
 
-/// Does what the words of the command line ask for, and gives the exit status: 0, 2 where a record isn't lawful, or 1 after a
-/// fault. The room of standard output is taken first, so that no memory is wanted for the text once the record of a run stands.
+/// Does what the words of the command line ask for, and gives the exit status: 0, 2 where a record isn't lawful or doesn't
+/// explain the trace, or 1 after a fault. The room of standard output is taken first, so that no memory is wanted for the text once the record of a run stands.
 fn status_of<R: AllocGlobal + Env + Files + Input + Print + Eprint + Threads + Wait + Sync>(
     rt: &R,
     progress: &Progress<'_, R>,
@@ -79,6 +84,18 @@ fn done<R: AllocGlobal + Files + Input + Print + Eprint + Threads + Wait + Sync>
             progress.clear();
             match judged {
                 Ok(judged) => told(rt, &judged, output, progress),
+                Err(failure) => failed(rt, failure),
+            }
+        }
+        Asked::Witness {
+            judging,
+            trace,
+            record,
+        } => {
+            let witnessed = witnessed(rt, *judging, trace.as_str(), record.as_str(), progress);
+            progress.clear();
+            match witnessed {
+                Ok(witnessed) => stated(rt, &witnessed, output, progress),
                 Err(failure) => failed(rt, failure),
             }
         }
@@ -138,6 +155,41 @@ fn audited<R: AllocGlobal + Files + Input + Eprint + Threads + Sync>(
     }
 }
 
+/// Reads the trace and the record at these paths, and judges the trace by the record.
+fn witnessed<R: AllocGlobal + Files + Input + Eprint + Threads + Sync>(
+    rt: &R,
+    judging: Judging,
+    trace: &str,
+    record: &str,
+    progress: &Progress<'_, R>,
+) -> Result<Witnessed, Failure>
+    ensures witnessed { IfOk result (AreWitnessedFiles judging) }
+    ensures fault { IfErr result (λ failure. IsWitnessFaultOn trace.now «record».now failure.fault) }
+{
+    check_pair(rt.alloc(), trace, record)?;
+    let seen = bytes_of(rt, trace, progress)?;
+    witnessed_by(rt, judging, trace, &seen, record, progress)
+}
+
+/// Reads the record at a path, and judges by it the trace's bytes, which were read from another path.
+fn witnessed_by<R: AllocGlobal + Files + Input + Eprint + Threads + Sync>(
+    rt: &R,
+    judging: Judging,
+    trace: &str,
+    seen: &Payload,
+    record: &str,
+    progress: &Progress<'_, R>,
+) -> Result<Witnessed, Failure>
+    ensures witnessed { IfOk result (IsWitnessedBy judging seen.now) }
+    ensures fault { IfErr result (λ failure. IsWitnessFaultBy seen.now «record».now failure.fault) }
+{
+    let held = bytes_of(rt, record, progress)?;
+    match witness_bytes(rt, rt.alloc(), judging, seen, &held) {
+        Ok(witnessed) => Ok(witnessed),
+        Err(fault) => Err(of_witness(rt.alloc(), fault, (trace, seen), (record, &held))),
+    }
+}
+
 /// Writes the text of a run to standard output, line by line as it is made. Where that fails, the status is 1.
 fn printed<R: Files + Print + Eprint>(
     rt: &R,
@@ -160,6 +212,19 @@ fn told<R: Files + Print + Eprint>(
     ensures { (result ≡ answer_status judged.now) ⊎ (result ≡ 1) }
 {
     ended(rt, write_judged(output, judged), judged.status(), progress)
+}
+
+/// Writes the line of a witness to standard output. Where that fails, the status is 1.
+fn stated<R: AllocGlobal + Files + Print + Eprint>(
+    rt: &R,
+    witnessed: &Witnessed,
+    output: Output<'_, R>,
+    progress: &Progress<'_, R>,
+) -> u8
+    ensures { (result ≡ witness_status witnessed.now) ⊎ (result ≡ 1) }
+{
+    let written = write_witnessed(rt, output, witnessed);
+    ended(rt, written, witnessed.status(), progress)
 }
 
 /// The status where everything was written, or else 1, with a line that says so.
@@ -200,5 +265,17 @@ fn write_judged<R: Files + Print + Eprint>(
     judged: &Judged,
 ) -> Result<(), FileFault> {
     judged.write_line(&mut output)?;
+    output.finish()
+}
+
+fn write_witnessed<R: AllocGlobal + Files + Print + Eprint>(
+    rt: &R,
+    mut output: Output<'_, R>,
+    witnessed: &Witnessed,
+) -> Result<(), FileFault> {
+    let Ok(line) = witnessed.line(rt.alloc()) else {
+        return Err(FileFault::NoMemory);
+    };
+    output.write_all(line.as_bytes())?;
     output.finish()
 }

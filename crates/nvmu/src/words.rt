@@ -6,6 +6,7 @@ use clap::{Arg, ArgAction, ArgMatches, Command, Error, value_parser};
 use nvm_engine::{Settings, Workers};
 use nvm_front::{VERSION, WordFault, missing, owned};
 use nvm_store::Limit;
+use nvm_trace::Judging;
 use std::alloc::Global;
 
 /// What the words of the command line ask for.
@@ -22,6 +23,12 @@ pub enum Asked {
     /// `nvmu audit`: say whether the record in the file is lawful.
     Audit {
         path: String,
+    },
+    /// `nvmu witness`: say whether a record explains a trace.
+    Witness {
+        judging: Judging,
+        trace: String,
+        record: String,
     },
 }
 
@@ -76,7 +83,7 @@ const NUMBERS: [(&str, Number, &str); 8] = [
 /// Reads the words after the program's name.
 ///
 /// Every option of `run` stands once. `--workers` takes 1 to 64, `--limit` 1 to 4,194,304, and one host file or more is named.
-/// `audit` names one record.
+/// `audit` names one record, and `witness` a trace and a record.
 pub fn read_words<'a>(alloc: Global, words: &'a [&'a str]) -> Result<Asked, WordFault>
     ensures { IfOk result IsAsked }
 {
@@ -95,6 +102,7 @@ fn asked_of(alloc: Global, matches: &ArgMatches<'_>) -> Result<Option<Asked>, Wo
     match matches.subcommand() {
         Some(("run", run)) => run_asked(alloc, run),
         Some(("audit", audit)) => audit_asked(alloc, audit),
+        Some(("witness", witness)) => witness_asked(alloc, witness),
         _ => Ok(None),
     }
 }
@@ -133,6 +141,25 @@ fn audit_asked(alloc: Global, audit: &ArgMatches<'_>) -> Result<Option<Asked>, W
     Ok(Some(Asked::Audit { path }))
 }
 
+/// What `nvmu witness` is asked, or `None` where a path is missing.
+fn witness_asked(alloc: Global, witness: &ArgMatches<'_>) -> Result<Option<Asked>, WordFault>
+    ensures { IfOk result (λ asked. IfSome asked IsAsked) }
+{
+    let (Some(trace), Some(record)) = (witness.get_str("trace"), witness.get_str("record")) else {
+        return Ok(None);
+    };
+    let judging = if witness.get_flag("strict") {
+        Judging::Strict
+    } else {
+        Judging::Standard
+    };
+    Ok(Some(Asked::Witness {
+        judging,
+        trace: String::from_str(alloc, trace)?,
+        record: String::from_str(alloc, record)?,
+    }))
+}
+
 /// The options that are numbers.
 fn settings_of(run: &ArgMatches<'_>) -> Option<Settings> {
     let workers = Workers::new(run.get_one::<u16>("workers")?)?;
@@ -153,17 +180,19 @@ fn settings_of(run: &ArgMatches<'_>) -> Option<Settings> {
 fn program<'a>(alloc: Global) -> Result<Command<'a>, Error> {
     let run = run_command(alloc)?;
     let audit = audit_command(alloc)?;
+    let witness = witness_command(alloc)?;
     Ok(
         Command::new(alloc, "nvmu")
             .bin_name("nvmu")?
             .version(VERSION)
             .about(
-                "Executes the NVM commands of hosts on one namespace in memory, and audits records of that",
+                "Executes the NVM commands of hosts on one namespace in memory, and judges records and traces",
             )
             .no_binary_name(true)
             .subcommand_required(true)
             .subcommand(run)?
-            .subcommand(audit)?,
+            .subcommand(audit)?
+            .subcommand(witness)?,
     )
 }
 
@@ -195,6 +224,26 @@ fn audit_command<'a>(alloc: Global) -> Result<Command<'a>, Error> {
         "Says whether a record is lawful, and if not, what is its first fault",
     );
     Ok(command.arg(record)?)
+}
+
+/// `nvmu witness`.
+fn witness_command<'a>(alloc: Global) -> Result<Command<'a>, Error> {
+    let strict = Arg::new(alloc, "strict")
+        .long("strict")
+        .action(ArgAction::SetTrue)
+        .help("Takes each command as one step in an atomic unit, however many blocks it has");
+    let trace = Arg::new(alloc, "trace")
+        .required(true)
+        .value_name("TRACE")
+        .help("What the hosts of a device saw, or - for standard input");
+    let record = Arg::new(alloc, "record")
+        .required(true)
+        .value_name("REC")
+        .help("The record that is to explain it, or - for standard input");
+    let command = Command::new(alloc, "witness").about(
+        "Says whether a record explains a trace, and if not, what is the first fault",
+    );
+    Ok(command.arg(strict)?.arg(trace)?.arg(record)?)
 }
 
 /// A required option.

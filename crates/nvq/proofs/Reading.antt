@@ -19,6 +19,8 @@ reading_at paths k path of.NoMemory lt is h = tt
 reading_at paths k path (of.CannotWrite shown) lt is h = h
 reading_at paths k path (of.Line line expected) lt is h = h
 reading_at paths k path (of.ListLine shown line expected) lt is h = h
+reading_at paths k path (of.TraceLine line expected) lt is h = h
+reading_at paths k path of.NoHead lt is h = h
 reading_at paths k path of.InputTwice lt is h = h
 reading_at paths k path of.RecordAmongLines lt is h = h
 reading_at paths k path (of.Geometry fault) lt is h = h
@@ -29,6 +31,8 @@ reading_at paths k path (of.TooMany shown) lt is h = h
 reading_at paths k path (of.UnknownVersion shown) lt is h = h
 reading_at paths k path (of.Trailing shown at) lt is h = h
 reading_at paths k path (of.BadValue shown at) lt is h = h
+reading_at paths k path (of.BeganAtZero shown at) lt is h = h
+reading_at paths k path (of.EndedBefore shown at) lt is h = h
 
 -- the bytes of the string at a place
 pub bytes_at : (paths : List (String Global)) (k : ℕ) (path : String Global) → k < length paths → get_or paths k path ≡ path

@@ -1,5 +1,5 @@
 -- The faults of lists, of host files and of records, as the program prints them.
-use Rattle.std.specs.Prelude.{◌≡◌, ◌⊎◌, ℕ, String, List, Err}
+use Rattle.std.specs.Prelude.{◌≡◌, ◌⊎◌, ℕ, String, List, Err, string_bytes}
 use Rattle.std.specs.Global.{Global}
 use Rattle.nvm_record.specs.declared.host_fault.HostFault.{HostFault}
 use Rattle.nvm_record.specs.declared.host_fault.HostFault.TheVariants as of_file
@@ -10,8 +10,14 @@ use Rattle.nvm_list.specs.declared.fault.ListFault.TheVariants as of_list
 use Rattle.nvm_file.specs.Reading.{record_at}
 use Rattle.nvm_file.specs.declared.record_fault.RecordFault.{RecordFault}
 use Rattle.nvm_file.specs.declared.record_fault.RecordFault.TheVariants as of_record
+use Rattle.nvm_file.specs.TraceReading.{trace_at}
+use Rattle.nvm_file.specs.declared.trace_file_fault.TraceFileFault.{TraceFileFault}
+use Rattle.nvm_file.specs.declared.trace_file_fault.TraceFileFault.TheVariants as of_trace
+use Rattle.nvm_trace_text.specs.Texts.{IsTextFault}
+use Rattle.nvm_trace_text.specs.declared.fault.TextFault.{TextFault}
+use Rattle.nvm_trace_text.specs.declared.fault.TextFault.TheVariants as of_text
 use Rattle.nvq.specs.declared.fault.Fault.{Fault}
-use Rattle.nvq.specs.declared.fault.Fault.TheVariants.{Line, BadName, Truncated, TooMany, UnknownVersion, Trailing, BadValue, NoMemory}
+use Rattle.nvq.specs.declared.fault.Fault.TheVariants.{Line, TraceLine, NoHead, BadName, Truncated, TooMany, UnknownVersion, Trailing, BadValue, BeganAtZero, EndedBefore, NoMemory}
 
 -- a list's fault has its line
 abbrev pub fault_of_list : ListFault → Fault
@@ -33,6 +39,34 @@ fault_of_record path (of_record.Truncated at) = Truncated path at
 fault_of_record path (of_record.Trailing at) = Trailing path at
 fault_of_record path (of_record.BadValue at) = BadValue path at
 fault_of_record path of_record.NoMemory = NoMemory
+
+-- a trace's fault has its path
+abbrev pub fault_of_trace : String Global → TraceFileFault → Fault
+fault_of_trace path of_trace.BadName = BadName path
+fault_of_trace path (of_trace.Truncated at) = Truncated path at
+fault_of_trace path (of_trace.Trailing at) = Trailing path at
+fault_of_trace path (of_trace.BadValue at) = BadValue path at
+fault_of_trace path (of_trace.BeganAtZero at) = BeganAtZero path at
+fault_of_trace path (of_trace.EndedBefore at) = EndedBefore path at
+fault_of_trace path of_trace.NoMemory = NoMemory
+
+-- the fault of a trace's text has its line, if it has one
+abbrev pub fault_of_text : TextFault → Fault
+fault_of_text (of_text.Line line expected) = TraceLine line expected
+fault_of_text of_text.NoHead = NoHead
+fault_of_text of_text.NoMemory = NoMemory
+
+-- The fault of a trace's text, or want of memory.
+abbrev pub IsFaultOfText : List ℕ → Fault → Type 0
+IsFaultOfText text e = ((f : TextFault) × IsTextFault text f × (e ≡ fault_of_text f)) ⊎ (e ≡ NoMemory)
+
+-- The first fault of the trace at a path, or want of memory.
+abbrev pub IsFaultOfTrace : String Global → List ℕ → Fault → Type 0
+IsFaultOfTrace path file e = ((f : TraceFileFault) × (trace_at file ≡ Err f) × (e ≡ fault_of_trace path f)) ⊎ (e ≡ NoMemory)
+
+-- The same of the file at a path whose bytes are these.
+abbrev pub IsFaultOfTraceAt : List ℕ → Fault → Type 0
+IsFaultOfTraceAt path e = (shown : String Global) × (string_bytes shown ≡ path) × ((file : List ℕ) × IsFaultOfTrace shown file e)
 
 -- The fault of a list, or want of memory.
 abbrev pub IsFaultOfList : ℕ → List ℕ → Fault → Type 0

@@ -1,7 +1,7 @@
 -- Why a file wasn't read, or not written.
 use Rattle.std.specs.Prelude.{◌≡◌, ◌⊎◌, ℕ, List, string_bytes}
 use Rattle.std.specs.List.{Contains}
-use Rattle.nvq.specs.Fault.{IsFaultOfList}
+use Rattle.nvq.specs.Fault.{IsFaultOfList, IsFaultOfText}
 use Rattle.nvq.specs.declared.fault.Fault.{Fault}
 use Rattle.nvq.specs.declared.fault.Fault.TheVariants.{CannotRead, CannotWrite, NoMemory}
 
@@ -27,3 +27,8 @@ IsWriteFault path fault = ⊥
 abbrev pub IsAssemblingFault : ℕ → List ℕ → List ℕ → Fault → Type 0
 IsAssemblingFault size list out fault =
     IsReadFault list fault ⊎ (((text : List ℕ) × IsFaultOfList size text fault) ⊎ IsWriteFault out fault)
+
+-- The text at this path couldn't be read, or else it is its first fault, or else its trace's file couldn't be written to `out`.
+abbrev pub IsTracingFault : List ℕ → List ℕ → Fault → Type 0
+IsTracingFault text out fault =
+    IsReadFault text fault ⊎ (((bytes : List ℕ) × IsFaultOfText bytes fault) ⊎ IsWriteFault out fault)

@@ -1,3 +1,5 @@
+pub mod Certified
+pub mod Explained
 pub mod Fault
 pub mod Files
 pub mod Listed

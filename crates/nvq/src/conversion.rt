@@ -1,15 +1,18 @@
 ghost use Rattle.std.specs.Prelude.{◌≡◌, Ok, IfOk, IfErr, string_bytes};
 ghost use Rattle.nvm_file.specs.Reading.{record_at};
+ghost use Rattle.nvm_file.specs.TraceFile.{IsTraceFile};
 ghost use Rattle.nvm_list.specs.Lists.{assembled};
-ghost use Rattle.nvq.specs.Fault.{IsFaultOfList, IsFaultOfFile, IsFaultOfRecord};
-ghost use Rattle.nvq.specs.Listed.{begins_as_record, IsListFault, Lists, ListsCommands, ListsRecord};
+ghost use Rattle.nvq.specs.Fault.{IsFaultOfList, IsFaultOfFile, IsFaultOfRecord, IsFaultOfTrace};
+ghost use Rattle.nvq.specs.Listed.{begins_as_record, begins_as_trace, IsListFault, Lists, ListsCommands, ListsRecord, ListsTrace};
 
 use crate::fault::Fault;
 use nvm_audit::Record;
-use nvm_file::read_record;
+use nvm_file::{read_record, read_trace};
 use nvm_list::{assemble, list_file};
 use nvm_record::{BlockSize, Payload};
 use nvm_report::list_record;
+use nvm_trace::Trace;
+use nvm_trace_text::text_of_trace;
 use std::alloc::Global;
 
 /// The host file of a list, or the list's fault.
@@ -20,8 +23,8 @@ pub fn file_of(alloc: Global, list: &[u8], size: BlockSize) -> Result<Vec<u8>, F
     Ok(assemble(alloc, list, size)?)
 }
 
-/// What the file at a path holds, as text: a record where it begins with `NVR`, and else the commands of a host file, whose
-/// blocks have `size` bytes. Or the file's fault.
+/// What the file at a path holds, as text: a record where it begins with `NVR`, a trace where it begins with `NVT`, and else the
+/// commands of a host file, whose blocks have `size` bytes. Or the file's fault.
 pub fn list_of(
     alloc: Global,
     path: String,
@@ -33,6 +36,8 @@ pub fn list_of(
 {
     if is_record(file.as_slice()) {
         list_of_record(alloc, path, file)
+    } else if is_trace(file.as_slice()) {
+        list_of_trace(alloc, path, file)
     } else {
         list_of_commands(alloc, path, file, size)
     }
@@ -43,6 +48,33 @@ fn is_record(bytes: &[u8]) -> bool
     ensures { result ≡ begins_as_record bytes.now }
 {
     bytes.starts_with(b"NVR")
+}
+
+/// Whether the bytes begin as those of a trace.
+fn is_trace(bytes: &[u8]) -> bool
+    ensures { result ≡ begins_as_trace bytes.now }
+{
+    bytes.starts_with(b"NVT")
+}
+
+/// The text of the trace at a path, or the file's fault.
+fn list_of_trace(alloc: Global, path: String, file: &Payload) -> Result<String, Fault>
+    ensures list { IfOk result (λ list. ListsTrace file.now (string_bytes list)) }
+    ensures fault { IfErr result (IsFaultOfTrace path file.now) }
+{
+    let trace = trace_of(alloc, path, file)?;
+    Ok(text_of_trace(alloc, &trace)?)
+}
+
+/// The trace at a path, or the file's fault.
+pub fn trace_of(alloc: Global, path: String, file: &Payload) -> Result<Trace, Fault>
+    ensures trace { IfOk result (IsTraceFile file.now) }
+    ensures fault { IfErr result (IsFaultOfTrace path file.now) }
+{
+    match read_trace(alloc, file) {
+        Ok(trace) => Ok(trace),
+        Err(fault) => Err(Fault::of_trace(path, fault)),
+    }
 }
 
 /// The list of the record at a path, or the file's fault.

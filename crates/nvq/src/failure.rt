@@ -1,12 +1,19 @@
 ghost use Rattle.std.specs.Prelude.{◌≡◌};
 
 use crate::fault::Fault;
-use nvm_front::{VERSIONS, no_host_file, no_list, no_namespace, no_record, other_block};
+use nvm_front::{VERSIONS, no_host_file, no_list, no_namespace, no_record, no_trace, other_block};
 use nvm_record::{BlockSize, Payload};
 use std::alloc::{AllocError, Global};
 
 /// Why the program writes nothing, and what helps.
 pub type Failure = nvm_front::Failure<Fault>;
+
+/// A fault with which nothing helps but its line.
+pub fn plain(fault: Fault) -> Failure
+    ensures { result.fault ≡ fault }
+{
+    Failure { fault, hint: None }
+}
 
 /// The failure of a list that was read from a path. What helps is what the file is instead, or else the line.
 pub fn of_list(alloc: Global, fault: Fault, path: &str, list: &[u8]) -> Failure
@@ -58,7 +65,29 @@ pub fn of_record(alloc: Global, fault: Fault, path: &str, file: &[u8]) -> Failur
     Failure::hinted(fault, hint)
 }
 
-/// What helps where a list has a line that is no command: what the file is instead, or else the line.
+/// The failure of a file that was read from a path and should be a trace.
+pub fn of_trace(alloc: Global, fault: Fault, path: &str, file: &[u8]) -> Failure
+    ensures { result.fault ≡ fault }
+{
+    let hint = match fault {
+        Fault::BadName { .. } => no_trace(alloc, path, file).map(Some),
+        _ => Ok(None),
+    };
+    Failure::hinted(fault, hint)
+}
+
+/// The failure of a trace's text that was read from a path. What helps is what the file is instead, or else the line.
+pub fn of_text(alloc: Global, fault: Fault, path: &str, text: &[u8]) -> Failure
+    ensures { result.fault ≡ fault }
+{
+    let hint = match fault {
+        Fault::TraceLine { line, .. } => wrong_line(alloc, path, text, line),
+        _ => Ok(None),
+    };
+    Failure::hinted(fault, hint)
+}
+
+/// What helps where a line of text is wrong: what the file is instead, or else the line.
 fn wrong_line(
     alloc: Global,
     path: &str,

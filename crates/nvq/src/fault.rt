@@ -1,11 +1,12 @@
 ghost use Rattle.std.specs.Prelude.{◌≡◌};
 ghost use Rattle.nvq.specs.declared.fault.Fault.TheVariants.{NoMemory};
-ghost use Rattle.nvq.specs.Fault.{fault_of_list, fault_of_file, fault_of_record};
+ghost use Rattle.nvq.specs.Fault.{fault_of_list, fault_of_file, fault_of_record, fault_of_text, fault_of_trace};
 
-use nvm_file::RecordFault;
+use nvm_file::{RecordFault, TraceFileFault};
 use nvm_geometry::GeometryFault;
 use nvm_list::{Expected, ListFault};
 use nvm_record::HostFault;
+use nvm_trace_text::{TextFault, TraceExpected};
 use std::alloc::{AllocError, AllocFailed};
 use thiserror::Error;
 
@@ -35,10 +36,19 @@ pub enum Fault {
         line: u64,
         expected: Expected,
     },
-    /// Standard input is more than one list of a run.
+    /// A line of a trace's text is wrong. Lines count from 1.
+    #[error("nvq: line {line}: {expected}")]
+    TraceLine {
+        line: u64,
+        expected: TraceExpected,
+    },
+    /// A trace's text has no line with words.
+    #[error("nvq: expected a trace's head")]
+    NoHead,
+    /// Standard input is more than one list of a run, or both a trace and its record.
     #[error("nvq: standard input is named twice")]
     InputTwice,
-    /// The record of a run would go to standard output, where the lines go.
+    /// The record of a run, or one that explains a trace, would go to standard output, where the lines go.
     #[error("nvq: the record can't go to standard output")]
     RecordAmongLines,
     /// The options describe no namespace.
@@ -47,12 +57,12 @@ pub enum Fault {
     /// There are more than 64 lists.
     #[error("nvq: too many hosts")]
     TooManyHosts,
-    /// The file begins neither as a host file nor as a record.
+    /// The file begins as none of those that are expected.
     #[error("nvq: {path}: bad name")]
     BadName {
         path: String,
     },
-    /// Something in the host file or the record isn't whole; it begins at offset `at`, in bytes.
+    /// Something in the host file, the record or the trace isn't whole; it begins at offset `at`, in bytes.
     #[error("nvq: {path}: truncated at {at}")]
     Truncated {
         path: String,
@@ -68,15 +78,27 @@ pub enum Fault {
     UnknownVersion {
         path: String,
     },
-    /// Bytes follow the record, from offset `at` on.
+    /// Bytes follow the record or the trace, from offset `at` on.
     #[error("nvq: {path}: trailing at {at}")]
     Trailing {
         path: String,
         at: u64,
     },
-    /// The field at offset `at` of the record has a value that isn't allowed.
+    /// The field at offset `at` of the record or the trace has a value that isn't allowed.
     #[error("nvq: {path}: bad value at {at}")]
     BadValue {
+        path: String,
+        at: u64,
+    },
+    /// A job of the trace began at 0; the time begins at offset `at`.
+    #[error("nvq: {path}: began at zero at {at}")]
+    BeganAtZero {
+        path: String,
+        at: u64,
+    },
+    /// A job of the trace ended before it began; the time of its end begins at offset `at`.
+    #[error("nvq: {path}: ended before it began at {at}")]
+    EndedBefore {
         path: String,
         at: u64,
     },
@@ -111,6 +133,21 @@ impl Fault {
             RecordFault::NoMemory => Fault::NoMemory,
         }
     }
+
+    /// The fault of a trace's file.
+    pub fn of_trace(path: String, fault: TraceFileFault) -> Fault
+        ensures { result ≡ fault_of_trace path fault }
+    {
+        match fault {
+            TraceFileFault::BadName => Fault::BadName { path },
+            TraceFileFault::Truncated { at } => Fault::Truncated { path, at },
+            TraceFileFault::Trailing { at } => Fault::Trailing { path, at },
+            TraceFileFault::BadValue { at } => Fault::BadValue { path, at },
+            TraceFileFault::BeganAtZero { at } => Fault::BeganAtZero { path, at },
+            TraceFileFault::EndedBefore { at } => Fault::EndedBefore { path, at },
+            TraceFileFault::NoMemory => Fault::NoMemory,
+        }
+    }
 }
 
 impl From<ListFault> for Fault {
@@ -120,6 +157,18 @@ impl From<ListFault> for Fault {
         match fault {
             ListFault::Line { line, expected } => Fault::Line { line, expected },
             ListFault::NoMemory => Fault::NoMemory,
+        }
+    }
+}
+
+impl From<TextFault> for Fault {
+    ghost from_gives = { λ fault e. e ≡ fault_of_text fault };
+
+    fn from(fault: TextFault) -> Fault {
+        match fault {
+            TextFault::Line { line, expected } => Fault::TraceLine { line, expected },
+            TextFault::NoHead => Fault::NoHead,
+            TextFault::NoMemory => Fault::NoMemory,
         }
     }
 }

@@ -1,13 +1,18 @@
-ghost use Rattle.std.specs.Prelude.{◌≡◌, ℕ, List, Ok, IfOk, IfErr};
+ghost use Rattle.std.specs.Prelude.{◌≡◌, ◌⊎◌, ℕ, List, Ok, IfOk, IfErr};
 ghost use Rattle.nvm_file.specs.Reading.{record_at};
+ghost use Rattle.nvm_file.specs.TraceFile.{IsTraceFile};
+ghost use Rattle.nvq.specs.Fault.{IsFaultOfTraceAt};
 ghost use Rattle.nvq.specs.Files.{IsReadFault, IsWriteFault};
 
-use crate::conversion::record_of;
-use crate::failure::{Failure, of_record};
+use crate::conversion::{record_of, trace_of};
+use crate::failure::{Failure, of_record, of_trace};
 use crate::fault::Fault;
 use nvm_audit::Record;
-use nvm_front::{FileFault, Progress, STANDARD, is_read, read_input, refusal, write};
+use nvm_front::{
+    FileFault, Progress, STANDARD, is_output, is_read, read_input, refusal, write, write_run,
+};
 use nvm_record::Payload;
+use nvm_trace::Trace;
 use std::alloc::{AllocError, Global};
 use std::rt::Files;
 
@@ -42,6 +47,23 @@ pub fn read_as_record<R: Files + AllocGlobal + Input + Eprint>(
     }
 }
 
+/// The trace at a path, or on standard input.
+pub fn read_as_trace<R: Files + AllocGlobal + Input + Eprint>(
+    rt: &R,
+    path: &str,
+    progress: &Progress<'_, R>,
+) -> Result<Trace, Failure>
+    ensures trace { IfOk result (λ trace. (file : List ℕ) × IsTraceFile file trace) }
+    ensures fault { IfErr result (λ failure. IsReadFault path.now failure.fault ⊎ IsFaultOfTraceAt path.now failure.fault) }
+{
+    let bytes = Payload::new(rt.alloc(), bytes_of(rt, path, progress)?)?;
+    let named = String::from_str(rt.alloc(), path)?;
+    match trace_of(rt.alloc(), named, &bytes) {
+        Ok(trace) => Ok(trace),
+        Err(fault) => Err(of_trace(rt.alloc(), fault, path, bytes.as_slice())),
+    }
+}
+
 /// Writes bytes to a file, or to standard output.
 pub fn write_bytes<R: Files + AllocGlobal + Print + Eprint>(
     rt: &R,
@@ -52,6 +74,21 @@ pub fn write_bytes<R: Files + AllocGlobal + Print + Eprint>(
     ensures { IfErr result (λ failure. IsWriteFault path.now failure.fault) }
 {
     match write(rt, path, bytes, progress) {
+        Ok(()) => Ok(()),
+        Err(fault) => Err(unmade(rt.alloc(), path, fault)),
+    }
+}
+
+/// Writes the record's file. It appears whole or not at all.
+pub fn keep<R: AllocGlobal + Files + Print + Eprint>(
+    rt: &R,
+    path: &str,
+    run: &Record,
+    progress: &Progress<'_, R>,
+) -> Result<(), Failure>
+    ensures { IfErr result (λ failure. IsWriteFault path.now failure.fault) }
+{
+    match write_run(rt, path, run, progress) {
         Ok(()) => Ok(()),
         Err(fault) => Err(unmade(rt.alloc(), path, fault)),
     }
@@ -72,6 +109,20 @@ pub fn check_output<R: Files + AllocGlobal>(
     match is_read(rt, out, read) {
         Ok(false) => Ok(()),
         Ok(true) => Err(unwritten(rt.alloc(), out, Some(why))),
+        Err(_) => Err(Failure::from(AllocError)),
+    }
+}
+
+/// Refuses a path to write that is the file which standard output goes to, before anything is written.
+pub fn check_no_lines<R: Files + AllocGlobal>(rt: &R, out: &str) -> Result<(), Failure>
+    ensures { IfErr result (λ failure. IsWriteFault out.now failure.fault) }
+{
+    match is_output(rt, out) {
+        Ok(false) => Ok(()),
+        Ok(true) => {
+            let why = Some("standard output goes there, with the lines");
+            Err(unwritten(rt.alloc(), out, why))
+        }
         Err(_) => Err(Failure::from(AllocError)),
     }
 }
@@ -97,7 +148,7 @@ fn unread(alloc: Global, path: &str, why: Option<&str>) -> Failure
 }
 
 /// The failure of a file that can't be written, or want of memory for its path.
-pub fn unwritten(alloc: Global, path: &str, why: Option<&str>) -> Failure
+fn unwritten(alloc: Global, path: &str, why: Option<&str>) -> Failure
     ensures { IsWriteFault path.now result.fault }
 {
     match String::from_str(alloc, path) {

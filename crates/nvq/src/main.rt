@@ -1,26 +1,32 @@
-//! The program `nvq`: runs lists of commands, which people write, makes them into host files, lists those and records, and
-//! explains and draws records.
+//! The program `nvq`: runs lists of commands, which people write, makes them into host files, lists those, records and
+//! traces, makes the text of traces into files, explains and draws records, and says of a trace whether a record explains it.
 #![tactic(auto)]
 
 ghost use Rattle.std.specs.Prelude.{IfErr};
 ghost use Rattle.nvq.specs.Files.{IsAssemblingFault};
 
+mod certifying;
+mod certifying_words;
 mod conversion;
 mod drawing;
 mod explaining;
+mod explaining_words;
 mod failure;
 mod fault;
 mod files;
 mod running;
 mod running_words;
+mod tracing;
 mod words;
 
+use crate::certifying::run_certify;
 use crate::conversion::{file_of, list_of};
 use crate::drawing::run_draw;
 use crate::explaining::run_explain;
 use crate::failure::{Failure, of_file, of_list};
 use crate::files::{bytes_of, check_output, write_bytes};
 use crate::running::run_lists;
+use crate::tracing::run_trace;
 use crate::words::{Asked, read_words};
 use nvm_front::{Progress, WordFault, failed, tell, texts_of, words_given};
 use nvm_record::{BlockSize, Payload};
@@ -38,7 +44,8 @@ fn main(rt: HostRuntime) -> ExitCode {
     ExitCode::from(status_of(&rt, &progress))
 }
 
-/// Does what the words of the command line ask for, and gives the exit status: 0, or 1 after a fault.
+/// Does what the words of the command line ask for, and gives the exit status: 0, that of the verdict on a trace, or 1 after a
+/// fault.
 fn status_of<R: AllocGlobal + Env + Files + Input + Print + Eprint + Threads + Wait + Sync>(
     rt: &R,
     progress: &Progress<'_, R>,
@@ -48,7 +55,7 @@ fn status_of<R: AllocGlobal + Env + Files + Input + Print + Eprint + Threads + W
             let ended = run(rt, asked, progress);
             progress.clear();
             match ended {
-                Ok(()) => 0,
+                Ok(status) => status,
                 Err(failure) => failed(rt, failure),
             }
         }
@@ -63,23 +70,26 @@ fn asked<R: AllocGlobal + Env>(rt: &R) -> Result<Asked, WordFault> {
     read_words(rt.alloc(), texts.as_slice())
 }
 
-/// Does what is asked. After a fault no file is written; of standard output there may be a front where it took no more.
+/// Does what is asked, and gives the exit status. After a fault no file is written; of standard output there may be a front where it took no more.
 fn run<R: AllocGlobal + Files + Input + Print + Eprint + Threads + Wait + Sync>(
     rt: &R,
     asked: Asked,
     progress: &Progress<'_, R>,
-) -> Result<(), Failure> {
+) -> Result<u8, Failure> {
     match asked {
         Asked::Assemble { size, list, out } => {
-            run_assemble(rt, size, list.as_str(), out.as_str(), progress)
+            run_assemble(rt, size, list.as_str(), out.as_str(), progress)?;
         }
-        Asked::List { size, file } => run_list(rt, size, file, progress),
-        Asked::Run(words) => run_lists(rt, &words, progress),
-        Asked::Explain { file } => run_explain(rt, file.as_str(), progress),
+        Asked::Trace { text, out } => run_trace(rt, text.as_str(), out.as_str(), progress)?,
+        Asked::List { size, file } => run_list(rt, size, file, progress)?,
+        Asked::Run(words) => run_lists(rt, &words, progress)?,
+        Asked::Certify(words) => return run_certify(rt, &words, progress),
+        Asked::Explain(words) => run_explain(rt, &words, progress)?,
         Asked::Draw { window, file, out } => {
-            run_draw(rt, window, file.as_str(), out.as_str(), progress)
+            run_draw(rt, window, file.as_str(), out.as_str(), progress)?;
         }
     }
+    Ok(0)
 }
 
 /// Makes a list into a host file.
@@ -100,7 +110,7 @@ fn run_assemble<R: AllocGlobal + Files + Input + Print + Eprint>(
     }
 }
 
-/// Lists a host file or a record on standard output.
+/// Lists a host file, a record or a trace on standard output.
 fn run_list<R: AllocGlobal + Files + Input + Print + Eprint>(
     rt: &R,
     size: BlockSize,

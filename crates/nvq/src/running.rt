@@ -10,13 +10,12 @@ ghost use Rattle.nvq.specs.Files.{IsReadingFault, IsWriteFault};
 ghost use Rattle.nvq.specs.Ran.{AreFilesOf, IsFileOf, IsToldFault, fault_of_run};
 ghost use Rattle.nvq.specs.RunFaults.{FitNames, IsKeepingFault, IsLineFault, IsListsFault, IsNamesFault, IsSettingsOf};
 
-use crate::failure::{Failure, of_list, of_run};
+use crate::failure::{Failure, of_list, of_run, plain};
 use crate::fault::Fault;
-use crate::files::{bytes_of, check_output, unmade, unwritten};
+use crate::files::{bytes_of, check_no_lines, check_output, keep, unmade};
 use crate::running_words::RunWords;
-use nvm_audit::Record;
 use nvm_engine::{Fault as RunFault, Settings, Shown, Workers, execute_watched};
-use nvm_front::{FileFault, Output, Progress, STANDARD, is_input, is_output, write_run};
+use nvm_front::{FileFault, Output, Progress, STANDARD, is_input};
 use nvm_list::{ListFault, assemble};
 use nvm_record::{BlockSize, Payload};
 use std::alloc::{AllocError, Global};
@@ -77,13 +76,6 @@ fn inputs_of(paths: &[String]) -> usize
     count
 }
 
-/// A fault with which nothing helps but its line.
-fn plain(fault: Fault) -> Failure
-    ensures { result.fault ≡ fault }
-{
-    Failure { fault, hint: None }
-}
-
 /// The record's path is none of the lists', and not that of standard output.
 fn check_record<R: Files + AllocGlobal>(rt: &R, words: &RunWords) -> Result<(), Failure>
     ensures { IfErr result (λ failure. IsKeepingFault words.now.«record» failure.fault) }
@@ -101,14 +93,7 @@ fn check_place<R: Files + AllocGlobal>(rt: &R, path: &str, lists: &[String]) -> 
     for list in lists {
         check_output(rt, path, list.as_str(), "it is the list")?;
     }
-    match is_output(rt, path) {
-        Ok(false) => Ok(()),
-        Ok(true) => {
-            let why = Some("standard output goes there, with the lines");
-            Err(unwritten(rt.alloc(), path, why))
-        }
-        Err(_) => Err(Failure::from(AllocError)),
-    }
+    check_no_lines(rt, path)
 }
 
 /// Standard output, with its room.
@@ -291,21 +276,6 @@ fn told(fault: RunFault) -> Fault
         | RunFault::RecordTrailing { .. }
         | RunFault::RecordBadValue { .. }
         | RunFault::Trace(_) => unreachable!("what is assembled is a host file"),
-    }
-}
-
-/// Writes the record's file. It appears whole or not at all.
-fn keep<R: AllocGlobal + Files + Print + Eprint>(
-    rt: &R,
-    path: &str,
-    run: &Record,
-    progress: &Progress<'_, R>,
-) -> Result<(), Failure>
-    ensures { IfErr result (λ failure. IsWriteFault path.now failure.fault) }
-{
-    match write_run(rt, path, run, progress) {
-        Ok(()) => Ok(()),
-        Err(fault) => Err(unmade(rt.alloc(), path, fault)),
     }
 }
 

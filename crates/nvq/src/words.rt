@@ -1,6 +1,8 @@
 ghost use Rattle.std.specs.Prelude.{IfOk, IfSome};
 ghost use Rattle.nvq.specs.Words.{IsAsked};
 
+use crate::certifying_words::{CertifyWords, certify_command, read_certify};
+use crate::explaining_words::{ExplainWords, explain_command, read_explain};
 use crate::running_words::{RunWords, read_run, run_command};
 use clap::builder::ValueParser;
 use clap::{Arg, ArgMatches, Command, Error, value_parser};
@@ -18,17 +20,22 @@ pub enum Asked {
         list: String,
         out: String,
     },
-    /// `nvq list`: list a host file or a record.
+    /// `nvq trace`: make the text of a trace into its file.
+    Trace {
+        text: String,
+        out: String,
+    },
+    /// `nvq list`: list a host file, a record or a trace.
     List {
         size: BlockSize,
         file: String,
     },
     /// `nvq run`: do the commands of lists, host 1's first.
     Run(RunWords),
-    /// `nvq explain`: explain a record.
-    Explain {
-        file: String,
-    },
+    /// `nvq certify`: say whether a record explains a trace, or why none does.
+    Certify(CertifyWords),
+    /// `nvq explain`: explain a record, or whether it explains a trace.
+    Explain(ExplainWords),
     /// `nvq draw`: draw a record.
     Draw {
         window: Window,
@@ -58,8 +65,10 @@ fn asked_of(alloc: Global, matches: &ArgMatches<'_>) -> Result<Option<Asked>, Wo
 {
     match matches.subcommand() {
         Some(("assemble", words)) => assemble_asked(alloc, words),
+        Some(("trace", words)) => trace_asked(alloc, words),
         Some(("list", words)) => list_asked(alloc, words),
         Some(("run", words)) => run_asked(alloc, words),
+        Some(("certify", words)) => certify_asked(alloc, words),
         Some(("explain", words)) => explain_asked(alloc, words),
         Some(("draw", words)) => draw_asked(alloc, words),
         _ => Ok(None),
@@ -80,6 +89,18 @@ fn assemble_asked(alloc: Global, words: &ArgMatches<'_>) -> Result<Option<Asked>
     let list = String::from_str(alloc, list)?;
     let out = String::from_str(alloc, out)?;
     Ok(Some(Asked::Assemble { size, list, out }))
+}
+
+/// What `nvq trace` is asked, or `None` where a path is missing.
+fn trace_asked(alloc: Global, words: &ArgMatches<'_>) -> Result<Option<Asked>, WordFault>
+    ensures { IfOk result (λ asked. IfSome asked IsAsked) }
+{
+    let (Some(text), Some(out)) = (words.get_str("text"), words.get_str("out")) else {
+        return Ok(None);
+    };
+    let text = String::from_str(alloc, text)?;
+    let out = String::from_str(alloc, out)?;
+    Ok(Some(Asked::Trace { text, out }))
 }
 
 /// What `nvq list` is asked, or `None` where a value is missing.
@@ -103,15 +124,24 @@ fn run_asked(alloc: Global, words: &ArgMatches<'_>) -> Result<Option<Asked>, Wor
     }
 }
 
-/// What `nvq explain` is asked, or `None` where the path is missing.
+/// What `nvq certify` is asked, or `None` where a value is missing.
+fn certify_asked(alloc: Global, words: &ArgMatches<'_>) -> Result<Option<Asked>, WordFault>
+    ensures { IfOk result (λ asked. IfSome asked IsAsked) }
+{
+    match read_certify(alloc, words)? {
+        Some(certify) => Ok(Some(Asked::Certify(certify))),
+        None => Ok(None),
+    }
+}
+
+/// What `nvq explain` is asked, or `None` where a path is missing.
 fn explain_asked(alloc: Global, words: &ArgMatches<'_>) -> Result<Option<Asked>, WordFault>
     ensures { IfOk result (λ asked. IfSome asked IsAsked) }
 {
-    let Some(file) = words.get_str("file") else {
-        return Ok(None);
-    };
-    let file = String::from_str(alloc, file)?;
-    Ok(Some(Asked::Explain { file }))
+    match read_explain(alloc, words)? {
+        Some(explain) => Ok(Some(Asked::Explain(explain))),
+        None => Ok(None),
+    }
 }
 
 /// What `nvq draw` is asked, or `None` where a path is missing.
@@ -142,8 +172,10 @@ pub fn size_of(words: &ArgMatches<'_>) -> Option<BlockSize> {
 /// The command line of the program.
 fn program<'a>(alloc: Global) -> Result<Command<'a>, Error> {
     let assemble = assemble_command(alloc)?;
+    let trace = trace_command(alloc)?;
     let list = list_command(alloc)?;
     let run = run_command(alloc)?;
+    let certify = certify_command(alloc)?;
     let explain = explain_command(alloc)?;
     let draw = draw_command(alloc)?;
     Ok(
@@ -151,13 +183,15 @@ fn program<'a>(alloc: Global) -> Result<Command<'a>, Error> {
             .bin_name("nvq")?
             .version(VERSION)
             .about(
-                "Runs lists of NVM commands, makes them into host files, lists those and records, and explains and draws records",
+                "Runs lists of NVM commands, makes them into host files, lists those, records and traces, explains and draws records, and says whether a record explains a trace",
             )
             .no_binary_name(true)
             .subcommand_required(true)
             .subcommand(run)?
             .subcommand(assemble)?
+            .subcommand(trace)?
             .subcommand(list)?
+            .subcommand(certify)?
             .subcommand(explain)?
             .subcommand(draw)?,
     )
@@ -176,27 +210,31 @@ fn assemble_command<'a>(alloc: Global) -> Result<Command<'a>, Error> {
     Ok(command.arg(block(alloc))?.arg(list)?.arg(out)?)
 }
 
+/// `nvq trace`.
+fn trace_command<'a>(alloc: Global) -> Result<Command<'a>, Error> {
+    let command = Command::new(alloc, "trace").about("Makes the text of a trace into its file");
+    let text = file(alloc, "text", "TEXT", "The text, or - for standard input");
+    let out = file(
+        alloc,
+        "out",
+        "OUT",
+        "The trace's file, or - for standard output",
+    );
+    Ok(command.arg(text)?.arg(out)?)
+}
+
 /// `nvq list`.
 fn list_command<'a>(alloc: Global) -> Result<Command<'a>, Error> {
     let command = Command::new(alloc, "list").about(
-        "Lists the commands of a host file, or a record",
+        "Lists the commands of a host file, a record, or a trace",
     );
     let file = file(
         alloc,
         "file",
         "FILE",
-        "The host file or record, or - for standard input",
+        "The host file, record or trace, or - for standard input",
     );
     Ok(command.arg(block(alloc))?.arg(file)?)
-}
-
-/// `nvq explain`.
-fn explain_command<'a>(alloc: Global) -> Result<Command<'a>, Error> {
-    let command = Command::new(alloc, "explain").about(
-        "Explains what is wrong with a record, or what there is in a lawful one",
-    );
-    let file = file(alloc, "file", "REC", "The record, or - for standard input");
-    Ok(command.arg(file)?)
 }
 
 /// `nvq draw`.

@@ -1,6 +1,9 @@
 //! What several threads do.
 mod audit;
+mod certify;
 mod run;
+mod saying;
+mod silent;
 mod trace;
 
 use nvm_audit::Record;

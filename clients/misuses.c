@@ -1,0 +1,409 @@
+/* A table of misuses: a row for each way to be refused, with the code that is answered. Only ZK_DONE may write, so after every
+ * other answer the ports, the data, the completions and the status are compared with what stood there. The last rows are those of
+ * ZK_DONE and ZK_PENDING.
+ *
+ * Memory is refused, and a unit is held, by this program's own malloc: link it with -Wl,--wrap=malloc,--wrap=realloc. */
+#include <pthread.h>
+#include <semaphore.h>
+#include <stdbool.h>
+#include <stdio.h>
+#include <stdlib.h>
+#include <string.h>
+
+#include "entries.h"
+
+/* The first port is called, the second holds a unit, and the third finds out that it does. */
+enum { BLOCK = 512, PORTS = 3, ROOM = 8 * BLOCK };
+
+/* How things stand before the call. */
+enum state {
+    SHUT,       /* it was never opened */
+    CLOSED,     /* it was opened and closed */
+    OPEN,       /* all are open, with versions */
+    PLAIN,      /* all are open, without versions */
+    SECOND,     /* only the second is open */
+    BEHIND,     /* the second has changed LBA 0 since */
+    TAKEN,      /* the second has the unit of LBA 0 */
+    PENDING,    /* so a Read of two blocks is pending in the first */
+    WRITING,    /* so a Write is pending in the first */
+    STARVED,    /* all are open, and malloc refuses */
+    SHUT_STARVED
+};
+
+enum call { OPENS, CLOSES, SUBMITS, POLLS, IDENTIFIES, READS_NOW };
+
+struct row {
+    int code;
+    enum call call;
+    enum state state;
+    const char *misuse;
+    /* Lengths: of the entries, the data and the completions. Of zk_open the first is the number of ports. */
+    size_t entries, data, completions;
+    /* The opcodes and the FUSE bits of a submission, the LBA and NLB of zk_read_now. */
+    uint64_t first, second;
+    struct zk_namespace ns;
+    uint32_t limit;
+};
+
+#define USUAL { 64, BLOCK, 7, 0, 7, 7 }, 100
+#define OPEN_ROW(code, state, misuse, ports, limit, ...) { code, OPENS, state, misuse, ports, 0, 0, 0, 0, { __VA_ARGS__ }, limit }
+#define CLOSE_ROW(code, state, misuse) { code, CLOSES, state, misuse, 0, 0, 0, 0, 0, USUAL }
+#define SUBMIT_ROW(code, state, misuse, entries, data, completions, first, second) \
+    { code, SUBMITS, state, misuse, entries, data, completions, first, second, USUAL }
+#define POLL_ROW(code, state, misuse, data, completions) { code, POLLS, state, misuse, 0, data, completions, 0, 0, USUAL }
+#define IDENTIFY_ROW(code, state, misuse, data) { code, IDENTIFIES, state, misuse, 0, data, 0, 0, 0, USUAL }
+#define READ_NOW_ROW(code, state, misuse, slba, nlb, data) { code, READS_NOW, state, misuse, 0, data, 0, slba, nlb, USUAL }
+
+/* An opcode with its FUSE bits. */
+#define FUSED(opcode, fuse) ((opcode) | (fuse) << 8)
+#define FIRST(opcode) FUSED(opcode, FUSED_FIRST)
+#define SECOND_OF(opcode) FUSED(opcode, FUSED_SECOND)
+
+static const struct row rows[] = {
+    OPEN_ROW(ZK_IS_OPEN, OPEN, "open where both are open", 2, 100, 64, BLOCK, 7, 0, 7, 7),
+    OPEN_ROW(ZK_IS_OPEN, SECOND, "open where one is open", 2, 100, 64, BLOCK, 7, 0, 7, 7),
+    OPEN_ROW(ZK_IS_OPEN, SECOND, "the same with bad numbers", 2, 0, 0, 0, 0, 0, 0, 0),
+    OPEN_ROW(ZK_BAD_PORTS, SHUT, "open of no port", 0, 100, 64, BLOCK, 7, 0, 7, 7),
+    OPEN_ROW(ZK_BAD_PORTS, SHUT, "open of 65 ports", 65, 100, 64, BLOCK, 7, 0, 7, 7),
+    OPEN_ROW(ZK_BAD_NAMESPACE, SHUT, "NSZE 0", 2, 100, 0, BLOCK, 7, 0, 7, 7),
+    OPEN_ROW(ZK_BAD_NAMESPACE, SHUT, "NSZE above 65,536", 2, 100, 65537, BLOCK, 0, 0, 0, 0),
+    OPEN_ROW(ZK_BAD_NAMESPACE, SHUT, "blocks of 513 bytes", 2, 100, 64, 513, 7, 0, 7, 7),
+    OPEN_ROW(ZK_BAD_NAMESPACE, SHUT, "NABO without NABSN", 2, 100, 64, BLOCK, 0, 1, 0, 0),
+    OPEN_ROW(ZK_BAD_NAMESPACE, SHUT, "NABO above NABSN", 2, 100, 64, BLOCK, 7, 8, 7, 7),
+    OPEN_ROW(ZK_BAD_NAMESPACE, SHUT, "NAWUN above NABSN", 2, 100, 64, BLOCK, 7, 0, 8, 7),
+    OPEN_ROW(ZK_BAD_NAMESPACE, SHUT, "NACWU above NABSN", 2, 100, 64, BLOCK, 7, 0, 7, 8),
+    OPEN_ROW(ZK_BAD_NAMESPACE, SHUT, "4,097 units", 2, 100, 8194, BLOCK, 1, 0, 1, 1),
+    OPEN_ROW(ZK_BAD_LIMIT, SHUT, "a limit of 0", 2, 0, 64, BLOCK, 7, 0, 7, 7),
+    OPEN_ROW(ZK_BAD_LIMIT, SHUT, "a limit above ZK_MOST_CHANGES", 2, ZK_MOST_CHANGES + 1, 64, BLOCK, 7, 0, 7, 7),
+    OPEN_ROW(ZK_NO_MEMORY, SHUT_STARVED, "open without memory", 2, 100, 64, BLOCK, 7, 0, 7, 7),
+    CLOSE_ROW(ZK_NOT_OPEN, SHUT, "close of a port that was never opened"),
+    CLOSE_ROW(ZK_NOT_OPEN, CLOSED, "second close"),
+    SUBMIT_ROW(ZK_NOT_OPEN, SHUT, "submit to a port that was never opened", 64, BLOCK, 16, WRITE, 0),
+    SUBMIT_ROW(ZK_NOT_OPEN, CLOSED, "submit after close", 64, BLOCK, 16, WRITE, 0),
+    SUBMIT_ROW(ZK_BUSY, PENDING, "submit while a command is pending", 64, BLOCK, 16, WRITE, 0),
+    SUBMIT_ROW(ZK_BUSY, PENDING, "the same with an entry of 63 bytes", 63, BLOCK, 16, WRITE, 0),
+    SUBMIT_ROW(ZK_BAD_LENGTH, OPEN, "no entry", 0, BLOCK, 16, WRITE, 0),
+    SUBMIT_ROW(ZK_BAD_LENGTH, OPEN, "an entry of 63 bytes", 63, BLOCK, 16, WRITE, 0),
+    SUBMIT_ROW(ZK_BAD_LENGTH, OPEN, "an entry and a half", 96, BLOCK, 16, WRITE, 0),
+    SUBMIT_ROW(ZK_BAD_LENGTH, OPEN, "three entries", 192, BLOCK, 48, WRITE, WRITE),
+    SUBMIT_ROW(ZK_BAD_LENGTH, OPEN, "a Write with a byte too few", 64, BLOCK - 1, 16, WRITE, 0),
+    SUBMIT_ROW(ZK_BAD_LENGTH, OPEN, "a Write with a byte too many", 64, BLOCK + 1, 16, WRITE, 0),
+    SUBMIT_ROW(ZK_BAD_LENGTH, OPEN, "a Write without data", 64, 0, 16, WRITE, 0),
+    SUBMIT_ROW(ZK_BAD_LENGTH, OPEN, "a Compare with a byte too few", 64, BLOCK - 1, 16, COMPARE, 0),
+    SUBMIT_ROW(ZK_BAD_LENGTH, OPEN, "a Read with too little room", 64, BLOCK - 1, 16, READ, 0),
+    SUBMIT_ROW(ZK_BAD_LENGTH, OPEN, "a Read with too much room", 64, 2 * BLOCK, 16, READ, 0),
+    SUBMIT_ROW(ZK_BAD_LENGTH, OPEN, "Write Zeroes with data", 64, BLOCK, 16, WRITE_ZEROES, 0),
+    SUBMIT_ROW(ZK_BAD_LENGTH, OPEN, "Write Uncorrectable with data", 64, 1, 16, WRITE_UNCORRECTABLE, 0),
+    SUBMIT_ROW(ZK_BAD_LENGTH, OPEN, "a range of 15 bytes", 64, RANGE_BYTES - 1, 16, DATASET_MANAGEMENT, 0),
+    SUBMIT_ROW(ZK_BAD_LENGTH, OPEN, "an unknown opcode with data", 64, BLOCK, 16, 0x7f, 0),
+    SUBMIT_ROW(ZK_BAD_LENGTH, OPEN, "Flush with data", 64, BLOCK, 16, 0x00, 0),
+    SUBMIT_ROW(ZK_BAD_LENGTH, OPEN, "a completion of 15 bytes", 64, BLOCK, 15, WRITE, 0),
+    SUBMIT_ROW(ZK_BAD_LENGTH, OPEN, "room for no completion", 64, BLOCK, 0, WRITE, 0),
+    SUBMIT_ROW(ZK_BAD_LENGTH, OPEN, "room for two completions", 64, BLOCK, 32, WRITE, 0),
+    SUBMIT_ROW(ZK_BAD_LENGTH, OPEN, "a pair with the data of one", 128, BLOCK, 32, FIRST(COMPARE), SECOND_OF(WRITE)),
+    SUBMIT_ROW(ZK_BAD_LENGTH, OPEN, "a pair with a byte too many", 128, 2 * BLOCK + 1, 32, FIRST(COMPARE), SECOND_OF(WRITE)),
+    SUBMIT_ROW(ZK_BAD_LENGTH, OPEN, "a pair with room for one completion", 128, 2 * BLOCK, 16, FIRST(COMPARE), SECOND_OF(WRITE)),
+    SUBMIT_ROW(ZK_NO_PAIR, OPEN, "two entries that aren't fused", 128, 2 * BLOCK, 32, WRITE, WRITE),
+    SUBMIT_ROW(ZK_NO_PAIR, OPEN, "a pair whose second is first", 128, 2 * BLOCK, 32, SECOND_OF(COMPARE), FIRST(WRITE)),
+    SUBMIT_ROW(ZK_NO_PAIR, OPEN, "two firsts", 128, 2 * BLOCK, 32, FIRST(COMPARE), FIRST(WRITE)),
+    SUBMIT_ROW(ZK_NO_PAIR, OPEN, "a first alone", 128, 2 * BLOCK, 32, FIRST(COMPARE), WRITE),
+    SUBMIT_ROW(ZK_NO_PAIR, OPEN, "FUSE 11b", 128, 2 * BLOCK, 32, FUSED(COMPARE, 3), SECOND_OF(WRITE)),
+    SUBMIT_ROW(ZK_NO_PAIR, OPEN, "a pair with an unknown opcode", 128, BLOCK, 32, FIRST(0x7f), SECOND_OF(WRITE)),
+    SUBMIT_ROW(ZK_NO_MEMORY, STARVED, "submit without memory", 64, BLOCK, 16, WRITE, 0),
+    SUBMIT_ROW(ZK_NO_MEMORY, STARVED, "a pair without memory", 128, 2 * BLOCK, 32, FIRST(COMPARE), SECOND_OF(WRITE)),
+    POLL_ROW(ZK_NOT_OPEN, SHUT, "poll of a port that was never opened", BLOCK, 16),
+    POLL_ROW(ZK_NOT_OPEN, CLOSED, "poll after close", BLOCK, 16),
+    POLL_ROW(ZK_IDLE, OPEN, "poll of an idle port", BLOCK, 16),
+    POLL_ROW(ZK_IDLE, OPEN, "the same without any room", 0, 0),
+    POLL_ROW(ZK_BAD_LENGTH, PENDING, "poll of a Read with too little room", 2 * BLOCK - 1, 16),
+    POLL_ROW(ZK_BAD_LENGTH, PENDING, "poll with a completion of 15 bytes", 2 * BLOCK, 15),
+    POLL_ROW(ZK_BAD_LENGTH, WRITING, "poll of a Write with room for two completions", BLOCK, 32),
+    IDENTIFY_ROW(ZK_NOT_OPEN, SHUT, "identify of a port that was never opened", ZK_IDENTIFY_BYTES),
+    IDENTIFY_ROW(ZK_NOT_OPEN, CLOSED, "identify after close", ZK_IDENTIFY_BYTES),
+    IDENTIFY_ROW(ZK_BAD_LENGTH, OPEN, "identify with a byte too few", ZK_IDENTIFY_BYTES - 1),
+    IDENTIFY_ROW(ZK_BAD_LENGTH, OPEN, "identify without room", 0),
+    READ_NOW_ROW(ZK_NOT_OPEN, SHUT, "read_now of a port that was never opened", 0, 0, BLOCK),
+    READ_NOW_ROW(ZK_NOT_OPEN, CLOSED, "read_now after close", 0, 0, BLOCK),
+    READ_NOW_ROW(ZK_BUSY, PENDING, "read_now while a command is pending", 0, 0, BLOCK),
+    READ_NOW_ROW(ZK_NO_VERSIONS, PLAIN, "read_now without versions", 0, 0, BLOCK),
+    READ_NOW_ROW(ZK_BAD_LENGTH, OPEN, "read_now with too little room", 0, 1, 2 * BLOCK - 1),
+    READ_NOW_ROW(ZK_BAD_LENGTH, OPEN, "read_now with too much room", 0, 0, BLOCK + 1),
+    READ_NOW_ROW(ZK_OUT_OF_RANGE, OPEN, "read_now above the namespace", 64, 0, BLOCK),
+    READ_NOW_ROW(ZK_OUT_OF_RANGE, OPEN, "read_now at the last LBA of all", ~0ull, 0, BLOCK),
+    READ_NOW_ROW(ZK_CROSSES, OPEN, "read_now of two units", 7, 1, 2 * BLOCK),
+    READ_NOW_ROW(ZK_NEWER, BEHIND, "read_now of what another has changed", 0, 0, BLOCK),
+    READ_NOW_ROW(ZK_NO_MEMORY, STARVED, "read_now without memory", 0, 0, BLOCK),
+    OPEN_ROW(ZK_DONE, SHUT, "open", 2, 100, 64, BLOCK, 7, 0, 7, 7),
+    OPEN_ROW(ZK_DONE, CLOSED, "open again", 2, ZK_MOST_CHANGES, 65536, 4096, 15, 0, 15, 0),
+    CLOSE_ROW(ZK_DONE, OPEN, "close"),
+    CLOSE_ROW(ZK_DONE, PENDING, "close while a command is pending"),
+    SUBMIT_ROW(ZK_PENDING, TAKEN, "a Write while the unit is held", 64, BLOCK, 16, WRITE, 0),
+    SUBMIT_ROW(ZK_PENDING, TAKEN, "a Read while the unit is held", 64, BLOCK, 16, READ, 0),
+    SUBMIT_ROW(ZK_DONE, TAKEN, "an unknown opcode while the unit is held", 64, 0, 16, 0x7f, 0),
+    POLL_ROW(ZK_PENDING, PENDING, "poll while the unit is held", 2 * BLOCK, 16),
+    POLL_ROW(ZK_PENDING, WRITING, "poll of a Write without its data", 0, 16),
+    SUBMIT_ROW(ZK_DONE, OPEN, "a Write", 64, BLOCK, 16, WRITE, 0),
+    SUBMIT_ROW(ZK_DONE, OPEN, "a first by itself", 64, BLOCK, 16, FIRST(WRITE), 0),
+    SUBMIT_ROW(ZK_DONE, OPEN, "a pair of a Write and a Compare", 128, 2 * BLOCK, 32, FIRST(WRITE), SECOND_OF(COMPARE)),
+    SUBMIT_ROW(ZK_DONE, OPEN, "Flush", 64, 0, 16, 0x00, 0),
+    IDENTIFY_ROW(ZK_DONE, PENDING, "identify while a command is pending", ZK_IDENTIFY_BYTES),
+    READ_NOW_ROW(ZK_DONE, TAKEN, "read_now while the unit is held", 0, 0, BLOCK),
+};
+
+/* What this thread's malloc does: refuse, refuse from the so manyth call on, or stop at the so manyth call and wait. */
+static _Thread_local bool refuses;
+static _Thread_local unsigned refuses_from, stops_at;
+static sem_t stopped, go_on;
+
+void *__real_malloc(size_t size);
+void *__real_realloc(void *old, size_t size);
+
+static bool is_refused(void)
+{
+    if (stops_at && --stops_at == 0) {
+        sem_post(&stopped);
+        while (sem_wait(&go_on))
+            ;
+    }
+    if (refuses_from && --refuses_from == 0)
+        refuses = true;
+    return refuses;
+}
+
+void *__wrap_malloc(size_t size)
+{
+    return is_refused() ? NULL : __real_malloc(size);
+}
+
+void *__wrap_realloc(void *old, size_t size)
+{
+    return is_refused() ? NULL : __real_realloc(old, size);
+}
+
+static struct zk_port ports[65];
+static const struct zk_namespace usual = { 64, BLOCK, 7, 0, 7, 7 };
+
+/* Another thread that stops in the midst of a Write by the second port. */
+struct holder {
+    pthread_t id;
+    unsigned at;
+    bool is_there;
+};
+
+static void *hold(void *given)
+{
+    const struct holder *holder = given;
+    uint8_t entry[ZK_ENTRY_BYTES], block[BLOCK] = { 1 }, told[ZK_COMPLETION_BYTES];
+    entry_of(entry, WRITE, 0, 1, 0, 1);
+    stops_at = holder->at;
+    zk_submit(&ports[1], entry, sizeof entry, block, sizeof block, told, sizeof told);
+    if (stops_at) {
+        stops_at = 0;
+        sem_post(&stopped);
+    }
+    return NULL;
+}
+
+static void let_go(struct holder *holder)
+{
+    if (!holder->is_there)
+        return;
+    sem_post(&go_on);
+    pthread_join(holder->id, NULL);
+    while (sem_trywait(&go_on) == 0)
+        ;
+    holder->is_there = false;
+}
+
+static void close_all(void)
+{
+    for (int i = 0; i < PORTS; i++)
+        zk_close(&ports[i]);
+}
+
+static int submit(struct zk_port *port, uint8_t opcode, uint32_t blocks)
+{
+    static uint8_t data[2 * BLOCK];
+    uint8_t entry[ZK_ENTRY_BYTES], told[ZK_COMPLETION_BYTES];
+    entry_of(entry, opcode, 0, 1, 0, blocks);
+    return zk_submit(port, entry, sizeof entry, data, blocks * BLOCK, told, sizeof told);
+}
+
+static bool open_all(bool versions)
+{
+    return zk_open(ports, PORTS, &usual, 100, versions) == ZK_DONE;
+}
+
+/* Has the second port hold the unit of LBA 0. A Write asks for memory a few times, and at one of these it has the unit. */
+static bool hold_unit(struct holder *holder)
+{
+    for (unsigned at = 1; at < 64; at++) {
+        close_all();
+        holder->at = at;
+        if (!open_all(true) || pthread_create(&holder->id, NULL, hold, holder))
+            return false;
+        holder->is_there = true;
+        while (sem_wait(&stopped))
+            ;
+        if (submit(&ports[2], READ, 1) == ZK_PENDING)
+            return true;
+        let_go(holder);
+    }
+    return false;
+}
+
+/* Brings the ports into the state. */
+static bool prepare(enum state state, struct holder *holder)
+{
+    close_all();
+    switch (state) {
+    case SHUT:
+    case SHUT_STARVED:
+        return true;
+    case CLOSED:
+        if (!open_all(true))
+            return false;
+        close_all();
+        return true;
+    case SECOND:
+        return zk_open(&ports[1], 1, &usual, 100, true) == ZK_DONE;
+    case OPEN:
+    case STARVED:
+        return open_all(true);
+    case PLAIN:
+        return open_all(false);
+    case BEHIND:
+        return open_all(true) && submit(&ports[1], WRITE, 1) == ZK_DONE;
+    case TAKEN:
+        return hold_unit(holder);
+    case PENDING:
+        return hold_unit(holder) && submit(&ports[0], READ, 2) == ZK_PENDING;
+    case WRITING:
+        return hold_unit(holder) && submit(&ports[0], WRITE, 1) == ZK_PENDING;
+    }
+    return false;
+}
+
+/* All that a call may write. */
+struct written {
+    uint8_t data[ROOM], completions[4 * ZK_COMPLETION_BYTES];
+    struct zk_status status;
+};
+
+static int call(const struct row *row, struct written *written)
+{
+    uint8_t entries[3 * ZK_ENTRY_BYTES];
+    entry_of(entries, (uint8_t)row->first, (uint8_t)(row->first >> 8), 1, 0, 1);
+    entry_of(entries + ZK_ENTRY_BYTES, (uint8_t)row->second, (uint8_t)(row->second >> 8), 2, 0, 1);
+    entry_of(entries + 2 * ZK_ENTRY_BYTES, WRITE, 0, 3, 0, 1);
+    switch (row->call) {
+    case OPENS:
+        return zk_open(ports, row->entries, &row->ns, row->limit, true);
+    case CLOSES:
+        return zk_close(ports);
+    case SUBMITS:
+        return zk_submit(ports, entries, row->entries, written->data, row->data, written->completions, row->completions);
+    case POLLS:
+        return zk_poll(ports, written->data, row->data, written->completions, row->completions);
+    case IDENTIFIES:
+        return zk_identify(ports, written->data, row->data);
+    case READS_NOW:
+        return zk_read_now(ports, row->first, (uint16_t)row->second, written->data, row->data, &written->status);
+    }
+    return -1;
+}
+
+/* Whether the row's call answers its code, writes nothing but with ZK_DONE, and leaves a pending command pending. */
+static bool holds(const struct row *row)
+{
+    static struct written written, before;
+    struct zk_port ports_before[65];
+    struct holder holder = { .is_there = false };
+    if (!prepare(row->state, &holder)) {
+        fprintf(stderr, "misuses: %s: the ports couldn't be brought into the state\n", row->misuse);
+        return false;
+    }
+    memset(&written, 0xa5, sizeof written);
+    memcpy(&before, &written, sizeof written);
+    memcpy(ports_before, ports, sizeof ports);
+    refuses = row->state == STARVED || row->state == SHUT_STARVED;
+    int code = call(row, &written);
+    refuses = false;
+    bool right = code == row->code;
+    if (!right)
+        fprintf(stderr, "misuses: %s: %d, and not %d\n", row->misuse, code, row->code);
+    if (code != ZK_DONE && memcmp(&written, &before, sizeof written) != 0) {
+        fprintf(stderr, "misuses: %s: something was written\n", row->misuse);
+        right = false;
+    }
+    if (code != ZK_DONE && row->call == OPENS && memcmp(ports, ports_before, sizeof ports) != 0) {
+        fprintf(stderr, "misuses: %s: the ports were written\n", row->misuse);
+        right = false;
+    }
+    let_go(&holder);
+    if ((row->state == PENDING || row->state == WRITING) && row->call != CLOSES
+        && zk_poll(ports, written.data, 2 * BLOCK, written.completions, ZK_COMPLETION_BYTES) != ZK_DONE) {
+        fprintf(stderr, "misuses: %s: the pending command is lost\n", row->misuse);
+        right = false;
+    }
+    close_all();
+    return right;
+}
+
+/* Where memory is refused at the so manyth time, a command ends by its code or with 0/06, and the port goes on working. */
+static bool starved_in_the_midst(void)
+{
+    uint8_t entry[ZK_ENTRY_BYTES], block[BLOCK], told[ZK_COMPLETION_BYTES];
+    entry_of(entry, WRITE, 0, 1, 0, 1);
+    for (unsigned nth = 0; nth < 8; nth++) {
+        memset(block, 7, sizeof block);
+        if (!open_all(true))
+            return false;
+        refuses_from = nth + 1;
+        int code = zk_submit(ports, entry, sizeof entry, block, sizeof block, told, sizeof told);
+        bool was_refused = refuses_from == 0;
+        refuses_from = 0;
+        refuses = false;
+        bool full = code == ZK_DONE && status_of(told) == 0x006;
+        bool done = code == ZK_DONE && status_of(told) == 0x000;
+        if (was_refused ? !full && code != ZK_NO_MEMORY : !done)
+            return false;
+        memset(block, 9, sizeof block);
+        entry[0] = READ;
+        code = zk_submit(ports, entry, sizeof entry, block, sizeof block, told, sizeof told);
+        entry[0] = WRITE;
+        if (code != ZK_DONE || status_of(told) != 0 || block[0] != (was_refused ? 0 : 7))
+            return false;
+        close_all();
+    }
+    return true;
+}
+
+int main(int words, char **word)
+{
+    static const char *const codes[] = { "ZK_DONE", "ZK_PENDING", "ZK_NOT_OPEN", "ZK_IS_OPEN", "ZK_NO_MEMORY",
+                                         "ZK_BAD_NAMESPACE", "ZK_BAD_PORTS", "ZK_BAD_LIMIT", "ZK_BAD_LENGTH", "ZK_NO_PAIR",
+                                         "ZK_BUSY", "ZK_IDLE", "ZK_NEWER", "ZK_OUT_OF_RANGE", "ZK_CROSSES", "ZK_NO_VERSIONS" };
+    bool right = true, answered[sizeof codes / sizeof *codes] = { false };
+    size_t count = sizeof rows / sizeof *rows;
+    sem_init(&stopped, 0, 0);
+    sem_init(&go_on, 0, 0);
+    for (size_t i = 0; i < count; i++) {
+        if (words > 1 && strcmp(word[1], "list") == 0)
+            printf("%-16s %s\n", codes[rows[i].code], rows[i].misuse);
+        right &= holds(&rows[i]);
+        answered[rows[i].code] = true;
+    }
+    if (!starved_in_the_midst()) {
+        fprintf(stderr, "misuses: a Write to which memory is refused in the midst\n");
+        right = false;
+    }
+    for (size_t i = 0; i < sizeof codes / sizeof *codes; i++)
+        if (!answered[i]) {
+            fprintf(stderr, "misuses: no row answers %s\n", codes[i]);
+            right = false;
+        }
+    if (right)
+        printf("%zu calls, each answered as the table says, and nothing written but with ZK_DONE\n", count);
+    return right ? 0 : 1;
+}

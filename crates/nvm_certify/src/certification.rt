@@ -1,0 +1,26 @@
+use nvm_audit::Record;
+use nvm_refute::Argument;
+use nvm_trace::Explained;
+
+/// What was found out about a trace.
+#[derive(Debug, Drop)]
+pub enum Certification {
+    /// The record explains the trace, with these numbers.
+    Explained { run: Record, numbers: Explained },
+    /// No record explains the trace, by this argument.
+    Contradicted { argument: Argument },
+    /// Neither a record nor an argument was found. It says how far the search came in the unit where it stopped. It says
+    /// nothing where each unit had an order, and no record was made of them.
+    Unknown { reached: Option<Reached> },
+}
+
+/// How far a search came in a unit.
+#[derive(Clone, Copy, Debug, PartialEq, Eq)]
+pub struct Reached {
+    /// The number of the unit.
+    pub unit: u16,
+    /// The most steps that were put in order.
+    pub placed: u32,
+    /// How many steps there are.
+    pub steps: u32,
+}

@@ -1,0 +1,98 @@
+-- The text of a verdict on a trace (own), and the exit status that goes with it.
+use Rattle.std.specs.Prelude.{ℕ, ◌-◌, ◌==◌, ◌||◌, length, Bool, List, [], ◌++◌, Option, Some, None, slice_get, codes, decimal}
+use Rattle.std.specs.List.{enumerate_from, filter, flat_map, list_any}
+use Rattle.nvm_certify.specs.declared.certification.Certification.{Certification}
+use Rattle.nvm_certify.specs.declared.certification.Certification.TheVariants as verdict
+use Rattle.nvm_certify.specs.declared.certification.Reached.{Reached}
+use Rattle.nvm_refute.specs.declared.fact.Fact.{Fact}
+use Rattle.nvm_refute.specs.declared.fact.Fact.TheVariants.{Time, Source, Over, Under, First, Nobody}
+use Rattle.nvm_trace.specs.declared.explained.Explained.{Explained}
+use Rattle.nvm_trace.specs.declared.judging.Judging.{Judging}
+use Rattle.nvm_trace.specs.declared.traced_job.TracedJob.{TracedJob}
+use Rattle.nvm_trace.specs.TraceView.{TraceView}
+use Rattle.nvm_trace_text.specs.Listing.{job_line}
+use Rattle.nvm_certify_text.specs.declared.naming.PieceName.{PieceName}
+use Rattle.nvm_certify_text.specs.Facts.{fact_line}
+use Rattle.nvm_certify_text.specs.Names.{name_at, name_text, names}
+
+-- how many jobs, units and steps there are, how many replies don't say what was done, and how many preparations there are
+unfoldable pub explained_line : Explained → List ℕ
+explained_line e =
+    codes "explained jobs " ++ (decimal e.jobs
+    ++ (codes " units " ++ (decimal e.units
+    ++ (codes " steps " ++ (decimal e.steps
+    ++ (codes " excused " ++ (decimal e.excused
+    ++ (codes " preparations " ++ (decimal e.preparations ++ codes "\n")))))))))
+
+-- how far a search came in which unit, if it says so
+unfoldable pub unknown_line : Option Reached → List ℕ
+unknown_line None = codes "unknown\n"
+unknown_line (Some r) =
+    codes "unknown unit " ++ (decimal r.unit ++ (codes " placed " ++ (decimal r.placed ++ (codes " steps " ++ (decimal r.steps ++ codes "\n")))))
+
+-- the piece is of the job of this number
+abbrev pub is_of : List PieceName → ℕ → ℕ → Bool
+is_of names job piece = (name_at names piece).job == job
+
+-- the fact names a piece of the job of this number
+abbrev pub names_job : List PieceName → ℕ → Fact → Bool
+names_job names job (Time earlier later) = is_of names job earlier || is_of names job later
+names_job names job (Source writer reader lba) = is_of names job writer || is_of names job reader
+names_job names job (Over reader writer lba source) = is_of names job reader || is_of names job writer || is_of names job source
+names_job names job (Under writer source lba reader) = is_of names job reader || is_of names job writer || is_of names job source
+names_job names job (First reader writer lba) = is_of names job writer || is_of names job reader
+names_job names job (Nobody reader lba) = is_of names job reader
+
+-- the jobs of which the facts name pieces, with their numbers
+abbrev pub named_jobs : List PieceName → List Fact → List (ℕ × TracedJob) → List (ℕ × TracedJob)
+named_jobs names facts jobs = filter (λ x. list_any (names_job names x.0) facts) jobs
+
+-- a job's number, and its line in the trace's text
+abbrev pub command_line : ℕ × TracedJob → List ℕ
+command_line x = codes "job " ++ (decimal x.0 ++ (codes " " ++ job_line x.1))
+
+-- the piece that the fact puts before another
+abbrev pub earlier_of : Fact → Option ℕ
+earlier_of (Time earlier later) = Some earlier
+earlier_of (Source writer reader lba) = Some writer
+earlier_of (Over reader writer lba source) = Some reader
+earlier_of (Under writer source lba reader) = Some writer
+earlier_of (First reader writer lba) = Some reader
+earlier_of (Nobody reader lba) = None
+
+-- what the facts come to, by the last of them
+abbrev pub end_line : List PieceName → Option ℕ → List ℕ
+end_line names None = []
+end_line names (Some piece) = codes "so " ++ (name_text (name_at names piece) ++ codes " stands before itself\n")
+
+abbrev pub earlier_if : Option Fact → Option ℕ
+earlier_if None = None
+earlier_if (Some fact) = earlier_of fact
+
+abbrev pub last_line : List PieceName → List Fact → List ℕ
+last_line names facts = end_line names (earlier_if (slice_get facts (length facts - 1)))
+
+abbrev pub facts_text : List PieceName → List TracedJob → List Fact → List ℕ
+facts_text names jobs facts = flat_map (fact_line names jobs) facts ++ last_line names facts
+
+unfoldable pub count_line : ℕ → ℕ → List ℕ
+count_line unit count = codes "contradiction unit " ++ (decimal unit ++ (codes " commands " ++ (decimal count ++ codes "\n")))
+
+abbrev pub contradiction_with : List PieceName → List TracedJob → ℕ → List Fact → List ℕ
+contradiction_with names jobs unit facts =
+    let commands = named_jobs names facts (enumerate_from 0 jobs) in
+    count_line unit (length commands) ++ (flat_map command_line commands ++ facts_text names jobs facts)
+
+-- a line of its number for each command that the facts name, one for each fact, and what they come to
+abbrev pub contradiction_text : Judging → TraceView → ℕ → List Fact → List ℕ
+contradiction_text judging t unit facts = contradiction_with (names judging t) t.jobs unit facts
+
+abbrev pub certification_text : Judging → TraceView → Certification → List ℕ
+certification_text judging t (verdict.Explained run numbers) = explained_line numbers
+certification_text judging t (verdict.Contradicted argument) = contradiction_text judging t argument.unit argument.facts.items
+certification_text judging t (verdict.Unknown reached) = unknown_line reached
+
+abbrev pub certification_status : Certification → ℕ
+certification_status (verdict.Explained run numbers) = 0
+certification_status (verdict.Contradicted argument) = 2
+certification_status (verdict.Unknown reached) = 3

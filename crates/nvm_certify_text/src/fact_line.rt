@@ -1,0 +1,148 @@
+//! What a fact says, and by which rule.
+ghost use Rattle.std.specs.Prelude.{◌≡◌, ◌++◌, OnOk, Some, string_bytes};
+ghost use Rattle.nvm_certify_text.specs.Facts as spec;
+
+use crate::naming::{PieceName, name_at};
+use nvm_record::NoMemory;
+use nvm_refute::Fact;
+use nvm_trace::TracedJob;
+use std::fmt;
+use std::fmt::{Display, Formatter};
+
+/// A time, or `-` for none.
+#[derive(Clone, Copy)]
+struct TimeText(Option<u64>);
+
+impl Display for TimeText {
+    ghost output = { λ text. Some (spec.time_text text.0) };
+
+    #[tactic(auto, unfolding(crate::specs::Facts::time_text))]
+    fn fmt<W: fmt::Write>(&self, f: &mut Formatter<W>) -> fmt::Result {
+        match self.0 {
+            Some(time) => write!(f, "{time}"),
+            None => f.write_str("-"),
+        }
+    }
+}
+
+/// That the one piece stands before the other.
+#[derive(Clone, Copy)]
+struct OrderText(PieceName, PieceName);
+
+impl Display for OrderText {
+    ghost output = { λ text. Some (spec.order_text text.0 text.1) };
+
+    #[tactic(auto, unfolding(crate::specs::Facts::order_text))]
+    fn fmt<W: fmt::Write>(&self, f: &mut Formatter<W>) -> fmt::Result {
+        write!(f, "{} stands before {}", self.0, self.1)
+    }
+}
+
+/// When the job of this number ended, if it did and there is one.
+#[tactic(auto, unfolding(crate::specs::Facts::ended_at))]
+fn ended_at(jobs: &[TracedJob], number: usize) -> Option<u64>
+    ensures { result ≡ spec.ended_at jobs.now number }
+{
+    match jobs.get(number) {
+        Some(job) => match &job.ended {
+            Some(ending) => Some(ending.time),
+            None => None,
+        },
+        None => None,
+    }
+}
+
+/// When the job of this number began, if there is one.
+#[tactic(auto, unfolding(crate::specs::Facts::began_at))]
+fn began_at(jobs: &[TracedJob], number: usize) -> Option<u64>
+    ensures { result ≡ spec.began_at jobs.now number }
+{
+    match jobs.get(number) {
+        Some(job) => Some(job.began),
+        None => None,
+    }
+}
+
+/// Appends the line of a fact.
+pub(crate) fn push_fact(
+    text: &mut String,
+    names: &[PieceName],
+    jobs: &[TracedJob],
+    fact: Fact,
+) -> Result<(), NoMemory>
+    ensures { OnOk result (string_bytes text.new ≡ string_bytes text.old ++ spec.fact_line names.now jobs.now fact) }
+{
+    match fact {
+        Fact::Time { earlier, later } => {
+            let earlier = name_at(names, earlier);
+            let later = name_at(names, later);
+            let order = OrderText(earlier, later);
+            let ended = TimeText(ended_at(jobs, earlier.job));
+            let began = TimeText(began_at(jobs, later.job));
+            write!(
+                text,
+                "{order}: it had ended at {ended}, and {later} began at {began}\n"
+            )
+        }
+        Fact::Source {
+            writer,
+            reader,
+            lba,
+        } => {
+            let writer = name_at(names, writer);
+            let reader = name_at(names, reader);
+            let order = OrderText(writer, reader);
+            write!(
+                text,
+                "{order}: only {writer} can have put what {reader} found in LBA {lba}\n"
+            )
+        }
+        Fact::Over {
+            reader,
+            writer,
+            lba,
+            source,
+        } => {
+            let reader = name_at(names, reader);
+            let writer = name_at(names, writer);
+            let source = name_at(names, source);
+            let order = OrderText(reader, writer);
+            write!(
+                text,
+                "{order}: {writer} put something else in LBA {lba} after {source}, whose data {reader} found there\n"
+            )
+        }
+        Fact::Under {
+            writer,
+            source,
+            lba,
+            reader,
+        } => {
+            let writer = name_at(names, writer);
+            let source = name_at(names, source);
+            let reader = name_at(names, reader);
+            let order = OrderText(writer, source);
+            write!(
+                text,
+                "{order}: {writer} put something else in LBA {lba}, stands before {reader}, and {reader} found {source}'s data there\n"
+            )
+        }
+        Fact::First {
+            reader,
+            writer,
+            lba,
+        } => {
+            let reader = name_at(names, reader);
+            let writer = name_at(names, writer);
+            let order = OrderText(reader, writer);
+            write!(
+                text,
+                "{order}: {reader} found the zeroes there that were in LBA {lba} at first, and nobody put zeroes there\n"
+            )
+        }
+        Fact::Nobody { reader, lba } => {
+            let reader = name_at(names, reader);
+            write!(text, "{reader} found in LBA {lba} what nobody put there\n")
+        }
+    }
+}

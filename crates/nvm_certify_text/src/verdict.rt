@@ -1,0 +1,221 @@
+//! The text of a verdict, and its exit status.
+ghost use Rattle.std.specs.Prelude.{◌≡◌, ◌++◌, IfOk, OnOk, length, string_bytes};
+ghost use Rattle.std.specs.List.{enumerate_from, flat_map, list_any};
+ghost use Rattle.nvm_certify_text.specs.Verdict as spec;
+
+use crate::fact_line::push_fact;
+use crate::naming::{PieceName, name_at, names};
+use nvm_certify::{Certification, Reached};
+use nvm_record::NoMemory;
+use nvm_refute::{Argument, Fact};
+use nvm_trace::{Explained, Judging, Trace, TracedJob};
+use nvm_trace_text::push_job;
+use std::alloc::Global;
+
+/// The text of a verdict on a trace, each line with its line feed. It begins with `explained`, `contradiction` or `unknown`.
+///
+/// An explained trace has one line, with the numbers of an explained trace, and an unknown one has one with how far the search came.
+/// A contradiction has the number of the unit and how many commands the argument is about; then these commands, by rising number, each
+/// as the trace's text has it; then the argument's facts, in its order; and at last, unless the last fact is of nobody, that the piece
+/// which that fact puts first stands before itself. It does where the last fact closes the loop: the argument is told, and not judged.
+/// A piece that the trace hasn't is named as if its number were a job's: no argument of this trace has such a piece.
+///
+/// `NoMemory` is answered where a growth was refused.
+pub fn certification_text(
+    alloc: Global,
+    judging: Judging,
+    trace: &Trace,
+    certification: &Certification,
+) -> Result<String, NoMemory>
+    ensures { IfOk result (λ text. string_bytes text ≡ spec.certification_text judging «trace».now certification.now) }
+{
+    match certification {
+        Certification::Explained { numbers, .. } => explained_text(alloc, *numbers),
+        Certification::Contradicted { argument } => {
+            contradiction_text(alloc, judging, trace, argument)
+        }
+        Certification::Unknown { reached } => unknown_text(alloc, *reached),
+    }
+}
+
+/// The exit status of a verdict: 0 where the trace is explained, 2 where it is contradicted, and 3 where nothing is known.
+pub fn certification_status(certification: &Certification) -> u8
+    ensures { result ≡ spec.certification_status certification.now }
+{
+    match certification {
+        Certification::Explained { .. } => 0,
+        Certification::Contradicted { .. } => 2,
+        Certification::Unknown { .. } => 3,
+    }
+}
+
+/// The line of an explained trace.
+#[tactic(auto, unfolding(crate::specs::Verdict::explained_line))]
+fn explained_text(alloc: Global, explained: Explained) -> Result<String, NoMemory>
+    ensures { IfOk result (λ line. string_bytes line ≡ spec.explained_line explained) }
+{
+    let Explained {
+        jobs,
+        units,
+        steps,
+        excused,
+        preparations,
+    } = explained;
+    format!(in alloc;
+        "explained jobs {jobs} units {units} steps {steps} excused {excused} preparations {preparations}\n"
+    )
+}
+
+/// The line of a trace of which nothing is known.
+#[tactic(auto, unfolding(crate::specs::Verdict::unknown_line))]
+fn unknown_text(alloc: Global, reached: Option<Reached>) -> Result<String, NoMemory>
+    ensures { IfOk result (λ line. string_bytes line ≡ spec.unknown_line reached) }
+{
+    match reached {
+        Some(
+            Reached {
+                unit,
+                placed,
+                steps,
+            },
+        ) => format!(in alloc; "unknown unit {unit} placed {placed} steps {steps}\n"),
+        None => format!(in alloc; "unknown\n"),
+    }
+}
+
+/// The lines of a contradicted trace.
+fn contradiction_text(
+    alloc: Global,
+    judging: Judging,
+    trace: &Trace,
+    argument: &Argument,
+) -> Result<String, NoMemory>
+    ensures { IfOk result (λ text. string_bytes text
+        ≡ spec.contradiction_text judging «trace».now argument.now.unit argument.now.facts.items) }
+{
+    let names = names(alloc, judging, trace)?;
+    let mut commands = String::new(alloc);
+    let count = push_commands(&mut commands, &names, &trace.jobs, &argument.facts)?;
+    let mut text = count_text(alloc, argument.unit, count)?;
+    text.push_str(commands.as_str())?;
+    push_facts(&mut text, &names, &trace.jobs, &argument.facts)?;
+    Ok(text)
+}
+
+/// The first line of a contradicted trace.
+#[tactic(auto, unfolding(crate::specs::Verdict::count_line))]
+fn count_text(alloc: Global, unit: u16, count: usize) -> Result<String, NoMemory>
+    ensures { IfOk result (λ line. string_bytes line ≡ spec.count_line unit count) }
+{
+    format!(in alloc; "contradiction unit {unit} commands {count}\n")
+}
+
+/// Appends a line for each command that the facts name, and says how many there are. The time is that of the facts and the jobs,
+/// multiplied: an argument's check takes no less.
+fn push_commands(
+    text: &mut String,
+    names: &[PieceName],
+    jobs: &[TracedJob],
+    facts: &[Fact],
+) -> Result<usize, NoMemory>
+    ensures lines { OnOk result (string_bytes text.new
+        ≡ string_bytes text.old ++ flat_map spec.command_line (spec.named_jobs names.now facts.now (enumerate_from 0 jobs.now))) }
+    ensures count { IfOk result (λ count. count ≡ length (spec.named_jobs names.now facts.now (enumerate_from 0 jobs.now))) }
+{
+    let mut count = 0;
+    for (number, job) in jobs.iter().enumerate() {
+        if is_named(names, number, facts) {
+            count += 1;
+            write!(text, "job {number} ")?;
+            push_job(text, job)?;
+        }
+    }
+    Ok(count)
+}
+
+/// Whether a fact names a piece of the job of this number.
+fn is_named(names: &[PieceName], job: usize, facts: &[Fact]) -> bool
+    ensures { result ≡ list_any (spec.names_job names.now job) facts.now }
+{
+    for fact in facts {
+        if names_job(names, job, *fact) {
+            return true;
+        }
+    }
+    false
+}
+
+/// Whether the fact names a piece of the job of this number.
+fn names_job(names: &[PieceName], job: usize, fact: Fact) -> bool
+    ensures { result ≡ spec.names_job names.now job fact }
+{
+    match fact {
+        Fact::Time { earlier, later } => is_of(names, job, earlier) || is_of(names, job, later),
+        Fact::Source { writer, reader, .. } | Fact::First { reader, writer, .. } => {
+            is_of(names, job, writer) || is_of(names, job, reader)
+        }
+        Fact::Over {
+            reader,
+            writer,
+            source,
+            ..
+        }
+        | Fact::Under {
+            writer,
+            source,
+            reader,
+            ..
+        } => is_of(names, job, reader) || is_of(names, job, writer) || is_of(names, job, source),
+        Fact::Nobody { reader, .. } => is_of(names, job, reader),
+    }
+}
+
+/// Whether the piece is of the job of this number.
+fn is_of(names: &[PieceName], job: usize, piece: u32) -> bool
+    ensures { result ≡ spec.is_of names.now job piece }
+{
+    name_at(names, piece).job == job
+}
+
+/// Appends a line for each fact, and what they come to.
+fn push_facts(
+    text: &mut String,
+    names: &[PieceName],
+    jobs: &[TracedJob],
+    facts: &[Fact],
+) -> Result<(), NoMemory>
+    ensures { OnOk result (string_bytes text.new ≡ string_bytes text.old ++ spec.facts_text names.now jobs.now facts.now) }
+{
+    for fact in facts {
+        push_fact(text, names, jobs, *fact)?;
+    }
+    push_end(text, names, facts)
+}
+
+/// Appends what the facts come to.
+fn push_end(text: &mut String, names: &[PieceName], facts: &[Fact]) -> Result<(), NoMemory>
+    ensures { OnOk result (string_bytes text.new ≡ string_bytes text.old ++ spec.last_line names.now facts.now) }
+{
+    match facts.last() {
+        Some(fact) => match earlier_of(*fact) {
+            Some(piece) => {
+                let name = name_at(names, piece);
+                write!(text, "so {name} stands before itself\n")
+            }
+            None => Ok(()),
+        },
+        None => Ok(()),
+    }
+}
+
+/// The piece that the fact puts before another.
+fn earlier_of(fact: Fact) -> Option<u32>
+    ensures { result ≡ spec.earlier_of fact }
+{
+    match fact {
+        Fact::Time { earlier, .. } => Some(earlier),
+        Fact::Source { writer, .. } | Fact::Under { writer, .. } => Some(writer),
+        Fact::Over { reader, .. } | Fact::First { reader, .. } => Some(reader),
+        Fact::Nobody { .. } => None,
+    }
+}

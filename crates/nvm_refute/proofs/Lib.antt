@@ -1,0 +1,17 @@
+pub mod Blocks
+pub mod Runs
+pub mod UnitCuts
+pub mod Cuts
+pub mod Once
+pub mod Ranges
+pub mod Shapes
+pub mod Linear
+pub mod Build
+pub mod Replies
+pub mod Refusals
+pub mod DoneOnce
+pub mod Whole
+pub mod Noting
+pub mod Deriving
+pub mod Holding
+pub mod Sound

@@ -1,0 +1,18 @@
+use Rattle.std.proofs.Common.{◌<◌, ℕ, List, Contains, length, get_or, ap, subst, sym, inl, inr, rules}
+use Rattle.std.proofs.lemmas.List.Elements.{Contains-get_or}
+use Rattle.nvm_refute.specs.declared.order.Order.{Order}
+use Rattle.nvm_refute.proofs.order.put_before_all.Goals as goal
+
+pub loop-later-preserved : goal.loop-later-preserved
+loop-later-preserved c = λ o has.
+    let items = c.deref-later-items.result.now in
+    let i = c.loop-later.later-index in
+    let low : i < length items = search rules in
+    let there = subst (λ (xs : List ℕ). Contains xs (get_or items i 0)) c.deref-later-items.ensures.value (Contains-get_or items i 0 low) in
+    elim (c.in_ok-put.ensures o has) [
+      | inl old ↦ c.loop-later.invariant o old
+      | inr is ↦ inr (
+        ap (λ (q : Order). q.earlier) is,
+        subst (λ (n : ℕ). Contains c.args.laters.now.items n) (sym (ap (λ (q : Order). q.later) is)) there,
+      )
+    ]

@@ -1,0 +1,2 @@
+//! What starts threads.
+mod threads;

@@ -1,0 +1,44 @@
+-- What is found out about the trace of a file and how it is told, and why nothing is. What stands in a file no definition can say, so
+-- its bytes are some.
+use Rattle.std.specs.Prelude.{◌≡◌, ◌⊎◌, ℕ, List, String, Option, Some, None, codes, string_bytes}
+use Rattle.std.specs.Global.{Global}
+use Rattle.nvm_certify.specs.Certified.{IsCertified}
+use Rattle.nvm_certify.specs.declared.certification.Certification.{Certification}
+use Rattle.nvm_certify_text.specs.Verdict.{certification_text, certification_status}
+use Rattle.nvm_file.specs.TraceFile.{IsTraceFile}
+use Rattle.nvm_trace.specs.TraceView.{TraceView}
+use Rattle.nvm_trace.specs.declared.judging.Judging.{Judging}
+use Rattle.nvq.specs.Fault.{IsFaultOfTraceAt}
+use Rattle.nvq.specs.Files.{IsReadFault, IsWriteFault}
+use Rattle.nvq.specs.declared.certifying.CertifiedTrace.{CertifiedTrace}
+use Rattle.nvq.specs.declared.certifying_words.CertifyWords.{CertifyWords}
+use Rattle.nvq.specs.declared.fault.Fault.{Fault}
+use Rattle.nvq.specs.declared.fault.Fault.TheVariants.{RecordAmongLines}
+
+-- The verdict is one on the trace of a file, and so are its text and its status.
+pub record IsCertifiedFile (judging : Judging) (told : CertifiedTrace) : Type 0 where
+  pub file : List ℕ
+  pub seen : TraceView
+  pub seen_file : IsTraceFile file seen
+  pub verdict : IsCertified judging seen told.certification
+  pub text : string_bytes told.text ≡ certification_text judging seen told.certification
+  pub status : told.status ≡ certification_status told.certification
+
+-- It is the status of a verdict on the trace of a file, of which this is printed.
+abbrev pub IsStatusOfFile : Judging → ℕ → Type 0
+IsStatusOfFile judging status = (told : CertifiedTrace) × IsCertifiedFile judging told × (status ≡ told.status)
+
+-- The record would go to standard output, or couldn't be written to this path.
+abbrev pub IsPlaceFault : List ℕ → Fault → Type 0
+IsPlaceFault path fault = ((fault ≡ RecordAmongLines) × (path ≡ codes "-")) ⊎ IsWriteFault path fault
+
+-- The same of a record that is kept.
+abbrev pub IsRecordFault : Option (String Global) → Fault → Type 0
+IsRecordFault (Some path) fault = IsPlaceFault (string_bytes path) fault
+IsRecordFault None fault = ⊥
+
+-- The record couldn't be written, or the trace couldn't be read, or else it is its first fault, or else the text couldn't be written.
+abbrev pub IsCertifyingFault : CertifyWords → Fault → Type 0
+IsCertifyingFault words fault =
+    IsRecordFault words.record fault
+    ⊎ ((IsReadFault (string_bytes words.trace) fault ⊎ IsFaultOfTraceAt (string_bytes words.trace) fault) ⊎ IsWriteFault (codes "-") fault)

@@ -1,0 +1,297 @@
+#!/usr/bin/env python3
+"""Verdicts on traces by `nvq certify`: small traces by hand, random ones beside all of their orders, and devices with a planted bug.
+
+`certified.py --random COUNT SEED` judges so many random traces, the first made by SEED, each next one by the number after it.
+"""
+
+import os
+import random
+import subprocess
+import sys
+import tempfile
+from collections import Counter
+from concurrent.futures import ProcessPoolExecutor
+from dataclasses import replace
+from functools import partial
+
+HERE = os.path.dirname(os.path.realpath(__file__))
+TOP = os.path.dirname(HERE)
+
+sys.dont_write_bytecode = True
+sys.path[:0] = [HERE, os.path.join(TOP, "sweep")]
+
+from all_orders import is_explained
+from devices import BUGS, CLEARED, STRICT, TORN, crossing, left, trace_of
+from host_files import compare, dataset, pair, read, uncorrectable, write, zeroes
+from simulated import PLANTED, device_trace, small_trace
+from trace_files import seen_text, spelled, text_of
+from witness_model import DIFFERS, MARKED, says, sent
+
+PROGRAMS = {name: os.path.join(TOP, "crates", name, "out", name) for name in ("nvq", "nvmu")}
+# The first words of the verdicts, and their exit statuses. `PERHAPS` stands for an order that the search need not find.
+EXPLAINED, CONTRADICTION, UNKNOWN = "explained", "contradiction", "unknown"
+STATUSES = {EXPLAINED: 0, CONTRADICTION: 2, UNKNOWN: 3}
+PERHAPS = (EXPLAINED, UNKNOWN)
+ERROR = ((0, 6),)
+
+
+def contradiction(commands, unit=0):
+    return f"{CONTRADICTION} unit {unit} commands {commands}\n"
+
+
+# How many commands show each of the bugs. No rule of an argument speaks of marks that are found, nor of comparisons that failed.
+BUGS_SHOWN_BY = {
+    "a stale read": 3,
+    "a lost write": 2,
+    "a write that is done after its end": 2,
+    "a read that goes back": 3,
+    "a wrong LBA": 1,
+    "a write torn within NAWUN + 1 blocks": 3,
+    "a torn read": 3,
+    "a pair that another write parts": 4,
+    "two pairs that take one lock": 2,
+    "a pair that writes after its comparison failed": 1,
+    "a mark that a read ignores": 3,
+    "a mark that a write leaves": None,
+    "zeroes that leave the last block": 3,
+    "a deallocated block that comes back": 3,
+}
+
+
+def torn(**numbers):
+    """Two Writes of two blocks, and a Read that finds one block of each, on a namespace of these numbers."""
+    trace = BUGS["a write torn within NAWUN + 1 blocks"][0]
+    return replace(trace, namespace=replace(trace.namespace, **numbers))
+
+
+def written(ended, *found, **more):
+    """A Write of a block, and what Reads found there one after the other."""
+    reads = [sent(3 + 2 * place, 4 + 2 * place, read(0, 1), found=(it,)) for place, it in enumerate(found)]
+    return trace_of(sent(1, ended, write(0, 0x41), **more), *reads)
+
+
+# Traces, words of the command line, and how the verdict begins. Why stands above.
+BY_HAND = [
+    *((BUGS[name][0], (), UNKNOWN if count is None else contradiction(count)) for name, count in BUGS_SHOWN_BY.items()),
+    # Nothing was done, and one Read found the zeroes that were there.
+    (trace_of(), (), EXPLAINED),
+    (trace_of(sent(1, 2, read(0, 1), found=(0,))), (), EXPLAINED),
+    # A Write of two blocks is kept whole where NAWUN says so. Where it doesn't, the standard lets it be torn, and --strict doesn't.
+    (torn(nawun=1), (), contradiction(3)),
+    (torn(nawun=0), (), EXPLAINED),
+    (torn(nawun=0), (STRICT,), contradiction(3)),
+    # A Read may be torn where the trace says that each of its blocks has a moment of its own, and strictly it may not.
+    (replace(TORN, by_blocks=True), (), EXPLAINED),
+    (replace(TORN, by_blocks=True), (STRICT,), contradiction(3)),
+    # A Write that never ended, or ended in an error that leaves open what was done, is done or not, and is not undone.
+    *((written(None, *found), (), EXPLAINED) for found in ((0x41,), (0,), (0, 0x41))),
+    *((written(2, *found, statuses=ERROR), (), EXPLAINED) for found in ((0x41,), (0,))),
+    # No argument has rules for what may have been done or not, and was undone.
+    (written(None, 0x41, 0), (), UNKNOWN),
+    # One that ended had its moment before its end, whatever it ended in.
+    (written(2, 0, 0x41, statuses=ERROR), (), UNKNOWN),
+    # One that was found to be past the end wrote nothing.
+    (written(2, 0, statuses=((0, 0x80),)), (), EXPLAINED),
+    (written(2, 0x41, statuses=((0, 0x80),)), (), contradiction(1)),
+    # A Deallocate over two units has a moment in each, and the unfinished one is done in any of them. Of the finished one both are seen.
+    (trace_of(*CLEARED), (), EXPLAINED),
+    *((left(*found), words, EXPLAINED) for found in ((0x41, 0x41), (0, 0x41), (0x41, 0), (0, 0)) for words in ((), (STRICT,))),
+    (
+        trace_of(sent(1, 2, write(7, 0x41)), sent(1, 2, write(8, 0x41)), sent(3, 4, dataset((7, 2))), sent(5, 6, read(8, 1), found=(0x41,))),
+        (),
+        contradiction(3, unit=1),
+    ),
+    # So is a Write over two units.
+    *((crossing(*found), words, EXPLAINED) for found in ((0x41, 0), (0, 0x41)) for words in ((), (STRICT,))),
+    (crossing(0x41, 0, ended=2), (), contradiction(2, unit=1)),
+    # A Compare that failed, where it must have held, and one that needn't have.
+    (trace_of(sent(1, 2, write(0, 0x41)), sent(3, 4, compare(0, 0x41), statuses=(DIFFERS,))), (), UNKNOWN),
+    (trace_of(sent(1, 3, write(0, 0x41)), sent(3, 4, compare(0, 0x41), statuses=(DIFFERS,))), (), EXPLAINED),
+    # A Compare over two units fails in the one or in the other.
+    (trace_of(sent(1, 2, write(8, 0x41)), sent(3, 4, compare(7, 0, 0), statuses=(DIFFERS,))), (), PERHAPS),
+    (trace_of(sent(1, 2, uncorrectable(8, 1)), sent(3, 4, read(7, 2), statuses=(MARKED,))), (), PERHAPS),
+    (trace_of(sent(1, 2, read(7, 2), statuses=(MARKED,))), (), UNKNOWN),
+    # Two Writes over two units in opposite orders: each unit keeps its own, and a record of it wants two workers.
+    (
+        trace_of(
+            sent(1, 9, write(7, 0x41, 0x41)),
+            sent(1, 9, write(7, 0x42, 0x42), host=2),
+            sent(10, 11, read(7, 1), found=(0x41,)),
+            sent(10, 11, read(8, 1), found=(0x42,)),
+        ),
+        (STRICT,),
+        EXPLAINED,
+    ),
+    # What was there before is what a Read found, where it isn't known. It is one thing for all Reads, and nothing that is put later.
+    (trace_of(sent(1, 2, read(0, 2), found=(0x41, 0x42)), sent(1, 2, read(0, 1), found=(0x41,)), unknown=True), (), EXPLAINED),
+    (trace_of(sent(1, 2, read(0, 1), found=(0x41,)), sent(3, 4, read(0, 1), found=(0x42,)), unknown=True), (), UNKNOWN),
+    (trace_of(sent(1, 2, compare(0, 0x41), statuses=(DIFFERS,)), sent(3, 4, compare(0, 0), statuses=(DIFFERS,)), unknown=True), (), PERHAPS),
+    # What a check refuses does nothing, and its success is a fault that no argument shows.
+    (trace_of(sent(1, 2, read(40, 1), statuses=((0, 0x80),))), (), EXPLAINED),
+    (trace_of(sent(1, 2, zeroes(40, 1))), (), UNKNOWN),
+    # One of two pairs holds, and the Read finds what it wrote.
+    (
+        trace_of(
+            sent(1, 9, *pair(compare(0, 0), write(0, 0x41))),
+            sent(2, 8, *pair(compare(0, 0), write(0, 0x42)), statuses=(DIFFERS, (0, 9)), host=2),
+            sent(10, 11, read(0, 1), found=(0x41,)),
+        ),
+        (),
+        EXPLAINED,
+    ),
+]
+
+# Of each device the number that makes its run, and the verdict.
+DEVICES = {
+    None: (0, EXPLAINED),
+    "stale read": (0, CONTRADICTION),
+    "lost write": (0, CONTRADICTION),
+    "write done twice": (0, CONTRADICTION),
+    "wrong LBA": (0, CONTRADICTION),
+    "completed before it was done": (0, CONTRADICTION),
+    "lagging copy": (0, CONTRADICTION),
+    "zeroes leave the last block": (0, CONTRADICTION),
+    "torn write": (0, CONTRADICTION),
+    "torn read": (20, CONTRADICTION),
+    "pair compared and written later": (0, CONTRADICTION),
+    "mark ignored by a Compare": (0, CONTRADICTION),
+}
+
+
+class Wrong(Exception):
+    """What is wrong with an answer."""
+
+
+def hold(told, found, wanted):
+    if found != wanted:
+        raise Wrong(f"{told}: found {found!r} in place of {wanted!r}")
+
+
+def answer(folder, name, *words):
+    """The status of a program, and what it prints."""
+    done = subprocess.run([PROGRAMS[name], *words], stdin=subprocess.DEVNULL, capture_output=True, cwd=folder, timeout=120)
+    hold("standard error", done.stderr, b"")
+    return done.returncode, done.stdout.decode()
+
+
+def certified(folder, trace, words=()):
+    """The text of the verdict on a trace. It is held to all orders of the trace's steps, and what is explained to the witness."""
+    kept, record = (f"{os.getpid()}.{kind}" for kind in ("nvt", "nvr"))
+    with open(os.path.join(folder, kept), "wb") as file:
+        file.write(spelled(trace))
+    status, text = answer(folder, "nvq", "certify", *words, "--record", record, kept)
+    verdict = text.split()[0]
+    hold("status", status, STATUSES[verdict])
+    hold("a record", os.path.exists(os.path.join(folder, record)), verdict == EXPLAINED)
+    if verdict == EXPLAINED:
+        hold("explained by some order", is_explained(trace, STRICT in words), True)
+        hold("witness", answer(folder, "nvmu", "witness", *words, kept, record), (0, text))
+        os.remove(os.path.join(folder, record))
+        held_to_numbers(trace, text)
+    elif verdict == CONTRADICTION:
+        hold("explained by some order", is_explained(trace, STRICT in words), False)
+        held_to_commands(trace, words, text)
+    return text
+
+
+def held_to_numbers(trace, text):
+    """Holds the numbers of an explained trace to those that stand in it alone."""
+    numbers = dict(zip(text.split()[1::2], text.split()[2::2]))
+    excused = sum(not says(trace.namespace, seen) for seen in trace.jobs)
+    hold("numbers", [numbers[name] for name in ("jobs", "units", "excused")], [str(it) for it in (len(trace.jobs), len(trace.namespace.units()), excused)])
+    hold("preparations", trace.unknown or numbers["preparations"] == "0", True)
+
+
+def held_to_commands(trace, words, text):
+    """Holds the commands of a contradiction to the trace. Without the others they have no order either."""
+    lines = text.splitlines()
+    count = int(lines[0].split()[4])
+    numbers = [int(line.split()[1]) for line in lines[1 : 1 + count]]
+    hold("commands", lines[1 : 1 + count], [f"job {number} {seen_text(trace.jobs[number])}" for number in sorted(set(numbers))])
+    alone = replace(trace, jobs=tuple(trace.jobs[number] for number in numbers))
+    hold("its commands explained by some order", is_explained(alone, STRICT in words), False)
+
+
+def judged(folder, trace, words=(), wanted=""):
+    """The verdict on a trace, and what is wrong with it, if anything. `wanted` is how its text must begin, in one way or another."""
+    try:
+        text = certified(folder, trace, words)
+        if not text.startswith(wanted):
+            raise Wrong(f"{text.splitlines()[0]!r} in place of {wanted!r}")
+    except (Wrong, OSError, subprocess.SubprocessError, ValueError, IndexError, KeyError) as fault:
+        return None, f"{fault!r} of {' '.join(words)}\n{text_of(trace)[:3000]}"
+    return text.split()[0], None
+
+
+def by_hand(folder):
+    """The traces that were written by hand. Which of them are explained is what all orders say."""
+    for trace, words, wanted in BY_HAND:
+        wrong = judged(folder, trace, words, wanted)[1]
+        if is_explained(trace, STRICT in words) != (EXPLAINED in wanted):
+            wrong = f"all orders say otherwise of\n{text_of(trace)}"
+        yield wrong
+
+
+def of_devices(folder):
+    """Each device's run has its verdict, and the one without a bug no contradiction."""
+    if tuple(DEVICES) != PLANTED:
+        yield f"there are {PLANTED}"
+    for bug, (number, wanted) in DEVICES.items():
+        trace, hits = device_trace(bug, number)
+        wrong = judged(folder, trace, (), wanted)[1]
+        if bool(hits) != bool(bug):
+            wrong = f"it struck {hits} times"
+        yield wrong and f"{bug}: {wrong}"
+
+
+def of_seed(folder, seed):
+    """The verdict on a random trace, whether some order explains it, and what is wrong, if anything."""
+    trace, is_strict, bug = small_trace(seed)
+    verdict, wrong = judged(folder, trace, (STRICT,) if is_strict else ())
+    explained = is_explained(trace, is_strict)
+    if bug is None and not explained:
+        wrong = f"no order explains what a right device did:\n{text_of(trace)}"
+    return verdict, explained, wrong and f"random trace {seed}: {wrong}"
+
+
+def at_random(folder, number, seed):
+    """Judges random traces in several processes, and tells how many had which verdict. It gives how many were right and how many weren't."""
+    counts, failed = Counter(), 0
+    with ProcessPoolExecutor(os.cpu_count()) as pool:
+        for verdict, explained, wrong in pool.map(partial(of_seed, folder), range(seed, seed + number), chunksize=25):
+            counts[verdict, explained] += 1
+            if wrong:
+                failed += 1
+                print(wrong)
+    told = ", ".join(f"{counts[verdict, True] + counts[verdict, False]} {verdict}" for verdict in STATUSES)
+    print(f"of {number} random traces {told}, {counts[UNKNOWN, True]} of these with an order")
+    return number - failed, failed
+
+
+def tried():
+    """How many traces had the verdict that they must have, and how many hadn't."""
+    with tempfile.TemporaryDirectory(prefix="certified-") as folder:
+        passed, failed = at_random(folder, 150, 0)
+        for table in (by_hand, of_devices):
+            for wrong in table(folder):
+                passed, failed = passed + (wrong is None), failed + (wrong is not None)
+                if wrong:
+                    print(f"{table.__name__}: {wrong}")
+    return passed, failed
+
+
+def main(words):
+    if not words:
+        passed, failed = tried()
+    elif len(words) == 3 and words[0] == "--random":
+        with tempfile.TemporaryDirectory(prefix="certified-") as folder:
+            passed, failed = at_random(folder, int(words[1]), int(words[2]))
+    else:
+        print(__doc__.strip())
+        return 1
+    print(f"{passed} passed, {failed} failed")
+    return 0 if failed == 0 and passed else 1
+
+
+if __name__ == "__main__":
+    sys.exit(main(sys.argv[1:]))

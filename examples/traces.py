@@ -1,0 +1,236 @@
+"""Traces: their files and their text, and what a witness says of them by records: rows that were worked out by hand."""
+
+from dataclasses import replace
+
+from forged import OTHER, SPACE, TWO, WRITTEN, one, seen
+from hints import MISSING, the_line, told
+from host_files import compare, dataset, file_of, pair, read, unknown, write, zeroes
+from recorded import jobs_of, recorded
+from records import DONE, FAILED, KIND_WRITE, LOOKED, Done, Entry, Record
+from records import spelled as record_bytes
+from trace_files import Seen, Trace, spelled, text_of, trace_bytes, with_seen
+
+HEAD = "expected trace, then nsze, block, nabsn, nabo, nawun, nacwu and first, each with its number, start zeroes or start unknown, and reads whole or reads by-blocks"
+SUCCESS = ((0, 0),)
+
+
+def as_recorded(record, **more):
+    """What hosts would have seen of a record, if each job began after the one before it in the unit had ended."""
+    done = {it.job: it for jobs in record.done for it in jobs}
+    first = sorted(range(len(record.jobs)), key=lambda number: (done[number].parts or ((0, 0, 0),))[0][1])
+    begins = {number: 10 * place + 10 for place, number in enumerate(first)}
+    jobs = tuple(
+        Seen(job.host, job.body, begins[number], begins[number] + 5, done[number].statuses, done[number].data)
+        for number, job in enumerate(record.jobs)
+    )
+    return Trace(record.namespace, jobs, **more)
+
+
+TRACE = as_recorded(TWO)
+# A Write of eight blocks, where four are kept whole, and a record of its blocks one by one.
+TORN = recorded(replace(SPACE, nawun=3), [file_of([write(lba, 0x41, cid=1) for lba in range(8)])])
+LONG = Trace(TORN.namespace, (Seen(1, jobs_of([file_of([write(0, *[0x41] * 8)])], 512)[0].body, 1, 9, SUCCESS),))
+# A block that was there, and a Read of it.
+THERE = Record(
+    2,
+    SPACE,
+    1,
+    (*jobs_of([file_of([read(0, 1)])], 512), *jobs_of([file_of([write(0, 0x41)])], 512)),
+    ((Entry(0, 1, KIND_WRITE, 0, 1, b"\x41" * 512),), (), (), ()),
+    ((Done(1, ((0, 0, DONE),), SUCCESS), Done(0, ((0, 1, LOOKED),), SUCCESS, b"\x41" * 512)),),
+)
+FOUND = Trace(SPACE, (Seen(1, THERE.jobs[0].body, 3, 4, SUCCESS, b"\x41" * 512),), unknown=True)
+# A Write over two units that never ended, done in the first alone: strictly it stands in the record once for each unit.
+UNENDED = recorded(SPACE, [file_of([write(7, 0x41, cid=1), write(8, 0x41, cid=1), read(7, 2, cid=2)])], wants={1: -1})
+HALF = Trace(
+    SPACE,
+    (
+        Seen(1, jobs_of([file_of([write(7, 0x41, 0x41)])], 512)[0].body, 10),
+        Seen(1, UNENDED.jobs[2].body, 20, 25, SUCCESS, b"\x41" * 512 + bytes(512)),
+    ),
+)
+# A pair whose comparison holds, and one whose comparison fails.
+HELD = recorded(SPACE, [file_of(pair(compare(0, 0), write(0, 0x55)))])
+PAIR = one(pair(compare(0, 1), write(0, 0x55)), Done(0, ((0, 0, FAILED),), ((2, 0x85), (0, 9))))
+
+
+def explained(jobs, steps, excused=0, preparations=0):
+    return f"explained jobs {jobs} units 4 steps {steps} excused {excused} preparations {preparations}"
+
+
+def unexplained(fault, job="-", unit="-", place="-"):
+    return f"unexplained {fault} job {job} unit {unit} place {place}"
+
+
+# Traces, records, and the line of the two. A fourth word is one of the command line.
+WITNESSED = [
+    (TRACE, TWO, explained(3, 3)),
+    (replace(TRACE, first=4096), TWO, explained(3, 3)),
+    # Time: the first job's entry comes after that of the second, and the Read after both.
+    (with_seen(with_seen(TRACE, 0, began=1, ended=3), 1, began=3, ended=9), TWO, explained(3, 3)),
+    (with_seen(with_seen(TRACE, 0, began=1, ended=2), 1, began=3, ended=9), TWO, unexplained("TimeBack", 0, 0, 1)),
+    (with_seen(TRACE, 2, began=1, ended=19), TWO, unexplained("TimeBack", 2, 0, 2)),
+    (with_seen(TRACE, 2, began=1, ended=20), TWO, explained(3, 3)),
+    (with_seen(TRACE, 1, began=36, ended=37), TWO, unexplained("TimeBack", 0, 0, 1)),
+    (with_seen(TRACE, 1, began=1, ended=None, statuses=()), TWO, explained(3, 3, 1)),
+    # Replies.
+    *((with_seen(TRACE, 2, data=b"\x41" * k + b"\x42" + b"\x41" * (511 - k)), TWO, unexplained("ReplyDiffers", 2)) for k in (0, 1, 255, 511)),
+    (with_seen(TRACE, 2, data=None), TWO, unexplained("ReplyDiffers", 2)),
+    (with_seen(TRACE, 2, data=None, statuses=((2, 0x81),)), TWO, unexplained("ReplyDiffers", 2)),
+    (with_seen(TRACE, 2, data=None, statuses=((0, 6),)), TWO, explained(3, 3, 1)),
+    (with_seen(TRACE, 0, statuses=((0, 6),)), TWO, explained(3, 3, 1)),
+    (with_seen(TRACE, 0, statuses=((0, 0x80),)), TWO, unexplained("ReplyDiffers", 0)),
+    (Trace(SPACE, tuple(replace(it, statuses=((0, 6),), data=None) for it in TRACE.jobs)), TWO, explained(3, 3, 3)),
+    # Jobs and the namespace.
+    (with_seen(TRACE, 1, host=3), TWO, unexplained("JobDiffers", 1)),
+    (with_seen(TRACE, 0, body=(replace(TRACE.jobs[0].body[0], cid=9),)), TWO, unexplained("JobDiffers", 0)),
+    (replace(TRACE, jobs=TRACE.jobs[:2]), TWO, unexplained("NoPreparation", 2)),
+    (replace(TRACE, jobs=TRACE.jobs[:2], unknown=True), TWO, unexplained("NoPreparation", 2)),
+    (replace(TRACE, namespace=replace(SPACE, nacwu=2)), TWO, unexplained("NamespaceDiffers")),
+    (FOUND, THERE, explained(1, 2, 0, 1)),
+    (replace(FOUND, unknown=False), THERE, unexplained("NoPreparation", 1)),
+    # The record's own fault.
+    (TRACE, replace(TWO, done=((WRITTEN,), (OTHER,))), unexplained("JobMissing", 2)),
+    (TRACE, seen(data=b"\x42" * 512), unexplained("DataWrong", 2, 0, 2)),
+    # A long Write may be torn by the standard.
+    (LONG, TORN, explained(1, 8)),
+    (LONG, TORN, unexplained("JobDiffers", 0), "--strict"),
+    (LONG, recorded(LONG.namespace, [file_of([write(0, *[0x41] * 8)])]), explained(1, 1), "--strict"),
+    (LONG, recorded(LONG.namespace, [file_of([write(0, *[0x41] * 8)])]), unexplained("JobDiffers", 0)),
+    # A Write over two units that never ended, and a Read of what it did in the first.
+    (HALF, UNENDED, explained(2, 3, 1), "--strict"),
+    (with_seen(HALF, 0, ended=15, statuses=SUCCESS), UNENDED, unexplained("JobDiffers", 0), "--strict"),
+    # A pair.
+    (as_recorded(PAIR), PAIR, explained(1, 1)),
+    (with_seen(as_recorded(PAIR), 0, statuses=((2, 0x81), (0, 9))), PAIR, unexplained("ReplyDiffers", 0)),
+    (with_seen(as_recorded(PAIR), 0, statuses=((2, 0x85), (0, 0))), PAIR, unexplained("ReplyDiffers", 0)),
+    (with_seen(as_recorded(PAIR), 0, statuses=((0, 6), (0, 6))), PAIR, explained(1, 1, 1)),
+    (with_seen(as_recorded(PAIR), 0, statuses=((0, 6), (0, 0))), PAIR, unexplained("ReplyDiffers", 0)),
+    (with_seen(as_recorded(PAIR), 0, statuses=((2, 0x85), (0, 6))), PAIR, explained(1, 1, 1)),
+    (as_recorded(HELD), HELD, explained(1, 1)),
+    (with_seen(as_recorded(HELD), 0, statuses=((0, 0), (0, 6))), HELD, explained(1, 1, 1)),
+    (with_seen(as_recorded(HELD), 0, statuses=((2, 0x85), (0, 6))), HELD, unexplained("ReplyDiffers", 0)),
+    (with_seen(as_recorded(HELD), 0, statuses=((0, 0), (0, 9))), HELD, unexplained("ReplyDiffers", 0)),
+]
+
+# Jobs of all kinds, with other identifiers, namespaces and replies.
+ALL = jobs_of(
+    [
+        file_of(
+            [
+                write(0, 0x41, 0x42, cid=7),
+                read(0, 2, cid=0),
+                *pair(compare(4, 0, nsid=1), write(4, 0x55)),
+                zeroes(8, 3, nsid=2),
+                dataset((1, 2), (9, 0), cid=65_535),
+                dataset((1, 2), deallocate=False),
+                unknown(5, 6, fuse=3),
+            ]
+        )
+    ],
+    512,
+)
+WIDE = Trace(
+    SPACE,
+    (
+        Seen(1, ALL[0].body, 1, 2, SUCCESS),
+        Seen(64, ALL[1].body, 2, 2**64 - 2, SUCCESS, b"\x41" * 512 + b"\x42" * 511 + b"\x00"),
+        Seen(2, ALL[2].body, 2**64 - 1, None),
+        Seen(3, ALL[2].body, 5, 5, ((2, 0x85), (0, 9))),
+        *(Seen(4, it.body, 5, 6, ((255, 0xFE),)) for it in ALL[3:]),
+    ),
+    first=2**64 - 1,
+    unknown=True,
+    by_blocks=True,
+)
+
+
+def traces(run):
+    run.keep("two.nvr", record_bytes(TWO))
+    for trace in (TRACE, FOUND, LONG, WIDE, replace(WIDE, jobs=())):
+        text = text_of(trace)
+        run.keep("text", f"# a trace\n\n{text}# its end\n")
+        run.expect(["nvq", "trace", "text", "kept.nvt"], files={"kept.nvt": spelled(trace)})
+        run.expect(["nvq", "trace", "-", "-"], given=text.encode(), out=spelled(trace))
+        run.expect(["nvq", "list", "kept.nvt"], out=text)
+    for trace, record, line, *words in WITNESSED:
+        run.keep("trace.nvt", spelled(trace))
+        run.keep("record.nvr", record_bytes(record))
+        run.expect(["nvmu", "witness", *words, "trace.nvt", "record.nvr"], 0 if line.startswith("explained") else 2, out=f"{line}\n")
+    faults_of_texts(run)
+    faults_of_files(run)
+    for words in ("witness", "witness a", "witness a b c", "witness --strictly a b"):
+        run.refuse(["nvmu", *words.split()])
+    for words in ("trace", "trace a", "trace a b c"):
+        run.refuse(["nvq", *words.split()])
+
+
+def faults_of_texts(run):
+    """Each wrong line is named, with what was expected in it."""
+    head, line = text_of(TRACE).splitlines()[:2]
+    for text, expected in (
+        ("walk", HEAD),
+        (head.replace("start zeroes", "start ones"), HEAD),
+        (head.replace("nabo 0", "nabo 9"), "expected the numbers of a namespace: OffsetAboveBoundary"),
+    ):
+        run.expect(["nvq", "trace", "-", "-"], 1, given=f"\n{text}\n".encode(), err=told(f"nvq: line 2: {expected}", the_line(text)))
+    words = line.split()
+    for at, word, expected in (
+        (0, "0x1", "expected a time from 1 at which it began"),
+        (0, "0", "expected a time from 1 at which it began"),
+        (1, "+", "expected a time at which it ended, or - if it never did"),
+        (2, "0", "expected a host from 1 to 64"),
+        (2, "65", "expected a host from 1 to 64"),
+        (3, "65536", "expected a command identifier from 0 to 65535"),
+        (len(words) - 1, "0/0", "expected a status, as in 0/00"),
+    ):
+        wrong = " ".join([*words[:at], word, *words[at + 1 :]])
+        run.expect(["nvq", "trace", "-", "-"], 1, given=f"{head}\n{wrong}\n".encode(), err=told(f"nvq: line 2: {expected}", the_line(wrong)))
+    run.expect(["nvq", "trace", "-", "-"], 1, given=b"# nothing\n", err="nvq: expected a trace's head\n")
+    run.expect(["nvq", "trace", "missing", "-"], 1, err=told("nvq: cannot read missing", MISSING))
+
+
+def faults_of_files(run):
+    """Each fault of a trace's file is named, with the offset at which its field begins."""
+    whole, at = spelled(TRACE), 0
+    for field in trace_bytes(TRACE):
+        # The name isn't one of any trace's as long as it isn't whole.
+        fault = "bad name" if at == 0 else f"truncated at {at}"
+        if field:
+            run.keep("cut.nvt", whole[: at + len(field) - 1])
+            run.expect(["nvmu", "witness", "cut.nvt", "two.nvr"], 1, err=run.SOME if at == 0 else f"nvmu: trace: {fault}\n")
+        at += len(field)
+    run.keep("cut.nvt", whole + b"\0")
+    run.expect(["nvmu", "witness", "cut.nvt", "two.nvr"], 1, err=f"nvmu: trace: trailing at {len(whole)}\n")
+    run.expect(["nvq", "list", "cut.nvt"], 1, err=f"nvq: cut.nvt: trailing at {len(whole)}\n")
+    for offset, value, fault in (
+        # NABO above NABSN, and what none of the three flags can be: what was known, what Reads are held to, and a job's kind.
+        (18, 9, "bad value at 4"),
+        (32, 2, "bad value at 32"),
+        (33, 2, "bad value at 33"),
+        (40, 2, "bad value at 40"),
+        # A host above 64, and an unnamed bit of an entry.
+        (38, 65, "bad value at 38"),
+        (41 + 8, 1, "bad value at 41"),
+        # The first job began at 10 and ended at 15: at 0, and after its end.
+        (41 + 64 + 512, 0, "began at zero at 617"),
+        (41 + 64 + 512, 99, "ended before at 625"),
+        (41 + 64 + 512 + 8, 9, "ended before at 625"),
+        # Data of what isn't a Read.
+        (41 + 64 + 512 + 18, 1, "bad value at 635"),
+    ):
+        run.keep("cut.nvt", whole[:offset] + bytes([value]) + whole[offset + 1 :])
+        run.expect(["nvmu", "witness", "cut.nvt", "two.nvr"], 1, err=f"nvmu: trace: {fault}\n")
+        told_by_nvq = fault.replace("ended before at", "ended before it began at")
+        run.expect(["nvq", "list", "cut.nvt"], 1, err=f"nvq: cut.nvt: {told_by_nvq}\n")
+    run.keep("whole.nvt", whole)
+    run.keep("bad.nvr", b"NVR2")
+    run.expect(["nvmu", "witness", "whole.nvt", "bad.nvr"], 1, err="nvmu: record: truncated at 4\n")
+    run.expect(["nvmu", "witness", "missing", "two.nvr"], 1, err=told("nvmu: cannot read missing", MISSING))
+    run.expect(["nvmu", "witness", "whole.nvt", "missing"], 1, err=told("nvmu: cannot read missing", MISSING))
+    run.expect(
+        ["nvmu", "witness", "-", "-"],
+        1,
+        given=whole,
+        err=told("nvmu: cannot read -", "standard input is the trace, and can't be the record, too"),
+    )

@@ -1,0 +1,138 @@
+"""Traces as the programs are swept with them: judged by records, made of text, and listed."""
+
+import os
+import subprocess
+import tempfile
+
+from cases import Run
+from hints import MISSING, the_line, told
+from host_files import compare, file_of, pair, read, write, zeroes
+from model import Namespace
+from record_explaining import lawful_explanation
+from recorded import recorded
+from records import spelled as record_bytes
+from trace_files import in_turn, no_trace, spelled, text_of, with_seen
+
+RECORD = recorded(Namespace(nabsn=7), [file_of([write(0, 0x41), read(0, 1), *pair(compare(0, 0x41), write(0, 0x42)), zeroes(9, 2), read(7, 2)])])
+TRACE = in_turn(RECORD)
+UNITS = len(RECORD.namespace.units())
+NVQ = os.path.join(os.path.dirname(os.path.dirname(os.path.realpath(__file__))), "crates", "nvq", "out", "nvq")
+
+
+def witnesses(kept):
+    """The cases of nvmu. `kept` makes a file and gives its path."""
+    record, missing = kept("witnessed", record_bytes(RECORD)), kept("witnessed", record_bytes(RECORD)) + "-missing"
+
+    def judged(name, trace, line, *words):
+        path = kept(f"trace-{name}", spelled(trace))
+        return Run(name, "nvmu", ["witness", *words, path, record], 0 if line.startswith("explained") else 2, out=f"{line}\n", units=UNITS)
+
+    def fault(name, file, line, hint=""):
+        path = kept(f"trace-{name}", file)
+        return Run(name, "nvmu", ["witness", path, record], 1, err=told(f"nvmu: trace: {line}", no_trace(path, file) if hint else ""))
+
+    whole = spelled(TRACE)
+    return [
+        judged("an explained trace", TRACE, f"explained jobs 5 units {UNITS} steps 6 excused 0 preparations 0"),
+        judged("an explained trace of nothing but errors", in_errors(), f"explained jobs 5 units {UNITS} steps 6 excused 5 preparations 0", "--strict"),
+        judged("a reply that differs", with_seen(TRACE, 1, data=b"\x42" * 512), "unexplained ReplyDiffers job 1 unit - place -"),
+        judged("a time that goes back", with_seen(TRACE, 2, began=1, ended=2), "unexplained TimeBack job 2 unit 0 place 1"),
+        fault("a cut trace", whole[:-1], f"truncated at {len(whole) - 1024}"),
+        fault("no trace", record_bytes(RECORD)[:2], "bad name", True),
+        Run("a missing trace", "nvmu", ["witness", missing, record], 1, err=told(f"nvmu: cannot read {missing}", MISSING)),
+        Run("no record of a trace", "nvmu", ["witness", record], 1),
+    ]
+
+
+def in_errors():
+    """The trace where each command came back with an error that doesn't say what was done."""
+    trace = TRACE
+    for number, seen in enumerate(TRACE.jobs):
+        trace = with_seen(trace, number, statuses=((0, 6),) * len(seen.body), data=None)
+    return trace
+
+
+def of_text(kept):
+    """The cases of nvq."""
+    text = text_of(TRACE)
+    path, file = kept("trace.txt", text.encode()), kept("trace.nvt", spelled(TRACE))
+    wrong = kept("wrong.txt", text.replace("= 0/00\n", "= 0/0\n", 1).encode())
+    line = text.split("\n")[1].replace("= 0/00", "= 0/0")
+    err = told("nvq: line 2: expected a status, as in 0/00", the_line(line))
+    return [
+        Run("the text of a trace", "nvq", ["trace", path, "out.nvt"], out="", files={"out.nvt": spelled(TRACE)}),
+        Run("a trace is listed", "nvq", ["list", file], out=text),
+        Run("a wrong line of a trace's text", "nvq", ["trace", wrong, "out.nvt"], 1, err=err),
+        Run("a cut trace", "nvq", ["list", kept("cut.nvt", spelled(TRACE)[:-1])], 1, err=f"nvq: {os.path.dirname(path)}/cut.nvt: truncated at {len(spelled(TRACE)) - 1024}\n"),
+    ]
+
+
+def explained(kept):
+    """The cases of nvq which tell of a trace and a record."""
+    record = kept("explaining.nvr", record_bytes(RECORD))
+    told_read = "as job 1 the record has:\njob 1 host 1 cid 2 nsid 1 read 0 1\nworker 0 job 1 status 0/00\nworker 0 job 1 unit 0 point 1 looked\nworker 0 job 1 data 512*41\n"
+    differs = with_seen(TRACE, 1, data=b"\x42" * 512)
+    reply = "ReplyDiffers: what the record shows of the job isn't what its host saw.\n"
+    back = with_seen(TRACE, 2, began=1, ended=2)
+    late = "TimeBack: the job had ended before one began that stands before it in the unit.\n"
+
+    def told_of(name, trace, out, rounds=1):
+        return Run(name, "nvq", ["explain", kept(f"explained-{name}", spelled(trace)), record], out=out, units=UNITS, rounds=rounds)
+
+    return [
+        # Two audits, each of which does with fewer threads where a thread's memory is refused.
+        told_of("a trace and a record", TRACE, f"explained jobs 5 units {UNITS} steps 6 excused 0 preparations 0\n{lawful_explanation(RECORD)}", 2),
+        told_of("a reply and its record", differs, f"unexplained ReplyDiffers job 1 unit - place -\n{reply}as job 1 the trace has: {line_of(differs, 1)}{told_read}"),
+        told_of(
+            "a time that goes back, and the step before",
+            back,
+            f"unexplained TimeBack job 2 unit 0 place 1\n{late}as job 2 the trace has: {line_of(back, 2)}job 2 unit 0 point 1 entry began 1 ended 2\n"
+            f"as job 0 the trace has: {line_of(back, 0)}job 0 unit 0 point 0 entry began {back.jobs[0].began} ended {back.jobs[0].ended}\n"
+            f"job 0 began at {back.jobs[0].began}, after job 2 had ended at 2, and stands before it in unit 0\n",
+        ),
+        Run("standard input named twice to explain", "nvq", ["explain", "-", "-"], 1, err="nvq: standard input is named twice\n"),
+    ]
+
+
+def line_of(trace, number):
+    """The line of a trace's job in its text."""
+    return text_of(trace).splitlines(keepends=True)[1 + number]
+
+
+def certified(kept):
+    """The cases of nvq which search for a verdict."""
+    wrong, missing = with_seen(TRACE, 1, data=b"\x43" * 512), kept("certified.nvt", spelled(TRACE)) + "-missing"
+    right, cut = kept("certified.nvt", spelled(TRACE)), kept("cut-to-certify.nvt", spelled(TRACE)[:-1])
+    not_explained = kept("not-explained.nvt", spelled(wrong))
+    explained = f"explained jobs 5 units {UNITS} steps 6 excused 0 preparations 0\n"
+    contradiction = f"contradiction unit 0 commands 1\njob 1 {text_of(wrong).splitlines()[2]}\njob 1 found in LBA 0 what nobody put there\n"
+    record, before = {"record": record_of(right)}, {"record": b"old"}
+
+    def done(name, trace, out, *words, status=0, **more):
+        return Run(name, "nvq", ["certify", *words, trace], status, out=out, **more)
+
+    def fault(name, line, *words, hint="", **more):
+        return Run(name, "nvq", ["certify", *words], 1, err=told(f"nvq: {line}", hint), **more)
+
+    return [
+        done("a trace that is explained", right, explained, "--record", "record", units=UNITS, rounds=2, files=record),
+        done("a trace that is explained, and a record before", right, explained, "--record", "record", units=UNITS, rounds=2, files=record, before=before),
+        done("a trace that is explained strictly", "-", explained, "--strict", input=right, units=UNITS, rounds=2),
+        done("a trace that nothing explains", not_explained, contradiction, "--record", "record", status=2, before=before, units=UNITS),
+        fault("a cut trace to certify", f"{cut}: truncated at {len(spelled(TRACE)) - 1024}", cut),
+        fault("a missing trace to certify", f"cannot read {missing}", missing, hint=MISSING),
+        fault("the record of a trace that is written over it", f"cannot write {right}", right, "--record", right, hint="it is the trace"),
+        fault("a record of a trace among the lines", "the record can't go to standard output", right, "--record", "-"),
+        fault("a record of a trace in no folder", "cannot write missing/record", right, "--record", "missing/record", hint=MISSING, units=UNITS, rounds=2),
+        Run("no trace to certify", "nvq", ["certify"], 1),
+        Run("help on a verdict", "nvq", ["certify", "--help"], 0),
+    ]
+
+
+def record_of(trace):
+    """The record that the program writes where it has all memory, which examples/programs.py holds to its trace."""
+    with tempfile.TemporaryDirectory(prefix="sweep-") as folder:
+        path = os.path.join(folder, "record")
+        subprocess.run([NVQ, "certify", trace, "--record", path], stdout=subprocess.DEVNULL, check=True)
+        with open(path, "rb") as record:
+            return record.read()
