@@ -3,8 +3,6 @@ mod derivation;
 mod history;
 mod orders;
 mod place_set;
-#[cfg(test)]
-mod tests;
 mod window;
 
 use crate::arguing::choosing::{Link, choose};

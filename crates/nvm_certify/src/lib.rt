@@ -15,8 +15,6 @@ mod numbers;
 mod ordering;
 mod record_bytes;
 mod steps;
-#[cfg(test)]
-mod tests;
 mod times;
 mod values;
 mod workers;

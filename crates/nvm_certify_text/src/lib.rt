@@ -6,8 +6,6 @@
 
 mod fact_line;
 mod naming;
-#[cfg(test)]
-mod tests;
 mod verdict;
 
 pub use verdict::{certification_status, certification_text};

@@ -15,8 +15,6 @@ mod order;
 mod refute_fault;
 mod refuting;
 mod rules;
-#[cfg(test)]
-mod tests;
 
 pub use argument::Argument;
 pub use fact::Fact;

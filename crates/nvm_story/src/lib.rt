@@ -11,8 +11,6 @@ mod meaning;
 mod namespaces;
 mod ordering;
 mod telling;
-#[cfg(test)]
-mod tests;
 mod witness_line;
 
 pub use telling::witness_story;

@@ -16,8 +16,6 @@ mod listing;
 mod mark;
 mod reading;
 mod reply;
-#[cfg(test)]
-mod tests;
 
 pub use expected::TraceExpected;
 pub use fault::TextFault;

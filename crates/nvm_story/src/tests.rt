@@ -1,2 +1,0 @@
-//! What starts threads.
-mod threads;

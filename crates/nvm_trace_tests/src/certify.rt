@@ -1,0 +1,2 @@
+//! Traces, and the records and arguments that were found of them.
+mod threads;

@@ -1,0 +1,22 @@
+//! The search runs in several threads.
+mod contradictions;
+mod explanations;
+
+use crate::traces::trace_of;
+use nvm_certify::{Certification, certify};
+use nvm_trace::Judging;
+use std::alloc::Global;
+use std::test::Fail;
+use std::thread::Threads;
+
+/// What is found of the trace that has this head and these lines. The search takes back so many steps at most.
+fn verdict<R: Threads + Sync>(
+    rt: &R,
+    alloc: Global,
+    judging: Judging,
+    head: &str,
+    lines: &str,
+) -> Result<Certification, Fail> {
+    let trace = trace_of(alloc, head, lines)?;
+    Ok(certify(rt, alloc, judging, &trace, 1_000)?)
+}

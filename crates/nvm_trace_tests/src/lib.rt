@@ -1,0 +1,16 @@
+//! Tests of `nvm_refute`, `nvm_trace_text`, `nvm_certify`, `nvm_certify_text` and `nvm_story`, which reach them by what they make
+//! public.
+#![tactic(auto)]
+
+#[cfg(test)]
+mod certify;
+#[cfg(test)]
+mod certify_text;
+#[cfg(test)]
+mod refute;
+#[cfg(test)]
+mod story;
+#[cfg(test)]
+mod trace_text;
+#[cfg(test)]
+mod traces;

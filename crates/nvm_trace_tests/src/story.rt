@@ -1,0 +1,2 @@
+//! Stories that were written by hand.
+mod threads;
