@@ -25,8 +25,8 @@ fn version_line(version: Version) -> &'static str
     }
 }
 
-/// Appends the line of the namespace.
-fn push_namespace(text: &mut String, geometry: Geometry) -> Result<(), NoMemory>
+/// Appends the line of a namespace: `namespace`, and its six numbers by their names.
+pub fn push_namespace(text: &mut String, geometry: Geometry) -> Result<(), NoMemory>
     ensures { OnOk result (string_bytes text.new ≡ string_bytes text.old ++ spec.namespace_line geometry) }
 {
     push_namespace_line(
