@@ -243,7 +243,9 @@ pub(super) fn record_of_changes<R: Threads + Wait + Sync>(
                 .parts
                 .iter()
                 .any(|part| part.result == PartResult::Full);
-            if done.statuses == Statuses::One(Status::INTERNAL_ERROR) && !full {
+            // Of a pair the first status tells it.
+            let (Statuses::One(status) | Statuses::Two(status, _)) = done.statuses;
+            if status == Status::INTERNAL_ERROR && !full {
                 return Err(Fail::new("there was no memory"));
             }
         }
