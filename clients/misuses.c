@@ -379,6 +379,27 @@ static bool starved_in_the_midst(void)
     return true;
 }
 
+/* Where memory is refused at the so manyth time, an audit says so and writes nothing. */
+static bool audit_starved(void)
+{
+    static const char said[] = "record: truncated at 4\n";
+    for (unsigned nth = 1; nth < 64; nth++) {
+        uint8_t line[ZK_LINE_BYTES], before[ZK_LINE_BYTES];
+        memset(line, 0xa5, sizeof line);
+        memcpy(before, line, sizeof line);
+        refuses_from = nth;
+        int code = zk_audit((const uint8_t *)"NVR2", 4, (char *)line, sizeof line);
+        bool was_refused = refuses_from == 0;
+        refuses_from = 0;
+        refuses = false;
+        if (!was_refused)
+            return nth > 1 && code == ZK_BAD_RECORD && memcmp(line, said, sizeof said) == 0 && line[sizeof said] == 0xa5;
+        if (code != ZK_NO_MEMORY || memcmp(line, before, sizeof line) != 0)
+            return false;
+    }
+    return false;
+}
+
 int main(int words, char **word)
 {
     static const char *const codes[] = { "ZK_DONE", "ZK_PENDING", "ZK_NOT_OPEN", "ZK_IS_OPEN", "ZK_NO_MEMORY",
@@ -396,6 +417,10 @@ int main(int words, char **word)
     }
     if (!starved_in_the_midst()) {
         fprintf(stderr, "misuses: a Write to which memory is refused in the midst\n");
+        right = false;
+    }
+    if (!audit_starved()) {
+        fprintf(stderr, "misuses: an audit to which memory is refused\n");
         right = false;
     }
     for (size_t i = 0; i < sizeof codes / sizeof *codes; i++)

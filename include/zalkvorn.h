@@ -1,5 +1,6 @@
 /* The media side of an NVM Express controller: a namespace in memory that threads read and change through up to
- * ZK_MOST_PORTS ports. Little-endian 64-bit machines. Link libnvm_c.a and, for malloc and free, the toolchain's liblibc_c.a.
+ * ZK_MOST_PORTS ports. And the auditor, which judges the record of a run. Little-endian 64-bit machines. Link libnvm_c.a
+ * and, for malloc and free, the toolchain's liblibc_c.a.
  *
  * A thread works through a port. Open a namespace with one port for each thread (or queue, or reactor), and give
  * each thread its own. No call waits, blocks or starts a thread: where another port holds the atomic unit that a
@@ -45,7 +46,8 @@ extern "C" {
 /* The bytes of an Identify Namespace data structure. */
 #define ZK_IDENTIFY_BYTES 4096
 
-/* What a call answers. Only with ZK_DONE and ZK_PENDING was anything done, and only with ZK_DONE is anything written. */
+/* What a call answers. Only with ZK_DONE and ZK_PENDING was anything done, and only with ZK_DONE is anything written, but for
+ * zk_audit's line. */
 enum zk_code {
     ZK_DONE = 0,          /* It was done. */
     ZK_PENDING = 1,       /* The command is not done yet: call zk_poll. */
@@ -62,7 +64,10 @@ enum zk_code {
     ZK_NEWER = 12,        /* Another port has changed the unit since this one has seen it. */
     ZK_OUT_OF_RANGE = 13, /* The range ends above the namespace. */
     ZK_CROSSES = 14,      /* The range lies in more than one atomic unit. */
-    ZK_NO_VERSIONS = 15   /* The namespace was opened without versions. */
+    ZK_NO_VERSIONS = 15,  /* The namespace was opened without versions. */
+    ZK_UNLAWFUL = 16,     /* The record is not lawful. */
+    ZK_BAD_RECORD = 17,   /* The bytes are not those of a record file. */
+    ZK_SHORT_ROOM = 18    /* The line is longer than its room. */
 };
 
 /* A port. Its bytes are the library's own. */
@@ -149,6 +154,23 @@ struct zk_status {
  * Threads: as zk_submit. */
 int zk_read_now(struct zk_port *port, uint64_t slba, uint16_t nlb, uint8_t *data, size_t data_length,
                 struct zk_status *status);
+
+/* Room for any line that zk_audit writes. */
+#define ZK_LINE_BYTES 128
+
+/* Judges the record of a run by its file: whether each answer in it is one that a store that does one command at a time could have
+ * given. `bytes` is the whole file, of either version, as `nvmu run` writes it; docs/FORMATS.md has its fields. `line` is room for
+ * a line of ASCII that ends with a newline and a byte of 0, ZK_LINE_BYTES at most.
+ * ZK_DONE: the record is lawful, and the line says what was in it, as `nvmu audit` does:
+ *     lawful jobs 7 units 2 changes 12 refused 0
+ * ZK_UNLAWFUL: the line has its first fault, as `nvmu audit` prints it:
+ *     unlawful DataWrong job 0 unit 1 place 8
+ * ZK_BAD_RECORD: there is no record in these bytes, and the line says why, as `nvmu` does behind its name:
+ *     record: truncated at 100
+ * ZK_SHORT_ROOM, ZK_NO_MEMORY: nothing was written. A line is never cut.
+ * It takes some memory for each byte of the file, and gives it back. It starts no thread, and waits for nothing.
+ * Threads: any thread, any time. It uses no port. */
+int zk_audit(const uint8_t *bytes, size_t length, char *line, size_t room);
 
 /* The command identifier, the status code type and the status code of a completion queue entry. */
 static inline uint16_t zk_cid(const uint8_t *completion)

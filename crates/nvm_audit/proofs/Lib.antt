@@ -45,4 +45,5 @@ pub mod Counting
 pub mod Groups
 pub mod OneDone
 pub mod UnitsFound
+pub mod UnitByUnit
 pub mod BeforeUnits

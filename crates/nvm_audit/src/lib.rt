@@ -6,6 +6,7 @@
 #![tactic(auto)]
 
 mod audit_fault;
+mod auditing_alone;
 mod by_point;
 mod claims;
 mod counts;
@@ -31,6 +32,7 @@ mod walking;
 mod watcher;
 
 pub use audit_fault::{AuditFault, Spot};
+pub use auditing_alone::audit_alone;
 pub use done_job::DoneJob;
 pub use record::{MOST_JOBS, Record};
 pub use record_audit::{audit, audit_watched};

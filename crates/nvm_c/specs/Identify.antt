@@ -1,6 +1,6 @@
 -- What a controller reports of a namespace: NVM Command Set Specification, "Identify Namespace Data Structure". All numbers are little
 -- endian, and what is not named here is 0.
-use Rattle.std.specs.Prelude.{◌≡◌, ◌≢◌, ◌⊎◌, ℕ, List, [], ◌∷◌, ◌++◌, Option, Some, None, length, replicate}
+use Rattle.std.specs.Prelude.{◌≡◌, ◌≢◌, ◌⊎◌, ℕ, List, ◌∷◌, ◌++◌, Option, Some, None, length, replicate}
 use Rattle.byteorder.specs.Endian.{little_bytes}
 use Rattle.nvm_geometry.specs.Namespace.{Namespace}
 use Rattle.nvm_c.specs.Engines.{namespace_of}

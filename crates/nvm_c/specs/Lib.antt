@@ -9,3 +9,6 @@ pub mod Submitted
 pub mod Exports
 pub mod ReadNow
 pub mod Identify
+pub mod AuditCodes
+pub mod UnreadLine
+pub mod Audited

@@ -1,5 +1,5 @@
 -- What a Read without a wait does to an engine.
-use Rattle.std.specs.Prelude.{◌≡◌, ℕ, ◌+◌, List, [], Option, Some, None, Ok, Err, unwrap_or, true, false}
+use Rattle.std.specs.Prelude.{◌≡◌, ℕ, ◌+◌, List, [], Option, Some, None, Ok, Err, unwrap_or, false}
 use Rattle.nvm_record.specs.declared.status.Status.{Status}
 use Rattle.nvm_space.specs.Ports.{PortState}
 use Rattle.nvm_space.specs.ReadNow.{ReadsNow}

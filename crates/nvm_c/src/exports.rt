@@ -1,12 +1,16 @@
 //! What C calls. Each export is the call that it stands for, at the engine of its handle.
 ghost use Rattle.std.specs.Prelude.{◌≡◌};
+ghost use Rattle.nvm_c.specs.AuditCodes.{audit_number};
+ghost use Rattle.nvm_c.specs.Audited.{IsAudited};
 ghost use Rattle.nvm_c.specs.Codes.{number_of};
 ghost use Rattle.nvm_c.specs.Exports.{Closes, PollsAt, SubmitsAt};
 ghost use Rattle.nvm_c.specs.Identify.{IdentifiesAt};
 ghost use Rattle.nvm_c.specs.Opening.{Opens, numbers_of};
 ghost use Rattle.nvm_c.specs.ReadNow.{ReadsAt};
+ghost use Rattle.nvm_c.specs.declared.audit_code.AuditCode.{AuditCode as Ruling};
 ghost use Rattle.nvm_c.specs.declared.code.Code.{Code as Answer};
 
+use crate::auditing::audited;
 use crate::code::Code;
 use crate::handle::Handle;
 use crate::identify::{IDENTIFY_BYTES, identify};
@@ -122,6 +126,14 @@ pub extern "C" fn zk_identify(alloc: Global, port: &mut Handle, buffer: &mut [u8
         × IdentifiesAt code port.old.held.engine port.new.held.engine buffer.old buffer.new }
 {
     identified(alloc, port, buffer).number()
+}
+
+/// Audits the record that the bytes are a file of, and writes the line of that with a byte of 0 behind it.
+#[unsafe(no_mangle)]
+pub extern "C" fn zk_audit(alloc: Global, bytes: &[u8], line: &mut [u8]) -> i32
+    ensures { (code : Ruling) × (result ≡ audit_number code) × IsAudited bytes.now code line.old line.new }
+{
+    audited(alloc, bytes, line).number()
 }
 
 fn identified(alloc: Global, port: &mut Handle, buffer: &mut [u8]) -> Code

@@ -1,10 +1,13 @@
-//! The live engine, for C: handles on the ports of a namespace, and jobs that are begun and polled by them.
+//! The live engine, for C: handles on the ports of a namespace, and jobs that are begun and polled by them. And the auditor, for
+//! the bytes of a record's file.
 //!
 //! `include/zalkvorn.h` says to C what the exports are. Nothing here waits, wakes or starts a thread.
 #![tactic(auto)]
 
 mod address;
 mod asking;
+mod audit_code;
+mod auditing;
 mod code;
 mod engine;
 mod exports;

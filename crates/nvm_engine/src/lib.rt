@@ -1,7 +1,7 @@
 //! The engine as one call: the bytes of the hosts' files are read, their commands done by workers on a namespace
 //! of zero bytes, and what is recorded of them is audited and shown.
 //!
-//! [`execute`] is that call, and [`audit_bytes`] audits a record's file. Which numbers describe a namespace and how many workers
+//! [`execute`] is that call, and [`audit_bytes`] audits a record's file; [`judge_alone`] audits a record without threads. Which numbers describe a namespace and how many workers
 //! there are, [`Settings`] says; why nothing is shown, [`Fault`]. [`Shown`] and [`Judged`] write their text to a writer.
 //! [`witness_bytes`] judges a trace's file by a record's, and [`Witnessed`] has the line of that.
 #![tactic(auto)]
@@ -10,6 +10,7 @@ mod engine;
 mod fault;
 mod judged;
 mod judging;
+mod judging_alone;
 pub mod laws;
 mod lines;
 mod long_line;
@@ -29,6 +30,7 @@ pub use engine::{execute, execute_watched};
 pub use fault::Fault;
 pub use judged::Judged;
 pub use judging::{audit_bytes, audit_bytes_watched};
+pub use judging_alone::judge_alone;
 pub use settings::Settings;
 pub use shown::Shown;
 pub use status_names::status_name;

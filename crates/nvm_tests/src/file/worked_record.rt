@@ -1,5 +1,5 @@
 use super::worked_bytes;
-use nvm_audit::Version;
+use nvm_audit::{Verdict, Version, audit_alone};
 use nvm_file::read_record;
 use nvm_record::Payload;
 use std::test::Fail;
@@ -26,5 +26,22 @@ fn both_versions_are_read(rt: HostRuntime) -> Result<(), Fail> {
     assert_eq!(rt; second.jobs, record.jobs);
     assert_eq!(rt; second.units, record.units);
     assert_eq!(rt; second.done, record.done);
+    Ok(())
+}
+
+#[test]
+fn both_versions_are_lawful(rt: HostRuntime) -> Result<(), Fail> {
+    let alloc = rt.alloc();
+    let verdict = Verdict {
+        jobs: 2,
+        units: 4,
+        changes: 1,
+        refused: 0,
+    };
+    for second in [false, true] {
+        let file = Payload::new(alloc, worked_bytes(alloc, second)?)?;
+        let record = read_record(alloc, &file)?;
+        assert_eq!(rt; audit_alone(alloc, &record)?, verdict);
+    }
     Ok(())
 }

@@ -1,0 +1,128 @@
+//! The verdict on a record that C has as the bytes of its file.
+ghost use Rattle.std.specs.Prelude.{◌≡◌, ◌≢◌, ◌++◌, IfOk, OnOk, decimal};
+ghost use Rattle.nvm_file.specs.declared.record_fault.RecordFault.TheVariants.{NoMemory as NoMemoryFault};
+ghost use Rattle.nvm_c.specs.Audited as spec;
+ghost use Rattle.nvm_c.specs.Audited.{IsAudited, IsFound, IsRuling, IsUnread};
+ghost use Rattle.nvm_c.specs.UnreadLine as unread;
+
+use crate::audit_code::AuditCode;
+use crate::telling::overwrite;
+use nvm_audit::Record;
+use nvm_engine::{Judged, judge_alone};
+use nvm_file::{RecordFault, read_record};
+use nvm_record::{NoMemory, Payload};
+use nvm_text::write_decimal;
+use std::alloc::{AllocError, Global};
+
+/// What is found in the bytes of a file, and its line.
+#[derive(Drop)]
+pub struct Found {
+    pub(crate) code: AuditCode,
+    pub(crate) line: Vec<u8>,
+}
+
+/// Audits the record that the bytes are a file of, and writes the line of that with a byte of 0 behind it. Nothing is written where
+/// the room is too short.
+pub(crate) fn audited(alloc: Global, bytes: &[u8], room: &mut [u8]) -> AuditCode
+    ensures { IsAudited bytes.now result room.old room.new }
+{
+    let Ok(found) = finding_in(alloc, bytes) else {
+        return AuditCode::NoMemory;
+    };
+    let Found { code, mut line } = found;
+    if line.push(0).is_err() {
+        return AuditCode::NoMemory;
+    }
+    if room.len() < line.len() {
+        return AuditCode::ShortRoom;
+    }
+    overwrite(room, &line);
+    code
+}
+
+/// What is found in the bytes.
+fn finding_in(alloc: Global, bytes: &[u8]) -> Result<Found, NoMemory>
+    ensures { IfOk result (λ found. IsFound bytes.now found.code found.line.items) }
+{
+    let file = copied(alloc, bytes)?;
+    match read_record(alloc, &file) {
+        Ok(record) => ruling(alloc, &record),
+        Err(fault) => unread(alloc, fault),
+    }
+}
+
+/// The bytes as data of their own.
+fn copied(alloc: Global, bytes: &[u8]) -> Result<Payload, NoMemory>
+    ensures { IfOk result (λ p. p ≡ bytes.now) }
+{
+    let mut copy = Vec::with_capacity(alloc, bytes.len())?;
+    copy.extend_from_slice(bytes)?;
+    Payload::new(alloc, copy)
+}
+
+/// What is found of a record.
+fn ruling(alloc: Global, record: &Record) -> Result<Found, NoMemory>
+    ensures { IfOk result (λ found. IsRuling «record».now found.code found.line.items) }
+{
+    let judged = judge_alone(alloc, record)?;
+    let mut line = Vec::new(alloc);
+    match judged.write_line(&mut line) {
+        Ok(()) => Ok(Found {
+            code: code_of(&judged),
+            line,
+        }),
+        Err(_) => Err(AllocError),
+    }
+}
+
+/// The code of what an audit answered.
+fn code_of(judged: &Judged) -> AuditCode
+    ensures { result ≡ spec.code_of judged.now }
+{
+    if judged.status() == 0 {
+        AuditCode::Lawful
+    } else {
+        AuditCode::Unlawful
+    }
+}
+
+/// What is found in bytes that are no record's file. Want of memory is no fault of theirs: it is answered.
+fn unread(alloc: Global, fault: RecordFault) -> Result<Found, NoMemory>
+    ensures known { OnOk result (fault ≢ NoMemoryFault) }
+    ensures found { IfOk result (λ found. IsUnread fault found.code found.line.items) }
+{
+    let mut line = Vec::new(alloc);
+    line.extend_from_slice(b"record: ")?;
+    push_fault(&mut line, fault)?;
+    line.push(b'\n')?;
+    Ok(Found {
+        code: AuditCode::BadRecord,
+        line,
+    })
+}
+
+/// Appends the fault in words.
+fn push_fault(line: &mut Vec<u8>, fault: RecordFault) -> Result<(), NoMemory>
+    ensures known { OnOk result (fault ≢ NoMemoryFault) }
+    ensures words { OnOk result (line.new.items ≡ line.old.items ++ unread.unread_text fault) }
+{
+    match fault {
+        RecordFault::BadName => line.extend_from_slice(b"bad name"),
+        RecordFault::Version => line.extend_from_slice(b"unknown version"),
+        RecordFault::Truncated { at } => push_offset(line, b"truncated at ", at),
+        RecordFault::Trailing { at } => push_offset(line, b"trailing at ", at),
+        RecordFault::BadValue { at } => push_offset(line, b"bad value at ", at),
+        RecordFault::NoMemory => Err(AllocError),
+    }
+}
+
+/// Appends the words, and the offset behind them.
+fn push_offset(line: &mut Vec<u8>, words: &[u8], at: u64) -> Result<(), NoMemory>
+    ensures { OnOk result (line.new.items ≡ line.old.items ++ (words.now ++ decimal at)) }
+{
+    line.extend_from_slice(words)?;
+    match write_decimal(line, at) {
+        Ok(()) => Ok(()),
+        Err(_) => Err(AllocError),
+    }
+}
