@@ -4,18 +4,17 @@ ghost use Rattle.nvm_certify.specs.Tried.{IsRightlyTried};
 
 use crate::arguing::argument_for;
 use crate::certification::{Certification, Reached};
+use crate::finding::{Found, UnitOrder, found_in_units};
+use crate::making::Making;
 use crate::numbers::Numbers;
-use crate::ordering::{Order, Ordering, Stuck, order_of};
-use crate::record_bytes::{Making, chains_of};
-use crate::steps::{UnitSteps, skip_units, steps_of_units};
-use crate::values::Values;
+use crate::ordering::Stuck;
+use crate::steps::{UnitSteps, skip_units};
 use crate::workers::workers_of;
 use nvm_audit::Record;
 use nvm_file::{RecordFault, read_record};
 use nvm_record::{NoMemory, Payload};
 use nvm_refute::{Argument, RefuteFault, refute};
 use nvm_trace::{Judging, Owner, Start, Trace, WitnessFault, traced_pieces, witness};
-use rayon::prelude::*;
 use std::alloc::{AllocError, Global};
 use std::thread::Threads;
 
@@ -55,54 +54,21 @@ fn contradicted(
     }
 }
 
-/// What is found in each unit, in their order, from as many threads as there are processors.
-fn orders_of<R: Threads + Sync>(
-    rt: &R,
-    alloc: Global,
-    trace: &Trace,
-    units: &Vec<UnitSteps>,
-    fresh: u32,
-    effort: u32,
-) -> Result<Vec<Result<Ordering, NoMemory>>, NoMemory> {
-    let start = trace.start;
-    (0..trace.geometry.units())
-        .into_par_iter()
-        .with_min_len(1)
-        .map(|unit: u16| -> Result<Ordering, NoMemory> {
-            order_in(alloc, units, unit, start, fresh, effort)
-        })
-        .collect(rt, alloc)
-}
-
-/// What is found in a unit.
-fn order_in(
-    alloc: Global,
-    units: &Vec<UnitSteps>,
-    unit: u16,
-    start: Start,
-    fresh: u32,
-    effort: u32,
-) -> Result<Ordering, NoMemory> {
-    match units.get(unit as usize) {
-        Some(steps) => order_of(alloc, steps, start, fresh, effort),
-        None => Ok(Ordering::Found(Order::empty(alloc))),
-    }
-}
-
 /// The verdict by an argument about a unit whose steps weren't put in order, if one is found.
 fn stuck_at(
     alloc: Global,
     judging: Judging,
     trace: &Trace,
-    units: &Vec<UnitSteps>,
+    unit: &UnitSteps,
     stuck: Stuck,
 ) -> Result<Option<Certification>, NoMemory>
     ensures { IfOk result (λ found. IfSome found (IsCertified judging «trace».now)) }
 {
     // No argument is taken about blocks of which nothing was known.
-    let (Start::Zeroes, Some(unit)) = (trace.start, units.get(stuck.reached.unit as usize)) else {
-        return Ok(None);
-    };
+    match trace.start {
+        Start::Zeroes => {}
+        Start::Unknown => return Ok(None),
+    }
     match argument_for(alloc, unit, Some(stuck.around as usize))? {
         Some(argument) => contradicted(alloc, judging, trace, argument),
         None => Ok(None),
@@ -114,23 +80,12 @@ fn record_of<'t>(
     alloc: Global,
     trace: &Trace,
     owners: &Vec<Owner<'t>>,
-    values: &Values<'t>,
-    units: &Vec<UnitSteps>,
-    orders: &Vec<Order>,
+    orders: &Vec<UnitOrder<'t>>,
 ) -> Result<Option<Record>, NoMemory> {
-    let chains = chains_of(alloc, units, orders)?;
-    let Some(workers) = workers_of(alloc, &chains, owners.len())? else {
+    let Some(workers) = workers_of(alloc, orders, owners.len())? else {
         return Ok(None);
     };
-    let making = Making {
-        alloc,
-        geometry: &trace.geometry,
-        owners,
-        values,
-        units,
-        orders,
-        workers: &workers,
-    };
+    let making = Making::new(alloc, &trace.geometry, owners, orders, &workers)?;
     let bytes = Payload::new(alloc, making.bytes()?)?;
     match read_record(alloc, &bytes) {
         Ok(run) => Ok(Some(run)),
@@ -159,33 +114,23 @@ fn try_once<'t, R: Threads + Sync>(
 ) -> Result<Tried, NoMemory>
     ensures { IfOk result (IsRightlyTried judging «trace».now) }
 {
-    let mut values = Values::new(alloc);
-    let units = steps_of_units(
-        alloc,
-        &trace.geometry,
-        trace.start,
-        owners.as_slice(),
-        skips,
-        &mut values,
-    )?;
-    let fresh = values.fresh(trace.geometry.block_size())?;
-    let mut orders = Vec::with_capacity(alloc, units.len())?;
+    let mut orders = Vec::with_capacity(alloc, trace.geometry.units() as usize)?;
     let mut all_stuck = Vec::new(alloc);
-    for found in orders_of(rt, alloc, trace, &units, fresh, effort)? {
+    for found in found_in_units(rt, alloc, trace, owners.as_slice(), skips, effort)? {
         match found? {
-            Ordering::Found(order) => orders.push(order)?,
-            Ordering::Stuck(stuck) => all_stuck.push(stuck)?,
+            Found::Order(order) => orders.push(order)?,
+            Found::Stuck(unit, stuck) => all_stuck.push((unit, stuck))?,
         }
     }
-    for stuck in &all_stuck {
-        if let Some(contradiction) = stuck_at(alloc, judging, trace, &units, *stuck)? {
+    for (unit, stuck) in &all_stuck {
+        if let Some(contradiction) = stuck_at(alloc, judging, trace, unit, *stuck)? {
             return Ok(Tried::Certified(contradiction));
         }
     }
-    if let Some(stuck) = all_stuck.first() {
+    if let Some((_, stuck)) = all_stuck.first() {
         return Ok(Tried::Stuck(stuck.reached));
     }
-    let Some(run) = record_of(alloc, trace, owners, &values, &units, &orders)? else {
+    let Some(run) = record_of(alloc, trace, owners, &orders)? else {
         return Ok(Tried::NoRecord);
     };
     match explained(rt, alloc, judging, trace, run)? {

@@ -22,6 +22,11 @@ impl Numbers {
         Ok(Numbers { items })
     }
 
+    /// How many numbers there are.
+    pub fn len(&self) -> usize {
+        self.items.len()
+    }
+
     /// The number at the place.
     pub fn at(&self, place: u32) -> u32 {
         match self.items.get(place as usize) {

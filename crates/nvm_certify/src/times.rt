@@ -1,8 +1,13 @@
+mod drawing;
+mod timed;
+
 use crate::board::Board;
+use crate::moments::Moments;
 use crate::numbers::{Numbers, short};
-use crate::steps::{Reply, Span, UnitStep, UnitSteps};
+use crate::steps::{Reply, UnitSteps};
 use nvm_record::NoMemory;
 use std::alloc::Global;
+pub use timed::{Timed, by_beginning};
 
 /// How often the times are drawn closer.
 const MOST_ROUNDS: u32 = 6;
@@ -26,127 +31,57 @@ pub struct Zone {
     pub version: u32,
 }
 
-/// A zone by its end.
-#[derive(Clone, Copy, Debug, PartialEq, Eq, PartialOrd, Ord)]
-struct End {
-    high: u64,
-    version: u32,
-}
-
-/// The best of some values, and the best of another version than that one's.
-#[derive(Clone, Copy, Debug)]
-struct Two {
-    best: u64,
-    version: u32,
-    next: u64,
-}
-
 /// Closer times of a unit's steps than those of their commands. Each follows from what was found: a step that found what another put
 /// comes after it, and all steps of one version of a block come before all of the next.
 #[derive(Debug, Drop)]
 pub struct Times {
     /// Of each step, a time before which it can't have been done.
-    pub from: Vec<u64>,
+    from: Moments,
     /// Of each step, a time at which it must have been done.
-    pub due: Vec<u64>,
+    due: Moments,
     /// Of each version that just one step puts, which surely was done, that step.
     sole: Numbers,
     /// Who found which of these versions, or of those that were there at first, by version.
     uses: Vec<Use>,
 }
 
-/// The places of a span.
-fn places(span: Span) -> std::ops::Range<u32> {
-    span.from..span.to.max(span.from)
-}
-
-/// The time at a place.
-fn time_at(times: &Vec<u64>, place: u32) -> u64 {
-    match times.get(place as usize) {
-        Some(time) => *time,
-        None => 0,
-    }
-}
-
-/// Makes the time at a place at least this. Says whether that changed it.
-fn raise(times: &mut Vec<u64>, place: u32, time: u64) -> bool {
-    match times.get_mut(place as usize) {
-        Some(known) if *known < time => {
-            *known = time;
-            true
-        }
-        _ => false,
-    }
-}
-
-/// Makes the time at a place at most this. Says whether that changed it.
-fn lower(times: &mut Vec<u64>, place: u32, time: u64) -> bool {
-    match times.get_mut(place as usize) {
-        Some(known) if *known > time => {
-            *known = time;
-            true
-        }
-        _ => false,
-    }
-}
-
-impl Two {
-    /// The value of the best that isn't of this version.
-    fn without(&self, version: u32) -> u64 {
-        if self.version == version {
-            self.next
-        } else {
-            self.best
-        }
-    }
-
-    /// With one value more, of which the higher is better.
-    fn or_higher(self, value: u64, version: u32) -> Two {
-        if value > self.best {
-            Two {
-                best: value,
-                version,
-                next: self.best,
+/// Of each version that just one step puts, which surely was done, that step, where the version wasn't there at first.
+fn sole_writers(alloc: Global, unit: &UnitSteps, board: &Board) -> Result<Numbers, NoMemory> {
+    let versions = board.versions.count();
+    let mut sole = Numbers::new(alloc, versions as usize, NONE)?;
+    let mut count = Numbers::new(alloc, versions as usize, 0)?;
+    for place in 0..unit.steps.len() {
+        let step = &unit.steps[place];
+        for cell in step.put.places() {
+            let version = board.versions.of_cell(cell);
+            count.raise(version);
+            if step.reply != Reply::Done || board.finds(step, cell) {
+                count.raise(version);
             }
-        } else {
-            Two {
-                next: self.next.max(value),
-                ..self
-            }
+            sole.put(version, short(place));
         }
     }
-
-    /// With one value more, of which the lower is better.
-    fn or_lower(self, value: u64, version: u32) -> Two {
-        if value < self.best {
-            Two {
-                best: value,
-                version,
-                next: self.best,
-            }
-        } else {
-            Two {
-                next: self.next.min(value),
-                ..self
-            }
+    for version in 0..versions {
+        if count.at(version) != 1 || board.is_first(version) {
+            sole.put(version, NONE);
         }
     }
+    Ok(sole)
 }
 
 impl Times {
     /// The times of the unit's steps.
     pub fn new(alloc: Global, unit: &UnitSteps, board: &Board) -> Result<Times, NoMemory> {
         let mut times = Times {
-            from: Vec::with_capacity(alloc, unit.steps.len())?,
-            due: Vec::with_capacity(alloc, unit.steps.len())?,
-            sole: Numbers::new(alloc, unit.cells.len(), NONE)?,
+            from: Moments::with_room(alloc, unit.steps.len())?,
+            due: Moments::with_room(alloc, unit.steps.len())?,
+            sole: sole_writers(alloc, unit, board)?,
             uses: Vec::new(alloc),
         };
         for step in &unit.steps {
             times.from.push(step.began)?;
             times.due.push(step.ended)?;
         }
-        times.find_sole(alloc, unit, board)?;
         times.find_uses(unit, board)?;
         for _ in 0..MOST_ROUNDS {
             let by_sources = times.draw_by_sources();
@@ -158,31 +93,10 @@ impl Times {
         Ok(times)
     }
 
-    /// Finds the versions that just one step puts, which surely was done, and that weren't there at first.
-    fn find_sole(
-        &mut self,
-        alloc: Global,
-        unit: &UnitSteps,
-        board: &Board,
-    ) -> Result<(), NoMemory> {
-        let mut count = Numbers::new(alloc, unit.cells.len(), 0)?;
-        for place in 0..unit.steps.len() {
-            let step = &unit.steps[place];
-            for cell in places(step.put) {
-                let version = board.version_of(cell);
-                count.raise(version);
-                if step.reply != Reply::Done || board.finds(step, cell) {
-                    count.raise(version);
-                }
-                self.sole.put(version, short(place));
-            }
-        }
-        for version in 0..short(unit.cells.len()) {
-            if count.at(version) != 1 || board.is_first(version) {
-                self.sole.put(version, NONE);
-            }
-        }
-        Ok(())
+    /// The step that alone puts the version, if there is such a one.
+    fn writer(&self, version: u32) -> Option<u32> {
+        let writer = self.sole.at(version);
+        if writer == NONE { None } else { Some(writer) }
     }
 
     /// Finds who found these versions, and those that were there at first and none puts.
@@ -192,9 +106,9 @@ impl Times {
             if step.reply != Reply::Done {
                 continue;
             }
-            for cell in places(step.found) {
-                let version = board.version_of(cell);
-                if self.sole.at(version) != NONE || board.is_only_first(version) {
+            for cell in step.found.places() {
+                let version = board.versions.of_cell(cell);
+                if self.writer(version).is_some() || board.is_only_first(version) {
                     self.uses.push(Use {
                         version,
                         step: short(place),
@@ -214,14 +128,16 @@ impl Times {
                 continue;
             };
             let used = *used;
-            let writer = self.sole.at(used.version);
-            if writer == NONE || writer == used.step {
+            let Some(writer) = self.writer(used.version) else {
+                continue;
+            };
+            if writer == used.step {
                 continue;
             }
-            let from = time_at(&self.from, writer);
-            let due = time_at(&self.due, used.step);
-            changed = raise(&mut self.from, used.step, from) || changed;
-            changed = lower(&mut self.due, writer, due) || changed;
+            let from = self.from.at(writer);
+            let due = self.due.at(used.step);
+            changed = self.from.raise(used.step, from) || changed;
+            changed = self.due.lower(writer, due) || changed;
         }
         changed
     }
@@ -230,28 +146,28 @@ impl Times {
     pub fn zones(&self, alloc: Global, board: &Board) -> Result<Vec<Zone>, NoMemory> {
         let mut zones = Vec::new(alloc);
         let mut next = 0usize;
-        for version in 0..board.version_count() {
-            let writer = self.sole.at(version);
+        for version in 0..board.versions.count() {
+            let writer = self.writer(version);
             let is_first = board.is_only_first(version);
-            if writer == NONE && !is_first {
+            if writer.is_none() && !is_first {
                 continue;
             }
             let mut zone = Zone {
-                block: board.block_of(version),
+                block: board.versions.block_of(version),
                 low: u64::MAX,
                 high: 0,
                 version,
             };
-            if writer != NONE {
-                zone.low = time_at(&self.due, writer);
-                zone.high = time_at(&self.from, writer);
+            if let Some(writer) = writer {
+                zone.low = self.due.at(writer);
+                zone.high = self.from.at(writer);
             }
             for _ in next..self.uses.len() {
                 match self.uses.get(next) {
                     Some(used) if used.version <= version => {
                         if used.version == version {
-                            zone.low = zone.low.min(time_at(&self.due, used.step));
-                            zone.high = zone.high.max(time_at(&self.from, used.step));
+                            zone.low = zone.low.min(self.due.at(used.step));
+                            zone.high = zone.high.max(self.from.at(used.step));
                         }
                         next = next.saturating_add(1);
                     }
@@ -267,148 +183,4 @@ impl Times {
         zones.sort()?;
         Ok(zones)
     }
-
-    /// Draws times closer by the order of each block's versions. Says whether one changed.
-    fn draw_by_zones(&mut self, alloc: Global, board: &Board) -> Result<bool, NoMemory> {
-        let zones = self.zones(alloc, board)?;
-        let mut dues = Vec::new(alloc);
-        for _ in 0..board.version_count() {
-            dues.push(u64::MAX)?;
-        }
-        let mut changed = false;
-        let mut begin = 0usize;
-        for k in 0..zones.len() {
-            let is_last = match zones.get(k.saturating_add(1)) {
-                Some(next) => next.block != zones[k].block,
-                None => true,
-            };
-            if is_last {
-                let block = &zones[begin.min(k)..k + 1];
-                changed = self.draw_in_block(alloc, block, &mut dues)? || changed;
-                begin = k.saturating_add(1);
-            }
-        }
-        for k in 0..self.uses.len() {
-            let Some(used) = self.uses.get(k) else {
-                continue;
-            };
-            let used = *used;
-            let due = time_at(&dues, used.version);
-            changed = lower(&mut self.due, used.step, due) || changed;
-        }
-        Ok(changed)
-    }
-
-    /// Draws times closer by the order of one block's versions, whose zones come by `low`. Notes for each when all of its steps are due.
-    fn draw_in_block(
-        &mut self,
-        alloc: Global,
-        zones: &[Zone],
-        dues: &mut Vec<u64>,
-    ) -> Result<bool, NoMemory> {
-        let mut ends = Vec::with_capacity(alloc, zones.len())?;
-        for zone in zones {
-            ends.push(End {
-                high: zone.high,
-                version: zone.version,
-            })?;
-        }
-        ends.sort()?;
-        let mut changed = false;
-        // Of each version, the versions that stand before it: its step comes after all of theirs.
-        let mut before = Two {
-            best: 0,
-            version: NONE,
-            next: 0,
-        };
-        let mut k = 0usize;
-        for end in &ends {
-            for _ in k..zones.len() {
-                match zones.get(k) {
-                    Some(zone) if zone.low < end.high => {
-                        before = before.or_higher(zone.high, zone.version);
-                        k = k.saturating_add(1);
-                    }
-                    _ => break,
-                }
-            }
-            let writer = self.sole.at(end.version);
-            if writer != NONE {
-                changed = raise(&mut self.from, writer, before.without(end.version)) || changed;
-            }
-        }
-        // Of each version, the versions that stand after it: all its steps come before theirs.
-        let mut after = Two {
-            best: u64::MAX,
-            version: NONE,
-            next: u64::MAX,
-        };
-        let mut left = ends.len();
-        for n in 0..zones.len() {
-            let zone = zones[zones.len() - 1 - n];
-            for _ in 0..ends.len() {
-                match ends.get(left.saturating_sub(1)) {
-                    Some(end) if left > 0 && end.high > zone.low => {
-                        let writer = self.sole.at(end.version);
-                        if writer != NONE {
-                            after = after.or_lower(time_at(&self.due, writer), end.version);
-                        }
-                        left -= 1;
-                    }
-                    _ => break,
-                }
-            }
-            let due = after.without(zone.version);
-            lower(dues, zone.version, due);
-            let writer = self.sole.at(zone.version);
-            if writer != NONE {
-                changed = lower(&mut self.due, writer, due) || changed;
-            }
-        }
-        Ok(changed)
-    }
-}
-
-/// A step with closer times, and its place among the unit's.
-#[derive(Clone, Copy, Debug)]
-pub struct Timed {
-    pub step: UnitStep,
-    pub place: u32,
-}
-
-/// A step's beginning, by which steps are ordered.
-#[derive(Clone, Copy, Debug, PartialEq, Eq, PartialOrd, Ord)]
-struct Beginning {
-    from: u64,
-    place: u32,
-}
-
-/// The unit's steps with these times, in the order in which they can be done first.
-pub fn by_beginning(
-    alloc: Global,
-    unit: &UnitSteps,
-    times: &Times,
-) -> Result<Vec<Timed>, NoMemory> {
-    let mut order = Vec::with_capacity(alloc, unit.steps.len())?;
-    for place in 0..unit.steps.len() {
-        order.push(Beginning {
-            from: time_at(&times.from, short(place)),
-            place: short(place),
-        })?;
-    }
-    order.sort()?;
-    let mut steps = Vec::with_capacity(alloc, unit.steps.len())?;
-    for beginning in &order {
-        if let Some(step) = unit.steps.get(beginning.place as usize) {
-            steps.push(Timed {
-                step: UnitStep {
-                    began: beginning.from,
-                    ended: time_at(&times.due, beginning.place),
-                    ..*step
-                },
-                place: beginning.place,
-            })?;
-        }
-    }
-    Ok(steps)
 }

@@ -1,8 +1,8 @@
-use crate::numbers::short;
-use crate::steps::block_at;
+use crate::data::block_at;
+use crate::numbers::{Numbers, short};
+use crate::sum::sum_of;
 use nvm_record::{BlockSize, NoMemory};
 use std::alloc::Global;
-use std::collections::HashMap;
 
 /// The value of a block of zero bytes.
 pub const ZERO: u32 = 0;
@@ -11,36 +11,52 @@ pub const MARK: u32 = 1;
 /// The first value of other bytes.
 const FIRST: usize = 2;
 
+/// An empty place of a table. No value of other bytes is 0.
+const EMPTY: u32 = 0;
+/// How many places a table has at first.
+const FEW: usize = 16;
+
 /// The bytes of a block that no command is expected to put.
 const FRESH: &[u8] = &[0xa5; 4096];
 
 /// Numbers for what blocks hold: two blocks have the same value exactly if they hold the same.
 #[derive(Drop)]
 pub struct Values<'t> {
-    numbers: HashMap<&'t [u8], u32>,
+    alloc: Global,
+    /// The bytes of each value, from the first one of other bytes on, and their sums.
     contents: Vec<&'t [u8]>,
+    sums: Vec<u64>,
+    /// Each value stands at the place that its sum leads to, or at the next one that was free. A power of 2 of places, or none.
+    table: Numbers,
 }
 
 impl<'t> Values<'t> {
     /// No values but those of zero bytes and marks.
-    pub fn new(alloc: Global) -> Values<'t> {
-        Values {
-            numbers: HashMap::new(alloc),
+    pub fn new(alloc: Global) -> Result<Values<'t>, NoMemory> {
+        Ok(Values {
+            alloc,
             contents: Vec::new(alloc),
-        }
+            sums: Vec::new(alloc),
+            table: Numbers::new(alloc, 0, EMPTY)?,
+        })
     }
 
     /// The value of the bytes.
     pub fn value_of(&mut self, bytes: &'t [u8]) -> Result<u32, NoMemory> {
-        if is_zero(bytes) {
+        let Some(sum) = sum_of(bytes) else {
             return Ok(ZERO);
-        }
-        if let Some(value) = self.numbers.get(bytes) {
-            return Ok(*value);
+        };
+        if let Some(value) = self.known(sum, bytes) {
+            return Ok(value);
         }
         let value = short(self.contents.len().saturating_add(FIRST));
-        self.numbers.insert(bytes, value)?;
         self.contents.push(bytes)?;
+        self.sums.push(sum)?;
+        if self.contents.len() > self.table.len() / 2 {
+            self.lay_out()?;
+        } else {
+            self.enter(value, sum);
+        }
         Ok(value)
     }
 
@@ -55,14 +71,57 @@ impl<'t> Values<'t> {
         let bytes = self.contents.get(place)?;
         Some(*bytes)
     }
-}
 
-/// Whether all bytes are 0.
-pub fn is_zero(bytes: &[u8]) -> bool {
-    for byte in bytes {
-        if *byte != 0 {
-            return false;
+    /// The place of the table to which a sum leads, so many places on.
+    fn place_of(&self, sum: u64, turn: u32) -> u32 {
+        let last = short(self.table.len()).saturating_sub(1);
+        ((sum >> 32) as u32).wrapping_add(turn) & last
+    }
+
+    /// The value of bytes of this sum, if they have one.
+    fn known(&self, sum: u64, bytes: &[u8]) -> Option<u32> {
+        for turn in 0..short(self.table.len()) {
+            let value = self.table.at(self.place_of(sum, turn));
+            if value == EMPTY {
+                return None;
+            }
+            if self.has(value, sum, bytes) {
+                return Some(value);
+            }
+        }
+        None
+    }
+
+    /// Whether the value is that of the bytes of this sum.
+    fn has(&self, value: u32, sum: u64, bytes: &[u8]) -> bool {
+        let place = (value as usize).saturating_sub(FIRST);
+        match (self.sums.get(place), self.contents.get(place)) {
+            (Some(known), Some(content)) => *known == sum && *content == bytes,
+            _ => false,
         }
     }
-    true
+
+    /// Puts a value into the table, at the first free place for its sum.
+    fn enter(&mut self, value: u32, sum: u64) {
+        for turn in 0..short(self.table.len()) {
+            let place = self.place_of(sum, turn);
+            if self.table.at(place) == EMPTY {
+                self.table.put(place, value);
+                return;
+            }
+        }
+    }
+
+    /// Makes a table of twice as many places.
+    fn lay_out(&mut self) -> Result<(), NoMemory> {
+        let places = self.table.len().saturating_mul(2).max(FEW);
+        self.table = Numbers::new(self.alloc, places, EMPTY)?;
+        for place in 0..self.sums.len() {
+            if let Some(sum) = self.sums.get(place) {
+                let sum = *sum;
+                self.enter(short(place.saturating_add(FIRST)), sum);
+            }
+        }
+        Ok(())
+    }
 }

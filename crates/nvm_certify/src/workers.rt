@@ -1,3 +1,4 @@
+use crate::finding::UnitOrder;
 use crate::numbers::{Numbers, short};
 use nvm_record::NoMemory;
 use std::alloc::Global;
@@ -5,10 +6,10 @@ use std::alloc::Global;
 /// A record has at most so many workers.
 const MOST_WORKERS: usize = 64;
 
-/// The pieces of each unit, in the order of their steps there, and who does them.
+/// Who does the pieces of units, in the order of their steps there.
 #[derive(Drop)]
-struct Dealing<'c> {
-    chains: &'c Vec<Vec<u32>>,
+struct Dealing<'o, 't> {
+    orders: &'o Vec<UnitOrder<'t>>,
     /// Of each piece, the places of its units in `units`: from this one up to that of the next piece.
     from: Numbers,
     /// The units of all pieces, piece by piece.
@@ -25,16 +26,16 @@ struct Dealing<'c> {
     todo: Vec<u32>,
 }
 
-impl<'c> Dealing<'c> {
+impl<'o, 't> Dealing<'o, 't> {
     fn new(
         alloc: Global,
-        chains: &'c Vec<Vec<u32>>,
+        orders: &'o Vec<UnitOrder<'t>>,
         pieces: usize,
-    ) -> Result<Dealing<'c>, NoMemory> {
+    ) -> Result<Dealing<'o, 't>, NoMemory> {
         let mut counts = Numbers::new(alloc, pieces, 0)?;
-        for chain in chains {
-            for piece in chain {
-                counts.raise(*piece);
+        for order in orders {
+            for step in &order.steps {
+                counts.raise(step.piece);
             }
         }
         let mut from = Numbers::new(alloc, 0, 0)?;
@@ -46,22 +47,20 @@ impl<'c> Dealing<'c> {
         from.push(end)?;
         let mut units = Numbers::new(alloc, end as usize, 0)?;
         let mut filled = Numbers::new(alloc, pieces, 0)?;
-        for unit in 0..chains.len() {
-            for piece in &chains[unit] {
-                units.put(
-                    from.at(*piece).saturating_add(filled.at(*piece)),
-                    short(unit),
-                );
-                filled.raise(*piece);
+        for unit in 0..orders.len() {
+            for step in &orders[unit].steps {
+                let piece = step.piece;
+                units.put(from.at(piece).saturating_add(filled.at(piece)), short(unit));
+                filled.raise(piece);
             }
         }
         Ok(Dealing {
-            chains,
+            orders,
             from,
             units,
             taken: Numbers::new(alloc, pieces, 0)?,
-            at: Numbers::new(alloc, chains.len(), 0)?,
-            seen: Numbers::new(alloc, chains.len(), 0)?,
+            at: Numbers::new(alloc, orders.len(), 0)?,
+            seen: Numbers::new(alloc, orders.len(), 0)?,
             next_in: Numbers::new(alloc, pieces, 0)?,
             todo: Vec::new(alloc),
         })
@@ -76,10 +75,10 @@ impl<'c> Dealing<'c> {
 
     /// The next piece of a unit that no worker has and none put off.
     fn next_of(&mut self, unit: u32) -> Option<u32> {
-        let chain = self.chains.get(unit as usize)?;
-        for _ in 0..chain.len() {
+        let steps = &self.orders.get(unit as usize)?.steps;
+        for _ in 0..steps.len() {
             let place = self.at.at(unit);
-            let piece = *chain.get(place as usize)?;
+            let piece = steps.get(place as usize)?.piece;
             if self.taken.at(piece) == 0 {
                 return Some(piece);
             }
@@ -121,7 +120,7 @@ impl<'c> Dealing<'c> {
 
     /// Puts a piece off that is next in a unit from this one on. Says in which.
     fn put_off(&mut self, first: u32) -> Result<Option<u32>, NoMemory> {
-        let count = short(self.chains.len());
+        let count = short(self.orders.len());
         for k in 0..count {
             let unit = (u64::from(first) + u64::from(k)) % u64::from(count.max(1));
             let unit = short(unit as usize);
@@ -138,7 +137,7 @@ impl<'c> Dealing<'c> {
     fn worker(&mut self, alloc: Global) -> Result<Vec<u32>, NoMemory> {
         let mut jobs = Vec::new(alloc);
         let mut from = 0;
-        for unit in 0..short(self.chains.len()) {
+        for unit in 0..short(self.orders.len()) {
             self.at.put(unit, 0);
             self.seen.put(unit, 0);
             self.todo.push(unit)?;
@@ -170,14 +169,14 @@ impl<'c> Dealing<'c> {
     }
 }
 
-/// Workers that do these pieces, each piece once and in each unit in this order, if 64 are enough: the pieces of each, in its order.
+/// Workers that do the pieces of these steps, each once and in each unit in this order, if 64 are enough: the pieces of each, in its order.
 /// There are more than one only where units have pieces in opposite orders.
 pub fn workers_of(
     alloc: Global,
-    chains: &Vec<Vec<u32>>,
+    orders: &Vec<UnitOrder<'_>>,
     pieces: usize,
 ) -> Result<Option<Vec<Vec<u32>>>, NoMemory> {
-    let mut dealing = Dealing::new(alloc, chains, pieces)?;
+    let mut dealing = Dealing::new(alloc, orders, pieces)?;
     let mut workers = Vec::new(alloc);
     for _ in 0..MOST_WORKERS {
         let jobs = dealing.worker(alloc)?;

@@ -37,6 +37,30 @@ impl Derived {
     }
 }
 
+/// Of the writers those among some places that aren't known yet, but for a source and a reader themselves.
+fn others_among(
+    alloc: Global,
+    writers: &PlaceSet,
+    among: Option<&PlaceSet>,
+    known: [Option<&PlaceSet>; 2],
+    themselves: [usize; 2],
+) -> Result<Vec<usize>, NoMemory> {
+    let Some(among) = among else {
+        return Ok(Vec::new(alloc));
+    };
+    let mut others = writers.copy(alloc)?;
+    others.keep(among);
+    for places in known {
+        if let Some(places) = places {
+            others.remove(places);
+        }
+    }
+    for place in themselves {
+        others.take_out(place);
+    }
+    others.places(alloc)
+}
+
 /// What was derived of a window's steps.
 #[derive(Drop)]
 pub struct Derivation {
@@ -81,54 +105,6 @@ impl Derivation {
         }
         self.derived.push(derived)?;
         Ok(())
-    }
-
-    /// Of the writers those that stand after the one step and aren't known to stand after the other.
-    fn new_laters(
-        &self,
-        alloc: Global,
-        writers: &PlaceSet,
-        source: usize,
-        reader: usize,
-    ) -> Result<Vec<usize>, NoMemory> {
-        let (Some(after), Some(known), Some(put)) = (
-            self.orders.after(source),
-            self.orders.after(reader),
-            self.laters.get(reader),
-        ) else {
-            return Ok(Vec::new(alloc));
-        };
-        let mut laters = writers.copy(alloc)?;
-        laters.keep(after);
-        laters.remove(known);
-        laters.remove(put);
-        laters.take_out(source);
-        laters.take_out(reader);
-        laters.places(alloc)
-    }
-
-    /// Of the writers those that stand before the one step and aren't known to stand before the other.
-    fn new_earliers(
-        &self,
-        alloc: Global,
-        writers: &PlaceSet,
-        source: usize,
-        reader: usize,
-    ) -> Result<Vec<usize>, NoMemory> {
-        let (Some(before), Some(known), Some(put)) = (
-            self.orders.before(reader),
-            self.orders.before(source),
-            self.earliers.get(source),
-        ) else {
-            return Ok(Vec::new(alloc));
-        };
-        let mut earliers = writers.copy(alloc)?;
-        earliers.keep(before);
-        earliers.remove(known);
-        earliers.remove(put);
-        earliers.take_out(source);
-        earliers.take_out(reader);
-        earliers.places(alloc)
     }
 
     /// That the step whose block was found stands before the reader.
@@ -194,9 +170,17 @@ impl Derivation {
         source: usize,
         writers: &PlaceSet,
     ) -> Result<(), NoMemory> {
-        for writer in &self.new_laters(alloc, writers, source, find.reader)? {
+        let reader = find.reader;
+        let known = [self.orders.after(reader), self.laters.get(reader)];
+        for writer in &others_among(
+            alloc,
+            writers,
+            self.orders.after(source),
+            known,
+            [source, reader],
+        )? {
             self.put(Derived {
-                earlier: find.reader,
+                earlier: reader,
                 later: *writer,
                 block: find.block,
                 by: Rule::Over { source },
@@ -214,7 +198,14 @@ impl Derivation {
         writers: &PlaceSet,
     ) -> Result<(), NoMemory> {
         let reader = find.reader;
-        for writer in &self.new_earliers(alloc, writers, source, reader)? {
+        let known = [self.orders.before(source), self.earliers.get(source)];
+        for writer in &others_among(
+            alloc,
+            writers,
+            self.orders.before(reader),
+            known,
+            [source, reader],
+        )? {
             self.put(Derived {
                 earlier: *writer,
                 later: source,

@@ -1,0 +1,98 @@
+use crate::finding::UnitOrder;
+use crate::numbers::{Numbers, short};
+use crate::steps::{Reply, UnitStep};
+use nvm_plan::Body;
+use nvm_record::NoMemory;
+use nvm_trace::Owner;
+use std::alloc::Global;
+
+/// How a piece's part in a unit ended, by the number that a record's file has for it.
+pub const DONE: u8 = 1;
+
+pub const FAILED: u8 = 2;
+
+pub const LOOKED: u8 = 3;
+
+/// What a piece does in a unit.
+#[derive(Clone, Copy, Debug, PartialEq, Eq, PartialOrd, Ord)]
+pub struct Share {
+    pub piece: u32,
+    pub unit: u16,
+    pub point: u32,
+    pub result: u8,
+    /// Whether it ended with success.
+    pub is_success: bool,
+}
+
+/// What the pieces do in their units, piece by piece.
+#[derive(Drop)]
+pub struct Shares {
+    items: Vec<Share>,
+    /// Of each piece, and of one more, the place of its first.
+    from: Numbers,
+}
+
+/// How the part of a step ended.
+pub fn result_of(owners: &[Owner<'_>], step: &UnitStep) -> u8 {
+    if !step.is_look() {
+        return DONE;
+    }
+    match owners.get(step.piece as usize) {
+        Some(owner) => match owner.whole.job.body {
+            Body::Single(_) => LOOKED,
+            Body::Pair(_, _) => FAILED,
+        },
+        None => LOOKED,
+    }
+}
+
+/// Of each piece, and of one more, the place of its first share.
+fn firsts(alloc: Global, pieces: usize, shares: &[Share]) -> Result<Numbers, NoMemory> {
+    let mut from = Numbers::new(alloc, pieces.saturating_add(1), 0)?;
+    for share in shares {
+        from.raise(share.piece.saturating_add(1));
+    }
+    let mut end = 0u32;
+    for piece in 0..short(from.len()) {
+        end = end.saturating_add(from.at(piece));
+        from.put(piece, end);
+    }
+    Ok(from)
+}
+
+impl Shares {
+    /// What these pieces do, where the units' steps are in these orders.
+    pub fn new(
+        alloc: Global,
+        owners: &[Owner<'_>],
+        orders: &[UnitOrder<'_>],
+    ) -> Result<Shares, NoMemory> {
+        let mut items = Vec::new(alloc);
+        for order in orders {
+            let mut point = short(order.first.len());
+            for step in &order.steps {
+                let result = result_of(owners, step);
+                items.push(Share {
+                    piece: step.piece,
+                    unit: order.unit,
+                    point,
+                    result,
+                    is_success: !step.reply.is_failure(),
+                })?;
+                if result == DONE {
+                    point = point.saturating_add(1);
+                }
+            }
+        }
+        items.sort()?;
+        let from = firsts(alloc, owners.len(), &items)?;
+        Ok(Shares { items, from })
+    }
+
+    /// What a piece does, by rising units.
+    pub fn of(&self, piece: u32) -> &[Share] {
+        let to = (self.from.at(piece.saturating_add(1)) as usize).min(self.items.len());
+        let from = (self.from.at(piece) as usize).min(to);
+        &self.items[from..to]
+    }
+}

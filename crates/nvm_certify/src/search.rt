@@ -1,0 +1,203 @@
+mod choices;
+mod window;
+
+use crate::board::Board;
+use crate::line::Line;
+use crate::numbers::short;
+use crate::ordering::{Order, Stuck};
+use crate::search::choices::{Choice, Turn};
+use crate::steps::UnitStep;
+use crate::times::Timed;
+use nvm_record::NoMemory;
+use std::alloc::Global;
+
+/// A step that was put in order.
+#[derive(Clone, Copy, Debug)]
+struct Placed {
+    step: u32,
+    /// The latest time at which a step before it began.
+    latest: u64,
+}
+
+/// A search for an order of a unit's steps.
+#[derive(Drop)]
+pub struct Search<'u> {
+    alloc: Global,
+    unit: u16,
+    /// The steps, in the order in which they can be done first.
+    steps: &'u Vec<Timed>,
+    board: Board,
+    /// Steps that have to be in order and aren't.
+    needed: Line,
+    /// Steps that may be in order and aren't.
+    open: Line,
+    /// How many have to be in order and aren't.
+    left: usize,
+    placed: Vec<Placed>,
+    latest: u64,
+    turns: Vec<Turn>,
+    choices: Vec<Choice>,
+    /// The steps that can be next, as far as time goes.
+    window: Vec<u32>,
+    /// The step among them whose command ended first.
+    urgent: u32,
+    /// How many steps may still be taken back.
+    effort: u32,
+    stuck: Stuck,
+}
+
+impl<'u> Search<'u> {
+    /// A search for an order of these steps, which takes at most `effort` of them back.
+    pub fn new(
+        alloc: Global,
+        unit: u16,
+        steps: &'u Vec<Timed>,
+        board: Board,
+        effort: u32,
+    ) -> Result<Search<'u>, NoMemory> {
+        let count = short(steps.len());
+        let mut search = Search {
+            alloc,
+            unit,
+            steps,
+            board,
+            needed: Line::new(alloc, count)?,
+            open: Line::new(alloc, count)?,
+            left: 0,
+            placed: Vec::new(alloc),
+            latest: 0,
+            turns: Vec::new(alloc),
+            choices: Vec::new(alloc),
+            window: Vec::new(alloc),
+            urgent: 0,
+            effort,
+            stuck: Stuck::new(unit, steps.len(), 0, 0),
+        };
+        for place in 0..steps.len() {
+            if steps[place].step.is_needed() {
+                search.open.take(short(place));
+                search.left = search.left.saturating_add(1);
+            } else {
+                search.needed.take(short(place));
+            }
+        }
+        Ok(search)
+    }
+
+    /// The step at the place.
+    fn step(&self, place: u32) -> Option<&'u UnitStep> {
+        let steps = self.steps;
+        let timed = steps.get(place as usize)?;
+        Some(&timed.step)
+    }
+
+    /// Puts the step next.
+    fn place(&mut self, place: u32) -> Result<(), NoMemory> {
+        let Some(step) = self.step(place) else {
+            return Ok(());
+        };
+        self.board.do_step(step)?;
+        self.placed.push(Placed {
+            step: place,
+            latest: self.latest,
+        })?;
+        self.latest = self.latest.max(step.began);
+        if step.is_needed() {
+            self.needed.take(place);
+            self.left = self.left.saturating_sub(1);
+        } else {
+            self.open.take(place);
+        }
+        Ok(())
+    }
+
+    /// Takes the last step back.
+    fn take_back(&mut self) {
+        let Some(last) = self.placed.pop() else {
+            return;
+        };
+        let Some(step) = self.step(last.step) else {
+            return;
+        };
+        self.board.undo_step(step);
+        self.latest = last.latest;
+        if step.is_needed() {
+            self.needed.put_back(last.step);
+            self.left = self.left.saturating_add(1);
+        } else {
+            self.open.put_back(last.step);
+        }
+    }
+
+    /// Puts steps next as long as some can be without making an order impossible.
+    fn place_free(&mut self) -> Result<(), NoMemory> {
+        for _ in 0..self.steps.len() {
+            let bound = self.look_around()?;
+            let mut some = false;
+            for k in 0..self.window.len() {
+                let Some(place) = self.window.get(k) else {
+                    continue;
+                };
+                let place = *place;
+                let Some(step) = self.step(place) else {
+                    continue;
+                };
+                if self.is_free(step) {
+                    self.place(place)?;
+                    some = true;
+                }
+            }
+            if !some || bound == u64::MAX {
+                return Ok(());
+            }
+        }
+        Ok(())
+    }
+
+    /// Notes how far the search came.
+    fn note_stuck(&mut self) {
+        let placed = short(self.placed.len());
+        if placed >= self.stuck.reached.placed {
+            let around = match self.steps.get(self.urgent as usize) {
+                Some(timed) => timed.place,
+                None => 0,
+            };
+            self.stuck = Stuck::new(self.unit, self.steps.len(), placed, around);
+        }
+    }
+
+    /// Searches, and says whether all steps that have to be are in order.
+    pub fn run(&mut self) -> Result<bool, NoMemory> {
+        for _ in 0..u64::MAX {
+            self.place_free()?;
+            if self.left == 0 {
+                return Ok(true);
+            }
+            if !self.turn()? {
+                self.note_stuck();
+                if !self.turn_back()? {
+                    return Ok(false);
+                }
+            }
+        }
+        Ok(false)
+    }
+
+    /// Where the search stopped when it came furthest.
+    pub fn stuck(&self) -> Stuck {
+        self.stuck
+    }
+
+    /// The order that was found.
+    pub fn into_order(self) -> Result<Order, NoMemory> {
+        let mut steps = Vec::with_capacity(self.alloc, self.placed.len())?;
+        for placed in &self.placed {
+            if let Some(timed) = self.steps.get(placed.step as usize) {
+                steps.push(timed.place)?;
+            }
+        }
+        let Search { board, .. } = self;
+        let Board { first, .. } = board;
+        Ok(Order { steps, first })
+    }
+}

@@ -1,0 +1,123 @@
+use crate::numbers::{Numbers, short};
+use crate::steps::Reply;
+use crate::steps::changes::Changes;
+use crate::steps::failing::failing_unit;
+use crate::steps::lbas::{lbas_in, unit_of_cut};
+use crate::steps::replies::reply_of;
+use nvm_geometry::Geometry;
+use nvm_plan::job_units;
+use nvm_record::NoMemory;
+use nvm_trace::{Owner, Start};
+use std::alloc::Global;
+
+/// A piece of a command that has a part in a unit, and what its reply says of that.
+#[derive(Clone, Copy, Debug)]
+pub struct UnitPiece {
+    /// The number of the piece.
+    pub piece: u32,
+    pub reply: Reply,
+}
+
+/// When a piece began, and its number. Their order is that in which pieces began.
+#[derive(Clone, Copy, Debug, PartialEq, Eq, PartialOrd, Ord)]
+struct Beginning {
+    began: u64,
+    piece: u32,
+}
+
+/// When each piece began, in that order.
+fn beginnings(alloc: Global, owners: &[Owner<'_>]) -> Result<Vec<Beginning>, NoMemory> {
+    let mut order = Vec::with_capacity(alloc, owners.len())?;
+    for piece in 0..owners.len() {
+        order.push(Beginning {
+            began: owners[piece].whole.began,
+            piece: short(piece),
+        })?;
+    }
+    order.sort()?;
+    Ok(order)
+}
+
+/// Puts a piece at the end of those of the unit.
+fn put_piece(units: &mut Vec<Vec<UnitPiece>>, unit: u16, one: UnitPiece) -> Result<(), NoMemory> {
+    if let Some(pieces) = units.get_mut(unit as usize) {
+        pieces.push(one)?;
+    }
+    Ok(())
+}
+
+/// Puts a look that failed at the end of the pieces of its units, up to that in which it failed. Before that it found blocks without a
+/// mark, which a Compare found equal.
+fn put_failed(
+    units: &mut Vec<Vec<UnitPiece>>,
+    geometry: &Geometry,
+    owner: &Owner<'_>,
+    failed: UnitPiece,
+    failing: Option<u16>,
+) -> Result<(), NoMemory> {
+    for unit in job_units(geometry, &owner.whole.job) {
+        if lbas_in(geometry, owner, unit).is_none() {
+            continue;
+        }
+        if failing == Some(unit) {
+            return put_piece(units, unit, failed);
+        }
+        let before = UnitPiece {
+            reply: Reply::Done,
+            ..failed
+        };
+        put_piece(units, unit, before)?;
+    }
+    Ok(())
+}
+
+/// Puts a piece at the end of those of each of its units.
+fn put_in_units(
+    units: &mut Vec<Vec<UnitPiece>>,
+    geometry: &Geometry,
+    owner: &Owner<'_>,
+    one: UnitPiece,
+) -> Result<(), NoMemory> {
+    match unit_of_cut(geometry, owner) {
+        Some(unit) => put_piece(units, unit, one),
+        None => {
+            for unit in job_units(geometry, &owner.whole.job) {
+                put_piece(units, unit, one)?;
+            }
+            Ok(())
+        }
+    }
+}
+
+/// The pieces of each unit, in the order in which their commands began. Of each look that failed, so many units are skipped in which it may
+/// have failed.
+pub fn pieces_of_units(
+    alloc: Global,
+    geometry: &Geometry,
+    start: Start,
+    owners: &[Owner<'_>],
+    skips: &Numbers,
+) -> Result<Vec<Vec<UnitPiece>>, NoMemory> {
+    let mut units = Vec::with_capacity(alloc, geometry.units() as usize)?;
+    for _ in 0..geometry.units() {
+        units.push(Vec::new(alloc))?;
+    }
+    let changes = Changes::new(alloc, geometry, start, owners)?;
+    for beginning in &beginnings(alloc, owners)? {
+        let piece = beginning.piece;
+        let Some(owner) = owners.get(piece as usize) else {
+            continue;
+        };
+        let Some(reply) = reply_of(geometry, owner.whole) else {
+            continue;
+        };
+        let one = UnitPiece { piece, reply };
+        if reply.is_failure() {
+            let failing = failing_unit(geometry, &changes, owner, reply, skips.at(piece));
+            put_failed(&mut units, geometry, owner, one, failing)?;
+        } else {
+            put_in_units(&mut units, geometry, owner, one)?;
+        }
+    }
+    Ok(units)
+}

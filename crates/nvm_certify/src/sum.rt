@@ -1,0 +1,31 @@
+/// An odd number whose bits are as if drawn at random.
+const FACTOR: u64 = 0x9e37_79b9_7f4a_7c15;
+
+/// A number of which each bit depends on many of the other's.
+fn mixed(number: u64) -> u64 {
+    let product = number.wrapping_mul(FACTOR);
+    product ^ (product >> 32)
+}
+
+/// A number that equal bytes share, and other bytes hardly ever. All bytes 0 have none.
+pub fn sum_of(bytes: &[u8]) -> Option<u64> {
+    let (words, rest) = bytes.as_chunks::<8>();
+    let mut sum = FACTOR;
+    let mut some = 0;
+    for word in words {
+        let number = u64::from_le_bytes(*word);
+        some |= number;
+        sum = mixed(sum ^ number);
+    }
+    for byte in rest {
+        let number = u64::from(*byte);
+        some |= number;
+        sum = mixed(sum ^ number);
+    }
+    if some == 0 { None } else { Some(sum) }
+}
+
+/// Whether all bytes are 0.
+pub fn is_zero(bytes: &[u8]) -> bool {
+    sum_of(bytes).is_none()
+}

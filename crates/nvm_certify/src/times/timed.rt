@@ -1,0 +1,49 @@
+use crate::numbers::short;
+use crate::steps::{UnitStep, UnitSteps};
+use crate::times::Times;
+use nvm_record::NoMemory;
+use std::alloc::Global;
+
+/// A step with closer times, and its place among the unit's.
+#[derive(Clone, Copy, Debug)]
+pub struct Timed {
+    pub step: UnitStep,
+    pub place: u32,
+}
+
+/// A step's beginning, by which steps are ordered.
+#[derive(Clone, Copy, Debug, PartialEq, Eq, PartialOrd, Ord)]
+struct Beginning {
+    from: u64,
+    place: u32,
+}
+
+/// The unit's steps with these times, in the order in which they can be done first.
+pub fn by_beginning(
+    alloc: Global,
+    unit: &UnitSteps,
+    times: &Times,
+) -> Result<Vec<Timed>, NoMemory> {
+    let mut order = Vec::with_capacity(alloc, unit.steps.len())?;
+    for place in 0..short(unit.steps.len()) {
+        order.push(Beginning {
+            from: times.from.at(place),
+            place,
+        })?;
+    }
+    order.sort()?;
+    let mut steps = Vec::with_capacity(alloc, unit.steps.len())?;
+    for beginning in &order {
+        if let Some(step) = unit.steps.get(beginning.place as usize) {
+            steps.push(Timed {
+                step: UnitStep {
+                    began: beginning.from,
+                    ended: times.due.at(beginning.place),
+                    ..*step
+                },
+                place: beginning.place,
+            })?;
+        }
+    }
+    Ok(steps)
+}
