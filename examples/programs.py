@@ -18,6 +18,7 @@ from devices import devices
 from drawn import pictures
 from explained import explained
 from forged import forged, spoiled
+from generated import lists_generated
 from hints import FOLDER, IS_OUTPUT, MISSING, NO_SPACE, no_host_file, the_line, told
 from host_files import Asked, compare, dataset, file_of, read, uncorrectable, unknown, write, zeroes
 from lists_run import lists_run
@@ -359,7 +360,7 @@ def words_of_unit_bench(run):
         run.expect(["unit_bench", "run", "0", "1", name], 1, err="unit_bench: no host file\n")
 
 
-TABLES = [lists, words_of_nvq, listings, lists_run, explained, pictures, outs_of_nvq, words_of_nvmu, files_of_nvmu, files_that_stop, several_workers]
+TABLES = [lists, words_of_nvq, listings, lists_run, lists_generated, explained, pictures, outs_of_nvq, words_of_nvmu, files_of_nvmu, files_that_stop, several_workers]
 TABLES += [versions, standard_input, files_of_another_kind, outs_that_are_read]
 TABLES += [traces, words_of_certify, records_of_certify, devices, outs_of_nvmu, shown_nowhere, progress, runs, rows, forged, spoiled, two_owners, words_of_unit_bench]
 

@@ -13,6 +13,7 @@ STANDARD_TWICE = "standard input is one host's file, and no second one's"
 STANDARD_OUT = "standard output has the lines: name a file, ./- for one of this name"
 IS_HOST_FILE = "it is one of the host files"
 IS_LIST = "it is the list"
+IS_OTHER_LIST = "the list of another host goes there"
 IS_OUTPUT = "standard output goes there, with the lines"
 GEOMETRY = {
     "Size": "--nsze is 1 to 65536",

@@ -10,6 +10,7 @@ from audits import spoiled
 from cases import Recording, Run
 from hints import FOLDER, GEOMETRY, IS_LIST, MISSING, VERSIONS, no_host_file, no_list, other_block, the_line, told
 from host_files import compare, dataset, file_of, pair, read, uncorrectable, unknown, write, zeroes
+from loads import Load, generated
 from model import COMPARE, DATASET, WRITE, Namespace, commands
 from record_explaining import lawful_explanation
 from record_listing import record_listing
@@ -139,6 +140,7 @@ def runs(folder):
     # The last byte is the last of the Read's data, and the last of the entry's stands before three units without one.
     wrong_data = kept("wrong-data", short[:-1] + b"\x01")
     wrong_entry = kept("wrong-entry", short[:1214] + b"\x01" + short[1215:])
+    loads = {f"out-{host}": generated(Load(commands=30), host).encode() for host in (1, 2)}
     return [
         done("a list is assembled", ["assemble", list_, "out.nvq"], files={"out.nvq": host}),
         done("a list of large blocks is assembled", [*in_large("assemble"), large_list, "out"], files={"out": large}),
@@ -177,6 +179,8 @@ def runs(folder):
         *of_text(kept),
         *certified(kept),
         *explained(kept),
+        done("lists are generated", ["generate", "--commands", "30", "out-1", "out-2"], files=loads),
+        fault("numbers of no namespace to generate for", "geometry: Size", "generate", "--nsze", "0", "out", hint=GEOMETRY["Size"]),
         ran("lists that are run", [plain, file_of([read(0, 2), dataset((0, 1))])]),
         ran("a list that is run and a record before", [plain], **{Recording.name: b"old"}),
         ran("no commands that are run", [file_of([])]),

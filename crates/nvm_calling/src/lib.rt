@@ -5,6 +5,7 @@
 pub mod audit;
 pub mod certify;
 pub mod file;
+pub mod generate;
 pub mod geometry;
 pub mod plan;
 pub mod record;

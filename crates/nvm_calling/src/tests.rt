@@ -1,4 +1,5 @@
 //! Each caller once: on LBAs 0 to 31 with blocks of 512 bytes, in 4 units of 8 LBAs each.
+mod generate;
 mod geometry;
 mod plan;
 mod record;

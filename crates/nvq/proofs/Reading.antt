@@ -4,7 +4,7 @@ use Rattle.std.proofs.lemmas.List.{take_more, get_or-map, length-map}
 use Rattle.std.proofs.lemmas.List.Elements.{Contains-get_or}
 use Rattle.std.specs.Global.{Global}
 use Rattle.std.specs.List.{Contains}
-use Rattle.nvq.specs.Files.{IsReadFault, IsReadingFault}
+use Rattle.nvq.specs.Files.{IsReadFault, IsReadingFault, IsWriteFault, IsWritingFault}
 use Rattle.nvq.specs.declared.fault.Fault.{Fault}
 use Rattle.nvq.specs.declared.fault.Fault.TheVariants as of
 
@@ -33,6 +33,29 @@ reading_at paths k path (of.Trailing shown at) lt is h = h
 reading_at paths k path (of.BadValue shown at) lt is h = h
 reading_at paths k path (of.BeganAtZero shown at) lt is h = h
 reading_at paths k path (of.EndedBefore shown at) lt is h = h
+
+-- the same of writing
+pub writing_at : (paths : List (List ℕ)) (k : ℕ) (path : List ℕ) (fault : Fault) → k < length paths → get_or paths k path ≡ path
+    → IsWriteFault path fault → IsWritingFault paths fault
+writing_at paths k path (of.CannotWrite shown) lt is h = contained paths k path (string_bytes shown) lt is h
+writing_at paths k path of.NoMemory lt is h = tt
+writing_at paths k path (of.CannotRead shown) lt is h = h
+writing_at paths k path (of.Line line expected) lt is h = h
+writing_at paths k path (of.ListLine shown line expected) lt is h = h
+writing_at paths k path (of.TraceLine line expected) lt is h = h
+writing_at paths k path of.NoHead lt is h = h
+writing_at paths k path of.InputTwice lt is h = h
+writing_at paths k path of.RecordAmongLines lt is h = h
+writing_at paths k path (of.Geometry fault) lt is h = h
+writing_at paths k path of.TooManyHosts lt is h = h
+writing_at paths k path (of.BadName shown) lt is h = h
+writing_at paths k path (of.Truncated shown at) lt is h = h
+writing_at paths k path (of.TooMany shown) lt is h = h
+writing_at paths k path (of.UnknownVersion shown) lt is h = h
+writing_at paths k path (of.Trailing shown at) lt is h = h
+writing_at paths k path (of.BadValue shown at) lt is h = h
+writing_at paths k path (of.BeganAtZero shown at) lt is h = h
+writing_at paths k path (of.EndedBefore shown at) lt is h = h
 
 -- the bytes of the string at a place
 pub bytes_at : (paths : List (String Global)) (k : ℕ) (path : String Global) → k < length paths → get_or paths k path ≡ path

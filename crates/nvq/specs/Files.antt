@@ -23,6 +23,12 @@ IsWriteFault path (CannotWrite shown) = string_bytes shown ≡ path
 IsWriteFault path NoMemory = Unit {0}
 IsWriteFault path fault = ⊥
 
+-- A file at one of these paths couldn't be written, or memory was refused.
+abbrev pub IsWritingFault : List (List ℕ) → Fault → Type 0
+IsWritingFault paths (CannotWrite shown) = Contains paths (string_bytes shown)
+IsWritingFault paths NoMemory = Unit {0}
+IsWritingFault paths fault = ⊥
+
 -- The list at this path couldn't be read, or else it is its first fault, or else its host file couldn't be written to `out`.
 abbrev pub IsAssemblingFault : ℕ → List ℕ → List ℕ → Fault → Type 0
 IsAssemblingFault size list out fault =

@@ -2,6 +2,7 @@ pub mod Certified
 pub mod Explained
 pub mod Fault
 pub mod Files
+pub mod Generated
 pub mod Listed
 pub mod Ran
 pub mod RunFaults

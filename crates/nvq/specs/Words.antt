@@ -1,9 +1,10 @@
 -- What the words of a command line may ask for.
 use Rattle.std.specs.Prelude.{◌≤◌, length}
 use Rattle.nvq.specs.declared.words.Asked.{Asked}
-use Rattle.nvq.specs.declared.words.Asked.TheVariants.{Run}
+use Rattle.nvq.specs.declared.words.Asked.TheVariants.{Generate, Run}
 
--- A run is one of a list or more. The ranges of options are their types'.
+-- A run is one of a list or more, and so is a load. The ranges of options are their types'.
 abbrev pub IsAsked : Asked → Type 0
 IsAsked (Run words) = 1 ≤ length words.lists.items
+IsAsked (Generate words) = 1 ≤ length words.outs.items
 IsAsked asked = Unit {0}

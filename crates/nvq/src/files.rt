@@ -16,6 +16,9 @@ use nvm_trace::Trace;
 use std::alloc::{AllocError, Global};
 use std::rt::Files;
 
+/// Why nothing is written to a path to which another list goes.
+const OF_ANOTHER: &str = "the list of another host goes there";
+
 /// The bytes of a file, or of standard input. Want of memory isn't the file's fault.
 pub fn bytes_of<R: Files + AllocGlobal + Input + Eprint>(
     rt: &R,
@@ -125,6 +128,19 @@ pub fn check_no_lines<R: Files + AllocGlobal>(rt: &R, out: &str) -> Result<(), F
         }
         Err(_) => Err(Failure::from(AllocError)),
     }
+}
+
+/// Refuses a path to write which is another one that is written, before anything is. Below the fault stands why.
+pub fn check_apart<R: Files + AllocGlobal>(rt: &R, out: &str, other: &str) -> Result<(), Failure>
+    ensures { IfErr result (λ failure. IsWriteFault out.now failure.fault) }
+{
+    if out == other {
+        return Err(unwritten(rt.alloc(), out, Some(OF_ANOTHER)));
+    }
+    if other == STANDARD {
+        return check_no_lines(rt, out);
+    }
+    check_output(rt, out, other, OF_ANOTHER)
 }
 
 /// The failure of what couldn't be written to a path.

@@ -1,4 +1,4 @@
-//! The program `nvq`: runs lists of commands, which people write, makes them into host files, lists those, records and
+//! The program `nvq`: runs lists of commands, which people write or a seed gives, makes them into host files, lists those, records and
 //! traces, makes the text of traces into files, explains and draws records, and says of a trace whether a record explains it.
 #![tactic(auto)]
 
@@ -14,6 +14,8 @@ mod explaining_words;
 mod failure;
 mod fault;
 mod files;
+mod generating;
+mod generating_words;
 mod running;
 mod running_words;
 mod tracing;
@@ -25,6 +27,7 @@ use crate::drawing::run_draw;
 use crate::explaining::run_explain;
 use crate::failure::{Failure, of_file, of_list};
 use crate::files::{bytes_of, check_output, write_bytes};
+use crate::generating::run_generate;
 use crate::running::run_lists;
 use crate::tracing::run_trace;
 use crate::words::{Asked, read_words};
@@ -83,6 +86,7 @@ fn run<R: AllocGlobal + Files + Input + Print + Eprint + Threads + Wait + Sync>(
         Asked::Trace { text, out } => run_trace(rt, text.as_str(), out.as_str(), progress)?,
         Asked::List { size, file } => run_list(rt, size, file, progress)?,
         Asked::Run(words) => run_lists(rt, &words, progress)?,
+        Asked::Generate(words) => run_generate(rt, &words, progress)?,
         Asked::Certify(words) => return run_certify(rt, &words, progress),
         Asked::Explain(words) => run_explain(rt, &words, progress)?,
         Asked::Draw { window, file, out } => {

@@ -67,7 +67,7 @@ pub fn read_run(alloc: Global, words: &ArgMatches<'_>) -> Result<Option<RunWords
 }
 
 /// The zeroes-based number of blocks of a whole unit. Without boundaries it is the highest number.
-fn whole_unit(nabsn: u16) -> u16 {
+pub fn whole_unit(nabsn: u16) -> u16 {
     if nabsn == 0 { u16::MAX } else { nabsn }
 }
 
@@ -86,16 +86,16 @@ pub fn run_command<'a>(alloc: Global) -> Result<Command<'a>, Error> {
     Ok(command.arg(record(alloc))?.arg(lists(alloc))?)
 }
 
-fn with_default<'a>(number: Arg<'a>, value: &'a str) -> Arg<'a> {
+pub fn with_default<'a>(number: Arg<'a>, value: &'a str) -> Arg<'a> {
     number.default_value(value)
 }
 
-fn nsze<'a>(alloc: Global) -> Arg<'a> {
+pub fn nsze<'a>(alloc: Global) -> Arg<'a> {
     let parser: ValueParser<'a> = value_parser!(u64);
     number(alloc, "nsze", "Size of the namespace in logical blocks").value_parser(parser)
 }
 
-fn nabsn<'a>(alloc: Global) -> Arg<'a> {
+pub fn nabsn<'a>(alloc: Global) -> Arg<'a> {
     of_16_bits(
         alloc,
         "nabsn",
@@ -103,11 +103,11 @@ fn nabsn<'a>(alloc: Global) -> Arg<'a> {
     )
 }
 
-fn nabo<'a>(alloc: Global) -> Arg<'a> {
+pub fn nabo<'a>(alloc: Global) -> Arg<'a> {
     of_16_bits(alloc, "nabo", "Atomic boundary offset")
 }
 
-fn nawun<'a>(alloc: Global) -> Arg<'a> {
+pub fn nawun<'a>(alloc: Global) -> Arg<'a> {
     of_16_bits(
         alloc,
         "nawun",
@@ -115,7 +115,7 @@ fn nawun<'a>(alloc: Global) -> Arg<'a> {
     )
 }
 
-fn nacwu<'a>(alloc: Global) -> Arg<'a> {
+pub fn nacwu<'a>(alloc: Global) -> Arg<'a> {
     of_16_bits(
         alloc,
         "nacwu",
@@ -145,7 +145,7 @@ fn of_16_bits<'a>(alloc: Global, name: &'a str, help: &'a str) -> Arg<'a> {
 }
 
 /// An option that takes a number.
-fn number<'a>(alloc: Global, name: &'a str, help: &'a str) -> Arg<'a> {
+pub fn number<'a>(alloc: Global, name: &'a str, help: &'a str) -> Arg<'a> {
     Arg::new(alloc, name).long(name).value_name("N").help(help)
 }
 

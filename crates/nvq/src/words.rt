@@ -3,6 +3,7 @@ ghost use Rattle.nvq.specs.Words.{IsAsked};
 
 use crate::certifying_words::{CertifyWords, certify_command, read_certify};
 use crate::explaining_words::{ExplainWords, explain_command, read_explain};
+use crate::generating_words::{GenerateWords, generate_command, read_generate};
 use crate::running_words::{RunWords, read_run, run_command};
 use clap::builder::ValueParser;
 use clap::{Arg, ArgMatches, Command, Error, value_parser};
@@ -32,6 +33,8 @@ pub enum Asked {
     },
     /// `nvq run`: do the commands of lists, host 1's first.
     Run(RunWords),
+    /// `nvq generate`: write the lists of a load.
+    Generate(GenerateWords),
     /// `nvq certify`: say whether a record explains a trace, or why none does.
     Certify(CertifyWords),
     /// `nvq explain`: explain a record, or whether it explains a trace.
@@ -47,7 +50,7 @@ pub enum Asked {
 /// The sizes that a block can have, as words.
 const SIZES: &[&str] = &["512", "4096"];
 
-/// Reads the words after the program's name. A block has 512 bytes where no size is given, and a run has one list or more.
+/// Reads the words after the program's name. A block has 512 bytes where no size is given, and a run and a load have one list or more.
 pub fn read_words<'a>(alloc: Global, words: &'a [&'a str]) -> Result<Asked, WordFault>
     ensures { IfOk result IsAsked }
 {
@@ -68,6 +71,7 @@ fn asked_of(alloc: Global, matches: &ArgMatches<'_>) -> Result<Option<Asked>, Wo
         Some(("trace", words)) => trace_asked(alloc, words),
         Some(("list", words)) => list_asked(alloc, words),
         Some(("run", words)) => run_asked(alloc, words),
+        Some(("generate", words)) => generate_asked(alloc, words),
         Some(("certify", words)) => certify_asked(alloc, words),
         Some(("explain", words)) => explain_asked(alloc, words),
         Some(("draw", words)) => draw_asked(alloc, words),
@@ -124,6 +128,16 @@ fn run_asked(alloc: Global, words: &ArgMatches<'_>) -> Result<Option<Asked>, Wor
     }
 }
 
+/// What `nvq generate` is asked, or `None` where a value is missing.
+fn generate_asked(alloc: Global, words: &ArgMatches<'_>) -> Result<Option<Asked>, WordFault>
+    ensures { IfOk result (λ asked. IfSome asked IsAsked) }
+{
+    match read_generate(alloc, words)? {
+        Some(generate) => Ok(Some(Asked::Generate(generate))),
+        None => Ok(None),
+    }
+}
+
 /// What `nvq certify` is asked, or `None` where a value is missing.
 fn certify_asked(alloc: Global, words: &ArgMatches<'_>) -> Result<Option<Asked>, WordFault>
     ensures { IfOk result (λ asked. IfSome asked IsAsked) }
@@ -175,6 +189,7 @@ fn program<'a>(alloc: Global) -> Result<Command<'a>, Error> {
     let trace = trace_command(alloc)?;
     let list = list_command(alloc)?;
     let run = run_command(alloc)?;
+    let generate = generate_command(alloc)?;
     let certify = certify_command(alloc)?;
     let explain = explain_command(alloc)?;
     let draw = draw_command(alloc)?;
@@ -183,11 +198,12 @@ fn program<'a>(alloc: Global) -> Result<Command<'a>, Error> {
             .bin_name("nvq")?
             .version(VERSION)
             .about(
-                "Runs lists of NVM commands, makes them into host files, lists those, records and traces, explains and draws records, and says whether a record explains a trace",
+                "Runs lists of NVM commands, generates such lists, makes them into host files, lists those, records and traces, explains and draws records, and says whether a record explains a trace",
             )
             .no_binary_name(true)
             .subcommand_required(true)
             .subcommand(run)?
+            .subcommand(generate)?
             .subcommand(assemble)?
             .subcommand(trace)?
             .subcommand(list)?

@@ -1,0 +1,3 @@
+pub mod Counting
+pub mod Stamps
+pub mod Jobs

@@ -1,0 +1,152 @@
+//! The words of `nvq generate`.
+ghost use Rattle.std.specs.Prelude.{◌≤◌, IfOk, IfSome, length};
+
+use crate::running_words::{nabo, nabsn, nacwu, nawun, nsze, number, whole_unit, with_default};
+use crate::words::{block, size_of};
+use clap::builder::ValueParser;
+use clap::{Arg, ArgAction, ArgMatches, Command, Error, value_parser};
+use nvm_front::{WordFault, owned};
+use nvm_generate::Mix;
+use nvm_record::BlockSize;
+use std::alloc::Global;
+
+/// What the words of `nvq generate` say: the numbers of the load, and where its lists go.
+#[derive(Drop)]
+pub struct GenerateWords {
+    pub seed: u64,
+    /// How many commands each list has.
+    pub commands: u16,
+    pub size: BlockSize,
+    pub nsze: u64,
+    pub nabsn: u16,
+    pub nabo: u16,
+    /// As many blocks as a unit has, where it isn't given.
+    pub nawun: u16,
+    /// As many blocks as a unit has, where it isn't given.
+    pub nacwu: u16,
+    pub mix: Mix,
+    /// Where the lists go, host 1's first, at least one.
+    pub outs: Vec<String>,
+}
+
+/// What the words say, or `None` where a value is missing or out of its range.
+pub fn read_generate(
+    alloc: Global,
+    words: &ArgMatches<'_>,
+) -> Result<Option<GenerateWords>, WordFault>
+    ensures { IfOk result (λ read. IfSome read (λ load. 1 ≤ length load.outs.items)) }
+{
+    let (
+        Some(seed),
+        Some(commands),
+        Some(size),
+        Some(nsze),
+        Some(nabsn),
+        Some(nabo),
+        Some(mix),
+        Some(paths),
+    ) = (
+        words.get_one::<u64>("seed"),
+        words.get_one::<u16>("commands"),
+        size_of(words),
+        words.get_one::<u64>("nsze"),
+        words.get_one::<u16>("nabsn"),
+        words.get_one::<u16>("nabo"),
+        mix_of(words),
+        words.get_strs("out"),
+    ) else {
+        return Ok(None);
+    };
+    if paths.is_empty() {
+        return Ok(None);
+    }
+    let outs = owned(alloc, paths)?;
+    Ok(Some(GenerateWords {
+        seed,
+        commands,
+        size,
+        nsze,
+        nabsn,
+        nabo,
+        nawun: words.get_one::<u16>("nawun").unwrap_or(whole_unit(nabsn)),
+        nacwu: words.get_one::<u16>("nacwu").unwrap_or(whole_unit(nabsn)),
+        mix,
+        outs,
+    }))
+}
+
+/// How often each kind of command is asked for, or `None` where a number is missing.
+fn mix_of(words: &ArgMatches<'_>) -> Option<Mix> {
+    Some(Mix {
+        write: words.get_one::<u16>("write")?,
+        read: words.get_one::<u16>("read")?,
+        compare: words.get_one::<u16>("compare")?,
+        pair: words.get_one::<u16>("pair")?,
+        zeroes: words.get_one::<u16>("zeroes")?,
+        uncorrectable: words.get_one::<u16>("uncorrectable")?,
+        deallocate: words.get_one::<u16>("deallocate")?,
+    })
+}
+
+/// `nvq generate`.
+pub fn generate_command<'a>(alloc: Global) -> Result<Command<'a>, Error> {
+    let command = Command::new(alloc, "generate")
+        .about("Writes lists of commands that find bugs in devices, one for each host")
+        .arg(seed(alloc))?
+        .arg(commands(alloc))?
+        .arg(with_default(nsze(alloc), "32"))?
+        .arg(block(alloc))?
+        .arg(with_default(nabsn(alloc), "7"))?
+        .arg(with_default(nabo(alloc), "0"))?
+        .arg(nawun(alloc))?
+        .arg(nacwu(alloc))?
+        .arg(weight(
+            alloc,
+            "write",
+            "40",
+            "How often a Write is asked for, beside the others",
+        ))?
+        .arg(weight(alloc, "read", "40", "How often a Read"))?
+        .arg(weight(alloc, "compare", "5", "How often a Compare"))?
+        .arg(weight(alloc, "pair", "10", "How often a fused Compare and Write"))?
+        .arg(weight(alloc, "zeroes", "3", "How often a Write Zeroes"))?
+        .arg(weight(
+            alloc,
+            "uncorrectable",
+            "0",
+            "How often a Write Uncorrectable",
+        ))?
+        .arg(weight(alloc, "deallocate", "2", "How often a Deallocate"))?;
+    Ok(command.arg(outs(alloc))?)
+}
+
+fn seed<'a>(alloc: Global) -> Arg<'a> {
+    let parser: ValueParser<'a> = value_parser!(u64);
+    let seed = number(alloc, "seed", "The same words and seed give the same lists");
+    with_default(seed.value_parser(parser), "1")
+}
+
+fn commands<'a>(alloc: Global) -> Arg<'a> {
+    let commands = number(
+        alloc,
+        "commands",
+        "Number of commands of each list, 1 to 65535",
+    )
+    .value_parser(ValueParser::from(value_parser!(u16).range(1..=65_535)));
+    with_default(commands, "1000")
+}
+
+/// How often a kind of command is asked for.
+fn weight<'a>(alloc: Global, name: &'a str, value: &'a str, help: &'a str) -> Arg<'a> {
+    let parser: ValueParser<'a> = value_parser!(u16);
+    with_default(number(alloc, name, help).value_parser(parser), value)
+}
+
+fn outs<'a>(alloc: Global) -> Arg<'a> {
+    Arg::new(alloc, "out")
+        .required(true)
+        .num_args(1..)
+        .action(ArgAction::Append)
+        .value_name("OUT")
+        .help("Where the lists go, host 1's first; one may be - for standard output")
+}
