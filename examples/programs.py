@@ -280,7 +280,7 @@ def words_of_nvq(run):
 # A trace that a record explains, and one with a Read of what nobody wrote.
 EXPLAINED = "explained jobs 3 units 4 steps 3 excused 0 preparations 0\n"
 WRONG = with_seen(TRACE, 2, data=b"\x43" * 512)
-CONTRADICTION = f"contradiction unit 0 commands 1\njob 2 {text_of(WRONG).splitlines()[3]}\njob 2 found in LBA 0 what nobody put there\n"
+CONTRADICTION = f"contradiction unit 0 commands 1\njob 2 {text_of(WRONG).splitlines()[3]}\njob 2 found in LBA 0 what nobody can have left there\n"
 # What should be a trace, its fault, and what helps.
 NO_TRACES = [
     (b"", "bad name", "it is empty, and a trace begins with NVT1"),

@@ -105,7 +105,7 @@ def certified(kept):
     right, cut = kept("certified.nvt", spelled(TRACE)), kept("cut-to-certify.nvt", spelled(TRACE)[:-1])
     not_explained = kept("not-explained.nvt", spelled(wrong))
     explained = f"explained jobs 5 units {UNITS} steps 6 excused 0 preparations 0\n"
-    contradiction = f"contradiction unit 0 commands 1\njob 1 {text_of(wrong).splitlines()[2]}\njob 1 found in LBA 0 what nobody put there\n"
+    contradiction = f"contradiction unit 0 commands 1\njob 1 {text_of(wrong).splitlines()[2]}\njob 1 found in LBA 0 what nobody can have left there\n"
     record, before = {"record": record_of(right)}, {"record": b"old"}
 
     def done(name, trace, out, *words, status=0, **more):

@@ -1,56 +1,101 @@
 mod choosing;
 mod contradiction;
 mod derivation;
+mod derived;
 mod history;
 mod orders;
 mod place_set;
+mod settling;
 mod surroundings;
 mod window;
 
-use crate::arguing::contradiction::contradiction_of;
-use crate::arguing::history::{History, Origin};
+use crate::arguing::contradiction::least_contradiction;
+use crate::arguing::history::History;
 use crate::arguing::surroundings::{anywhere, near};
-use crate::steps::UnitSteps;
+use crate::steps::{Cell, UnitSteps};
+use crate::values::ZERO;
 use nvm_record::NoMemory;
 use nvm_refute::{Argument, Fact};
 use std::alloc::Global;
 
-/// That a step found what nobody put, if one did.
+/// So many steps that contradict each other are few enough.
+const FEW: usize = 3;
+
+/// That a step found what no other can have put, if one did.
 fn nobody(alloc: Global, history: &History<'_>) -> Result<Option<Fact>, NoMemory> {
     for step in 0..history.len() {
-        for find in &history.finds(alloc, step)? {
-            if let (Origin::Nobody, Some(reader)) = (find.origin, history.piece(step)) {
-                return Ok(Some(Fact::Nobody {
-                    reader,
-                    lba: u64::from(find.lba),
-                }));
+        for find in history.finds(step) {
+            if find.value == ZERO {
+                continue;
+            }
+            match (history.writers(alloc, step, *find)?, history.piece(step)) {
+                (Some(writers), Some(reader)) if writers.is_empty() => {
+                    return Ok(Some(Fact::Nobody {
+                        reader,
+                        lba: u64::from(find.lba),
+                    }));
+                }
+                _ => {}
             }
         }
     }
     Ok(None)
 }
 
-/// The steps that contradict each other by their times and one block, if there are such: a reader, the source of what it found,
-/// and who had overwritten that before it began.
+/// The reader, those that can have put what it found, and who overwrote each of these before it began. There are none where it may
+/// have found it, by the times.
+fn stale_steps(
+    alloc: Global,
+    history: &History<'_>,
+    reader: usize,
+    find: Cell,
+) -> Result<Option<Vec<usize>>, NoMemory> {
+    let Some(writers) = history.writers(alloc, reader, find)? else {
+        return Ok(None);
+    };
+    let mut steps = vec![in alloc; reader]?;
+    if find.value == ZERO {
+        match history.overwriter_before(find.lba, None, reader) {
+            Some(other) => steps.push(other)?,
+            None => return Ok(None),
+        }
+    }
+    for writer in &writers {
+        if !history.is_past(reader, *writer) {
+            match history.overwriter_before(find.lba, Some(*writer), reader) {
+                Some(other) => steps.push(other)?,
+                None => return Ok(None),
+            }
+        }
+        steps.push(*writer)?;
+    }
+    steps.sort()?;
+    steps.dedup();
+    Ok(Some(steps))
+}
+
+/// The fewest steps that contradict each other by their times and one block, if there are such: a reader, those that can have put
+/// what it found, and who had overwritten that before it began.
 fn stale(alloc: Global, history: &History<'_>) -> Result<Option<Vec<usize>>, NoMemory> {
+    let mut best: Option<Vec<usize>> = None;
     for reader in 0..history.len() {
-        for find in &history.finds(alloc, reader)? {
-            let Some(writer) = history.overwriter(*find) else {
+        for find in history.finds(reader) {
+            let Some(steps) = stale_steps(alloc, history, reader, *find)? else {
                 continue;
             };
-            if history.is_past(writer, reader) {
-                let mut steps = Vec::new(alloc);
-                if let Origin::Step(source) = find.origin {
-                    steps.push(source)?;
+            let known = match &best {
+                Some(best) => best.len(),
+                None => usize::MAX,
+            };
+            if steps.len() < known {
+                if steps.len() <= FEW {
+                    return Ok(Some(steps));
                 }
-                steps.push(writer)?;
-                steps.push(reader)?;
-                steps.sort()?;
-                return Ok(Some(steps));
+                best = Some(steps);
             }
         }
     }
-    Ok(None)
+    Ok(best)
 }
 
 /// Facts that contradict each other, if any are found.
@@ -63,7 +108,7 @@ fn facts_against(
         return Ok(Some(vec![in alloc; fact]?));
     }
     if let Some(steps) = stale(alloc, history)? {
-        if let Some(found) = contradiction_of(alloc, history, steps)? {
+        if let Some(found) = least_contradiction(alloc, history, steps)? {
             return Ok(Some(found.facts));
         }
     }

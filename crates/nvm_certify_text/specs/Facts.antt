@@ -51,14 +51,14 @@ unfoldable pub over_line : PieceName → PieceName → ℕ → PieceName → Lis
 over_line reader writer lba source =
     order_text reader writer
     ++ (codes ": " ++ (name_text writer
-    ++ (codes " put something else in LBA " ++ (decimal lba
+    ++ (codes " put something in LBA " ++ (decimal lba
     ++ (codes " after " ++ (name_text source ++ (codes ", whose data " ++ (name_text reader ++ codes " found there\n"))))))))
 
 unfoldable pub under_line : PieceName → PieceName → ℕ → PieceName → List ℕ
 under_line writer source lba reader =
     order_text writer source
     ++ (codes ": " ++ (name_text writer
-    ++ (codes " put something else in LBA " ++ (decimal lba
+    ++ (codes " put something in LBA " ++ (decimal lba
     ++ (codes ", stands before " ++ (name_text reader
     ++ (codes ", and " ++ (name_text reader ++ (codes " found " ++ (name_text source ++ codes "'s data there\n"))))))))))
 
@@ -66,10 +66,10 @@ unfoldable pub first_line : PieceName → PieceName → ℕ → List ℕ
 first_line reader writer lba =
     order_text reader writer
     ++ (codes ": " ++ (name_text reader
-    ++ (codes " found the zeroes there that were in LBA " ++ (decimal lba ++ codes " at first, and nobody put zeroes there\n"))))
+    ++ (codes " found the zeroes there that were in LBA " ++ (decimal lba ++ codes " at first, and nobody can have left zeroes there\n"))))
 
 unfoldable pub nobody_line : PieceName → ℕ → List ℕ
-nobody_line reader lba = name_text reader ++ (codes " found in LBA " ++ (decimal lba ++ codes " what nobody put there\n"))
+nobody_line reader lba = name_text reader ++ (codes " found in LBA " ++ (decimal lba ++ codes " what nobody can have left there\n"))
 
 abbrev pub fact_line : List PieceName → List TracedJob → Fact → List ℕ
 fact_line names jobs (Time earlier later) = time_line jobs (name_at names earlier) (name_at names later)

@@ -109,7 +109,7 @@ pub(crate) fn push_fact(
             let order = OrderText(reader, writer);
             write!(
                 text,
-                "{order}: {writer} put something else in LBA {lba} after {source}, whose data {reader} found there\n"
+                "{order}: {writer} put something in LBA {lba} after {source}, whose data {reader} found there\n"
             )
         }
         Fact::Under {
@@ -124,7 +124,7 @@ pub(crate) fn push_fact(
             let order = OrderText(writer, source);
             write!(
                 text,
-                "{order}: {writer} put something else in LBA {lba}, stands before {reader}, and {reader} found {source}'s data there\n"
+                "{order}: {writer} put something in LBA {lba}, stands before {reader}, and {reader} found {source}'s data there\n"
             )
         }
         Fact::First {
@@ -137,12 +137,12 @@ pub(crate) fn push_fact(
             let order = OrderText(reader, writer);
             write!(
                 text,
-                "{order}: {reader} found the zeroes there that were in LBA {lba} at first, and nobody put zeroes there\n"
+                "{order}: {reader} found the zeroes there that were in LBA {lba} at first, and nobody can have left zeroes there\n"
             )
         }
         Fact::Nobody { reader, lba } => {
             let reader = name_at(names, reader);
-            write!(text, "{reader} found in LBA {lba} what nobody put there\n")
+            write!(text, "{reader} found in LBA {lba} what nobody can have left there\n")
         }
     }
 }

@@ -12,12 +12,12 @@ use Rattle.nvm_trace.specs.Pieces.{Piece, pieces}
 use Rattle.nvm_trace.specs.TraceView.{TraceView}
 use Rattle.nvm_trace.proofs.Places.{stands_read, one_there}
 use Rattle.nvm_refute.specs.declared.fact.Fact.{Fact}
-use Rattle.nvm_refute.specs.declared.fact.Fact.TheVariants.{Time, Source, Over, Under, First, Nobody}
 use Rattle.nvm_refute.specs.declared.order.Order.{Order}
 use Rattle.nvm_refute.specs.Inside.Held.{IsNoted, AreNoted}
 use Rattle.nvm_refute.specs.Refutation.{IsGivenAt, IsOfNobody, HasNobody, Contradicts, IsRefutation}
 use Rattle.nvm_refute.specs.Rules.{IsGiven}
 use Rattle.nvm_refute.specs.Standing.{order_of, order_if, IsBeforeWith, IsBefore}
+use Rattle.nvm_refute.proofs.Wider.{given_wider}
 
 wider : (B C : ℕ → ℕ → Type 0) → ((x y : ℕ) → B x y → C x y) → (o : Option Order) (x y : ℕ) → IsBeforeWith B o x y → IsBeforeWith C o x y
 wider B C all None x y is = all x y is
@@ -31,15 +31,6 @@ wider B C all (Some o) x y (inr both) = inr (to both.0, from both.1)
     from : (y ≡ o.later) ⊎ B o.later y → (y ≡ o.later) ⊎ C o.later y
     from (inl same) = inl same
     from (inr after) = inr (all o.later y after)
-
-given_wider : (ns : Namespace) (ps : List Piece) (unit : ℕ) (B C : ℕ → ℕ → Type 0) → ((x y : ℕ) → B x y → C x y) → (fact : Fact)
-    → IsGiven ns ps unit B fact → IsGiven ns ps unit C fact
-given_wider ns ps unit B C all (Time e l) given = given
-given_wider ns ps unit B C all (Source w r x) given = given
-given_wider ns ps unit B C all (Over r w x s) given = (given.0, all s w given.1)
-given_wider ns ps unit B C all (Under w s x r) given = (given.0, all w r given.1)
-given_wider ns ps unit B C all (First r w x) given = given
-given_wider ns ps unit B C all (Nobody r x) given = given
 
 -- The fact is read at its place.
 module _ (facts : List Fact) (n : ℕ) (fact : Fact) (low : n < length facts) (is : fact ≡ get_or facts n fact) where

@@ -12,6 +12,7 @@ pub mod Refusals
 pub mod DoneOnce
 pub mod Whole
 pub mod Noting
+pub mod Wider
 pub mod Deriving
 pub mod Holding
 pub mod Sound

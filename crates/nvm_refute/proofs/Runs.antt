@@ -16,7 +16,7 @@ use Rattle.nvm_trace.specs.Steps.{end_of}
 use Rattle.nvm_trace.specs.Timely.{HadEnded}
 use Rattle.nvm_refute.specs.Findings.{CanPut, zero_bytes}
 use Rattle.nvm_refute.specs.Run.{Run}
-use Rattle.nvm_refute.specs.Rules.{IsTime, HasFound, NoOtherPuts, IsSource, IsSureWriter, IsOverwritten, IsFirst}
+use Rattle.nvm_refute.specs.Rules.{IsTime, HasFound, HasWriterBetween, NoOtherPuts, WasPut, IsSource, IsSureWriter, IsOverwritten, IsFirst}
 
 module _ (ns : Namespace) (ps : List Piece) (unit : ℕ) (run : Run ns ps unit) where
   -- The job has a step among the first k, or it has none.
@@ -166,56 +166,126 @@ module _ (ns : Namespace) (ps : List Piece) (unit : ℕ) (run : Run ns ps unit) 
           | inr put ↦ inr (k + n, omega arith, omega arith, put)
         ])
 
-    -- The writer put there what the reader found, after a place at which it didn't stand there.
-    put_since : (bytes : List ℕ) (reader writer j k : ℕ) → j < run.long → run.job j ≡ reader → run.block x j ≡ Bytes bytes
-        → NoOtherPuts ns ps x bytes reader writer → k ≤ j → run.block x k ≢ Bytes bytes
-        → (i : ℕ) × (k ≤ i) × (i < j) × (run.job i ≡ writer)
-    put_since bytes reader writer j k low is stands only most other =
-        let e : k + (j - k) ≡ j = omega (arith, most) in
-        elim (subst
-        (λ (l : ℕ). (run.block x l ≡ run.block x k) ⊎ ((i : ℕ) × (k ≤ i) × (i < l) × PutAt i (run.block x l))) e
-        (since k (j - k) (omega (arith, e, low)))) [
-          | inl same ↦ absurd (other (sym same ∙ stands))
-          | inr put ↦
-              let at = put.3 in
-              elim (only (run.job put.0) at.0 at.1 (subst (λ (b : Block). CanPut ns at.0 x b) stands at.2)) [
-                | inl itself ↦
-                    let less = put.2 in
-                    let same = run.once put.0 j (omega (arith, less, low)) low (itself ∙ sym is) in
-                    absurd (omega (arith, less, same))
-                | inr writer_is ↦ (put.0, put.1, put.2, writer_is)
-              ]
-        ]
-
     reader_finds : (reader j : ℕ) (bytes : List ℕ) → j < run.long → run.job j ≡ reader → HasFound ns ps unit reader x bytes
         → run.block x j ≡ Bytes bytes
     reader_finds reader j bytes low is of =
         run.found x j of.piece bytes unit_is low (subst (λ (k : ℕ). IsAt ps k of.piece) (sym is) of.its) of.found
 
-    source_put : (writer reader j : ℕ) → j < run.long → run.job j ≡ reader → (is : IsSource ns ps unit writer reader x)
+    -- What the reader found at place j, and which piece alone can have put it there before.
+    module _ (bytes : List ℕ) (reader writer j : ℕ) (low : j < run.long) (is : run.job j ≡ reader) (stands : run.block x j ≡ Bytes bytes)
+        (only : NoOtherPuts ns ps Before x bytes reader writer) where
+      -- Between the two places a step satisfies it.
+      abbrev pub Between : ℕ → (ℕ → Type 0) → Type 0
+      Between k P = (i : ℕ) × (k ≤ i) × (i < j) × P i
+
+      abbrev pub PutThere : ℕ → Type 0
+      PutThere i = PutAt i (Bytes bytes)
+
+      abbrev pub IsWriters : ℕ → Type 0
+      IsWriters i = run.job i ≡ writer
+
+      -- It stood there at the earlier place, or was put there since.
+      there_or_put : (k : ℕ) → k ≤ j → (run.block x k ≡ Bytes bytes) ⊎ Between k PutThere
+      there_or_put k most =
+          let e : k + (j - k) ≡ j = omega (arith, most) in
+          elim (subst
+          (λ (l : ℕ). (run.block x l ≡ run.block x k) ⊎ ((i : ℕ) × (k ≤ i) × (i < l) × PutAt i (run.block x l))) e
+          (since k (j - k) (omega (arith, e, low)))) [
+            | inl same ↦ inl (sym same ∙ stands)
+            | inr put ↦ inr (put.0, put.1, put.2, subst (λ (b : Block). PutAt put.0 b) stands put.3)
+          ]
+
+      -- A sure writer's step put it there, or a later one did.
+      put_from : (other k : ℕ) → k < j → run.job k ≡ other → IsSureWriter ns ps other x → Between k PutThere
+      put_from other k less at sure =
+          let its = subst (λ (n : ℕ). IsAt ps n sure.piece) (sym at) sure.its in
+          let put = run.puts x k sure.piece unit_is (omega (arith, less, low)) its sure.puts in
+          elim (there_or_put (suc k) (omega (arith, less))) [
+            | inl same ↦ (k, omega arith, less, (sure.piece, its, subst (λ (b : Block). CanPut ns sure.piece x b) same put))
+            | inr more ↦ let high = more.1 in (more.0, omega (arith, high), more.2, more.3)
+          ]
+
+      -- What was put over the step's bytes before the reader was put there later.
+      put_over : (i : ℕ) → i < j → HasWriterBetween ns ps Before (run.job i) reader x → Between (suc i) PutThere
+      put_over i less between =
+          let within : i < run.long = omega (arith, less, low) in
+          let w = run.writer_there between.writer x unit_is between.sure in
+          let high = back (run.job i) between.writer i w.0 within w.1 refl w.2 between.after in
+          let below = back between.writer reader w.0 j w.1 low w.2 is between.before in
+          let later = put_from between.writer w.0 below w.2 between.sure in
+          let from = later.1 in
+          (later.0, omega (arith, high, from), later.2, later.3)
+
+      -- Of those that put it there the last is the writer.
+      last_put : (n i : ℕ) → j - i ≤ n → i < j → PutThere i → Between i IsWriters
+      last_put zero i few less put = absurd (omega (arith, few, less))
+      last_put (suc n) i few less put = elim (only (run.job i) put.0 put.1 put.2) [
+        | inl itself ↦
+            let within : i < run.long = omega (arith, less, low) in
+            let same = run.once i j within low (itself ∙ sym is) in
+            absurd (omega (arith, less, same))
+        | inr other ↦ elim other [
+          | inl of_writer ↦ (i, omega arith, less, of_writer)
+          | inr excused ↦ elim excused [
+            | inl after ↦
+                let within : i < run.long = omega (arith, less, low) in
+                let more = back reader (run.job i) j i low within is refl after in
+                absurd (omega (arith, less, more))
+            | inr between ↦
+                let later = put_over i less between in
+                let high = later.1 in
+                let end = later.2 in
+                let last = last_put n later.0 (omega (arith, few, high, end)) later.2 later.3 in
+                let most = last.1 in
+                (last.0, omega (arith, high, most), last.2, last.3)
+          ]
+        ]
+      ]
+
+      writers : (k : ℕ) → Between k PutThere → Between k IsWriters
+      writers k put =
+          let last = last_put (j - put.0) put.0 (omega arith) put.2 put.3 in
+          let high = put.1 in
+          let most = last.1 in
+          (last.0, omega (arith, high, most), last.2, last.3)
+
+      -- Where a sure writer's step stands before the reader, the writer's stands there or later.
+      pub written_from : (other k : ℕ) → k < j → run.job k ≡ other → IsSureWriter ns ps other x → Between k IsWriters
+      written_from other k less at sure = writers k (put_from other k less at sure)
+
+      -- Where the reader found what was put there, the writer's step stands before it.
+      pub written : WasPut ns ps Before bytes reader x → Between 0 IsWriters
+      written (inl not_zero) = elim (there_or_put 0 (omega arith)) [
+        | inl first ↦ absurd (not_zero (bytes_are bytes (zero_bytes ns.block_size) (sym first ∙ run.zero_first x)))
+        | inr put ↦ writers 0 put
+      ]
+        where
+          bytes_are : (a b : List ℕ) → Bytes a ≡ Bytes b → a ≡ b
+          bytes_are a b e = cc
+      written (inr put) =
+          let w = run.writer_there put.writer x unit_is put.sure in
+          let less = back put.writer reader w.0 j w.1 low w.2 is put.before in
+          let from = written_from put.writer w.0 less w.2 put.sure in
+          (from.0, omega arith, from.2, from.3)
+
+    source_put : (writer reader j : ℕ) → j < run.long → run.job j ≡ reader → IsSource ns ps unit Before writer reader x
         → (i : ℕ) × (0 ≤ i) × (i < j) × (run.job i ≡ writer)
     source_put writer reader j low at is =
-        put_since is.bytes reader writer j 0 low at (reader_finds reader j is.bytes low at is.found) is.only (omega arith)
-        (λ same. is.not_zero (bytes_are is.bytes (zero_bytes ns.block_size) (sym same ∙ run.zero_first x)))
-      where
-        bytes_are : (a b : List ℕ) → Bytes a ≡ Bytes b → a ≡ b
-        bytes_are a b e = cc
+        written is.bytes reader writer j low at (reader_finds reader j is.bytes low at is.found) is.only is.was_put
 
     -- A sure writer before the reader: what the reader found was put after it.
     put_after : (bytes : List ℕ) (reader writer source j k : ℕ) → j < run.long → run.job j ≡ reader → HasFound ns ps unit reader x bytes
-        → NoOtherPuts ns ps x bytes reader source → IsSureWriter ns ps writer x → writer ≢ reader → writer ≢ source
-        → k < run.long → run.job k ≡ writer → k < j → (i : ℕ) × (suc k ≤ i) × (i < j) × (run.job i ≡ source)
-    put_after bytes reader writer source j k low at of only sure not_reader not_source high is less =
-        put_since bytes reader source j (suc k) low at (reader_finds reader j bytes low at of) only (omega (arith, less))
-        (λ same.
-        let its = subst (λ (n : ℕ). IsAt ps n sure.piece) (sym is) sure.its in
-        let put = run.puts x k sure.piece unit_is high its sure.puts in
-        elim (only writer sure.piece sure.its (subst (λ (b : Block). CanPut ns sure.piece x b) same put)) [
-          | inl itself ↦ not_reader itself
-          | inr its_source ↦ not_source its_source
-        ])
+        → NoOtherPuts ns ps Before x bytes reader source → IsSureWriter ns ps writer x → writer ≢ source
+        → run.job k ≡ writer → k < j → (i : ℕ) × (suc k ≤ i) × (i < j) × (run.job i ≡ source)
+    put_after bytes reader writer source j k low at of only sure not_source is less =
+        let from = written_from bytes reader source j low at (reader_finds reader j bytes low at of) only writer k less is sure in
+        let high = from.1 in
+        elim (cases_eq k from.0) [
+          | inl same ↦ absurd (not_source (sym is ∙ ap run.job same ∙ from.3))
+          | inr other ↦ (from.0, omega (arith, high, other), from.2, from.3)
+        ]
 
-  pub by_source : (writer reader x : ℕ) → IsSource ns ps unit writer reader x → Before writer reader
+  pub by_source : (writer reader x : ℕ) → IsSource ns ps unit Before writer reader x → Before writer reader
   by_source writer reader x is =
       let unit_is = is.found.unit_is in
       let there = run.reader_there reader x is.bytes is.found in
@@ -224,7 +294,7 @@ module _ (ns : Namespace) (ps : List Piece) (unit : ℕ) (run : Run ns ps unit) 
       let low = there.1 in
       by_place writer reader put.0 there.0 (omega (arith, less, low)) there.1 put.3 there.2 put.2
 
-  pub by_over : (reader writer x source : ℕ) → IsOverwritten ns ps unit writer reader x source → Before source writer → Before reader writer
+  pub by_over : (reader writer x source : ℕ) → IsOverwritten ns ps unit Before writer reader x source → Before source writer → Before reader writer
   by_over reader writer x source is before =
       let found = is.is_source.found in
       let unit_is = found.unit_is in
@@ -241,7 +311,7 @@ module _ (ns : Namespace) (ps : List Piece) (unit : ℕ) (run : Run ns ps unit) 
           | inl same ↦ absurd (is.not_reader (sym w.2 ∙ ap run.job same ∙ r.2))
           | inr other ↦
               let more = put_after x unit_is is.is_source.bytes reader writer source r.0 w.0 r.1 r.2 found is.is_source.only is.sure
-              is.not_reader is.not_source w.1 w.2 (omega (arith, most, other)) in
+              is.not_source w.2 (omega (arith, most, other)) in
               let high = more.1 in
               let below = more.2 in
               let one = run.once more.0 s.0 (omega (arith, below, low)) s_low (more.3 ∙ sym s.3) in
@@ -249,7 +319,7 @@ module _ (ns : Namespace) (ps : List Piece) (unit : ℕ) (run : Run ns ps unit) 
         ]
       ]
 
-  pub by_under : (writer source x reader : ℕ) → IsOverwritten ns ps unit writer reader x source → Before writer reader → Before writer source
+  pub by_under : (writer source x reader : ℕ) → IsOverwritten ns ps unit Before writer reader x source → Before writer reader → Before writer source
   by_under writer source x reader is before =
       let found = is.is_source.found in
       let unit_is = found.unit_is in
@@ -257,13 +327,13 @@ module _ (ns : Namespace) (ps : List Piece) (unit : ℕ) (run : Run ns ps unit) 
       let w = run.writer_there writer x unit_is is.sure in
       let less = back writer reader w.0 r.0 w.1 r.1 w.2 r.2 before in
       let more = put_after x unit_is is.is_source.bytes reader writer source r.0 w.0 r.1 r.2 found is.is_source.only is.sure
-      is.not_reader is.not_source w.1 w.2 less in
+      is.not_source w.2 less in
       let high = more.1 in
       let below = more.2 in
       let low = r.1 in
       by_place writer source w.0 more.0 w.1 (omega (arith, below, low)) w.2 more.3 (omega (arith, high))
 
-  pub by_first : (reader writer x : ℕ) → IsFirst ns ps unit reader writer x → Before reader writer
+  pub by_first : (reader writer x : ℕ) → IsFirst ns ps unit Before reader writer x → Before reader writer
   by_first reader writer x is =
       let unit_is = is.found.unit_is in
       let zeroes = zero_bytes ns.block_size in
@@ -275,7 +345,7 @@ module _ (ns : Namespace) (ps : List Piece) (unit : ℕ) (run : Run ns ps unit) 
           | inl same ↦ absurd (is.not_reader (sym w.2 ∙ ap run.job same ∙ r.2))
           | inr other ↦
               let more = put_after x unit_is zeroes reader writer reader r.0 w.0 r.1 r.2 is.found is.only is.sure
-              is.not_reader is.not_reader w.1 w.2 (omega (arith, most, other)) in
+              is.not_reader w.2 (omega (arith, most, other)) in
               let below = more.2 in
               let low = r.1 in
               let one = run.once more.0 r.0 (omega (arith, below, low)) r.1 (more.3 ∙ sym r.2) in
@@ -283,7 +353,7 @@ module _ (ns : Namespace) (ps : List Piece) (unit : ℕ) (run : Run ns ps unit) 
         ]
       ]
 
-  pub by_nobody : (reader x : ℕ) → ¬ (IsSource ns ps unit reader reader x)
+  pub by_nobody : (reader x : ℕ) → ¬ (IsSource ns ps unit Before reader reader x)
   by_nobody reader x is =
       let r = run.reader_there reader x is.bytes is.found in
       let put = source_put x is.found.unit_is reader reader r.0 r.1 r.2 is in

@@ -13,6 +13,7 @@ use Rattle.nvm_refute.specs.Refutation.{IsGivenAt, IsOfNobody, Contradicts}
 use Rattle.nvm_refute.specs.Rules.{IsGiven}
 use Rattle.nvm_refute.specs.Standing.{order, order_of, order_if, IsBeforeWith, IsBefore}
 use Rattle.nvm_refute.specs.Run.{Run}
+use Rattle.nvm_refute.proofs.Wider.{given_wider}
 use Rattle.nvm_refute.proofs.Runs.{Before, never_itself, chained, by_time, by_source, by_over, by_under, by_first, by_nobody}
 
 module _ (ns : Namespace) (ps : List Piece) (unit : ℕ) (run : Run ns ps unit) where
@@ -20,29 +21,19 @@ module _ (ns : Namespace) (ps : List Piece) (unit : ℕ) (run : Run ns ps unit) 
   After a b = Before ns ps unit run a b
 
   -- A fact that is given says what is so.
-  says : (B : ℕ → ℕ → Type 0) → ((x y : ℕ) → B x y → After x y) → (fact : Fact) (o : Order) → IsGiven ns ps unit B fact
-      → order_of fact ≡ Some o → After o.earlier o.later
-  says B right (Time e l) o given is = at (order e l) o is (by_time ns ps unit run e l given)
+  says : (fact : Fact) (o : Order) → IsGiven ns ps unit After fact → order_of fact ≡ Some o → After o.earlier o.later
+  says fact o given is = by fact given is
     where
-      at : (p q : Order) → Some p ≡ Some q → After p.earlier p.later → After q.earlier q.later
-      at p q same h = let e : p ≡ q = cc in subst (λ (x : Order). After x.earlier x.later) e h
-  says B right (Source w r x) o given is = at (order w r) o is (by_source ns ps unit run w r x given.0)
-    where
-      at : (p q : Order) → Some p ≡ Some q → After p.earlier p.later → After q.earlier q.later
-      at p q same h = let e : p ≡ q = cc in subst (λ (x : Order). After x.earlier x.later) e h
-  says B right (Over r w x s) o given is = at (order r w) o is (by_over ns ps unit run r w x s given.0 (right s w given.1))
-    where
-      at : (p q : Order) → Some p ≡ Some q → After p.earlier p.later → After q.earlier q.later
-      at p q same h = let e : p ≡ q = cc in subst (λ (x : Order). After x.earlier x.later) e h
-  says B right (Under w s x r) o given is = at (order w s) o is (by_under ns ps unit run w s x r given.0 (right w r given.1))
-    where
-      at : (p q : Order) → Some p ≡ Some q → After p.earlier p.later → After q.earlier q.later
-      at p q same h = let e : p ≡ q = cc in subst (λ (x : Order). After x.earlier x.later) e h
-  says B right (First r w x) o given is = at (order r w) o is (by_first ns ps unit run r w x given)
-    where
-      at : (p q : Order) → Some p ≡ Some q → After p.earlier p.later → After q.earlier q.later
-      at p q same h = let e : p ≡ q = cc in subst (λ (x : Order). After x.earlier x.later) e h
-  says B right (Nobody r x) o given is = absurd (by_nobody ns ps unit run r x given)
+      at : (p : Order) → Some p ≡ Some o → After p.earlier p.later → After o.earlier o.later
+      at p same h = let e : p ≡ o = cc in subst (λ (x : Order). After x.earlier x.later) e h
+
+      by : (f : Fact) → IsGiven ns ps unit After f → order_of f ≡ Some o → After o.earlier o.later
+      by (Time e l) of same = at (order e l) same (by_time ns ps unit run e l of)
+      by (Source w r x) of same = at (order w r) same (by_source ns ps unit run w r x of.0)
+      by (Over r w x s) of same = at (order r w) same (by_over ns ps unit run r w x s of.0 of.1)
+      by (Under w s x r) of same = at (order w s) same (by_under ns ps unit run w s x r of.0 of.1)
+      by (First r w x) of same = at (order r w) same (by_first ns ps unit run r w x of)
+      by (Nobody r x) of same = absurd (by_nobody ns ps unit run r x of)
 
   joined : (B : ℕ → ℕ → Type 0) → ((x y : ℕ) → B x y → After x y) → (o : Option Order)
       → ((p : Order) → o ≡ Some p → After p.earlier p.later) → (x y : ℕ) → IsBeforeWith B o x y → After x y
@@ -71,16 +62,18 @@ module _ (ns : Namespace) (ps : List Piece) (unit : ℕ) (run : Run ns ps unit) 
       new : ((x y : ℕ) → IsBefore facts n x y → After x y) → (o : Option Fact) → slice_get facts n ≡ o → (p : Order)
           → order_if o ≡ Some p → After p.earlier p.later
       new right None at p is = absurd (cc is)
-      new right (Some fact) at p is = says (IsBefore facts n) right fact p (given n fact (there facts n fact at)) is
+      new right (Some fact) at p is =
+          says fact p (given_wider ns ps unit (IsBefore facts n) After right fact (given n fact (there facts n fact at))) is
 
-  nobody : (fact : Fact) (B : ℕ → ℕ → Type 0) → IsGiven ns ps unit B fact → ¬ (IsOfNobody fact)
-  nobody (Time e l) B given is = is
-  nobody (Source w r x) B given is = is
-  nobody (Over r w x s) B given is = is
-  nobody (Under w s x r) B given is = is
-  nobody (First r w x) B given is = is
-  nobody (Nobody r x) B given is = by_nobody ns ps unit run r x given
+  nobody : (fact : Fact) → IsGiven ns ps unit After fact → ¬ (IsOfNobody fact)
+  nobody (Time e l) given is = is
+  nobody (Source w r x) given is = is
+  nobody (Over r w x s) given is = is
+  nobody (Under w s x r) given is = is
+  nobody (First r w x) given is = is
+  nobody (Nobody r x) given is = by_nobody ns ps unit run r x given
 
   pub sound : (facts : List Fact) → ((n : ℕ) → IsGivenAt ns ps unit facts n) → ¬ (Contradicts facts (length facts))
   sound facts given (inl loop) = never_itself ns ps unit run loop.0 (stands facts given (length facts) loop.0 loop.0 loop.1)
-  sound facts given (inr one) = nobody one.2 (IsBefore facts one.0) (given one.0 one.2 one.3) one.4
+  sound facts given (inr one) =
+      nobody one.2 (given_wider ns ps unit (IsBefore facts one.0) After (stands facts given one.0) one.2 (given one.0 one.2 one.3)) one.4

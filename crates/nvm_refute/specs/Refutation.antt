@@ -20,7 +20,7 @@ IsAboutUnit t unit = (t.start ≡ Zeroes) × (unit < units_of t.namespace)
 abbrev pub IsGivenAt : Namespace → List Piece → ℕ → List Fact → ℕ → Type 0
 IsGivenAt ns ps unit facts n = (fact : Fact) → IsAt facts n fact → IsGiven ns ps unit (IsBefore facts n) fact
 
--- The fact says that the reader found what nobody put there.
+-- The fact says that the reader found what nobody can have left there.
 abbrev pub IsOfNobody : Fact → Type 0
 IsOfNobody (Time earlier later) = ⊥
 IsOfNobody (Source writer reader lba) = ⊥

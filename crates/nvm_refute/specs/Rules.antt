@@ -27,44 +27,66 @@ pub record HasFound (ns : Namespace) (ps : List Piece) (unit reader lba : ℕ) (
   pub unit_is : unit_number ns lba ≡ unit
   pub found : found_at ns piece lba ≡ Some bytes
 
--- Of all pieces but two, none can have put the bytes in the block.
-abbrev pub NoOtherPuts : Namespace → List Piece → ℕ → List ℕ → ℕ → ℕ → Type 0
-NoOtherPuts ns ps lba bytes reader writer =
-    (number : ℕ) (p : Piece) → IsAt ps number p → CanPut ns p lba (Bytes bytes) → (number ≡ reader) ⊎ (number ≡ writer)
-
--- Of the other pieces only the writer can have put there what the reader found, which isn't all zero.
-pub record IsSource (ns : Namespace) (ps : List Piece) (unit writer reader lba : ℕ) : Type 0 where
-  pub bytes : List ℕ
-  pub found : HasFound ns ps unit reader lba bytes
-  pub not_zero : bytes ≢ zero_bytes ns.block_size
-  pub only : NoOtherPuts ns ps lba bytes reader writer
-
 -- The piece surely put something in the block.
 pub record IsSureWriter (ns : Namespace) (ps : List Piece) (writer lba : ℕ) : Type 0 where
   pub piece : Piece
   pub its : IsAt ps writer piece
   pub puts : SurelyPuts ns piece lba
 
+-- A piece that surely put something in the block stands before the reader.
+pub record HasWriterBefore (ns : Namespace) (ps : List Piece) (Before : ℕ → ℕ → Type 0) (reader lba : ℕ) : Type 0 where
+  pub writer : ℕ
+  pub sure : IsSureWriter ns ps writer lba
+  pub before : Before writer reader
+
+-- A piece that surely put something in the block stands after the earlier piece and before the later one.
+pub record HasWriterBetween (ns : Namespace) (ps : List Piece) (Before : ℕ → ℕ → Type 0) (earlier later lba : ℕ) : Type 0 where
+  pub writer : ℕ
+  pub sure : IsSureWriter ns ps writer lba
+  pub after : Before earlier writer
+  pub before : Before writer later
+
+-- The reader found nothing that the piece put in the block: the piece stands after the reader, or another was put over it before.
+abbrev pub IsExcused : Namespace → List Piece → (ℕ → ℕ → Type 0) → ℕ → ℕ → ℕ → Type 0
+IsExcused ns ps Before number reader lba = Before reader number ⊎ HasWriterBetween ns ps Before number reader lba
+
+-- Of all pieces but two, each that can have put the bytes in the block is excused: so none of them put there what the reader found.
+abbrev pub NoOtherPuts : Namespace → List Piece → (ℕ → ℕ → Type 0) → ℕ → List ℕ → ℕ → ℕ → Type 0
+NoOtherPuts ns ps Before lba bytes reader writer =
+    (number : ℕ) (p : Piece) → IsAt ps number p → CanPut ns p lba (Bytes bytes)
+    → (number ≡ reader) ⊎ ((number ≡ writer) ⊎ IsExcused ns ps Before number reader lba)
+
+-- What the reader found there isn't what was there at first: it isn't all zero, or something was surely put there before the reader.
+abbrev pub WasPut : Namespace → List Piece → (ℕ → ℕ → Type 0) → List ℕ → ℕ → ℕ → Type 0
+WasPut ns ps Before bytes reader lba = (bytes ≢ zero_bytes ns.block_size) ⊎ HasWriterBefore ns ps Before reader lba
+
+-- What the reader found in the block was put there, and of the other pieces only the writer can have put it there before the reader.
+pub record IsSource (ns : Namespace) (ps : List Piece) (unit : ℕ) (Before : ℕ → ℕ → Type 0) (writer reader lba : ℕ) : Type 0 where
+  pub bytes : List ℕ
+  pub found : HasFound ns ps unit reader lba bytes
+  pub was_put : WasPut ns ps Before bytes reader lba
+  pub only : NoOtherPuts ns ps Before lba bytes reader writer
+
 -- The source is the reader's in the block, and the writer, which is neither of them, surely put something there.
-pub record IsOverwritten (ns : Namespace) (ps : List Piece) (unit writer reader lba source : ℕ) : Type 0 where
-  pub is_source : IsSource ns ps unit source reader lba
+pub record IsOverwritten (ns : Namespace) (ps : List Piece) (unit : ℕ) (Before : ℕ → ℕ → Type 0) (writer reader lba source : ℕ) : Type 0 where
+  pub is_source : IsSource ns ps unit Before source reader lba
   pub sure : IsSureWriter ns ps writer lba
   pub not_reader : writer ≢ reader
   pub not_source : writer ≢ source
 
--- The reader found zero bytes in the block, and no other piece can have put them there. The writer, which is another, surely put
--- something there.
-pub record IsFirst (ns : Namespace) (ps : List Piece) (unit reader writer lba : ℕ) : Type 0 where
+-- The reader found zero bytes in the block, and no other piece can have put them there before the reader. The writer, which is
+-- another, surely put something there.
+pub record IsFirst (ns : Namespace) (ps : List Piece) (unit : ℕ) (Before : ℕ → ℕ → Type 0) (reader writer lba : ℕ) : Type 0 where
   pub found : HasFound ns ps unit reader lba (zero_bytes ns.block_size)
-  pub only : NoOtherPuts ns ps lba (zero_bytes ns.block_size) reader reader
+  pub only : NoOtherPuts ns ps Before lba (zero_bytes ns.block_size) reader reader
   pub sure : IsSureWriter ns ps writer lba
   pub not_reader : writer ≢ reader
 
 -- The fact is given by its rule and by what stands before what already.
 abbrev pub IsGiven : Namespace → List Piece → ℕ → (ℕ → ℕ → Type 0) → Fact → Type 0
 IsGiven ns ps unit Before (Time earlier later) = IsTime ps earlier later
-IsGiven ns ps unit Before (Source writer reader lba) = IsSource ns ps unit writer reader lba × (writer ≢ reader)
-IsGiven ns ps unit Before (Over reader writer lba source) = IsOverwritten ns ps unit writer reader lba source × Before source writer
-IsGiven ns ps unit Before (Under writer source lba reader) = IsOverwritten ns ps unit writer reader lba source × Before writer reader
-IsGiven ns ps unit Before (First reader writer lba) = IsFirst ns ps unit reader writer lba
-IsGiven ns ps unit Before (Nobody reader lba) = IsSource ns ps unit reader reader lba
+IsGiven ns ps unit Before (Source writer reader lba) = IsSource ns ps unit Before writer reader lba × (writer ≢ reader)
+IsGiven ns ps unit Before (Over reader writer lba source) = IsOverwritten ns ps unit Before writer reader lba source × Before source writer
+IsGiven ns ps unit Before (Under writer source lba reader) = IsOverwritten ns ps unit Before writer reader lba source × Before writer reader
+IsGiven ns ps unit Before (First reader writer lba) = IsFirst ns ps unit Before reader writer lba
+IsGiven ns ps unit Before (Nobody reader lba) = IsSource ns ps unit Before reader reader lba

@@ -4,6 +4,9 @@
 /// counted from 0. Where a trace is judged strictly these are the trace's own numbers. A piece that ended with success surely
 /// did what it does. One whose reply leaves open what was done may have done it, so it counts among those that can have put a
 /// value, and never among those that surely put one. LBAs are the namespace's, and blocks are those of the argument's unit.
+///
+/// Where several pieces put the same bytes, not each can have put those that a reader found: by the facts before, a piece may stand
+/// after the reader, or another that surely put something in the block between the two.
 #[derive(Clone, Copy, Debug, PartialEq, Eq)]
 pub enum Fact {
     /// The earlier command had ended before the later one began.
@@ -11,14 +14,14 @@ pub enum Fact {
         earlier: u32,
         later: u32,
     },
-    /// The reader found in the block bytes that aren't all zero, and of all other pieces only the writer can have put them
-    /// there: so the writer stands before the reader.
+    /// Of all other pieces only the writer can have put in the block what the reader found there: so the writer stands before the
+    /// reader. What it found isn't all zero, or a piece that surely put something there stands before it.
     Source {
         writer: u32,
         reader: u32,
         lba: u64,
     },
-    /// The source is the reader's in the block, and stands before the writer, which surely put another value there: so the reader
+    /// The source is the reader's in the block, and stands before the writer, which surely put something there: so the reader
     /// stands before the writer.
     Over {
         reader: u32,
@@ -26,7 +29,7 @@ pub enum Fact {
         lba: u64,
         source: u32,
     },
-    /// The source is the reader's in the block, and the writer, which surely put another value there, stands before the reader: so
+    /// The source is the reader's in the block, and the writer, which surely put something there, stands before the reader: so
     /// the writer stands before the source.
     Under {
         writer: u32,
@@ -34,15 +37,15 @@ pub enum Fact {
         lba: u64,
         reader: u32,
     },
-    /// The reader found zero bytes in the block, no other piece can have put zero bytes there, and the writer surely put something
+    /// The reader found zero bytes in the block, no other piece can have put those there, and the writer surely put something
     /// there: so the reader stands before the writer.
     First {
         reader: u32,
         writer: u32,
         lba: u64,
     },
-    /// The reader found in the block bytes that aren't all zero, and no other piece can have put them there. There is no such
-    /// run.
+    /// No other piece can have put in the block what the reader found there. What it found isn't all zero, or a piece that surely
+    /// put something there stands before it. There is no such run.
     Nobody {
         reader: u32,
         lba: u64,

@@ -2,7 +2,7 @@
 //!
 //! An [`Argument`] is a unit and a list of [`Fact`]s: of two pieces of the trace's commands, the one stands before the other in
 //! the unit, by a rule. [`refute`] says yes only where each fact is given by its rule and the facts before it, and together they
-//! put a step before itself, or name what nobody put there. Then no record explains the trace, which is proved. It looks for no
+//! put a step before itself, or name what nobody can have left there. Then no record explains the trace, which is proved. It looks for no
 //! argument: whoever found one need not be trusted.
 #![tactic(auto)]
 
@@ -15,6 +15,7 @@ mod order;
 mod refute_fault;
 mod refuting;
 mod rules;
+mod writers;
 
 pub use argument::Argument;
 pub use fact::Fact;

@@ -14,11 +14,11 @@ pub struct Order {
 }
 
 /// Whether the order is noted.
-pub fn is_noted(known: &Vec<Order>, earlier: u32, later: u32) -> bool
+pub fn is_noted(known: &Vec<Order>, earlier: usize, later: usize) -> bool
     ensures { IsTrue result → IsNoted known.now.items earlier later }
 {
     for noted in known {
-        if noted.earlier == earlier && noted.later == later {
+        if noted.earlier as usize == earlier && noted.later as usize == later {
             return true;
         }
     }
@@ -29,7 +29,7 @@ pub fn is_noted(known: &Vec<Order>, earlier: u32, later: u32) -> bool
 fn put(known: &mut Vec<Order>, order: Order) -> Result<(), NoMemory>
     ensures { OnOk result ((o : OrderView) → Contains known.new.items o → Contains known.old.items o ⊎ (o ≡ order)) }
 {
-    if !is_noted(known, order.earlier, order.later) {
+    if !is_noted(known, order.earlier as usize, order.later as usize) {
         known.push(order)?;
     }
     Ok(())

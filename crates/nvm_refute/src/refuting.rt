@@ -77,7 +77,7 @@ fn derive(
     Ok(known)
 }
 
-/// Whether it says that a reader found what nobody put.
+/// Whether it says that a reader found what nobody can have left there.
 fn is_of_nobody(fact: Fact) -> bool
     ensures { IsTrue result → IsOfNobody fact }
 {

@@ -1,20 +1,17 @@
-ghost use Rattle.std.specs.Prelude.{◌≡◌, ◌≢◌, ◌↔◌, ◌<◌, ◌≤◌, ◌⊎◌, ℕ, false, IsTrue, IfSome};
-ghost use Rattle.nvm_record.specs.declared.block.Block.TheVariants.{Bytes};
+ghost use Rattle.std.specs.Prelude.{◌≡◌, ◌↔◌, ◌<◌, IsTrue, IfSome};
 ghost use Rattle.nvm_geometry.specs.Boundaries.{unit_number};
-ghost use Rattle.nvm_trace.specs.Pieces as spec;
-ghost use Rattle.nvm_trace.specs.Pieces.{piece};
 ghost use Rattle.nvm_trace.specs.Steps.{end_of};
 ghost use Rattle.nvm_trace.specs.Timely.{HadEnded};
-ghost use Rattle.nvm_refute.specs.Findings.{CanPut, SurelyPuts};
 ghost use Rattle.nvm_refute.specs.Inside.Held.{held, IsNoted};
-ghost use Rattle.nvm_refute.specs.Rules.{HasFound, IsFirst, IsGiven, IsOverwritten, IsSource, IsSureWriter, IsTime, NoOtherPuts};
+ghost use Rattle.nvm_refute.specs.Rules.{HasFound, IsFirst, IsGiven, IsOverwritten, IsSource, IsTime};
 
-use crate::effect::{Effect, effect_of, is_zero};
+use crate::effect::is_zero;
 use crate::fact::Fact;
 use crate::finding::found;
 use crate::order::{Order, is_noted};
+use crate::writers::{is_sure_writer, no_other_puts, was_put};
 use nvm_geometry::Geometry;
-use nvm_trace::{Ending, Owner, is_success, says_nothing_was_written};
+use nvm_trace::{Ending, Owner};
 
 /// Whether what ended so had ended before this time.
 fn had_ended(ended: &Option<Ending>, time: u64) -> bool
@@ -62,97 +59,22 @@ fn has_found<'a>(
     found(geometry, &owners[reader], lba)
 }
 
-/// Whether the piece can have put the bytes in the block.
-fn can_put(geometry: &Geometry, owner: &Owner<'_>, lba: u64, bytes: &[u8]) -> bool
-    ensures { IsTrue result ↔ CanPut geometry.now (piece owner.now.whole.now owner.now.cut) lba (Bytes bytes.now) }
-{
-    !says_nothing_was_written(owner.whole)
-        && effect_of(geometry, owner, lba, bytes) == Effect::These
-}
-
-/// Whether the piece of this number, which is neither of two, can have put the bytes in the block.
-fn is_other_writer(
-    geometry: &Geometry,
-    owner: &Owner<'_>,
-    number: usize,
-    lba: u64,
-    bytes: &[u8],
-    reader: u32,
-    writer: u32,
-) -> bool
-    ensures { result ≡ false → CanPut geometry.now (piece owner.now.whole.now owner.now.cut) lba (Bytes bytes.now)
-        → (number ≡ reader) ⊎ (number ≡ writer) }
-{
-    number != reader as usize && number != writer as usize && can_put(geometry, owner, lba, bytes)
-}
-
-/// Whether none of the pieces but two can have put the bytes in the block.
-fn no_other_puts(
-    geometry: &Geometry,
-    owners: &Vec<Owner<'_>>,
-    lba: u64,
-    bytes: &[u8],
-    reader: u32,
-    writer: u32,
-) -> bool
-    ensures { IsTrue result → NoOtherPuts geometry.now (held owners.now.items) lba bytes.now reader writer }
-{
-    for number in 0..owners.len() {
-        if is_other_writer(
-            geometry,
-            &owners[number],
-            number,
-            lba,
-            bytes,
-            reader,
-            writer,
-        ) {
-            return false;
-        }
-    }
-    true
-}
-
-/// Whether the piece ended with success.
-fn has_succeeded(ended: &Option<Ending>) -> bool
-    ensures { result ≡ spec.has_succeeded ended.now }
-{
-    match ended {
-        Some(ending) => is_success(ending.statuses),
-        None => false,
-    }
-}
-
-/// Whether the piece surely put a block there.
-fn surely_puts(geometry: &Geometry, owner: &Owner<'_>, lba: u64) -> bool
-    ensures { IsTrue result ↔ SurelyPuts geometry.now (piece owner.now.whole.now owner.now.cut) lba }
-{
-    has_succeeded(&owner.whole.ended) && effect_of(geometry, owner, lba, &[]) != Effect::Nothing
-}
-
-/// Whether the writer surely put something in the block.
-fn is_sure_writer(geometry: &Geometry, owners: &Vec<Owner<'_>>, writer: u32, lba: u64) -> bool
-    ensures { IsTrue result → IsSureWriter geometry.now (held owners.now.items) writer lba }
-{
-    let writer = writer as usize;
-    writer < owners.len() && surely_puts(geometry, &owners[writer], lba)
-}
-
-/// Whether of the other pieces only the writer can have put there what the reader found.
+/// Whether what the reader found was put there, and of the other pieces only the writer can have put it there before the reader.
 fn is_source(
     geometry: &Geometry,
     owners: &Vec<Owner<'_>>,
     unit: u16,
+    known: &Vec<Order>,
     writer: u32,
     reader: u32,
     lba: u64,
 ) -> bool
-    ensures { IsTrue result → IsSource geometry.now (held owners.now.items) unit writer reader lba }
+    ensures { IsTrue result → IsSource geometry.now (held owners.now.items) unit (IsNoted known.now.items) writer reader lba }
 {
     match has_found(geometry, owners, unit, reader, lba) {
         Some(bytes) => {
-            !is_zero(geometry.block_size(), bytes)
-                && no_other_puts(geometry, owners, lba, bytes, reader, writer)
+            was_put(geometry, owners, known, bytes, reader, lba)
+                && no_other_puts(geometry, owners, known, lba, bytes, reader, writer)
         }
         None => false,
     }
@@ -163,16 +85,17 @@ fn is_overwritten(
     geometry: &Geometry,
     owners: &Vec<Owner<'_>>,
     unit: u16,
+    known: &Vec<Order>,
     writer: u32,
     reader: u32,
     lba: u64,
     source: u32,
 ) -> bool
-    ensures { IsTrue result → IsOverwritten geometry.now (held owners.now.items) unit writer reader lba source }
+    ensures { IsTrue result → IsOverwritten geometry.now (held owners.now.items) unit (IsNoted known.now.items) writer reader lba source }
 {
     writer != reader
         && writer != source
-        && is_source(geometry, owners, unit, source, reader, lba)
+        && is_source(geometry, owners, unit, known, source, reader, lba)
         && is_sure_writer(geometry, owners, writer, lba)
 }
 
@@ -181,17 +104,18 @@ fn is_first(
     geometry: &Geometry,
     owners: &Vec<Owner<'_>>,
     unit: u16,
+    known: &Vec<Order>,
     reader: u32,
     writer: u32,
     lba: u64,
 ) -> bool
-    ensures { IsTrue result → IsFirst geometry.now (held owners.now.items) unit reader writer lba }
+    ensures { IsTrue result → IsFirst geometry.now (held owners.now.items) unit (IsNoted known.now.items) reader writer lba }
 {
     match has_found(geometry, owners, unit, reader, lba) {
         Some(bytes) => {
             writer != reader
                 && is_zero(geometry.block_size(), bytes)
-                && no_other_puts(geometry, owners, lba, bytes, reader, reader)
+                && no_other_puts(geometry, owners, known, lba, bytes, reader, reader)
                 && is_sure_writer(geometry, owners, writer, lba)
         }
         None => false,
@@ -214,15 +138,15 @@ pub fn is_given(
             writer,
             reader,
             lba,
-        } => writer != reader && is_source(geometry, owners, unit, writer, reader, lba),
+        } => writer != reader && is_source(geometry, owners, unit, known, writer, reader, lba),
         Fact::Over {
             reader,
             writer,
             lba,
             source,
         } => {
-            is_noted(known, source, writer)
-                && is_overwritten(geometry, owners, unit, writer, reader, lba, source)
+            is_noted(known, source as usize, writer as usize)
+                && is_overwritten(geometry, owners, unit, known, writer, reader, lba, source)
         }
         Fact::Under {
             writer,
@@ -230,14 +154,16 @@ pub fn is_given(
             lba,
             reader,
         } => {
-            is_noted(known, writer, reader)
-                && is_overwritten(geometry, owners, unit, writer, reader, lba, source)
+            is_noted(known, writer as usize, reader as usize)
+                && is_overwritten(geometry, owners, unit, known, writer, reader, lba, source)
         }
         Fact::First {
             reader,
             writer,
             lba,
-        } => is_first(geometry, owners, unit, reader, writer, lba),
-        Fact::Nobody { reader, lba } => is_source(geometry, owners, unit, reader, reader, lba),
+        } => is_first(geometry, owners, unit, known, reader, writer, lba),
+        Fact::Nobody { reader, lba } => is_source(
+            geometry, owners, unit, known, reader, reader, lba,
+        ),
     }
 }

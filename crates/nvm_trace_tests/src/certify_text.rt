@@ -82,7 +82,7 @@ fn other_writers_have_their_words(rt: HostRuntime) -> Result<(), Fail> {
         source: 2,
     };
     let line =
-        "job 4 block 0 stands before job 3: job 3 put something else in LBA 0 after job 1 block 0, whose data job 4 block 0 found there\n";
+        "job 4 block 0 stands before job 3: job 3 put something in LBA 0 after job 1 block 0, whose data job 4 block 0 found there\n";
     assert!(rt; has_line(alloc, fact, line)?);
     let fact = Fact::Under {
         writer: 7,
@@ -91,7 +91,7 @@ fn other_writers_have_their_words(rt: HostRuntime) -> Result<(), Fail> {
         reader: 8,
     };
     let line =
-        "job 3 stands before job 1 block 0: job 3 put something else in LBA 0, stands before job 4 block 0, and job 4 block 0 found job 1 block 0's data there\n";
+        "job 3 stands before job 1 block 0: job 3 put something in LBA 0, stands before job 4 block 0, and job 4 block 0 found job 1 block 0's data there\n";
     assert!(rt; has_line(alloc, fact, line)?);
     Ok(())
 }
@@ -105,10 +105,10 @@ fn first_zeroes_have_their_words(rt: HostRuntime) -> Result<(), Fail> {
         lba: 1,
     };
     let line =
-        "job 2 block 1 stands before job 1 block 1: job 2 block 1 found the zeroes there that were in LBA 1 at first, and nobody put zeroes there\n";
+        "job 2 block 1 stands before job 1 block 1: job 2 block 1 found the zeroes there that were in LBA 1 at first, and nobody can have left zeroes there\n";
     assert!(rt; has_line(alloc, fact, line)?);
     let fact = Fact::Nobody { reader: 6, lba: 1 };
-    let line = "job 2 block 1 found in LBA 1 what nobody put there\n";
+    let line = "job 2 block 1 found in LBA 1 what nobody can have left there\n";
     assert!(rt; has_line(alloc, fact, line)?);
     Ok(())
 }
@@ -149,7 +149,7 @@ job 3 10 11 2 1 write 0 1 512*42 = 0/00
 job 4 12 13 3 0 read 0 1 = 0/00 512*41
 job 1 stands before job 4: only job 1 can have put what job 4 found in LBA 0
 job 1 stands before job 3: it had ended at 9, and job 3 began at 10
-job 4 stands before job 3: job 3 put something else in LBA 0 after job 1, whose data job 4 found there
+job 4 stands before job 3: job 3 put something in LBA 0 after job 1, whose data job 4 found there
 job 3 stands before job 4: it had ended at 11, and job 4 began at 12
 so job 3 stands before itself
 ";
@@ -161,7 +161,7 @@ so job 3 stands before itself
 fn an_argument_of_nobody_has_no_end(rt: HostRuntime) -> Result<(), Fail> {
     let text = "contradiction unit 0 commands 1
 job 4 12 13 3 0 read 0 1 = 0/00 512*41
-job 4 found in LBA 0 what nobody put there
+job 4 found in LBA 0 what nobody can have left there
 ";
     let facts = [Fact::Nobody { reader: 5, lba: 0 }];
     assert!(rt; is_told(rt.alloc(), &facts, text)?);

@@ -1,4 +1,6 @@
 //! Arguments that were written by hand.
+mod excused;
+
 use crate::traces::trace_of;
 use nvm_refute::{Argument, Fact, RefuteFault, refute};
 use nvm_trace::Judging;

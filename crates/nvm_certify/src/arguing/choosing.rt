@@ -163,14 +163,21 @@ fn ground_of(
         later: derived.later,
         derived: Some(index),
     };
-    let rests_on = match derived.condition() {
-        None => Some(Vec::new(alloc)),
-        Some((from, to)) => path(alloc, window, derivation, index, from, to)?,
-    };
-    match rests_on {
-        Some(rests_on) => Ok(Some(Ground { link, rests_on })),
-        None => Ok(None),
+    let mut rests_on = Vec::new(alloc);
+    for condition in &derivation.conditions(alloc, *derived)? {
+        match path(
+            alloc,
+            window,
+            derivation,
+            index,
+            condition.earlier,
+            condition.later,
+        )? {
+            Some(links) => rests_on.extend_from_slice(&links)?,
+            None => return Ok(None),
+        }
     }
+    Ok(Some(Ground { link, rests_on }))
 }
 
 /// What the links rest on, the last derived first.

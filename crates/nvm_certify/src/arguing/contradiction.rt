@@ -1,6 +1,7 @@
 //! Facts that contradict each other, of some of a unit's steps.
 use crate::arguing::choosing::{Link, choose};
-use crate::arguing::derivation::{Derivation, Derived, Rule, derive};
+use crate::arguing::derivation::{Derivation, derive};
+use crate::arguing::derived::{Derived, Rule};
 use crate::arguing::history::History;
 use crate::arguing::place_set::PlaceSet;
 use crate::arguing::window::Window;
@@ -24,7 +25,8 @@ fn piece_of(history: &History<'_>, window: &Window, step: usize) -> Option<u32> 
 fn derived_fact(history: &History<'_>, window: &Window, derived: Derived) -> Option<Fact> {
     let earlier = piece_of(history, window, derived.earlier)?;
     let later = piece_of(history, window, derived.later)?;
-    let lba = u64::from(*window.lbas.get(derived.block)?);
+    let find = window.finds.get(derived.find)?;
+    let lba = u64::from(*window.lbas.get(find.block)?);
     Some(match derived.by {
         Rule::Source => Fact::Source {
             writer: earlier,
@@ -118,7 +120,7 @@ fn steps_named(
 }
 
 /// The contradiction of these steps by themselves, whose places in the unit rise.
-pub fn contradiction_of(
+fn contradiction_of(
     alloc: Global,
     history: &History<'_>,
     steps: Vec<usize>,

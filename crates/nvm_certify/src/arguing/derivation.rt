@@ -1,65 +1,13 @@
+use crate::arguing::derived::{Derived, Rule};
 use crate::arguing::orders::Orders;
-use crate::arguing::place_set::{PlaceSet, no_places};
-use crate::arguing::window::{KnownFind, Window};
+use crate::arguing::place_set::{PlaceSet, no_places, others_among};
+use crate::arguing::settling::{Condition, Settled, who_put};
+use crate::arguing::window::{Window, WindowFind};
 use nvm_record::NoMemory;
 use std::alloc::Global;
 
 /// The most times that all the rules are applied.
 const ROUNDS: u32 = u32::MAX;
-
-/// A rule by which an order is derived, and the step that it names besides.
-#[derive(Clone, Copy)]
-pub enum Rule {
-    Source,
-    Over { source: usize },
-    Under { reader: usize },
-    First,
-}
-
-/// That one step of a window stands before another, by a rule other than that of time.
-#[derive(Clone, Copy)]
-pub struct Derived {
-    pub earlier: usize,
-    pub later: usize,
-    /// The block, by its place in the window's.
-    pub block: usize,
-    pub by: Rule,
-}
-
-impl Derived {
-    /// What has to stand before what already.
-    pub fn condition(self) -> Option<(usize, usize)> {
-        match self.by {
-            Rule::Source | Rule::First => None,
-            Rule::Over { source } => Some((source, self.later)),
-            Rule::Under { reader } => Some((self.earlier, reader)),
-        }
-    }
-}
-
-/// Of the writers those among some places that aren't known yet, but for a source and a reader themselves.
-fn others_among(
-    alloc: Global,
-    writers: &PlaceSet,
-    among: Option<&PlaceSet>,
-    known: [Option<&PlaceSet>; 2],
-    themselves: [usize; 2],
-) -> Result<Vec<usize>, NoMemory> {
-    let Some(among) = among else {
-        return Ok(Vec::new(alloc));
-    };
-    let mut others = writers.copy(alloc)?;
-    others.keep(among);
-    for places in known {
-        if let Some(places) = places {
-            others.remove(places);
-        }
-    }
-    for place in themselves {
-        others.take_out(place);
-    }
-    others.places(alloc)
-}
 
 /// What was derived of a window's steps.
 #[derive(Drop)]
@@ -72,6 +20,8 @@ pub struct Derivation {
     /// For each step those that are derived to stand after it, and before it.
     laters: Vec<PlaceSet>,
     earliers: Vec<PlaceSet>,
+    /// For each of the window's finds who put it, once that is known.
+    settled: Vec<Option<Settled>>,
 }
 
 impl Derivation {
@@ -82,12 +32,17 @@ impl Derivation {
         for _place in 0..places {
             leaving.push(Vec::new(alloc))?;
         }
+        let mut settled = Vec::with_capacity(alloc, window.finds.len())?;
+        for _find in &window.finds {
+            settled.push(None)?;
+        }
         Ok(Derivation {
             derived: Vec::new(alloc),
             leaving,
             orders: Orders::new(alloc, &window.next)?,
             laters: no_places(alloc, places)?,
             earliers: no_places(alloc, places)?,
+            settled,
         })
     }
 
@@ -107,8 +62,46 @@ impl Derivation {
         Ok(())
     }
 
-    /// That the step whose block was found stands before the reader.
-    fn put_source(&mut self, find: KnownFind, source: usize) -> Result<(), NoMemory> {
+    /// What was derived rests on these orders beside those before it.
+    pub fn conditions(&self, alloc: Global, derived: Derived) -> Result<Vec<Condition>, NoMemory> {
+        let mut conditions = Vec::new(alloc);
+        if let Some(Some(settled)) = self.settled.get(derived.find) {
+            conditions.extend_from_slice(&settled.conditions)?;
+        }
+        if let Some(condition) = derived.condition() {
+            conditions.push(condition)?;
+        }
+        Ok(conditions)
+    }
+
+    /// Settles who put what was found, if that is known by now and wasn't before.
+    fn settle(
+        &mut self,
+        alloc: Global,
+        find: &WindowFind,
+        place: usize,
+        sure: &PlaceSet,
+    ) -> Result<bool, NoMemory> {
+        match self.settled.get(place) {
+            Some(None) => {}
+            _ => return Ok(false),
+        }
+        let Some(new) = who_put(alloc, &self.orders, find, sure)? else {
+            return Ok(false);
+        };
+        if let Some(settled) = self.settled.get_mut(place) {
+            *settled = Some(new);
+        }
+        Ok(true)
+    }
+
+    /// That the source of what was found stands before the reader.
+    fn put_source(
+        &mut self,
+        find: &WindowFind,
+        place: usize,
+        source: usize,
+    ) -> Result<(), NoMemory> {
         let reader = find.reader;
         let known = match self.laters.get(source) {
             Some(laters) => laters.has(reader),
@@ -120,7 +113,7 @@ impl Derivation {
         self.put(Derived {
             earlier: source,
             later: reader,
-            block: find.block,
+            find: place,
             by: Rule::Source,
         })
     }
@@ -129,11 +122,12 @@ impl Derivation {
     fn put_first(
         &mut self,
         alloc: Global,
-        find: KnownFind,
-        writers: &PlaceSet,
+        find: &WindowFind,
+        place: usize,
+        sure: &PlaceSet,
     ) -> Result<(), NoMemory> {
         let reader = find.reader;
-        let mut laters = writers.copy(alloc)?;
+        let mut laters = sure.copy(alloc)?;
         laters.take_out(reader);
         if let (Some(known), Some(put)) = (self.orders.after(reader), self.laters.get(reader)) {
             laters.remove(known);
@@ -143,38 +137,63 @@ impl Derivation {
             self.put(Derived {
                 earlier: reader,
                 later: *later,
-                block: find.block,
+                find: place,
                 by: Rule::First,
             })?;
         }
         Ok(())
     }
 
-    /// What the finds give by themselves.
+    /// What a find gives by itself once it is settled.
+    fn put_settled(
+        &mut self,
+        alloc: Global,
+        find: &WindowFind,
+        place: usize,
+        sure: &PlaceSet,
+    ) -> Result<(), NoMemory> {
+        match self.source(place) {
+            Some(Some(source)) => self.put_source(find, place, source),
+            Some(None) => self.put_first(alloc, find, place, sure),
+            None => Ok(()),
+        }
+    }
+
+    /// Who put what was found, if it is settled: a step, or none where it was there at first.
+    fn source(&self, place: usize) -> Option<Option<usize>> {
+        match self.settled.get(place) {
+            Some(Some(settled)) => Some(settled.source),
+            _ => None,
+        }
+    }
+
+    /// What the finds give by the times.
     fn put_given(&mut self, alloc: Global, window: &Window) -> Result<(), NoMemory> {
-        for find in &window.finds {
-            match (find.source, window.writers.get(find.block)) {
-                (Some(source), _) => self.put_source(*find, source)?,
-                (None, Some(writers)) => self.put_first(alloc, *find, writers)?,
-                (None, None) => {}
+        for (place, find) in window.finds.iter().enumerate() {
+            let Some(sure) = window.writers.get(find.block) else {
+                continue;
+            };
+            if self.settle(alloc, find, place, sure)? {
+                self.put_settled(alloc, find, place, sure)?;
             }
         }
         Ok(())
     }
 
-    /// What a find gives of the other writers of its block that stand after its source.
+    /// What a find gives of the sure writers of its block that stand after its source.
     fn put_over(
         &mut self,
         alloc: Global,
-        find: KnownFind,
+        find: &WindowFind,
+        place: usize,
         source: usize,
-        writers: &PlaceSet,
+        sure: &PlaceSet,
     ) -> Result<(), NoMemory> {
         let reader = find.reader;
         let known = [self.orders.after(reader), self.laters.get(reader)];
         for writer in &others_among(
             alloc,
-            writers,
+            sure,
             self.orders.after(source),
             known,
             [source, reader],
@@ -182,26 +201,27 @@ impl Derivation {
             self.put(Derived {
                 earlier: reader,
                 later: *writer,
-                block: find.block,
+                find: place,
                 by: Rule::Over { source },
             })?;
         }
         Ok(())
     }
 
-    /// What a find gives of the other writers of its block that stand before its reader.
+    /// What a find gives of the sure writers of its block that stand before its reader.
     fn put_under(
         &mut self,
         alloc: Global,
-        find: KnownFind,
+        find: &WindowFind,
+        place: usize,
         source: usize,
-        writers: &PlaceSet,
+        sure: &PlaceSet,
     ) -> Result<(), NoMemory> {
         let reader = find.reader;
         let known = [self.orders.before(source), self.earliers.get(source)];
         for writer in &others_among(
             alloc,
-            writers,
+            sure,
             self.orders.before(reader),
             known,
             [source, reader],
@@ -209,23 +229,30 @@ impl Derivation {
             self.put(Derived {
                 earlier: *writer,
                 later: source,
-                block: find.block,
+                find: place,
                 by: Rule::Under { reader },
             })?;
         }
         Ok(())
     }
 
-    /// What the finds give of the other writers of their blocks, by what changed since the last round.
+    /// What the finds give of the sure writers of their blocks, by what changed since the last round.
     fn put_round(&mut self, alloc: Global, window: &Window) -> Result<(), NoMemory> {
         let changed = self.orders.take_changed(alloc)?;
-        for find in &window.finds {
-            if let (Some(source), Some(writers)) = (find.source, window.writers.get(find.block)) {
-                if changed.after.has(source) {
-                    self.put_over(alloc, *find, source, writers)?;
+        for (place, find) in window.finds.iter().enumerate() {
+            let Some(sure) = window.writers.get(find.block) else {
+                continue;
+            };
+            let is_new = self.settle(alloc, find, place, sure)?;
+            if is_new {
+                self.put_settled(alloc, find, place, sure)?;
+            }
+            if let Some(Some(source)) = self.source(place) {
+                if is_new || changed.after.has(source) {
+                    self.put_over(alloc, find, place, source, sure)?;
                 }
-                if changed.before.has(find.reader) {
-                    self.put_under(alloc, *find, source, writers)?;
+                if is_new || changed.before.has(find.reader) {
+                    self.put_under(alloc, find, place, source, sure)?;
                 }
             }
         }

@@ -2,25 +2,8 @@ use crate::steps::{Cell, Reply, UnitSteps};
 use nvm_record::NoMemory;
 use std::alloc::Global;
 
-/// Where the block that a step found came from.
-#[derive(Clone, Copy)]
-pub enum Origin {
-    /// Of the other steps only the one at this place can have put it.
-    Step(usize),
-    /// It is zero bytes, and no other step can have put those: they were there at first.
-    Start,
-    /// It isn't zero bytes, and no other step can have put it.
-    Nobody,
-    /// That is left open.
-    Open,
-}
-
-/// A block that a step found.
-#[derive(Clone, Copy)]
-pub struct Find {
-    pub lba: u32,
-    pub origin: Origin,
-}
+/// The most steps that can have put what a step found, where that is looked at.
+const WRITERS: usize = 64;
 
 /// A value that a step can have put in a block. They are ordered by block, value and step.
 #[derive(Clone, Copy, PartialEq, Eq, PartialOrd, Ord)]
@@ -50,7 +33,7 @@ struct Beginning {
 #[derive(Drop)]
 pub struct History<'a> {
     unit: &'a UnitSteps,
-    origins: Vec<Origin>,
+    puts: Vec<Put>,
     sure: Vec<SurePut>,
     beginnings: Vec<Beginning>,
 }
@@ -121,60 +104,6 @@ fn sure_puts_of(alloc: Global, unit: &UnitSteps) -> Result<Vec<SurePut>, NoMemor
     Ok(sure)
 }
 
-/// The one step but the reader that can have put this in the block: none, one, or more than one, which is an `Err`.
-fn writer_of(puts: &Vec<Put>, reader: usize, cell: Cell) -> Result<Option<usize>, ()> {
-    let mut writer = None;
-    let first = place_of(puts.binary_search(&Put {
-        lba: cell.lba,
-        value: cell.value,
-        step: 0,
-    }));
-    for place in first..puts.len() {
-        let put = puts[place];
-        if put.lba != cell.lba || put.value != cell.value {
-            break;
-        }
-        if put.step == reader || writer == Some(put.step) {
-            continue;
-        }
-        if writer.is_some() {
-            return Err(());
-        }
-        writer = Some(put.step);
-    }
-    Ok(writer)
-}
-
-/// Where the block came from that the reader found.
-fn origin_of(puts: &Vec<Put>, reader: usize, cell: Cell) -> Origin {
-    match writer_of(puts, reader, cell) {
-        Ok(Some(_)) if cell.value == 0 => Origin::Open,
-        Ok(Some(writer)) => Origin::Step(writer),
-        Ok(None) if cell.value == 0 => Origin::Start,
-        Ok(None) => Origin::Nobody,
-        Err(()) => Origin::Open,
-    }
-}
-
-/// For each cell where it came from, if it is one that a step found.
-fn origins_of(alloc: Global, unit: &UnitSteps) -> Result<Vec<Origin>, NoMemory> {
-    let puts = puts_of(alloc, unit)?;
-    let mut origins = vec![in alloc; Origin::Open; unit.cells.len()]?;
-    for (step, its) in unit.steps.iter().enumerate() {
-        if its.reply == Reply::Done {
-            for place in its.found.from as usize..its.found.to as usize {
-                if let (Some(origin), Some(cell)) = (
-                    origins.get_mut(place),
-                    unit.cells.get(place),
-                ) {
-                    *origin = origin_of(&puts, step, *cell);
-                }
-            }
-        }
-    }
-    Ok(origins)
-}
-
 /// When each step began.
 fn beginnings_of(alloc: Global, unit: &UnitSteps) -> Result<Vec<Beginning>, NoMemory> {
     let mut beginnings = Vec::new(alloc);
@@ -193,7 +122,7 @@ impl<'a> History<'a> {
     pub fn new(alloc: Global, unit: &'a UnitSteps) -> Result<History<'a>, NoMemory> {
         Ok(History {
             unit,
-            origins: origins_of(alloc, unit)?,
+            puts: puts_of(alloc, unit)?,
             sure: sure_puts_of(alloc, unit)?,
             beginnings: beginnings_of(alloc, unit)?,
         })
@@ -230,21 +159,43 @@ impl<'a> History<'a> {
         }
     }
 
-    /// What the step found, with where it came from.
-    pub fn finds(&self, alloc: Global, place: usize) -> Result<Vec<Find>, NoMemory> {
-        let mut finds = Vec::new(alloc);
-        let Some(step) = self.unit.steps.get(place) else {
-            return Ok(finds);
-        };
-        for cell in step.found.from as usize..step.found.to as usize {
-            if let (Some(origin), Some(its)) = (self.origins.get(cell), self.unit.cells.get(cell)) {
-                finds.push(Find {
-                    lba: its.lba,
-                    origin: *origin,
-                })?;
-            }
+    /// What the step found, if it is known.
+    pub fn finds(&self, place: usize) -> &[Cell] {
+        match self.unit.steps.get(place) {
+            Some(step) if step.reply == Reply::Done => self.unit.cells_of(step.found),
+            _ => &[],
         }
-        Ok(finds)
+    }
+
+    /// The other steps that can have put what the reader found, rising, or none where they are too many to be looked at.
+    pub fn writers(
+        &self,
+        alloc: Global,
+        reader: usize,
+        find: Cell,
+    ) -> Result<Option<Vec<usize>>, NoMemory> {
+        let mut writers = Vec::new(alloc);
+        let first = place_of(
+            self.puts.binary_search(&Put {
+                lba: find.lba,
+                value: find.value,
+                step: 0,
+            }),
+        );
+        for place in first..self.puts.len() {
+            let put = self.puts[place];
+            if put.lba != find.lba || put.value != find.value {
+                break;
+            }
+            if put.step == reader || writers.last() == Some(&put.step) {
+                continue;
+            }
+            if writers.len() == WRITERS {
+                return Ok(None);
+            }
+            writers.push(put.step)?;
+        }
+        Ok(Some(writers))
     }
 
     /// The blocks in which the step surely put something.
@@ -255,8 +206,13 @@ impl<'a> History<'a> {
         }
     }
 
-    /// Of the steps from this place on that surely put something in the block, the one that ended first.
-    pub fn soonest_put(&self, lba: u32, from: usize) -> Option<usize> {
+    /// Of the steps that surely put something in the block after the writer had ended, the one that ended first. With no writer,
+    /// of all of them.
+    pub fn overwriter(&self, lba: u32, writer: Option<usize>) -> Option<usize> {
+        let from = match writer {
+            Some(writer) => self.next(writer),
+            None => 0,
+        };
         let place = place_of(
             self.sure.binary_search(&SurePut {
                 lba,
@@ -270,12 +226,19 @@ impl<'a> History<'a> {
         }
     }
 
-    /// The step that ended first of those that surely overwrote what was found, or that stands after the block's first contents.
-    pub fn overwriter(&self, find: Find) -> Option<usize> {
-        match find.origin {
-            Origin::Step(source) => self.soonest_put(find.lba, self.next(source)),
-            Origin::Start => self.soonest_put(find.lba, 0),
-            Origin::Nobody | Origin::Open => None,
+    /// The step that surely put something in the block between the writer and the reader, by the times, if there is one. With no
+    /// writer, before the reader.
+    pub fn overwriter_before(
+        &self,
+        lba: u32,
+        writer: Option<usize>,
+        reader: usize,
+    ) -> Option<usize> {
+        let overwriter = self.overwriter(lba, writer)?;
+        if self.is_past(overwriter, reader) {
+            Some(overwriter)
+        } else {
+            None
         }
     }
 }

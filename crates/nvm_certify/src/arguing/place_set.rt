@@ -87,6 +87,22 @@ impl PlaceSet {
         }
     }
 
+    /// The first place that the two others have, too.
+    pub fn first_with(&self, other: &PlaceSet, third: &PlaceSet) -> Option<usize> {
+        for (index, word) in self.words.iter().enumerate() {
+            let (Some(others), Some(thirds)) = (other.words.get(index), third.words.get(index))
+            else {
+                return None;
+            };
+            let common = *word & *others & *thirds;
+            if common != 0 {
+                let bit = common.trailing_zeros() as usize;
+                return Some(index.saturating_mul(64).saturating_add(bit));
+            }
+        }
+        None
+    }
+
     /// The places, rising.
     pub fn places(&self, alloc: Global) -> Result<Vec<usize>, NoMemory> {
         let mut places = Vec::new(alloc);
@@ -112,4 +128,28 @@ pub fn no_places(alloc: Global, places: usize) -> Result<Vec<PlaceSet>, NoMemory
         sets.push(PlaceSet::new(alloc, places)?)?;
     }
     Ok(sets)
+}
+
+/// Of the places those among others that aren't known yet, but for two themselves.
+pub fn others_among(
+    alloc: Global,
+    places: &PlaceSet,
+    among: Option<&PlaceSet>,
+    known: [Option<&PlaceSet>; 2],
+    themselves: [usize; 2],
+) -> Result<Vec<usize>, NoMemory> {
+    let Some(among) = among else {
+        return Ok(Vec::new(alloc));
+    };
+    let mut others = places.copy(alloc)?;
+    others.keep(among);
+    for its in known {
+        if let Some(its) = its {
+            others.remove(its);
+        }
+    }
+    for place in themselves {
+        others.take_out(place);
+    }
+    others.places(alloc)
 }

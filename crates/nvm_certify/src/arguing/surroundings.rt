@@ -1,7 +1,9 @@
 //! Where in a unit steps are looked for that contradict each other.
 use crate::arguing::contradiction::{Contradiction, least_contradiction};
-use crate::arguing::history::{History, Origin};
+use crate::arguing::history::History;
 use crate::arguing::place_set::PlaceSet;
+use crate::steps::Cell;
+use crate::values::ZERO;
 use nvm_record::NoMemory;
 use std::alloc::Global;
 
@@ -34,8 +36,29 @@ impl Chosen {
     }
 }
 
-/// The steps from one place to another, and those that they lead to, at most so many: whose blocks they found, and who overwrote
-/// those.
+/// Chooses the steps, and who overwrote what they put in the block.
+fn put_writers(
+    chosen: &mut Chosen,
+    history: &History<'_>,
+    find: Cell,
+    writers: &Vec<usize>,
+    most: usize,
+) {
+    for writer in writers {
+        chosen.put(*writer, most);
+        if let Some(other) = history.overwriter(find.lba, Some(*writer)) {
+            chosen.put(other, most);
+        }
+    }
+    if find.value == ZERO {
+        if let Some(other) = history.overwriter(find.lba, None) {
+            chosen.put(other, most);
+        }
+    }
+}
+
+/// The steps from one place to another, and those that they lead to, at most so many: who can have put what they found, and who
+/// overwrote that. Where one alone can have put it, it comes first.
 fn steps_round(
     alloc: Global,
     history: &History<'_>,
@@ -51,13 +74,15 @@ fn steps_round(
     for step in from..to {
         chosen.put(step, most);
     }
-    for step in from..to {
-        for find in &history.finds(alloc, step)? {
-            if let Origin::Step(source) = find.origin {
-                chosen.put(source, most);
-            }
-            if let Some(writer) = history.overwriter(*find) {
-                chosen.put(writer, most);
+    for is_one in [true, false] {
+        for step in from..to {
+            for find in history.finds(step) {
+                match history.writers(alloc, step, *find)? {
+                    Some(writers) if (writers.len() <= 1) == is_one => {
+                        put_writers(&mut chosen, history, *find, &writers, most);
+                    }
+                    _ => {}
+                }
             }
         }
     }

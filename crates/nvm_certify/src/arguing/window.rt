@@ -1,16 +1,20 @@
-use crate::arguing::history::{History, Origin};
+use crate::arguing::history::History;
 use crate::arguing::place_set::PlaceSet;
+use crate::steps::Cell;
+use crate::values::ZERO;
 use nvm_record::NoMemory;
 use std::alloc::Global;
 
-/// A block that a step of a window found, where it is known whose it was.
-#[derive(Clone, Copy)]
-pub struct KnownFind {
+/// A block that a step of a window found, where all other steps that can have put it are in the window.
+#[derive(Drop)]
+pub struct WindowFind {
     /// The block, by its place in the window's.
     pub block: usize,
     pub reader: usize,
-    /// The step that put it, or none where it was there at first.
-    pub source: Option<usize>,
+    /// The other steps that can have put it.
+    pub writers: Vec<usize>,
+    /// Whether it was there at first.
+    pub was_first: bool,
 }
 
 /// Some of a unit's steps, named by their place among these alone.
@@ -24,7 +28,7 @@ pub struct Window {
     pub lbas: Vec<u32>,
     /// For each block the steps that surely put something there.
     pub writers: Vec<PlaceSet>,
-    pub finds: Vec<KnownFind>,
+    pub finds: Vec<WindowFind>,
 }
 
 /// Where this stands in the list, which rises, or would stand.
@@ -52,7 +56,7 @@ fn next_of(
 fn lbas_of(alloc: Global, history: &History<'_>, steps: &Vec<usize>) -> Result<Vec<u32>, NoMemory> {
     let mut lbas = Vec::new(alloc);
     for step in steps {
-        for find in &history.finds(alloc, *step)? {
+        for find in history.finds(*step) {
             lbas.push(find.lba)?;
         }
     }
@@ -84,30 +88,64 @@ fn writers_of(
     Ok(writers)
 }
 
+/// The places in the window of the steps, if all of them are in it.
+fn places_in(
+    alloc: Global,
+    steps: &Vec<usize>,
+    sought: &Vec<usize>,
+) -> Result<Option<Vec<usize>>, NoMemory> {
+    let mut places = Vec::with_capacity(alloc, sought.len())?;
+    for step in sought {
+        match steps.binary_search(step) {
+            Ok(place) => places.push(place)?,
+            Err(_) => return Ok(None),
+        }
+    }
+    Ok(Some(places))
+}
+
+/// What a step of the window found, if all other steps that can have put it are in the window.
+fn find_of(
+    alloc: Global,
+    history: &History<'_>,
+    steps: &Vec<usize>,
+    lbas: &Vec<u32>,
+    reader: usize,
+    find: Cell,
+) -> Result<Option<WindowFind>, NoMemory> {
+    let (Some(step), Ok(block)) = (steps.get(reader), lbas.binary_search(&find.lba)) else {
+        return Ok(None);
+    };
+    let Some(writers) = history.writers(alloc, *step, find)? else {
+        return Ok(None);
+    };
+    let Some(writers) = places_in(alloc, steps, &writers)? else {
+        return Ok(None);
+    };
+    let was_first = find.value == ZERO;
+    if writers.is_empty() && !was_first {
+        return Ok(None);
+    }
+    Ok(Some(WindowFind {
+        block,
+        reader,
+        writers,
+        was_first,
+    }))
+}
+
 /// What the steps found of each other, or of the first contents.
 fn finds_of(
     alloc: Global,
     history: &History<'_>,
     steps: &Vec<usize>,
     lbas: &Vec<u32>,
-) -> Result<Vec<KnownFind>, NoMemory> {
+) -> Result<Vec<WindowFind>, NoMemory> {
     let mut finds = Vec::new(alloc);
     for (reader, step) in steps.iter().enumerate() {
-        for find in &history.finds(alloc, *step)? {
-            let source = match find.origin {
-                Origin::Step(writer) => match steps.binary_search(&writer) {
-                    Ok(place) => Some(place),
-                    Err(_) => continue,
-                },
-                Origin::Start => None,
-                Origin::Nobody | Origin::Open => continue,
-            };
-            if let Ok(block) = lbas.binary_search(&find.lba) {
-                finds.push(KnownFind {
-                    block,
-                    reader,
-                    source,
-                })?;
+        for cell in history.finds(*step) {
+            if let Some(find) = find_of(alloc, history, steps, lbas, reader, *cell)? {
+                finds.push(find)?;
             }
         }
     }

@@ -133,3 +133,42 @@ fn a_stale_read_far_from_its_source_has_an_argument(rt: HostRuntime) -> Result<(
     assert!(rt; facts(&rt, alloc, lines.as_str())?.len() > 0);
     Ok(())
 }
+
+/// Of two Writes of the bytes that the Read found one was overwritten before it began, and the other began after it had ended.
+#[test]
+fn a_stale_read_of_bytes_written_again_has_an_argument(rt: HostRuntime) -> Result<(), Fail> {
+    let lines = "1 2 1 1 write 0 1 01 = 0/00
+3 4 1 1 write 0 1 02 = 0/00
+5 6 1 1 read 0 1 = 0/00 01
+7 8 1 1 write 0 1 01 = 0/00
+";
+    assert!(rt; facts(&rt, rt.alloc(), lines)?.len() > 0);
+    Ok(())
+}
+
+/// That the first Write's bytes were overwritten before the second Read is known only by what the first Read found. So they were the
+/// third Write's, and yet the last Read found the second one's.
+#[test]
+fn reads_that_go_back_to_bytes_written_twice_have_an_argument(rt: HostRuntime) -> Result<(), Fail> {
+    let lines = "1 2 1 1 write 0 1 01 = 0/00
+3 20 2 1 write 0 1 02 = 0/00
+4 5 1 1 read 0 1 = 0/00 02
+6 30 3 1 write 0 1 01 = 0/00
+7 8 1 1 read 0 1 = 0/00 01
+9 10 1 1 read 0 1 = 0/00 02
+";
+    assert!(rt; facts(&rt, rt.alloc(), lines)?.len() > 0);
+    Ok(())
+}
+
+/// The first zeroes were overwritten before the first Read began, so what it found are the Deallocate's, which the second overlooked.
+#[test]
+fn zeroes_that_come_and_go_have_an_argument(rt: HostRuntime) -> Result<(), Fail> {
+    let lines = "1 2 1 1 write 0 1 01 = 0/00
+3 20 2 1 dataset 0+1 deallocate = 0/00
+4 5 1 1 read 0 1 = 0/00 00
+6 7 1 1 read 0 1 = 0/00 01
+";
+    assert!(rt; facts(&rt, rt.alloc(), lines)?.len() > 0);
+    Ok(())
+}

@@ -1,6 +1,6 @@
 use Rattle.std.proofs.Common.{◌<◌, length, rules}
 use Rattle.nvm_refute.proofs.Holding.{held_at}
-use Rattle.nvm_refute.proofs.rules.is_sure_writer.Goals as goal
+use Rattle.nvm_refute.proofs.writers.is_sure_writer.Goals as goal
 
 pub returns-then-writer-len : goal.returns-then-writer-len
 returns-then-writer-len c = λ surely.
