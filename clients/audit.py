@@ -3,8 +3,8 @@
 
     clients/audit.py LIBRARY RECORD
 
-It prints the line that `nvmu audit RECORD` prints, and ends as that does: with 0 where the record is lawful, with 2 where it isn't,
-and with 1 where the file is no record.
+It prints the line of `nvmu audit RECORD`, on standard error and without `nvmu: ` where the file is no record. It ends with 0 where the
+record is lawful, with 2 where it isn't, and else with 1.
 """
 
 import ctypes
@@ -12,7 +12,7 @@ import os
 import sys
 
 # Codes of include/zalkvorn.h, and the room that each line fits in.
-LAWFUL, UNLAWFUL, BAD_RECORD, SHORT_ROOM, LINE_BYTES = 0, 16, 17, 18, 128
+LAWFUL, NO_MEMORY, UNLAWFUL, BAD_RECORD, SHORT_ROOM, LINE_BYTES = 0, 4, 16, 17, 18, 128
 
 
 def audit(library, record, room=LINE_BYTES):
@@ -28,6 +28,8 @@ def main():
         sys.exit(__doc__)
     with open(sys.argv[2], "rb") as file:
         code, line = audit(sys.argv[1], file.read())
+    if code == NO_MEMORY:
+        line = "no memory\n"
     print(line, end="", file=sys.stdout if code in (LAWFUL, UNLAWFUL) else sys.stderr)
     return {LAWFUL: 0, UNLAWFUL: 2}.get(code, 1)
 

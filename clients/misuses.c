@@ -350,7 +350,7 @@ static bool holds(const struct row *row)
     return right;
 }
 
-/* Where memory is refused at the so manyth time, a command ends by its code or with 0/06, and the port goes on working. */
+/* Where memory is refused at the nth time, a command ends by its code or with 0/06, and the port goes on working. */
 static bool starved_in_the_midst(void)
 {
     uint8_t entry[ZK_ENTRY_BYTES], block[BLOCK], told[ZK_COMPLETION_BYTES];
@@ -379,7 +379,7 @@ static bool starved_in_the_midst(void)
     return true;
 }
 
-/* Where memory is refused at the so manyth time, an audit says so and writes nothing. */
+/* Where memory is refused at the nth time, an audit says so and writes nothing. */
 static bool audit_starved(void)
 {
     static const char said[] = "record: truncated at 4\n";
@@ -429,6 +429,6 @@ int main(int words, char **word)
             right = false;
         }
     if (right)
-        printf("%zu calls, each answered as the table says, and nothing written but with ZK_DONE\n", count);
+        printf("%zu calls, each answered as the table says, and no port or buffer written but with ZK_DONE\n", count);
     return right ? 0 : 1;
 }

@@ -7,6 +7,7 @@ a folder of their own, page by page, with `crates` and `examples` in it. Those o
 stands there.
 """
 
+import glob
 import os
 import re
 import subprocess
@@ -124,7 +125,12 @@ def tried():
         for it in wrong:
             print(it)
         passed, failed = passed + right, failed + len(wrong)
-    return passed, failed
+    edits = len(glob.glob(os.path.join(TOP, "crates", "*", "must-fail", "*.edit")))
+    with open(os.path.join(TOP, "README.md")) as page:
+        told = f"has {edits} deliberate errors" in page.read()
+    if not told:
+        print(f"README.md: there are {edits} edits that the prover must refuse")
+    return passed + told, failed + (not told)
 
 
 if __name__ == "__main__":

@@ -1,6 +1,6 @@
 /* The media side of an NVM Express controller: a namespace in memory that threads read and change through up to
- * ZK_MOST_PORTS ports. And the auditor, which judges the record of a run. Little-endian 64-bit machines. Link libnvm_c.a
- * and, for malloc and free, the toolchain's liblibc_c.a.
+ * ZK_MOST_PORTS ports. It also has the auditor, which judges the record of a run. Little-endian 64-bit machines. Link
+ * libnvm_c.a and, for malloc and free, the toolchain's liblibc_c.a.
  *
  * A thread works through a port. Open a namespace with one port for each thread (or queue, or reactor), and give
  * each thread its own. No call waits, blocks or starts a thread: where another port holds the atomic unit that a
@@ -67,7 +67,7 @@ enum zk_code {
     ZK_NO_VERSIONS = 15,  /* The namespace was opened without versions. */
     ZK_UNLAWFUL = 16,     /* The record is not lawful. */
     ZK_BAD_RECORD = 17,   /* The bytes are not those of a record file. */
-    ZK_SHORT_ROOM = 18    /* The line is longer than its room. */
+    ZK_SHORT_ROOM = 18    /* The line with its byte of 0 is longer than its room. */
 };
 
 /* A port. Its bytes are the library's own. */
@@ -158,14 +158,14 @@ int zk_read_now(struct zk_port *port, uint64_t slba, uint16_t nlb, uint8_t *data
 /* Room for any line that zk_audit writes. */
 #define ZK_LINE_BYTES 128
 
-/* Judges the record of a run by its file: whether each answer in it is one that a store that does one command at a time could have
- * given. `bytes` is the whole file, of either version, as `nvmu run` writes it; docs/FORMATS.md has its fields. `line` is room for
+/* Judges the record of a run by its file: whether in each atomic unit all answers together are those of a store that does one
+ * command at a time. A job that ended with 0/06 is excused: look at the number after `refused`. `bytes` is the whole file, of either version, as `nvmu run` writes it; docs/FORMATS.md has its fields. `line` is room for
  * a line of ASCII that ends with a newline and a byte of 0, ZK_LINE_BYTES at most.
  * ZK_DONE: the record is lawful, and the line says what was in it, as `nvmu audit` does:
  *     lawful jobs 7 units 2 changes 12 refused 0
  * ZK_UNLAWFUL: the line has its first fault, as `nvmu audit` prints it:
  *     unlawful DataWrong job 0 unit 1 place 8
- * ZK_BAD_RECORD: there is no record in these bytes, and the line says why, as `nvmu` does behind its name:
+ * ZK_BAD_RECORD: there is no record in these bytes, and the line says why, as `nvmu` does after its name:
  *     record: truncated at 100
  * ZK_SHORT_ROOM, ZK_NO_MEMORY: nothing was written. A line is never cut.
  * It takes some memory for each byte of the file, and gives it back. It starts no thread, and waits for nothing.

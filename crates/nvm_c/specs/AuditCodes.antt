@@ -1,4 +1,4 @@
--- The numbers by which C knows what an audit answers. Those of 0 and 4 are the numbers of other calls, too.
+-- The numbers by which C knows what an audit answers. 0 and 4 are codes of other calls, too.
 use Rattle.std.specs.Prelude.{ℤ, pos}
 use Rattle.nvm_c.specs.declared.audit_code.AuditCode.{AuditCode}
 use Rattle.nvm_c.specs.declared.audit_code.AuditCode.TheVariants.{Lawful, Unlawful, BadRecord, NoMemory, ShortRoom}

@@ -12,7 +12,7 @@ pub enum AuditCode {
     BadRecord,
     /// Memory was refused, and nothing is known.
     NoMemory,
-    /// The line is longer than its room.
+    /// The line with its byte of 0 is longer than its room.
     ShortRoom,
 }
 

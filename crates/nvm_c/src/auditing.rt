@@ -16,12 +16,12 @@ use std::alloc::{AllocError, Global};
 
 /// What is found in the bytes of a file, and its line.
 #[derive(Drop)]
-pub struct Found {
-    pub(crate) code: AuditCode,
-    pub(crate) line: Vec<u8>,
+pub(crate) struct Found {
+    code: AuditCode,
+    line: Vec<u8>,
 }
 
-/// Audits the record that the bytes are a file of, and writes the line of that with a byte of 0 behind it. Nothing is written where
+/// Audits the record that the bytes are a file of, and writes its line with a byte of 0 after it. Nothing is written where
 /// the room is too short.
 pub(crate) fn audited(alloc: Global, bytes: &[u8], room: &mut [u8]) -> AuditCode
     ensures { IsAudited bytes.now result room.old room.new }
@@ -44,20 +44,11 @@ pub(crate) fn audited(alloc: Global, bytes: &[u8], room: &mut [u8]) -> AuditCode
 fn finding_in(alloc: Global, bytes: &[u8]) -> Result<Found, NoMemory>
     ensures { IfOk result (λ found. IsFound bytes.now found.code found.line.items) }
 {
-    let file = copied(alloc, bytes)?;
+    let file = Payload::copy_of(alloc, bytes)?;
     match read_record(alloc, &file) {
         Ok(record) => ruling(alloc, &record),
         Err(fault) => unread(alloc, fault),
     }
-}
-
-/// The bytes as data of their own.
-fn copied(alloc: Global, bytes: &[u8]) -> Result<Payload, NoMemory>
-    ensures { IfOk result (λ p. p ≡ bytes.now) }
-{
-    let mut copy = Vec::with_capacity(alloc, bytes.len())?;
-    copy.extend_from_slice(bytes)?;
-    Payload::new(alloc, copy)
 }
 
 /// What is found of a record.
@@ -116,7 +107,7 @@ fn push_fault(line: &mut Vec<u8>, fault: RecordFault) -> Result<(), NoMemory>
     }
 }
 
-/// Appends the words, and the offset behind them.
+/// Appends the words, and the offset after them.
 fn push_offset(line: &mut Vec<u8>, words: &[u8], at: u64) -> Result<(), NoMemory>
     ensures { OnOk result (line.new.items ≡ line.old.items ++ (words.now ++ decimal at)) }
 {

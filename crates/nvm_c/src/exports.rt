@@ -1,4 +1,4 @@
-//! What C calls. Each export is the call that it stands for, at the engine of its handle.
+//! What C calls. Each export on a port is the call that it stands for, at the engine of its handle.
 ghost use Rattle.std.specs.Prelude.{◌≡◌};
 ghost use Rattle.nvm_c.specs.AuditCodes.{audit_number};
 ghost use Rattle.nvm_c.specs.Audited.{IsAudited};
@@ -7,7 +7,7 @@ ghost use Rattle.nvm_c.specs.Exports.{Closes, PollsAt, SubmitsAt};
 ghost use Rattle.nvm_c.specs.Identify.{IdentifiesAt};
 ghost use Rattle.nvm_c.specs.Opening.{Opens, numbers_of};
 ghost use Rattle.nvm_c.specs.ReadNow.{ReadsAt};
-ghost use Rattle.nvm_c.specs.declared.audit_code.AuditCode.{AuditCode as Ruling};
+ghost use Rattle.nvm_c.specs.declared.audit_code.AuditCode.{AuditCode as AuditAnswer};
 ghost use Rattle.nvm_c.specs.declared.code.Code.{Code as Answer};
 
 use crate::auditing::audited;
@@ -128,14 +128,6 @@ pub extern "C" fn zk_identify(alloc: Global, port: &mut Handle, buffer: &mut [u8
     identified(alloc, port, buffer).number()
 }
 
-/// Audits the record that the bytes are a file of, and writes the line of that with a byte of 0 behind it.
-#[unsafe(no_mangle)]
-pub extern "C" fn zk_audit(alloc: Global, bytes: &[u8], line: &mut [u8]) -> i32
-    ensures { (code : Ruling) × (result ≡ audit_number code) × IsAudited bytes.now code line.old line.new }
-{
-    audited(alloc, bytes, line).number()
-}
-
 fn identified(alloc: Global, port: &mut Handle, buffer: &mut [u8]) -> Code
     ensures { IdentifiesAt result port.old.held.engine port.new.held.engine buffer.old buffer.new }
 {
@@ -149,6 +141,16 @@ fn identified(alloc: Global, port: &mut Handle, buffer: &mut [u8]) -> Code
     }
     identify(geometry, buffer);
     Code::Done
+}
+
+/// Audits the record that the bytes are a file of, and writes its line with a byte of 0 after it. Answers 0 where the record is
+/// lawful, 16 where it isn't, and 17 where the bytes are no record's file. Nothing is written with 18, where the line with its byte of
+/// 0 is longer than the room, and with 4, where memory was refused.
+#[unsafe(no_mangle)]
+pub extern "C" fn zk_audit(alloc: Global, bytes: &[u8], line: &mut [u8]) -> i32
+    ensures { (code : AuditAnswer) × (result ≡ audit_number code) × IsAudited bytes.now code line.old line.new }
+{
+    audited(alloc, bytes, line).number()
 }
 
 fn closed(alloc: Global, port: &mut Handle) -> Code

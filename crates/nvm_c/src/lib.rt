@@ -1,5 +1,5 @@
-//! The live engine, for C: handles on the ports of a namespace, and jobs that are begun and polled by them. And the auditor, for
-//! the bytes of a record's file.
+//! The live engine, for C: handles on the ports of a namespace, and jobs that are begun and polled by them. It also has the auditor,
+//! for the bytes of a record's file.
 //!
 //! `include/zalkvorn.h` says to C what the exports are. Nothing here waits, wakes or starts a thread.
 #![tactic(auto)]
