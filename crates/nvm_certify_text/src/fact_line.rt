@@ -142,7 +142,10 @@ pub(crate) fn push_fact(
         }
         Fact::Nobody { reader, lba } => {
             let reader = name_at(names, reader);
-            write!(text, "{reader} found in LBA {lba} what nobody can have left there\n")
+            write!(
+                text,
+                "{reader} found in LBA {lba} what nobody can have left there\n"
+            )
         }
     }
 }

@@ -9,7 +9,9 @@ use std::test::Fail;
 fn each_job_is_one_command(rt: HostRuntime) -> Result<(), Fail> {
     let jobs = load_without_pairs(rt.alloc(), namespace()?, 7, 30, 1)?;
     assert_eq!(rt; jobs.len(), 30);
-    assert!(rt; jobs.iter().any(|job| matches!(job, Body::Single(command) if command.op == Op::Write)));
+    assert!(rt;
+        jobs.iter().any(|job| matches!(job, Body::Single(command) if command.op == Op::Write))
+    );
     Ok(())
 }
 
@@ -32,6 +34,9 @@ fn a_list_says_the_load(rt: HostRuntime) -> Result<(), Fail> {
         mix,
     };
     let list = list_of_load(rt.alloc(), &load, 1)?;
-    assert_eq!(rt; list.as_str(), "zeroes 8 8\nzeroes 0 8\nread 16 8\nzeroes 0 8\n");
+    assert_eq!(rt;
+        list.as_str(),
+        "zeroes 8 8\nzeroes 0 8\nread 16 8\nzeroes 0 8\n"
+    );
     Ok(())
 }
