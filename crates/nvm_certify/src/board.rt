@@ -72,7 +72,7 @@ impl Board {
             self.expect(step);
             for place in step.put.places() {
                 if !self.finds(step, place) {
-                    self.writers.raise(self.versions.of_cell(place));
+                    self.writers.increment(self.versions.of_cell(place));
                 }
             }
         }
@@ -125,10 +125,10 @@ impl Board {
     fn expect(&mut self, step: &UnitStep) {
         for place in step.found.places() {
             match step.reply {
-                Reply::Done => self.readers.raise(self.versions.of_cell(place)),
-                Reply::Open => self.hopes.raise(self.versions.of_cell(place)),
+                Reply::Done => self.readers.increment(self.versions.of_cell(place)),
+                Reply::Open => self.hopes.increment(self.versions.of_cell(place)),
                 Reply::Marked | Reply::Differs => {
-                    self.watched.raise(self.versions.block_of_cell(place));
+                    self.watched.increment(self.versions.block_of_cell(place));
                 }
             }
         }
@@ -138,10 +138,10 @@ impl Board {
     fn settle(&mut self, step: &UnitStep) {
         for place in step.found.places() {
             match step.reply {
-                Reply::Done => self.readers.lower(self.versions.of_cell(place)),
-                Reply::Open => self.hopes.lower(self.versions.of_cell(place)),
+                Reply::Done => self.readers.decrement(self.versions.of_cell(place)),
+                Reply::Open => self.hopes.decrement(self.versions.of_cell(place)),
                 Reply::Marked | Reply::Differs => {
-                    self.watched.lower(self.versions.block_of_cell(place));
+                    self.watched.decrement(self.versions.block_of_cell(place));
                 }
             }
         }
@@ -241,12 +241,25 @@ impl Board {
         true
     }
 
+    /// Whether a step looks for the value of a cell in its block, or failed there.
+    fn is_awaited(&self, place: u32) -> bool {
+        self.is_looked_for(self.versions.of_cell(place)) || self.is_watched(place)
+    }
+
     /// Whether the step puts something that isn't there now and that another looks for, or at whose block another failed.
     pub fn is_wanted(&self, step: &UnitStep) -> bool {
         for place in step.put.places() {
-            if !self.is_now(place)
-                && (self.is_looked_for(self.versions.of_cell(place)) || self.is_watched(place))
-            {
+            if !self.is_now(place) && self.is_awaited(place) {
+                return true;
+            }
+        }
+        false
+    }
+
+    /// Whether the step is wanted, now or after others.
+    pub fn may_be_wanted(&self, step: &UnitStep) -> bool {
+        for place in step.put.places() {
+            if self.is_awaited(place) {
                 return true;
             }
         }
@@ -277,7 +290,7 @@ impl Board {
             self.over.push(self.now.at(block))?;
             self.now.put(block, version);
             if !self.finds(step, place) {
-                self.writers.lower(version);
+                self.writers.decrement(version);
             }
             self.turns.take(version);
         }
@@ -294,7 +307,7 @@ impl Board {
             self.turns.put_back(version);
             self.now.put(self.versions.block_of_cell(place), before);
             if !self.finds(step, place) {
-                self.writers.raise(version);
+                self.writers.increment(version);
             }
         }
         self.expect(step);

@@ -4,10 +4,10 @@ ghost use Rattle.nvm_certify.specs.Tried.{IsRightlyTried};
 
 use crate::arguing::argument_for;
 use crate::certification::{Certification, Reached};
-use crate::finding::{Found, UnitOrder, found_in_units};
-use crate::making::Making;
+use crate::finding::{UnitOrder, UnitOrdering, orderings_of_units};
 use crate::numbers::Numbers;
 use crate::ordering::Stuck;
+use crate::record_bytes::RecordDraft;
 use crate::steps::{UnitSteps, skip_units};
 use crate::workers::workers_of;
 use nvm_audit::Record;
@@ -85,8 +85,8 @@ fn record_of<'t>(
     let Some(workers) = workers_of(alloc, orders, owners.len())? else {
         return Ok(None);
     };
-    let making = Making::new(alloc, &trace.geometry, owners, orders, &workers)?;
-    let bytes = Payload::new(alloc, making.bytes()?)?;
+    let draft = RecordDraft::new(alloc, &trace.geometry, owners, orders, &workers)?;
+    let bytes = Payload::new(alloc, draft.bytes()?)?;
     match read_record(alloc, &bytes) {
         Ok(run) => Ok(Some(run)),
         Err(RecordFault::NoMemory) => Err(AllocError),
@@ -116,10 +116,10 @@ fn try_once<'t, R: Threads + Sync>(
 {
     let mut orders = Vec::with_capacity(alloc, trace.geometry.units() as usize)?;
     let mut all_stuck = Vec::new(alloc);
-    for found in found_in_units(rt, alloc, trace, owners.as_slice(), skips, effort)? {
-        match found? {
-            Found::Order(order) => orders.push(order)?,
-            Found::Stuck(unit, stuck) => all_stuck.push((unit, stuck))?,
+    for ordering in orderings_of_units(rt, alloc, trace, owners.as_slice(), skips, effort)? {
+        match ordering? {
+            UnitOrdering::Ordered(order) => orders.push(order)?,
+            UnitOrdering::Stuck(unit, stuck) => all_stuck.push((unit, stuck))?,
         }
     }
     for (unit, stuck) in &all_stuck {
@@ -141,9 +141,10 @@ fn try_once<'t, R: Threads + Sync>(
 
 /// Whether a record explains the trace, and else whether an argument shows that none does.
 ///
-/// It searches for an order of each unit's steps, at most `effort` steps back in each unit, and makes a record of them; where a
-/// unit has none it searches for an argument there. Of a Read or a Compare over several units that failed it tries a few of the units
-/// in which it may have failed. `Unknown` is answered where neither was found, or where what was found wasn't taken by its
+/// It searches for an order of each unit's steps, at most `effort` steps back in each unit and try, and makes a record of them; where
+/// a unit has none it searches for an argument there. There are up to 4 tries: of a Read or a Compare over several units that failed
+/// each takes another of the units in which it may have failed. Where nothing was known of the blocks at first, each try is made with
+/// up to two guesses of what they held, and each guess has as many steps back. `Unknown` is answered where neither was found, or where what was found wasn't taken by its
 /// checker. `NoMemory` is answered where a growth was refused: nothing is known then.
 pub fn certify<R: Threads + Sync>(
     rt: &R,

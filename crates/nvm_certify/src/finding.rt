@@ -27,10 +27,10 @@ pub struct UnitOrder<'t> {
     pub steps: Vec<UnitStep>,
 }
 
-/// What is found in a unit.
+/// What a search for an order of a unit's steps found there.
 #[derive(Drop)]
-pub enum Found<'t> {
-    Order(UnitOrder<'t>),
+pub enum UnitOrdering<'t> {
+    Ordered(UnitOrder<'t>),
     /// No order. Where the search stopped among these steps.
     Stuck(UnitSteps, Stuck),
 }
@@ -79,7 +79,7 @@ impl<'t> UnitOrder<'t> {
 
 impl<'f, 't> Finding<'f, 't> {
     /// What is found in the unit of this number.
-    fn in_unit(&self, unit: u16) -> Result<Found<'t>, NoMemory> {
+    fn in_unit(&self, unit: u16) -> Result<UnitOrdering<'t>, NoMemory> {
         let alloc = self.alloc;
         let geometry = self.geometry;
         let pieces = match self.pieces.get(unit as usize) {
@@ -90,24 +90,25 @@ impl<'f, 't> Finding<'f, 't> {
         let steps = steps_of_unit(alloc, &geometry, unit, self.owners, pieces, &mut values)?;
         let fresh = values.fresh(geometry.block_size())?;
         match order_of(alloc, &steps, self.start, fresh, self.effort)? {
-            Ordering::Found(order) => {
-                Ok(Found::Order(UnitOrder::new(alloc, &steps, &values, &order)?))
+            Ordering::Ordered(order) => {
+                let order = UnitOrder::new(alloc, &steps, &values, &order)?;
+                Ok(UnitOrdering::Ordered(order))
             }
-            Ordering::Stuck(stuck) => Ok(Found::Stuck(steps, stuck)),
+            Ordering::Stuck(stuck) => Ok(UnitOrdering::Stuck(steps, stuck)),
         }
     }
 }
 
 /// What is found in each unit, in their order, from as many threads as there are processors. Of each look that failed, so many units are
 /// skipped in which it may have failed.
-pub fn found_in_units<'t, R: Threads + Sync>(
+pub fn orderings_of_units<'t, R: Threads + Sync>(
     rt: &R,
     alloc: Global,
     trace: &Trace,
     owners: &[Owner<'t>],
     skips: &Numbers,
     effort: u32,
-) -> Result<Vec<Result<Found<'t>, NoMemory>>, NoMemory> {
+) -> Result<Vec<Result<UnitOrdering<'t>, NoMemory>>, NoMemory> {
     let pieces = pieces_of_units(alloc, &trace.geometry, trace.start, owners, skips)?;
     let finding = Finding {
         alloc,
@@ -120,6 +121,6 @@ pub fn found_in_units<'t, R: Threads + Sync>(
     (0..trace.geometry.units())
         .into_par_iter()
         .with_min_len(1)
-        .map(|unit: u16| -> Result<Found, NoMemory> { finding.in_unit(unit) })
+        .map(|unit: u16| -> Result<UnitOrdering, NoMemory> { finding.in_unit(unit) })
         .collect(rt, alloc)
 }

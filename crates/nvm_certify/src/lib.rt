@@ -6,20 +6,21 @@
 #![tactic(auto)]
 
 mod arguing;
+mod beginning;
 mod board;
 mod bytes;
 mod certification;
 mod certifying;
 mod data;
 mod finding;
+mod hash;
 mod line;
-mod making;
 mod moments;
 mod numbers;
 mod ordering;
+mod record_bytes;
 mod search;
 mod steps;
-mod sum;
 mod times;
 mod values;
 mod workers;

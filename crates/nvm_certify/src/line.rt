@@ -37,6 +37,11 @@ impl Line {
         if next < self.count { Some(next) } else { None }
     }
 
+    /// Whether the number is in. It is below the count.
+    pub fn has(&self, number: u32) -> bool {
+        self.next.at(self.previous.at(number)) == number
+    }
+
     /// Takes a number out.
     pub fn take(&mut self, number: u32) {
         let previous = self.previous.at(number);

@@ -10,10 +10,7 @@ pub struct Moments {
 impl Moments {
     /// So many times, each this one.
     pub fn new(alloc: Global, count: usize, time: u64) -> Result<Moments, NoMemory> {
-        let mut items = Vec::with_capacity(alloc, count)?;
-        for _ in 0..count {
-            items.push(time)?;
-        }
+        let items = vec![in alloc; time; count]?;
         Ok(Moments { items })
     }
 

@@ -2,7 +2,7 @@ use nvm_record::NoMemory;
 use std::alloc::Global;
 
 /// A number as one of 32 bits. What is counted here are steps and blocks of a trace, of which there are fewer.
-pub fn short(number: usize) -> u32 {
+pub fn to_u32(number: usize) -> u32 {
     number.min(u32::MAX as usize) as u32
 }
 
@@ -15,10 +15,7 @@ pub struct Numbers {
 impl Numbers {
     /// So many numbers, each this one.
     pub fn new(alloc: Global, count: usize, number: u32) -> Result<Numbers, NoMemory> {
-        let mut items = Vec::with_capacity(alloc, count)?;
-        for _ in 0..count {
-            items.push(number)?;
-        }
+        let items = vec![in alloc; number; count]?;
         Ok(Numbers { items })
     }
 
@@ -43,13 +40,13 @@ impl Numbers {
     }
 
     /// Adds 1 to the number at the place.
-    pub fn raise(&mut self, place: u32) {
+    pub fn increment(&mut self, place: u32) {
         let number = self.at(place);
         self.put(place, number.saturating_add(1));
     }
 
     /// Takes 1 from the number at the place.
-    pub fn lower(&mut self, place: u32) {
+    pub fn decrement(&mut self, place: u32) {
         let number = self.at(place);
         self.put(place, number.saturating_sub(1));
     }

@@ -1,6 +1,6 @@
 use crate::board::{Board, Guess};
 use crate::certification::Reached;
-use crate::numbers::short;
+use crate::numbers::to_u32;
 use crate::search::Search;
 use crate::steps::{Cell, UnitSteps};
 use crate::times::{Times, by_beginning};
@@ -15,16 +15,6 @@ pub struct Order {
     pub steps: Vec<u32>,
     /// What the blocks hold at first, where that isn't zero bytes.
     pub first: Vec<Cell>,
-}
-
-impl Order {
-    /// The order of no steps.
-    pub fn empty(alloc: Global) -> Order {
-        Order {
-            steps: Vec::new(alloc),
-            first: Vec::new(alloc),
-        }
-    }
 }
 
 /// Where a search for an order stopped.
@@ -43,7 +33,7 @@ impl Stuck {
             reached: Reached {
                 unit,
                 placed,
-                steps: short(steps),
+                steps: to_u32(steps),
             },
             around,
         }
@@ -53,7 +43,7 @@ impl Stuck {
 /// What a search for an order found.
 #[derive(Debug, Drop)]
 pub enum Ordering {
-    Found(Order),
+    Ordered(Order),
     Stuck(Stuck),
 }
 
@@ -61,7 +51,7 @@ pub enum Ordering {
 fn first_lacking(board: &Board, unit: &UnitSteps) -> Option<u32> {
     for place in 0..unit.steps.len() {
         if board.lacks(&unit.steps[place]) {
-            return Some(short(place));
+            return Some(to_u32(place));
         }
     }
     None
@@ -84,7 +74,7 @@ fn order_by(
     let timed_steps = by_beginning(alloc, unit, &times)?;
     let mut search = Search::new(alloc, unit.unit, &timed_steps, board, effort)?;
     if search.run()? {
-        Ok(Ordering::Found(search.into_order()?))
+        Ok(Ordering::Ordered(search.into_order()?))
     } else {
         Ok(Ordering::Stuck(search.stuck()))
     }

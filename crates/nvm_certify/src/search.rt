@@ -1,9 +1,9 @@
+mod candidates;
 mod choices;
-mod window;
 
 use crate::board::Board;
 use crate::line::Line;
-use crate::numbers::short;
+use crate::numbers::to_u32;
 use crate::ordering::{Order, Stuck};
 use crate::search::choices::{Choice, Turn};
 use crate::steps::UnitStep;
@@ -13,10 +13,19 @@ use std::alloc::Global;
 
 /// A step that was put in order.
 #[derive(Clone, Copy, Debug)]
-struct Placed {
+struct PlacedStep {
     step: u32,
     /// The latest time at which a step before it began.
     latest: u64,
+    /// How many changes were given up before it.
+    given_up: usize,
+}
+
+/// When a change that may have been done has to be in order, if it is. They are ordered by time.
+#[derive(Clone, Copy, Debug, PartialEq, Eq, PartialOrd, Ord)]
+struct Deadline {
+    ended: u64,
+    step: u32,
 }
 
 /// A search for an order of a unit's steps.
@@ -29,16 +38,20 @@ pub struct Search<'u> {
     board: Board,
     /// Steps that have to be in order and aren't.
     needed: Line,
-    /// Steps that may be in order and aren't.
+    /// Steps that may be in order and aren't, but for those that were given up.
     open: Line,
+    /// Steps that may be in order and that nothing can call for any more, the last one at the end.
+    given_up: Vec<u32>,
+    /// Of all steps that may be in order and have ended.
+    deadlines: Vec<Deadline>,
     /// How many have to be in order and aren't.
     left: usize,
-    placed: Vec<Placed>,
+    placed: Vec<PlacedStep>,
     latest: u64,
     turns: Vec<Turn>,
     choices: Vec<Choice>,
     /// The steps that can be next, as far as time goes.
-    window: Vec<u32>,
+    candidates: Vec<u32>,
     /// The step among them whose command ended first.
     urgent: u32,
     /// How many steps may still be taken back.
@@ -55,7 +68,7 @@ impl<'u> Search<'u> {
         board: Board,
         effort: u32,
     ) -> Result<Search<'u>, NoMemory> {
-        let count = short(steps.len());
+        let count = to_u32(steps.len());
         let mut search = Search {
             alloc,
             unit,
@@ -63,24 +76,34 @@ impl<'u> Search<'u> {
             board,
             needed: Line::new(alloc, count)?,
             open: Line::new(alloc, count)?,
+            given_up: Vec::new(alloc),
+            deadlines: Vec::new(alloc),
             left: 0,
             placed: Vec::new(alloc),
             latest: 0,
             turns: Vec::new(alloc),
             choices: Vec::new(alloc),
-            window: Vec::new(alloc),
+            candidates: Vec::new(alloc),
             urgent: 0,
             effort,
             stuck: Stuck::new(unit, steps.len(), 0, 0),
         };
         for place in 0..steps.len() {
-            if steps[place].step.is_needed() {
-                search.open.take(short(place));
+            let step = steps[place].step;
+            if step.is_needed() {
+                search.open.take(to_u32(place));
                 search.left = search.left.saturating_add(1);
-            } else {
-                search.needed.take(short(place));
+                continue;
+            }
+            search.needed.take(to_u32(place));
+            if step.ended < u64::MAX {
+                search.deadlines.push(Deadline {
+                    ended: step.ended,
+                    step: to_u32(place),
+                })?;
             }
         }
+        search.deadlines.sort()?;
         Ok(search)
     }
 
@@ -97,9 +120,10 @@ impl<'u> Search<'u> {
             return Ok(());
         };
         self.board.do_step(step)?;
-        self.placed.push(Placed {
+        self.placed.push(PlacedStep {
             step: place,
             latest: self.latest,
+            given_up: self.given_up.len(),
         })?;
         self.latest = self.latest.max(step.began);
         if step.is_needed() {
@@ -111,11 +135,23 @@ impl<'u> Search<'u> {
         Ok(())
     }
 
-    /// Takes the last step back.
+    /// Gives up a change that nothing can call for any more, until the step that is last in order is taken back.
+    fn give_up(&mut self, place: u32) -> Result<(), NoMemory> {
+        self.given_up.push(place)?;
+        self.open.take(place);
+        Ok(())
+    }
+
+    /// Takes the last step back, and what was given up since.
     fn take_back(&mut self) {
         let Some(last) = self.placed.pop() else {
             return;
         };
+        for _ in last.given_up..self.given_up.len() {
+            if let Some(place) = self.given_up.pop() {
+                self.open.put_back(place);
+            }
+        }
         let Some(step) = self.step(last.step) else {
             return;
         };
@@ -134,8 +170,8 @@ impl<'u> Search<'u> {
         for _ in 0..self.steps.len() {
             let bound = self.look_around()?;
             let mut some = false;
-            for k in 0..self.window.len() {
-                let Some(place) = self.window.get(k) else {
+            for k in 0..self.candidates.len() {
+                let Some(place) = self.candidates.get(k) else {
                     continue;
                 };
                 let place = *place;
@@ -156,7 +192,7 @@ impl<'u> Search<'u> {
 
     /// Notes how far the search came.
     fn note_stuck(&mut self) {
-        let placed = short(self.placed.len());
+        let placed = to_u32(self.placed.len());
         if placed >= self.stuck.reached.placed {
             let around = match self.steps.get(self.urgent as usize) {
                 Some(timed) => timed.place,

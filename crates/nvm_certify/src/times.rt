@@ -3,7 +3,7 @@ mod timed;
 
 use crate::board::Board;
 use crate::moments::Moments;
-use crate::numbers::{Numbers, short};
+use crate::numbers::{Numbers, to_u32};
 use crate::steps::{Reply, UnitSteps};
 use nvm_record::NoMemory;
 use std::alloc::Global;
@@ -54,11 +54,11 @@ fn sole_writers(alloc: Global, unit: &UnitSteps, board: &Board) -> Result<Number
         let step = &unit.steps[place];
         for cell in step.put.places() {
             let version = board.versions.of_cell(cell);
-            count.raise(version);
+            count.increment(version);
             if step.reply != Reply::Done || board.finds(step, cell) {
-                count.raise(version);
+                count.increment(version);
             }
-            sole.put(version, short(place));
+            sole.put(version, to_u32(place));
         }
     }
     for version in 0..versions {
@@ -111,7 +111,7 @@ impl Times {
                 if self.writer(version).is_some() || board.is_only_first(version) {
                     self.uses.push(Use {
                         version,
-                        step: short(place),
+                        step: to_u32(place),
                     })?;
                 }
             }

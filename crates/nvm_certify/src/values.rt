@@ -1,6 +1,6 @@
 use crate::data::block_at;
-use crate::numbers::{Numbers, short};
-use crate::sum::sum_of;
+use crate::hash::hash_of;
+use crate::numbers::{Numbers, to_u32};
 use nvm_record::{BlockSize, NoMemory};
 use std::alloc::Global;
 
@@ -23,10 +23,10 @@ const FRESH: &[u8] = &[0xa5; 4096];
 #[derive(Drop)]
 pub struct Values<'t> {
     alloc: Global,
-    /// The bytes of each value, from the first one of other bytes on, and their sums.
+    /// The bytes of each value, from the first one of other bytes on, and their hashes.
     contents: Vec<&'t [u8]>,
-    sums: Vec<u64>,
-    /// Each value stands at the place that its sum leads to, or at the next one that was free. A power of 2 of places, or none.
+    hashes: Vec<u64>,
+    /// Each value stands at the place that its hash leads to, or at the next one that was free. A power of 2 of places, or none.
     table: Numbers,
 }
 
@@ -36,26 +36,26 @@ impl<'t> Values<'t> {
         Ok(Values {
             alloc,
             contents: Vec::new(alloc),
-            sums: Vec::new(alloc),
+            hashes: Vec::new(alloc),
             table: Numbers::new(alloc, 0, EMPTY)?,
         })
     }
 
     /// The value of the bytes.
     pub fn value_of(&mut self, bytes: &'t [u8]) -> Result<u32, NoMemory> {
-        let Some(sum) = sum_of(bytes) else {
+        let Some(hash) = hash_of(bytes) else {
             return Ok(ZERO);
         };
-        if let Some(value) = self.known(sum, bytes) {
+        if let Some(value) = self.known(hash, bytes) {
             return Ok(value);
         }
-        let value = short(self.contents.len().saturating_add(FIRST));
+        let value = to_u32(self.contents.len().saturating_add(FIRST));
         self.contents.push(bytes)?;
-        self.sums.push(sum)?;
+        self.hashes.push(hash)?;
         if self.contents.len() > self.table.len() / 2 {
             self.lay_out()?;
         } else {
-            self.enter(value, sum);
+            self.enter(value, hash);
         }
         Ok(value)
     }
@@ -72,39 +72,39 @@ impl<'t> Values<'t> {
         Some(*bytes)
     }
 
-    /// The place of the table to which a sum leads, so many places on.
-    fn place_of(&self, sum: u64, turn: u32) -> u32 {
-        let last = short(self.table.len()).saturating_sub(1);
-        ((sum >> 32) as u32).wrapping_add(turn) & last
+    /// The place of the table to which a hash leads, so many places on.
+    fn place_of(&self, hash: u64, turn: u32) -> u32 {
+        let last = to_u32(self.table.len()).saturating_sub(1);
+        ((hash >> 32) as u32).wrapping_add(turn) & last
     }
 
-    /// The value of bytes of this sum, if they have one.
-    fn known(&self, sum: u64, bytes: &[u8]) -> Option<u32> {
-        for turn in 0..short(self.table.len()) {
-            let value = self.table.at(self.place_of(sum, turn));
+    /// The value of bytes of this hash, if they have one.
+    fn known(&self, hash: u64, bytes: &[u8]) -> Option<u32> {
+        for turn in 0..to_u32(self.table.len()) {
+            let value = self.table.at(self.place_of(hash, turn));
             if value == EMPTY {
                 return None;
             }
-            if self.has(value, sum, bytes) {
+            if self.has(value, hash, bytes) {
                 return Some(value);
             }
         }
         None
     }
 
-    /// Whether the value is that of the bytes of this sum.
-    fn has(&self, value: u32, sum: u64, bytes: &[u8]) -> bool {
+    /// Whether the value is that of the bytes of this hash.
+    fn has(&self, value: u32, hash: u64, bytes: &[u8]) -> bool {
         let place = (value as usize).saturating_sub(FIRST);
-        match (self.sums.get(place), self.contents.get(place)) {
-            (Some(known), Some(content)) => *known == sum && *content == bytes,
+        match (self.hashes.get(place), self.contents.get(place)) {
+            (Some(known), Some(content)) => *known == hash && *content == bytes,
             _ => false,
         }
     }
 
-    /// Puts a value into the table, at the first free place for its sum.
-    fn enter(&mut self, value: u32, sum: u64) {
-        for turn in 0..short(self.table.len()) {
-            let place = self.place_of(sum, turn);
+    /// Puts a value into the table, at the first free place for its hash.
+    fn enter(&mut self, value: u32, hash: u64) {
+        for turn in 0..to_u32(self.table.len()) {
+            let place = self.place_of(hash, turn);
             if self.table.at(place) == EMPTY {
                 self.table.put(place, value);
                 return;
@@ -116,10 +116,10 @@ impl<'t> Values<'t> {
     fn lay_out(&mut self) -> Result<(), NoMemory> {
         let places = self.table.len().saturating_mul(2).max(FEW);
         self.table = Numbers::new(self.alloc, places, EMPTY)?;
-        for place in 0..self.sums.len() {
-            if let Some(sum) = self.sums.get(place) {
-                let sum = *sum;
-                self.enter(short(place.saturating_add(FIRST)), sum);
+        for place in 0..self.hashes.len() {
+            if let Some(hash) = self.hashes.get(place) {
+                let hash = *hash;
+                self.enter(to_u32(place.saturating_add(FIRST)), hash);
             }
         }
         Ok(())

@@ -1,5 +1,5 @@
 use crate::finding::UnitOrder;
-use crate::numbers::{Numbers, short};
+use crate::numbers::{Numbers, to_u32};
 use nvm_record::NoMemory;
 use std::alloc::Global;
 
@@ -35,14 +35,14 @@ impl<'o, 't> Dealing<'o, 't> {
         let mut counts = Numbers::new(alloc, pieces, 0)?;
         for order in orders {
             for step in &order.steps {
-                counts.raise(step.piece);
+                counts.increment(step.piece);
             }
         }
         let mut from = Numbers::new(alloc, 0, 0)?;
         let mut end = 0u32;
         for piece in 0..pieces {
             from.push(end)?;
-            end = end.saturating_add(counts.at(short(piece)));
+            end = end.saturating_add(counts.at(to_u32(piece)));
         }
         from.push(end)?;
         let mut units = Numbers::new(alloc, end as usize, 0)?;
@@ -50,8 +50,11 @@ impl<'o, 't> Dealing<'o, 't> {
         for unit in 0..orders.len() {
             for step in &orders[unit].steps {
                 let piece = step.piece;
-                units.put(from.at(piece).saturating_add(filled.at(piece)), short(unit));
-                filled.raise(piece);
+                units.put(
+                    from.at(piece).saturating_add(filled.at(piece)),
+                    to_u32(unit),
+                );
+                filled.increment(piece);
             }
         }
         Ok(Dealing {
@@ -109,7 +112,7 @@ impl<'o, 't> Dealing<'o, 't> {
             return Ok(());
         }
         self.seen.put(unit, mark);
-        self.next_in.raise(piece);
+        self.next_in.increment(piece);
         if self.next_in.at(piece) >= self.unit_count(piece) {
             self.taken.put(piece, 1);
             jobs.push(piece)?;
@@ -120,10 +123,10 @@ impl<'o, 't> Dealing<'o, 't> {
 
     /// Puts a piece off that is next in a unit from this one on. Says in which.
     fn put_off(&mut self, first: u32) -> Result<Option<u32>, NoMemory> {
-        let count = short(self.orders.len());
+        let count = to_u32(self.orders.len());
         for k in 0..count {
             let unit = (u64::from(first) + u64::from(k)) % u64::from(count.max(1));
-            let unit = short(unit as usize);
+            let unit = to_u32(unit as usize);
             if let Some(piece) = self.next_of(unit) {
                 self.taken.put(piece, 2);
                 self.look_at_units(piece)?;
@@ -137,7 +140,7 @@ impl<'o, 't> Dealing<'o, 't> {
     fn worker(&mut self, alloc: Global) -> Result<Vec<u32>, NoMemory> {
         let mut jobs = Vec::new(alloc);
         let mut from = 0;
-        for unit in 0..short(self.orders.len()) {
+        for unit in 0..to_u32(self.orders.len()) {
             self.at.put(unit, 0);
             self.seen.put(unit, 0);
             self.todo.push(unit)?;
@@ -158,7 +161,7 @@ impl<'o, 't> Dealing<'o, 't> {
     fn take_up(&mut self, pieces: usize) -> usize {
         let mut count = 0usize;
         for piece in 0..pieces {
-            let piece = short(piece);
+            let piece = to_u32(piece);
             self.next_in.put(piece, 0);
             if self.taken.at(piece) == 2 {
                 self.taken.put(piece, 0);

@@ -60,7 +60,7 @@ NoOtherPuts ns ps Before lba bytes reader writer =
 abbrev pub WasPut : Namespace → List Piece → (ℕ → ℕ → Type 0) → List ℕ → ℕ → ℕ → Type 0
 WasPut ns ps Before bytes reader lba = (bytes ≢ zero_bytes ns.block_size) ⊎ HasWriterBefore ns ps Before reader lba
 
--- What the reader found in the block was put there, and of the other pieces only the writer can have put it there before the reader.
+-- What the reader found in the block was put there, and of the other pieces none but the writer can have put it there before the reader.
 pub record IsSource (ns : Namespace) (ps : List Piece) (unit : ℕ) (Before : ℕ → ℕ → Type 0) (writer reader lba : ℕ) : Type 0 where
   pub bytes : List ℕ
   pub found : HasFound ns ps unit reader lba bytes

@@ -14,8 +14,8 @@ pub enum Fact {
         earlier: u32,
         later: u32,
     },
-    /// Of all other pieces only the writer can have put in the block what the reader found there: so the writer stands before the
-    /// reader. What it found isn't all zero, or a piece that surely put something there stands before it.
+    /// Of all other pieces none but the writer can have put in the block what the reader found there: so the writer stands before
+    /// the reader. What it found isn't all zero, or a piece that surely put something there stands before it.
     Source {
         writer: u32,
         reader: u32,

@@ -27,8 +27,8 @@ use nvm_record::laws::{
 };
 use nvm_trace::laws::explained_traces_are_runs;
 
-/// On a run of a unit's steps, each fact that its rule gives is right: no step stands before itself, and what a reader found was
-/// put there by a piece, or is zero bytes. So no argument contradicts a run.
+/// Where each fact of an argument is given by its rule and those before it, the facts contradict no run of a unit's steps: they put
+/// no step before itself, and none of them is of nobody.
 pub fn facts_hold_on_runs()
     ensures { (ns : Namespace) (ps : List Piece) (unit : ℕ) (facts : List FactView) → Run ns ps unit
         → ((n : ℕ) → IsGivenAt ns ps unit facts n) → ¬ (Contradicts facts (length facts)) }

@@ -111,8 +111,9 @@ fn is_zeroes(start: Start) -> bool
 
 /// Whether the argument refutes the trace: then no record explains it.
 ///
-/// For each fact it looks at the trace's pieces once, and it notes each two of them of which the one stands before the other, so
-/// an argument is best given for a short trace. Of errors nothing is proved: they say that it didn't take the argument.
+/// For each fact it looks at each of the trace's pieces. For each piece that can have put what was found it goes through the orders
+/// noted so far, and through all of them again for each that begins at that piece. It notes each two pieces of which the one stands
+/// before the other. So an argument is best given for a short trace. Of errors nothing is proved: they say that it didn't take the argument.
 /// `FactWrong` names the first fact that it doesn't take. After `NoMemory` nothing is known.
 pub fn refute(
     alloc: Global,

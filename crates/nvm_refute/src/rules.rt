@@ -59,7 +59,7 @@ fn has_found<'a>(
     found(geometry, &owners[reader], lba)
 }
 
-/// Whether what the reader found was put there, and of the other pieces only the writer can have put it there before the reader.
+/// Whether what the reader found was put there, and of the other pieces none but the writer can have put it there before the reader.
 fn is_source(
     geometry: &Geometry,
     owners: &Vec<Owner<'_>>,
@@ -99,7 +99,7 @@ fn is_overwritten(
         && is_sure_writer(geometry, owners, writer, lba)
 }
 
-/// Whether the reader found the zero bytes that were there at first.
+/// Whether the reader found the zero bytes that were there at first, and the writer surely put something there.
 fn is_first(
     geometry: &Geometry,
     owners: &Vec<Owner<'_>>,

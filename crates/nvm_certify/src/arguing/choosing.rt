@@ -25,14 +25,14 @@ struct Ground {
 
 /// The links from a step to those that it leads to, as far as they are found.
 #[derive(Drop)]
-struct Reached {
+struct Paths {
     /// For each step the link by which it was first found.
     by: Vec<Option<Link>>,
     /// The steps in the order in which they were found.
     steps: Vec<usize>,
 }
 
-impl Reached {
+impl Paths {
     /// Notes that the link leads to its later step.
     fn put(&mut self, link: Link) -> Result<(), NoMemory> {
         if let Some(by) = self.by.get_mut(link.later) {
@@ -81,7 +81,7 @@ fn path(
     to: usize,
 ) -> Result<Option<Vec<Link>>, NoMemory> {
     let places = window.steps.len();
-    let mut reached = Reached {
+    let mut paths = Paths {
         by: vec![in alloc; None; places]?,
         steps: Vec::new(alloc),
     };
@@ -89,7 +89,7 @@ fn path(
     for turn in 0..=places {
         let earlier = match turn.checked_sub(1) {
             None => from,
-            Some(index) => match reached.steps.get(index) {
+            Some(index) => match paths.steps.get(index) {
                 Some(step) => *step,
                 None => break,
             },
@@ -99,24 +99,24 @@ fn path(
             None => places,
         };
         for later in next..least {
-            reached.put(Link {
+            paths.put(Link {
                 earlier,
                 later,
                 derived: None,
             })?;
         }
         least = least.min(next);
-        put_derived(&mut reached, derivation, first, earlier)?;
-        if reached.has(to) {
+        put_derived(&mut paths, derivation, first, earlier)?;
+        if paths.has(to) {
             break;
         }
     }
-    reached.path(alloc, from, to)
+    paths.path(alloc, from, to)
 }
 
 /// Notes where the step leads by the first of what was derived.
 fn put_derived(
-    reached: &mut Reached,
+    paths: &mut Paths,
     derivation: &Derivation,
     first: usize,
     earlier: usize,
@@ -129,7 +129,7 @@ fn put_derived(
             break;
         }
         if let Some(derived) = derivation.derived.get(*index) {
-            reached.put(Link {
+            paths.put(Link {
                 earlier,
                 later: derived.later,
                 derived: Some(*index),

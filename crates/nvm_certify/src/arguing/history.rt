@@ -22,20 +22,12 @@ struct SurePut {
     soonest: usize,
 }
 
-/// When a step began. They are ordered by time and place.
-#[derive(Clone, Copy, PartialEq, Eq, PartialOrd, Ord)]
-struct Beginning {
-    began: u64,
-    step: usize,
-}
-
 /// A unit's steps, and what follows from each two of them alone.
 #[derive(Drop)]
 pub struct History<'a> {
     unit: &'a UnitSteps,
     puts: Vec<Put>,
     sure: Vec<SurePut>,
-    beginnings: Vec<Beginning>,
 }
 
 /// Where a search found its key, or where that would stand.
@@ -104,19 +96,6 @@ fn sure_puts_of(alloc: Global, unit: &UnitSteps) -> Result<Vec<SurePut>, NoMemor
     Ok(sure)
 }
 
-/// When each step began.
-fn beginnings_of(alloc: Global, unit: &UnitSteps) -> Result<Vec<Beginning>, NoMemory> {
-    let mut beginnings = Vec::new(alloc);
-    for (step, its) in unit.steps.iter().enumerate() {
-        beginnings.push(Beginning {
-            began: its.began,
-            step,
-        })?;
-    }
-    beginnings.sort()?;
-    Ok(beginnings)
-}
-
 impl<'a> History<'a> {
     /// The history of the unit's steps.
     pub fn new(alloc: Global, unit: &'a UnitSteps) -> Result<History<'a>, NoMemory> {
@@ -124,7 +103,6 @@ impl<'a> History<'a> {
             unit,
             puts: puts_of(alloc, unit)?,
             sure: sure_puts_of(alloc, unit)?,
-            beginnings: beginnings_of(alloc, unit)?,
         })
     }
 
@@ -143,12 +121,8 @@ impl<'a> History<'a> {
 
     /// The place from which on all steps began after this one had ended.
     pub fn next(&self, place: usize) -> usize {
-        place_of(
-            self.beginnings.binary_search(&Beginning {
-                began: end_of(self.unit, place),
-                step: usize::MAX,
-            }),
-        )
+        let ended = end_of(self.unit, place);
+        self.unit.steps.partition_point(|step| step.began <= ended)
     }
 
     /// Whether the one step had ended before the other began.

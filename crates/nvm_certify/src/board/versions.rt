@@ -1,4 +1,4 @@
-use crate::numbers::{Numbers, short};
+use crate::numbers::{Numbers, to_u32};
 use crate::steps::{Cell, UnitSteps};
 use crate::values::{MARK, ZERO};
 use nvm_record::NoMemory;
@@ -25,18 +25,18 @@ pub struct Versions {
 
 /// A cell with its place, in the order of blocks and values.
 #[derive(Clone, Copy, Debug, PartialEq, Eq, PartialOrd, Ord)]
-struct Placed {
+struct PlacedCell {
     cell: Cell,
     place: u32,
 }
 
 /// The cells in the order of blocks and values.
-fn in_order(alloc: Global, unit: &UnitSteps) -> Result<Vec<Placed>, NoMemory> {
+fn in_order(alloc: Global, unit: &UnitSteps) -> Result<Vec<PlacedCell>, NoMemory> {
     let mut placed = Vec::with_capacity(alloc, unit.cells.len())?;
     for place in 0..unit.cells.len() {
-        placed.push(Placed {
+        placed.push(PlacedCell {
             cell: unit.cells[place],
-            place: short(place),
+            place: to_u32(place),
         })?;
     }
     placed.sort()?;
@@ -62,7 +62,7 @@ impl Versions {
             if !is_known {
                 versions.zeroes.push(NONE)?;
             }
-            let block = short(versions.zeroes.len()).saturating_sub(1);
+            let block = to_u32(versions.zeroes.len()).saturating_sub(1);
             if last != Some(one.cell) {
                 versions.mark.push(u32::from(one.cell.value == MARK))?;
                 versions.home.push(block)?;
@@ -80,12 +80,12 @@ impl Versions {
 
     /// How many versions there are.
     pub fn count(&self) -> u32 {
-        short(self.home.len())
+        to_u32(self.home.len())
     }
 
     /// How many blocks there are.
     pub fn block_count(&self) -> u32 {
-        short(self.zeroes.len())
+        to_u32(self.zeroes.len())
     }
 
     /// The version of a cell.

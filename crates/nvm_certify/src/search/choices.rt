@@ -54,9 +54,9 @@ impl<'u> Search<'u> {
     }
 
     /// Those steps that have to be in order and can be next.
-    fn window_choices(&self) -> Result<Vec<Choice>, NoMemory> {
+    fn needed_choices(&self) -> Result<Vec<Choice>, NoMemory> {
         let mut choices = Vec::new(self.alloc);
-        for place in &self.window {
+        for place in &self.candidates {
             let Some(step) = self.step(*place) else {
                 continue;
             };
@@ -76,23 +76,32 @@ impl<'u> Search<'u> {
     /// The steps that can be next, those first that are tried first.
     fn choices(&mut self) -> Result<Vec<Choice>, NoMemory> {
         let bound = self.look_around()?;
-        let mut choices = self.window_choices()?;
+        let mut choices = self.needed_choices()?;
         self.put_open_choices(bound, &mut choices)?;
         choices.sort()?;
         Ok(choices)
     }
 
-    /// Puts those changes at the end that may have been done, can be next, and put what somebody has to find.
-    fn put_open_choices(&self, bound: u64, choices: &mut Vec<Choice>) -> Result<(), NoMemory> {
-        let mut last = None;
+    /// Puts those changes at the end that may have been done, can be next, and put what somebody has to find. Those are given up that
+    /// are too late by now, or that nobody can want any more.
+    fn put_open_choices(&mut self, bound: u64, choices: &mut Vec<Choice>) -> Result<(), NoMemory> {
+        let mut next = self.open.first();
         for _ in 0..self.steps.len() {
-            let Some((place, step)) = self.open_after(last, bound) else {
+            let Some(place) = next else {
                 break;
             };
-            if self.is_called_for(step) && self.can_change(step) {
+            let Some(step) = self.step(place) else {
+                break;
+            };
+            if step.began > bound {
+                break;
+            }
+            next = self.open.after(place);
+            if step.ended < self.latest || !self.board.may_be_wanted(step) {
+                self.give_up(place)?;
+            } else if self.board.is_wanted(step) && self.can_change(step) {
                 choices.push(self.change_choice(place, step))?;
             }
-            last = Some(place);
         }
         Ok(())
     }

@@ -1,32 +1,30 @@
 use crate::data::block_at;
-use crate::numbers::{Numbers, short};
+use crate::hash::is_zero;
+use crate::numbers::{Numbers, to_u32};
 use crate::steps::Reply;
 use crate::steps::lbas::{lbas_in, unit_of_cut};
 use crate::steps::replies::reply_of;
-use crate::sum::is_zero;
 use nvm_geometry::{Geometry, Piece};
 use nvm_plan::{Body, job_units};
 use nvm_record::{BlockSize, Command, NoMemory, Op};
 use nvm_trace::{Owner, Start};
 use std::alloc::Global;
 
-/// That a piece may put zero bytes, other bytes or a mark into a block.
-const ZEROES: u32 = 1;
+/// That a piece may put bytes other than zeroes into a block.
+const OTHERS: u32 = 1;
+/// That a piece may put a mark into a block.
+const MARKS: u32 = 2;
 
-const OTHERS: u32 = 2;
-
-const MARKS: u32 = 4;
-
-/// What pieces may put into each block.
+/// What pieces may put into each block, beside zeroes.
 #[derive(Drop)]
 pub struct Changes {
     start: Start,
     size: BlockSize,
-    /// Of each LBA the sum of these.
-    sums: Numbers,
+    /// Of each LBA the bits of these.
+    changes: Numbers,
 }
 
-/// What a piece may put into its blocks: nothing, or one of these.
+/// What a piece may put into its blocks: one of these, or nothing but zeroes.
 fn change_of(geometry: &Geometry, owner: &Owner<'_>) -> u32 {
     match reply_of(geometry, owner.whole) {
         Some(Reply::Done | Reply::Open) => {}
@@ -35,17 +33,12 @@ fn change_of(geometry: &Geometry, owner: &Owner<'_>) -> u32 {
     match &owner.whole.job.body {
         Body::Single(command) => match command.op {
             Op::Write => OTHERS,
-            Op::WriteZeroes | Op::Dataset { .. } => ZEROES,
             Op::WriteUncorrectable => MARKS,
+            Op::WriteZeroes | Op::Dataset { .. } => 0,
             Op::Read | Op::Compare | Op::Other(_) => 0,
         },
         Body::Pair(_, _) => OTHERS,
     }
-}
-
-/// Whether a sum of changes has this one.
-fn has_change(sum: u32, change: u32) -> bool {
-    change > 0 && sum / change % 2 == 1
 }
 
 impl Changes {
@@ -59,7 +52,7 @@ impl Changes {
         let mut changes = Changes {
             start,
             size: geometry.block_size(),
-            sums: Numbers::new(alloc, geometry.nsze() as usize, 0)?,
+            changes: Numbers::new(alloc, geometry.nsze() as usize, 0)?,
         };
         for owner in owners {
             let change = change_of(geometry, owner);
@@ -84,11 +77,8 @@ impl Changes {
             return;
         };
         for k in 0..u64::from(on.blocks) {
-            let lba = short(on.first.saturating_add(k) as usize);
-            let sum = self.sums.at(lba);
-            if !has_change(sum, change) {
-                self.sums.put(lba, sum.saturating_add(change));
-            }
+            let lba = to_u32(on.first.saturating_add(k) as usize);
+            self.changes.put(lba, self.changes.at(lba) | change);
         }
     }
 
@@ -96,15 +86,15 @@ impl Changes {
     pub fn may_fail(&self, command: &Command, on: Piece, reply: Reply) -> bool {
         for k in 0..u64::from(on.blocks) {
             let lba = on.first.saturating_add(k);
-            let sum = self.sums.at(short(lba as usize));
+            let changes = self.changes.at(to_u32(lba as usize));
             if reply == Reply::Marked {
-                if has_change(sum, MARKS) {
+                if changes & MARKS != 0 {
                     return true;
                 }
             } else {
                 let place = lba.saturating_sub(command.slba) as usize;
                 let bytes = block_at(command.payload.as_slice(), self.size, place);
-                if has_change(sum, OTHERS) || self.start == Start::Unknown || !is_zero(bytes) {
+                if changes & OTHERS != 0 || self.start == Start::Unknown || !is_zero(bytes) {
                     return true;
                 }
             }

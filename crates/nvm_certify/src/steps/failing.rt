@@ -1,5 +1,5 @@
 //! In which unit a look of several units failed. Which it was isn't told.
-use crate::numbers::{Numbers, short};
+use crate::numbers::{Numbers, to_u32};
 use crate::steps::Reply;
 use crate::steps::changes::Changes;
 use crate::steps::lbas::{lbas_in, leading};
@@ -53,7 +53,7 @@ pub fn skip_units(
             && job_part_count(geometry, &owner.whole.job) > 1
             && lbas_in(geometry, owner, unit).is_some()
         {
-            skips.raise(short(piece));
+            skips.increment(to_u32(piece));
             some = true;
         }
     }

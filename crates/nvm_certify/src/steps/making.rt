@@ -1,5 +1,5 @@
 use crate::data::block_at;
-use crate::numbers::short;
+use crate::numbers::to_u32;
 use crate::steps::contents::{Content, content_found, content_put};
 use crate::steps::lbas::{lbas_in, leading};
 use crate::steps::pieces::UnitPiece;
@@ -29,7 +29,7 @@ fn put_cells<'t>(
             Content::Mark => MARK,
         };
         cells.push(Cell {
-            lba: short(lba as usize),
+            lba: to_u32(lba as usize),
             value,
         })?;
     }
@@ -47,7 +47,7 @@ fn put_ranges(
     for place in 0..range_count(ranges) {
         if let Some(range) = LbaRange::at(ranges, place).cut(on.first, on.blocks) {
             for k in 0..u64::from(range.blocks) {
-                lbas.push(short(range.first.saturating_add(k) as usize))?;
+                lbas.push(to_u32(range.first.saturating_add(k) as usize))?;
             }
         }
     }
@@ -73,11 +73,11 @@ fn put_spans<'t>(
     on: Piece,
 ) -> Result<(Span, Span), NoMemory> {
     let command = leading(&owner.whole.job.body);
-    let from = short(cells.len());
+    let from = to_u32(cells.len());
     if let Some(content) = content_found(owner, reply) {
         put_cells(cells, values, size, command.slba, on, content)?;
     }
-    let between = short(cells.len());
+    let between = to_u32(cells.len());
     match command.op {
         Op::Dataset { deallocate: true } => {
             put_ranges(alloc, cells, command.payload.as_slice(), on)?;
@@ -88,7 +88,7 @@ fn put_spans<'t>(
             }
         }
     }
-    let to = short(cells.len());
+    let to = to_u32(cells.len());
     Ok((Span { from, to: between }, Span { from: between, to }))
 }
 

@@ -1,4 +1,5 @@
-use crate::numbers::{Numbers, short};
+use crate::beginning::Beginning;
+use crate::numbers::{Numbers, to_u32};
 use crate::steps::Reply;
 use crate::steps::changes::Changes;
 use crate::steps::failing::failing_unit;
@@ -18,20 +19,13 @@ pub struct UnitPiece {
     pub reply: Reply,
 }
 
-/// When a piece began, and its number. Their order is that in which pieces began.
-#[derive(Clone, Copy, Debug, PartialEq, Eq, PartialOrd, Ord)]
-struct Beginning {
-    began: u64,
-    piece: u32,
-}
-
 /// When each piece began, in that order.
 fn beginnings(alloc: Global, owners: &[Owner<'_>]) -> Result<Vec<Beginning>, NoMemory> {
     let mut order = Vec::with_capacity(alloc, owners.len())?;
     for piece in 0..owners.len() {
         order.push(Beginning {
             began: owners[piece].whole.began,
-            piece: short(piece),
+            number: to_u32(piece),
         })?;
     }
     order.sort()?;
@@ -104,7 +98,7 @@ pub fn pieces_of_units(
     }
     let changes = Changes::new(alloc, geometry, start, owners)?;
     for beginning in &beginnings(alloc, owners)? {
-        let piece = beginning.piece;
+        let piece = beginning.number;
         let Some(owner) = owners.get(piece as usize) else {
             continue;
         };

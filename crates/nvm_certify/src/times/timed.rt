@@ -1,4 +1,5 @@
-use crate::numbers::short;
+use crate::beginning::Beginning;
+use crate::numbers::to_u32;
 use crate::steps::{UnitStep, UnitSteps};
 use crate::times::Times;
 use nvm_record::NoMemory;
@@ -11,13 +12,6 @@ pub struct Timed {
     pub place: u32,
 }
 
-/// A step's beginning, by which steps are ordered.
-#[derive(Clone, Copy, Debug, PartialEq, Eq, PartialOrd, Ord)]
-struct Beginning {
-    from: u64,
-    place: u32,
-}
-
 /// The unit's steps with these times, in the order in which they can be done first.
 pub fn by_beginning(
     alloc: Global,
@@ -25,23 +19,23 @@ pub fn by_beginning(
     times: &Times,
 ) -> Result<Vec<Timed>, NoMemory> {
     let mut order = Vec::with_capacity(alloc, unit.steps.len())?;
-    for place in 0..short(unit.steps.len()) {
+    for place in 0..to_u32(unit.steps.len()) {
         order.push(Beginning {
-            from: times.from.at(place),
-            place,
+            began: times.from.at(place),
+            number: place,
         })?;
     }
     order.sort()?;
     let mut steps = Vec::with_capacity(alloc, unit.steps.len())?;
     for beginning in &order {
-        if let Some(step) = unit.steps.get(beginning.place as usize) {
+        if let Some(step) = unit.steps.get(beginning.number as usize) {
             steps.push(Timed {
                 step: UnitStep {
-                    began: beginning.from,
-                    ended: times.due.at(beginning.place),
+                    began: beginning.began,
+                    ended: times.due.at(beginning.number),
                     ..*step
                 },
-                place: beginning.place,
+                place: beginning.number,
             })?;
         }
     }

@@ -1,14 +1,14 @@
 //! What a record's workers did.
-use crate::bytes::{put_short, put_word};
+use crate::bytes::{put_u16, put_u32};
 use crate::data::block_at;
-use crate::making::Making;
-use crate::making::shares::DONE;
-use crate::numbers::short;
+use crate::numbers::to_u32;
+use crate::record_bytes::RecordDraft;
+use crate::record_bytes::shares::DONE;
 use nvm_plan::{Body, Plan, job_part_count, plan};
 use nvm_record::{NoMemory, Status, Statuses};
 use nvm_trace::{Cut, Owner};
 
-impl<'m, 't> Making<'m, 't> {
+impl<'m, 't> RecordDraft<'m, 't> {
     /// Puts what each worker did at the end. The first one begins with the pieces that have no step, and with the preparations.
     pub fn put_workers(&self, out: &mut Vec<u8>) -> Result<(), NoMemory> {
         for worker in 0..self.workers.len() {
@@ -16,7 +16,7 @@ impl<'m, 't> Making<'m, 't> {
             if worker == 0 {
                 self.put_first(out, pieces.len())?;
             } else {
-                put_word(out, short(pieces.len()))?;
+                put_u32(out, to_u32(pieces.len()))?;
             }
             for piece in pieces {
                 self.put_done(out, *piece)?;
@@ -28,7 +28,7 @@ impl<'m, 't> Making<'m, 't> {
     /// Puts how many jobs the first worker did at the end, of which so many are pieces with steps, and then the others.
     fn put_first(&self, out: &mut Vec<u8>, pieces: usize) -> Result<(), NoMemory> {
         let mut idle = Vec::new(self.alloc);
-        for piece in 0..short(self.owners.len()) {
+        for piece in 0..to_u32(self.owners.len()) {
             if self.shares.of(piece).is_empty() {
                 idle.push(piece)?;
             }
@@ -37,7 +37,7 @@ impl<'m, 't> Making<'m, 't> {
         for order in self.orders {
             count = count.saturating_add(order.first.len());
         }
-        put_word(out, short(count))?;
+        put_u32(out, to_u32(count))?;
         for piece in &idle {
             self.put_idle(out, *piece)?;
         }
@@ -46,11 +46,11 @@ impl<'m, 't> Making<'m, 't> {
 
     /// Puts the preparations at the end, as done.
     fn put_prepared(&self, out: &mut Vec<u8>) -> Result<(), NoMemory> {
-        let mut number = short(self.owners.len());
+        let mut number = to_u32(self.owners.len());
         for order in self.orders {
-            for point in 0..short(order.first.len()) {
-                put_word(out, number)?;
-                put_short(out, 1)?;
+            for point in 0..to_u32(order.first.len()) {
+                put_u32(out, number)?;
+                put_u16(out, 1)?;
                 put_part(out, order.unit, point, DONE)?;
                 put_statuses(out, Statuses::One(Status::SUCCESSFUL_COMPLETION))?;
                 out.push(0)?;
@@ -71,8 +71,8 @@ impl<'m, 't> Making<'m, 't> {
             Plan::Ready if job_part_count(self.geometry, job) == 0 => success_of(&job.body),
             Plan::Ready => without_memory(&job.body),
         };
-        put_word(out, piece)?;
-        put_short(out, 0)?;
+        put_u32(out, piece)?;
+        put_u16(out, 0)?;
         put_statuses(out, statuses)?;
         out.push(0)?;
         Ok(())
@@ -84,8 +84,8 @@ impl<'m, 't> Making<'m, 't> {
             return Ok(());
         };
         let shares = self.shares.of(piece);
-        put_word(out, piece)?;
-        put_short(out, shares.len().min(u16::MAX as usize) as u16)?;
+        put_u32(out, piece)?;
+        put_u16(out, shares.len().min(u16::MAX as usize) as u16)?;
         let mut is_success = true;
         for share in shares {
             put_part(out, share.unit, share.point, share.result)?;
@@ -119,8 +119,8 @@ impl<'m, 't> Making<'m, 't> {
 
 /// Puts a part at the end.
 fn put_part(out: &mut Vec<u8>, unit: u16, point: u32, end: u8) -> Result<(), NoMemory> {
-    put_short(out, unit)?;
-    put_word(out, point)?;
+    put_u16(out, unit)?;
+    put_u32(out, point)?;
     out.push(end)?;
     Ok(())
 }

@@ -1,7 +1,7 @@
 //! The jobs of a record.
-use crate::bytes::put_short;
+use crate::bytes::put_u16;
 use crate::data::data_on;
-use crate::making::Making;
+use crate::record_bytes::RecordDraft;
 use crate::steps::lbas_in;
 use nvm_geometry::Piece;
 use nvm_plan::Body;
@@ -35,11 +35,11 @@ fn preparation(alloc: Global, lba: u32, bytes: &[u8]) -> Result<Command, NoMemor
     })
 }
 
-impl<'m, 't> Making<'m, 't> {
+impl<'m, 't> RecordDraft<'m, 't> {
     /// Puts the pieces at the end, and then the preparations.
     pub fn put_jobs(&self, out: &mut Vec<u8>) -> Result<(), NoMemory> {
         for owner in self.owners {
-            put_short(out, owner.whole.job.host)?;
+            put_u16(out, owner.whole.job.host)?;
             match &owner.whole.job.body {
                 Body::Single(command) => {
                     out.push(0)?;
@@ -54,7 +54,7 @@ impl<'m, 't> Making<'m, 't> {
         }
         for order in self.orders {
             for block in &order.first {
-                put_short(out, 1)?;
+                put_u16(out, 1)?;
                 out.push(0)?;
                 push_spelling(out, &preparation(self.alloc, block.lba, block.bytes)?)?;
             }

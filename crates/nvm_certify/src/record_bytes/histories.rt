@@ -1,24 +1,24 @@
 //! The histories of a record's units.
-use crate::bytes::{put_long, put_short, put_word};
+use crate::bytes::{put_u16, put_u32, put_u64};
 use crate::data::data_on;
 use crate::finding::UnitOrder;
-use crate::making::Making;
-use crate::making::jobs::ranges_on;
-use crate::making::shares::{DONE, result_of};
-use crate::numbers::short;
+use crate::numbers::to_u32;
+use crate::record_bytes::RecordDraft;
+use crate::record_bytes::jobs::ranges_on;
+use crate::record_bytes::shares::{DONE, result_of};
 use crate::steps::{UnitStep, lbas_in, leading};
 use nvm_plan::Body;
 use nvm_record::{NoMemory, Op};
 
-/// The kinds of changes, by the numbers that a record's file has for them.
+/// A record's file has this number for the change that a Write makes.
 const WRITE: u8 = 1;
-
+/// For that of a Write Zeroes.
 const ZEROES: u8 = 2;
-
+/// For that of a Write Uncorrectable.
 const UNCORRECTABLE: u8 = 3;
-
+/// For that of a fused pair.
 const PAIR: u8 = 4;
-
+/// For that of a Deallocate.
 const DEALLOCATE: u8 = 5;
 
 /// The kind of the change that a piece of such a job makes, whose leading command is of this opcode.
@@ -31,7 +31,7 @@ fn kind_of(body: &Body, op: Op) -> u8 {
     }
 }
 
-impl<'m, 't> Making<'m, 't> {
+impl<'m, 't> RecordDraft<'m, 't> {
     /// Whether the step makes a change.
     fn is_change(&self, step: &UnitStep) -> bool {
         result_of(self.owners.as_slice(), step) == DONE
@@ -39,7 +39,7 @@ impl<'m, 't> Making<'m, 't> {
 
     /// How many changes there are in a unit.
     pub fn change_count(&self, order: &UnitOrder<'t>) -> u32 {
-        let mut count = short(order.first.len());
+        let mut count = to_u32(order.first.len());
         for step in &order.steps {
             if self.is_change(step) {
                 count = count.saturating_add(1);
@@ -50,15 +50,15 @@ impl<'m, 't> Making<'m, 't> {
 
     /// Puts the changes of each unit at the end.
     pub fn put_histories(&self, out: &mut Vec<u8>) -> Result<(), NoMemory> {
-        let mut number = short(self.owners.len());
+        let mut number = to_u32(self.owners.len());
         for order in self.orders {
-            put_word(out, self.change_count(order))?;
+            put_u32(out, self.change_count(order))?;
             for block in &order.first {
-                put_short(out, 0)?;
-                put_word(out, number)?;
+                put_u16(out, 0)?;
+                put_u32(out, number)?;
                 out.push(WRITE)?;
-                put_long(out, u64::from(block.lba))?;
-                put_word(out, 1)?;
+                put_u64(out, u64::from(block.lba))?;
+                put_u32(out, 1)?;
                 out.extend_from_slice(block.bytes)?;
                 number = number.saturating_add(1);
             }
@@ -79,8 +79,8 @@ impl<'m, 't> Making<'m, 't> {
         let Some(on) = lbas_in(self.geometry, owner, unit) else {
             return Ok(());
         };
-        put_short(out, self.who.at(step.piece).min(63) as u16)?;
-        put_word(out, step.piece)?;
+        put_u16(out, self.who.at(step.piece).min(63) as u16)?;
+        put_u32(out, step.piece)?;
         let size = self.geometry.block_size();
         let body = &owner.whole.job.body;
         let command = leading(body);
@@ -88,16 +88,16 @@ impl<'m, 't> Making<'m, 't> {
         if command.op.carries_ranges() {
             let ranges = ranges_on(self.alloc, bytes, on)?;
             out.push(DEALLOCATE)?;
-            put_short(out, ranges.len().min(256) as u16)?;
+            put_u16(out, ranges.len().min(256) as u16)?;
             for range in &ranges {
-                put_long(out, range.first)?;
-                put_word(out, range.blocks)?;
+                put_u64(out, range.first)?;
+                put_u32(out, range.blocks)?;
             }
             return Ok(());
         }
         out.push(kind_of(body, command.op))?;
-        put_long(out, on.first)?;
-        put_word(out, on.blocks)?;
+        put_u64(out, on.first)?;
+        put_u32(out, on.blocks)?;
         out.extend_from_slice(data_on(bytes, size, command.slba, on))?;
         if let Body::Pair(_, second) = body {
             out.extend_from_slice(data_on(second.payload.as_slice(), size, second.slba, on))?;

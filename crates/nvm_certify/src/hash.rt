@@ -8,24 +8,24 @@ fn mixed(number: u64) -> u64 {
 }
 
 /// A number that equal bytes share, and other bytes hardly ever. All bytes 0 have none.
-pub fn sum_of(bytes: &[u8]) -> Option<u64> {
+pub fn hash_of(bytes: &[u8]) -> Option<u64> {
     let (words, rest) = bytes.as_chunks::<8>();
-    let mut sum = FACTOR;
+    let mut hash = FACTOR;
     let mut some = 0;
     for word in words {
         let number = u64::from_le_bytes(*word);
         some |= number;
-        sum = mixed(sum ^ number);
+        hash = mixed(hash ^ number);
     }
     for byte in rest {
         let number = u64::from(*byte);
         some |= number;
-        sum = mixed(sum ^ number);
+        hash = mixed(hash ^ number);
     }
-    if some == 0 { None } else { Some(sum) }
+    if some == 0 { None } else { Some(hash) }
 }
 
 /// Whether all bytes are 0.
 pub fn is_zero(bytes: &[u8]) -> bool {
-    sum_of(bytes).is_none()
+    hash_of(bytes).is_none()
 }

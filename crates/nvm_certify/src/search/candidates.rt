@@ -7,7 +7,7 @@ impl<'u> Search<'u> {
     /// Finds the steps that can be next as far as time goes: those whose commands began before any other that has to be in order had
     /// ended. Gives the end of the one that ended first.
     pub fn look_around(&mut self) -> Result<u64, NoMemory> {
-        self.window.clear();
+        self.candidates.clear();
         let mut bound = u64::MAX;
         let mut next = self.needed.first();
         for _ in 0..self.steps.len() {
@@ -20,34 +20,14 @@ impl<'u> Search<'u> {
             if step.began > bound {
                 break;
             }
-            if step.ended < bound || self.window.is_empty() {
+            if step.ended < bound || self.candidates.is_empty() {
                 bound = step.ended;
                 self.urgent = place;
             }
-            self.window.push(place)?;
+            self.candidates.push(place)?;
             next = self.needed.after(place);
         }
         Ok(bound)
-    }
-
-    /// The change that may have been done and isn't in order, after this one, if it began by then.
-    pub fn open_after(&self, last: Option<u32>, bound: u64) -> Option<(u32, &'u UnitStep)> {
-        let next = match last {
-            Some(last) => self.open.after(last),
-            None => self.open.first(),
-        };
-        let place = next?;
-        let step = self.step(place)?;
-        if step.began > bound {
-            None
-        } else {
-            Some((place, step))
-        }
-    }
-
-    /// Whether the change may still be done, and puts what somebody has to see.
-    pub fn is_called_for(&self, change: &UnitStep) -> bool {
-        change.ended >= self.latest && self.board.is_wanted(change)
     }
 
     /// Whether the step can be next without making any order impossible that is possible now: a look that is right now, or a change
@@ -58,17 +38,28 @@ impl<'u> Search<'u> {
             && !self.is_too_soon(step)
     }
 
+    /// Where the deadlines from the latest beginning of a step in order on stand.
+    fn first_deadline(&self) -> usize {
+        let latest = self.latest;
+        self.deadlines
+            .partition_point(|deadline| deadline.ended < latest)
+    }
+
     /// Whether a change that may have been done, and that somebody may have to see, would come too late after the step.
     fn is_too_soon(&self, step: &UnitStep) -> bool {
-        let mut last = None;
-        for _ in 0..self.steps.len() {
-            let Some((place, change)) = self.open_after(last, step.began) else {
-                return false;
-            };
-            if change.ended < step.began && self.is_called_for(change) {
-                return true;
+        for n in self.first_deadline()..self.deadlines.len() {
+            let deadline = self.deadlines[n];
+            if deadline.ended >= step.began {
+                break;
             }
-            last = Some(place);
+            if self.open.has(deadline.step) {
+                match self.step(deadline.step) {
+                    Some(change) if change.began <= step.began && self.board.is_wanted(change) => {
+                        return true;
+                    }
+                    _ => {}
+                }
+            }
         }
         false
     }

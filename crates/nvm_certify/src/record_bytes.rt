@@ -3,10 +3,10 @@ mod jobs;
 mod shares;
 mod work;
 
-use crate::bytes::{put_long, put_short, put_word};
+use crate::bytes::{put_u16, put_u32, put_u64};
 use crate::finding::UnitOrder;
-use crate::making::shares::Shares;
-use crate::numbers::{Numbers, short};
+use crate::numbers::{Numbers, to_u32};
+use crate::record_bytes::shares::Shares;
 use nvm_geometry::Geometry;
 use nvm_record::NoMemory;
 use nvm_trace::Owner;
@@ -17,7 +17,7 @@ use std::alloc::Global;
 /// Its first jobs are the pieces of the trace's commands. Behind them there is a Write of one block for the first contents of each block
 /// that aren't zero bytes.
 #[derive(Drop)]
-pub struct Making<'m, 't> {
+pub struct RecordDraft<'m, 't> {
     alloc: Global,
     geometry: &'m Geometry,
     owners: &'m Vec<Owner<'t>>,
@@ -40,13 +40,13 @@ fn workers_by_piece(
     let mut who = Numbers::new(alloc, pieces, 0)?;
     for worker in 0..workers.len() {
         for piece in &workers[worker] {
-            who.put(*piece, short(worker));
+            who.put(*piece, to_u32(worker));
         }
     }
     Ok(who)
 }
 
-impl<'m, 't> Making<'m, 't> {
+impl<'m, 't> RecordDraft<'m, 't> {
     /// A record of these pieces, of which each is done by one of these workers.
     pub fn new(
         alloc: Global,
@@ -54,8 +54,8 @@ impl<'m, 't> Making<'m, 't> {
         owners: &'m Vec<Owner<'t>>,
         orders: &'m Vec<UnitOrder<'t>>,
         workers: &'m Vec<Vec<u32>>,
-    ) -> Result<Making<'m, 't>, NoMemory> {
-        Ok(Making {
+    ) -> Result<RecordDraft<'m, 't>, NoMemory> {
+        Ok(RecordDraft {
             alloc,
             geometry,
             owners,
@@ -84,14 +84,14 @@ impl<'m, 't> Making<'m, 't> {
             jobs = jobs.saturating_add(order.first.len());
         }
         out.extend_from_slice(b"NVR2")?;
-        put_long(out, self.geometry.nsze())?;
-        put_word(out, self.geometry.block_size().bytes())?;
-        put_short(out, self.geometry.nabsn())?;
-        put_short(out, self.geometry.nabo())?;
-        put_short(out, self.geometry.nawun())?;
-        put_short(out, self.geometry.nacwu())?;
-        put_word(out, limit)?;
-        put_short(out, self.workers.len().min(64) as u16)?;
-        put_word(out, short(jobs))
+        put_u64(out, self.geometry.nsze())?;
+        put_u32(out, self.geometry.block_size().bytes())?;
+        put_u16(out, self.geometry.nabsn())?;
+        put_u16(out, self.geometry.nabo())?;
+        put_u16(out, self.geometry.nawun())?;
+        put_u16(out, self.geometry.nacwu())?;
+        put_u32(out, limit)?;
+        put_u16(out, self.workers.len().min(64) as u16)?;
+        put_u32(out, to_u32(jobs))
     }
 }

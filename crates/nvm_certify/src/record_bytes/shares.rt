@@ -1,17 +1,17 @@
 use crate::finding::UnitOrder;
-use crate::numbers::{Numbers, short};
+use crate::numbers::{Numbers, to_u32};
 use crate::steps::{Reply, UnitStep};
 use nvm_plan::Body;
 use nvm_record::NoMemory;
 use nvm_trace::Owner;
 use std::alloc::Global;
 
-/// How a piece's part in a unit ended, by the number that a record's file has for it.
+/// A record's file has this number for a part in a unit that made a change.
 pub const DONE: u8 = 1;
-
-pub const FAILED: u8 = 2;
-
-pub const LOOKED: u8 = 3;
+/// For that of a pair whose comparison failed.
+const FAILED: u8 = 2;
+/// For that of a look.
+const LOOKED: u8 = 3;
 
 /// What a piece does in a unit.
 #[derive(Clone, Copy, Debug, PartialEq, Eq, PartialOrd, Ord)]
@@ -50,10 +50,10 @@ pub fn result_of(owners: &[Owner<'_>], step: &UnitStep) -> u8 {
 fn firsts(alloc: Global, pieces: usize, shares: &[Share]) -> Result<Numbers, NoMemory> {
     let mut from = Numbers::new(alloc, pieces.saturating_add(1), 0)?;
     for share in shares {
-        from.raise(share.piece.saturating_add(1));
+        from.increment(share.piece.saturating_add(1));
     }
     let mut end = 0u32;
-    for piece in 0..short(from.len()) {
+    for piece in 0..to_u32(from.len()) {
         end = end.saturating_add(from.at(piece));
         from.put(piece, end);
     }
@@ -69,7 +69,7 @@ impl Shares {
     ) -> Result<Shares, NoMemory> {
         let mut items = Vec::new(alloc);
         for order in orders {
-            let mut point = short(order.first.len());
+            let mut point = to_u32(order.first.len());
             for step in &order.steps {
                 let result = result_of(owners, step);
                 items.push(Share {
