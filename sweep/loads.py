@@ -1,6 +1,7 @@
 """A plain model of the lists that `nvq generate` writes: of its random numbers, its stamps and its commands."""
 
 from dataclasses import dataclass, field
+from functools import cache
 
 from model import Namespace
 
@@ -16,18 +17,27 @@ def rotated(word, by):
     return (word << by | word >> 64 - by) & WORD
 
 
-class Dice:
-    """The numbers of a host: xoshiro256++, whose four words are the first of SplitMix64 from the seed, a jump ahead for each host."""
+@cache
+def begin_of(seed, host):
+    """The words with which a host's numbers begin: for host 0 the first four of SplitMix64 from the seed, and a jump ahead for each host."""
+    if host > 0:
+        dice = Dice(begin_of(seed, host - 1))
+        dice.jump()
+        return dice.words
+    words = []
+    for _ in range(4):
+        seed = (seed + 0x9E3779B97F4A7C15) & WORD
+        word = (seed ^ seed >> 30) * 0xBF58476D1CE4E5B9 & WORD
+        word = (word ^ word >> 27) * 0x94D049BB133111EB & WORD
+        words.append(word ^ word >> 31)
+    return words
 
-    def __init__(self, seed, host):
-        self.words = []
-        for _ in range(4):
-            seed = (seed + 0x9E3779B97F4A7C15) & WORD
-            word = (seed ^ seed >> 30) * 0xBF58476D1CE4E5B9 & WORD
-            word = (word ^ word >> 27) * 0x94D049BB133111EB & WORD
-            self.words.append(word ^ word >> 31)
-        for _ in range(host):
-            self.jump()
+
+class Dice:
+    """The numbers of xoshiro256++ from these four words on."""
+
+    def __init__(self, words):
+        self.words = words
 
     def step(self):
         a, b, c, d = self.words
@@ -74,7 +84,7 @@ class Host:
 
     def __init__(self, load, number):
         self.load, self.number = load, number
-        self.dice, self.written = Dice(load.seed, number), None
+        self.dice, self.written = Dice(begin_of(load.seed, number)), None
 
     def kind(self):
         left = self.dice.below(max(1, sum(self.load.weights.values())))
@@ -85,7 +95,7 @@ class Host:
         return "read"
 
     def blocks(self):
-        """The first block and how many: three of four times a whole unit."""
+        """The first block and how many: three in four times a whole unit, or as much of one as a command may have."""
         space = self.load.space
         lba = self.dice.below(space.nsze)
         most = min(space.nawun + 1, MOST_BLOCKS)

@@ -8,6 +8,7 @@ use nvm_file::write_record;
 use std::fs::{Metadata, OpenFile};
 use std::io::{ErrorKind, Read, Write};
 use std::os::unix::fs::MetadataExt;
+use std::path::Path;
 use std::rt::Files;
 use std::{fs, io};
 
@@ -142,12 +143,55 @@ pub fn is_output<R: Files>(rt: &R, out: &str) -> Result<bool, FileFault> {
     is_one_file(rt, out, "/dev/stdout")
 }
 
+/// Whether what would be written to two paths goes to one place: to one path, to one regular file, or to one name in one folder
+/// where nothing stands yet. `-` is standard output here. A link that leads to nothing is told apart from what it leads to.
+/// `NoMemory` is the only fault.
+pub fn is_one_output<R: Files>(rt: &R, out: &str, other: &str) -> Result<bool, FileFault> {
+    if out == other {
+        Ok(true)
+    } else if out == STANDARD {
+        is_output(rt, other)
+    } else if other == STANDARD {
+        is_output(rt, out)
+    } else {
+        Ok(is_one_file(rt, out, other)? || is_one_name(rt, out, other)?)
+    }
+}
+
 /// Whether one regular file stands at both paths.
 fn is_one_file<R: Files>(rt: &R, out: &str, other: &str) -> Result<bool, FileFault> {
     let (Some(out), Some(other)) = (standing(rt, out)?, standing(rt, other)?) else {
         return Ok(false);
     };
-    Ok(out.is_file() && out.dev() == other.dev() && out.ino() == other.ino())
+    Ok(out.is_file() && is_same(&out, &other))
+}
+
+/// Whether both paths are of one name in one folder, and nothing stands there.
+fn is_one_name<R: Files>(rt: &R, out: &str, other: &str) -> Result<bool, FileFault> {
+    let out = Path::new(out);
+    let other = Path::new(other);
+    if out.file_name() != other.file_name() || standing(rt, out.as_str())?.is_some() {
+        return Ok(false);
+    }
+    match (
+        standing(rt, folder_of(out))?,
+        standing(rt, folder_of(other))?,
+    ) {
+        (Some(out), Some(other)) => Ok(is_same(&out, &other)),
+        _ => Ok(false),
+    }
+}
+
+/// The folder in which a path has its last name.
+fn folder_of<'a>(path: Path<'a>) -> &'a str {
+    match path.parent() {
+        Some(folder) if !folder.as_str().is_empty() => folder.as_str(),
+        _ => ".",
+    }
+}
+
+fn is_same(one: &Metadata, other: &Metadata) -> bool {
+    one.dev() == other.dev() && one.ino() == other.ino()
 }
 
 /// What stands at a path, or where its links lead.

@@ -18,7 +18,9 @@ mod words;
 
 pub use content::Content;
 pub use failure::{Failure, failed};
-pub use files::{FileFault, STANDARD, is_input, is_output, is_read, read_input, write, write_run};
+pub use files::{
+    FileFault, STANDARD, is_input, is_one_output, is_output, is_read, read_input, write, write_run,
+};
 pub use hint::{
     VERSIONS, no_host_file, no_list, no_namespace, no_record, no_trace, other_block, refusal,
 };

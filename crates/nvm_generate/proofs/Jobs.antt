@@ -16,7 +16,7 @@ use Rattle.nvm_plan.specs.Ready.{IsReady}
 use Rattle.nvm_plan.specs.declared.job.Body.{Body}
 use Rattle.nvm_plan.specs.declared.job.Body.TheVariants.{Single}
 use Rattle.nvm_plan.specs.declared.job.Job.{Job}
-use Rattle.nvm_generate.specs.Load.{IsJobOf, IsLoad}
+use Rattle.nvm_generate.specs.Load.{IsJobOfLoad, AreJobsOfLoad}
 use Rattle.nvm_generate.specs.declared.load.Load.{Load}
 use Rattle.nvm_generate.proofs.Counting.{range_join}
 
@@ -37,7 +37,7 @@ cids_more jobs job before so_far here =
 abbrev pub ReadyUnrefused : Type 0
 ReadyUnrefused = (ns : Namespace) (job : Job) → refusal_of ns job ≡ None → IsReady ns job
 
-alone : ReadyUnrefused → (load : Load) (host : ℕ) (c d : Command) → IsJobOf load host (Single c) → IsFusedPair c d → ⊥
+alone : ReadyUnrefused → (load : Load) (host : ℕ) (c d : Command) → IsJobOfLoad load host (Single c) → IsFusedPair c d → ⊥
 alone ready load host c d job fused =
     let normal = (ready load.geometry (record { host = host; body = Single c }) job.served).fuse in cc (normal, fused.first)
 
@@ -45,24 +45,24 @@ middle : {X : Type 0} (P : X → Type 0) (before : List X) (x : X) (after : List
 middle P before x after all =
     subst P (get_or-append_seam before x after x) (all (length before) x (omega (arith, length-append before (x ∷ after))))
 
-pub paired : ReadyUnrefused → (load : Load) (host : ℕ) (jobs : List Body) → All (IsJobOf load host) jobs → IsPairing (flat_map commands_of jobs) jobs
+pub paired : ReadyUnrefused → (load : Load) (host : ℕ) (jobs : List Body) → All (IsJobOfLoad load host) jobs → IsPairing (flat_map commands_of jobs) jobs
 paired ready load host jobs all = record {
   whole = refl;
   paired = λ k d lt. (all k d lt).pair;
   alone = λ before c d after e fused.
-      alone ready load host c d (middle (IsJobOf load host) before (Single c) (Single d ∷ after) (subst (All (IsJobOf load host)) e all)) fused;
+      alone ready load host c d (middle (IsJobOfLoad load host) before (Single c) (Single d ∷ after) (subst (All (IsJobOfLoad load host)) e all)) fused;
 }
 
 -- each command of each job is as the jobs' are
-pub all_whole : (load : Load) (host : ℕ) (jobs : List Body) → All (IsJobOf load host) jobs
+pub all_whole : (load : Load) (host : ℕ) (jobs : List Body) → All (IsJobOfLoad load host) jobs
     → All (IsWhole load.geometry.block_size) (flat_map commands_of jobs)
 all_whole load host [] all = All-nil (IsWhole load.geometry.block_size)
 all_whole load host (job ∷ jobs) all =
-    let here : IsJobOf load host job = All-head (IsJobOf load host) job jobs all in
+    let here : IsJobOfLoad load host job = All-head (IsJobOfLoad load host) job jobs all in
     let whole : All (IsWhole load.geometry.block_size) (commands_of job) = λ k d lt. (here.commands k d lt).whole in
-    All-append (IsWhole load.geometry.block_size) (commands_of job) (flat_map commands_of jobs) whole (all_whole load host jobs (All-tail (IsJobOf load host) job jobs all))
+    All-append (IsWhole load.geometry.block_size) (commands_of job) (flat_map commands_of jobs) whole (all_whole load host jobs (All-tail (IsJobOfLoad load host) job jobs all))
 
 -- there are as many commands as the load says
-pub as_many : (load : Load) (host : ℕ) (jobs : List Body) → IsLoad load host jobs → length (flat_map commands_of jobs) ≡ load.commands
+pub as_many : (load : Load) (host : ℕ) (jobs : List Body) → AreJobsOfLoad load host jobs → length (flat_map commands_of jobs) ≡ load.commands
 as_many load host jobs is =
     sym (length-map (flat_map commands_of jobs) (λ (c : Command). c.cid)) ∙ ap length is.cids ∙ length-range_with_len 1 load.commands

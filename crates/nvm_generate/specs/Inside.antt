@@ -1,2 +1,4 @@
+pub mod Range
+pub mod Kinds
 pub mod Asking
 pub mod Commands

@@ -1,14 +1,15 @@
-ghost use Rattle.std.specs.Prelude.{◌≡◌, ◌+◌, ◌<◌, ◌≤◌, None, IfOk, OnOk, length, map, ◌*◌};
+ghost use Rattle.std.specs.Prelude.{◌≡◌, ◌+◌, ◌<◌, ◌≤◌, None, IfOk, OnOk, [], length, map, ◌*◌};
 ghost use Rattle.std.specs.List.{range_with_len};
 ghost use Rattle.nvm_record.specs.declared.op.Op.TheVariants as ops;
+ghost use Rattle.nvm_record.specs.declared.op.Fuse.TheVariants.{Normal};
 ghost use Rattle.nvm_plan.specs.Jobs.{commands_of};
 ghost use Rattle.nvm_plan.specs.declared.job.Body.TheVariants as bodies;
-ghost use Rattle.nvm_generate.specs.Blocks.{IsRangeOf};
+ghost use Rattle.nvm_generate.specs.Inside.Range.{IsRangeOf};
 ghost use Rattle.nvm_generate.specs.Inside.Asking.{IsAsking, IsContentOf, IsNext};
 ghost use Rattle.nvm_generate.specs.Inside.Commands.{on_blocks};
-ghost use Rattle.nvm_generate.specs.Load.{IsJobOf};
+ghost use Rattle.nvm_generate.specs.Load.{IsJobOfLoad};
 ghost use Rattle.nvm_generate.specs.Stamp as stamp;
-ghost use Rattle.nvm_generate.specs.Wanted.{IsKindOf};
+ghost use Rattle.nvm_generate.specs.Inside.Kinds.{IsKindOf};
 
 use crate::commands::{command, deallocate};
 use crate::dice::Dice;
@@ -58,7 +59,7 @@ pub fn next_job(
 ) -> Result<Body, NoMemory>
     requires room { before < load.now.commands }
     requires sound { IsAsking load.now asking.old }
-    ensures job { IfOk result (IsJobOf load.now host) }
+    ensures job { IfOk result (IsJobOfLoad load.now host) }
     ensures cids { IfOk result (λ job. map (λ c. c.cid) (commands_of job)
         ≡ range_with_len (before + 1) (length (commands_of job))) }
     ensures few { IfOk result (λ job. before + length (commands_of job) ≤ load.now.commands) }
@@ -87,19 +88,31 @@ fn single(
     ensures next { IfOk result (λ c. IsNext load.now host cid (bodies.Single c)) }
     ensures sound { OnOk result (IsAsking load.now asking.new) }
 {
-    if kind == Kind::Compare {
-        let Content { range, payload } = expected(alloc, load, asking)?;
-        return Ok(command(cid, Fuse::Normal, Op::Compare, range, payload));
+    match kind {
+        Kind::Write => {
+            let range = Range::any(&mut asking.dice, load.geometry);
+            write(alloc, load, host, cid, Fuse::Normal, range, asking)
+        }
+        Kind::Compare => {
+            let Content { range, payload } = expected(alloc, load, asking)?;
+            Ok(command(cid, Fuse::Normal, Op::Compare, range, payload))
+        }
+        Kind::Deallocate => deallocate(alloc, cid, Range::any(&mut asking.dice, load.geometry)),
+        Kind::Zeroes => Ok(without_data(cid, Op::WriteZeroes, load, asking)),
+        Kind::Uncorrectable => Ok(without_data(cid, Op::WriteUncorrectable, load, asking)),
+        Kind::Read | Kind::Pair => Ok(without_data(cid, Op::Read, load, asking)),
     }
+}
+
+/// A command that has no data, on any blocks.
+fn without_data(cid: u16, op: Op, load: &Load, asking: &mut Asking) -> Command
+    requires { IsAsking load.now asking.old }
+    ensures command { result ≡ on_blocks cid Normal op result.slba result.nlb [] }
+    ensures range { IsRangeOf load.now.geometry result.slba result.nlb }
+    ensures sound { IsAsking load.now asking.new }
+{
     let range = Range::any(&mut asking.dice, load.geometry);
-    let op = match kind {
-        Kind::Write => return write(alloc, load, host, cid, Fuse::Normal, range, asking),
-        Kind::Deallocate => return deallocate(alloc, cid, range),
-        Kind::Zeroes => Op::WriteZeroes,
-        Kind::Uncorrectable => Op::WriteUncorrectable,
-        Kind::Read | Kind::Compare | Kind::Pair => Op::Read,
-    };
-    Ok(command(cid, Fuse::Normal, op, range, Payload::empty()))
+    command(cid, Fuse::Normal, op, range, Payload::empty())
 }
 
 /// A fused Compare and Write.
@@ -151,7 +164,7 @@ fn write(
     Ok(command(cid, fuse, Op::Write, range, payload))
 }
 
-/// What a Compare expects: three of four times what the host wrote last, and else zeroes.
+/// What a Compare expects: three in four times what the host wrote last, and else zeroes.
 fn expected(alloc: Global, load: &Load, asking: &mut Asking) -> Result<Content, NoMemory>
     requires { IsAsking load.now asking.old }
     ensures content { IfOk result (IsContentOf load.now) }

@@ -10,7 +10,8 @@ pub struct Dice {
 }
 
 impl Dice {
-    /// Those of a host of a load with this seed. The hosts' numbers don't meet: each host begins so far behind the one before.
+    /// Those of a host of a load with this seed. Each host starts 2^128 numbers after the one before, so no two hosts draw the same
+    /// ones.
     pub fn new(seed: u64, host: u8) -> Dice {
         let mut words = Xoshiro256PlusPlus::seed_from_u64(seed);
         for _ in 0..host {

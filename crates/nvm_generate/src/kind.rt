@@ -1,5 +1,5 @@
 ghost use Rattle.std.specs.Prelude.{◌<◌, IsTrue};
-ghost use Rattle.nvm_generate.specs.Wanted.{IsKindOf};
+ghost use Rattle.nvm_generate.specs.Inside.Kinds.{IsKindOf};
 
 use crate::dice::Dice;
 use crate::load::Mix;

@@ -6,8 +6,9 @@ pub fn stamps_tell_whose()
     ensures { StampsTellWhose }
 {}
 
-/// A torn block shows: where a device kept the front of one stamp and the rest of another, no third stamp stands there. Both halves
-/// of a stamp are the same, so a block with two that differ is none that a host wrote.
+/// A block torn at one place shows: where a device kept the front of one stamp and the rest of another, no third stamp stands there.
+/// So in what a Read finds, unless it was torn in several places, a block with equal halves that aren't zeroes names its Write, and
+/// one with unequal halves was written so by nobody.
 pub fn torn_stamps_show()
     ensures { TornStampsShow }
 {}

@@ -1,8 +1,8 @@
 //! Loads that find bugs in devices: the commands that each host is to ask for, by a seed.
 //!
 //! What finds bugs is few units that all hosts write and read at the same time, mostly as a whole, and fused pairs on them. So a
-//! load goes to all blocks of a namespace, which is to be a small one: three of four commands have a whole unit. The data of each block that
-//! is written is a stamp that no other block of any host has, so that a Read tells whose Write it found. A Compare has what its
+//! load goes to all blocks of a namespace, which is to be a small one: three in four commands have a whole unit. The data of each block of
+//! a Write is a stamp that no other block of any host has, so that a Read tells whose Write it found. A Compare has what its
 //! host wrote last, mostly.
 //!
 //! [`jobs_of_load`] gives the jobs of a host, and [`list_of_load`] the list that says their commands. The same load and host give

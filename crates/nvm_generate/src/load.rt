@@ -7,14 +7,14 @@ pub struct Load {
     pub seed: u64,
     /// How many commands each host asks for.
     pub commands: u16,
-    /// The namespace, whose blocks all have commands. No command has more than NAWUN + 1 blocks, nor more than 256.
+    /// The namespace; commands may be on any of its blocks. No command has more than NAWUN + 1 blocks, nor more than 256.
     pub geometry: Geometry,
     /// How often each kind of command is asked for.
     pub mix: Mix,
 }
 
-/// How often each kind of command is asked for, beside the others: 20 is twice as often as 10, and 0 is never. Where there is no
-/// number, and in the last place of a list where a pair would need two, it is a Read.
+/// How often each kind is asked for, relative to the others: 20 is twice as often as 10, and 0 is never. If all are 0, every command
+/// is a Read, and so is a pair for which only one command is left.
 #[derive(Clone, Copy, Debug, PartialEq, Eq)]
 pub struct Mix {
     pub write: u16,

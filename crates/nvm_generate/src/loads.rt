@@ -3,7 +3,7 @@ ghost use Rattle.std.specs.List.{flat_map};
 ghost use Rattle.nvm_list.specs.Lists.{commands};
 ghost use Rattle.nvm_plan.specs.Jobs.{commands_of};
 ghost use Rattle.nvm_plan.specs.declared.job.Body.{Body as Asked};
-ghost use Rattle.nvm_generate.specs.Load.{IsLoad};
+ghost use Rattle.nvm_generate.specs.Load.{AreJobsOfLoad};
 
 use crate::asking::{Asking, next_job};
 use crate::load::Load;
@@ -13,13 +13,15 @@ use nvm_plan::laws::ready_jobs;
 use nvm_record::{Command, NoMemory};
 use std::alloc::Global;
 
-/// The jobs that a host of a load is to ask for, in their order.
+/// The jobs that a host of a load is to ask for, in their order. Hosts count from 1; `fits` of nvm_plan takes 1 to 64.
+///
+/// `NoMemory`: nothing was made.
 pub fn jobs_of_load(alloc: Global, load: &Load, host: u8) -> Result<Vec<Body>, NoMemory>
-    ensures { IfOk result (λ jobs. IsLoad load.now host jobs.items) }
+    ensures { IfOk result (λ jobs. AreJobsOfLoad load.now host jobs.items) }
 {
     ready_jobs();
     let mut asking = Asking::new(load.seed, host);
-    let mut jobs = Vec::new(alloc);
+    let mut jobs = Vec::with_capacity(alloc, load.commands as usize)?;
     let mut before = 0;
     while before < load.commands {
         let job = next_job(alloc, load, host, before, &mut asking)?;
@@ -29,10 +31,13 @@ pub fn jobs_of_load(alloc: Global, load: &Load, host: u8) -> Result<Vec<Body>, N
     Ok(jobs)
 }
 
-/// The list of a host of a load.
+/// The list of a host of a load, whose jobs are held meanwhile, with all their data. Hosts count from 1; `fits` of nvm_plan takes 1 to
+/// 64.
+///
+/// `NoMemory`: nothing was made.
 pub fn list_of_load(alloc: Global, load: &Load, host: u8) -> Result<String, NoMemory>
     // It is read as the commands of just such jobs.
-    ensures { IfOk result (λ text. (jobs : List Asked) × IsLoad load.now host jobs
+    ensures { IfOk result (λ text. (jobs : List Asked) × AreJobsOfLoad load.now host jobs
         × (commands load.now.geometry.block_size (string_bytes text) ≡ Ok (flat_map commands_of jobs))) }
 {
     // A block has one of two sizes, in which the list is read.

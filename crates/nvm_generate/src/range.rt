@@ -1,6 +1,6 @@
 ghost use Rattle.std.specs.Prelude.{◌≡◌, ◌+◌, ◌<◌, ◌≤◌};
 ghost use Rattle.nvm_geometry.specs.Limits.{IsWithinPairLimit};
-ghost use Rattle.nvm_generate.specs.Blocks.{IsRangeOf};
+ghost use Rattle.nvm_generate.specs.Inside.Range.{IsRangeOf};
 
 use crate::dice::Dice;
 use nvm_geometry::Geometry;
@@ -14,7 +14,7 @@ pub struct Range {
 }
 
 impl Range {
-    /// Three of four times a whole unit, and else any blocks, over boundaries too.
+    /// Three in four times a whole unit, or as much of one as a command may have, and else any blocks, over boundaries too.
     pub fn any(dice: &mut Dice, geometry: Geometry) -> Range
         ensures { IsRangeOf geometry result.first result.nlb }
     {
@@ -53,7 +53,8 @@ impl Range {
     }
 }
 
-/// The most blocks, zeroes-based, that a command may have from an LBA on, where there are so many in its place.
+/// The most blocks, zeroes-based, that a command from `first` on may have: no more than `blocks`, than the namespace has left, than
+/// NAWUN + 1, or than 256.
 fn most(geometry: Geometry, first: u64, blocks: u32) -> u8
     requires some { 0 < blocks }
     requires inside { first < geometry.nsze }

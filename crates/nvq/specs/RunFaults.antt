@@ -45,11 +45,11 @@ IsListsFault size (path ∷ paths) (text ∷ texts) fault =
 -- The words give these settings. The number of workers is theirs where they give one.
 abbrev pub IsSettingsOf : RunWords → Settings → Type 0
 IsSettingsOf words settings =
-    (settings.block ≡ words.size)
-    × (settings.nsze ≡ words.nsze)
-    × (settings.nabsn ≡ words.nabsn)
-    × (settings.nabo ≡ words.nabo)
-    × (settings.nawun ≡ words.nawun)
-    × (settings.nacwu ≡ words.nacwu)
+    (settings.block ≡ words.namespace.size)
+    × (settings.nsze ≡ words.namespace.nsze)
+    × (settings.nabsn ≡ words.namespace.nabsn)
+    × (settings.nabo ≡ words.namespace.nabo)
+    × (settings.nawun ≡ words.namespace.nawun)
+    × (settings.nacwu ≡ words.namespace.nacwu)
     × (settings.limit ≡ words.limit)
     × IfSome words.workers (λ workers. settings.workers ≡ workers)

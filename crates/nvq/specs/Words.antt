@@ -3,7 +3,8 @@ use Rattle.std.specs.Prelude.{◌≤◌, length}
 use Rattle.nvq.specs.declared.words.Asked.{Asked}
 use Rattle.nvq.specs.declared.words.Asked.TheVariants.{Generate, Run}
 
--- A run is one of a list or more, and so is a load. The ranges of options are their types'.
+-- A run is one of a list or more, and so is a load. The ranges of options are their types', but for that of `--commands`, 1 to
+-- 65,535, of which nothing is said here.
 abbrev pub IsAsked : Asked → Type 0
 IsAsked (Run words) = 1 ≤ length words.lists.items
 IsAsked (Generate words) = 1 ≤ length words.outs.items

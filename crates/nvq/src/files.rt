@@ -16,9 +16,6 @@ use nvm_trace::Trace;
 use std::alloc::{AllocError, Global};
 use std::rt::Files;
 
-/// Why nothing is written to a path to which another list goes.
-const OF_ANOTHER: &str = "the list of another host goes there";
-
 /// The bytes of a file, or of standard input. Want of memory isn't the file's fault.
 pub fn bytes_of<R: Files + AllocGlobal + Input + Eprint>(
     rt: &R,
@@ -130,19 +127,6 @@ pub fn check_no_lines<R: Files + AllocGlobal>(rt: &R, out: &str) -> Result<(), F
     }
 }
 
-/// Refuses a path to write which is another one that is written, before anything is. Below the fault stands why.
-pub fn check_apart<R: Files + AllocGlobal>(rt: &R, out: &str, other: &str) -> Result<(), Failure>
-    ensures { IfErr result (λ failure. IsWriteFault out.now failure.fault) }
-{
-    if out == other {
-        return Err(unwritten(rt.alloc(), out, Some(OF_ANOTHER)));
-    }
-    if other == STANDARD {
-        return check_no_lines(rt, out);
-    }
-    check_output(rt, out, other, OF_ANOTHER)
-}
-
 /// The failure of what couldn't be written to a path.
 pub fn unmade(alloc: Global, path: &str, fault: FileFault) -> Failure
     ensures { IsWriteFault path.now result.fault }
@@ -163,8 +147,8 @@ fn unread(alloc: Global, path: &str, why: Option<&str>) -> Failure
     }
 }
 
-/// The failure of a file that can't be written, or want of memory for its path.
-fn unwritten(alloc: Global, path: &str, why: Option<&str>) -> Failure
+/// The failure of a file that can't be written, or want of memory for its path. Below the fault stands why.
+pub fn unwritten(alloc: Global, path: &str, why: Option<&str>) -> Failure
     ensures { IsWriteFault path.now result.fault }
 {
     match String::from_str(alloc, path) {

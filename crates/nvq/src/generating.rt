@@ -6,9 +6,10 @@ ghost use Rattle.nvq.specs.Generated.{AreListsOfLoad, IsGeneratingFault, IsLoadF
 
 use crate::failure::{Failure, of_run};
 use crate::fault::Fault;
-use crate::files::{check_apart, unmade};
+use crate::files::{unmade, unwritten};
 use crate::generating_words::GenerateWords;
-use nvm_front::{FileFault, Output, Progress};
+use crate::namespace_words::NamespaceWords;
+use nvm_front::{FileFault, Output, Progress, is_one_output};
 use nvm_generate::{Load, list_of_load};
 use nvm_geometry::Geometry;
 use nvm_plan::MOST_HOSTS;
@@ -17,7 +18,11 @@ use std::collections::VecDeque;
 use std::io::Write;
 use std::rt::Files;
 
-/// Writes a list for each host, all of which are generated before the first file is begun, and written before the first takes its place.
+/// Why nothing is written to a path to which another list goes.
+const OF_ANOTHER: &str = "the list of another host goes there";
+
+/// Writes a list for each host. All are generated before the first file is begun, and written before the first takes its place. After a
+/// fault no list is written, or only those before one that couldn't take its place.
 pub fn run_generate<R: AllocGlobal + Files + Print + Eprint>(
     rt: &R,
     words: &GenerateWords,
@@ -45,24 +50,20 @@ fn load_of(words: &GenerateWords) -> Result<Load, Fault>
     if words.outs.len() > MOST_HOSTS as usize {
         return Err(Fault::TooManyHosts);
     }
-    let GenerateWords {
-        seed,
-        commands,
+    let NamespaceWords {
         size,
         nsze,
         nabsn,
         nabo,
         nawun,
         nacwu,
-        mix,
-        ..
-    } = *words;
+    } = words.namespace;
     match Geometry::new(nsze, size.bytes(), nabsn, nabo, nawun, nacwu) {
         Ok(geometry) => Ok(Load {
-            seed,
-            commands,
+            seed: words.seed,
+            commands: words.commands,
             geometry,
-            mix,
+            mix: words.mix,
         }),
         Err(fault) => Err(Fault::Geometry(fault)),
     }
@@ -78,6 +79,17 @@ fn check_outs<R: Files + AllocGlobal>(rt: &R, outs: &[String]) -> Result<(), Fai
         }
     }
     Ok(())
+}
+
+/// Refuses a path to which another list goes. Below the fault stands why.
+fn check_apart<R: Files + AllocGlobal>(rt: &R, out: &str, other: &str) -> Result<(), Failure>
+    ensures { IfErr result (λ failure. IsWriteFault out.now failure.fault) }
+{
+    match is_one_output(rt, out, other) {
+        Ok(false) => Ok(()),
+        Ok(true) => Err(unwritten(rt.alloc(), out, Some(OF_ANOTHER))),
+        Err(_) => Err(Failure::from(AllocError)),
+    }
 }
 
 /// The lists of so many hosts, from host 1 on.
@@ -108,6 +120,8 @@ fn write_lists<'a, R: AllocGlobal + Files + Print + Eprint>(
         let text = texts[place].as_str();
         outputs.push_back(written(rt, out.as_str(), text, progress)?)?;
     }
+    // A link that led to nothing leads to its file now.
+    check_outs(rt, outs)?;
     for out in outs {
         if let Some(output) = outputs.pop_front() {
             finish(rt.alloc(), out.as_str(), output)?;
@@ -139,6 +153,7 @@ fn filled<'a, R: AllocGlobal + Files + Print + Eprint>(
 ) -> Result<Output<'a, R>, FileFault> {
     let mut output = Output::new(rt, out, progress)?;
     output.write_all(text.as_bytes())?;
+    output.flush()?;
     Ok(output)
 }
 

@@ -1,13 +1,13 @@
 //! The words of `nvq generate`.
 ghost use Rattle.std.specs.Prelude.{◌≤◌, IfOk, IfSome, length};
 
-use crate::running_words::{nabo, nabsn, nacwu, nawun, nsze, number, whole_unit, with_default};
-use crate::words::{block, size_of};
+use crate::namespace_words::{
+    NamespaceWords, number, of_16_bits, read_namespace, with_default, with_namespace,
+};
 use clap::builder::ValueParser;
 use clap::{Arg, ArgAction, ArgMatches, Command, Error, value_parser};
 use nvm_front::{WordFault, owned};
 use nvm_generate::Mix;
-use nvm_record::BlockSize;
 use std::alloc::Global;
 
 /// What the words of `nvq generate` say: the numbers of the load, and where its lists go.
@@ -16,14 +16,7 @@ pub struct GenerateWords {
     pub seed: u64,
     /// How many commands each list has.
     pub commands: u16,
-    pub size: BlockSize,
-    pub nsze: u64,
-    pub nabsn: u16,
-    pub nabo: u16,
-    /// As many blocks as a unit has, where it isn't given.
-    pub nawun: u16,
-    /// As many blocks as a unit has, where it isn't given.
-    pub nacwu: u16,
+    pub namespace: NamespaceWords,
     pub mix: Mix,
     /// Where the lists go, host 1's first, at least one.
     pub outs: Vec<String>,
@@ -36,22 +29,10 @@ pub fn read_generate(
 ) -> Result<Option<GenerateWords>, WordFault>
     ensures { IfOk result (λ read. IfSome read (λ load. 1 ≤ length load.outs.items)) }
 {
-    let (
-        Some(seed),
-        Some(commands),
-        Some(size),
-        Some(nsze),
-        Some(nabsn),
-        Some(nabo),
-        Some(mix),
-        Some(paths),
-    ) = (
+    let (Some(seed), Some(commands), Some(namespace), Some(mix), Some(paths)) = (
         words.get_one::<u64>("seed"),
         words.get_one::<u16>("commands"),
-        size_of(words),
-        words.get_one::<u64>("nsze"),
-        words.get_one::<u16>("nabsn"),
-        words.get_one::<u16>("nabo"),
+        read_namespace(words),
         mix_of(words),
         words.get_strs("out"),
     ) else {
@@ -64,18 +45,13 @@ pub fn read_generate(
     Ok(Some(GenerateWords {
         seed,
         commands,
-        size,
-        nsze,
-        nabsn,
-        nabo,
-        nawun: words.get_one::<u16>("nawun").unwrap_or(whole_unit(nabsn)),
-        nacwu: words.get_one::<u16>("nacwu").unwrap_or(whole_unit(nabsn)),
+        namespace,
         mix,
         outs,
     }))
 }
 
-/// How often each kind of command is asked for, or `None` where a number is missing.
+/// The weights of the kinds, or `None` where one is missing.
 fn mix_of(words: &ArgMatches<'_>) -> Option<Mix> {
     Some(Mix {
         write: words.get_one::<u16>("write")?,
@@ -93,30 +69,20 @@ pub fn generate_command<'a>(alloc: Global) -> Result<Command<'a>, Error> {
     let command = Command::new(alloc, "generate")
         .about("Writes lists of commands that find bugs in devices, one for each host")
         .arg(seed(alloc))?
-        .arg(commands(alloc))?
-        .arg(with_default(nsze(alloc), "32"))?
-        .arg(block(alloc))?
-        .arg(with_default(nabsn(alloc), "7"))?
-        .arg(with_default(nabo(alloc), "0"))?
-        .arg(nawun(alloc))?
-        .arg(nacwu(alloc))?
+        .arg(commands(alloc))?;
+    let command = with_namespace(alloc, command, "32")?
         .arg(weight(
             alloc,
             "write",
             "40",
-            "How often a Write is asked for, beside the others",
+            "Weight of Writes among all kinds; 0 is none",
         ))?
-        .arg(weight(alloc, "read", "40", "How often a Read"))?
-        .arg(weight(alloc, "compare", "5", "How often a Compare"))?
-        .arg(weight(alloc, "pair", "10", "How often a fused Compare and Write"))?
-        .arg(weight(alloc, "zeroes", "3", "How often a Write Zeroes"))?
-        .arg(weight(
-            alloc,
-            "uncorrectable",
-            "0",
-            "How often a Write Uncorrectable",
-        ))?
-        .arg(weight(alloc, "deallocate", "2", "How often a Deallocate"))?;
+        .arg(weight(alloc, "read", "40", "Weight of Reads"))?
+        .arg(weight(alloc, "compare", "5", "Weight of Compares"))?
+        .arg(weight(alloc, "pair", "10", "Weight of fused Compares and Writes"))?
+        .arg(weight(alloc, "zeroes", "3", "Weight of Write Zeroes"))?
+        .arg(weight(alloc, "uncorrectable", "0", "Weight of Write Uncorrectable"))?
+        .arg(weight(alloc, "deallocate", "2", "Weight of Deallocates"))?;
     Ok(command.arg(outs(alloc))?)
 }
 
@@ -136,10 +102,9 @@ fn commands<'a>(alloc: Global) -> Arg<'a> {
     with_default(commands, "1000")
 }
 
-/// How often a kind of command is asked for.
+/// How often a kind is asked for, relative to the others.
 fn weight<'a>(alloc: Global, name: &'a str, value: &'a str, help: &'a str) -> Arg<'a> {
-    let parser: ValueParser<'a> = value_parser!(u16);
-    with_default(number(alloc, name, help).value_parser(parser), value)
+    with_default(of_16_bits(alloc, name, help), value)
 }
 
 fn outs<'a>(alloc: Global) -> Arg<'a> {

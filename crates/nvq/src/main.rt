@@ -16,6 +16,7 @@ mod fault;
 mod files;
 mod generating;
 mod generating_words;
+mod namespace_words;
 mod running;
 mod running_words;
 mod tracing;
@@ -73,7 +74,8 @@ fn asked<R: AllocGlobal + Env>(rt: &R) -> Result<Asked, WordFault> {
     read_words(rt.alloc(), texts.as_slice())
 }
 
-/// Does what is asked, and gives the exit status. After a fault no file is written; of standard output there may be a front where it took no more.
+/// Does what is asked, and gives the exit status. After a fault no file is written, but lists of a load before one that couldn't take its
+/// place; of standard output there may be a front where it took no more.
 fn run<R: AllocGlobal + Files + Input + Print + Eprint + Threads + Wait + Sync>(
     rt: &R,
     asked: Asked,

@@ -13,6 +13,7 @@ ghost use Rattle.nvq.specs.RunFaults.{FitNames, IsKeepingFault, IsLineFault, IsL
 use crate::failure::{Failure, of_list, of_run, plain};
 use crate::fault::Fault;
 use crate::files::{bytes_of, check_no_lines, check_output, keep, unmade};
+use crate::namespace_words::NamespaceWords;
 use crate::running_words::RunWords;
 use nvm_engine::{Fault as RunFault, Settings, Shown, Workers, execute_watched};
 use nvm_front::{FileFault, Output, Progress, STANDARD, is_input};
@@ -36,7 +37,7 @@ pub fn run_lists<R: AllocGlobal + Files + Input + Print + Eprint + Threads + Wai
     let output = standard(rt)?;
     let lists = read_lists(rt, words.lists.as_slice(), progress)?;
     let mut texts = texts_of(rt.alloc(), lists.as_slice())?;
-    let files = files_of(rt.alloc(), words.size, lists.as_slice())?;
+    let files = files_of(rt.alloc(), words.namespace.size, lists.as_slice())?;
     let settings = settings_of(rt, words);
     let shown = shown_of(rt, &settings, files.as_slice(), progress)?;
     if let Some(path) = &words.record {
@@ -181,16 +182,14 @@ fn host_file(alloc: Global, path: &str, text: &[u8], size: BlockSize) -> Result<
 fn settings_of<R: Threads>(rt: &R, words: &RunWords) -> Settings
     ensures { IsSettingsOf words.now result }
 {
-    let RunWords {
+    let NamespaceWords {
         size,
         nsze,
         nabsn,
         nabo,
         nawun,
         nacwu,
-        limit,
-        ..
-    } = *words;
+    } = words.namespace;
     let workers = match words.workers {
         Some(workers) => workers,
         None => processors(rt),
@@ -203,7 +202,7 @@ fn settings_of<R: Threads>(rt: &R, words: &RunWords) -> Settings
         nawun,
         nacwu,
         workers,
-        limit,
+        limit: words.limit,
     }
 }
 

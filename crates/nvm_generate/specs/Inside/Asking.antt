@@ -4,8 +4,8 @@ use Rattle.std.specs.List.{range_with_len}
 use Rattle.nvm_plan.specs.Jobs.{IsBody, commands_of}
 use Rattle.nvm_plan.specs.Ready.{IsReadyBody}
 use Rattle.nvm_plan.specs.declared.job.Body.{Body}
-use Rattle.nvm_generate.specs.Blocks.{IsRangeOf}
-use Rattle.nvm_generate.specs.Load.{IsCommandOf}
+use Rattle.nvm_generate.specs.Inside.Range.{IsRangeOf}
+use Rattle.nvm_generate.specs.Load.{IsCommandOfLoad}
 use Rattle.nvm_generate.specs.Wanted.{IsWanted}
 use Rattle.nvm_generate.specs.declared.asking.Asking.{Asking}
 use Rattle.nvm_generate.specs.declared.asking.Content.{Content}
@@ -24,6 +24,6 @@ IsAsking load asking = IfSome asking.written (IsContentOf load)
 pub record IsNext (load : Load) (host cid : ℕ) (body : Body) : Type 0 where
   pub ready : IsReadyBody load.geometry body
   pub pair : IsBody body
-  pub commands : All (IsCommandOf load host) (commands_of body)
+  pub commands : All (IsCommandOfLoad load host) (commands_of body)
   pub wanted : IsWanted load.mix body
   pub cids : map (λ c. c.cid) (commands_of body) ≡ range_with_len cid (length (commands_of body))

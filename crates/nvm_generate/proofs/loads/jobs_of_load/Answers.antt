@@ -2,13 +2,13 @@ use Rattle.std.proofs.Common.{◌≡◌, ◌+◌, [], ◌∷◌, ◌++◌, All, 
 use Rattle.std.proofs.lemmas.List.Elements.{All-nil, All-cons, All-append}
 use Rattle.std.specs.List.{flat_map, range_with_len}
 use Rattle.nvm_plan.specs.Jobs.{commands_of}
-use Rattle.nvm_generate.specs.Load.{IsJobOf}
+use Rattle.nvm_generate.specs.Load.{IsJobOfLoad}
 use Rattle.nvm_generate.proofs.Jobs.{cids_more, paired}
 use Rattle.nvm_generate.proofs.loads.jobs_of_load.Goals as goal
 
 pub loop-before-preserved : goal.loop-before-preserved
 loop-before-preserved c =
-    let IsOne = IsJobOf c.args.load.now c.args.host in
+    let IsOne = IsJobOfLoad c.args.load.now c.args.host in
     let jobs = c.loop-before.jobs.items in
     let job = c.in_ok-job.job in
     let pushed : c.push.new.self.items ≡ jobs ++ job ∷ [] = c.in_ok-push.ensures.items in
