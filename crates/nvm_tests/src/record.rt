@@ -4,5 +4,6 @@ mod copies;
 mod datasets;
 mod entries;
 mod host_faults;
+mod host_files;
 mod payloads;
 mod ranges;

@@ -2,8 +2,10 @@
 mod blocks;
 mod calls;
 mod gates;
+mod histories;
 mod keeps;
 mod looks;
+mod refusals;
 mod threads;
 mod tries;
 
@@ -11,7 +13,7 @@ ghost use Rattle.std.specs.Prelude.{◌≡◌, IfOk, true};
 ghost use Rattle.nvm_unit.specs.Passes.{IsPassOf};
 
 use nvm_record::BlockSize;
-use nvm_store::{ActRef, Limit, Place};
+use nvm_store::{ActRef, History, Limit, Place};
 use nvm_unit::{Changed, Gate, Pass, Unit};
 use std::alloc::Global;
 use std::sync::Wait;
@@ -74,4 +76,16 @@ fn change<R: Wait, G: Gate>(
         Changed::NoMemory { .. } => Err(Fail::new("there was no memory")),
         changed => Ok(changed),
     }
+}
+
+/// The whole history of the unit, which has just these passes.
+fn closed(alloc: Global, unit: Unit, first: Pass, second: Pass) -> Result<History, Fail>
+    requires of { IsPassOf unit first × IsPassOf unit second }
+    requires count { unit.bounds.passes ≡ 2 }
+    requires numbers { (first.view.number ≡ 0) × (second.view.number ≡ 1) }
+{
+    let mut passes = Vec::with_capacity(alloc, 2)?;
+    passes.push(first)?;
+    passes.push(second)?;
+    Ok(unit.close(passes))
 }

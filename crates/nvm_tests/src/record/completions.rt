@@ -4,14 +4,19 @@ use nvm_record::{Completion, Status, completion_bytes};
 /// the phase tag.
 #[test]
 fn a_completion_has_its_fields_in_place(rt: HostRuntime) {
-    let completion = Completion {
-        host: 0x0102,
-        cid: 0xa1b2,
-        status: Status::COMPARE_FAILURE,
-        payload: None,
-    };
-    let posted = [
-        0, 0, 0, 0, 0, 0, 0, 0, 0, 0, 0x02, 0x01, 0xb2, 0xa1, 0x0a, 0x05,
+    let cases = [
+        (0x0102, 0xa1b2, [0x02, 0x01, 0xb2, 0xa1, 0x0a, 0x05]),
+        (1, 2, [0x01, 0x00, 0x02, 0x00, 0x0a, 0x05]),
     ];
-    assert_eq!(rt; completion_bytes(&completion), posted);
+    for (host, cid, fields) in cases {
+        let completion = Completion {
+            host,
+            cid,
+            status: Status::COMPARE_FAILURE,
+            payload: None,
+        };
+        let mut posted = [0; 16];
+        posted[10..].copy_from_slice(&fields);
+        assert_eq!(rt; completion_bytes(&completion), posted);
+    }
 }

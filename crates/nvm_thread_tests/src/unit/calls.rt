@@ -2,9 +2,9 @@
 ghost use Rattle.std.specs.Prelude.{◌≡◌};
 ghost use Rattle.nvm_unit.specs.Passes.{IsPassOf};
 
-use super::{BLOCK, change, two_passes};
+use super::{BLOCK, change, closed, two_passes};
 use nvm_record::{LbaRange, Payload, Status, ranges_data};
-use nvm_store::{ActRef, Answer, History, Look};
+use nvm_store::{ActRef, Answer, Look};
 use nvm_unit::{Changed, Open, Pass, Unit};
 use std::alloc::Global;
 use std::sync::Wait;
@@ -45,18 +45,6 @@ fn each_call_once(rt: HostRuntime) -> Result<(), Fail> {
     let history = closed(alloc, unit, first, second)?;
     assert_eq!(rt; history.len(), 1);
     Ok(())
-}
-
-/// The whole history of the unit, which has just these passes.
-fn closed(alloc: Global, unit: Unit, first: Pass, second: Pass) -> Result<History, Fail>
-    requires of { IsPassOf unit first × IsPassOf unit second }
-    requires count { unit.bounds.passes ≡ 2 }
-    requires numbers { (first.view.number ≡ 0) × (second.view.number ≡ 1) }
-{
-    let mut passes = Vec::with_capacity(alloc, 2)?;
-    passes.push(first)?;
-    passes.push(second)?;
-    Ok(unit.close(passes))
 }
 
 /// Does a Write of bytes of 1 to all 8 blocks.

@@ -1,5 +1,6 @@
 //! Several threads on one unit.
 mod held;
+mod histories;
 mod looking;
 
 ghost use Rattle.nvm_unit.specs.Passes.{IsPassOf};

@@ -1,0 +1,56 @@
+//! One act of each kind, as a unit's history has it.
+use nvm_record::{LbaRange, Payload, ranges_data};
+use nvm_store::{Act, Entry, History};
+use std::alloc::Global;
+use std::test::Fail;
+
+const BLOCK: usize = 512;
+
+/// A Write of a block of 41h, a Write Zeroes, a Write Uncorrectable, a pair that finds zeroes, and a Deallocate of two blocks: in the unit of
+/// LBAs 0 to 7, where each succeeds after those before it.
+pub fn each_kind(alloc: Global) -> Result<Vec<Act>, Fail> {
+    let range = LbaRange {
+        first: 3,
+        blocks: 2,
+    };
+    let acts = vec![in alloc;
+        Act::Write {
+            first: 0,
+            blocks: 1,
+            payload: Payload::copy_of(alloc, &[0x41; BLOCK])?,
+        },
+        Act::Zeroes {
+            first: 1,
+            blocks: 1,
+        },
+        Act::Uncorrectable {
+            first: 7,
+            blocks: 1,
+        },
+        Act::Pair {
+            first: 2,
+            blocks: 1,
+            compare: Payload::copy_of(alloc, &[0; BLOCK])?,
+            write: Payload::copy_of(alloc, &[0x42; BLOCK])?,
+        },
+        Act::Deallocate {
+            first: 0,
+            blocks: 8,
+            ranges: ranges_data(alloc, &[range])?,
+        },
+    ]?;
+    Ok(acts)
+}
+
+/// The history that has just these acts, each by the first pass as job 5.
+pub fn history_of(alloc: Global, acts: Vec<Act>) -> Result<History, Fail> {
+    let mut history = Vec::with_capacity(alloc, acts.len())?;
+    for act in acts {
+        history.push(Entry {
+            pass: 0,
+            job: 5,
+            act,
+        })?;
+    }
+    Ok(history)
+}

@@ -1,0 +1,100 @@
+//! What stands where a growth of memory is refused. `sweep/run` refuses each growth in turn.
+ghost use Rattle.std.specs.Prelude.{◌≡◌};
+ghost use Rattle.nvm_unit.specs.Passes.{IsPassOf};
+
+use super::{BLOCK, two_passes};
+use nvm_record::{Payload, PayloadRef, Status};
+use nvm_store::{ActRef, Answer, Look};
+use nvm_unit::{Changed, Observed, Open, Pass, Unit};
+use std::alloc::Global;
+use std::sync::Wait;
+use std::test::Fail;
+
+/// What is told of an act as job 5.
+fn told(
+    rt: &impl Wait,
+    alloc: Global,
+    unit: &Unit,
+    pass: &mut Pass,
+    act: ActRef<'_>,
+) -> Result<Changed, Fail>
+    requires { IsPassOf unit.now pass.old }
+    ensures { IsPassOf unit.now pass.new }
+{
+    if !unit.covers(act) {
+        return Err(Fail::new("the unit doesn't cover the act"));
+    }
+    Ok(unit.change(rt, alloc, pass, 5, act, &Open))
+}
+
+/// What is told of a comparison of the first block with this byte.
+fn compared(
+    rt: &impl Wait,
+    alloc: Global,
+    unit: &Unit,
+    pass: &mut Pass,
+    byte: u8,
+) -> Result<Observed, Fail>
+    requires { IsPassOf unit.now pass.old }
+    ensures { IsPassOf unit.now pass.new }
+{
+    let payload = [byte; BLOCK];
+    let look = Look::Compare {
+        first: 0,
+        blocks: 1,
+        payload: &payload,
+    };
+    if !unit.covers_look(look) {
+        return Err(Fail::new("the unit doesn't cover the Compare"));
+    }
+    match unit.observe(rt, alloc, pass, look) {
+        Ok(observed) => Ok(observed),
+        Err(_) => Err(Fail::new("a comparison asks for memory")),
+    }
+}
+
+/// The answer to a comparison that holds at this point.
+fn equal_at(point: u32) -> Observed {
+    Observed {
+        point,
+        answer: Answer::Status(Status::SUCCESSFUL_COMPLETION),
+    }
+}
+
+/// A pair on the first block.
+fn pair<'a>(compare: PayloadRef<'a>, write: PayloadRef<'a>) -> ActRef<'a> {
+    ActRef::Pair {
+        first: 0,
+        blocks: 1,
+        compare,
+        write,
+    }
+}
+
+/// A Write, and a pair that finds zeroes, are one entry each, or none where there is no memory, and then the block stays too.
+#[test]
+fn a_refused_change_leaves_the_block(rt: HostRuntime) -> Result<(), Fail> {
+    let alloc = rt.alloc();
+    let zeroes = Payload::copy_of(alloc, &[0; BLOCK])?;
+    let data = Payload::copy_of(alloc, &[0x41; BLOCK])?;
+    let write = ActRef::Write {
+        first: 0,
+        blocks: 1,
+        payload: data.lend(),
+    };
+    for act in [write, pair(zeroes.lend(), data.lend())] {
+        let (unit, mut first, mut second) = two_passes(alloc, 2)?;
+        let changed = told(&rt, alloc, &unit, &mut first, act)?;
+        let (point, byte) = if changed == (Changed::NoMemory { point: 0 }) {
+            (0, 0)
+        } else {
+            assert_eq!(rt; changed, Changed::Done { point: 0 });
+            (1, 0x41)
+        };
+        let found = compared(&rt, alloc, &unit, &mut second, byte)?;
+        assert_eq!(rt; found, equal_at(point));
+        let entries = unit.history(&rt, alloc, &mut second)?.len();
+        assert_eq!(rt; entries, point as usize);
+    }
+    Ok(())
+}
