@@ -1,4 +1,4 @@
-use Rattle.std.proofs.Common.{◌≡◌, ◌<◌, ℕ, length, refl, arith}
+use Rattle.std.proofs.Common.{◌≡◌, ◌<◌, ℕ, length, get_or, refl, arith}
 use Rattle.std.proofs.lemmas.Result.{IfOk-weaker}
 use Rattle.nvm_plan.specs.Jobs.{commands_of}
 use Rattle.nvm_plan.specs.declared.job.Body.{Body}
@@ -11,5 +11,9 @@ one_command : (mix : Mix) (job : Body) → mix.pair ≡ 0 → IsWanted mix job �
 one_command mix (Single c) none wanted = refl
 one_command mix (Pair c d) none wanted = absurd (omega arith)
 
+mix : Mix
+mix = record { write = 45; read = 45; compare = 5; pair = 0; zeroes = 3; uncorrectable = 0; deallocate = 2 }
+
 pub returns : goal.returns
-returns c = IfOk-weaker c.jobs_of_load.result _ _ (λ jobs load k d lt. one_command _ d refl (load.jobs k d lt).wanted) c.jobs_of_load.ensures
+unfolding mix
+returns c = IfOk-weaker c.jobs_of_load.result _ _ (λ jobs load k d lt. one_command mix (get_or jobs.items k d) refl (load.jobs k d lt).wanted) c.jobs_of_load.ensures
