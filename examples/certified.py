@@ -1,5 +1,6 @@
 #!/usr/bin/env python3
 """Verdicts on traces by `nvq certify`: small traces by hand, random ones beside all of their orders, and devices with a planted bug.
+Each verdict's object says what its text does.
 
 `certified.py --random COUNT SEED` judges so many random traces, the first made by SEED, each next one by the number after it.
 """
@@ -25,6 +26,7 @@ from devices import BUGS, CLEARED, STRICT, TORN, crossing, left, trace_of
 from host_files import compare, dataset, pair, read, uncorrectable, write, zeroes
 from simulated import PLANTED, device_trace, small_trace
 from trace_files import seen_text, spelled, text_of
+from verdict_objects import text_of as text_of_object
 from witness_model import DIFFERS, MARKED, says, sent
 
 PROGRAMS = {name: os.path.join(TOP, "crates", name, "out", name) for name in ("nvq", "nvmu")}
@@ -183,6 +185,8 @@ def certified(folder, trace, words=()):
     verdict = text.split()[0]
     hold("status", status, STATUSES[verdict])
     hold("a record", os.path.exists(os.path.join(folder, record)), verdict == EXPLAINED)
+    status, told = answer(folder, "nvq", "certify", *words, "--json", kept)
+    hold("the object's status and text", (status, text_of_object(told)), (STATUSES[verdict], text))
     if verdict == EXPLAINED:
         hold("explained by some order", is_explained(trace, STRICT in words), True)
         hold("witness", answer(folder, "nvmu", "witness", *words, kept, record), (0, text))

@@ -281,6 +281,22 @@ def words_of_nvq(run):
 EXPLAINED = "explained jobs 3 units 4 steps 3 excused 0 preparations 0\n"
 WRONG = with_seen(TRACE, 2, data=b"\x43" * 512)
 CONTRADICTION = f"contradiction unit 0 commands 1\njob 2 {text_of(WRONG).splitlines()[3]}\njob 2 found in LBA 0 what nobody can have left there\n"
+EXPLAINED_OBJECT = '{"verdict":"explained","jobs":3,"units":4,"steps":3,"excused":0,"preparations":0}\n'
+CONTRADICTION_OBJECT = (
+    '{"verdict":"contradiction","unit":0,"commands":[{"job":2,"began":30,"ended":35,"host":1,"sent":[{"cid":2,"command":"read 0 1"}],'
+    '"statuses":["0/00"],"data":"512*43"}],"facts":[{"rule":"nobody","before":null,"after":null,"lba":0,"reader":{"job":2}}],"itself":null}\n'
+)
+# A pair, and a Read of the zeroes that it took away.
+PAIR_TEXT = """trace nsze 32 block 512 nabsn 7 nabo 0 nawun 7 nacwu 3 first 0 start zeroes reads whole
+10 20 1 1 compare 4 4 00 first + 2 write 4 4 55 second = 0/00 0/00
+21 30 1 3 read 7 2 = 0/00 1024*00
+"""
+PAIR_OBJECT = (
+    '{"verdict":"contradiction","unit":0,"commands":[{"job":0,"began":10,"ended":20,"host":1,"sent":[{"cid":1,"command":"compare 4 4 2048*00 first"},'
+    '{"cid":2,"command":"write 4 4 2048*55 second"}],"statuses":["0/00","0/00"],"data":null},{"job":1,"began":21,"ended":30,"host":1,'
+    '"sent":[{"cid":3,"command":"read 7 2"}],"statuses":["0/00"],"data":"1024*00"}],"facts":[{"rule":"first","before":{"job":1},"after":{"job":0},"lba":7},'
+    '{"rule":"time","before":{"job":0},"after":{"job":1},"ended":20,"began":21}],"itself":{"job":0}}\n'
+)
 # What should be a trace, its fault, and what helps.
 NO_TRACES = [
     (b"", "bad name", "it is empty, and a trace begins with NVT1"),
@@ -301,6 +317,16 @@ def words_of_certify(run):
         run.expect(["nvq", "certify", *words.split(), "right.nvt"], out=EXPLAINED)
         run.expect(["nvq", "certify", *words.split(), "wrong.nvt"], 2, out=CONTRADICTION)
     run.expect(["nvq", "certify", "-"], given=spelled(TRACE), out=EXPLAINED)
+    for words in ("--json", "--strict --json"):
+        run.expect(["nvq", "certify", *words.split(), "right.nvt"], out=EXPLAINED_OBJECT)
+        run.expect(["nvq", "certify", *words.split(), "wrong.nvt"], 2, out=CONTRADICTION_OBJECT)
+    run.expect(["nvq", "certify", "--json", "--record", "object.nvr", "-"], given=spelled(TRACE), out=EXPLAINED_OBJECT)
+    run.expect(["nvmu", "witness", "right.nvt", "object.nvr"], out=EXPLAINED)
+    run.keep("pair.txt", PAIR_TEXT)
+    run.expect(["nvq", "trace", "pair.txt", "pair.nvt"])
+    run.expect(["nvq", "certify", "pair.nvt", "--json"], 2, out=PAIR_OBJECT)
+    run.expect(["nvq", "certify", "--json", "missing"], 1, err=told("nvq: cannot read missing", MISSING))
+    run.refuse(["nvq", "certify", "--json=yes", "right.nvt"])
     for words in ("certify", "certify a b", "certify --strictly a", "certify --record", "certify --record a --record b c"):
         run.refuse(["nvq", *words.split()])
     for effort in ("4294967296", "-1", "x", ""):

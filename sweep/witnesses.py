@@ -106,6 +106,11 @@ def certified(kept):
     not_explained = kept("not-explained.nvt", spelled(wrong))
     explained = f"explained jobs 5 units {UNITS} steps 6 excused 0 preparations 0\n"
     contradiction = f"contradiction unit 0 commands 1\njob 1 {text_of(wrong).splitlines()[2]}\njob 1 found in LBA 0 what nobody can have left there\n"
+    contradiction_object = (
+        f'{{"verdict":"contradiction","unit":0,"commands":[{{"job":1,"began":{wrong.jobs[1].began},"ended":{wrong.jobs[1].ended},"host":1,'
+        '"sent":[{"cid":2,"command":"read 0 1"}],"statuses":["0/00"],"data":"512*43"}],'
+        '"facts":[{"rule":"nobody","before":null,"after":null,"lba":0,"reader":{"job":1}}],"itself":null}\n'
+    )
     record, before = {"record": record_of(right)}, {"record": b"old"}
 
     def done(name, trace, out, *words, status=0, **more):
@@ -119,6 +124,7 @@ def certified(kept):
         done("a trace that is explained, and a record before", right, explained, "--record", "record", units=UNITS, rounds=2, files=record, before=before),
         done("a trace that is explained strictly", "-", explained, "--strict", input=right, units=UNITS, rounds=2),
         done("a trace that nothing explains", not_explained, contradiction, "--record", "record", status=2, before=before, units=UNITS),
+        done("an object of a trace that nothing explains", not_explained, contradiction_object, "--json", status=2, units=UNITS),
         fault("a cut trace to certify", f"{cut}: truncated at {len(spelled(TRACE)) - 1024}", cut),
         fault("a missing trace to certify", f"cannot read {missing}", missing, hint=MISSING),
         fault("the record of a trace that is written over it", f"cannot write {right}", right, "--record", right, hint="it is the trace"),

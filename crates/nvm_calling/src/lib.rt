@@ -9,6 +9,7 @@ pub mod generate;
 pub mod geometry;
 pub mod plan;
 pub mod record;
+pub mod refute;
 pub mod run;
 pub mod space;
 pub mod store;

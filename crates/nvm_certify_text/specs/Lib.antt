@@ -1,3 +1,7 @@
 pub mod Names
 pub mod Facts
 pub mod Verdict
+pub mod Values
+pub mod FactObjects
+pub mod CommandObjects
+pub mod VerdictObject

@@ -69,8 +69,12 @@ abbrev pub earlier_if : Option Fact → Option ℕ
 earlier_if None = None
 earlier_if (Some fact) = earlier_of fact
 
+-- the piece that the last fact puts before another
+abbrev pub last_earlier : List Fact → Option ℕ
+last_earlier facts = earlier_if (slice_get facts (length facts - 1))
+
 abbrev pub last_line : List PieceName → List Fact → List ℕ
-last_line names facts = end_line names (earlier_if (slice_get facts (length facts - 1)))
+last_line names facts = end_line names (last_earlier facts)
 
 abbrev pub facts_text : List PieceName → List TracedJob → List Fact → List ℕ
 facts_text names jobs facts = flat_map (fact_line names jobs) facts ++ last_line names facts

@@ -5,7 +5,7 @@ ghost use Rattle.nvm_certify_text.specs.Facts as spec;
 use crate::naming::{PieceName, name_at};
 use nvm_record::NoMemory;
 use nvm_refute::Fact;
-use nvm_trace::TracedJob;
+use nvm_trace::{Ending, TracedJob};
 use std::fmt;
 use std::fmt::{Display, Formatter};
 
@@ -38,23 +38,30 @@ impl Display for OrderText {
     }
 }
 
+/// When a job that ended so did, if it did.
+pub(crate) fn time_of(ended: &Option<Ending>) -> Option<u64>
+    ensures { result ≡ spec.time_of ended.now }
+{
+    match ended {
+        Some(ending) => Some(ending.time),
+        None => None,
+    }
+}
+
 /// When the job of this number ended, if it did and there is one.
 #[tactic(auto, unfolding(crate::specs::Facts::ended_at))]
-fn ended_at(jobs: &[TracedJob], number: usize) -> Option<u64>
+pub(crate) fn ended_at(jobs: &[TracedJob], number: usize) -> Option<u64>
     ensures { result ≡ spec.ended_at jobs.now number }
 {
     match jobs.get(number) {
-        Some(job) => match &job.ended {
-            Some(ending) => Some(ending.time),
-            None => None,
-        },
+        Some(job) => time_of(&job.ended),
         None => None,
     }
 }
 
 /// When the job of this number began, if there is one.
 #[tactic(auto, unfolding(crate::specs::Facts::began_at))]
-fn began_at(jobs: &[TracedJob], number: usize) -> Option<u64>
+pub(crate) fn began_at(jobs: &[TracedJob], number: usize) -> Option<u64>
     ensures { result ≡ spec.began_at jobs.now number }
 {
     match jobs.get(number) {

@@ -1,11 +1,16 @@
-//! The text of a verdict on a trace, for people and for programs: one fact a line.
+//! The text of a verdict on a trace, for people and for programs: one fact a line, or one object of JSON.
 //!
-//! [`certification_text`] writes it and [`certification_status`] is the exit status that goes with it. A contradiction is told in full:
-//! a line for each command of the argument, as the trace's text has it, and a line for each step of the argument with its reason.
+//! [`certification_text`] writes lines, [`certification_object`] the object, and [`certification_status`] is the exit status that goes with both.
+//! A contradiction is told in full: each command of the argument, as the trace's text has it, and each step of the argument with its reason.
 #![tactic(auto)]
 
+mod command_object;
 mod fact_line;
+mod fact_object;
 mod naming;
+mod values;
 mod verdict;
+mod verdict_object;
 
 pub use verdict::{certification_status, certification_text};
+pub use verdict_object::certification_object;

@@ -134,7 +134,7 @@ fn push_commands(
 }
 
 /// Whether a fact names a piece of the job of this number.
-fn is_named(names: &[PieceName], job: usize, facts: &[Fact]) -> bool
+pub(crate) fn is_named(names: &[PieceName], job: usize, facts: &[Fact]) -> bool
     ensures { result ≡ list_any (spec.names_job names.now job) facts.now }
 {
     for fact in facts {
@@ -196,15 +196,22 @@ fn push_facts(
 fn push_end(text: &mut String, names: &[PieceName], facts: &[Fact]) -> Result<(), NoMemory>
     ensures { OnOk result (string_bytes text.new ≡ string_bytes text.old ++ spec.last_line names.now facts.now) }
 {
-    match facts.last() {
-        Some(fact) => match earlier_of(*fact) {
-            Some(piece) => {
-                let name = name_at(names, piece);
-                write!(text, "so {name} stands before itself\n")
-            }
-            None => Ok(()),
-        },
+    match last_earlier(facts) {
+        Some(piece) => {
+            let name = name_at(names, piece);
+            write!(text, "so {name} stands before itself\n")
+        }
         None => Ok(()),
+    }
+}
+
+/// The piece that the last fact puts before another.
+pub(crate) fn last_earlier(facts: &[Fact]) -> Option<u32>
+    ensures { result ≡ spec.last_earlier facts.now }
+{
+    match facts.last() {
+        Some(fact) => earlier_of(*fact),
+        None => None,
     }
 }
 

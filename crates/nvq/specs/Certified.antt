@@ -5,6 +5,7 @@ use Rattle.std.specs.Global.{Global}
 use Rattle.nvm_certify.specs.Certified.{IsCertified}
 use Rattle.nvm_certify.specs.declared.certification.Certification.{Certification}
 use Rattle.nvm_certify_text.specs.Verdict.{certification_text, certification_status}
+use Rattle.nvm_certify_text.specs.VerdictObject.{certification_object}
 use Rattle.nvm_file.specs.TraceFile.{IsTraceFile}
 use Rattle.nvm_trace.specs.TraceView.{TraceView}
 use Rattle.nvm_trace.specs.declared.judging.Judging.{Judging}
@@ -12,21 +13,27 @@ use Rattle.nvq.specs.Fault.{IsFaultOfTraceAt}
 use Rattle.nvq.specs.Files.{IsReadFault, IsWriteFault}
 use Rattle.nvq.specs.declared.certifying.CertifiedTrace.{CertifiedTrace}
 use Rattle.nvq.specs.declared.certifying_words.CertifyWords.{CertifyWords}
+use Rattle.nvq.specs.declared.certifying_words.Telling.{Telling}
+use Rattle.nvq.specs.declared.certifying_words.Telling.TheVariants.{Lines, Object}
 use Rattle.nvq.specs.declared.fault.Fault.{Fault}
 use Rattle.nvq.specs.declared.fault.Fault.TheVariants.{RecordAmongLines}
 
+abbrev pub told_as : Telling → Judging → TraceView → Certification → List ℕ
+told_as Lines = certification_text
+told_as Object = certification_object
+
 -- The verdict is one on the trace of a file, and so are its text and its status.
-pub record IsCertifiedFile (judging : Judging) (told : CertifiedTrace) : Type 0 where
+pub record IsCertifiedFile (judging : Judging) (telling : Telling) (told : CertifiedTrace) : Type 0 where
   pub file : List ℕ
   pub seen : TraceView
   pub seen_file : IsTraceFile file seen
   pub verdict : IsCertified judging seen told.certification
-  pub text : string_bytes told.text ≡ certification_text judging seen told.certification
+  pub text : string_bytes told.text ≡ told_as telling judging seen told.certification
   pub status : told.status ≡ certification_status told.certification
 
 -- It is the status of a verdict on the trace of a file, of which this is printed.
-abbrev pub IsStatusOfFile : Judging → ℕ → Type 0
-IsStatusOfFile judging status = (told : CertifiedTrace) × IsCertifiedFile judging told × (status ≡ told.status)
+abbrev pub IsStatusOfFile : Judging → Telling → ℕ → Type 0
+IsStatusOfFile judging telling status = (told : CertifiedTrace) × IsCertifiedFile judging telling told × (status ≡ told.status)
 
 -- The record would go to standard output, or couldn't be written to this path.
 abbrev pub IsPlaceFault : List ℕ → Fault → Type 0

@@ -1,16 +1,19 @@
 //! `nvq certify`: whether a record explains a trace, or why none does.
-ghost use Rattle.std.specs.Prelude.{◌⊎◌, IfOk, IfErr, string_bytes};
-ghost use Rattle.nvq.specs.Certified.{IsCertifiedFile, IsCertifyingFault, IsPlaceFault, IsRecordFault, IsStatusOfFile};
+ghost use Rattle.std.specs.Prelude.{◌≡◌, ◌⊎◌, IfOk, IfErr, string_bytes};
+ghost use Rattle.nvq.specs.Certified.{IsCertifiedFile, IsCertifyingFault, IsPlaceFault, IsRecordFault, IsStatusOfFile, told_as};
 ghost use Rattle.nvq.specs.Fault.{IsFaultOfTraceAt};
 ghost use Rattle.nvq.specs.Files.{IsReadFault};
 
-use crate::certifying_words::CertifyWords;
+use crate::certifying_words::{CertifyWords, Telling};
 use crate::failure::{Failure, plain};
 use crate::fault::Fault;
 use crate::files::{check_no_lines, check_output, keep, read_as_trace, write_bytes};
 use nvm_certify::{Certification, certify};
-use nvm_certify_text::{certification_status, certification_text};
+use nvm_certify_text::{certification_object, certification_status, certification_text};
 use nvm_front::{Progress, STANDARD};
+use nvm_record::NoMemory;
+use nvm_trace::{Judging, Trace};
+use std::alloc::Global;
 use std::rt::Files;
 use std::thread::Threads;
 
@@ -29,7 +32,7 @@ pub fn run_certify<R: AllocGlobal + Files + Input + Print + Eprint + Threads + S
     words: &CertifyWords,
     progress: &Progress<'_, R>,
 ) -> Result<u8, Failure>
-    ensures status { IfOk result (IsStatusOfFile words.now.judging) }
+    ensures status { IfOk result (IsStatusOfFile words.now.judging words.now.telling) }
     ensures fault { IfErr result (λ failure. IsCertifyingFault words.now failure.fault) }
 {
     check_record(rt, words)?;
@@ -72,17 +75,39 @@ fn certified<R: AllocGlobal + Files + Input + Eprint + Threads + Sync>(
     words: &CertifyWords,
     progress: &Progress<'_, R>,
 ) -> Result<CertifiedTrace, Failure>
-    ensures certified { IfOk result (IsCertifiedFile words.now.judging) }
+    ensures certified { IfOk result (IsCertifiedFile words.now.judging words.now.telling) }
     ensures fault { IfErr result (λ failure. IsReadFault (string_bytes words.now.trace) failure.fault
         ⊎ IsFaultOfTraceAt (string_bytes words.now.trace) failure.fault) }
 {
     let trace = read_as_trace(rt, words.trace.as_str(), progress)?;
     let certification = certify(rt, rt.alloc(), words.judging, &trace, words.effort)?;
-    let text = certification_text(rt.alloc(), words.judging, &trace, &certification)?;
+    let text = told(
+        rt.alloc(),
+        words.telling,
+        words.judging,
+        &trace,
+        &certification,
+    )?;
     let status = certification_status(&certification);
     Ok(CertifiedTrace {
         certification,
         text,
         status,
     })
+}
+
+/// How the verdict is told.
+fn told(
+    alloc: Global,
+    telling: Telling,
+    judging: Judging,
+    trace: &Trace,
+    certification: &Certification,
+) -> Result<String, NoMemory>
+    ensures { IfOk result (λ text. string_bytes text ≡ told_as telling judging «trace».now certification.now) }
+{
+    match telling {
+        Telling::Lines => certification_text(alloc, judging, trace, certification),
+        Telling::Object => certification_object(alloc, judging, trace, certification),
+    }
 }

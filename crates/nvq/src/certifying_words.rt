@@ -5,10 +5,20 @@ use nvm_front::WordFault;
 use nvm_trace::Judging;
 use std::alloc::Global;
 
+/// How a verdict is told.
+#[derive(Clone, Copy, Debug, PartialEq, Eq)]
+pub enum Telling {
+    /// As lines for people.
+    Lines,
+    /// As one object of JSON.
+    Object,
+}
+
 /// What the words of `nvq certify` say.
 #[derive(Drop)]
 pub struct CertifyWords {
     pub judging: Judging,
+    pub telling: Telling,
     /// Most steps back of the search in each unit.
     pub effort: u32,
     /// Where the record that explains the trace goes, if it is kept.
@@ -34,9 +44,15 @@ pub fn read_certify(
     } else {
         Judging::Standard
     };
+    let telling = if words.get_flag("json") {
+        Telling::Object
+    } else {
+        Telling::Lines
+    };
     let trace = String::from_str(alloc, trace)?;
     Ok(Some(CertifyWords {
         judging,
+        telling,
         effort,
         record,
         trace,
@@ -60,6 +76,10 @@ pub fn certify_command<'a>(alloc: Global) -> Result<Command<'a>, Error> {
         .long("record")
         .value_name("REC")
         .help("Where the record that explains the trace goes");
+    let json = Arg::new(alloc, "json")
+        .long("json")
+        .action(ArgAction::SetTrue)
+        .help("Prints the verdict as one object of JSON on a line, for programs");
     let trace = Arg::new(alloc, "trace")
         .required(true)
         .value_name("TRACE")
@@ -67,5 +87,12 @@ pub fn certify_command<'a>(alloc: Global) -> Result<Command<'a>, Error> {
     let command = Command::new(alloc, "certify").about(
         "Says whether a record explains a trace, or why none does",
     );
-    Ok(command.arg(record)?.arg(effort)?.arg(strict)?.arg(trace)?)
+    Ok(
+        command
+            .arg(record)?
+            .arg(effort)?
+            .arg(strict)?
+            .arg(json)?
+            .arg(trace)?,
+    )
 }

@@ -1,0 +1,69 @@
+-- The verdict on a trace as one object of JSON on a line (own): its names are the words of the verdict's text.
+use Rattle.std.specs.Prelude.{ℕ, true, List, ◌++◌, Option, Some, None, codes, decimal}
+use Rattle.std.specs.List.{enumerate_from}
+use Rattle.nvm_certify.specs.declared.certification.Certification.{Certification}
+use Rattle.nvm_certify.specs.declared.certification.Certification.TheVariants as verdict
+use Rattle.nvm_certify.specs.declared.certification.Reached.{Reached}
+use Rattle.nvm_refute.specs.declared.fact.Fact.{Fact}
+use Rattle.nvm_trace.specs.declared.explained.Explained.{Explained}
+use Rattle.nvm_trace.specs.declared.judging.Judging.{Judging}
+use Rattle.nvm_trace.specs.declared.traced_job.TracedJob.{TracedJob}
+use Rattle.nvm_trace.specs.TraceView.{TraceView}
+use Rattle.nvm_certify_text.specs.declared.naming.PieceName.{PieceName}
+use Rattle.nvm_certify_text.specs.CommandObjects.{command_object}
+use Rattle.nvm_certify_text.specs.FactObjects.{fact_object, piece_object}
+use Rattle.nvm_certify_text.specs.Names.{name_at, names}
+use Rattle.nvm_certify_text.specs.Values.{values}
+use Rattle.nvm_certify_text.specs.Verdict.{last_earlier, named_jobs}
+
+unfoldable pub explained_object : Explained → List ℕ
+explained_object e =
+    codes "{\"verdict\":\"explained\",\"jobs\":" ++ (decimal e.jobs
+    ++ (codes ",\"units\":" ++ (decimal e.units
+    ++ (codes ",\"steps\":" ++ (decimal e.steps
+    ++ (codes ",\"excused\":" ++ (decimal e.excused
+    ++ (codes ",\"preparations\":" ++ (decimal e.preparations ++ codes "}\n")))))))))
+
+-- a unit had no order of all of its steps; or each had one, and no record that explains the trace was made of them
+unfoldable pub unknown_object : Option Reached → List ℕ
+unknown_object None = codes "{\"verdict\":\"unknown\",\"why\":\"no record\"}\n"
+unknown_object (Some r) =
+    codes "{\"verdict\":\"unknown\",\"why\":\"no order\",\"unit\":" ++ (decimal r.unit
+    ++ (codes ",\"placed\":" ++ (decimal r.placed ++ (codes ",\"steps\":" ++ (decimal r.steps ++ codes "}\n")))))
+
+abbrev pub name_of : List PieceName → Option ℕ → Option PieceName
+name_of names None = None
+name_of names (Some piece) = Some (name_at names piece)
+
+-- the piece that would stand before itself, if the last fact puts one before another
+abbrev pub itself_of : List PieceName → List Fact → Option PieceName
+itself_of names facts = name_of names (last_earlier facts)
+
+unfoldable pub itself_value : Option PieceName → List ℕ
+itself_value None = codes "null"
+itself_value (Some name) = piece_object name
+
+unfoldable pub contradiction_end : Option PieceName → List ℕ
+contradiction_end name = codes "],\"itself\":" ++ (itself_value name ++ codes "}\n")
+
+unfoldable pub contradiction_start : ℕ → List ℕ
+contradiction_start unit = codes "{\"verdict\":\"contradiction\",\"unit\":" ++ (decimal unit ++ codes ",\"commands\":[")
+
+-- from behind the commands on
+abbrev pub argument_members : List PieceName → List TracedJob → List Fact → List ℕ
+argument_members names jobs facts =
+    codes "],\"facts\":[" ++ (values (fact_object names jobs) true facts ++ contradiction_end (itself_of names facts))
+
+abbrev pub contradiction_with : List PieceName → List TracedJob → ℕ → List Fact → List ℕ
+contradiction_with names jobs unit facts =
+    contradiction_start unit
+    ++ (values command_object true (named_jobs names facts (enumerate_from 0 jobs)) ++ argument_members names jobs facts)
+
+-- a value for each command that the facts name, one for each fact, and what they come to
+abbrev pub contradiction_object : Judging → TraceView → ℕ → List Fact → List ℕ
+contradiction_object judging t unit facts = contradiction_with (names judging t) t.jobs unit facts
+
+abbrev pub certification_object : Judging → TraceView → Certification → List ℕ
+certification_object judging t (verdict.Explained run numbers) = explained_object numbers
+certification_object judging t (verdict.Contradicted argument) = contradiction_object judging t argument.unit argument.facts.items
+certification_object judging t (verdict.Unknown reached) = unknown_object reached

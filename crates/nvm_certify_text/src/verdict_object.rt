@@ -1,0 +1,211 @@
+//! The verdict as an object of JSON.
+ghost use Rattle.std.specs.Prelude.{◌≡◌, ◌++◌, true, IfOk, OnOk, Some, string_bytes};
+ghost use Rattle.std.specs.List.{enumerate_from};
+ghost use Rattle.nvm_certify_text.specs.VerdictObject as spec;
+ghost use Rattle.nvm_certify_text.specs.CommandObjects.{command_object};
+ghost use Rattle.nvm_certify_text.specs.FactObjects.{fact_object};
+ghost use Rattle.nvm_certify_text.specs.Values.{values};
+ghost use Rattle.nvm_certify_text.specs.Verdict.{named_jobs};
+
+use crate::command_object::push_command_object;
+use crate::fact_object::{PieceObject, push_fact_object};
+use crate::naming::{PieceName, name_at, names};
+use crate::values::push_comma;
+use crate::verdict::{is_named, last_earlier};
+use nvm_certify::{Certification, Reached};
+use nvm_record::NoMemory;
+use nvm_refute::{Argument, Fact};
+use nvm_trace::{Explained, Judging, Trace, TracedJob};
+use std::alloc::Global;
+use std::fmt;
+use std::fmt::{Display, Formatter};
+
+/// The verdict on a trace as one object of JSON, on one line with its line feed. Its names are the words of the verdict's text.
+///
+/// `verdict` is `explained`, `contradiction` or `unknown`. An explained trace has the numbers of its line, and an unknown one says
+/// by `why` whether it is `no order` or `no record` that wasn't found, and of `no order` how far the search came. A contradiction has
+/// the `unit`, the `commands` that the argument is about, by rising number, its `facts`, in its order, and by `itself` the piece that
+/// would stand before itself, or `null` after a fact of nobody. All in it is what the text says, and no string has to be escaped.
+///
+/// `NoMemory` is answered where a growth was refused.
+pub fn certification_object(
+    alloc: Global,
+    judging: Judging,
+    trace: &Trace,
+    certification: &Certification,
+) -> Result<String, NoMemory>
+    ensures { IfOk result (λ text. string_bytes text ≡ spec.certification_object judging «trace».now certification.now) }
+{
+    match certification {
+        Certification::Explained { numbers, .. } => explained_object(alloc, *numbers),
+        Certification::Contradicted { argument } => {
+            contradiction_object(alloc, judging, trace, argument)
+        }
+        Certification::Unknown { reached } => unknown_object(alloc, *reached),
+    }
+}
+
+/// The object of an explained trace.
+#[tactic(auto, unfolding(crate::specs::VerdictObject::explained_object))]
+fn explained_object(alloc: Global, explained: Explained) -> Result<String, NoMemory>
+    ensures { IfOk result (λ text. string_bytes text ≡ spec.explained_object explained) }
+{
+    let Explained {
+        jobs,
+        units,
+        steps,
+        excused,
+        preparations,
+    } = explained;
+    format!(in alloc;
+        "{{\"verdict\":\"explained\",\"jobs\":{jobs},\"units\":{units},\"steps\":{steps},\"excused\":{excused},\"preparations\":{preparations}}}\n"
+    )
+}
+
+/// The object of a trace of which nothing is known.
+#[tactic(auto, unfolding(crate::specs::VerdictObject::unknown_object))]
+fn unknown_object(alloc: Global, reached: Option<Reached>) -> Result<String, NoMemory>
+    ensures { IfOk result (λ text. string_bytes text ≡ spec.unknown_object reached) }
+{
+    match reached {
+        Some(
+            Reached {
+                unit,
+                placed,
+                steps,
+            },
+        ) => format!(in alloc;
+            "{{\"verdict\":\"unknown\",\"why\":\"no order\",\"unit\":{unit},\"placed\":{placed},\"steps\":{steps}}}\n"
+        ),
+        None => format!(in alloc; "{{\"verdict\":\"unknown\",\"why\":\"no record\"}}\n"),
+    }
+}
+
+/// The object of a contradicted trace.
+fn contradiction_object(
+    alloc: Global,
+    judging: Judging,
+    trace: &Trace,
+    argument: &Argument,
+) -> Result<String, NoMemory>
+    ensures { IfOk result (λ text. string_bytes text
+        ≡ spec.contradiction_object judging «trace».now argument.now.unit argument.now.facts.items) }
+{
+    let names = names(alloc, judging, trace)?;
+    contradiction_with(alloc, &names, &trace.jobs, argument.unit, &argument.facts)
+}
+
+/// The object of a contradiction in this unit, by these facts.
+fn contradiction_with(
+    alloc: Global,
+    names: &[PieceName],
+    jobs: &[TracedJob],
+    unit: u16,
+    facts: &[Fact],
+) -> Result<String, NoMemory>
+    ensures { IfOk result (λ text. string_bytes text ≡ spec.contradiction_with names.now jobs.now unit facts.now) }
+{
+    let mut text = contradiction_start(alloc, unit)?;
+    push_commands(&mut text, names, jobs, facts)?;
+    push_argument(&mut text, names, jobs, facts)?;
+    Ok(text)
+}
+
+/// How the object of a contradicted trace begins.
+#[tactic(auto, unfolding(crate::specs::VerdictObject::contradiction_start))]
+fn contradiction_start(alloc: Global, unit: u16) -> Result<String, NoMemory>
+    ensures { IfOk result (λ text. string_bytes text ≡ spec.contradiction_start unit) }
+{
+    format!(in alloc; "{{\"verdict\":\"contradiction\",\"unit\":{unit},\"commands\":[")
+}
+
+/// Appends a value for each command that the facts name.
+fn push_commands(
+    text: &mut String,
+    names: &[PieceName],
+    jobs: &[TracedJob],
+    facts: &[Fact],
+) -> Result<(), NoMemory>
+    ensures { OnOk result (string_bytes text.new ≡ string_bytes text.old
+        ++ values command_object true (named_jobs names.now facts.now (enumerate_from 0 jobs.now))) }
+{
+    let mut is_first = true;
+    for (number, job) in jobs.iter().enumerate() {
+        if is_named(names, number, facts) {
+            push_comma(text, is_first)?;
+            push_command_object(text, number, job)?;
+            is_first = false;
+        }
+    }
+    Ok(())
+}
+
+/// Appends what stands behind the commands.
+fn push_argument(
+    text: &mut String,
+    names: &[PieceName],
+    jobs: &[TracedJob],
+    facts: &[Fact],
+) -> Result<(), NoMemory>
+    ensures { OnOk result (string_bytes text.new ≡ string_bytes text.old ++ spec.argument_members names.now jobs.now facts.now) }
+{
+    text.push_str("],\"facts\":[")?;
+    push_facts(text, names, jobs, facts)?;
+    let itself = itself_of(names, facts);
+    push_end(text, itself)?;
+    Ok(())
+}
+
+/// Appends a value for each fact.
+fn push_facts(
+    text: &mut String,
+    names: &[PieceName],
+    jobs: &[TracedJob],
+    facts: &[Fact],
+) -> Result<(), NoMemory>
+    ensures { OnOk result (string_bytes text.new ≡ string_bytes text.old
+        ++ values (fact_object names.now jobs.now) true facts.now) }
+{
+    let mut is_first = true;
+    for fact in facts {
+        push_comma(text, is_first)?;
+        push_fact_object(text, names, jobs, *fact)?;
+        is_first = false;
+    }
+    Ok(())
+}
+
+/// The piece that would stand before itself by these facts, if the last of them puts one before another.
+fn itself_of(names: &[PieceName], facts: &[Fact]) -> Option<PieceName>
+    ensures { result ≡ spec.itself_of names.now facts.now }
+{
+    match last_earlier(facts) {
+        Some(piece) => Some(name_at(names, piece)),
+        None => None,
+    }
+}
+
+/// A piece, or `null` for none.
+#[derive(Clone, Copy)]
+struct ItselfValue(Option<PieceName>);
+
+impl Display for ItselfValue {
+    ghost output = { λ value. Some (spec.itself_value value.0) };
+
+    #[tactic(auto, unfolding(crate::specs::VerdictObject::itself_value))]
+    fn fmt<W: fmt::Write>(&self, f: &mut Formatter<W>) -> fmt::Result {
+        match self.0 {
+            Some(name) => write!(f, "{}", PieceObject(name)),
+            None => f.write_str("null"),
+        }
+    }
+}
+
+/// Appends what the facts come to, and ends the object.
+#[tactic(auto, unfolding(crate::specs::VerdictObject::contradiction_end))]
+fn push_end(text: &mut String, itself: Option<PieceName>) -> Result<(), NoMemory>
+    ensures { OnOk result (string_bytes text.new ≡ string_bytes text.old ++ spec.contradiction_end itself) }
+{
+    let itself = ItselfValue(itself);
+    write!(text, "],\"itself\":{itself}}}\n")
+}
