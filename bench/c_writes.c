@@ -88,7 +88,7 @@ int main(int words, char **word)
     memset(ports, 0, sizeof ports);
     for (int i = 0; i < DATA; i++)
         memset(data[i], i, BLOCK);
-    if (threads == 0 || threads > ZK_MOST_PORTS || zk_open(ports, threads, &ns, ZK_MOST_CHANGES, false) != ZK_DONE)
+    if (threads == 0 || threads > ZK_MOST_PORTS || zk_open(ports, threads, &ns, ZK_MOST_CHANGES, false, false) != ZK_DONE)
         return 1;
     for (unsigned long t = 0; t < threads; t++)
         shares[t] = (struct share){ .port = &ports[t], .first = t * blocks, .blocks = blocks, .writes = writes / threads };

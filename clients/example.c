@@ -1,8 +1,11 @@
 /* Four threads add to one counter, which stands in the first bytes of a block: each reads the block and writes it
- * back one higher by a fused Compare and Write, again and again until the Compare holds. No addition is lost. */
+ * back one higher by a fused Compare and Write, again and again until the Compare holds. No addition is lost.
+ *
+ * The namespace is recorded. At the end the record of all that the threads did is audited, and written to the file that is named. */
 #include <pthread.h>
 #include <sched.h>
 #include <stdio.h>
+#include <stdlib.h>
 #include <string.h>
 
 #include "zalkvorn.h"
@@ -101,11 +104,11 @@ static int refusals(void)
     MUST(zk_identify(port, block, BLOCK), ZK_NOT_OPEN);
     MUST(zk_submit(port, entries, 64, block, BLOCK, told, 16), ZK_NOT_OPEN);
     MUST(zk_poll(port, block, BLOCK, told, 16), ZK_NOT_OPEN);
-    MUST(zk_open(ports, 0, &ns, 100, true), ZK_BAD_PORTS);
-    MUST(zk_open(ports, 2, &none, 100, true), ZK_BAD_NAMESPACE);
-    MUST(zk_open(ports, 2, &ns, 0, true), ZK_BAD_LIMIT);
-    MUST(zk_open(ports, 2, &ns, 100, true), ZK_DONE);
-    MUST(zk_open(ports, 2, &ns, 100, true), ZK_IS_OPEN);
+    MUST(zk_open(ports, 0, &ns, 100, true, false), ZK_BAD_PORTS);
+    MUST(zk_open(ports, 2, &none, 100, true, false), ZK_BAD_NAMESPACE);
+    MUST(zk_open(ports, 2, &ns, 0, true, false), ZK_BAD_LIMIT);
+    MUST(zk_open(ports, 2, &ns, 100, true, false), ZK_DONE);
+    MUST(zk_open(ports, 2, &ns, 100, true, false), ZK_IS_OPEN);
     MUST(zk_poll(port, block, BLOCK, told, 16), ZK_IDLE);
     MUST(zk_submit(port, entries, 63, block, BLOCK, told, 16), ZK_BAD_LENGTH);
     MUST(zk_submit(port, entries, 64, block, BLOCK - 1, told, 16), ZK_BAD_LENGTH);
@@ -140,17 +143,41 @@ static int refusals(void)
     block[0] = 0;
     MUST(zk_read_now(&ports[1], 0, 0, block, BLOCK, &status), ZK_DONE);
     MUST(block[0], 0xa5);
+    size_t size;
+    MUST(zk_record(ports, 2, block, BLOCK, &size), ZK_NO_RECORD);
     MUST(zk_close(port), ZK_DONE);
     MUST(zk_close(port), ZK_NOT_OPEN);
+    MUST(zk_record(ports, 2, block, BLOCK, &size), ZK_NOT_OPEN);
     MUST(zk_read_now(port, 0, 0, block, BLOCK, &status), ZK_NOT_OPEN);
     MUST(zk_close(&ports[1]), ZK_DONE);
-    MUST(zk_open(ports, 1, &ns, 100, false), ZK_DONE);
+    MUST(zk_open(ports, 1, &ns, 100, false, false), ZK_DONE);
     MUST(zk_read_now(port, 0, 0, block, BLOCK, &status), ZK_NO_VERSIONS);
     MUST(zk_close(port), ZK_DONE);
     return 0;
 }
 
-int main(void)
+/* Takes the record of what the ports did, has it judged, and writes it to the file. */
+static int judged(struct zk_port *ports, const char *path)
+{
+    size_t length;
+    char line[ZK_LINE_BYTES];
+    if (zk_record(ports, THREADS, (uint8_t[1]) { 0 }, 0, &length) != ZK_SHORT_ROOM)
+        return 0;
+    uint8_t *bytes = malloc(length);
+    int right = bytes && zk_record(ports, THREADS, bytes, length, &length) == ZK_DONE
+        && zk_audit(bytes, length, line, sizeof line) == ZK_DONE;
+    if (right)
+        fputs(line, stdout);
+    if (right && path) {
+        FILE *file = fopen(path, "wb");
+        right = file && fwrite(bytes, 1, length, file) == length;
+        right = file && fclose(file) == 0 && right;
+    }
+    free(bytes);
+    return right;
+}
+
+int main(int words, char **word)
 {
     if (zk_version() != ZK_VERSION)
         return 1;
@@ -158,7 +185,7 @@ int main(void)
         return 1;
     struct zk_namespace ns = { 64, BLOCK, 7, 0, 7, 7 };
     struct zk_port ports[THREADS] = { ZK_PORT_INIT, ZK_PORT_INIT, ZK_PORT_INIT, ZK_PORT_INIT };
-    if (zk_open(ports, THREADS, &ns, ZK_MOST_CHANGES, true) != ZK_DONE)
+    if (zk_open(ports, THREADS, &ns, ZK_MOST_CHANGES, true, true) != ZK_DONE)
         return 1;
     pthread_t threads[THREADS];
     for (int i = 0; i < THREADS; i++)
@@ -175,6 +202,8 @@ int main(void)
     if (failed || !read_block(&ports[0], block))
         return 1;
     printf("%d threads added %d each: %u\n", THREADS, ADDITIONS, number_in(block));
+    if (!judged(ports, words > 1 ? word[1] : NULL))
+        return 1;
     for (int i = 0; i < THREADS; i++)
         if (zk_close(&ports[i]) != ZK_DONE)
             return 1;

@@ -701,7 +701,7 @@ static bool try_opens(struct worker *w)
         if (below(w, 12) == 0)
             ns.nsze = below(w, 2) ? below(w, 70000) : 0;
         uint32_t limit = below(w, 12) ? 1 + (uint32_t)below(w, ZK_MOST_CHANGES) : below(w, 2) ? 0 : ZK_MOST_CHANGES + 1;
-        bool versions = below(w, 2);
+        bool versions = below(w, 2), recorded = below(w, 2);
         size_t first = below(w, 4), count = below(w, 5 - first);
         bool any = false;
         for (size_t i = first; i < first + count; i++)
@@ -709,7 +709,7 @@ static bool try_opens(struct worker *w)
         int due = any ? ZK_IS_OPEN : count == 0 ? ZK_BAD_PORTS : !is_namespace(&ns) ? ZK_BAD_NAMESPACE
             : limit == 0 || limit > ZK_MOST_CHANGES ? ZK_BAD_LIMIT : ZK_DONE;
         memcpy(before, ports, sizeof ports);
-        if (!judge_code(w, "open", NULL, zk_open(ports + first, count, &ns, limit, versions), BIT(due)))
+        if (!judge_code(w, "open", NULL, zk_open(ports + first, count, &ns, limit, versions, recorded), BIT(due)))
             return false;
         if (due != ZK_DONE && memcmp(ports, before, sizeof ports) != 0)
             return wrong(w, "ports written by a refused open", NULL, (uint64_t)due, ZK_DONE);
@@ -729,7 +729,7 @@ static bool try_opens(struct worker *w)
             return false;
     memset(many, 0, sizeof many);
     struct zk_namespace ns = { 8, 512, 0, 0, 0, 0 };
-    return judge_code(w, "open of too many", NULL, zk_open(many, ZK_MOST_PORTS + 1, &ns, 1, false), BIT(ZK_BAD_PORTS));
+    return judge_code(w, "open of too many", NULL, zk_open(many, ZK_MOST_PORTS + 1, &ns, 1, false, false), BIT(ZK_BAD_PORTS));
 }
 
 /* Reads the thread's own zone, block by block. Others may read there, too, so a unit may be held. */
@@ -813,7 +813,7 @@ static bool round_of(uint64_t seed, int threads, unsigned long calls[CODES])
     for (int i = 0; i < 2; i++) {
         some_space(&whole, &spaces[i]);
         if (!judge_code(&whole, "open of a round", NULL,
-                        zk_open(ports[i], (size_t)threads, &spaces[i].ns, spaces[i].limit, spaces[i].versions), BIT(ZK_DONE)))
+                        zk_open(ports[i], (size_t)threads, &spaces[i].ns, spaces[i].limit, spaces[i].versions, false), BIT(ZK_DONE)))
             return false;
     }
     pthread_t ids[MOST_THREADS];

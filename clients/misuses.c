@@ -1,6 +1,6 @@
 /* A table of misuses: a row for each way to be refused, with the code that is answered. Only ZK_DONE may write, so after every
- * other answer the ports, the data, the completions and the status are compared with what stood there. The last rows are those of
- * ZK_DONE and ZK_PENDING.
+ * other answer the ports, the data, the completions and the status are compared with what stood there; ZK_SHORT_ROOM tells a length.
+ * The last rows are those of ZK_DONE and ZK_PENDING.
  *
  * Memory is refused, and a unit is held, by this program's own malloc: link it with -Wl,--wrap=malloc,--wrap=realloc. */
 #include <pthread.h>
@@ -27,19 +27,23 @@ enum state {
     PENDING,    /* so a Read of two blocks is pending in the first */
     WRITING,    /* so a Write is pending in the first */
     STARVED,    /* all are open, and malloc refuses */
-    SHUT_STARVED
+    SHUT_STARVED,
+    RECORDED,   /* all are open, of a recorded namespace */
+    MIXED,      /* so, but the third is of another one */
+    ASKED,      /* the second has the unit of LBA 0, so a Read is pending in the first, of a recorded namespace */
+    RECORDED_STARVED
 };
 
-enum call { OPENS, CLOSES, SUBMITS, POLLS, IDENTIFIES, READS_NOW };
+enum call { OPENS, CLOSES, SUBMITS, POLLS, IDENTIFIES, READS_NOW, RECORDS };
 
 struct row {
     int code;
     enum call call;
     enum state state;
     const char *misuse;
-    /* Lengths: of the entries, the data and the completions. Of zk_open the first is the number of ports. */
+    /* Lengths: of the entries, the data and the completions. Of zk_open and zk_record the first is the number of ports. */
     size_t entries, data, completions;
-    /* The opcodes and the FUSE bits of a submission, the LBA and NLB of zk_read_now. */
+    /* The opcodes and the FUSE bits of a submission, the LBA and NLB of zk_read_now, the first port of zk_record. */
     uint64_t first, second;
     struct zk_namespace ns;
     uint32_t limit;
@@ -53,6 +57,7 @@ struct row {
 #define POLL_ROW(code, state, misuse, data, completions) { code, POLLS, state, misuse, 0, data, completions, 0, 0, USUAL }
 #define IDENTIFY_ROW(code, state, misuse, data) { code, IDENTIFIES, state, misuse, 0, data, 0, 0, 0, USUAL }
 #define READ_NOW_ROW(code, state, misuse, slba, nlb, data) { code, READS_NOW, state, misuse, 0, data, 0, slba, nlb, USUAL }
+#define RECORD_ROW(code, state, misuse, first, ports, room) { code, RECORDS, state, misuse, ports, room, 0, first, 0, USUAL }
 
 /* An opcode with its FUSE bits. */
 #define FUSED(opcode, fuse) ((opcode) | (fuse) << 8)
@@ -133,6 +138,18 @@ static const struct row rows[] = {
     READ_NOW_ROW(ZK_CROSSES, OPEN, "read_now of two units", 7, 1, 2 * BLOCK),
     READ_NOW_ROW(ZK_NEWER, BEHIND, "read_now of what another has changed", 0, 0, BLOCK),
     READ_NOW_ROW(ZK_NO_MEMORY, STARVED, "read_now without memory", 0, 0, BLOCK),
+    RECORD_ROW(ZK_NOT_OPEN, SHUT, "record of ports that were never opened", 0, PORTS, ROOM),
+    RECORD_ROW(ZK_NOT_OPEN, CLOSED, "record after close", 0, PORTS, ROOM),
+    RECORD_ROW(ZK_NO_RECORD, OPEN, "record of a namespace that isn't recorded", 0, PORTS, ROOM),
+    RECORD_ROW(ZK_OTHER_PORTS, RECORDED, "record of no port", 0, 0, ROOM),
+    RECORD_ROW(ZK_OTHER_PORTS, RECORDED, "record without the last port", 0, PORTS - 1, ROOM),
+    RECORD_ROW(ZK_OTHER_PORTS, RECORDED, "record without the first port", 1, PORTS - 1, ROOM),
+    RECORD_ROW(ZK_OTHER_PORTS, RECORDED, "record with a port too many", 0, PORTS + 1, ROOM),
+    RECORD_ROW(ZK_OTHER_PORTS, RECORDED, "record of 65 ports", 0, 65, ROOM),
+    RECORD_ROW(ZK_OTHER_PORTS, MIXED, "record with a port of another namespace", 0, PORTS, ROOM),
+    RECORD_ROW(ZK_BUSY, ASKED, "record while a command is pending", 0, PORTS, ROOM),
+    RECORD_ROW(ZK_SHORT_ROOM, RECORDED, "record without room", 0, PORTS, 0),
+    RECORD_ROW(ZK_NO_MEMORY, RECORDED_STARVED, "record without memory", 0, PORTS, ROOM),
     OPEN_ROW(ZK_DONE, SHUT, "open", 2, 100, 64, BLOCK, 7, 0, 7, 7),
     OPEN_ROW(ZK_DONE, CLOSED, "open again", 2, ZK_MOST_CHANGES, 65536, 4096, 15, 0, 15, 0),
     CLOSE_ROW(ZK_DONE, OPEN, "close"),
@@ -148,6 +165,7 @@ static const struct row rows[] = {
     SUBMIT_ROW(ZK_DONE, OPEN, "Flush", 64, 0, 16, 0x00, 0),
     IDENTIFY_ROW(ZK_DONE, PENDING, "identify while a command is pending", ZK_IDENTIFY_BYTES),
     READ_NOW_ROW(ZK_DONE, TAKEN, "read_now while the unit is held", 0, 0, BLOCK),
+    RECORD_ROW(ZK_DONE, RECORDED, "record", 0, PORTS, ROOM),
 };
 
 /* What this thread's malloc does: refuse, refuse from the so manyth call on, or stop at the so manyth call and wait. */
@@ -217,7 +235,7 @@ static void let_go(struct holder *holder)
 
 static void close_all(void)
 {
-    for (int i = 0; i < PORTS; i++)
+    for (int i = 0; i < 2 * PORTS; i++)
         zk_close(&ports[i]);
 }
 
@@ -229,9 +247,23 @@ static int submit(struct zk_port *port, uint8_t opcode, uint32_t blocks)
     return zk_submit(port, entry, sizeof entry, data, blocks * BLOCK, told, sizeof told);
 }
 
+/* Whether namespaces are opened with a record. */
+static bool recorded;
+
 static bool open_all(bool versions)
 {
-    return zk_open(ports, PORTS, &usual, 100, versions) == ZK_DONE;
+    return zk_open(ports, PORTS, &usual, 100, versions, recorded) == ZK_DONE;
+}
+
+/* The third port of another namespace stands at the place of the third. */
+static bool mix(void)
+{
+    if (!open_all(true) || zk_open(&ports[PORTS], PORTS, &usual, 100, true, true) != ZK_DONE)
+        return false;
+    struct zk_port moved = ports[PORTS - 1];
+    ports[PORTS - 1] = ports[2 * PORTS - 1];
+    ports[2 * PORTS - 1] = moved;
+    return true;
 }
 
 /* Has the second port hold the unit of LBA 0. A Write asks for memory a few times, and at one of these it has the unit. */
@@ -256,6 +288,7 @@ static bool hold_unit(struct holder *holder)
 static bool prepare(enum state state, struct holder *holder)
 {
     close_all();
+    recorded = state >= RECORDED;
     switch (state) {
     case SHUT:
     case SHUT_STARVED:
@@ -266,10 +299,14 @@ static bool prepare(enum state state, struct holder *holder)
         close_all();
         return true;
     case SECOND:
-        return zk_open(&ports[1], 1, &usual, 100, true) == ZK_DONE;
+        return zk_open(&ports[1], 1, &usual, 100, true, false) == ZK_DONE;
     case OPEN:
     case STARVED:
+    case RECORDED:
+    case RECORDED_STARVED:
         return open_all(true);
+    case MIXED:
+        return mix();
     case PLAIN:
         return open_all(false);
     case BEHIND:
@@ -277,6 +314,7 @@ static bool prepare(enum state state, struct holder *holder)
     case TAKEN:
         return hold_unit(holder);
     case PENDING:
+    case ASKED:
         return hold_unit(holder) && submit(&ports[0], READ, 2) == ZK_PENDING;
     case WRITING:
         return hold_unit(holder) && submit(&ports[0], WRITE, 1) == ZK_PENDING;
@@ -288,6 +326,7 @@ static bool prepare(enum state state, struct holder *holder)
 struct written {
     uint8_t data[ROOM], completions[4 * ZK_COMPLETION_BYTES];
     struct zk_status status;
+    size_t length;
 };
 
 static int call(const struct row *row, struct written *written)
@@ -298,7 +337,7 @@ static int call(const struct row *row, struct written *written)
     entry_of(entries + 2 * ZK_ENTRY_BYTES, WRITE, 0, 3, 0, 1);
     switch (row->call) {
     case OPENS:
-        return zk_open(ports, row->entries, &row->ns, row->limit, true);
+        return zk_open(ports, row->entries, &row->ns, row->limit, true, false);
     case CLOSES:
         return zk_close(ports);
     case SUBMITS:
@@ -309,6 +348,8 @@ static int call(const struct row *row, struct written *written)
         return zk_identify(ports, written->data, row->data);
     case READS_NOW:
         return zk_read_now(ports, row->first, (uint16_t)row->second, written->data, row->data, &written->status);
+    case RECORDS:
+        return zk_record(ports + row->first, row->entries, written->data, row->data, &written->length);
     }
     return -1;
 }
@@ -326,12 +367,14 @@ static bool holds(const struct row *row)
     memset(&written, 0xa5, sizeof written);
     memcpy(&before, &written, sizeof written);
     memcpy(ports_before, ports, sizeof ports);
-    refuses = row->state == STARVED || row->state == SHUT_STARVED;
+    refuses = row->state == STARVED || row->state == SHUT_STARVED || row->state == RECORDED_STARVED;
     int code = call(row, &written);
     refuses = false;
     bool right = code == row->code;
     if (!right)
         fprintf(stderr, "misuses: %s: %d, and not %d\n", row->misuse, code, row->code);
+    if (code == ZK_SHORT_ROOM)
+        before.length = written.length;
     if (code != ZK_DONE && memcmp(&written, &before, sizeof written) != 0) {
         fprintf(stderr, "misuses: %s: something was written\n", row->misuse);
         right = false;
@@ -341,7 +384,7 @@ static bool holds(const struct row *row)
         right = false;
     }
     let_go(&holder);
-    if ((row->state == PENDING || row->state == WRITING) && row->call != CLOSES
+    if ((row->state == PENDING || row->state == WRITING || row->state == ASKED) && row->call != CLOSES
         && zk_poll(ports, written.data, 2 * BLOCK, written.completions, ZK_COMPLETION_BYTES) != ZK_DONE) {
         fprintf(stderr, "misuses: %s: the pending command is lost\n", row->misuse);
         right = false;
@@ -379,6 +422,31 @@ static bool starved_in_the_midst(void)
     return true;
 }
 
+/* Where memory is refused at the nth time, a record is refused too, and it can be asked for again: then it is there whole. */
+static bool record_starved(void)
+{
+    static uint8_t bytes[2][ROOM];
+    size_t length[2] = { 0, 0 };
+    recorded = true;
+    if (!open_all(true) || submit(&ports[0], WRITE, 1) != ZK_DONE || submit(&ports[1], READ, 2) != ZK_DONE
+        || submit(&ports[2], WRITE_ZEROES, 0) != ZK_DONE || zk_record(ports, PORTS, bytes[0], ROOM, &length[0]) != ZK_DONE)
+        return false;
+    for (unsigned nth = 1; nth < 256; nth++) {
+        refuses_from = nth;
+        int code = zk_record(ports, PORTS, bytes[1], ROOM, &length[1]);
+        bool was_refused = refuses_from == 0;
+        refuses_from = 0;
+        refuses = false;
+        if (!was_refused) {
+            close_all();
+            return nth > 8 && code == ZK_DONE && length[1] == length[0] && memcmp(bytes[0], bytes[1], length[0]) == 0;
+        }
+        if (code != ZK_NO_MEMORY || length[1] != 0)
+            return false;
+    }
+    return false;
+}
+
 /* Where memory is refused at the nth time, an audit says so and writes nothing. */
 static bool audit_starved(void)
 {
@@ -404,7 +472,9 @@ int main(int words, char **word)
 {
     static const char *const codes[] = { "ZK_DONE", "ZK_PENDING", "ZK_NOT_OPEN", "ZK_IS_OPEN", "ZK_NO_MEMORY",
                                          "ZK_BAD_NAMESPACE", "ZK_BAD_PORTS", "ZK_BAD_LIMIT", "ZK_BAD_LENGTH", "ZK_NO_PAIR",
-                                         "ZK_BUSY", "ZK_IDLE", "ZK_NEWER", "ZK_OUT_OF_RANGE", "ZK_CROSSES", "ZK_NO_VERSIONS" };
+                                         "ZK_BUSY", "ZK_IDLE", "ZK_NEWER", "ZK_OUT_OF_RANGE", "ZK_CROSSES", "ZK_NO_VERSIONS",
+                                         /* Of a record that isn't lawful, of bytes that are none, and of one that is full: no row. */
+                                         NULL, NULL, "ZK_SHORT_ROOM", "ZK_OTHER_PORTS", "ZK_NO_RECORD", NULL };
     bool right = true, answered[sizeof codes / sizeof *codes] = { false };
     size_t count = sizeof rows / sizeof *rows;
     sem_init(&stopped, 0, 0);
@@ -419,12 +489,16 @@ int main(int words, char **word)
         fprintf(stderr, "misuses: a Write to which memory is refused in the midst\n");
         right = false;
     }
+    if (!record_starved()) {
+        fprintf(stderr, "misuses: a record to which memory is refused\n");
+        right = false;
+    }
     if (!audit_starved()) {
         fprintf(stderr, "misuses: an audit to which memory is refused\n");
         right = false;
     }
     for (size_t i = 0; i < sizeof codes / sizeof *codes; i++)
-        if (!answered[i]) {
+        if (codes[i] && !answered[i]) {
             fprintf(stderr, "misuses: no row answers %s\n", codes[i]);
             right = false;
         }

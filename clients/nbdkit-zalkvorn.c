@@ -90,7 +90,7 @@ static int zalkvorn_after_fork(void)
     mallopt(M_ARENA_MAX, 1);
     mallopt(M_TOP_PAD, 16 << 20);
 #endif
-    int code = zk_open(opened, ports, &ns, limit, false);
+    int code = zk_open(opened, ports, &ns, limit, false, false);
     if (code != ZK_DONE) {
         nbdkit_error("zalkvorn: %s", code == ZK_BAD_PORTS ? "ports is 1 to 64" : code == ZK_BAD_LIMIT
                      ? "limit is 1 to 4194304" : code == ZK_NO_MEMORY ? "no memory" : "no such namespace");

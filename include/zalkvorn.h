@@ -39,6 +39,9 @@ extern "C" {
 #define ZK_MOST_PORTS 64
 #define ZK_MOST_CHANGES 4194304
 
+/* The most jobs of a record. A job is a command by itself or a fused pair. */
+#define ZK_MOST_JOBS 4194304
+
 /* The bytes of a submission queue entry and of a completion queue entry. */
 #define ZK_ENTRY_BYTES 64
 #define ZK_COMPLETION_BYTES 16
@@ -47,7 +50,7 @@ extern "C" {
 #define ZK_IDENTIFY_BYTES 4096
 
 /* What a call answers. Only with ZK_DONE and ZK_PENDING was anything done, and only with ZK_DONE is anything written, but for
- * zk_audit's line. */
+ * zk_audit's line and zk_record's length. */
 enum zk_code {
     ZK_DONE = 0,          /* It was done. */
     ZK_PENDING = 1,       /* The command is not done yet: call zk_poll. */
@@ -67,7 +70,10 @@ enum zk_code {
     ZK_NO_VERSIONS = 15,  /* The namespace was opened without versions. */
     ZK_UNLAWFUL = 16,     /* The record is not lawful. */
     ZK_BAD_RECORD = 17,   /* The bytes are not those of a record file. */
-    ZK_SHORT_ROOM = 18    /* The line with its byte of 0 is longer than its room. */
+    ZK_SHORT_ROOM = 18,   /* The line with its byte of 0, or the record's file, is longer than its room. */
+    ZK_OTHER_PORTS = 19,  /* These are not all ports of one namespace, in the order of zk_open. */
+    ZK_NO_RECORD = 20,    /* The namespace was opened without a record. */
+    ZK_RECORD_FULL = 21   /* There were more than ZK_MOST_JOBS commands or pairs, which no record has. */
 };
 
 /* A port. Its bytes are the library's own. */
@@ -95,11 +101,13 @@ uint32_t zk_version(void);
 
 /* Opens `count` ports on a new namespace whose blocks are zero bytes. Each atomic unit keeps up to `limit` changes
  * in its history; a change beyond ends with status 0/06, as does a command that finds no memory once it is under way. With `versions` each port keeps what it has seen, for
- * zk_read_now.
+ * zk_read_now. With `recorded` each port keeps each job that it did, with its data, what it read and how it ended, for zk_record: memory
+ * grows with each command then, up to ZK_MOST_JOBS of all ports together.
  * ZK_DONE; or ZK_IS_OPEN, ZK_BAD_PORTS, ZK_BAD_NAMESPACE, ZK_BAD_LIMIT or ZK_NO_MEMORY, tried in this order, and every
  * port is as it was.
  * Threads: nobody else uses these ports during the call. */
-int zk_open(struct zk_port *ports, size_t count, const struct zk_namespace *ns, uint32_t limit, bool versions);
+int zk_open(struct zk_port *ports, size_t count, const struct zk_namespace *ns, uint32_t limit, bool versions,
+            bool recorded);
 
 /* Closes the port, and forgets a pending command, whose parts that were done stay done. The namespace is freed with
  * its last port. ZK_DONE or ZK_NOT_OPEN: a second close does nothing.
@@ -171,6 +179,22 @@ int zk_read_now(struct zk_port *port, uint64_t slba, uint16_t nlb, uint8_t *data
  * It takes some memory for each byte of the file, and gives it back. It starts no thread, and waits for nothing.
  * Threads: any thread, any time. It uses no port. */
 int zk_audit(const uint8_t *bytes, size_t length, char *line, size_t room);
+
+/* Gives the record of all that the ports of a namespace did since zk_open, as the bytes of a record file: a command that a check
+ * refused is in it, and what zk_read_now answered is not. `ports` are all ports of one namespace, open, in the order in which zk_open
+ * had them, and none has a command pending. They stay open and as they are: the run may go on, and be recorded again. The record is
+ * audited before it is given, by the audit that zk_audit makes; write the bytes to a file, and `nvmu audit`, `nvq explain` and
+ * `nvq draw` read it.
+ * ZK_DONE: the file stands in the front of `bytes`, and `*length` is how long it is.
+ * ZK_SHORT_ROOM: the room is shorter than the file. `*length` is how long that is, and nothing else is written. So a first call with a
+ * `room` of 0 asks for the length.
+ * ZK_NOT_OPEN, ZK_NO_RECORD, ZK_BUSY, ZK_RECORD_FULL: so it is with one of the ports. ZK_OTHER_PORTS: a port is missing, comes twice, stands
+ * at another's place, or is of another namespace. ZK_NO_MEMORY: malloc refused. ZK_UNLAWFUL: what was gathered is no lawful record, which
+ * no run should come to. After each of these nothing is written, nothing is lost, and it can be called again.
+ * It takes some memory for each byte of the file, and gives it back. It starts no thread, and waits for nothing. A port that was closed
+ * is missing, and what it did is lost: close the ports after the record.
+ * Threads: nobody else uses these ports during the call. */
+int zk_record(struct zk_port *ports, size_t count, uint8_t *bytes, size_t room, size_t *length);
 
 /* The command identifier, the status code type and the status code of a completion queue entry. */
 static inline uint16_t zk_cid(const uint8_t *completion)

@@ -1,4 +1,5 @@
 pub mod Codes
+pub mod Logs
 pub mod Engines
 pub mod Held
 pub mod Opening
@@ -12,3 +13,6 @@ pub mod Identify
 pub mod AuditCodes
 pub mod UnreadLine
 pub mod Audited
+pub mod RecordCodes
+pub mod Recorded
+pub mod Inside

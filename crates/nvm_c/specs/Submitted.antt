@@ -1,5 +1,5 @@
 -- What a submission does to an engine, and what a poll does.
-use Rattle.std.specs.Prelude.{◌≡◌, ℕ, ◌+◌, ◌%◌, ◌^◌, List, Option, Some, None}
+use Rattle.std.specs.Prelude.{◌≡◌, ℕ, ◌+◌, List, Option, Some, None}
 use Rattle.nvm_geometry.specs.Namespace.{Namespace}
 use Rattle.nvm_plan.specs.declared.job.Job.{Job}
 use Rattle.nvm_unit.specs.declared.views.PassView.{PassView}
@@ -7,7 +7,8 @@ use Rattle.nvm_space.specs.Trace.{DoesJob}
 use Rattle.nvm_space.specs.UnderWay.{UnderWay, IsUnderWay}
 use Rattle.nvm_space.specs.declared.job_done.JobDone.{JobDone}
 use Rattle.nvm_c.specs.Asked.{IsAsked}
-use Rattle.nvm_c.specs.Engines.{space_of, namespace_of, seen_by}
+use Rattle.nvm_c.specs.Engines.{space_of, namespace_of, seen_by, state_of}
+use Rattle.nvm_c.specs.Logs.{LogState, HasDrawn, kept_by, with_kept}
 use Rattle.nvm_c.specs.Told.{AreTold}
 use Rattle.nvm_c.specs.declared.code.Code.{Code}
 use Rattle.nvm_c.specs.declared.code.Code.TheVariants.{Done, Pending, NotOpen, IsOpen, NoMemory, BadNamespace, BadPorts, BadLimit, BadLength, NoPair, Busy, Idle, Newer, OutOfRange, Crosses, NoVersions}
@@ -19,60 +20,65 @@ pub record Buffers : Type 0 where
   pub bytes : List ℕ
   pub posted : List ℕ
 
--- The job that began at `start` was done, and C was told of it.
+-- The job that began at `start` was done, C was told of it, and it is kept where it is recorded.
 pub record IsDone (ns : Namespace) (number : ℕ) (job : Job) (start now : List PassView) (pending : Option PendingJob)
-    (old new : Buffers) : Type 0 where
+    (log log' : Option LogState) (old new : Buffers) : Type 0 where
   pub told : JobDone
   pub does : DoesJob ns number job start now told
   pub buffers : AreTold told.completions old.bytes new.bytes old.posted new.posted
   pub idle : pending ≡ None
+  pub kept : log' ≡ with_kept log number job told
 
 -- The job that began at `start` is pending, and C was told nothing.
 pub record IsPending (ns : Namespace) (number : ℕ) (job : Job) (start now : List PassView) (pending : Option PendingJob)
-    (old new : Buffers) : Type 0 where
+    (log log' : Option LogState) (old new : Buffers) : Type 0 where
   pub under_way : UnderWay
   pub same : under_way.number ≡ number
   pub goes : IsUnderWay ns job under_way start now
-  pub kept : pending ≡ Some (record { job = job; under_way = under_way })
+  pub kept : pending ≡ Some (record { number = number; job = job; under_way = under_way })
+  pub log_kept : log' ≡ log
   pub buffers : new ≡ old
 
 -- how far the job is that began at `start`, by the code
-abbrev pub Progresses : Code → Namespace → ℕ → Job → List PassView → List PassView → Option PendingJob → Buffers → Buffers → Type 0
-Progresses Done ns number job start now pending old new = IsDone ns number job start now pending old new
-Progresses Pending ns number job start now pending old new = IsPending ns number job start now pending old new
-Progresses NotOpen ns number job start now pending old new = ⊥
-Progresses IsOpen ns number job start now pending old new = ⊥
-Progresses NoMemory ns number job start now pending old new = ⊥
-Progresses BadNamespace ns number job start now pending old new = ⊥
-Progresses BadPorts ns number job start now pending old new = ⊥
-Progresses BadLimit ns number job start now pending old new = ⊥
-Progresses BadLength ns number job start now pending old new = ⊥
-Progresses NoPair ns number job start now pending old new = ⊥
-Progresses Busy ns number job start now pending old new = ⊥
-Progresses Idle ns number job start now pending old new = ⊥
-Progresses Newer ns number job start now pending old new = ⊥
-Progresses OutOfRange ns number job start now pending old new = ⊥
-Progresses Crosses ns number job start now pending old new = ⊥
-Progresses NoVersions ns number job start now pending old new = ⊥
+abbrev pub Progresses : Code → Namespace → ℕ → Job → List PassView → List PassView → Option PendingJob → Option LogState → Option LogState
+    → Buffers → Buffers → Type 0
+Progresses Done ns number job start now pending log log' old new = IsDone ns number job start now pending log log' old new
+Progresses Pending ns number job start now pending log log' old new = IsPending ns number job start now pending log log' old new
+Progresses NotOpen ns number job start now pending log log' old new = ⊥
+Progresses IsOpen ns number job start now pending log log' old new = ⊥
+Progresses NoMemory ns number job start now pending log log' old new = ⊥
+Progresses BadNamespace ns number job start now pending log log' old new = ⊥
+Progresses BadPorts ns number job start now pending log log' old new = ⊥
+Progresses BadLimit ns number job start now pending log log' old new = ⊥
+Progresses BadLength ns number job start now pending log log' old new = ⊥
+Progresses NoPair ns number job start now pending log log' old new = ⊥
+Progresses Busy ns number job start now pending log log' old new = ⊥
+Progresses Idle ns number job start now pending log log' old new = ⊥
+Progresses Newer ns number job start now pending log log' old new = ⊥
+Progresses OutOfRange ns number job start now pending log log' old new = ⊥
+Progresses Crosses ns number job start now pending log log' old new = ⊥
+Progresses NoVersions ns number job start now pending log log' old new = ⊥
 
--- A job that the entries ask for was begun, as the next of the engine, and gone on with.
+-- A job that the entries ask for was begun, under the number that was drawn for it, and gone on with.
 pub record Begins (code : Code) (e e' : Engine) (entries : List ℕ) (old new : Buffers) : Type 0 where
   pub job : Job
   pub asked : IsAsked (namespace_of e).block_size (e.port.number + 1) entries old.bytes job
-  pub progress : Progresses code (namespace_of e) e.number job (seen_by e) (seen_by e') e'.pending old new
+  pub number : ℕ
+  pub log : Option LogState
+  pub drawn : HasDrawn e.number e'.number (kept_by e.log) log number
+  pub progress : Progresses code (namespace_of e) number job (seen_by e) (seen_by e') e'.pending log (kept_by e'.log) old new
   pub space : space_of e' ≡ space_of e
-  pub next : e'.number ≡ (e.number + 1) % 2 ^ 32
 
 -- The pending job was gone on with, whatever state of the port it began at.
 pub record GoesOn (code : Code) (e e' : Engine) (p : PendingJob) (old new : Buffers) : Type 0 where
   pub progress : (start : List PassView) → IsUnderWay (namespace_of e) p.job p.under_way start (seen_by e)
-      → Progresses code (namespace_of e) p.under_way.number p.job start (seen_by e') e'.pending old new
+      → Progresses code (namespace_of e) p.number p.job start (seen_by e') e'.pending (kept_by e.log) (kept_by e'.log) old new
   pub space : space_of e' ≡ space_of e
   pub number : e'.number ≡ e.number
 
 -- Nothing was done, and nothing was written.
 abbrev pub IsRefused : Engine → Engine → Buffers → Buffers → Type 0
-IsRefused e e' old new = (e' ≡ e) × (new ≡ old)
+IsRefused e e' old new = (state_of e' ≡ state_of e) × (new ≡ old)
 
 -- what a submission does
 abbrev pub Submits : Code → Engine → Engine → List ℕ → Buffers → Buffers → Type 0

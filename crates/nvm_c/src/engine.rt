@@ -10,11 +10,13 @@ ghost use Rattle.nvm_space.specs.Trace.{DoesJob};
 ghost use Rattle.nvm_space.specs.UnderWay.{IsUnderWay};
 ghost use Rattle.nvm_space.specs.declared.job_done.JobDone.{JobDone as Told};
 ghost use Rattle.nvm_c.specs.Engines.{IsSound, namespace_of, seen_by, space_of};
+ghost use Rattle.nvm_c.specs.Logs.{HasRoomIn, kept_by};
 ghost use Rattle.nvm_c.specs.Submitted.{Polls, Progresses, Submits};
 ghost use Rattle.nvm_c.specs.Told.{FitEntries, posted_length, told_length};
 
 use crate::asking::asked_job;
 use crate::code::Code;
+use crate::log::{Log, draw, keep};
 use crate::quiet::Quiet;
 use crate::telling::{entries_length, tell};
 use nvm_plan::{Body, Job};
@@ -28,14 +30,17 @@ use std::sync::Arc;
 pub struct Engine {
     pub(crate) space: Arc<Space, Global>,
     pub(crate) port: Port,
-    /// The number of the next job.
+    /// The number of the next job, where the namespace isn't recorded.
     pub(crate) number: u32,
     pub(crate) pending: Option<Pending>,
+    /// What it did, where the namespace is recorded.
+    pub(crate) log: Option<Log>,
 }
 
 /// A job that was begun, and how far it is.
 #[derive(Drop)]
 pub struct Pending {
+    pub(crate) number: u32,
     pub(crate) job: Job,
     pub(crate) under_way: JobUnderWay,
 }
@@ -68,14 +73,18 @@ impl Engine {
         if posted.len() != entries_length(&job) {
             return Code::BadLength;
         }
-        let number = self.number;
-        self.number = number.wrapping_add(1);
+        let Ok(number) = draw(&mut self.number, &mut self.log) else {
+            return Code::NoMemory;
+        };
         match self.space.begin_job(alloc, number, &job) {
             Progress::Done(done) => {
                 tell(&done.completions, data, posted);
+                keep(&mut self.log, number, job, done);
                 Code::Done
             }
-            Progress::Pending(under_way) => self.go_on(alloc, job, under_way, data, posted),
+            Progress::Pending(under_way) => {
+                self.go_on(alloc, number, job, under_way, data, posted)
+            }
         }
     }
 
@@ -97,14 +106,19 @@ impl Engine {
         let Some(taken) = self.pending.take() else {
             unreachable!("a job is pending")
         };
-        let Pending { job, under_way } = taken;
-        self.go_on(alloc, job, under_way, data, posted)
+        let Pending {
+            number,
+            job,
+            under_way,
+        } = taken;
+        self.go_on(alloc, number, job, under_way, data, posted)
     }
 
     /// Goes on with a job that isn't in `pending`.
     fn go_on(
         &mut self,
         alloc: Global,
+        number: u32,
         job: Job,
         under_way: JobUnderWay,
         data: &mut [u8],
@@ -116,13 +130,16 @@ impl Engine {
         requires fits { FitsNamespace (namespace_of self.old) job }
         requires under_way { (start : List PassView)
             × IsUnderWay (namespace_of self.old) job under_way start (seen_by self.old) }
+        requires same { under_way.number ≡ number }
+        requires log { HasRoomIn self.old.log }
         requires room { length posted.old ≡ posted_length job.body }
         ensures sound { IsSound self.new }
         ensures space { space_of self.new ≡ space_of self.old }
         ensures number { self.new.number ≡ self.old.number }
         ensures progress { (start : List PassView)
             → IsUnderWay (namespace_of self.old) job under_way start (seen_by self.old)
-            → Progresses result (namespace_of self.old) under_way.number job start (seen_by self.new) self.new.pending
+            → Progresses result (namespace_of self.old) number job start (seen_by self.new) self.new.pending
+            (kept_by self.old.log) (kept_by self.new.log)
             (record { bytes = data.old; posted = posted.old }) (record { bytes = data.new; posted = posted.new }) }
     {
         told_statuses_fit_their_entries();
@@ -132,10 +149,15 @@ impl Engine {
         {
             Progress::Done(done) => {
                 tell(&done.completions, data, posted);
+                keep(&mut self.log, number, job, done);
                 Code::Done
             }
             Progress::Pending(under_way) => {
-                self.pending = Some(Pending { job, under_way });
+                self.pending = Some(Pending {
+                    number,
+                    job,
+                    under_way,
+                });
                 Code::Pending
             }
         }

@@ -5,10 +5,13 @@ ghost use Rattle.nvm_c.specs.Audited.{IsAudited};
 ghost use Rattle.nvm_c.specs.Codes.{number_of};
 ghost use Rattle.nvm_c.specs.Exports.{Closes, PollsAt, SubmitsAt};
 ghost use Rattle.nvm_c.specs.Identify.{IdentifiesAt};
-ghost use Rattle.nvm_c.specs.Opening.{Opens, numbers_of};
+ghost use Rattle.nvm_c.specs.Opening.{Opens, engines_of, numbers_of};
 ghost use Rattle.nvm_c.specs.ReadNow.{ReadsAt};
 ghost use Rattle.nvm_c.specs.declared.audit_code.AuditCode.{AuditCode as AuditAnswer};
+ghost use Rattle.nvm_c.specs.RecordCodes.{record_number};
+ghost use Rattle.nvm_c.specs.Recorded.{IsRecorded};
 ghost use Rattle.nvm_c.specs.declared.code.Code.{Code as Answer};
+ghost use Rattle.nvm_c.specs.declared.record_code.RecordCode.{RecordCode as Recording};
 
 use crate::auditing::audited;
 use crate::code::Code;
@@ -16,6 +19,7 @@ use crate::handle::Handle;
 use crate::identify::{IDENTIFY_BYTES, identify};
 use crate::opening::{Numbers, open_ports};
 use crate::reading::ReadStatus;
+use crate::recording::record_ports;
 use std::alloc::Global;
 
 /// The version of the header that goes with this library.
@@ -37,11 +41,12 @@ pub extern "C" fn zk_open(
     namespace: &Numbers,
     limit: u32,
     versions: bool,
+    recorded: bool,
 ) -> i32
     ensures { (code : Answer) × (result ≡ number_of code)
-        × Opens code (numbers_of namespace.now) limit versions ports.old ports.new }
+        × Opens code (numbers_of namespace.now) limit versions recorded ports.old ports.new }
 {
-    open_ports(alloc, ports, namespace, limit, versions).number()
+    open_ports(alloc, ports, namespace, limit, versions, recorded).number()
 }
 
 /// Closes the port. The namespace goes with its last port.
@@ -151,6 +156,22 @@ pub extern "C" fn zk_audit(alloc: Global, bytes: &[u8], line: &mut [u8]) -> i32
     ensures { (code : AuditAnswer) × (result ≡ audit_number code) × IsAudited bytes.now code line.old line.new }
 {
     audited(alloc, bytes, line).number()
+}
+
+/// Writes the file of the record of what all ports of a namespace did, and its length. Any other answer than 0 leaves the bytes as
+/// they were; with 18 the length is the one that the room must have.
+#[unsafe(no_mangle)]
+pub extern "C" fn zk_record(
+    alloc: Global,
+    ports: &mut [Handle],
+    bytes: &mut [u8],
+    size: &mut usize,
+) -> i32
+    ensures { (code : Recording) × (result ≡ record_number code) × (engines_of ports.new ≡ engines_of ports.old)
+        × IsRecorded code (engines_of ports.old) (record { bytes = bytes.old; size = size.old })
+        (record { bytes = bytes.new; size = size.new }) }
+{
+    record_ports(alloc, ports, bytes, size).number()
 }
 
 fn closed(alloc: Global, port: &mut Handle) -> Code

@@ -3,11 +3,14 @@ ghost use Rattle.std.specs.Prelude.{◌≡◌, ◌<◌, ◌≤◌, IfOk, length,
 ghost use Rattle.std.specs.List.{AllByRecursion, list_any};
 ghost use Rattle.nvm_space.specs.Spaces.{IsPortCount};
 ghost use Rattle.nvm_c.specs.Engines.{IsSound, state_of};
+ghost use Rattle.nvm_c.specs.Logs.{kept_by};
+ghost use Rattle.nvm_c.specs.Opening as spec;
 ghost use Rattle.nvm_c.specs.Opening.{IsOpened, NewPorts, Opens, engines_of, is_open, numbers_of};
 
 use crate::code::Code;
 use crate::engine::Engine;
 use crate::handle::Handle;
+use crate::log::{Log, Numbering};
 use nvm_geometry::Geometry;
 use nvm_record::NoMemory;
 use nvm_space::Space;
@@ -34,8 +37,9 @@ pub(crate) fn open_ports(
     numbers: &Numbers,
     limit: u32,
     versions: bool,
+    recorded: bool,
 ) -> Code
-    ensures { Opens result (numbers_of numbers.now) limit versions ports.old ports.new }
+    ensures { Opens result (numbers_of numbers.now) limit versions recorded ports.old ports.new }
 {
     if any_open(ports) {
         return Code::IsOpen;
@@ -57,7 +61,7 @@ pub(crate) fn open_ports(
         return Code::BadLimit;
     };
     let count = ports.len() as u16;
-    let Ok(mut held) = handles(alloc, geometry, count, limit, versions) else {
+    let Ok(mut held) = handles(alloc, geometry, count, limit, versions, recorded) else {
         return Code::NoMemory;
     };
     ports.swap_with_slice(&mut held);
@@ -83,12 +87,13 @@ fn handles(
     count: u16,
     limit: Limit,
     versions: bool,
+    recorded: bool,
 ) -> Result<Vec<Handle>, NoMemory>
     requires { IsPortCount count }
-    ensures opened { IfOk result (λ hs. IsOpened geometry limit versions (engines_of hs.items)) }
+    ensures opened { IfOk result (λ hs. IsOpened geometry limit versions recorded (engines_of hs.items)) }
     ensures count { IfOk result (λ hs. length hs.items ≡ count) }
 {
-    let engines = engines(alloc, geometry, count, limit, versions)?;
+    let engines = engines(alloc, geometry, count, limit, versions, recorded)?;
     let mut held = Vec::with_capacity(alloc, engines.len())?;
     for engine in engines {
         held.push_reserved(Handle::of(engine));
@@ -103,18 +108,21 @@ fn engines(
     count: u16,
     limit: Limit,
     versions: bool,
+    recorded: bool,
 ) -> Result<Vec<Box<Engine>>, NoMemory>
     requires { IsPortCount count }
-    ensures new { IfOk result (λ bs. NewPorts geometry limit versions count (map (λ b. state_of b.value) bs.items)) }
+    ensures new { IfOk result (λ bs. NewPorts geometry limit versions recorded count (map (λ b. state_of b.value) bs.items)) }
     ensures sound { IfOk result (λ bs. AllByRecursion (λ b. IsSound b.value) bs.items) }
 {
     let Ok((space, ports)) = Space::open(alloc, geometry, count, limit, versions) else {
         return Err(AllocError);
     };
     let space = Arc::new(alloc, space)?;
+    let numbering = Arc::new(alloc, Numbering::new(count))?;
     let mut engines = Vec::with_capacity(alloc, ports.len())?;
     for port in ports {
         let space = Arc::try_clone(&space)?;
+        let log = new_log(alloc, &numbering, recorded)?;
         let engine = Box::new(
             alloc,
             Engine {
@@ -122,9 +130,30 @@ fn engines(
                 port,
                 number: 0,
                 pending: None,
+                log,
             },
         )?;
         engines.push_reserved(engine);
     }
     Ok(engines)
+}
+
+/// The log of a port that has done nothing yet, where the namespace is recorded.
+fn new_log(
+    alloc: Global,
+    numbering: &Arc<Numbering, Global>,
+    recorded: bool,
+) -> Result<Option<Log>, NoMemory>
+    ensures { IfOk result (λ log. kept_by log ≡ spec.new_log recorded) }
+{
+    if !recorded {
+        return Ok(None);
+    }
+    let numbering = Arc::try_clone(numbering)?;
+    Ok(Some(Log {
+        numbering,
+        jobs: Vec::new(alloc),
+        done: Vec::new(alloc),
+        full: false,
+    }))
 }

@@ -9,8 +9,8 @@ returns c =
     let held = c.in-Ok-handles.held.items in
     let there : c.swap_with_slice.new.self ≡ held = c.swap_with_slice.ensures.after ∙ c.deref_mut.ensures.value in
     let limited : c.in-Some.limit ≡ c.args.limit = c.in-Some.ensures.1 in
-    let opened = subst (λ (ns : Namespace). IsOpened ns c.in-Some.limit c.args.versions (engines_of held)) c.in-Ok.ensures.taken c.in-Ok-handles.ensures.opened in (
-      subst (λ (hs : List Handle). IsOpened (numbers_of c.args.numbers.now) c.args.limit c.args.versions (engines_of hs)) (sym there)
-          (subst (λ (n : ℕ). IsOpened (numbers_of c.args.numbers.now) n c.args.versions (engines_of held)) limited opened),
+    let opened = subst (λ (ns : Namespace). IsOpened ns c.in-Some.limit c.args.versions c.args.recorded (engines_of held)) c.in-Ok.ensures.taken c.in-Ok-handles.ensures.opened in (
+      subst (λ (hs : List Handle). IsOpened (numbers_of c.args.numbers.now) c.args.limit c.args.versions c.args.recorded (engines_of hs)) (sym there)
+          (subst (λ (n : ℕ). IsOpened (numbers_of c.args.numbers.now) n c.args.versions c.args.recorded (engines_of held)) limited opened),
       sym c.any_open.ensures ∙ c.if-any_open.false,
     )

@@ -5,7 +5,7 @@ use Rattle.nvm_space.specs.Trace.{DoesJob}
 use Rattle.nvm_space.specs.UnderWay.{IsUnderWay}
 use Rattle.nvm_c.specs.Asked.{IsAsked}
 use Rattle.nvm_c.specs.Engines.{namespace_of, seen_by}
-use Rattle.nvm_c.specs.Submitted.{Progresses}
+use Rattle.nvm_c.specs.Logs.{HasDrawn, kept_by}
 use Rattle.nvm_c.proofs.Steps.{submits_of}
 use Rattle.nvm_c.proofs.engine.Engine.submit.Goals as goal
 
@@ -16,6 +16,9 @@ pub tell-requires-clause-room : goal.tell-requires-clause-room
 tell-requires-clause-room c =
     let here : length c.args.posted.now ≡ c.entries_length.result = omega (arith, c.if-posted-entries_length.false) in
     here ∙ c.entries_length.ensures ∙ sym (c.told_statuses_fit_their_entries.ensures.each _ _ _ _ _ _ (c.in-Done.ensures (seen_by c.args.self.now)))
+
+pub go_on-requires-clause-same : goal.go_on-requires-clause-same
+go_on-requires-clause-same c = (c.in-Pending.ensures (seen_by c.args.self.now)).0
 
 pub go_on-requires-clause-under_way : goal.go_on-requires-clause-under_way
 go_on-requires-clause-under_way c =
@@ -33,14 +36,17 @@ returns-in-Done-clause-submits c =
         job = c.in-Ok.job;
         asked = subst (λ (host : ℕ). IsAsked (namespace_of e).block_size (host + 1) c.args.entries.now c.args.data.now c.in-Ok.job) c.number-host.ensures
             (subst (λ (ns : Namespace). IsAsked ns.block_size (c.number-host.result + 1) c.args.entries.now c.args.data.now c.in-Ok.job) here c.in-Ok.ensures.asked);
+        number = c.in-Ok-draw.number;
+        log = kept_by c.draw.new.log;
+        drawn = c.in-Ok-draw.ensures.drawn;
         progress = record {
           told = c.in-Done.done;
-          does = subst (λ (ns : Namespace). DoesJob ns e.number c.in-Ok.job views views c.in-Done.done) same (c.in-Done.ensures views);
+          does = subst (λ (ns : Namespace). DoesJob ns c.in-Ok-draw.number c.in-Ok.job views views c.in-Done.done) same (c.in-Done.ensures views);
           buffers = c.tell.ensures;
           idle = c.in-None.is;
+          kept = c.keep.ensures;
         };
         space = refl;
-        next = refl;
       },
     )
 
@@ -55,9 +61,9 @@ returns-in-Pending-clause-submits c =
       job = c.in-Ok.job;
       asked = subst (λ (host : ℕ). IsAsked (namespace_of e).block_size (host + 1) c.args.entries.now c.args.data.now c.in-Ok.job) c.number-host.ensures
           (subst (λ (ns : Namespace). IsAsked ns.block_size (c.number-host.result + 1) c.args.entries.now c.args.data.now c.in-Ok.job) here c.in-Ok.ensures.asked);
-      progress = subst (λ (number : ℕ). Progresses c.go_on.result (namespace_of e) number c.in-Ok.job views (seen_by c.go_on.new.self) c.go_on.new.self.pending
-          (record { bytes = c.args.data.now; posted = c.args.posted.now }) (record { bytes = c.go_on.new.data; posted = c.go_on.new.posted })) began.0
-          (c.go_on.ensures.progress views under);
+      number = c.in-Ok-draw.number;
+      log = kept_by c.draw.new.log;
+      drawn = subst (λ (n : ℕ). HasDrawn e.number n (kept_by e.log) (kept_by c.draw.new.log) c.in-Ok-draw.number) (sym c.go_on.ensures.number) c.in-Ok-draw.ensures.drawn;
+      progress = c.go_on.ensures.progress views under;
       space = c.go_on.ensures.space;
-      next = c.go_on.ensures.number;
     })

@@ -1,0 +1,2 @@
+-- What stands in Inside is cited by private functions and invariants alone: no public clause needs it.
+pub mod Gathering
