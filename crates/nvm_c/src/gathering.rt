@@ -14,7 +14,7 @@ ghost use Rattle.nvm_c.specs.Recorded.{IsSomebodys};
 
 use crate::gather_fault::GatherFault;
 use crate::histories::histories;
-use crate::recording::Work;
+use crate::work::Work;
 use nvm_audit::laws::what_jobs_make_can_be_held;
 use nvm_audit::{DoneJob, MOST_JOBS, Record, Version};
 use nvm_geometry::Geometry;

@@ -23,3 +23,4 @@ mod reading;
 mod record_code;
 mod recording;
 mod telling;
+mod work;

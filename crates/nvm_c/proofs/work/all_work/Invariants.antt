@@ -1,7 +1,7 @@
 use Rattle.std.proofs.Common.{◌≡◌, map}
 use Rattle.nvm_c.specs.Opening.{engines_of}
 use Rattle.nvm_c.proofs.Worked.{SoFar}
-use Rattle.nvm_c.proofs.recording.all_work.Given as goal
+use Rattle.nvm_c.proofs.work.all_work.Given as goal
 
 -- What the ports so far did is copied, and the ports are as they were.
 abbrev pub invariant-loop-place : goal.invariant-loop-place

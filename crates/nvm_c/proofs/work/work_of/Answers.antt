@@ -1,6 +1,6 @@
 use Rattle.std.proofs.Common.{◌<◌, length, refl, rules}
 use Rattle.nvm_c.proofs.Worked.{refused_there}
-use Rattle.nvm_c.proofs.recording.work_of.Goals as goal
+use Rattle.nvm_c.proofs.work.work_of.Goals as goal
 
 pub returns-in-Err-clause-refused : goal.returns-in-Err-clause-refused
 returns-in-Err-clause-refused c =

@@ -1,5 +1,5 @@
 use Rattle.std.proofs.Common.{◌≡◌, take}
-use Rattle.nvm_c.proofs.recording.copies.Given as goal
+use Rattle.nvm_c.proofs.work.copies.Given as goal
 
 -- Those before are copied.
 abbrev pub invariant-loop-i : goal.invariant-loop-i

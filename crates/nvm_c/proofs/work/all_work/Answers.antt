@@ -4,7 +4,7 @@ use Rattle.nvm_plan.specs.declared.job.Job.{Job}
 use Rattle.nvm_audit.specs.RecordedJob.{RecordedJob}
 use Rattle.nvm_c.specs.Opening.{engines_of}
 use Rattle.nvm_c.proofs.Worked.{SoFar, one_more, refused_there, same_after, worked_there}
-use Rattle.nvm_c.proofs.recording.all_work.Goals as goal
+use Rattle.nvm_c.proofs.work.all_work.Goals as goal
 
 pub returns-in_default-clause-same : goal.returns-in_default-clause-same
 returns-in_default-clause-same c =

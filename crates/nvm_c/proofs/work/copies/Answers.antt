@@ -1,7 +1,7 @@
 use Rattle.std.proofs.Common.{◌≡◌, ◌∙◌, ◌<◌, ◌++◌, ◌∷◌, [], List, length, take, get_or, ap, sym, rules}
 use Rattle.std.proofs.lemmas.List.{take_more}
 use Rattle.nvm_audit.specs.RecordedJob.{RecordedJob}
-use Rattle.nvm_c.proofs.recording.copies.Goals as goal
+use Rattle.nvm_c.proofs.work.copies.Goals as goal
 
 pub loop-i-preserved : goal.loop-i-preserved
 loop-i-preserved c =
