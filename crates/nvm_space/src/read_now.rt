@@ -14,7 +14,7 @@ use std::alloc::Global;
 #[derive(Debug, PartialEq, Eq, Drop)]
 pub struct ReadAnswer {
     /// How many entries the unit's history had: the answer rests on their replay.
-    pub point: u32,
+    pub point: u64,
     /// 0/00, or 2/81 (NVM Command Set Specification, "Unrecovered Read Error") if the range has a block that was marked by
     /// Write Uncorrectable.
     pub status: Status,
@@ -30,10 +30,10 @@ pub enum ReadNow {
     /// The range lies in more than one unit. The port is as it was.
     Crosses,
     /// The unit has been changed since the port has seen it: its history has `count` entries now.
-    Newer { count: u32 },
+    Newer { count: u64 },
     /// The port has seen all of the unit's `point` entries, but memory for the data was refused, or its pass keeps no
     /// version.
-    NoMemory { point: u32 },
+    NoMemory { point: u64 },
 }
 
 impl ReadAnswer {

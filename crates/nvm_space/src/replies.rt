@@ -1,9 +1,11 @@
 //! What a unit tells of a job's part.
-ghost use Rattle.std.specs.Prelude.{◌≡◌, ◌++◌, OnOk};
+ghost use Rattle.std.specs.Prelude.{◌≡◌, ◌++◌, ◌^◌, ◌<◌, OnOk};
 ghost use Rattle.nvm_record.specs.Deeds.{success_of};
 ghost use Rattle.nvm_store.specs.ActRef.{lent_operation_of};
 ghost use Rattle.nvm_store.specs.Look.{look_operation_of};
 ghost use Rattle.nvm_plan.specs.Reply.{stop_of};
+ghost use Rattle.nvm_unit.specs.Marks.{point_of_look};
+ghost use Rattle.nvm_unit.specs.Replies.{point_of};
 ghost use Rattle.nvm_space.specs.Trace as spec;
 
 use nvm_plan::{Part, PartResult};
@@ -23,6 +25,7 @@ ghost use Rattle.nvm_space.specs.Inside.Parts.{IsGathered, reply_told};
 
 /// What is told of a change.
 pub(crate) fn reply_of_change(unit: u16, act: ActRef<'_>, changed: Changed) -> PartReply
+    requires few { point_of changed < 2 ^ 32 }
     ensures { reply_told result ≡ spec.reply_of_change unit (lent_operation_of act.entry).deed changed }
 {
     let (point, result, statuses) = match changed {
@@ -34,7 +37,7 @@ pub(crate) fn reply_of_change(unit: u16, act: ActRef<'_>, changed: Changed) -> P
     PartReply {
         part: Part {
             unit,
-            point,
+            point: point as u32,
             result,
         },
         statuses,
@@ -48,6 +51,7 @@ pub(crate) fn reply_of_look(
     look: Look<'_>,
     answer: Result<Observed, ObserveFault>,
 ) -> PartReply
+    requires few { point_of_look answer < 2 ^ 32 }
     ensures { reply_told result ≡ spec.reply_of_look unit (look_operation_of look.entry).deed answer }
 {
     let _ = look;
@@ -55,7 +59,7 @@ pub(crate) fn reply_of_look(
         Ok(Observed { point, answer }) => {
             let part = Part {
                 unit,
-                point,
+                point: point as u32,
                 result: PartResult::Looked,
             };
             match answer {
@@ -74,7 +78,7 @@ pub(crate) fn reply_of_look(
         Err(ObserveFault::NoMemory { point }) => PartReply {
             part: Part {
                 unit,
-                point,
+                point: point as u32,
                 result: PartResult::NoMemory,
             },
             statuses: Statuses::One(Status::INTERNAL_ERROR),

@@ -4,6 +4,7 @@ ghost use Rattle.std.specs.Prelude.{◌≡◌, ℕ, List, MatchOption};
 ghost use Rattle.nvm_geometry.specs.Namespace.{Namespace};
 ghost use Rattle.nvm_plan.specs.Fits.{FitsNamespace};
 ghost use Rattle.nvm_plan.specs.LentPart.{part_operation_of};
+ghost use Rattle.nvm_store.specs.Limit.{IsLimit};
 ghost use Rattle.nvm_store.specs.Place.{IsCovered};
 ghost use Rattle.nvm_unit.specs.Ends.{views_of};
 ghost use Rattle.nvm_unit.specs.Passes.{IsPassOf, IsProperPass};
@@ -53,6 +54,8 @@ impl Space {
         ensures does { DoesJob self.now.namespace number job.now (views_of port.old.passes) (views_of port.new.passes)
             result }
     {
+        // For the proof alone: how large a point can be.
+        let _entries = self.limit.entries();
         do_job(
             rt,
             alloc,
@@ -98,6 +101,8 @@ impl Space {
             → IsUnderWay self.now.namespace job.now under_way start (views_of port.old.passes)
             → IsProgress self.now.namespace under_way.number job.now start (views_of port.new.passes) result }
     {
+        // For the proof alone: how large a point can be.
+        let _entries = self.limit.entries();
         poll_job(
             alloc,
             &self.geometry,
@@ -213,6 +218,7 @@ fn do_part<R: Wait, G: Gate>(
     gate: &G,
 ) -> PartReply
     requires of { IsPassOf unit.now pass.old }
+    requires limit { IsLimit unit.now.bounds.limit }
     requires covered { IsCovered unit.now.bounds.place (part_operation_of part) }
     ensures of { IsPassOf unit.now pass.new }
     ensures number { pass.new.view.number ≡ pass.old.view.number }
@@ -241,6 +247,7 @@ fn poll_part<G: Gate>(
     gate: &G,
 ) -> Option<PartReply>
     requires of { IsPassOf unit.now pass.old }
+    requires limit { IsLimit unit.now.bounds.limit }
     requires covered { IsCovered unit.now.bounds.place (part_operation_of part) }
     ensures of { IsPassOf unit.now pass.new }
     ensures number { pass.new.view.number ≡ pass.old.view.number }

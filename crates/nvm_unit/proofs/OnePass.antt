@@ -1,7 +1,6 @@
 -- One pass takes its unit, fails to, and gives it back: what the seat tells, said of the pass.
-use Rattle.std.proofs.Common.{◌≡◌, ◌⊎◌, ℕ, ◌+◌, ◌*◌, ◌/◌, ◌%◌, ◌<◌, ◌≤◌, List, [], ◌∷◌, length, map, subst, refl, sym, ap, ◌∙◌, arith, inl, inr, Bool, false, None, Result, Ok, Err, IfOk, IfErr}
+use Rattle.std.proofs.Common.{◌≡◌, ◌⊎◌, ℕ, ◌+◌, ◌*◌, ◌/◌, ◌%◌, ◌^◌, ◌<◌, ◌≤◌, List, [], ◌∷◌, length, map, subst, refl, sym, ap, ◌∙◌, arith, inl, inr, Bool, false, None, Result, Ok, Err, IfOk, IfErr}
 use Rattle.nvm_store.specs.HistoryEntry.{HistoryEntry}
-use Rattle.nvm_store.specs.Limit.{IsLimit}
 use Rattle.nvm_unit.specs.declared.bounds.Bounds.{Bounds}
 use Rattle.nvm_unit.specs.declared.pass.Parts.{Parts}
 use Rattle.nvm_unit.specs.declared.views.PassView.{PassView}
@@ -42,7 +41,7 @@ pub proper_shown : (decides : Bool) (n : ℕ) (p : PassView) (h : List HistoryEn
 proper_shown decides n p h proper finds = record { seen = finds.lawful; own = finds.mine; marks = rise_after decides p.marks p.floor n proper.marks finds.floor }
 
 -- What makes the parts a pass again.
-pub whole : (parts : Parts) (p : PassView) → parts.token.seat.me ≡ resting (p ∷ []) → parts.number ≡ p.number → Recalls parts.snapshot p → IsProperPass p → IsWhole parts
+pub whole : {K : Type 0} (parts : Parts K) (p : PassView) → parts.token.seat.me ≡ resting (p ∷ []) → parts.number ≡ p.number → Recalls parts.snapshot p → IsProperPass p → IsWhole parts
 whole parts p alone numbered recalls proper =
     let same : p ≡ seated parts.token.seat.me = sym (ap seated alone) in
     record {
@@ -103,12 +102,12 @@ takes unit b h book m m' free held =
     )
 
 module _ (unit : UnitName) (book : Recorded) (m : Sits) (has : HasUnit unit book m) where
-  -- A history's length fits 32 bits.
-  pub is_short : IsLimit unit.bounds.limit → length book.history ≤ 4194304
+  -- A history's length fits 62 bits.
+  pub is_short : unit.bounds.limit ≤ 2 ^ 62 → length book.history ≤ 2 ^ 62
   is_short limit =
       let within : length book.history ≤ (seated m).bounds.limit = has.finds.lawful.within in
       let same : (seated m).bounds.limit ≡ unit.bounds.limit = ap (λ (x : Bounds). x.limit) has.bounds in
-      let most : unit.bounds.limit ≤ 4194304 = limit.1 in
+      let most : unit.bounds.limit ≤ 2 ^ 62 = limit in
       omega arith
 
   pub can_give_back : (decides : ℕ → Bool) → CanGiveBack decides book m (seated m ∷ []) book.history unit.bounds

@@ -1,6 +1,5 @@
 -- Two passes at one seat, which takes the unit and puts it back.
-use Rattle.std.proofs.Common.{◌≡◌, ℕ, zero, suc, ◌≤◌, List, [], ◌∷◌, ◌++◌, length, take, drop, subst, refl, sym, ap, ◌∙◌, arith, false, None}
-use Rattle.nvm_store.specs.Limit.{IsLimit}
+use Rattle.std.proofs.Common.{◌≡◌, ℕ, zero, suc, ◌^◌, ◌≤◌, List, [], ◌∷◌, ◌++◌, length, take, drop, subst, refl, sym, ap, ◌∙◌, arith, false, None}
 use Rattle.nvm_store.specs.HistoryEntry.{HistoryEntry}
 use Rattle.nvm_unit.specs.declared.bounds.Bounds.{Bounds}
 use Rattle.nvm_unit.specs.declared.views.PassView.{PassView}
@@ -76,9 +75,9 @@ pub both_shown : (b : Bounds) (h : List HistoryEntry) (book : Recorded) (p o : P
     → m' ≡ resting (shown false (length h) h p ∷ shown false (length h) h o ∷ [])
 both_shown b h book p o m m' a back = back (looked false (length h) p ∷ looked false (length h) o ∷ []) h b a.at a.pages
 
-pub both_few : (b : Bounds) (h : List HistoryEntry) (book : Recorded) (p o : PassView) (m : Sits) → HoldTogether b h book p o m → IsLimit p.bounds.limit → length book.history ≤ 4194304
+pub both_few : (b : Bounds) (h : List HistoryEntry) (book : Recorded) (p o : PassView) (m : Sits) → HoldTogether b h book p o m → p.bounds.limit ≤ 2 ^ 62 → length book.history ≤ 2 ^ 62
 both_few b h book p o m a limit =
     let pages : length book.history ≡ length h = ap (λ (x : Recorded). length x.history) a.pages in
     let within : length h ≤ p.bounds.limit = a.finds.lawful.within in
-    let top : p.bounds.limit ≤ 4194304 = limit.1 in
+    let top : p.bounds.limit ≤ 2 ^ 62 = limit in
     omega arith

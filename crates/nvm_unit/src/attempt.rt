@@ -1,4 +1,4 @@
-ghost use Rattle.std.specs.Prelude.{◌≡◌, ◌≤◌, IfOk, IfSome, length};
+ghost use Rattle.std.specs.Prelude.{◌≡◌, ◌≤◌, ◌^◌, IfOk, IfSome, length};
 ghost use Rattle.nvm_record.specs.Medium.{Medium};
 ghost use Rattle.nvm_store.specs.Contents.{Covers, Holds};
 ghost use Rattle.nvm_store.specs.ActRef.{lent_operation_of};
@@ -8,35 +8,36 @@ ghost use Rattle.nvm_unit.specs.Replies.{AnswersLook};
 ghost use Rattle.nvm_unit.specs.Inside.Attempt.{AnswersFrom, Attempts};
 
 use crate::book::Book;
+use crate::kept::Kept;
 use crate::replies::{Changed, LookFault, ObserveFault, Observed};
 use crate::snapshot::Snapshot;
 use nvm_store::laws::{act_succeeds_unless_failed_pair, acts_and_looks};
-use nvm_store::{ActRef, Limit, Look, UnitBlocks, answer};
+use nvm_store::{ActRef, Look, UnitBlocks, answer};
 use std::alloc::Global;
 
 /// Does the act on the book in hand, unless it is a pair whose comparison fails, the history is at its
 /// limit, or memory is refused.
-pub(crate) fn attempt(
+pub(crate) fn attempt<K: Kept>(
     alloc: Global,
-    book: &mut Book,
-    limit: Limit,
+    book: &mut Book<K>,
+    limit: u64,
     pass: u16,
     job: u32,
     act: ActRef<'_>,
 ) -> Changed
     requires covered { IsCovered book.old.place (lent_operation_of act) }
     requires within { length book.old.history ≤ limit }
+    requires few { limit ≤ 2 ^ 62 }
     ensures { Attempts result limit (record { pass = pass; job = job; operation = lent_operation_of act.entry }) book.old book.new }
 {
     acts_and_looks();
     act_succeeds_unless_failed_pair();
-    let most = limit.entries();
-    let point = book.entries() as u32;
+    let point = book.entries();
     let statuses = book.judge(act);
     if !statuses.is_success() {
         return Changed::Failed { point, statuses };
     }
-    if point == most {
+    if point == limit {
         return Changed::Full { point };
     }
     match book.add(alloc, pass, job, act) {
@@ -48,7 +49,7 @@ pub(crate) fn attempt(
 /// Asks the blocks, which are those at this point.
 pub(crate) fn observed(
     alloc: Global,
-    point: u32,
+    point: u64,
     blocks: &UnitBlocks,
     look: Look<'_>,
 ) -> Result<Observed, ObserveFault>
@@ -66,7 +67,7 @@ pub(crate) fn observed(
 pub(crate) fn looked(
     alloc: Global,
     snapshot: &Snapshot,
-    count: u32,
+    count: u64,
     look: Look<'_>,
 ) -> Result<Observed, LookFault>
     requires { IfSome snapshot.now.version (λ u. Covers u (look_operation_of look)) }

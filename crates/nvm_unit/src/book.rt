@@ -1,4 +1,4 @@
-ghost use Rattle.std.specs.Prelude.{◌≡◌, [], ◌∷◌, ◌++◌, ◌≤◌, length, is_some, true, IfOk, OnOk, OnErr};
+ghost use Rattle.std.specs.Prelude.{◌≡◌, [], ◌∷◌, ◌++◌, ◌<◌, ◌^◌, length, is_some, true, OnOk, OnErr};
 ghost use Rattle.nvm_record.specs.Medium.{zero_medium};
 ghost use Rattle.nvm_record.specs.Status.{IsSuccess};
 ghost use Rattle.nvm_record.specs.Step.{statuses_of};
@@ -8,10 +8,11 @@ ghost use Rattle.nvm_store.specs.Place.{IsCovered};
 ghost use Rattle.nvm_store.specs.History.{replay_of};
 ghost use Rattle.nvm_unit.specs.Inside.Snapshot.{IsSnapshotOf};
 
+use crate::kept::Kept;
 use crate::snapshot::Snapshot;
 use nvm_record::{NoMemory, Statuses};
 use nvm_store::laws::{replay_of_one_more, success_on_held};
-use nvm_store::{ActRef, Entry, History, UnitBlocks, judge};
+use nvm_store::{ActRef, UnitBlocks, judge};
 use std::alloc::Global;
 use std::marker::Model;
 use std::mem;
@@ -20,12 +21,12 @@ use std::mem;
 ///
 /// Contracts see where the unit lies, and the history.
 #[derive(Drop)]
-pub struct Book {
-    history: History,
+pub struct Book<K: Kept> {
+    kept: K,
     blocks: UnitBlocks,
 }
 
-impl Model for Book {
+impl<K: Kept> Model for Book<K> {
     ghost use Rattle.nvm_store.specs.Contents.{Holds, place_of};
     ghost use Rattle.nvm_store.specs.History.{replay_of};
     ghost use Rattle.nvm_unit.specs.Inside.Book.{Recorded};
@@ -34,30 +35,30 @@ impl Model for Book {
 
     ghost view = { λ b. record {
       place = place_of b.blocks;
-      history = b.history.items;
+      history = K.told b.kept;
     } };
 
-    ghost invariant = { λ b. Holds b.blocks (replay_of b.blocks.size b.history.items) };
+    ghost invariant = { λ b. Holds b.blocks (replay_of b.blocks.size (K.told b.kept)) };
 }
 
-impl Book {
+impl<K: Kept> Book<K> {
     /// The book of a unit whose blocks are all zero bytes. It has no entry, and takes no memory.
-    pub fn new(alloc: Global, blocks: UnitBlocks) -> Book
+    pub fn new(alloc: Global, blocks: UnitBlocks) -> Book<K>
         requires { Holds blocks (zero_medium blocks.size) }
         ensures place { LiesAt result.place blocks }
         ensures history { result.history ≡ [] }
     {
         Book {
-            history: Vec::new(alloc),
+            kept: K::nothing(alloc),
             blocks,
         }
     }
 
     /// The number of entries.
-    pub fn entries(&self) -> usize
+    pub fn entries(&self) -> u64
         ensures { result ≡ length self.now.history }
     {
-        self.history.len()
+        self.kept.entries()
     }
 
     /// The statuses that the act completes with. It takes no memory.
@@ -80,17 +81,16 @@ impl Book {
     /// Replaces a pass's snapshot by one of this book, unless it is that already. The old one is handed out, so that
     /// the caller can free its blocks once the unit is given back. It takes no memory.
     pub fn renew(&self, snapshot: &mut Snapshot, versions: bool) -> Option<Snapshot>
-        requires few { length self.now.history ≤ 4194304 }
         requires seen { snapshot.old.entries ≡ length self.now.history → IsSnapshotOf snapshot.old self.now }
         requires kept { is_some snapshot.old.version ≡ true → versions ≡ true }
         ensures shown { IsSnapshotOf snapshot.new self.now }
         ensures kept { is_some snapshot.new.version ≡ true → versions ≡ true }
     {
         if !versions {
-            snapshot.set_entries(self.history.len() as u32);
+            snapshot.set_entries(self.kept.entries());
             return None;
         }
-        if self.history.len() as u32 == snapshot.entries() && snapshot.keeps() {
+        if self.kept.entries() == snapshot.entries() && snapshot.keeps() {
             return None;
         }
         Some(mem::replace(snapshot, self.snapshot(versions)))
@@ -98,11 +98,10 @@ impl Book {
 
     /// This book, as a pass keeps it. It takes no memory.
     pub fn snapshot(&self, versions: bool) -> Snapshot
-        requires { length self.now.history ≤ 4194304 }
         ensures shown { IsSnapshotOf result self.now }
         ensures kept { is_some result.version ≡ true → versions ≡ true }
     {
-        Snapshot::of(self.history.len() as u32, &self.blocks, versions)
+        Snapshot::of(self.kept.entries(), &self.blocks, versions)
     }
 
     /// Makes the act's step, and keeps its entry: the entry first, then its room and the blocks, which may be
@@ -115,6 +114,7 @@ impl Book {
         act: ActRef<'_>,
     ) -> Result<(), NoMemory>
         requires covered { IsCovered self.old.place (lent_operation_of act) }
+        requires few { length self.old.history < 2 ^ 62 }
         requires success { IsSuccess (statuses_of (lent_operation_of act) (replay_of self.old.place.size self.old.history)) }
         ensures added { OnOk result (self.new ≡ record {
           place = self.old.place;
@@ -124,33 +124,24 @@ impl Book {
     {
         success_on_held();
         replay_of_one_more();
-        let entry = Entry {
-            pass,
-            job,
-            act: act.to_act(alloc)?,
-        };
-        self.history.reserve(1)?;
+        let ready = self.kept.make_ready(alloc, pass, job, act)?;
         self.blocks.change(alloc, act)?;
-        self.history.push_reserved(entry);
+        self.kept.keep(ready, pass, job, act);
         Ok(())
     }
 
-    /// A copy of the history, which shares its data, and whose room is reserved once.
-    pub fn copy_of_history(&self, alloc: Global) -> Result<History, NoMemory>
-        ensures { IfOk result (λ v. v.items ≡ self.now.history) }
+    /// What is kept of the history.
+    pub fn kept(&self) -> &K
+        ensures { K.told result.now ≡ self.now.history }
     {
-        let mut copies = Vec::with_capacity(alloc, self.history.len())?;
-        for entry in &self.history {
-            copies.push(entry.clone()?)?;
-        }
-        Ok(copies)
+        &self.kept
     }
 
-    /// The history alone. It takes no memory.
-    pub fn into_history(self) -> History
-        ensures { result.items ≡ self.history }
+    /// What is kept of the history, alone. It takes no memory.
+    pub fn into_kept(self) -> K
+        ensures { K.told result ≡ self.history }
     {
-        let Book { history, blocks: _ } = self;
-        history
+        let Book { kept, blocks: _ } = self;
+        kept
     }
 }

@@ -1,4 +1,4 @@
-use nvm_store::{Limit, Place};
+use nvm_store::Place;
 
 /// What is settled of a unit when it is made.
 #[derive(Clone, Copy, Debug, PartialEq, Eq)]
@@ -8,5 +8,5 @@ pub struct Bounds {
     /// The number of its passes, which are numbered from 0.
     pub passes: u16,
     /// The most entries that its history may have.
-    pub limit: Limit,
+    pub limit: u64,
 }

@@ -9,6 +9,7 @@ ghost use Rattle.nvm_unit.specs.Replies.{Makes, MakesOrLearns, Waits};
 use crate::attempt::attempt;
 use crate::book::Book;
 use crate::gate::Gate;
+use crate::kept::Kept;
 use crate::pass::{Parts, Pass};
 use crate::replies::{Busy, Changed};
 use crate::rule::{Always, Decides, Never};
@@ -18,7 +19,7 @@ use nvm_store::laws::{acts_and_looks, lawful_with_one_more};
 use std::alloc::Global;
 use std::sync::Wait;
 
-impl Unit {
+impl<K: Kept> Unit<K> {
     /// Does the act, as one step of the unit, unless it is a pair whose comparison fails, the history is
     /// at its limit, or memory is refused. The gate is called once, while the unit is held. It waits for the
     /// unit.
@@ -26,7 +27,7 @@ impl Unit {
         &self,
         rt: &R,
         alloc: Global,
-        pass: &mut Pass,
+        pass: &mut Pass<K>,
         job: u32,
         act: ActRef<'_>,
         gate: &G,
@@ -52,7 +53,7 @@ impl Unit {
     pub fn try_change<G: Gate>(
         &self,
         alloc: Global,
-        pass: &mut Pass,
+        pass: &mut Pass<K>,
         job: u32,
         act: ActRef<'_>,
         gate: &G,
@@ -80,7 +81,7 @@ impl Unit {
     pub fn poll_change<G: Gate>(
         &self,
         alloc: Global,
-        pass: &mut Pass,
+        pass: &mut Pass<K>,
         job: u32,
         act: ActRef<'_>,
         gate: &G,
@@ -106,7 +107,7 @@ impl Unit {
     fn change_if_free<D: Decides, G: Gate>(
         &self,
         alloc: Global,
-        pass: &mut Pass,
+        pass: &mut Pass<K>,
         job: u32,
         act: ActRef<'_>,
         gate: &G,
@@ -130,8 +131,8 @@ impl Unit {
     fn change_held<G: Gate>(
         &self,
         alloc: Global,
-        parts: &mut Parts,
-        book: Book,
+        parts: &mut Parts<K>,
+        book: Book<K>,
         job: u32,
         act: ActRef<'_>,
         gate: &G,

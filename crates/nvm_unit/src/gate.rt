@@ -1,3 +1,4 @@
+use crate::kept::Kept;
 use crate::unit::Unit;
 
 /// What is told of the course of jobs. Each method returns, and waits for nothing.
@@ -7,7 +8,7 @@ pub trait Gate {
 
     /// A polled call has put the unit back. It wakes one of those who wait for the unit. Only where nobody ever waits for it,
     /// since all calls are polled, may a gate leave that out.
-    fn after_put(&self, unit: &Unit) {
+    fn after_put<K: Kept>(&self, unit: &Unit<K>) {
         unit.wake();
     }
 

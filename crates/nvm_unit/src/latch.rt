@@ -1,5 +1,4 @@
-ghost use Rattle.std.specs.Prelude.{◌≡◌, ◌⊎◌, ℕ, ◌^◌, ◌<◌, List, [], ◌∷◌, length, is_some, true, IfOk, IfErr};
-ghost use Rattle.nvm_store.specs.Limit.{IsLimit};
+ghost use Rattle.std.specs.Prelude.{◌≡◌, ◌⊎◌, ℕ, ◌^◌, ◌<◌, ◌≤◌, List, [], ◌∷◌, length, is_some, true, IfOk, IfErr};
 ghost use Rattle.nvm_unit.specs.Inside.Seats.{only};
 ghost use Rattle.nvm_store.specs.HistoryEntry.{HistoryEntry};
 ghost use Rattle.nvm_unit.specs.declared.bounds.Bounds.{Bounds as UnitBounds};
@@ -8,6 +7,7 @@ ghost use Rattle.nvm_unit.specs.Inside.Plays.{resting};
 ghost use Rattle.nvm_unit.specs.Inside.Holding.{HasHeld, HasMissed, HasMet, CanGiveBack, CanGiveMore, GivesBack, GivesMore};
 
 use crate::book::Book;
+use crate::kept::Kept;
 use crate::rule::{Decides, IfHeld, Never};
 use crate::snapshot::Snapshot;
 use crate::steps;
@@ -21,14 +21,14 @@ const YIELDS: u32 = 16;
 
 /// A unit's table, and how many threads sleep until it is put back.
 #[derive(Drop)]
-pub struct Latch {
-    pub(crate) desk: Desk,
+pub struct Latch<K: Kept> {
+    pub(crate) desk: Desk<K>,
     sleepers: AtomicU64,
 }
 
-impl Latch {
+impl<K: Kept> Latch<K> {
     /// The latch of a table on which nobody sleeps yet.
-    pub(crate) fn new(desk: Desk) -> Latch
+    pub(crate) fn new(desk: Desk<K>) -> Latch<K>
         ensures { result.desk ≡ desk }
     {
         Latch {
@@ -38,7 +38,7 @@ impl Latch {
     }
 
     /// The table alone.
-    pub(crate) fn into_desk(self) -> Desk
+    pub(crate) fn into_desk(self) -> Desk<K>
         ensures { result ≡ self.desk }
     {
         let Latch { desk, sleepers: _ } = self;
@@ -60,7 +60,7 @@ impl Latch {
     /// Takes the unit and its book if that needs no wait. A load comes first, so that a word of a unit that is taken costs no
     /// exchange; an exchange follows an even word. The error is the last word that was found, and `D` says whether an answer
     /// rests on it.
-    pub(crate) fn try_hold<D: Decides>(&self, token: &mut Token) -> Result<Book, u64>
+    pub(crate) fn try_hold<D: Decides>(&self, token: &mut Token<K>) -> Result<Book<K>, u64>
         requires at { token.old.seat.table_id ≡ self.now.desk.table.shared.table_id }
         requires rests { token.old.seat.me.1 ≡ [] }
         requires filled { 0 < length token.old.seat.me.0.passes }
@@ -70,11 +70,11 @@ impl Latch {
             × HasHeld b history book token.old.seat.me token.new.seat.me) }
         ensures missed { IfErr result (λ word. HasMissed D.decides word token.old.seat.me token.new.seat.me) }
     {
-        let word = steps::load::<IfHeld<D>>(&self.desk, token);
+        let word = steps::load::<K, IfHeld<D>>(&self.desk, token);
         if word % 2 == 1 {
             return Err(word);
         }
-        let found = steps::take::<D>(&self.desk, token, word);
+        let found = steps::take::<K, D>(&self.desk, token, word);
         if found != word {
             return Err(found);
         }
@@ -82,7 +82,7 @@ impl Latch {
     }
 
     /// Takes the unit and its book. It tries again at once where another pass was quicker, and pauses where one has the unit.
-    pub(crate) fn hold<R: Wait>(&self, rt: &R, token: &mut Token) -> Book
+    pub(crate) fn hold<R: Wait>(&self, rt: &R, token: &mut Token<K>) -> Book<K>
         requires at { token.old.seat.table_id ≡ self.now.desk.table.shared.table_id }
         requires rests { token.old.seat.me.1 ≡ [] }
         requires filled { 0 < length token.old.seat.me.0.passes }
@@ -106,9 +106,9 @@ impl Latch {
     }
 
     /// Puts the book and the unit back. Those who sleep are left asleep: the caller wakes one.
-    pub(crate) fn release<D: Decides>(&self, token: &mut Token, book: Book)
+    pub(crate) fn release<D: Decides>(&self, token: &mut Token<K>, book: Book<K>)
         requires at { token.old.seat.table_id ≡ self.now.desk.table.shared.table_id }
-        requires few { length book.history < 2 ^ 32 }
+        requires few { length book.history < 2 ^ 63 }
         requires ready { ((ps : List View) × (history : List HistoryEntry) × (b : UnitBounds)
             × CanGiveBack D.decides book token.old.seat.me ps history b)
             ⊎ ((p : View) × (history : List HistoryEntry) × (entry : HistoryEntry)
@@ -117,24 +117,24 @@ impl Latch {
         ensures back { GivesBack D.decides book token.old.seat.me token.new.seat.me }
         ensures more { GivesMore book token.old.seat.me token.new.seat.me }
     {
-        let entries = book.entries() as u64;
+        let entries = book.entries();
         steps::lay_book(&self.desk, token, book);
-        steps::put::<D>(&self.desk, token, entries);
+        steps::put::<K, D>(&self.desk, token, entries);
     }
 
     /// One step shows both passes the same history. Hands out a snapshot of it for each.
     pub(crate) fn meet<R: Wait>(
         &self,
         rt: &R,
-        one: &mut Token,
-        other: &mut Token,
+        one: &mut Token<K>,
+        other: &mut Token<K>,
         versions: bool,
     ) -> (Snapshot, Snapshot)
         requires one { one.old.seat.table_id ≡ self.now.desk.table.shared.table_id }
         requires other { other.old.seat.table_id ≡ self.now.desk.table.shared.table_id }
         requires one_rests { one.old.seat.me ≡ resting (only one.old.seat.me.0.passes ∷ []) }
         requires other_rests { other.old.seat.me ≡ resting (only other.old.seat.me.0.passes ∷ []) }
-        requires limit { IsLimit (only one.old.seat.me.0.passes).bounds.limit }
+        requires limit { (only one.old.seat.me.0.passes).bounds.limit ≤ 2 ^ 62 }
         ensures one { one.new.seat.table_id ≡ one.old.seat.table_id }
         ensures other { other.new.seat.table_id ≡ other.old.seat.table_id }
         ensures met { HasMet result.0 result.1 (only one.old.seat.me.0.passes) (only other.old.seat.me.0.passes)

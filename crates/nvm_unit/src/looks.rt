@@ -12,6 +12,7 @@ ghost use Rattle.nvm_unit.specs.Views.{shown};
 use crate::attempt::{looked, observed};
 use crate::book::Book;
 use crate::gate::Gate;
+use crate::kept::Kept;
 use crate::pass::{Parts, Pass};
 use crate::replies::{LookFault, ObserveFault, Observed};
 use crate::rule::{Always, Never};
@@ -22,13 +23,13 @@ use nvm_store::Look;
 use std::alloc::Global;
 use std::sync::Wait;
 
-impl Unit {
+impl<K: Kept> Unit<K> {
     /// What the look is answered, as one step of the unit. It waits for the unit.
     pub fn observe<R: Wait>(
         &self,
         rt: &R,
         alloc: Global,
-        pass: &mut Pass,
+        pass: &mut Pass<K>,
         look: Look<'_>,
     ) -> Result<Observed, ObserveFault>
         requires of { IsPassOf self.now pass.old }
@@ -49,7 +50,7 @@ impl Unit {
     pub fn poll_observe<G: Gate>(
         &self,
         alloc: Global,
-        pass: &mut Pass,
+        pass: &mut Pass<K>,
         look: Look<'_>,
         gate: &G,
     ) -> Option<Result<Observed, ObserveFault>>
@@ -75,8 +76,8 @@ impl Unit {
     fn observe_held(
         &self,
         alloc: Global,
-        parts: &mut Parts,
-        book: Book,
+        parts: &mut Parts<K>,
+        book: Book<K>,
         look: Look<'_>,
     ) -> Result<Observed, ObserveFault>
         requires at { parts.old.token.seat.table_id ≡ self.now.table }
@@ -101,8 +102,8 @@ impl Unit {
     fn answer_held(
         &self,
         alloc: Global,
-        token: &mut Token,
-        book: Book,
+        token: &mut Token<K>,
+        book: Book<K>,
         snapshot: &Snapshot,
         look: Look<'_>,
     ) -> Result<Observed, ObserveFault>
@@ -136,7 +137,7 @@ impl Unit {
     pub fn look(
         &self,
         alloc: Global,
-        pass: &mut Pass,
+        pass: &mut Pass<K>,
         look: Look<'_>,
     ) -> Result<Observed, LookFault>
         requires of { IsPassOf self.now pass.old }

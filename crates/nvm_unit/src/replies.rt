@@ -9,20 +9,20 @@ use std::alloc::AllocError;
 #[derive(Clone, Copy, Debug, PartialEq, Eq)]
 pub enum Changed {
     /// The act was done. So many entries stand before its own.
-    Done { point: u32 },
+    Done { point: u64 },
     /// The act is a pair whose comparison failed, with these statuses.
-    Failed { point: u32, statuses: Statuses },
+    Failed { point: u64, statuses: Statuses },
     /// Memory was asked for and refused. The act would have been done.
-    NoMemory { point: u32 },
+    NoMemory { point: u64 },
     /// The history is at its limit, which is the point. The act isn't a pair whose comparison fails there.
-    Full { point: u32 },
+    Full { point: u64 },
 }
 
 /// What [`Unit::observe`](crate::Unit::observe) answers.
 #[derive(Debug, PartialEq, Eq, Drop)]
 pub struct Observed {
     /// The number of entries on whose replay the answer rests.
-    pub point: u32,
+    pub point: u64,
     /// The answer.
     pub answer: Answer,
 }
@@ -44,17 +44,17 @@ impl Clone for Observed {
 #[derive(Clone, Copy, Debug, PartialEq, Eq)]
 pub enum ObserveFault {
     /// The growth for a Read's data was refused, at this point. The unit is as it was, and may be looked at again.
-    NoMemory { point: u32 },
+    NoMemory { point: u64 },
 }
 
 /// Why [`Unit::look`](crate::Unit::look) has no answer.
 #[derive(Clone, Copy, Debug, PartialEq, Eq)]
 pub enum LookFault {
     /// Others have added entries since the pass was last brought up: there are `count` now, and that is the pass's new mark.
-    Newer { count: u32 },
+    Newer { count: u64 },
     /// Nothing has changed since the pass was last brought up, so the point is its new mark. But there was no memory for
     /// a Read's data, or the pass has no version to ask.
-    NoMemory { point: u32 },
+    NoMemory { point: u64 },
 }
 
 /// Why [`Unit::try_change`](crate::Unit::try_change) did nothing: it met this word. If that is odd, another pass had the

@@ -7,6 +7,7 @@ ghost use Rattle.std.specs.Prelude.{[]};
 
 use crate::book::Book;
 use crate::bounds::Bounds;
+use crate::kept::Kept;
 use crate::views::Group;
 use atomic_table::{Join, Play, Split, TableRule};
 use std::marker::PhantomData;
@@ -15,7 +16,7 @@ use std::marker::PhantomData;
 /// so one that is sound.
 pub struct UnitRule;
 
-impl TableRule<Option<Book>, Group, Bounds> for UnitRule {
+impl<K: Kept> TableRule<Option<Book<K>>, Group, Bounds> for UnitRule {
     ghost holds = { IsRuled };
 
     ghost first = { all_newcomers };
@@ -54,7 +55,7 @@ pub struct Looks<D> {
     decides: PhantomData<D>,
 }
 
-impl<D: Decides> Play<Option<Book>, Group> for Looks<D> {
+impl<K: Kept, D: Decides> Play<Option<Book<K>>, Group> for Looks<D> {
     ghost then = { looks D.decides };
 }
 
@@ -63,7 +64,7 @@ pub struct Tries<D> {
     decides: PhantomData<D>,
 }
 
-impl<D: Decides> Play<Option<Book>, Group> for Tries<D> {
+impl<K: Kept, D: Decides> Play<Option<Book<K>>, Group> for Tries<D> {
     ghost then = { tries D.decides };
 }
 
@@ -72,7 +73,7 @@ pub struct Puts<D> {
     decides: PhantomData<D>,
 }
 
-impl<D: Decides> Play<Option<Book>, Group> for Puts<D> {
+impl<K: Kept, D: Decides> Play<Option<Book<K>>, Group> for Puts<D> {
     ghost then = { puts D.decides };
 }
 

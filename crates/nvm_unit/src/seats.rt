@@ -8,6 +8,7 @@ ghost use Rattle.nvm_unit.specs.Inside.Book.{recorded};
 ghost use Rattle.nvm_unit.specs.Inside.Plays.{resting};
 ghost use Rattle.nvm_unit.specs.Inside.Snapshot.{IsVersionOf};
 
+use crate::kept::Kept;
 use crate::pass::{Parts, Pass};
 use crate::snapshot::Snapshot;
 use crate::steps;
@@ -18,14 +19,14 @@ use std::alloc::Global;
 
 /// The passes of a new unit, which are all at this seat, each at a seat of its own. With `versions`, each keeps the
 /// opening version.
-pub(crate) fn deal(
+pub(crate) fn deal<K: Kept>(
     alloc: Global,
-    desk: &Desk,
-    token: Token,
+    desk: &Desk<K>,
+    token: Token<K>,
     count: u16,
     blocks: &UnitBlocks,
     versions: bool,
-) -> Result<Vec<Pass>, NoMemory>
+) -> Result<Vec<Pass<K>>, NoMemory>
     requires at { token.seat.table_id ≡ desk.now.table.shared.table_id }
     requires all { token.seat.me ≡ resting (newcomers_from desk.now.table.shared.key 0 count) }
     requires version { IsVersionOf (recorded desk.now.table.shared.key []) blocks.now }
@@ -48,7 +49,7 @@ pub(crate) fn deal(
 }
 
 /// All passes at one seat, in their order.
-pub(crate) fn gather(desk: &Desk, all: Vec<Pass>) -> Token
+pub(crate) fn gather<K: Kept>(desk: &Desk<K>, all: Vec<Pass<K>>) -> Token<K>
     requires some { 0 < length all.items }
     requires of { (i : ℕ) (pass : PassState) → IsAt all.items i pass
         → pass.table ≡ desk.now.table.shared.table_id }

@@ -7,7 +7,7 @@ use nvm_store::UnitBlocks;
 /// copy, since both are trees that share what hasn't changed between them.
 #[derive(Drop)]
 pub struct Snapshot {
-    entries: u32,
+    entries: u64,
     version: Option<UnitBlocks>,
 }
 
@@ -31,7 +31,7 @@ impl Snapshot {
 
     /// Of the point with this many entries, where the blocks are these. It has a version if `versions` asks for one and the blocks
     /// can be shared once more.
-    pub fn of(entries: u32, blocks: &UnitBlocks, versions: bool) -> Snapshot
+    pub fn of(entries: u64, blocks: &UnitBlocks, versions: bool) -> Snapshot
         ensures entries { result.entries ≡ entries }
         ensures version { IfSome result.version (λ u. u ≡ blocks.now) }
         ensures kept { is_some result.version ≡ true → versions ≡ true }
@@ -41,7 +41,7 @@ impl Snapshot {
     }
 
     /// The number of entries.
-    pub fn entries(&self) -> u32
+    pub fn entries(&self) -> u64
         ensures { result ≡ self.now.entries }
     {
         self.entries
@@ -55,7 +55,7 @@ impl Snapshot {
     }
 
     /// Moves a snapshot without a version to the point with this many entries.
-    pub fn set_entries(&mut self, entries: u32)
+    pub fn set_entries(&mut self, entries: u64)
         requires { self.old.version ≡ None }
         ensures entries { self.new.entries ≡ entries }
         ensures version { self.new.version ≡ None }

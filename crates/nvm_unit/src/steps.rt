@@ -14,30 +14,30 @@ ghost use Rattle.nvm_unit.specs.Inside.Plays.{resting, holding, HasLooked, WasEv
 
 use crate::book::Book;
 use crate::bounds::Bounds;
+use crate::kept::Kept;
 use crate::rule::{Decides, FirstStays, Looks, Never, Puts, Together, Tries, UnitRule};
 use crate::views::Group;
 use atomic_table::{Refused, Seat, Table};
 use nvm_record::NoMemory;
-use nvm_store::History;
 use nvm_store::laws::lawful_with_one_more;
 use std::alloc::{AllocError, Global};
 use std::sync::Wait;
 
 /// The table of one unit: its word, and the slot that has its book while nobody holds the unit.
 #[derive(Drop)]
-pub struct Desk {
-    table: Table<Option<Book>, Group, Bounds, UnitRule, Global>,
+pub struct Desk<K: Kept> {
+    table: Table<Option<Book<K>>, Group, Bounds, UnitRule, Global>,
     ghost sized: { (table.shared.table_id.words ≡ 1) × (table.shared.table_id.slots ≡ 1) },
 }
 
 /// A seat at a unit's table. It has no bytes.
 #[derive(Drop)]
-pub struct Token {
-    seat: Seat<Option<Book>, Group>,
+pub struct Token<K: Kept> {
+    seat: Seat<Option<Book<K>>, Group>,
 }
 
 /// Loads the word, and gives it.
-pub fn load<D: Decides>(desk: &Desk, token: &mut Token) -> u64
+pub fn load<K: Kept, D: Decides>(desk: &Desk<K>, token: &mut Token<K>) -> u64
     requires at { token.old.seat.table_id ≡ desk.now.table.shared.table_id }
     requires filled { 0 < length token.old.seat.me.0.passes }
     requires alone { (word : ℕ) → D.decides word ≡ true → length token.old.seat.me.0.passes ≡ 1 }
@@ -49,7 +49,7 @@ pub fn load<D: Decides>(desk: &Desk, token: &mut Token) -> u64
 }
 
 /// Takes the unit where the word is `word`, which is that of a free unit. Gives the word that it found.
-pub fn take<D: Decides>(desk: &Desk, token: &mut Token, word: u64) -> u64
+pub fn take<K: Kept, D: Decides>(desk: &Desk<K>, token: &mut Token<K>, word: u64) -> u64
     requires at { token.old.seat.table_id ≡ desk.now.table.shared.table_id }
     requires free { word % 2 ≡ 0 }
     requires filled { 0 < length token.old.seat.me.0.passes }
@@ -68,9 +68,9 @@ pub fn take<D: Decides>(desk: &Desk, token: &mut Token, word: u64) -> u64
 }
 
 /// Puts the unit back, which then has so many entries: as many as before, or one more.
-pub fn put<D: Decides>(desk: &Desk, token: &mut Token, entries: u64)
+pub fn put<K: Kept, D: Decides>(desk: &Desk<K>, token: &mut Token<K>, entries: u64)
     requires at { token.old.seat.table_id ≡ desk.now.table.shared.table_id }
-    requires few { entries < 2 ^ 32 }
+    requires few { entries < 2 ^ 63 }
     requires ready { ((ps : List View) × (history : List HistoryEntry) × (b : UnitBounds)
         × CanReturn D.decides entries token.old.seat.me ps history b)
         ⊎ ((p : View) × (history : List HistoryEntry) × (entry : HistoryEntry)
@@ -87,7 +87,7 @@ pub fn put<D: Decides>(desk: &Desk, token: &mut Token, entries: u64)
 }
 
 /// The passes of the other seat join those of this one.
-pub fn join(desk: &Desk, token: &mut Token, other: Token)
+pub fn join<K: Kept>(desk: &Desk<K>, token: &mut Token<K>, other: Token<K>)
     requires at { token.old.seat.table_id ≡ desk.now.table.shared.table_id }
     requires other { other.seat.table_id ≡ desk.now.table.shared.table_id }
     requires rests { token.old.seat.me ≡ resting token.old.seat.me.0.passes }
@@ -102,7 +102,7 @@ pub fn join(desk: &Desk, token: &mut Token, other: Token)
 }
 
 /// All passes of the seat but the first go to a seat of their own.
-pub fn split(desk: &Desk, token: &mut Token) -> Token
+pub fn split<K: Kept>(desk: &Desk<K>, token: &mut Token<K>) -> Token<K>
     requires at { token.old.seat.table_id ≡ desk.now.table.shared.table_id }
     requires rests { token.old.seat.me ≡ resting token.old.seat.me.0.passes }
     ensures at { token.new.seat.table_id ≡ token.old.seat.table_id }
@@ -116,7 +116,7 @@ pub fn split(desk: &Desk, token: &mut Token) -> Token
 }
 
 /// Takes the book out of the slot. The seat holds the unit.
-pub fn take_book(desk: &Desk, token: &mut Token) -> Book
+pub fn take_book<K: Kept>(desk: &Desk<K>, token: &mut Token<K>) -> Book<K>
     requires at { token.old.seat.table_id ≡ desk.now.table.shared.table_id }
     requires held { (ps : List View) × (history : List HistoryEntry) × (book : Recorded)
         × (token.old.seat.me ≡ holding ps history (Some book)) }
@@ -132,7 +132,7 @@ pub fn take_book(desk: &Desk, token: &mut Token) -> Book
 }
 
 /// Lays a book into the slot. The seat holds the unit.
-pub fn lay_book(desk: &Desk, token: &mut Token, book: Book)
+pub fn lay_book<K: Kept>(desk: &Desk<K>, token: &mut Token<K>, book: Book<K>)
     requires at { token.old.seat.table_id ≡ desk.now.table.shared.table_id }
     requires held { (ps : List View) × (history : List HistoryEntry) × (token.old.seat.me ≡ holding ps history None) }
     ensures at { token.new.seat.table_id ≡ token.old.seat.table_id }
@@ -143,17 +143,21 @@ pub fn lay_book(desk: &Desk, token: &mut Token, book: Book)
 }
 
 /// Sleeps until a put, if the word is still this one, or returns for no reason.
-pub fn sleep<R: Wait>(desk: &Desk, rt: &R, word: u64) {
+pub fn sleep<K: Kept, R: Wait>(desk: &Desk<K>, rt: &R, word: u64) {
     desk.table.shared.park(rt, 0, (word & 0xffff_ffff) as u32);
 }
 
 /// Wakes one of those who sleep.
-pub fn wake(desk: &Desk) {
+pub fn wake<K: Kept>(desk: &Desk<K>) {
     desk.table.shared.wake_one(0);
 }
 
 /// The table of a new unit, and a seat with all its passes.
-pub fn open(alloc: Global, bounds: Bounds, book: Book) -> Result<(Desk, Token), NoMemory>
+pub fn open<K: Kept>(
+    alloc: Global,
+    bounds: Bounds,
+    book: Book<K>,
+) -> Result<(Desk<K>, Token<K>), NoMemory>
     requires { book ≡ recorded bounds [] }
     ensures { IfOk result (λ t. (t.0.table.shared.key ≡ bounds)
         × (t.1.seat.table_id ≡ t.0.table.shared.table_id)
@@ -167,18 +171,18 @@ pub fn open(alloc: Global, bounds: Bounds, book: Book) -> Result<(Desk, Token), 
     }
 }
 
-/// The history of a unit whose passes are all at this seat. It takes no memory.
-pub fn close(desk: Desk, token: Token) -> History
+/// What is kept of the history of a unit whose passes are all at this seat. It takes no memory.
+pub fn close<K: Kept>(desk: Desk<K>, token: Token<K>) -> K
     requires at { token.seat.table_id ≡ desk.table.shared.table_id }
     requires rests { token.seat.me ≡ resting token.seat.me.0.passes }
     requires all { AreAllViews desk.table.shared.key.passes token.seat.me.0.passes }
-    ensures whole { IsWholeHistory desk.table.shared.key token.seat.me.0.passes result.items }
-    ensures events { HasCome desk.table.shared.key token.seat.me.0.passes result.items }
+    ensures whole { IsWholeHistory desk.table.shared.key token.seat.me.0.passes (K.told result) }
+    ensures events { HasCome desk.table.shared.key token.seat.me.0.passes (K.told result) }
 {
     let Desk { table } = desk;
     let Token { seat } = token;
     let mut closed = table.close_with(seat);
     let book = closed.take(0).unwrap();
     closed.free();
-    book.into_history()
+    book.into_kept()
 }

@@ -5,15 +5,16 @@ ghost use Rattle.nvm_unit.specs.Replies.{Learns, Waits};
 ghost use Rattle.nvm_unit.specs.Views.{shown};
 
 use crate::book::Book;
+use crate::kept::Kept;
 use crate::rule::{Always, Decides};
 use crate::steps;
 use crate::steps::Token;
 use crate::unit::Unit;
 use std::sync::Wait;
 
-impl Unit {
+impl<K: Kept> Unit<K> {
     /// Waits until the token has the unit, and hands out its book.
-    pub(crate) fn take<R: Wait>(&self, rt: &R, token: &mut Token) -> Book
+    pub(crate) fn take<R: Wait>(&self, rt: &R, token: &mut Token<K>) -> Book<K>
         requires at { token.old.seat.table_id ≡ self.now.table }
         requires free { IsFree self.now token.old.seat.me }
         ensures at { token.new.seat.table_id ≡ token.old.seat.table_id }
@@ -25,7 +26,7 @@ impl Unit {
 
     /// Takes the unit if nobody has it. Else the error is the word that was in the way, and `D` says whether the
     /// caller's answer rests on it.
-    pub(crate) fn take_if_free<D: Decides>(&self, token: &mut Token) -> Result<Book, u64>
+    pub(crate) fn take_if_free<D: Decides>(&self, token: &mut Token<K>) -> Result<Book<K>, u64>
         requires at { token.old.seat.table_id ≡ self.now.table }
         requires free { IsFree self.now token.old.seat.me }
         ensures at { token.new.seat.table_id ≡ token.old.seat.table_id }
@@ -43,7 +44,7 @@ impl Unit {
     }
 
     /// Gives the unit back unchanged. It wakes nobody.
-    pub(crate) fn give_back<D: Decides>(&self, token: &mut Token, book: Book)
+    pub(crate) fn give_back<D: Decides>(&self, token: &mut Token<K>, book: Book<K>)
         requires at { token.old.seat.table_id ≡ self.now.table }
         requires has { HasUnit self.now book token.old.seat.me }
         ensures at { token.new.seat.table_id ≡ token.old.seat.table_id }
@@ -55,13 +56,13 @@ impl Unit {
     }
 
     /// The number of entries in the history at this moment, as a step on which the caller's answer rests.
-    pub(crate) fn count(&self, token: &mut Token) -> u32
+    pub(crate) fn count(&self, token: &mut Token<K>) -> u64
         requires at { token.old.seat.table_id ≡ self.now.table }
         requires free { IsFree self.now token.old.seat.me }
         ensures at { token.new.seat.table_id ≡ token.old.seat.table_id }
         ensures free { IsFree self.now token.new.seat.me }
         ensures learns { Learns result (seated token.old.seat.me) (seated token.new.seat.me) }
     {
-        (steps::load::<Always>(&self.latch.desk, token) / 2) as u32
+        steps::load::<K, Always>(&self.latch.desk, token) / 2
     }
 }

@@ -1,4 +1,4 @@
-ghost use Rattle.std.specs.Prelude.{◌≡◌, ◌↔◌, ◌+◌, ◌≤◌, ◌<◌, IfOk, IfErr, IsTrue, true};
+ghost use Rattle.std.specs.Prelude.{◌≡◌, ◌↔◌, ◌+◌, ◌^◌, ◌≤◌, ◌<◌, IfOk, IfErr, IsTrue, true};
 ghost use Rattle.nvm_unit.specs.Ends.{IsPassCount, IsUnitFault, new_passes, AreAllPassesOf, IsWholeHistory, HasCome, views_of};
 ghost use Rattle.nvm_store.specs.ActRef.{lent_operation_of};
 ghost use Rattle.nvm_record.specs.Medium.{zero_medium};
@@ -8,6 +8,8 @@ ghost use Rattle.nvm_store.specs.Look.{look_operation_of};
 
 use crate::book::Book;
 use crate::bounds::Bounds;
+use crate::count::Count;
+use crate::kept::Kept;
 use crate::latch::Latch;
 use crate::pass::Pass;
 use crate::seats::{deal, gather};
@@ -21,13 +23,16 @@ use std::marker::Model;
 /// A unit has at most so many passes.
 pub const MOST_PASSES: u16 = 64;
 
+/// The history of a unit that keeps no entry has at most so many: 2^62.
+pub const MOST_ENTRIES: u64 = 4_611_686_018_427_387_904;
+
 /// Blocks that many threads read and change, each change one atomic step.
 ///
 /// Contracts see which unit it is, its number, its LBAs and block size, the number of its passes, its limit, and
 /// whether it was opened with versions.
 #[derive(Drop)]
-pub struct Unit {
-    pub(crate) latch: Latch,
+pub struct Unit<K: Kept = History> {
+    pub(crate) latch: Latch<K>,
     /// What the gate is told.
     pub(crate) number: u16,
     pub(crate) bounds: Bounds,
@@ -35,9 +40,8 @@ pub struct Unit {
     pub(crate) versions: bool,
 }
 
-impl Model for Unit {
-    ghost use Rattle.std.specs.Prelude.{◌≡◌, ◌<◌};
-    ghost use Rattle.nvm_store.specs.Limit.{IsLimit};
+impl<K: Kept> Model for Unit<K> {
+    ghost use Rattle.std.specs.Prelude.{◌≡◌, ◌<◌, ◌≤◌, ◌^◌};
     ghost use Rattle.nvm_unit.specs.Passes.{UnitName};
 
     ghost Value = { UnitName };
@@ -49,7 +53,7 @@ impl Model for Unit {
       versions = u.versions;
     } };
 
-    ghost invariant = { λ u. (u.latch.desk.table.shared.key ≡ u.bounds) × IsLimit u.bounds.limit × (0 < u.bounds.passes) };
+    ghost invariant = { λ u. (u.latch.desk.table.shared.key ≡ u.bounds) × (u.bounds.limit ≤ 2 ^ 62) × (0 < u.bounds.passes) };
 }
 
 impl Unit {
@@ -98,8 +102,60 @@ impl Unit {
         ensures passes { IfOk result (λ u. u.1.items ≡ new_passes u.0) }
         ensures versions { IfOk result (λ u. u.0.versions ≡ versions) }
     {
-        // For the proof alone: how large a limit can be.
-        let _entries = limit.entries();
+        Unit::made(
+            alloc,
+            number,
+            place,
+            passes,
+            u64::from(limit.entries()),
+            versions,
+        )
+    }
+}
+
+impl Unit<Count> {
+    /// What [`open`](Unit::open) does, of a unit that keeps no entry. Its history is that of all its changes as before, and contracts
+    /// speak of it, but nobody can ask for it. It takes no memory for it, and has no limit but 2^62 entries.
+    pub fn unrecorded(
+        alloc: Global,
+        number: u16,
+        place: Place,
+        passes: u16,
+        versions: bool,
+    ) -> Result<(Unit<Count>, Vec<Pass<Count>>), UnitFault>
+        requires some { 0 < place.blocks }
+        requires low { place.first + place.blocks ≤ 65536 }
+        ensures taken { IfOk result (λ u. IsPassCount passes) }
+        ensures refused { IfErr result (IsUnitFault passes) }
+        ensures bounds { IfOk result (λ u. u.0.bounds ≡ record { place = place; passes = passes; limit = 2 ^ 62 }) }
+        ensures number { IfOk result (λ u. u.0.number ≡ number) }
+        ensures passes { IfOk result (λ u. u.1.items ≡ new_passes u.0) }
+        ensures versions { IfOk result (λ u. u.0.versions ≡ versions) }
+    {
+        Unit::made(alloc, number, place, passes, MOST_ENTRIES, versions)
+    }
+}
+
+impl<K: Kept> Unit<K> {
+    /// A new unit, whatever it keeps.
+    fn made(
+        alloc: Global,
+        number: u16,
+        place: Place,
+        passes: u16,
+        limit: u64,
+        versions: bool,
+    ) -> Result<(Unit<K>, Vec<Pass<K>>), UnitFault>
+        requires some { 0 < place.blocks }
+        requires low { place.first + place.blocks ≤ 65536 }
+        requires few { limit ≤ 2 ^ 62 }
+        ensures taken { IfOk result (λ u. IsPassCount passes) }
+        ensures refused { IfErr result (IsUnitFault passes) }
+        ensures bounds { IfOk result (λ u. u.0.bounds ≡ record { place = place; passes = passes; limit = limit }) }
+        ensures number { IfOk result (λ u. u.0.number ≡ number) }
+        ensures passes { IfOk result (λ u. u.1.items ≡ new_passes u.0) }
+        ensures versions { IfOk result (λ u. u.0.versions ≡ versions) }
+    {
         if passes == 0 || passes > MOST_PASSES {
             return Err(UnitFault::Passes);
         }
@@ -131,12 +187,12 @@ impl Unit {
         self.bounds.place
     }
 
-    /// The whole history of the unit, once nobody uses it any more. The passes are those that
-    /// [`Unit::new`] gave with it, in their order. It takes no memory, and waits for nothing.
-    pub fn close(self, passes: Vec<Pass>) -> History
+    /// What is kept of the whole history of the unit, once nobody uses it any more: the history, or the number of its entries. The
+    /// passes are those that came with the unit, in their order. It takes no memory, and waits for nothing.
+    pub fn close(self, passes: Vec<Pass<K>>) -> K
         requires { AreAllPassesOf self passes.items }
-        ensures whole { IsWholeHistory self.bounds (views_of passes.items) result.items }
-        ensures events { HasCome self.bounds (views_of passes.items) result.items }
+        ensures whole { IsWholeHistory self.bounds (views_of passes.items) (K.told result) }
+        ensures events { HasCome self.bounds (views_of passes.items) (K.told result) }
     {
         let Unit {
             latch,

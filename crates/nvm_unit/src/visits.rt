@@ -1,11 +1,13 @@
 //! The calls that bring passes up to the history.
-ghost use Rattle.std.specs.Prelude.{◌≡◌, IfOk};
-ghost use Rattle.nvm_unit.specs.Inside.Holding.{Visits};
+ghost use Rattle.std.specs.Prelude.{◌≡◌, IfOk, is_some, length, true, false};
+ghost use Rattle.nvm_unit.specs.Inside.Parts.{HasUnit, IsWhole, Recalls, seated, state_of};
 ghost use Rattle.nvm_unit.specs.Passes.{IsPassOf, IsProperPass};
 ghost use Rattle.nvm_unit.specs.Replies.{IsBroughtUp, Meet};
+ghost use Rattle.nvm_unit.specs.Views.{shown};
 
 use crate::book::Book;
-use crate::pass::Pass;
+use crate::kept::{Kept, copy_of};
+use crate::pass::{Parts, Pass};
 use crate::rule::Never;
 use crate::unit::Unit;
 use nvm_record::NoMemory;
@@ -13,58 +15,41 @@ use nvm_store::History;
 use std::alloc::Global;
 use std::sync::Wait;
 
-impl Unit {
+impl<K: Kept> Unit<K> {
     /// Brings the pass to the history that it finds. It waits for the unit, and takes no memory.
-    pub fn refresh<R: Wait>(&self, rt: &R, pass: &mut Pass)
+    pub fn refresh<R: Wait>(&self, rt: &R, pass: &mut Pass<K>)
         requires { IsPassOf self.now pass.old }
         ensures of { IsPassOf self.now pass.new }
         ensures number { pass.new.view.number ≡ pass.old.view.number }
         ensures up { IsBroughtUp pass.old.view pass.new.view }
         ensures proper { IsProperPass pass.new.view }
     {
-        self.visit(rt, pass, |_book: &Book| {});
-    }
-
-    /// Brings the pass to the history that it finds, and gives a copy of it. It waits for the unit. Where
-    /// memory is refused, the pass is brought up nevertheless.
-    pub fn history<R: Wait>(
-        &self,
-        rt: &R,
-        alloc: Global,
-        pass: &mut Pass,
-    ) -> Result<History, NoMemory>
-        requires { IsPassOf self.now pass.old }
-        ensures of { IsPassOf self.now pass.new }
-        ensures number { pass.new.view.number ≡ pass.old.view.number }
-        ensures up { IsBroughtUp pass.old.view pass.new.view }
-        ensures proper { IsProperPass pass.new.view }
-        ensures seen { IfOk result (λ v. v.items ≡ pass.new.view.seen) }
-    {
-        self.visit(rt, pass, |book: &Book| book.copy_of_history(alloc))
-    }
-
-    /// Has the book read and brings the pass up. It leaves no mark.
-    fn visit<R: Wait, T, F: FnOnce(&Book) -> T>(&self, rt: &R, pass: &mut Pass, read: F) -> T
-        requires of { IsPassOf self.now pass.old }
-        requires ready { (book : _) → F.pre read book }
-        ensures of { IsPassOf self.now pass.new }
-        ensures number { pass.new.view.number ≡ pass.old.view.number }
-        ensures visited { Visits pass.old.view pass.new.view
-            (λ pages. (book : _) × F.post read book result × (book.now ≡ pages)) }
-        ensures proper { IsProperPass pass.new.view }
-    {
-        let book = self.take(rt, &mut pass.parts.token);
-        let answer = read(&book);
-        let old = book.renew(&mut pass.parts.snapshot, self.versions);
-        self.give_back::<Never>(&mut pass.parts.token, book);
+        let found = self.take(rt, &mut pass.parts.token);
+        self.leave(&mut pass.parts, found);
         self.wake();
+    }
+
+    /// Brings the pass up to the book in hand and gives the unit back, so that the parts are a pass again. It leaves no mark, and
+    /// wakes nobody.
+    fn leave(&self, parts: &mut Parts<K>, book: Book<K>)
+        requires at { parts.old.token.seat.table_id ≡ self.now.table }
+        requires has { HasUnit self.now book parts.old.token.seat.me }
+        requires numbered { parts.old.number ≡ (seated parts.old.token.seat.me).number }
+        requires recalls { Recalls parts.old.snapshot (seated parts.old.token.seat.me) }
+        requires kept { is_some parts.old.snapshot.version ≡ true → self.now.versions ≡ true }
+        ensures of { IsPassOf self.now (state_of parts.new) }
+        ensures whole { IsWhole parts.new }
+        ensures shown { seated parts.new.token.seat.me
+            ≡ shown false (length book.history) book.history (seated parts.old.token.seat.me) }
+    {
+        let old = book.renew(&mut parts.snapshot, self.versions);
+        self.give_back::<Never>(&mut parts.token, book);
         drop(old);
-        answer
     }
 
     /// Brings both passes to one history, so that what either had seen stands in it. It waits for the
     /// unit, and takes no memory.
-    pub fn meet<R: Wait>(&self, rt: &R, one: &mut Pass, other: &mut Pass)
+    pub fn meet<R: Wait>(&self, rt: &R, one: &mut Pass<K>, other: &mut Pass<K>)
         requires one { IsPassOf self.now one.old }
         requires other { IsPassOf self.now other.old }
         ensures one { IsPassOf self.now one.new }
@@ -83,5 +68,29 @@ impl Unit {
         );
         one.parts.snapshot = mine;
         other.parts.snapshot = yours;
+    }
+}
+
+impl Unit {
+    /// Brings the pass to the history that it finds, and gives a copy of it. It waits for the unit. Where
+    /// memory is refused, the pass is brought up nevertheless.
+    pub fn history<R: Wait>(
+        &self,
+        rt: &R,
+        alloc: Global,
+        pass: &mut Pass,
+    ) -> Result<History, NoMemory>
+        requires { IsPassOf self.now pass.old }
+        ensures of { IsPassOf self.now pass.new }
+        ensures number { pass.new.view.number ≡ pass.old.view.number }
+        ensures up { IsBroughtUp pass.old.view pass.new.view }
+        ensures proper { IsProperPass pass.new.view }
+        ensures seen { IfOk result (λ v. v.items ≡ pass.new.view.seen) }
+    {
+        let book = self.take(rt, &mut pass.parts.token);
+        let copy = copy_of(alloc, book.kept());
+        self.leave(&mut pass.parts, book);
+        self.wake();
+        copy
     }
 }

@@ -13,15 +13,17 @@ use Rattle.nvm_plan.specs.declared.part.Part.{Part}
 use Rattle.nvm_plan.specs.declared.part.PartResult.TheVariants as result
 use Rattle.nvm_plan.specs.Reply.{Reply}
 use Rattle.nvm_plan.specs.UnitPlace.{IsUnitPlace}
+use Rattle.nvm_store.specs.Limit.{IsLimit}
 use Rattle.nvm_unit.specs.Passes.{UnitName}
 use Rattle.nvm_space.specs.declared.job_done.JobDone.{JobDone}
 use Rattle.nvm_space.specs.declared.replies.PartReply.{PartReply}
 use Rattle.nvm_space.specs.Trace.{PartDone, part_ended}
 
--- These are the units of the namespace, each at the place of its number.
+-- These are the units of the namespace, each at the place of its number, with a limit of records.
 pub record AreUnitsOf (ns : Namespace) (units : List UnitName) : Type 0 where
   pub count : length units ≡ units_of ns
   pub place : (k : ℕ) (unit : UnitName) → IsAt units k unit → IsUnitPlace ns k unit.bounds.place
+  pub limit : (k : ℕ) (unit : UnitName) → IsAt units k unit → IsLimit unit.bounds.limit
 
 -- what a unit told, as plain data
 abbrev pub reply_told : PartReply → Reply

@@ -15,7 +15,7 @@ abbrev pub seated : Sits → PassView
 seated m = only m.0.passes
 
 -- what contracts see of a pass that has these parts
-abbrev pub state_of : Parts → PassState
+abbrev pub state_of : {K : Type 0} → Parts K → PassState
 state_of parts =
     record {
       table = parts.token.seat.table_id;
@@ -28,7 +28,7 @@ abbrev pub Recalls : Snapshot → PassView → Type 0
 Recalls snapshot p = IsSnapshotOf snapshot (recorded p.bounds p.seen)
 
 -- The parts are those of one pass, which doesn't have the unit.
-pub record IsWhole (parts : Parts) : Type 0 where
+pub record IsWhole {K : Type 0} (parts : Parts K) : Type 0 where
   pub alone : parts.token.seat.me ≡ resting (seated parts.token.seat.me ∷ [])
   pub numbered : parts.number ≡ (seated parts.token.seat.me).number
   pub recalls : Recalls parts.snapshot (seated parts.token.seat.me)

@@ -38,6 +38,13 @@ poll_part-polled-requires-clause-of g c =
     of_unit c.args.geometry.now c.args.units.now c.args.units.now c.requires.passes.0 c.next_part-unit.result.0 c.from-place.result c.loop-progress.passes.items c.index-units-place.result c.index_mut.result.now
     c.requires.units.count refl all c.next_part-unit.ensures.known c.from-place.ensures c.index-units-place.is c.index_mut.ensures.value
 
+pub poll_part-polled-requires-clause-limit : goal.poll_part-polled-requires-clause-limit
+poll_part-polled-requires-clause-limit g c =
+    let all = c.loop-progress.invariant.passes c.requires.passes.0 c.requires.passes.1 in
+    c.requires.units.limit c.from-place.result c.index-units-place.result
+    (unit_there c.args.geometry.now c.args.units.now c.args.units.now c.requires.passes.0 c.next_part-unit.result.0 c.from-place.result c.loop-progress.passes.items c.index-units-place.result c.index_mut.result.now
+    c.requires.units.count refl all c.next_part-unit.ensures.known c.from-place.ensures c.index-units-place.is c.index_mut.ensures.value)
+
 pub poll_part-polled-requires-clause-covered : goal.poll_part-polled-requires-clause-covered
 poll_part-polled-requires-clause-covered g c =
     let ns = c.args.geometry.now in

@@ -10,7 +10,7 @@ use Rattle.nvm_unit.proofs.Together.{first_stays, others_go}
 use Rattle.nvm_unit.proofs.seats.deal.Goals as goal
 
 pub invariant_of-push : goal.invariant_of-push
-invariant_of-push c =
+invariant_of-push g c =
     let b = c.args.desk.now.table.shared.key in
     let number = c.loop-number.number in
     let left = c.loop-number.invariant.rests ∙ ap resting (next_left b number c.args.count c.loop-number-test.true) in
@@ -19,7 +19,7 @@ invariant_of-push c =
     (newcomer_proper b number)
 
 pub loop-number-preserved : goal.loop-number-preserved
-loop-number-preserved c =
+loop-number-preserved g c =
     let b = c.args.desk.now.table.shared.key in
     let id = c.args.desk.now.table.shared.table_id in
     let number = c.loop-number.number in

@@ -6,7 +6,7 @@ use Rattle.nvm_unit.proofs.seats.deal.Given as goal
 
 -- The passes that are left complete those that have a seat of their own.
 abbrev pub invariant-loop-number : goal.invariant-loop-number
-invariant-loop-number l = record {
+invariant-loop-number g l = record {
   at : l.token.seat.table_id ≡ l.desk.table.shared.table_id;
   rests : l.token.seat.me ≡ resting (newcomers_from l.desk.table.shared.key l.number (l.count - l.number));
   dealt : l.passes.items ++ map (pass_at l.desk.table.shared.table_id l.versions) (newcomers_from l.desk.table.shared.key l.number (l.count - l.number))

@@ -7,7 +7,7 @@ use Rattle.nvm_unit.proofs.Together.{rests_as, passes_are}
 use Rattle.nvm_unit.proofs.seats.gather.Goals as goal
 
 pub loop-pass-init : goal.loop-pass-init
-loop-pass-init c =
+loop-pass-init g c =
     let items = c.in-Some.ensures.items in
     let left = c.pop.new.self.items in
     record {
@@ -18,13 +18,13 @@ loop-pass-init c =
     }
 
 pub join-requires-clause-at : goal.join-requires-clause-at
-join-requires-clause-at c =
+join-requires-clause-at g c =
     let left = c.pop-in-loop-pass.new.self.items in
     c.into_token-seat.ensures.table
     ∙ c.loop-pass.invariant.each (length left) c.in-Some-pop.pass (last_before _ left c.in-Some-pop.pass c.in-Some-pop.ensures.items)
 
 pub loop-pass-preserved : goal.loop-pass-preserved
-loop-pass-preserved c =
+loop-pass-preserved g c =
     let left = c.pop-in-loop-pass.new.self.items in
     let pass = c.in-Some-pop.pass in
     let items = c.in-Some-pop.ensures.items in

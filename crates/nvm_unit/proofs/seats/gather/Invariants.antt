@@ -7,7 +7,7 @@ use Rattle.nvm_unit.proofs.seats.gather.Given as goal
 
 -- The passes at the seat complete those that are left.
 abbrev pub invariant-loop-pass : goal.invariant-loop-pass
-invariant-loop-pass l = record {
+invariant-loop-pass g l = record {
   at : l.token.seat.table_id ≡ l.desk.table.shared.table_id;
   rests : l.token.seat.me ≡ resting l.token.seat.me.0.passes;
   all : views_of l.left.items ++ l.token.seat.me.0.passes ≡ views_of l.fn.all.items;
@@ -15,4 +15,4 @@ invariant-loop-pass l = record {
 }
 
 abbrev pub decreases-loop-pass : goal.decreases-loop-pass
-decreases-loop-pass l = vec_len l.left
+decreases-loop-pass g l = vec_len l.left

@@ -12,7 +12,7 @@ use Rattle.nvm_unit.proofs.Lists.{at_one}
 use Rattle.nvm_unit.proofs.steps.close.Goals as goal
 
 pub unwrap-book-requires : goal.unwrap-book-requires
-unwrap-book-requires c =
+unwrap-book-requires g c =
     let b = c.args.desk.table.shared.key in
     let seat = c.args.token.seat in
     let slots = slots_items c.close_with-closed.result.slots in
@@ -24,7 +24,7 @@ unwrap-book-requires c =
     subst (λ (x : Option Recorded). IsSome x) (sym book) refl
 
 pub returns-clause-whole : goal.returns-clause-whole
-returns-clause-whole c =
+returns-clause-whole g c =
     let b = c.args.desk.table.shared.key in
     let seat = c.args.token.seat in
     let slots = slots_items c.close_with-closed.result.slots in
@@ -35,11 +35,11 @@ returns-clause-whole c =
     let found : c.take.result ≡ Some (recorded b end.0) = at_one slots 0 c.take.result (Some (recorded b end.0)) c.take.ensures.value end.1 in
     let both : Some c.unwrap-book.result ≡ Some (recorded b end.0) = sym c.unwrap-book.ensures ∙ found in
     let book : c.unwrap-book.result ≡ recorded b end.0 = cc in
-    let items : c.into_history.result.items ≡ end.0 = c.into_history.ensures ∙ ap (λ (x : Recorded). x.history) book in
+    let items : g.K.Kept.told c.into_kept.result ≡ end.0 = c.into_kept.ensures ∙ ap (λ (x : Recorded). x.history) book in
     subst (λ (h : List HistoryEntry). IsWholeHistory b seat.me.0.passes h) (sym items) end.2
 
 pub returns-clause-events : goal.returns-clause-events
-returns-clause-events c =
+returns-clause-events g c =
     let b = c.args.desk.table.shared.key in
     let seat = c.args.token.seat in
     let slots = slots_items c.close_with-closed.result.slots in
@@ -50,5 +50,5 @@ returns-clause-events c =
     let found : c.take.result ≡ Some (recorded b end.0) = at_one slots 0 c.take.result (Some (recorded b end.0)) c.take.ensures.value end.1 in
     let both : Some c.unwrap-book.result ≡ Some (recorded b end.0) = sym c.unwrap-book.ensures ∙ found in
     let book : c.unwrap-book.result ≡ recorded b end.0 = cc in
-    let items : c.into_history.result.items ≡ end.0 = c.into_history.ensures ∙ ap (λ (x : Recorded). x.history) book in
+    let items : g.K.Kept.told c.into_kept.result ≡ end.0 = c.into_kept.ensures ∙ ap (λ (x : Recorded). x.history) book in
     subst (λ (h : List HistoryEntry). HasCome b seat.me.0.passes h) (sym items) end.3

@@ -8,7 +8,7 @@ use Rattle.nvm_unit.proofs.Joining.{join_allowed}
 use Rattle.nvm_unit.proofs.steps.join.Goals as goal
 
 pub join_seat-requires : goal.join_seat-requires
-join_seat-requires c =
+join_seat-requires g c =
     let desk = c.args.desk.now in
     let b = desk.table.shared.key in
     let mine = c.args.token.now.seat in

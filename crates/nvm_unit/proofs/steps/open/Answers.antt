@@ -8,7 +8,7 @@ use Rattle.nvm_unit.proofs.Reaching.{opening_reached}
 use Rattle.nvm_unit.proofs.steps.open.Goals as goal
 
 pub new-requires : goal.new-requires
-new-requires c =
+new-requires g c =
     let b = c.args.bounds in
     let items : c.push_reserved.new.self.items ≡ Some (recorded b []) ∷ [] =
     c.push_reserved.ensures.items

@@ -8,7 +8,7 @@ use Rattle.nvm_unit.proofs.Joining.{split_allowed}
 use Rattle.nvm_unit.proofs.steps.split.Goals as goal
 
 pub split_seat-requires : goal.split_seat-requires
-split_seat-requires c =
+split_seat-requires g c =
     let desk = c.args.desk.now in
     let b = desk.table.shared.key in
     let mine = c.args.token.now.seat in

@@ -5,7 +5,7 @@ use Rattle.nvm_unit.specs.Inside.Plays.{Sits}
 use Rattle.nvm_unit.proofs.steps.take_book.Goals as goal
 
 pub exchange-requires : goal.exchange-requires
-exchange-requires c =
+exchange-requires g c =
     let held = c.requires.held in
     let book : Option Recorded = Some held.2 in
     let out : c.args.token.now.seat.me.1 ≡ (0, book) ∷ [] = ap (λ (m : Sits). m.1) held.3 in (

@@ -1,57 +1,26 @@
-use Rattle.std.proofs.Common.{◌≡◌, ◌≤◌, ap, sym, subst, ◌∙◌, length, arith, inl, [], ◌∷◌, false}
+use Rattle.std.proofs.Common.{◌≡◌, ◌≤◌, ◌^◌, ap, sym, subst, ◌∙◌, length, arith, inl, [], ◌∷◌, false}
 use Rattle.nvm_unit.specs.declared.steps.Token.{Token}
 use Rattle.nvm_unit.specs.Inside.Seats.{only}
 use Rattle.nvm_unit.specs.declared.bounds.Bounds.{Bounds}
 use Rattle.nvm_unit.specs.Inside.Book.{recorded}
 use Rattle.nvm_unit.specs.Inside.Snapshot.{IsSnapshotOf}
-use Rattle.nvm_unit.specs.Inside.Plays.{Sits, resting}
+use Rattle.nvm_unit.specs.Inside.Plays.{resting}
 use Rattle.nvm_unit.specs.Views.{looked, shown}
 use Rattle.nvm_unit.proofs.Together.{rests_as, first_stays, others_go, both_join, together, both_back, both_shown, both_few}
 use Rattle.nvm_unit.proofs.latch.Latch.meet.Goals as goal
-
-abbrev me_of : Token → Sits
-me_of t = t.seat.me
-
-pub snapshot-requires : goal.snapshot-requires
-snapshot-requires g c =
-    let p = only c.args.one.now.seat.me.0.passes in
-    let o = only c.args.other.now.seat.me.0.passes in
-    let first : c.split-spare.new.token.seat.me ≡ resting (p ∷ []) = first_stays _ _ p [] c.requires.one_rests c.split-spare.ensures.first in
-    let joining : c.replace-joining.result.seat.me ≡ resting (o ∷ []) = ap me_of c.replace-joining.ensures.value ∙ c.requires.other_rests in
-    let both : c.join.new.token.seat.me ≡ resting (p ∷ o ∷ []) = both_join _ _ _ (p ∷ []) (o ∷ []) first joining c.join.ensures.joined in
-    let held = c.hold-book.ensures.held in
-    let h = held.1 in
-    let book = c.hold-book.result in
-    let a = together held.0 h book p o _ _ both held.2 in
-    let short : length book.history ≤ 4194304 = both_few held.0 h book p o _ a c.requires.limit in
-    omega arith
-
-pub snapshot-requires-2 : goal.snapshot-requires-2
-snapshot-requires-2 g c =
-    let p = only c.args.one.now.seat.me.0.passes in
-    let o = only c.args.other.now.seat.me.0.passes in
-    let first : c.split-spare.new.token.seat.me ≡ resting (p ∷ []) = first_stays _ _ p [] c.requires.one_rests c.split-spare.ensures.first in
-    let joining : c.replace-joining.result.seat.me ≡ resting (o ∷ []) = ap me_of c.replace-joining.ensures.value ∙ c.requires.other_rests in
-    let both : c.join.new.token.seat.me ≡ resting (p ∷ o ∷ []) = both_join _ _ _ (p ∷ []) (o ∷ []) first joining c.join.ensures.joined in
-    let held = c.hold-book.ensures.held in
-    let h = held.1 in
-    let book = c.hold-book.result in
-    let a = together held.0 h book p o _ _ both held.2 in
-    let short : length book.history ≤ 4194304 = both_few held.0 h book p o _ a c.requires.limit in
-    omega arith
 
 pub release-requires-clause-few : goal.release-requires-clause-few
 release-requires-clause-few g c =
     let p = only c.args.one.now.seat.me.0.passes in
     let o = only c.args.other.now.seat.me.0.passes in
     let first : c.split-spare.new.token.seat.me ≡ resting (p ∷ []) = first_stays _ _ p [] c.requires.one_rests c.split-spare.ensures.first in
-    let joining : c.replace-joining.result.seat.me ≡ resting (o ∷ []) = ap me_of c.replace-joining.ensures.value ∙ c.requires.other_rests in
+    let joining : c.replace-joining.result.seat.me ≡ resting (o ∷ []) = ap (λ (t : Token _). t.seat.me) c.replace-joining.ensures.value ∙ c.requires.other_rests in
     let both : c.join.new.token.seat.me ≡ resting (p ∷ o ∷ []) = both_join _ _ _ (p ∷ []) (o ∷ []) first joining c.join.ensures.joined in
     let held = c.hold-book.ensures.held in
     let h = held.1 in
     let book = c.hold-book.result in
     let a = together held.0 h book p o _ _ both held.2 in
-    let short : length book.history ≤ 4194304 = both_few held.0 h book p o _ a c.requires.limit in
+    let short : length book.history ≤ 2 ^ 62 = both_few held.0 h book p o _ a c.requires.limit in
     omega arith
 
 pub release-requires-clause-ready : goal.release-requires-clause-ready
@@ -59,7 +28,7 @@ release-requires-clause-ready g c =
     let p = only c.args.one.now.seat.me.0.passes in
     let o = only c.args.other.now.seat.me.0.passes in
     let first : c.split-spare.new.token.seat.me ≡ resting (p ∷ []) = first_stays _ _ p [] c.requires.one_rests c.split-spare.ensures.first in
-    let joining : c.replace-joining.result.seat.me ≡ resting (o ∷ []) = ap me_of c.replace-joining.ensures.value ∙ c.requires.other_rests in
+    let joining : c.replace-joining.result.seat.me ≡ resting (o ∷ []) = ap (λ (t : Token _). t.seat.me) c.replace-joining.ensures.value ∙ c.requires.other_rests in
     let both : c.join.new.token.seat.me ≡ resting (p ∷ o ∷ []) = both_join _ _ _ (p ∷ []) (o ∷ []) first joining c.join.ensures.joined in
     let held = c.hold-book.ensures.held in
     let h = held.1 in
@@ -72,7 +41,7 @@ split-requires-clause-rests g c =
     let p = only c.args.one.now.seat.me.0.passes in
     let o = only c.args.other.now.seat.me.0.passes in
     let first : c.split-spare.new.token.seat.me ≡ resting (p ∷ []) = first_stays _ _ p [] c.requires.one_rests c.split-spare.ensures.first in
-    let joining : c.replace-joining.result.seat.me ≡ resting (o ∷ []) = ap me_of c.replace-joining.ensures.value ∙ c.requires.other_rests in
+    let joining : c.replace-joining.result.seat.me ≡ resting (o ∷ []) = ap (λ (t : Token _). t.seat.me) c.replace-joining.ensures.value ∙ c.requires.other_rests in
     let both : c.join.new.token.seat.me ≡ resting (p ∷ o ∷ []) = both_join _ _ _ (p ∷ []) (o ∷ []) first joining c.join.ensures.joined in
     let held = c.hold-book.ensures.held in
     let h = held.1 in
@@ -87,7 +56,7 @@ returns-clause-met g c =
     let p = only c.args.one.now.seat.me.0.passes in
     let o = only c.args.other.now.seat.me.0.passes in
     let first : c.split-spare.new.token.seat.me ≡ resting (p ∷ []) = first_stays _ _ p [] c.requires.one_rests c.split-spare.ensures.first in
-    let joining : c.replace-joining.result.seat.me ≡ resting (o ∷ []) = ap me_of c.replace-joining.ensures.value ∙ c.requires.other_rests in
+    let joining : c.replace-joining.result.seat.me ≡ resting (o ∷ []) = ap (λ (t : Token _). t.seat.me) c.replace-joining.ensures.value ∙ c.requires.other_rests in
     let both : c.join.new.token.seat.me ≡ resting (p ∷ o ∷ []) = both_join _ _ _ (p ∷ []) (o ∷ []) first joining c.join.ensures.joined in
     let held = c.hold-book.ensures.held in
     let h = held.1 in

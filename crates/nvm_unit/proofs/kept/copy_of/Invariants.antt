@@ -1,5 +1,5 @@
 use Rattle.std.proofs.Common.{◌≡◌, take}
-use Rattle.nvm_unit.proofs.book.Book.copy_of_history.Given as goal
+use Rattle.nvm_unit.proofs.kept.copy_of.Given as goal
 
 abbrev pub invariant-loop-entry : goal.invariant-loop-entry
 invariant-loop-entry l = l.copies.items ≡ take l.entry-index l.entry-items

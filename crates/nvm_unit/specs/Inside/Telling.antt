@@ -1,0 +1,11 @@
+-- The history that is told.
+use Rattle.std.specs.Prelude.{List, [], ◌∷◌, ◌++◌}
+use Rattle.nvm_store.specs.ActRef.{lent_operation_of}
+use Rattle.nvm_store.specs.HistoryEntry.{HistoryEntry}
+use Rattle.nvm_unit.specs.declared.told.Telling.{Telling}
+use Rattle.nvm_unit.specs.declared.told.Telling.TheVariants.{Nothing, OneMore}
+
+abbrev pub entries_told : Telling → List HistoryEntry
+entries_told Nothing = []
+entries_told (OneMore before pass job act) =
+    before.now.entries ++ record { pass = pass; job = job; operation = lent_operation_of act } ∷ []

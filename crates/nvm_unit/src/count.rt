@@ -1,0 +1,64 @@
+ghost use Rattle.std.specs.Prelude.{◌≡◌};
+
+use crate::kept::Kept;
+use crate::told::{Telling, Told};
+use nvm_record::NoMemory;
+use nvm_store::{ActRef, Entry};
+use std::alloc::Global;
+use std::marker::Model;
+
+/// The number of entries alone. The entries themselves are told to contracts, and kept nowhere.
+#[derive(Drop)]
+pub struct Count {
+    entries: u64,
+    told: Told,
+}
+
+impl Model for Count {
+    ghost use Rattle.std.specs.Prelude.{◌≡◌, List, length};
+    ghost use Rattle.nvm_store.specs.HistoryEntry.{HistoryEntry};
+
+    ghost Value = { List HistoryEntry };
+
+    ghost view = { λ c. c.told.entries };
+
+    ghost invariant = { λ c. c.entries ≡ length c.told.entries };
+}
+
+/// Their number.
+impl Kept for Count {
+    ghost told = { λ c. c };
+
+    ghost is_ready = { λ c ready entry. Unit {0} };
+
+    fn nothing(_alloc: Global) -> Count {
+        Count {
+            entries: 0,
+            told: Told::by(&Telling::Nothing),
+        }
+    }
+
+    fn entries(&self) -> u64 {
+        self.entries
+    }
+
+    fn make_ready(
+        &mut self,
+        _alloc: Global,
+        _pass: u16,
+        _job: u32,
+        _act: ActRef<'_>,
+    ) -> Result<Option<Entry>, NoMemory> {
+        Ok(None)
+    }
+
+    fn keep(&mut self, _ready: Option<Entry>, pass: u16, job: u32, act: ActRef<'_>) {
+        self.entries += 1;
+        self.told = Told::by(&Telling::OneMore {
+            before: &self.told,
+            pass,
+            job,
+            act,
+        });
+    }
+}
