@@ -3,6 +3,7 @@ pub mod Fault
 pub mod Lines
 pub mod RecordLines
 pub mod VerdictLine
+pub mod VerdictObject
 pub mod Printed
 pub mod StatusNames
 pub mod LongLines

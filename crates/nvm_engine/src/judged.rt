@@ -1,13 +1,15 @@
-ghost use Rattle.std.specs.Prelude.{◌≡◌, ◌≢◌, Ok, Err, IfOk, OnErr, OnOk};
+ghost use Rattle.std.specs.Prelude.{◌≡◌, ◌≢◌, Ok, Err, IfOk, OnErr, OnOk, string_bytes};
 ghost use Rattle.std.specs.Io.KnownBytes.{Appends};
 ghost use Rattle.nvm_write.specs.Handed.{TakesFront};
 ghost use Rattle.nvm_audit.specs.declared.audit_fault.AuditFault.TheVariants.{NoMemory as NoMemoryFault};
 ghost use Rattle.nvm_engine.specs.VerdictLine.{answer_line, answer_status};
+ghost use Rattle.nvm_engine.specs.VerdictObject.{answer_object};
 
 use crate::verdict_line::{write_lawful, write_unlawful};
+use crate::verdict_object::{lawful_object, unlawful_object};
 use nvm_audit::{AuditFault, Verdict};
 use nvm_record::NoMemory;
-use std::alloc::AllocError;
+use std::alloc::{AllocError, Global};
 use std::io;
 use std::io::Write;
 use std::marker::Model;
@@ -62,6 +64,16 @@ impl Judged {
         match &self.answer {
             Ok(verdict) => write_lawful(writer, *verdict),
             Err(fault) => write_unlawful(writer, *fault),
+        }
+    }
+
+    /// The verdict or the fault as one object of JSON, on one line with its line feed.
+    pub fn object(&self, alloc: Global) -> Result<String, NoMemory>
+        ensures { IfOk result (λ object. string_bytes object ≡ answer_object self.now) }
+    {
+        match &self.answer {
+            Ok(verdict) => lawful_object(alloc, *verdict),
+            Err(fault) => unlawful_object(alloc, fault.name(), fault.job(), fault.spot()),
         }
     }
 

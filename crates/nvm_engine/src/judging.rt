@@ -54,7 +54,7 @@ pub fn audit_bytes_watched<W: Watcher + Sync>(
         → MatchResult result (λ judged. judged ≡ Err first) (λ fault. fault ≡ NoMemoryFault) }
 {
     let held = record_of(alloc, bytes)?;
-    let judged = judged_of(rt, alloc, &held, watcher)?;
+    let judged = judge_watched(rt, alloc, &held, watcher)?;
     Ok(judged)
 }
 
@@ -69,8 +69,8 @@ pub(crate) fn record_of(alloc: Global, bytes: &Payload) -> Result<Record, Fault>
     }
 }
 
-/// What an audit tells of the record.
-fn judged_of<W: Watcher + Sync>(
+/// What an audit tells of the record. The watcher is told how far it is.
+pub fn judge_watched<W: Watcher + Sync>(
     rt: &(impl Threads + Sync),
     alloc: Global,
     run: &Record,

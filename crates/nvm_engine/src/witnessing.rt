@@ -38,7 +38,7 @@ pub fn witness_bytes(
 {
     let traced = trace_of(alloc, trace)?;
     let held = record_of(alloc, record)?;
-    let witnessed = witnessed_of(rt, alloc, judging, &traced, &held)?;
+    let witnessed = witness_record(rt, alloc, judging, &traced, &held)?;
     Ok(witnessed)
 }
 
@@ -53,8 +53,8 @@ fn trace_of(alloc: Global, bytes: &Payload) -> Result<Trace, Fault>
     }
 }
 
-/// What a witness answers of the two.
-fn witnessed_of(
+/// Whether the record explains the trace: the numbers of the two, or the first fault.
+pub fn witness_record(
     rt: &(impl Threads + Sync),
     alloc: Global,
     judging: Judging,

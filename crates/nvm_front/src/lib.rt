@@ -2,14 +2,17 @@
 //! ask for nothing that can be done, and what helps whoever reads a fault. A file that is written appears whole or not at
 //! all ([`Output`]).
 //!
-//! Of words, files and streams no clause can say what they hold, so few functions here have one: `examples/check` holds the
-//! built programs to what they must say.
+//! Options that take a number read it by [`number`], whose contract says which words are which numbers. Of files and streams no clause can
+//! say what they hold, so few other functions here have one: `examples/check` holds the built programs to what they must say.
 #![tactic(auto)]
 
 mod content;
 mod failure;
 mod files;
 mod hint;
+mod judging_words;
+mod number_options;
+mod number_word;
 mod output;
 mod progress;
 mod unfinished;
@@ -24,6 +27,15 @@ pub use files::{
 pub use hint::{
     VERSIONS, no_host_file, no_list, no_namespace, no_record, no_trace, other_block, refusal,
 };
+pub use judging_words::{
+    AuditWords, Telling, WitnessWords, audit_command, json, read_audit, read_witness, telling_of,
+    witness_command,
+};
+pub use number_options::{
+    Expected, number_given, number_of_16_bits, number_of_32_bits, number_of_64_bits, number_option,
+    size_given,
+};
+pub use number_word::{NumberFault, number};
 pub use output::{Output, tell_unwritten};
 pub use progress::{JobProgress, Progress};
 pub use version::VERSION;

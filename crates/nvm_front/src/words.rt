@@ -1,5 +1,6 @@
 ghost use Rattle.std.specs.Prelude.{◌≡◌, IfOk, length};
 
+use crate::number_options::Expected;
 use crate::output::tell_unwritten;
 use clap::error::ErrorKind;
 use clap::{Command, Error};
@@ -12,6 +13,12 @@ use std::{env, io};
 pub enum WordFault {
     /// What `clap` says of them. A call for help is one, too.
     Words(Error),
+    /// An option has a value that it doesn't take.
+    Value {
+        option: &'static str,
+        word: String,
+        expected: Expected,
+    },
     /// One of them isn't UTF-8, or they couldn't be had.
     NotText,
     /// Memory was asked for and refused.
@@ -100,6 +107,16 @@ pub fn tell<R: AllocGlobal + Print + Eprint>(rt: &R, program: &str, fault: WordF
                 1
             }
         },
+        WordFault::Value {
+            option,
+            word,
+            expected,
+        } => {
+            let _ = eprintln!(rt;
+                "error: invalid value '{word}' for '--{option}': {expected}\n\nFor more information, try '--help'."
+            );
+            1
+        }
         WordFault::NotText => {
             let _ = rt.eprintln("error: invalid UTF-8 was detected in one or more arguments");
             1

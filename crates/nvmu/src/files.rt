@@ -59,13 +59,12 @@ pub fn check_inputs(alloc: Global, paths: &[String]) -> Result<(), Failure>
     Ok(())
 }
 
-/// Refuses to read standard input as the trace and as the record.
-pub fn check_pair(alloc: Global, trace: &str, record: &str) -> Result<(), Failure>
-    ensures { IfErr result (λ failure. IsReadFault «record».now failure.fault) }
+/// Refuses to read standard input as the trace and as the other file, and says why.
+pub fn check_pair(alloc: Global, trace: &str, other: &str, why: &str) -> Result<(), Failure>
+    ensures { IfErr result (λ failure. IsReadFault other.now failure.fault) }
 {
-    if is_input(trace) && is_input(record) {
-        let why = Some("standard input is the trace, and can't be the record, too");
-        return Err(unread(alloc, record, why));
+    if is_input(trace) && is_input(other) {
+        return Err(unread(alloc, other, Some(why)));
     }
     Ok(())
 }

@@ -1,5 +1,5 @@
 //! The program `nvmu`: reads the words of its command line and the hosts' files, has their commands done by workers, and
-//! writes the record of that and its text. Or it audits a record, or judges a trace by one.
+//! writes the record of that and its text. Or it audits a record, or judges a trace by one or by an argument.
 #![tactic(auto)]
 
 ghost use Rattle.std.specs.Prelude.{◌≡◌, ◌⊎◌, IfOk, IfErr, map, string_bytes};
@@ -9,16 +9,21 @@ ghost use Rattle.nvmu.specs.Runs.{IsShownOn, IsFaultOn, IsJudgedFile, IsJudgeFau
 
 mod failure;
 mod files;
+mod refute_words;
+mod refuting;
+mod refuting_fault;
 mod words;
 
 use crate::failure::{Failure, of_audit, of_run, of_witness};
 use crate::files::{bytes_of, check_inputs, check_output, check_pair, read_files, write_file};
+use crate::refuting::{refuted, said};
 use crate::words::{Asked, read_words};
 use nvm_engine::{
     Judged, Settings, Shown, Witnessed, audit_bytes_watched, execute_watched, witness_bytes,
 };
 use nvm_front::{
-    FileFault, Output, Progress, WordFault, failed, tell, tell_unwritten, texts_of, words_given,
+    AuditWords, FileFault, Output, Progress, Telling, WitnessWords, WordFault, failed, tell,
+    tell_unwritten, texts_of, words_given,
 };
 use nvm_record::Payload;
 use nvm_trace::Judging;
@@ -38,7 +43,7 @@ fn main(rt: HostRuntime) -> ExitCode {
 }
 
 /// Does what the words of the command line ask for, and gives the exit status: 0, 2 where a record isn't lawful or doesn't
-/// explain the trace, or 1 after a fault. The room of standard output is taken first, so that no memory is wanted for the text once the record of a run stands.
+/// explain the trace, or an argument doesn't refute it, or 1 after a fault. The room of standard output is taken first, so that no memory is wanted for the text once the record of a run stands.
 fn status_of<R: AllocGlobal + Env + Files + Input + Print + Eprint + Threads + Wait + Sync>(
     rt: &R,
     progress: &Progress<'_, R>,
@@ -79,23 +84,37 @@ fn done<R: AllocGlobal + Files + Input + Print + Eprint + Threads + Wait + Sync>
                 Err(failure) => failed(rt, failure),
             }
         }
-        Asked::Audit { path } => {
-            let judged = audited(rt, path.as_str(), progress);
+        Asked::Audit(AuditWords { telling, record }) => {
+            let judged = audited(rt, record.as_str(), progress);
             progress.clear();
             match judged {
-                Ok(judged) => told(rt, &judged, output, progress),
+                Ok(judged) => told(rt, *telling, &judged, output, progress),
                 Err(failure) => failed(rt, failure),
             }
         }
-        Asked::Witness {
-            judging,
-            trace,
-            record,
-        } => {
+        Asked::Witness(
+            WitnessWords {
+                judging,
+                trace,
+                record,
+            },
+        ) => {
             let witnessed = witnessed(rt, *judging, trace.as_str(), record.as_str(), progress);
             progress.clear();
             match witnessed {
                 Ok(witnessed) => stated(rt, &witnessed, output, progress),
+                Err(failure) => failed(rt, failure),
+            }
+        }
+        Asked::Refute {
+            judging,
+            trace,
+            argument,
+        } => {
+            let weighed = refuted(rt, *judging, trace.as_str(), argument.as_str(), progress);
+            progress.clear();
+            match weighed {
+                Ok(weighed) => said(rt, weighed, output, progress),
                 Err(failure) => failed(rt, failure),
             }
         }
@@ -166,7 +185,8 @@ fn witnessed<R: AllocGlobal + Files + Input + Eprint + Threads + Sync>(
     ensures witnessed { IfOk result (AreWitnessedFiles judging) }
     ensures fault { IfErr result (λ failure. IsWitnessFaultOn trace.now «record».now failure.fault) }
 {
-    check_pair(rt.alloc(), trace, record)?;
+    let why = "standard input is the trace, and can't be the record, too";
+    check_pair(rt.alloc(), trace, record, why)?;
     let seen = bytes_of(rt, trace, progress)?;
     witnessed_by(rt, judging, trace, &seen, record, progress)
 }
@@ -202,16 +222,18 @@ fn printed<R: Files + Print + Eprint>(
     ended(rt, write_shown(output, shown), 0, progress)
 }
 
-/// Writes the line of an audit to standard output. Where that fails, the status is 1.
-fn told<R: Files + Print + Eprint>(
+/// Writes how an audit ended to standard output. Where that fails, the status is 1.
+fn told<R: AllocGlobal + Files + Print + Eprint>(
     rt: &R,
+    telling: Telling,
     judged: &Judged,
     output: Output<'_, R>,
     progress: &Progress<'_, R>,
 ) -> u8
     ensures { (result ≡ answer_status judged.now) ⊎ (result ≡ 1) }
 {
-    ended(rt, write_judged(output, judged), judged.status(), progress)
+    let written = write_judged(rt, output, telling, judged);
+    ended(rt, written, judged.status(), progress)
 }
 
 /// Writes the line of a witness to standard output. Where that fails, the status is 1.
@@ -223,12 +245,12 @@ fn stated<R: AllocGlobal + Files + Print + Eprint>(
 ) -> u8
     ensures { (result ≡ witness_status witnessed.now) ⊎ (result ≡ 1) }
 {
-    let written = write_witnessed(rt, output, witnessed);
+    let written = write_said(output, witnessed.line(rt.alloc()));
     ended(rt, written, witnessed.status(), progress)
 }
 
 /// The status where everything was written, or else 1, with a line that says so.
-fn ended<R: Eprint>(
+pub fn ended<R: Eprint>(
     rt: &R,
     written: Result<(), FileFault>,
     status: u8,
@@ -260,20 +282,30 @@ fn write_shown<R: Files + Print + Eprint>(
     output.finish()
 }
 
-fn write_judged<R: Files + Print + Eprint>(
+fn write_judged<R: AllocGlobal + Files + Print + Eprint>(
+    rt: &R,
     mut output: Output<'_, R>,
+    telling: Telling,
     judged: &Judged,
 ) -> Result<(), FileFault> {
-    judged.write_line(&mut output)?;
+    match telling {
+        Telling::Lines => judged.write_line(&mut output)?,
+        Telling::Object => {
+            let Ok(object) = judged.object(rt.alloc()) else {
+                return Err(FileFault::NoMemory);
+            };
+            output.write_all(object.as_bytes())?;
+        }
+    }
     output.finish()
 }
 
-fn write_witnessed<R: AllocGlobal + Files + Print + Eprint>(
-    rt: &R,
+/// Writes a line, where there was memory for it.
+pub fn write_said<R: Files + Print + Eprint>(
     mut output: Output<'_, R>,
-    witnessed: &Witnessed,
+    line: Result<String, AllocError>,
 ) -> Result<(), FileFault> {
-    let Ok(line) = witnessed.line(rt.alloc()) else {
+    let Ok(line) = line else {
         return Err(FileFault::NoMemory);
     };
     output.write_all(line.as_bytes())?;

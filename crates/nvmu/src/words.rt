@@ -1,10 +1,14 @@
 ghost use Rattle.std.specs.Prelude.{IfOk, IfSome};
 ghost use Rattle.nvmu.specs.Words.{IsAsked};
 
-use clap::builder::ValueParser;
-use clap::{Arg, ArgAction, ArgMatches, Command, Error, value_parser};
+use crate::refute_words::{refute_asked, refute_command};
+use clap::{Arg, ArgAction, ArgMatches, Command, Error};
 use nvm_engine::{Settings, Workers};
-use nvm_front::{VERSION, WordFault, missing, owned};
+use nvm_front::{
+    AuditWords, VERSION, WitnessWords, WordFault, audit_command, missing, number_given,
+    number_of_16_bits, number_of_32_bits, number_of_64_bits, number_option, owned, read_audit,
+    read_witness, witness_command,
+};
 use nvm_store::Limit;
 use nvm_trace::Judging;
 use std::alloc::Global;
@@ -21,69 +25,33 @@ pub enum Asked {
         files: Vec<String>,
     },
     /// `nvmu audit`: say whether the record in the file is lawful.
-    Audit {
-        path: String,
-    },
+    Audit(AuditWords),
     /// `nvmu witness`: say whether a record explains a trace.
-    Witness {
+    Witness(WitnessWords),
+    /// `nvmu refute`: say whether an argument refutes a trace.
+    Refute {
         judging: Judging,
         trace: String,
-        record: String,
+        argument: String,
     },
 }
 
-/// Which numbers an option takes.
-#[derive(Clone, Copy)]
-enum Number {
-    Of64Bits,
-    Of32Bits,
-    Of16Bits,
-    /// 1 to 64.
-    OfWorkers,
-    /// 1 to 4,194,304.
-    OfChanges,
-}
-
-/// The options that are numbers: name, numbers and help of each.
-const NUMBERS: [(&str, Number, &str); 8] = [
-    (
-        "nsze",
-        Number::Of64Bits,
-        "Size of the namespace in logical blocks",
-    ),
-    (
-        "block",
-        Number::Of32Bits,
-        "Size of a logical block in bytes: 512 or 4096",
-    ),
-    (
-        "nabsn",
-        Number::Of16Bits,
-        "Atomic boundary size, zeroes-based: 0 is none",
-    ),
-    ("nabo", Number::Of16Bits, "Atomic boundary offset"),
-    ("nawun", Number::Of16Bits, "Atomic write unit, zeroes-based"),
-    (
-        "nacwu",
-        Number::Of16Bits,
-        "Atomic compare and write unit, zeroes-based",
-    ),
-    (
-        "workers",
-        Number::OfWorkers,
-        "Number of threads that do the commands, 1 to 64",
-    ),
-    (
-        "limit",
-        Number::OfChanges,
-        "Most changes of a unit, 1 to 4194304",
-    ),
+/// The options that are numbers, each with its help.
+const NUMBERS: [(&str, &str); 8] = [
+    ("nsze", "Size of the namespace in logical blocks"),
+    ("block", "Size of a logical block in bytes: 512 or 4096"),
+    ("nabsn", "Atomic boundary size, zeroes-based: 0 is none"),
+    ("nabo", "Atomic boundary offset"),
+    ("nawun", "Atomic write unit, zeroes-based"),
+    ("nacwu", "Atomic compare and write unit, zeroes-based"),
+    ("workers", "Number of threads that do the commands, 1 to 64"),
+    ("limit", "Most changes of a unit, 1 to 4194304"),
 ];
 
 /// Reads the words after the program's name.
 ///
 /// Every option of `run` stands once. `--workers` takes 1 to 64, `--limit` 1 to 4,194,304, and one host file or more is named.
-/// `audit` names one record, and `witness` a trace and a record.
+/// `audit` names one record, `witness` a trace and a record, and `refute` a trace and an argument.
 pub fn read_words<'a>(alloc: Global, words: &'a [&'a str]) -> Result<Asked, WordFault>
     ensures { IfOk result IsAsked }
 {
@@ -101,8 +69,9 @@ fn asked_of(alloc: Global, matches: &ArgMatches<'_>) -> Result<Option<Asked>, Wo
 {
     match matches.subcommand() {
         Some(("run", run)) => run_asked(alloc, run),
-        Some(("audit", audit)) => audit_asked(alloc, audit),
-        Some(("witness", witness)) => witness_asked(alloc, witness),
+        Some(("audit", words)) => audit_asked(alloc, words),
+        Some(("witness", words)) => witness_asked(alloc, words),
+        Some(("refute", words)) => refute_asked(alloc, words),
         _ => Ok(None),
     }
 }
@@ -112,7 +81,7 @@ fn run_asked(alloc: Global, run: &ArgMatches<'_>) -> Result<Option<Asked>, WordF
     ensures { IfOk result (λ asked. IfSome asked IsAsked) }
 {
     let (Some(settings), Some(out), Some(paths)) = (
-        settings_of(run),
+        settings_of(alloc, run)?,
         run.get_str("out"),
         run.get_strs("file"),
     ) else {
@@ -131,49 +100,57 @@ fn run_asked(alloc: Global, run: &ArgMatches<'_>) -> Result<Option<Asked>, WordF
 }
 
 /// What `nvmu audit` is asked, or `None` where the path is missing.
-fn audit_asked(alloc: Global, audit: &ArgMatches<'_>) -> Result<Option<Asked>, WordFault>
+fn audit_asked(alloc: Global, words: &ArgMatches<'_>) -> Result<Option<Asked>, WordFault>
     ensures { IfOk result (λ asked. IfSome asked IsAsked) }
 {
-    let Some(path) = audit.get_str("record") else {
-        return Ok(None);
-    };
-    let path = String::from_str(alloc, path)?;
-    Ok(Some(Asked::Audit { path }))
+    match read_audit(alloc, words)? {
+        Some(audit) => Ok(Some(Asked::Audit(audit))),
+        None => Ok(None),
+    }
 }
 
 /// What `nvmu witness` is asked, or `None` where a path is missing.
-fn witness_asked(alloc: Global, witness: &ArgMatches<'_>) -> Result<Option<Asked>, WordFault>
+fn witness_asked(alloc: Global, words: &ArgMatches<'_>) -> Result<Option<Asked>, WordFault>
     ensures { IfOk result (λ asked. IfSome asked IsAsked) }
 {
-    let (Some(trace), Some(record)) = (witness.get_str("trace"), witness.get_str("record")) else {
-        return Ok(None);
-    };
-    let judging = if witness.get_flag("strict") {
-        Judging::Strict
-    } else {
-        Judging::Standard
-    };
-    Ok(Some(Asked::Witness {
-        judging,
-        trace: String::from_str(alloc, trace)?,
-        record: String::from_str(alloc, record)?,
-    }))
+    match read_witness(alloc, words)? {
+        Some(witness) => Ok(Some(Asked::Witness(witness))),
+        None => Ok(None),
+    }
 }
 
-/// The options that are numbers.
-fn settings_of(run: &ArgMatches<'_>) -> Option<Settings> {
-    let workers = Workers::new(run.get_one::<u16>("workers")?)?;
-    let limit = Limit::new(run.get_one::<u32>("limit")?)?;
-    Some(Settings {
-        nsze: run.get_one::<u64>("nsze")?,
-        block: run.get_one::<u32>("block")?,
-        nabsn: run.get_one::<u16>("nabsn")?,
-        nabo: run.get_one::<u16>("nabo")?,
-        nawun: run.get_one::<u16>("nawun")?,
-        nacwu: run.get_one::<u16>("nacwu")?,
+/// The options that are numbers, or `None` where one is missing.
+fn settings_of(alloc: Global, run: &ArgMatches<'_>) -> Result<Option<Settings>, WordFault> {
+    let (Some(nsze), Some(block), Some(nabsn), Some(nabo), Some(nawun), Some(nacwu)) = (
+        number_of_64_bits(alloc, run, "nsze")?,
+        number_of_32_bits(alloc, run, "block")?,
+        number_of_16_bits(alloc, run, "nabsn")?,
+        number_of_16_bits(alloc, run, "nabo")?,
+        number_of_16_bits(alloc, run, "nawun")?,
+        number_of_16_bits(alloc, run, "nacwu")?,
+    ) else {
+        return Ok(None);
+    };
+    let (Some(workers), Some(limit)) = (
+        number_given(alloc, run, "workers", 1, 64)?,
+        number_given(alloc, run, "limit", 1, 4_194_304)?,
+    ) else {
+        return Ok(None);
+    };
+    let (Some(workers), Some(limit)) = (Workers::new(workers as u16), Limit::new(limit as u32))
+    else {
+        return Ok(None);
+    };
+    Ok(Some(Settings {
+        nsze,
+        block,
+        nabsn,
+        nabo,
+        nawun,
+        nacwu,
         workers,
         limit,
-    })
+    }))
 }
 
 /// The command line of the program.
@@ -181,6 +158,7 @@ fn program<'a>(alloc: Global) -> Result<Command<'a>, Error> {
     let run = run_command(alloc)?;
     let audit = audit_command(alloc)?;
     let witness = witness_command(alloc)?;
+    let refute = refute_command(alloc)?;
     Ok(
         Command::new(alloc, "nvmu")
             .bin_name("nvmu")?
@@ -192,7 +170,8 @@ fn program<'a>(alloc: Global) -> Result<Command<'a>, Error> {
             .subcommand_required(true)
             .subcommand(run)?
             .subcommand(audit)?
-            .subcommand(witness)?,
+            .subcommand(witness)?
+            .subcommand(refute)?,
     )
 }
 
@@ -201,10 +180,14 @@ fn run_command<'a>(alloc: Global) -> Result<Command<'a>, Error> {
     let mut command = Command::new(alloc, "run").about(
         "Does the commands of the hosts' files, writes a record of that, and prints a line for each",
     );
-    for (name, number, help) in &NUMBERS {
-        command = command.arg(number_option(alloc, name, *number, help))?;
+    for (name, help) in &NUMBERS {
+        command = command.arg(number_option(alloc, name, help).required(true))?;
     }
-    let out = option(alloc, "out", "REC", "Where the record goes");
+    let out = Arg::new(alloc, "out")
+        .long("out")
+        .required(true)
+        .value_name("REC")
+        .help("Where the record goes");
     let file = Arg::new(alloc, "file")
         .required(true)
         .num_args(1..)
@@ -212,57 +195,4 @@ fn run_command<'a>(alloc: Global) -> Result<Command<'a>, Error> {
         .value_name("FILE")
         .help("The host files, host 1 first; one may be - for standard input");
     Ok(command.arg(out)?.arg(file)?)
-}
-
-/// `nvmu audit`.
-fn audit_command<'a>(alloc: Global) -> Result<Command<'a>, Error> {
-    let record = Arg::new(alloc, "record")
-        .required(true)
-        .value_name("REC")
-        .help("The record of a run, or - for standard input");
-    let command = Command::new(alloc, "audit").about(
-        "Says whether a record is lawful, and if not, what is its first fault",
-    );
-    Ok(command.arg(record)?)
-}
-
-/// `nvmu witness`.
-fn witness_command<'a>(alloc: Global) -> Result<Command<'a>, Error> {
-    let strict = Arg::new(alloc, "strict")
-        .long("strict")
-        .action(ArgAction::SetTrue)
-        .help("Takes each command as one step in an atomic unit, however many blocks it has");
-    let trace = Arg::new(alloc, "trace")
-        .required(true)
-        .value_name("TRACE")
-        .help("What the hosts of a device saw, or - for standard input");
-    let record = Arg::new(alloc, "record")
-        .required(true)
-        .value_name("REC")
-        .help("The record that is to explain it, or - for standard input");
-    let command = Command::new(alloc, "witness").about(
-        "Says whether a record explains a trace, and if not, what is the first fault",
-    );
-    Ok(command.arg(strict)?.arg(trace)?.arg(record)?)
-}
-
-/// A required option.
-fn option<'a>(alloc: Global, name: &'a str, value: &'a str, help: &'a str) -> Arg<'a> {
-    Arg::new(alloc, name)
-        .long(name)
-        .required(true)
-        .value_name(value)
-        .help(help)
-}
-
-/// A required option that takes a number.
-fn number_option<'a>(alloc: Global, name: &'a str, number: Number, help: &'a str) -> Arg<'a> {
-    let parser: ValueParser<'a> = match number {
-        Number::Of64Bits => value_parser!(u64),
-        Number::Of32Bits => value_parser!(u32),
-        Number::Of16Bits => value_parser!(u16),
-        Number::OfWorkers => ValueParser::from(value_parser!(u16).range(1..=64)),
-        Number::OfChanges => ValueParser::from(value_parser!(u32).range(1..=4_194_304)),
-    };
-    option(alloc, name, "N", help).value_parser(parser)
 }

@@ -7,16 +7,16 @@ use Rattle.nvm_certify.specs.declared.certification.Certification.{Certification
 use Rattle.nvm_certify_text.specs.Verdict.{certification_text, certification_status}
 use Rattle.nvm_certify_text.specs.VerdictObject.{certification_object}
 use Rattle.nvm_file.specs.TraceFile.{IsTraceFile}
+use Rattle.nvm_front.specs.declared.judging_words.Telling.{Telling}
+use Rattle.nvm_front.specs.declared.judging_words.Telling.TheVariants.{Lines, Object}
 use Rattle.nvm_trace.specs.TraceView.{TraceView}
 use Rattle.nvm_trace.specs.declared.judging.Judging.{Judging}
 use Rattle.nvq.specs.Fault.{IsFaultOfTraceAt}
 use Rattle.nvq.specs.Files.{IsReadFault, IsWriteFault}
 use Rattle.nvq.specs.declared.certifying.CertifiedTrace.{CertifiedTrace}
 use Rattle.nvq.specs.declared.certifying_words.CertifyWords.{CertifyWords}
-use Rattle.nvq.specs.declared.certifying_words.Telling.{Telling}
-use Rattle.nvq.specs.declared.certifying_words.Telling.TheVariants.{Lines, Object}
 use Rattle.nvq.specs.declared.fault.Fault.{Fault}
-use Rattle.nvq.specs.declared.fault.Fault.TheVariants.{RecordAmongLines}
+use Rattle.nvq.specs.declared.fault.Fault.TheVariants.{ArgumentAmongLines, RecordAmongLines}
 
 abbrev pub told_as : Telling → Judging → TraceView → Certification → List ℕ
 told_as Lines = certification_text
@@ -35,17 +35,22 @@ pub record IsCertifiedFile (judging : Judging) (telling : Telling) (told : Certi
 abbrev pub IsStatusOfFile : Judging → Telling → ℕ → Type 0
 IsStatusOfFile judging telling status = (told : CertifiedTrace) × IsCertifiedFile judging telling told × (status ≡ told.status)
 
--- The record would go to standard output, or couldn't be written to this path.
-abbrev pub IsPlaceFault : List ℕ → Fault → Type 0
-IsPlaceFault path fault = ((fault ≡ RecordAmongLines) × (path ≡ codes "-")) ⊎ IsWriteFault path fault
-
--- The same of a record that is kept.
+-- The record would go to standard output, or couldn't be written to its path.
 abbrev pub IsRecordFault : Option (String Global) → Fault → Type 0
-IsRecordFault (Some path) fault = IsPlaceFault (string_bytes path) fault
+IsRecordFault (Some path) fault = ((fault ≡ RecordAmongLines) × (string_bytes path ≡ codes "-")) ⊎ IsWriteFault (string_bytes path) fault
 IsRecordFault None fault = ⊥
 
--- The record couldn't be written, or the trace couldn't be read, or else it is its first fault, or else the text couldn't be written.
+-- The same of the argument.
+abbrev pub IsArgumentFault : Option (String Global) → Fault → Type 0
+IsArgumentFault (Some path) fault = ((fault ≡ ArgumentAmongLines) × (string_bytes path ≡ codes "-")) ⊎ IsWriteFault (string_bytes path) fault
+IsArgumentFault None fault = ⊥
+
+-- It is the fault of a file that is to be kept.
+abbrev pub IsKeptFault : CertifyWords → Fault → Type 0
+IsKeptFault words fault = IsRecordFault words.record fault ⊎ IsArgumentFault words.argument fault
+
+-- What was found couldn't be kept, or the trace couldn't be read, or else it is its first fault, or else the text couldn't be written.
 abbrev pub IsCertifyingFault : CertifyWords → Fault → Type 0
 IsCertifyingFault words fault =
-    IsRecordFault words.record fault
+    IsKeptFault words fault
     ⊎ ((IsReadFault (string_bytes words.trace) fault ⊎ IsFaultOfTraceAt (string_bytes words.trace) fault) ⊎ IsWriteFault (codes "-") fault)

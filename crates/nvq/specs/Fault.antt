@@ -79,3 +79,7 @@ IsFaultOfFile path size file e = (f : HostFault) × IsAnsweredFault size file f 
 -- The first fault of the record at a path, or want of memory.
 abbrev pub IsFaultOfRecord : String Global → List ℕ → Fault → Type 0
 IsFaultOfRecord path file e = ((f : RecordFault) × (record_at file ≡ Err f) × (e ≡ fault_of_record path f)) ⊎ (e ≡ NoMemory)
+
+-- The same of the file at a path whose bytes are these.
+abbrev pub IsFaultOfRecordAt : List ℕ → Fault → Type 0
+IsFaultOfRecordAt path e = (shown : String Global) × (string_bytes shown ≡ path) × ((file : List ℕ) × IsFaultOfRecord shown file e)

@@ -1,3 +1,4 @@
+pub mod Audited
 pub mod Certified
 pub mod Explained
 pub mod Fault

@@ -1,17 +1,19 @@
 //! `nvq certify`: whether a record explains a trace, or why none does.
 ghost use Rattle.std.specs.Prelude.{◌≡◌, ◌⊎◌, IfOk, IfErr, string_bytes};
-ghost use Rattle.nvq.specs.Certified.{IsCertifiedFile, IsCertifyingFault, IsPlaceFault, IsRecordFault, IsStatusOfFile, told_as};
+ghost use Rattle.nvq.specs.Certified.{IsArgumentFault, IsCertifiedFile, IsCertifyingFault, IsKeptFault, IsRecordFault, IsStatusOfFile, told_as};
 ghost use Rattle.nvq.specs.Fault.{IsFaultOfTraceAt};
-ghost use Rattle.nvq.specs.Files.{IsReadFault};
+ghost use Rattle.nvq.specs.Files.{IsReadFault, IsWriteFault};
 
-use crate::certifying_words::{CertifyWords, Telling};
+use crate::certifying_words::CertifyWords;
 use crate::failure::{Failure, plain};
 use crate::fault::Fault;
 use crate::files::{check_no_lines, check_output, keep, read_as_trace, write_bytes};
+use nvm_argument::write_argument;
 use nvm_certify::{Certification, certify};
 use nvm_certify_text::{certification_object, certification_status, certification_text};
-use nvm_front::{Progress, STANDARD};
+use nvm_front::{Progress, STANDARD, Telling};
 use nvm_record::NoMemory;
+use nvm_refute::Argument;
 use nvm_trace::{Judging, Trace};
 use std::alloc::Global;
 use std::rt::Files;
@@ -25,8 +27,8 @@ pub struct CertifiedTrace {
     pub status: u8,
 }
 
-/// Certifies the trace at a path, prints what was found out, and gives the exit status. Where a record explains the trace and is
-/// to be kept, it is written first, so that no text is printed of a record that couldn't be.
+/// Certifies the trace at a path, prints what was found out, and gives the exit status. A record that explains the trace, or an argument
+/// that nothing does, is written first where it is to be kept, so that no text is printed of one that couldn't be.
 pub fn run_certify<R: AllocGlobal + Files + Input + Print + Eprint + Threads + Sync>(
     rt: &R,
     words: &CertifyWords,
@@ -36,14 +38,13 @@ pub fn run_certify<R: AllocGlobal + Files + Input + Print + Eprint + Threads + S
     ensures fault { IfErr result (λ failure. IsCertifyingFault words.now failure.fault) }
 {
     check_record(rt, words)?;
+    check_argument(rt, words)?;
     let CertifiedTrace {
         certification,
         text,
         status,
     } = certified(rt, words, progress)?;
-    if let (Some(path), Certification::Explained { run, .. }) = (&words.record, &certification) {
-        keep(rt, path.as_str(), run, progress)?;
-    }
+    kept(rt, words, &certification, progress)?;
     write_bytes(rt, STANDARD, text.as_bytes(), progress)?;
     Ok(status)
 }
@@ -53,20 +54,64 @@ fn check_record<R: Files + AllocGlobal>(rt: &R, words: &CertifyWords) -> Result<
     ensures { IfErr result (λ failure. IsRecordFault words.now.«record» failure.fault) }
 {
     match &words.record {
+        Some(path) if path.as_str() == STANDARD => Err(plain(Fault::RecordAmongLines)),
         Some(path) => check_place(rt, path.as_str(), words.trace.as_str()),
         None => Ok(()),
     }
 }
 
-/// Refuses a path for the record that is standard output's or the trace's.
-fn check_place<R: Files + AllocGlobal>(rt: &R, path: &str, trace: &str) -> Result<(), Failure>
-    ensures { IfErr result (λ failure. IsPlaceFault path.now failure.fault) }
+/// Refuses such a path for the argument.
+fn check_argument<R: Files + AllocGlobal>(rt: &R, words: &CertifyWords) -> Result<(), Failure>
+    ensures { IfErr result (λ failure. IsArgumentFault words.now.argument failure.fault) }
 {
-    if path == STANDARD {
-        return Err(plain(Fault::RecordAmongLines));
+    match &words.argument {
+        Some(path) if path.as_str() == STANDARD => Err(plain(Fault::ArgumentAmongLines)),
+        Some(path) => check_place(rt, path.as_str(), words.trace.as_str()),
+        None => Ok(()),
     }
+}
+
+/// Refuses a path that is the trace's, or that of the file to which standard output goes.
+fn check_place<R: Files + AllocGlobal>(rt: &R, path: &str, trace: &str) -> Result<(), Failure>
+    ensures { IfErr result (λ failure. IsWriteFault path.now failure.fault) }
+{
     check_output(rt, path, trace, "it is the trace")?;
     check_no_lines(rt, path)
+}
+
+/// Writes what was found and is to be kept. Where it isn't found, nothing is written.
+fn kept<R: AllocGlobal + Files + Print + Eprint>(
+    rt: &R,
+    words: &CertifyWords,
+    certification: &Certification,
+    progress: &Progress<'_, R>,
+) -> Result<(), Failure>
+    ensures { IfErr result (λ failure. IsKeptFault words.now failure.fault) }
+{
+    match certification {
+        Certification::Explained { run, .. } => match &words.record {
+            Some(path) => keep(rt, path.as_str(), run, progress),
+            None => Ok(()),
+        },
+        Certification::Contradicted { argument } => match &words.argument {
+            Some(path) => keep_argument(rt, path.as_str(), argument, progress),
+            None => Ok(()),
+        },
+        Certification::Unknown { .. } => Ok(()),
+    }
+}
+
+/// Writes the argument's file.
+fn keep_argument<R: AllocGlobal + Files + Print + Eprint>(
+    rt: &R,
+    path: &str,
+    argument: &Argument,
+    progress: &Progress<'_, R>,
+) -> Result<(), Failure>
+    ensures { IfErr result (λ failure. IsWriteFault path.now failure.fault) }
+{
+    let bytes = write_argument(rt.alloc(), argument)?;
+    write_bytes(rt, path, bytes.as_slice(), progress)
 }
 
 /// What is found out about the trace at a path.

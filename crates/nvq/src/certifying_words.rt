@@ -1,18 +1,8 @@
 //! The words of `nvq certify`.
-use clap::builder::ValueParser;
-use clap::{Arg, ArgAction, ArgMatches, Command, Error, value_parser};
-use nvm_front::WordFault;
+use clap::{Arg, ArgAction, ArgMatches, Command, Error};
+use nvm_front::{Telling, WordFault, json, number_of_32_bits, number_option, telling_of};
 use nvm_trace::Judging;
-use std::alloc::Global;
-
-/// How a verdict is told.
-#[derive(Clone, Copy, Debug, PartialEq, Eq)]
-pub enum Telling {
-    /// As lines for people.
-    Lines,
-    /// As one object of JSON.
-    Object,
-}
+use std::alloc::{AllocError, Global};
 
 /// What the words of `nvq certify` say.
 #[derive(Drop)]
@@ -23,6 +13,8 @@ pub struct CertifyWords {
     pub effort: u32,
     /// Where the record that explains the trace goes, if it is kept.
     pub record: Option<String>,
+    /// Where the argument that nothing explains it goes, if it is kept.
+    pub argument: Option<String>,
     pub trace: String,
 }
 
@@ -31,43 +23,47 @@ pub fn read_certify(
     alloc: Global,
     words: &ArgMatches<'_>,
 ) -> Result<Option<CertifyWords>, WordFault> {
-    let (Some(effort), Some(trace)) = (words.get_one::<u32>("effort"), words.get_str("trace"))
-    else {
+    let (Some(effort), Some(trace)) = (
+        number_of_32_bits(alloc, words, "effort")?,
+        words.get_str("trace"),
+    ) else {
         return Ok(None);
     };
-    let record = match words.get_str("record") {
-        Some(path) => Some(String::from_str(alloc, path)?),
-        None => None,
-    };
+    let record = path_of(alloc, words, "record")?;
+    let argument = path_of(alloc, words, "argument")?;
     let judging = if words.get_flag("strict") {
         Judging::Strict
     } else {
         Judging::Standard
     };
-    let telling = if words.get_flag("json") {
-        Telling::Object
-    } else {
-        Telling::Lines
-    };
     let trace = String::from_str(alloc, trace)?;
     Ok(Some(CertifyWords {
         judging,
-        telling,
+        telling: telling_of(words),
         effort,
         record,
+        argument,
         trace,
     }))
 }
 
+/// The path that an option names, if it is there.
+fn path_of(
+    alloc: Global,
+    words: &ArgMatches<'_>,
+    option: &str,
+) -> Result<Option<String>, AllocError> {
+    match words.get_str(option) {
+        Some(path) => Ok(Some(String::from_str(alloc, path)?)),
+        None => Ok(None),
+    }
+}
+
 /// `nvq certify`.
 pub fn certify_command<'a>(alloc: Global) -> Result<Command<'a>, Error> {
-    let effort: ValueParser<'a> = value_parser!(u32);
-    let effort = Arg::new(alloc, "effort")
-        .long("effort")
-        .value_name("N")
-        .value_parser(effort)
-        .default_value("20000")
-        .help("Most steps back in each unit");
+    let effort = number_option(alloc, "effort", "Most steps back in each unit").default_value(
+        "20000",
+    );
     let strict = Arg::new(alloc, "strict")
         .long("strict")
         .action(ArgAction::SetTrue)
@@ -76,10 +72,10 @@ pub fn certify_command<'a>(alloc: Global) -> Result<Command<'a>, Error> {
         .long("record")
         .value_name("REC")
         .help("Where the record that explains the trace goes");
-    let json = Arg::new(alloc, "json")
-        .long("json")
-        .action(ArgAction::SetTrue)
-        .help("Prints the verdict as one object of JSON on a line, for programs");
+    let argument = Arg::new(alloc, "argument")
+        .long("argument")
+        .value_name("ARG")
+        .help("Where the argument that nothing explains it goes");
     let trace = Arg::new(alloc, "trace")
         .required(true)
         .value_name("TRACE")
@@ -90,9 +86,10 @@ pub fn certify_command<'a>(alloc: Global) -> Result<Command<'a>, Error> {
     Ok(
         command
             .arg(record)?
+            .arg(argument)?
             .arg(effort)?
             .arg(strict)?
-            .arg(json)?
+            .arg(json(alloc))?
             .arg(trace)?,
     )
 }

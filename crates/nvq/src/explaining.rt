@@ -3,11 +3,10 @@ ghost use Rattle.std.specs.Prelude.{IfOk, string_bytes};
 ghost use Rattle.nvq.specs.Explained.{IsStoryOfFiles};
 
 use crate::explaining_words::ExplainWords;
-use crate::failure::{Failure, plain};
-use crate::fault::Fault;
-use crate::files::{read_as_record, read_as_trace, write_bytes};
+use crate::failure::Failure;
+use crate::files::{check_apart, read_as_record, read_as_trace, write_bytes};
 use nvm_explain::explain;
-use nvm_front::{Progress, STANDARD, is_input};
+use nvm_front::{Progress, STANDARD};
 use nvm_story::witness_story;
 use nvm_trace::Judging;
 use std::rt::Files;
@@ -50,9 +49,7 @@ fn trace_explained<R: AllocGlobal + Files + Input + Eprint + Threads + Sync>(
 ) -> Result<String, Failure>
     ensures { IfOk result (λ text. IsStoryOfFiles judging (string_bytes text)) }
 {
-    if is_input(trace) && is_input(record) {
-        return Err(plain(Fault::InputTwice));
-    }
+    check_apart(trace, record)?;
     let seen = read_as_trace(rt, trace, progress)?;
     let held = read_as_record(rt, record, progress)?;
     Ok(witness_story(rt, rt.alloc(), judging, &seen, &held)?)

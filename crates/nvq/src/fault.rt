@@ -51,6 +51,9 @@ pub enum Fault {
     /// The record of a run, or one that explains a trace, would go to standard output, where the lines go.
     #[error("nvq: the record can't go to standard output")]
     RecordAmongLines,
+    /// The argument that nothing explains a trace would go to standard output.
+    #[error("nvq: the argument can't go to standard output")]
+    ArgumentAmongLines,
     /// The options describe no namespace.
     #[error("nvq: geometry: {0}")]
     Geometry(GeometryFault),

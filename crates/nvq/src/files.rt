@@ -1,15 +1,17 @@
 ghost use Rattle.std.specs.Prelude.{◌≡◌, ◌⊎◌, ℕ, List, Ok, IfOk, IfErr};
 ghost use Rattle.nvm_file.specs.Reading.{record_at};
 ghost use Rattle.nvm_file.specs.TraceFile.{IsTraceFile};
-ghost use Rattle.nvq.specs.Fault.{IsFaultOfTraceAt};
+ghost use Rattle.nvq.specs.Audited.{IsInputTwice};
+ghost use Rattle.nvq.specs.Fault.{IsFaultOfRecordAt, IsFaultOfTraceAt};
 ghost use Rattle.nvq.specs.Files.{IsReadFault, IsWriteFault};
 
 use crate::conversion::{record_of, trace_of};
-use crate::failure::{Failure, of_record, of_trace};
+use crate::failure::{Failure, of_record, of_trace, plain};
 use crate::fault::Fault;
 use nvm_audit::Record;
 use nvm_front::{
-    FileFault, Progress, STANDARD, is_output, is_read, read_input, refusal, write, write_run,
+    FileFault, Progress, STANDARD, is_input, is_output, is_read, read_input, refusal, write,
+    write_run,
 };
 use nvm_record::Payload;
 use nvm_trace::Trace;
@@ -37,7 +39,8 @@ pub fn read_as_record<R: Files + AllocGlobal + Input + Eprint>(
     path: &str,
     progress: &Progress<'_, R>,
 ) -> Result<Record, Failure>
-    ensures { IfOk result (λ run. (file : List ℕ) × (record_at file ≡ Ok run)) }
+    ensures run { IfOk result (λ run. (file : List ℕ) × (record_at file ≡ Ok run)) }
+    ensures fault { IfErr result (λ failure. IsReadFault path.now failure.fault ⊎ IsFaultOfRecordAt path.now failure.fault) }
 {
     let bytes = Payload::new(rt.alloc(), bytes_of(rt, path, progress)?)?;
     let named = String::from_str(rt.alloc(), path)?;
@@ -61,6 +64,17 @@ pub fn read_as_trace<R: Files + AllocGlobal + Input + Eprint>(
     match trace_of(rt.alloc(), named, &bytes) {
         Ok(trace) => Ok(trace),
         Err(fault) => Err(of_trace(rt.alloc(), fault, path, bytes.as_slice())),
+    }
+}
+
+/// Refuses to read standard input as a trace and as its record, before anything is read.
+pub fn check_apart(trace: &str, record: &str) -> Result<(), Failure>
+    ensures { IfErr result (λ failure. IsInputTwice trace.now «record».now failure.fault) }
+{
+    if is_input(trace) && is_input(record) {
+        Err(plain(Fault::InputTwice))
+    } else {
+        Ok(())
     }
 }
 

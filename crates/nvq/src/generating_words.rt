@@ -1,12 +1,11 @@
 //! The words of `nvq generate`.
 ghost use Rattle.std.specs.Prelude.{◌≤◌, IfOk, IfSome, length};
 
-use crate::namespace_words::{
-    NamespaceWords, number, of_16_bits, read_namespace, with_default, with_namespace,
+use crate::namespace_words::{NamespaceWords, read_namespace, with_default, with_namespace};
+use clap::{Arg, ArgAction, ArgMatches, Command, Error};
+use nvm_front::{
+    WordFault, number_given, number_of_16_bits, number_of_64_bits, number_option, owned,
 };
-use clap::builder::ValueParser;
-use clap::{Arg, ArgAction, ArgMatches, Command, Error, value_parser};
-use nvm_front::{WordFault, owned};
 use nvm_generate::Mix;
 use std::alloc::Global;
 
@@ -30,10 +29,10 @@ pub fn read_generate(
     ensures { IfOk result (λ read. IfSome read (λ load. 1 ≤ length load.outs.items)) }
 {
     let (Some(seed), Some(commands), Some(namespace), Some(mix), Some(paths)) = (
-        words.get_one::<u64>("seed"),
-        words.get_one::<u16>("commands"),
-        read_namespace(words),
-        mix_of(words),
+        number_of_64_bits(alloc, words, "seed")?,
+        number_given(alloc, words, "commands", 1, 65_535)?,
+        read_namespace(alloc, words)?,
+        mix_of(alloc, words)?,
         words.get_strs("out"),
     ) else {
         return Ok(None);
@@ -44,7 +43,7 @@ pub fn read_generate(
     let outs = owned(alloc, paths)?;
     Ok(Some(GenerateWords {
         seed,
-        commands,
+        commands: commands as u16,
         namespace,
         mix,
         outs,
@@ -52,16 +51,35 @@ pub fn read_generate(
 }
 
 /// The weights of the kinds, or `None` where one is missing.
-fn mix_of(words: &ArgMatches<'_>) -> Option<Mix> {
-    Some(Mix {
-        write: words.get_one::<u16>("write")?,
-        read: words.get_one::<u16>("read")?,
-        compare: words.get_one::<u16>("compare")?,
-        pair: words.get_one::<u16>("pair")?,
-        zeroes: words.get_one::<u16>("zeroes")?,
-        uncorrectable: words.get_one::<u16>("uncorrectable")?,
-        deallocate: words.get_one::<u16>("deallocate")?,
-    })
+fn mix_of(alloc: Global, words: &ArgMatches<'_>) -> Result<Option<Mix>, WordFault> {
+    let (
+        Some(write),
+        Some(read),
+        Some(compare),
+        Some(pair),
+        Some(zeroes),
+        Some(uncorrectable),
+        Some(deallocate),
+    ) = (
+        number_of_16_bits(alloc, words, "write")?,
+        number_of_16_bits(alloc, words, "read")?,
+        number_of_16_bits(alloc, words, "compare")?,
+        number_of_16_bits(alloc, words, "pair")?,
+        number_of_16_bits(alloc, words, "zeroes")?,
+        number_of_16_bits(alloc, words, "uncorrectable")?,
+        number_of_16_bits(alloc, words, "deallocate")?,
+    ) else {
+        return Ok(None);
+    };
+    Ok(Some(Mix {
+        write,
+        read,
+        compare,
+        pair,
+        zeroes,
+        uncorrectable,
+        deallocate,
+    }))
 }
 
 /// `nvq generate`.
@@ -87,24 +105,22 @@ pub fn generate_command<'a>(alloc: Global) -> Result<Command<'a>, Error> {
 }
 
 fn seed<'a>(alloc: Global) -> Arg<'a> {
-    let parser: ValueParser<'a> = value_parser!(u64);
-    let seed = number(alloc, "seed", "The same words and seed give the same lists");
-    with_default(seed.value_parser(parser), "1")
+    let seed = number_option(alloc, "seed", "The same words and seed give the same lists");
+    with_default(seed, "1")
 }
 
 fn commands<'a>(alloc: Global) -> Arg<'a> {
-    let commands = number(
+    let commands = number_option(
         alloc,
         "commands",
         "Number of commands of each list, 1 to 65535",
-    )
-    .value_parser(ValueParser::from(value_parser!(u16).range(1..=65_535)));
+    );
     with_default(commands, "1000")
 }
 
 /// How often a kind is asked for, relative to the others.
 fn weight<'a>(alloc: Global, name: &'a str, value: &'a str, help: &'a str) -> Arg<'a> {
-    with_default(of_16_bits(alloc, name, help), value)
+    with_default(number_option(alloc, name, help), value)
 }
 
 fn outs<'a>(alloc: Global) -> Arg<'a> {

@@ -1,14 +1,16 @@
 //! The program `nvq`: runs lists of commands, which people write or a seed gives, makes them into host files, lists those, records and
-//! traces, makes the text of traces into files, explains and draws records, and says of a trace whether a record explains it.
+//! traces, makes the text of traces into files, judges records and traces, and explains and draws records.
 #![tactic(auto)]
 
 ghost use Rattle.std.specs.Prelude.{IfErr};
 ghost use Rattle.nvq.specs.Files.{IsAssemblingFault};
 
+mod auditing;
 mod certifying;
 mod certifying_words;
 mod conversion;
 mod drawing;
+mod drawing_words;
 mod explaining;
 mod explaining_words;
 mod failure;
@@ -22,6 +24,7 @@ mod running_words;
 mod tracing;
 mod words;
 
+use crate::auditing::{run_audit, run_witness};
 use crate::certifying::run_certify;
 use crate::conversion::{file_of, list_of};
 use crate::drawing::run_draw;
@@ -48,7 +51,7 @@ fn main(rt: HostRuntime) -> ExitCode {
     ExitCode::from(status_of(&rt, &progress))
 }
 
-/// Does what the words of the command line ask for, and gives the exit status: 0, that of the verdict on a trace, or 1 after a
+/// Does what the words of the command line ask for, and gives the exit status: 0, that of a verdict, or 1 after a
 /// fault.
 fn status_of<R: AllocGlobal + Env + Files + Input + Print + Eprint + Threads + Wait + Sync>(
     rt: &R,
@@ -89,10 +92,18 @@ fn run<R: AllocGlobal + Files + Input + Print + Eprint + Threads + Wait + Sync>(
         Asked::List { size, file } => run_list(rt, size, file, progress)?,
         Asked::Run(words) => run_lists(rt, &words, progress)?,
         Asked::Generate(words) => run_generate(rt, &words, progress)?,
+        Asked::Audit(words) => {
+            return run_audit(rt, words.telling, words.record.as_str(), progress);
+        }
+        Asked::Witness(words) => {
+            let (trace, record) = (words.trace.as_str(), words.record.as_str());
+            return run_witness(rt, words.judging, trace, record, progress);
+        }
         Asked::Certify(words) => return run_certify(rt, &words, progress),
         Asked::Explain(words) => run_explain(rt, &words, progress)?,
-        Asked::Draw { window, file, out } => {
-            run_draw(rt, window, file.as_str(), out.as_str(), progress)?;
+        Asked::Draw(words) => {
+            let (record, out) = (words.record.as_str(), words.out.as_str());
+            run_draw(rt, words.window, record, out, progress)?;
         }
     }
     Ok(0)

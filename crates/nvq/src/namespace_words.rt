@@ -1,8 +1,8 @@
 //! The words that say what the namespace is like, of `nvq run` and `nvq generate`.
 
-use crate::words::{block, size_of};
-use clap::builder::ValueParser;
-use clap::{Arg, ArgMatches, Command, Error, value_parser};
+use crate::words::block;
+use clap::{Arg, ArgMatches, Command, Error};
+use nvm_front::{WordFault, number_of_16_bits, number_of_64_bits, number_option, size_given};
 use nvm_record::BlockSize;
 use std::alloc::Global;
 
@@ -20,19 +20,28 @@ pub struct NamespaceWords {
 }
 
 /// What the words say, or `None` where a value is missing or out of its range.
-pub fn read_namespace(words: &ArgMatches<'_>) -> Option<NamespaceWords> {
-    let size = size_of(words)?;
-    let nsze = words.get_one::<u64>("nsze")?;
-    let nabsn = words.get_one::<u16>("nabsn")?;
-    let nabo = words.get_one::<u16>("nabo")?;
-    Some(NamespaceWords {
+pub fn read_namespace(
+    alloc: Global,
+    words: &ArgMatches<'_>,
+) -> Result<Option<NamespaceWords>, WordFault> {
+    let (Some(size), Some(nsze), Some(nabsn), Some(nabo)) = (
+        size_given(alloc, words)?,
+        number_of_64_bits(alloc, words, "nsze")?,
+        number_of_16_bits(alloc, words, "nabsn")?,
+        number_of_16_bits(alloc, words, "nabo")?,
+    ) else {
+        return Ok(None);
+    };
+    let nawun = number_of_16_bits(alloc, words, "nawun")?;
+    let nacwu = number_of_16_bits(alloc, words, "nacwu")?;
+    Ok(Some(NamespaceWords {
         size,
         nsze,
         nabsn,
         nabo,
-        nawun: words.get_one::<u16>("nawun").unwrap_or(whole_unit(nabsn)),
-        nacwu: words.get_one::<u16>("nacwu").unwrap_or(whole_unit(nabsn)),
-    })
+        nawun: nawun.unwrap_or(whole_unit(nabsn)),
+        nacwu: nacwu.unwrap_or(whole_unit(nabsn)),
+    }))
 }
 
 /// The zeroes-based number of blocks of a whole unit. Without boundaries it is the highest number.
@@ -62,12 +71,11 @@ pub fn with_default<'a>(number: Arg<'a>, value: &'a str) -> Arg<'a> {
 }
 
 fn nsze<'a>(alloc: Global) -> Arg<'a> {
-    let parser: ValueParser<'a> = value_parser!(u64);
-    number(alloc, "nsze", "Size of the namespace in logical blocks").value_parser(parser)
+    number_option(alloc, "nsze", "Size of the namespace in logical blocks")
 }
 
 fn nabsn<'a>(alloc: Global) -> Arg<'a> {
-    of_16_bits(
+    number_option(
         alloc,
         "nabsn",
         "Atomic boundary size, zeroes-based: 0 is none",
@@ -75,11 +83,11 @@ fn nabsn<'a>(alloc: Global) -> Arg<'a> {
 }
 
 fn nabo<'a>(alloc: Global) -> Arg<'a> {
-    of_16_bits(alloc, "nabo", "Atomic boundary offset")
+    number_option(alloc, "nabo", "Atomic boundary offset")
 }
 
 fn nawun<'a>(alloc: Global) -> Arg<'a> {
-    of_16_bits(
+    number_option(
         alloc,
         "nawun",
         "Atomic write unit, zeroes-based [default: a whole unit]",
@@ -87,20 +95,9 @@ fn nawun<'a>(alloc: Global) -> Arg<'a> {
 }
 
 fn nacwu<'a>(alloc: Global) -> Arg<'a> {
-    of_16_bits(
+    number_option(
         alloc,
         "nacwu",
         "Atomic compare and write unit, zeroes-based [default: a whole unit]",
     )
-}
-
-/// An option that takes a number of 16 bits.
-pub fn of_16_bits<'a>(alloc: Global, name: &'a str, help: &'a str) -> Arg<'a> {
-    let parser: ValueParser<'a> = value_parser!(u16);
-    number(alloc, name, help).value_parser(parser)
-}
-
-/// An option that takes a number.
-pub fn number<'a>(alloc: Global, name: &'a str, help: &'a str) -> Arg<'a> {
-    Arg::new(alloc, name).long(name).value_name("N").help(help)
 }

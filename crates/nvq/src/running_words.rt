@@ -1,13 +1,10 @@
 //! The words of `nvq run`.
 ghost use Rattle.std.specs.Prelude.{◌≤◌, IfOk, IfSome, length};
 
-use crate::namespace_words::{
-    NamespaceWords, number, read_namespace, with_default, with_namespace,
-};
-use clap::builder::ValueParser;
-use clap::{Arg, ArgAction, ArgMatches, Command, Error, value_parser};
+use crate::namespace_words::{NamespaceWords, read_namespace, with_default, with_namespace};
+use clap::{Arg, ArgAction, ArgMatches, Command, Error};
 use nvm_engine::Workers;
-use nvm_front::{WordFault, owned};
+use nvm_front::{WordFault, number_given, number_option, owned};
 use nvm_store::Limit;
 use std::alloc::Global;
 
@@ -29,15 +26,22 @@ pub fn read_run(alloc: Global, words: &ArgMatches<'_>) -> Result<Option<RunWords
     ensures { IfOk result (λ read. IfSome read (λ run. 1 ≤ length run.lists.items)) }
 {
     let (Some(namespace), Some(limit), Some(paths)) = (
-        read_namespace(words),
-        words.get_one::<u32>("limit").and_then(Limit::new),
+        read_namespace(alloc, words)?,
+        number_given(alloc, words, "limit", 1, 4_194_304)?,
         words.get_strs("list"),
     ) else {
+        return Ok(None);
+    };
+    let Some(limit) = Limit::new(limit as u32) else {
         return Ok(None);
     };
     if paths.is_empty() {
         return Ok(None);
     }
+    let workers = match number_given(alloc, words, "workers", 1, 64)? {
+        Some(count) => Workers::new(count as u16),
+        None => None,
+    };
     let record = match words.get_str("record") {
         Some(path) => Some(String::from_str(alloc, path)?),
         None => None,
@@ -45,7 +49,7 @@ pub fn read_run(alloc: Global, words: &ArgMatches<'_>) -> Result<Option<RunWords
     let lists = owned(alloc, paths)?;
     Ok(Some(RunWords {
         namespace,
-        workers: words.get_one::<u16>("workers").and_then(Workers::new),
+        workers,
         limit,
         record,
         lists,
@@ -64,18 +68,15 @@ pub fn run_command<'a>(alloc: Global) -> Result<Command<'a>, Error> {
 }
 
 fn workers<'a>(alloc: Global) -> Arg<'a> {
-    number(
+    number_option(
         alloc,
         "workers",
         "Number of threads that do the commands, 1 to 64 [default: the processors]",
     )
-    .value_parser(ValueParser::from(value_parser!(u16).range(1..=64)))
 }
 
 fn limit<'a>(alloc: Global) -> Arg<'a> {
-    number(alloc, "limit", "Most changes of a unit, 1 to 4194304").value_parser(ValueParser::from(
-        value_parser!(u32).range(1..=4_194_304),
-    ))
+    number_option(alloc, "limit", "Most changes of a unit, 1 to 4194304")
 }
 
 fn record<'a>(alloc: Global) -> Arg<'a> {

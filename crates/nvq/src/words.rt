@@ -2,13 +2,15 @@ ghost use Rattle.std.specs.Prelude.{IfOk, IfSome};
 ghost use Rattle.nvq.specs.Words.{IsAsked};
 
 use crate::certifying_words::{CertifyWords, certify_command, read_certify};
+use crate::drawing_words::{DrawWords, draw_command, read_draw};
 use crate::explaining_words::{ExplainWords, explain_command, read_explain};
 use crate::generating_words::{GenerateWords, generate_command, read_generate};
 use crate::running_words::{RunWords, read_run, run_command};
-use clap::builder::ValueParser;
-use clap::{Arg, ArgMatches, Command, Error, value_parser};
-use nvm_draw::Window;
-use nvm_front::{VERSION, WordFault, missing};
+use clap::{Arg, ArgMatches, Command, Error};
+use nvm_front::{
+    AuditWords, VERSION, WitnessWords, WordFault, audit_command, missing, number_option,
+    read_audit, read_witness, size_given, witness_command,
+};
 use nvm_record::BlockSize;
 use std::alloc::Global;
 
@@ -35,20 +37,17 @@ pub enum Asked {
     Run(RunWords),
     /// `nvq generate`: write the lists of a load.
     Generate(GenerateWords),
+    /// `nvq audit`: say whether a record is lawful.
+    Audit(AuditWords),
+    /// `nvq witness`: say whether a record explains a trace.
+    Witness(WitnessWords),
     /// `nvq certify`: say whether a record explains a trace, or why none does.
     Certify(CertifyWords),
     /// `nvq explain`: explain a record, or whether it explains a trace.
     Explain(ExplainWords),
     /// `nvq draw`: draw a record.
-    Draw {
-        window: Window,
-        file: String,
-        out: String,
-    },
+    Draw(DrawWords),
 }
-
-/// The sizes that a block can have, as words.
-const SIZES: &[&str] = &["512", "4096"];
 
 /// Reads the words after the program's name. A block has 512 bytes where no size is given, and a run and a load have one list or more.
 pub fn read_words<'a>(alloc: Global, words: &'a [&'a str]) -> Result<Asked, WordFault>
@@ -72,6 +71,8 @@ fn asked_of(alloc: Global, matches: &ArgMatches<'_>) -> Result<Option<Asked>, Wo
         Some(("list", words)) => list_asked(alloc, words),
         Some(("run", words)) => run_asked(alloc, words),
         Some(("generate", words)) => generate_asked(alloc, words),
+        Some(("audit", words)) => audit_asked(alloc, words),
+        Some(("witness", words)) => witness_asked(alloc, words),
         Some(("certify", words)) => certify_asked(alloc, words),
         Some(("explain", words)) => explain_asked(alloc, words),
         Some(("draw", words)) => draw_asked(alloc, words),
@@ -84,7 +85,7 @@ fn assemble_asked(alloc: Global, words: &ArgMatches<'_>) -> Result<Option<Asked>
     ensures { IfOk result (λ asked. IfSome asked IsAsked) }
 {
     let (Some(size), Some(list), Some(out)) = (
-        size_of(words),
+        size_given(alloc, words)?,
         words.get_str("list"),
         words.get_str("out"),
     ) else {
@@ -111,7 +112,7 @@ fn trace_asked(alloc: Global, words: &ArgMatches<'_>) -> Result<Option<Asked>, W
 fn list_asked(alloc: Global, words: &ArgMatches<'_>) -> Result<Option<Asked>, WordFault>
     ensures { IfOk result (λ asked. IfSome asked IsAsked) }
 {
-    let (Some(size), Some(file)) = (size_of(words), words.get_str("file")) else {
+    let (Some(size), Some(file)) = (size_given(alloc, words)?, words.get_str("file")) else {
         return Ok(None);
     };
     let file = String::from_str(alloc, file)?;
@@ -162,51 +163,73 @@ fn explain_asked(alloc: Global, words: &ArgMatches<'_>) -> Result<Option<Asked>,
 fn draw_asked(alloc: Global, words: &ArgMatches<'_>) -> Result<Option<Asked>, WordFault>
     ensures { IfOk result (λ asked. IfSome asked IsAsked) }
 {
-    let (Some(file), Some(out)) = (words.get_str("file"), words.get_str("out")) else {
-        return Ok(None);
-    };
-    let window = Window {
-        unit: words.get_one::<u16>("unit"),
-        from: words.get_one::<u32>("from"),
-    };
-    let file = String::from_str(alloc, file)?;
-    let out = String::from_str(alloc, out)?;
-    Ok(Some(Asked::Draw { window, file, out }))
+    match read_draw(alloc, words)? {
+        Some(draw) => Ok(Some(Asked::Draw(draw))),
+        None => Ok(None),
+    }
 }
 
-/// The size of a block.
-pub fn size_of(words: &ArgMatches<'_>) -> Option<BlockSize> {
-    match words.get_str("block")? {
-        "512" => BlockSize::new(512),
-        "4096" => BlockSize::new(4096),
-        _ => None,
+/// What `nvq audit` is asked, or `None` where the path is missing.
+fn audit_asked(alloc: Global, words: &ArgMatches<'_>) -> Result<Option<Asked>, WordFault>
+    ensures { IfOk result (λ asked. IfSome asked IsAsked) }
+{
+    match read_audit(alloc, words)? {
+        Some(audit) => Ok(Some(Asked::Audit(audit))),
+        None => Ok(None),
+    }
+}
+
+/// What `nvq witness` is asked, or `None` where a path is missing.
+fn witness_asked(alloc: Global, words: &ArgMatches<'_>) -> Result<Option<Asked>, WordFault>
+    ensures { IfOk result (λ asked. IfSome asked IsAsked) }
+{
+    match read_witness(alloc, words)? {
+        Some(witness) => Ok(Some(Asked::Witness(witness))),
+        None => Ok(None),
     }
 }
 
 /// The command line of the program.
 fn program<'a>(alloc: Global) -> Result<Command<'a>, Error> {
+    let program = Command::new(alloc, "nvq")
+        .bin_name("nvq")?
+        .version(VERSION)
+        .about(
+            "Runs lists of NVM commands, generates such lists, makes them into host files, lists those, records and traces, judges records and traces, and explains and draws records",
+        )
+        .no_binary_name(true)
+        .subcommand_required(true);
+    with_judges(alloc, with_makers(alloc, program)?)
+}
+
+/// With the commands that do, make and list.
+fn with_makers<'a>(alloc: Global, program: Command<'a>) -> Result<Command<'a>, Error> {
+    let run = run_command(alloc)?;
+    let generate = generate_command(alloc)?;
     let assemble = assemble_command(alloc)?;
     let trace = trace_command(alloc)?;
     let list = list_command(alloc)?;
-    let run = run_command(alloc)?;
-    let generate = generate_command(alloc)?;
-    let certify = certify_command(alloc)?;
-    let explain = explain_command(alloc)?;
-    let draw = draw_command(alloc)?;
     Ok(
-        Command::new(alloc, "nvq")
-            .bin_name("nvq")?
-            .version(VERSION)
-            .about(
-                "Runs lists of NVM commands, generates such lists, makes them into host files, lists those, records and traces, explains and draws records, and says whether a record explains a trace",
-            )
-            .no_binary_name(true)
-            .subcommand_required(true)
+        program
             .subcommand(run)?
             .subcommand(generate)?
             .subcommand(assemble)?
             .subcommand(trace)?
-            .subcommand(list)?
+            .subcommand(list)?,
+    )
+}
+
+/// With the commands that judge, explain and draw.
+fn with_judges<'a>(alloc: Global, program: Command<'a>) -> Result<Command<'a>, Error> {
+    let audit = audit_command(alloc)?;
+    let witness = witness_command(alloc)?;
+    let certify = certify_command(alloc)?;
+    let explain = explain_command(alloc)?;
+    let draw = draw_command(alloc)?;
+    Ok(
+        program
+            .subcommand(audit)?
+            .subcommand(witness)?
             .subcommand(certify)?
             .subcommand(explain)?
             .subcommand(draw)?,
@@ -253,36 +276,18 @@ fn list_command<'a>(alloc: Global) -> Result<Command<'a>, Error> {
     Ok(command.arg(block(alloc))?.arg(file)?)
 }
 
-/// `nvq draw`.
-fn draw_command<'a>(alloc: Global) -> Result<Command<'a>, Error> {
-    let command = Command::new(alloc, "draw").about("Draws a record as an SVG picture");
-    let unit = Arg::new(alloc, "unit")
-        .long("unit")
-        .value_name("U")
-        .value_parser(value_parser!(u16))
-        .help("First unit that is drawn, of 64");
-    let from = Arg::new(alloc, "from")
-        .long("from")
-        .value_name("P")
-        .value_parser(value_parser!(u32))
-        .help("First place that is drawn, of 64");
-    let record = file(alloc, "file", "REC", "The record, or - for standard input");
-    let out = file(alloc, "out", "OUT", "The picture, or - for standard output");
-    Ok(command.arg(unit)?.arg(from)?.arg(record)?.arg(out)?)
-}
-
 /// The option that says how large a block is.
 pub fn block<'a>(alloc: Global) -> Arg<'a> {
-    Arg::new(alloc, "block")
-        .long("block")
-        .value_name("N")
-        .value_parser(ValueParser::from(SIZES))
-        .default_value("512")
-        .help("Size of a logical block in bytes")
+    number_option(
+        alloc,
+        "block",
+        "Size of a logical block in bytes, 512 or 4096",
+    )
+    .default_value("512")
 }
 
 /// A file that has to be named.
-fn file<'a>(alloc: Global, id: &'a str, name: &'a str, help: &'a str) -> Arg<'a> {
+pub fn file<'a>(alloc: Global, id: &'a str, name: &'a str, help: &'a str) -> Arg<'a> {
     Arg::new(alloc, id)
         .required(true)
         .value_name(name)

@@ -2,7 +2,7 @@ use Rattle.std.proofs.Common.{inl, inr, Result, Err, ap, ◌∙◌, subst, sym}
 use Rattle.nvm_audit.specs.declared.audit_fault.AuditFault.{AuditFault}
 use Rattle.nvm_audit.specs.declared.verdict.Verdict.{Verdict}
 use Rattle.nvm_engine.specs.Judged.{IsJudgedAs}
-use Rattle.nvm_engine.proofs.judging.judged_of.Goals as goal
+use Rattle.nvm_engine.proofs.judging.judge_watched.Goals as goal
 
 pub returns-in-Ok-clause-named : goal.returns-in-Ok-clause-named
 returns-in-Ok-clause-named g c = λ first h. absurd (c.in-Ok.ensures.named first h)

@@ -1,0 +1,109 @@
+//! The words of `audit` and `witness`, which both programs have.
+use crate::words::WordFault;
+use clap::{Arg, ArgAction, ArgMatches, Command, Error};
+use nvm_trace::Judging;
+use std::alloc::Global;
+
+/// How a verdict is told.
+#[derive(Clone, Copy, Debug, PartialEq, Eq)]
+pub enum Telling {
+    /// As lines for people.
+    Lines,
+    /// As one object of JSON.
+    Object,
+}
+
+/// What the words of `audit` say.
+#[derive(Drop)]
+pub struct AuditWords {
+    pub telling: Telling,
+    pub record: String,
+}
+
+/// What the words of `witness` say.
+#[derive(Drop)]
+pub struct WitnessWords {
+    pub judging: Judging,
+    pub trace: String,
+    pub record: String,
+}
+
+/// What the words of `audit` say, or `None` where the path is missing.
+pub fn read_audit(alloc: Global, words: &ArgMatches<'_>) -> Result<Option<AuditWords>, WordFault> {
+    let Some(record) = words.get_str("record") else {
+        return Ok(None);
+    };
+    Ok(Some(AuditWords {
+        telling: telling_of(words),
+        record: String::from_str(alloc, record)?,
+    }))
+}
+
+/// How a verdict is to be told.
+pub fn telling_of(words: &ArgMatches<'_>) -> Telling {
+    if words.get_flag("json") {
+        Telling::Object
+    } else {
+        Telling::Lines
+    }
+}
+
+/// The option that has a verdict told as an object.
+pub fn json<'a>(alloc: Global) -> Arg<'a> {
+    Arg::new(alloc, "json")
+        .long("json")
+        .action(ArgAction::SetTrue)
+        .help("Prints the verdict as one object of JSON on a line, for programs")
+}
+
+/// What the words of `witness` say, or `None` where a path is missing.
+pub fn read_witness(
+    alloc: Global,
+    words: &ArgMatches<'_>,
+) -> Result<Option<WitnessWords>, WordFault> {
+    let (Some(trace), Some(record)) = (words.get_str("trace"), words.get_str("record")) else {
+        return Ok(None);
+    };
+    let judging = if words.get_flag("strict") {
+        Judging::Strict
+    } else {
+        Judging::Standard
+    };
+    Ok(Some(WitnessWords {
+        judging,
+        trace: String::from_str(alloc, trace)?,
+        record: String::from_str(alloc, record)?,
+    }))
+}
+
+/// The command `audit`.
+pub fn audit_command<'a>(alloc: Global) -> Result<Command<'a>, Error> {
+    let record = Arg::new(alloc, "record")
+        .required(true)
+        .value_name("REC")
+        .help("The record of a run, or - for standard input");
+    let command = Command::new(alloc, "audit").about(
+        "Says whether a record is lawful, and if not, what is its first fault",
+    );
+    Ok(command.arg(json(alloc))?.arg(record)?)
+}
+
+/// The command `witness`.
+pub fn witness_command<'a>(alloc: Global) -> Result<Command<'a>, Error> {
+    let strict = Arg::new(alloc, "strict")
+        .long("strict")
+        .action(ArgAction::SetTrue)
+        .help("Takes each command as one step in an atomic unit, however many blocks it has");
+    let trace = Arg::new(alloc, "trace")
+        .required(true)
+        .value_name("TRACE")
+        .help("What the hosts of a device saw, or - for standard input");
+    let record = Arg::new(alloc, "record")
+        .required(true)
+        .value_name("REC")
+        .help("The record that is to explain it, or - for standard input");
+    let command = Command::new(alloc, "witness").about(
+        "Says whether a record explains a trace, and if not, what is the first fault",
+    );
+    Ok(command.arg(strict)?.arg(trace)?.arg(record)?)
+}
