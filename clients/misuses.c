@@ -393,6 +393,55 @@ static bool holds(const struct row *row)
     return right;
 }
 
+/* NULL has its code in each call, and a command without data takes it. */
+static bool nulls_are_answered(void)
+{
+    uint8_t entry[ZK_ENTRY_BYTES], block[BLOCK], told[ZK_COMPLETION_BYTES], line[ZK_LINE_BYTES], zeroes[ZK_ENTRY_BYTES];
+    struct zk_status status;
+    size_t length = 0;
+    entry_of(entry, WRITE, 0, 1, 0, 1);
+    entry_of(zeroes, WRITE_ZEROES, 0, 1, 0, 1);
+    memset(block, 7, sizeof block);
+    recorded = true;
+    if (!open_all(true))
+        return false;
+    struct zk_port *port = ports;
+    const struct { const char *misuse; int code, answer; } calls[] = {
+        { "open of NULL", ZK_BAD_PORTS, zk_open(NULL, 1, &usual, 100, true, false) },
+        { "open of a NULL namespace", ZK_BAD_NAMESPACE, zk_open(&ports[PORTS], 1, NULL, 100, true, false) },
+        { "close of NULL", ZK_NOT_OPEN, zk_close(NULL) },
+        { "submit to NULL", ZK_NOT_OPEN, zk_submit(NULL, entry, sizeof entry, block, BLOCK, told, sizeof told) },
+        { "submit of NULL", ZK_BAD_LENGTH, zk_submit(port, NULL, sizeof entry, block, BLOCK, told, sizeof told) },
+        { "a Write of NULL", ZK_BAD_LENGTH, zk_submit(port, entry, sizeof entry, NULL, BLOCK, told, sizeof told) },
+        { "a Write of NULL without a length", ZK_BAD_LENGTH, zk_submit(port, entry, sizeof entry, NULL, 0, told, sizeof told) },
+        { "submit with NULL for its completion", ZK_BAD_LENGTH, zk_submit(port, entry, sizeof entry, block, BLOCK, NULL, sizeof told) },
+        { "Write Zeroes with NULL for its data", ZK_DONE, zk_submit(port, zeroes, sizeof zeroes, NULL, 0, told, sizeof told) },
+        { "poll of NULL", ZK_NOT_OPEN, zk_poll(NULL, block, BLOCK, told, sizeof told) },
+        { "poll with NULL for its completion", ZK_BAD_LENGTH, zk_poll(port, block, BLOCK, NULL, sizeof told) },
+        { "poll of an idle port with NULL for its data", ZK_IDLE, zk_poll(port, NULL, 0, told, sizeof told) },
+        { "identify of NULL", ZK_NOT_OPEN, zk_identify(NULL, block, BLOCK) },
+        { "identify into NULL", ZK_BAD_LENGTH, zk_identify(port, NULL, ZK_IDENTIFY_BYTES) },
+        { "read_now of NULL", ZK_NOT_OPEN, zk_read_now(NULL, 0, 0, block, BLOCK, &status) },
+        { "read_now into NULL", ZK_BAD_LENGTH, zk_read_now(port, 0, 0, NULL, BLOCK, &status) },
+        { "read_now with NULL for its status", ZK_BAD_LENGTH, zk_read_now(port, 0, 0, block, BLOCK, NULL) },
+        { "audit of NULL", ZK_BAD_LENGTH, zk_audit(NULL, 4, (char *)line, sizeof line) },
+        { "audit of NULL without a length", ZK_BAD_RECORD, zk_audit(NULL, 0, (char *)line, sizeof line) },
+        { "audit into NULL", ZK_SHORT_ROOM, zk_audit(entry, sizeof entry, NULL, sizeof line) },
+        { "record of NULL", ZK_OTHER_PORTS, zk_record(NULL, PORTS, block, BLOCK, &length) },
+        { "record into NULL", ZK_BAD_LENGTH, zk_record(ports, PORTS, NULL, BLOCK, &length) },
+        { "record with NULL for its length", ZK_BAD_LENGTH, zk_record(ports, PORTS, block, BLOCK, NULL) },
+        { "record into NULL without room", ZK_SHORT_ROOM, zk_record(ports, PORTS, NULL, 0, &length) },
+    };
+    bool right = length > 0;
+    for (size_t i = 0; i < sizeof calls / sizeof *calls; i++)
+        if (calls[i].answer != calls[i].code) {
+            fprintf(stderr, "misuses: %s: %d, and not %d\n", calls[i].misuse, calls[i].answer, calls[i].code);
+            right = false;
+        }
+    close_all();
+    return right;
+}
+
 /* Where memory is refused at the nth time, a command ends by its code or with 0/06, and the port goes on working. */
 static bool starved_in_the_midst(void)
 {
@@ -484,6 +533,10 @@ int main(int words, char **word)
             printf("%-16s %s\n", codes[rows[i].code], rows[i].misuse);
         right &= holds(&rows[i]);
         answered[rows[i].code] = true;
+    }
+    if (!nulls_are_answered()) {
+        fprintf(stderr, "misuses: NULL\n");
+        right = false;
     }
     if (!starved_in_the_midst()) {
         fprintf(stderr, "misuses: a Write to which memory is refused in the midst\n");

@@ -10,9 +10,9 @@
  *   1. A port is in one call at a time, is handed from thread to thread by a lock, a thread's start or join, or a
  *      seq_cst atomic, and is never copied while it is open: a queue keeps a pointer to its port.
  *   2. A port is bytes of 0 before it is opened, and nothing but these calls writes to it.
- *   3. Each pointer is not NULL and is good for the length that is passed with it, also where that length is 0. No two
- *      pointers of a call lead to bytes in common, and nobody else writes to these bytes while the call runs: copy a
- *      guest's entries and data out of its memory first.
+ *   3. Each pointer is good for the length that is passed with it. No two pointers of a call lead to bytes in common, and
+ *      nobody else writes to these bytes while the call runs: copy a guest's entries and data out of its memory first. The
+ *      library's own functions take no NULL: this header answers it, so a caller by dlsym or another language checks that itself.
  *   4. malloc, realloc and free are a usual allocator's, and no call is made from a signal handler or a forked child.
  *
  * Commands: Write (01h), Read (02h), Write Uncorrectable (04h), Compare (05h), Write Zeroes (08h) and Dataset Management
@@ -118,8 +118,8 @@ int zk_close(struct zk_port *port);
  *
  * `entries` is one submission queue entry of 64 bytes, or two that are a fused Compare and Write. `data` is what the
  * command carries: the blocks of a Write or a Compare, the ranges of a Dataset Management, for a pair those of the
- * first entry and then those of the second. For a Read it is room for its blocks. A command without data takes any
- * pointer that is not NULL, and a length of 0. `completions` is room for a completion queue entry of 16 bytes for
+ * first entry and then those of the second. For a Read it is room for its blocks. A command without data takes
+ * NULL or any pointer, and a length of 0. `completions` is room for a completion queue entry of 16 bytes for
  * each entry.
  *
  * ZK_DONE: the completions are written, and after a Read of status 0/00 its blocks. How the command ended, an unknown
@@ -195,6 +195,78 @@ int zk_audit(const uint8_t *bytes, size_t length, char *line, size_t room);
  * is missing, and what it did is lost: close the ports after the record.
  * Threads: nobody else uses these ports during the call. */
 int zk_record(struct zk_port *ports, size_t count, uint8_t *bytes, size_t room, size_t *length);
+
+/* NULL, which the library's own functions don't take, is answered here. A port that is NULL is not open; ports that are NULL are none. A
+ * buffer that is NULL has no room: where its length is above 0, or the call has to write to it, the answer is ZK_BAD_LENGTH, and
+ * ZK_SHORT_ROOM of zk_audit. A namespace that is NULL has no numbers. */
+static inline int zk_open_or_null(struct zk_port *ports, size_t count, const struct zk_namespace *ns, uint32_t limit, bool versions,
+                                  bool recorded)
+{
+    return !ports ? ZK_BAD_PORTS : !ns ? ZK_BAD_NAMESPACE : zk_open(ports, count, ns, limit, versions, recorded);
+}
+
+static inline int zk_close_or_null(struct zk_port *port)
+{
+    return !port ? ZK_NOT_OPEN : zk_close(port);
+}
+
+static inline int zk_submit_or_null(struct zk_port *port, const uint8_t *entries, size_t entries_length, uint8_t *data,
+                                    size_t data_length, uint8_t *completions, size_t completions_length)
+{
+    uint8_t none;
+    if (!port)
+        return ZK_NOT_OPEN;
+    if (!entries || !completions || (!data && data_length))
+        return ZK_BAD_LENGTH;
+    return zk_submit(port, entries, entries_length, data ? data : &none, data_length, completions, completions_length);
+}
+
+static inline int zk_poll_or_null(struct zk_port *port, uint8_t *data, size_t data_length, uint8_t *completions,
+                                  size_t completions_length)
+{
+    uint8_t none;
+    if (!port)
+        return ZK_NOT_OPEN;
+    if (!completions || (!data && data_length))
+        return ZK_BAD_LENGTH;
+    return zk_poll(port, data ? data : &none, data_length, completions, completions_length);
+}
+
+static inline int zk_identify_or_null(struct zk_port *port, uint8_t *data, size_t data_length)
+{
+    return !port ? ZK_NOT_OPEN : !data ? ZK_BAD_LENGTH : zk_identify(port, data, data_length);
+}
+
+static inline int zk_read_now_or_null(struct zk_port *port, uint64_t slba, uint16_t nlb, uint8_t *data, size_t data_length,
+                                      struct zk_status *status)
+{
+    return !port ? ZK_NOT_OPEN : !data || !status ? ZK_BAD_LENGTH : zk_read_now(port, slba, nlb, data, data_length, status);
+}
+
+static inline int zk_audit_or_null(const uint8_t *bytes, size_t length, char *line, size_t room)
+{
+    static const uint8_t none[1] = { 0 };
+    return !bytes && length ? ZK_BAD_LENGTH : !line ? ZK_SHORT_ROOM : zk_audit(bytes ? bytes : none, length, line, room);
+}
+
+static inline int zk_record_or_null(struct zk_port *ports, size_t count, uint8_t *bytes, size_t room, size_t *length)
+{
+    uint8_t none;
+    if (!ports)
+        return ZK_OTHER_PORTS;
+    if (!length || (!bytes && room))
+        return ZK_BAD_LENGTH;
+    return zk_record(ports, count, bytes ? bytes : &none, room, length);
+}
+
+#define zk_open zk_open_or_null
+#define zk_close zk_close_or_null
+#define zk_submit zk_submit_or_null
+#define zk_poll zk_poll_or_null
+#define zk_identify zk_identify_or_null
+#define zk_read_now zk_read_now_or_null
+#define zk_audit zk_audit_or_null
+#define zk_record zk_record_or_null
 
 /* The command identifier, the status code type and the status code of a completion queue entry. */
 static inline uint16_t zk_cid(const uint8_t *completion)

@@ -99,14 +99,57 @@ fn called(size: BlockSize, entry: &[u8]) -> usize
     fields.op.data_length(fields.nlb, fields.nr, size)
 }
 
-/// The command of the entry and this data, which has to be as long as it calls for.
+/// The command of the entry and this data, which has to be as long as it calls for. Data that isn't a list of ranges is copied as it is.
 fn command_of(alloc: Global, size: BlockSize, entry: &[u8], data: &[u8]) -> Result<Command, Code>
     requires { length entry.now ≡ 64 }
     ensures spelled { IfOk result (λ c. IsSpelling size (entry.now ++ data.now) c) }
     ensures whole { IfOk result (λ c. IsWhole size c) }
     ensures refused { IfErr result IsRefusal }
 {
-    let Ok(bytes) = joined(alloc, entry, data) else {
+    let fields = entry_fields(entry);
+    if fields.op.carries_ranges() {
+        return command_of_ranges(alloc, size, entry, data);
+    }
+    if data.len() != fields.op.data_length(fields.nlb, fields.nr, size) {
+        return Err(Code::BadLength);
+    }
+    let Ok(payload) = payload_of(alloc, data) else {
+        return Err(Code::NoMemory);
+    };
+    Ok(Command {
+        cid: fields.cid,
+        nsid: fields.nsid,
+        fuse: fields.fuse,
+        op: fields.op,
+        slba: fields.slba,
+        nlb: fields.nlb,
+        payload,
+    })
+}
+
+/// The bytes, copied. No bytes take no memory.
+fn payload_of(alloc: Global, data: &[u8]) -> Result<Payload, NoMemory>
+    ensures { IfOk result (λ p. p ≡ data.now) }
+{
+    if data.is_empty() {
+        return Ok(Payload::empty());
+    }
+    Payload::copy_of(alloc, data)
+}
+
+/// The command of the entry of a Dataset Management and these ranges.
+fn command_of_ranges(
+    alloc: Global,
+    size: BlockSize,
+    entry: &[u8],
+    ranges: &[u8],
+) -> Result<Command, Code>
+    requires { length entry.now ≡ 64 }
+    ensures spelled { IfOk result (λ c. IsSpelling size (entry.now ++ ranges.now) c) }
+    ensures whole { IfOk result (λ c. IsWhole size c) }
+    ensures refused { IfErr result IsRefusal }
+{
+    let Ok(bytes) = joined(alloc, entry, ranges) else {
         return Err(Code::NoMemory);
     };
     match read_command(alloc, &bytes, size) {
@@ -122,7 +165,7 @@ fn command_of(alloc: Global, size: BlockSize, entry: &[u8], data: &[u8]) -> Resu
     }
 }
 
-/// The entry, and the data behind it.
+/// The entry, and the ranges after it.
 fn joined(alloc: Global, entry: &[u8], data: &[u8]) -> Result<Payload, NoMemory>
     ensures { IfOk result (λ p. p ≡ entry.now ++ data.now) }
 {

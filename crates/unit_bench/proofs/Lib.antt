@@ -1,2 +1,3 @@
 mod Newcomers
 mod Reading
+pub mod AllPorts

@@ -8,7 +8,7 @@ use thiserror::Error;
 #[derive(Clone, Copy, Debug, Error)]
 pub enum Fault {
     /// The words aren't what is expected.
-    #[error("unit_bench: expected unit, versions, mutex or looks, 1 to 1024 units, 1 to 63 threads, 1 to 4194304 changes or looks, 1 to 65536 blocks, or run, 0 or 15 to 65535 for the boundary, 1 to 64 workers, a host file")]
+    #[error("unit_bench: expected unit, versions, mutex, looks or ports, 1 to 1024 units, 1 to 63 threads, 1 to 4194304 changes or looks, 1 to 65536 blocks, or run, 0 or 15 to 65535 for the boundary, 1 to 64 workers, a host file")]
     Words,
     /// A change or a look was refused for another reason than memory.
     #[error("unit_bench: a change or a look was refused")]

@@ -6,6 +6,7 @@ mod fault;
 mod looking;
 mod measuring;
 mod mutex_writer;
+mod port_writer;
 mod run_words;
 mod running;
 mod share;
@@ -17,6 +18,7 @@ use crate::fault::Fault;
 use crate::looking::measure_looks;
 use crate::measuring::{Measured, measure};
 use crate::mutex_writer::MutexWriter;
+use crate::port_writer::PortWriter;
 use crate::run_words::{is_run, read_run_words};
 use crate::running::{MeasuredRun, measure_run};
 use crate::unit_writer::UnitWriter;
@@ -67,6 +69,7 @@ fn show_changes<R: AllocGlobal + Print + Eprint + Threads + Wait + Sync + Clock 
         Target::Unit | Target::Versions => measure::<UnitWriter, R>(rt, rt.alloc(), &asked)?,
         Target::Mutex => measure::<MutexWriter, R>(rt, rt.alloc(), &asked)?,
         Target::Looks => measure_looks(rt, rt.alloc(), &asked)?,
+        Target::Ports => measure::<PortWriter, R>(rt, rt.alloc(), &asked)?,
     };
     let Measured {
         changes,

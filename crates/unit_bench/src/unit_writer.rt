@@ -139,10 +139,9 @@ impl Writer for UnitWriter {
         if !self.unit.covers_look(look) {
             return 0;
         }
-        let point = match self.unit.observe(rt, alloc, &mut self.pass, look) {
+        match self.unit.observe(rt, alloc, &mut self.pass, look) {
             Ok(observed) => observed.point,
             Err(ObserveFault::NoMemory { point }) => point,
-        };
-        u64::from(point)
+        }
     }
 }

@@ -14,6 +14,8 @@ pub enum Target {
     Mutex,
     /// A shared unit with versions, whose passes look.
     Looks,
+    /// The ports of a namespace, each with a unit of its own.
+    Ports,
 }
 
 /// What is measured.
@@ -30,7 +32,7 @@ pub struct Asked {
     pub blocks: u32,
 }
 
-/// What the words ask for: `unit`, `versions`, `mutex` or `looks`, and then the numbers of units, threads, changes or looks, and
+/// What the words ask for: `unit`, `versions`, `mutex`, `looks` or `ports`, and then the numbers of units, threads, changes or looks, and
 /// blocks.
 pub fn read_words(words: &[String]) -> Result<Asked, Fault>
     ensures { IfOk result IsAllowed }
@@ -54,6 +56,7 @@ fn target_of(word: &str) -> Result<Target, Fault> {
         "versions" => Ok(Target::Versions),
         "mutex" => Ok(Target::Mutex),
         "looks" => Ok(Target::Looks),
+        "ports" => Ok(Target::Ports),
         _ => Err(Fault::Words),
     }
 }

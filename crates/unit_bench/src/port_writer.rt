@@ -1,0 +1,165 @@
+ghost use Rattle.std.specs.Prelude.{◌≡◌, All, IfOk, length};
+ghost use Rattle.std.specs.Arc.{arc_value};
+ghost use Rattle.nvm_plan.specs.Fits.{FitsNamespace};
+ghost use Rattle.nvm_space.specs.Ports.{IsPortOf};
+
+use crate::fault::Fault;
+use crate::writer::{BLOCK, Writer};
+use nvm_geometry::Geometry;
+use nvm_plan::{Body, Completions, Job, fits, unit_place};
+use nvm_record::{Command, Fuse, Op, Payload, PayloadRef, Status};
+use nvm_space::{JobDone, Port, Progress, Space, SpaceFault};
+use nvm_store::Limit;
+use nvm_unit::Open;
+use std::alloc::Global;
+use std::sync::{Arc, Wait};
+
+/// A port of a namespace whose writers have a unit each, and where this writer's unit begins. Each write is a job that is begun
+/// and polled, with a copy of its data, as a caller does it whose buffer is another's.
+#[derive(Drop)]
+pub struct PortWriter {
+    space: Arc<Space, Global>,
+    port: Port,
+    first: u64,
+    ghost of: { IsPortOf (arc_value space) port },
+}
+
+impl PortWriter {
+    /// The writer of this port.
+    fn new(space: Arc<Space, Global>, port: Port, blocks: u32) -> PortWriter
+        requires { IsPortOf (arc_value space) port }
+    {
+        let first = u64::from(port.number()) * u64::from(blocks);
+        PortWriter { space, port, first }
+    }
+
+    /// A writer of each of these ports.
+    fn of_each(
+        alloc: Global,
+        space: &Arc<Space, Global>,
+        ports: Vec<Port>,
+        blocks: u32,
+    ) -> Result<Vec<PortWriter>, Fault>
+        requires { All (IsPortOf (arc_value space.now)) ports.items }
+        ensures { IfOk result (λ all. length all.items ≡ length ports.items) }
+    {
+        let mut left = ports;
+        let mut all = Vec::with_capacity(alloc, left.len())?;
+        while let Some(port) = left.pop() {
+            all.push(PortWriter::new(space.clone()?, port, blocks))?;
+        }
+        Ok(all)
+    }
+
+    /// Does the job, unless its unit is held.
+    fn done_at_once(&mut self, alloc: Global, number: u32, job: &Job) -> Option<JobDone>
+        requires { FitsNamespace (arc_value self.old.space).namespace job.now }
+    {
+        let progress = match self.space.begin_job(alloc, number, job) {
+            Progress::Done(done) => return Some(done),
+            Progress::Pending(under_way) => {
+                self.space
+                    .poll_job(alloc, &mut self.port, job, under_way, &Open)
+            }
+        };
+        match progress {
+            Progress::Done(done) => Some(done),
+            Progress::Pending(_) => None,
+        }
+    }
+}
+
+impl Writer for PortWriter {
+    fn share(
+        alloc: Global,
+        writers: u16,
+        blocks: u32,
+        changes: u32,
+        versions: bool,
+    ) -> Result<(PortWriter, Vec<PortWriter>), Fault> {
+        let limit = Limit::new(changes).ok_or(Fault::Refused)?;
+        let ports = writers + 1;
+        let nsze = u64::from(ports) * u64::from(blocks);
+        let Ok(geometry) = Geometry::new(nsze, BLOCK as u32, (blocks - 1) as u16, 0, 0, 0) else {
+            return Err(Fault::Refused);
+        };
+        let (space, ports) = match Space::open(alloc, geometry, ports, limit, versions) {
+            Ok(made) => made,
+            Err(SpaceFault::NoMemory) => return Err(Fault::NoMemory),
+            Err(SpaceFault::Ports) => return Err(Fault::Refused),
+        };
+        let space = Arc::new(alloc, space)?;
+        let mut all = PortWriter::of_each(alloc, &space, ports, blocks)?;
+        match all.pop() {
+            Some(one) => Ok((one, all)),
+            None => unreachable!(),
+        }
+    }
+
+    fn write<R: Wait>(
+        &mut self,
+        _rt: &R,
+        alloc: Global,
+        job: u32,
+        lba: u64,
+        payload: PayloadRef<'_>,
+    ) -> Result<(), Fault> {
+        let bytes = Payload::copy_of(alloc, payload.as_slice())?;
+        let asked = job_of(
+            (job % 65_536) as u16,
+            Op::Write,
+            self.first.wrapping_add(lba),
+            bytes,
+        );
+        if !fits(&self.space.geometry(), &asked) {
+            return Err(Fault::Refused);
+        }
+        match self.done_at_once(alloc, job, &asked) {
+            Some(done) if is_success(&done) => Ok(()),
+            _ => Err(Fault::Refused),
+        }
+    }
+
+    fn changes<R: Wait>(&mut self, rt: &R, alloc: Global) -> u64 {
+        let geometry = self.space.geometry();
+        let mut changes = 0u64;
+        for unit in 0..geometry.units() {
+            let place = unit_place(&geometry, unit);
+            let asked = job_of(0, Op::Read, place.first, Payload::empty());
+            if !fits(&self.space.geometry(), &asked) {
+                return 0;
+            }
+            let done = self
+                .space
+                .run_job(rt, alloc, &mut self.port, 0, &asked, &Open);
+            if let Some(part) = done.parts.first() {
+                changes = changes.saturating_add(u64::from(part.point));
+            }
+        }
+        changes
+    }
+}
+
+/// Whether the job is of one command that succeeded.
+fn is_success(done: &JobDone) -> bool {
+    match &done.completions {
+        Completions::One(completion) => completion.status == Status::SUCCESSFUL_COMPLETION,
+        Completions::Two(_, _) => false,
+    }
+}
+
+/// A job of one command of one block.
+fn job_of(cid: u16, op: Op, slba: u64, payload: Payload) -> Job {
+    Job {
+        host: 1,
+        body: Body::Single(Command {
+            cid,
+            nsid: 1,
+            fuse: Fuse::Normal,
+            op,
+            slba,
+            nlb: 0,
+            payload,
+        }),
+    }
+}
