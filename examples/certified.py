@@ -157,6 +157,7 @@ DEVICES = {
     "torn read": (20, CONTRADICTION),
     "pair compared and written later": (0, CONTRADICTION),
     "mark ignored by a Compare": (0, CONTRADICTION),
+    "Compare that finds no difference": (0, CONTRADICTION),
 }
 
 
@@ -178,13 +179,14 @@ def answer(folder, name, *words):
 
 def certified(folder, trace, words=()):
     """The text of the verdict on a trace. It is held to all orders of the trace's steps, and what is explained to the witness."""
-    kept, record = (f"{os.getpid()}.{kind}" for kind in ("nvt", "nvr"))
+    kept, record, argument = (f"{os.getpid()}.{kind}" for kind in ("nvt", "nvr", "nva"))
     with open(os.path.join(folder, kept), "wb") as file:
         file.write(spelled(trace))
-    status, text = answer(folder, "nvq", "certify", *words, "--record", record, kept)
+    status, text = answer(folder, "nvq", "certify", *words, "--record", record, "--argument", argument, kept)
     verdict = text.split()[0]
     hold("status", status, STATUSES[verdict])
     hold("a record", os.path.exists(os.path.join(folder, record)), verdict == EXPLAINED)
+    hold("an argument", os.path.exists(os.path.join(folder, argument)), verdict == CONTRADICTION)
     status, told = answer(folder, "nvq", "certify", *words, "--json", kept)
     hold("the object's status and text", (status, text_of_object(told)), (STATUSES[verdict], text))
     if verdict == EXPLAINED:
@@ -195,6 +197,11 @@ def certified(folder, trace, words=()):
     elif verdict == CONTRADICTION:
         hold("explained by some order", is_explained(trace, STRICT in words), False)
         held_to_commands(trace, words, text)
+        lines = text.splitlines()
+        facts = len(lines) - 1 - int(lines[0].split()[4]) - lines[-1].startswith("so ")
+        line = f"refuted unit {lines[0].split()[2]} facts {facts}\n"
+        hold("refute", answer(folder, "nvmu", "refute", *words, kept, argument), (0, line))
+        os.remove(os.path.join(folder, argument))
     return text
 
 

@@ -1,5 +1,6 @@
 """Records that no run made: forged, cut and spoiled ones, of both versions, and what their audit answers."""
 
+import json
 import resource
 from dataclasses import replace
 
@@ -159,7 +160,7 @@ BAD_VALUES = [
 
 
 def audited(run, file, told=None, **how):
-    """Holds the audit of a file to the model, and to the line that was worked out by hand."""
+    """Holds the audit of a file by either program to the model, and to the line that was worked out by hand."""
     try:
         line, status = verdict(record_of(file)), 0
     except RecordFault as fault:
@@ -169,7 +170,20 @@ def audited(run, file, told=None, **how):
     status = 2 if line.startswith("unlawful") else status
     run.keep("forged", file)
     out, err = ("", hinted(line, of_record(line, "forged", file))) if status == 1 else (f"{line}\n", "")
-    run.expect(["nvmu", "audit", "forged"], status, out=out, err=err, files={"forged": file}, **how)
+    for words, said in ((["nvmu", "audit", "forged"], err), (["nvq", "audit", "forged"], err.replace("nvmu: record:", "nvq: forged:"))):
+        run.expect(words, status, out=out, err=said, files={"forged": file}, **how)
+        if told is not None:
+            run.expect([*words, "--json"], status, out=object_of(out), err=said, **how)
+
+
+def object_of(line):
+    """The object of an audit's line, or nothing after a fault of the file."""
+    if not line:
+        return ""
+    names = ["verdict", *line.split()[1::2]] if line.startswith("lawful") else ["verdict", "fault", *line.split()[2::2]]
+    values = [line.split()[0], *line.split()[2::2]] if line.startswith("lawful") else [*line.split()[:2], *line.split()[3::2]]
+    told = {name: None if value == "-" else int(value) if value.isdigit() else value for name, value in zip(names, values)}
+    return json.dumps(told, separators=(",", ":")) + "\n"
 
 
 def forged(run):

@@ -51,6 +51,10 @@ def lists_generated(run):
     for mix in MIXES:
         options = {"commands": 51, **dict.fromkeys(WEIGHTS, 0), **mix}
         run.expect(words("-", **options), out=generated(load_of(options), 1))
+    # Numbers may be spelled otherwise.
+    options = {"seed": 16, "commands": 1024, "block": 4096, "nsze": 700, "nabsn": 255, "write": 4096}
+    spelled = {"seed": "0x10", "commands": "1k", "block": "4K", "nsze": "0X2bc", "nabsn": "0xFF", "write": "+4k"}
+    run.expect(words("-", **spelled), out=generated(load_of(options), 1))
     # As many lists as there can be, of which the first is thrown away.
     names = ["/dev/null", *(f"of-{host}" for host in range(2, 65))]
     files = lists_of(names, {"commands": 3})

@@ -14,6 +14,7 @@ TOP = os.path.dirname(HERE)
 sys.dont_write_bytecode = True
 sys.path.insert(0, os.path.join(TOP, "sweep"))
 
+from arguments import arguments
 from devices import devices
 from drawn import pictures
 from explained import explained
@@ -158,7 +159,7 @@ dataset 7+2
 compare 0 2 63*01,64*02,65*03,128*07,129*08,1*09,574*0a
 """
 
-BENCH = "unit_bench: expected unit, versions, mutex or looks, 1 to 1024 units, 1 to 63 threads, 1 to 4194304 changes or looks, 1 to 65536 blocks, "
+BENCH = "unit_bench: expected unit, versions, mutex, looks or ports, 1 to 1024 units, 1 to 63 threads, 1 to 4194304 changes or looks, 1 to 65536 blocks, "
 BENCH += "or run, 0 or 15 to 65535 for the boundary, 1 to 64 workers, a host file\n"
 NO_BENCH = ["", "unit 1 1 1", "unit 1 1 1 1 1", "lock 1 1 1 1", "unit 0 1 1 1", "unit 1025 1 1 1", "unit 1 64 1 1"]
 NO_BENCH += ["run 0 0 file", "run 0 65 file", "run 65536 1 file", "run 1 1 file", "run 0 1", "run 0 1 file 1"]
@@ -269,11 +270,11 @@ def words_of_nvq(run):
     run.expect(["nvq", "list", "-"], 1, given=many + b"0", err="nvq: -: too many commands\n")
     run.expect(["nvq", "list", "missing"], 1, err=told("nvq: cannot read missing", MISSING))
     run.expect(["nvq", "assemble", "a.txt", "missing/a.nvq"], 1, err=told("nvq: cannot write missing/a.nvq", MISSING))
-    for words in ("", "assemble", "assemble a", "assemble a b c", "walk a b", "list", "list a b", "list --block 1024 a"):
+    for words in ("", "assemble", "assemble a", "assemble a b c", "walk a b", "list", "list a b", "list --block 1024 a", "audit", "audit a b", "audit --strict a", "audit --json", "audit --json=yes a"):
         run.refuse(["nvq", *words.split()])
     for words in ("list --bogus 1 a", "list --block 512 --block 512 a", "list --block"):
         run.refuse(["nvq", *words.split()])
-    for words in ("--help", "assemble --help", "list --help", "explain --help", "certify --help"):
+    for words in ("--help", "assemble --help", "list --help", "explain --help", "certify --help", "audit --help", "witness --help"):
         run.expect(["nvq", *words.split()], out=SOME)
 
 
@@ -388,7 +389,7 @@ def words_of_unit_bench(run):
 
 TABLES = [lists, words_of_nvq, listings, lists_run, lists_generated, explained, pictures, outs_of_nvq, words_of_nvmu, files_of_nvmu, files_that_stop, several_workers]
 TABLES += [versions, standard_input, files_of_another_kind, outs_that_are_read]
-TABLES += [traces, words_of_certify, records_of_certify, devices, outs_of_nvmu, shown_nowhere, progress, runs, rows, forged, spoiled, two_owners, words_of_unit_bench]
+TABLES += [traces, words_of_certify, records_of_certify, arguments, devices, outs_of_nvmu, shown_nowhere, progress, runs, rows, forged, spoiled, two_owners, words_of_unit_bench]
 
 
 def tried():

@@ -97,7 +97,7 @@ def held(page, folder):
         else:
             is_told = told is None or is_apart(block) or matches(ran.stdout, told)
             # such a verdict ends with 2, which the page shows by its line
-            is_ended = ran.returncode == 0 or ran.returncode == 2 and ran.stdout.startswith(("unlawful ", "unexplained ", "contradiction "))
+            is_ended = ran.returncode == 0 or ran.returncode == 2 and ran.stdout.startswith(("unlawful ", "unexplained ", "contradiction ", '{"verdict":"unlawful",'))
         if is_told and is_ended:
             passed += 1
         else:

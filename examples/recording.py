@@ -21,14 +21,14 @@ def expected(run, options, names):
     return record, text(record)
 
 
-def ran(run, options, *names, lines=None, told=None):
+def ran(run, options, *names, lines=None, told=None, said=None):
     """Holds a run to its record and its text, and the audit of the record to its line. `lines` are those of the commands, and
-    `told` with the verdict too, as they were worked out by hand."""
+    `told` with the verdict too, as they were worked out by hand. `said` has other spellings of options."""
     record, shown = expected(run, options, names)
     line = f"{shown.splitlines()[-1]}\n"
     if lines is not None:
         told = lines + line
     if told is not None:
         run.hold(f"the model of {names} with {options}", shown, told)
-    run.expect(run_words(options, *names), out=shown, files={"record": spelled(record)})
+    run.expect(run_words({**options, **(said or {})}, *names), out=shown, files={"record": spelled(record)})
     run.expect(["nvmu", "audit", "record"], out=line)

@@ -12,8 +12,8 @@ from witness_model import BEFORE, DIFFERS, MARKED, SUCCESS, says_nothing_was_wri
 
 STALE, LOST, TWICE, WRONG_LBA = "stale read", "lost write", "write done twice", "wrong LBA"
 LATE, LAGGING, LEFT, TORN_WRITE = "completed before it was done", "lagging copy", "zeroes leave the last block", "torn write"
-TORN_READ, PARTED, IGNORED = "torn read", "pair compared and written later", "mark ignored by a Compare"
-PLANTED = (None, STALE, LOST, TWICE, WRONG_LBA, LATE, LAGGING, LEFT, TORN_WRITE, TORN_READ, PARTED, IGNORED)
+TORN_READ, PARTED, IGNORED, BLIND = "torn read", "pair compared and written later", "mark ignored by a Compare", "Compare that finds no difference"
+PLANTED = (None, STALE, LOST, TWICE, WRONG_LBA, LATE, LAGGING, LEFT, TORN_WRITE, TORN_READ, PARTED, IGNORED, BLIND)
 # Of small traces alone: a reply that may say anything.
 OTHER_REPLY = "another reply"
 
@@ -183,6 +183,8 @@ class Device:
         if self.by_blocks and self.status_of(job, found) != SUCCESS:
             found = job.at_once
         status = self.status_of(job, found)
+        if status == DIFFERS and len(job.body) == 1 and self.has_bug(BLIND):
+            return (SUCCESS,), None
         if status != SUCCESS:
             return (status, (0, 9))[: len(job.body)], None
         is_read = lead.opcode == READ
@@ -191,7 +193,7 @@ class Device:
 
 KINDS = (WRITE, READ, COMPARE, ZEROES, UNCORRECTABLE, DATASET, "pair", "flawed")
 # How often each kind is asked for, and where a bug is of some kinds alone, more often those.
-WEIGHTS = {None: (6, 8, 2, 1, 1, 2, 3, 1), LEFT: (6, 8, 1, 5, 0, 5, 1, 0), PARTED: (5, 5, 0, 0, 0, 0, 10, 0), IGNORED: (5, 4, 8, 0, 4, 0, 3, 0)}
+WEIGHTS = {None: (6, 8, 2, 1, 1, 2, 3, 1), LEFT: (6, 8, 1, 5, 0, 5, 1, 0), PARTED: (5, 5, 0, 0, 0, 0, 10, 0), IGNORED: (5, 4, 8, 0, 4, 0, 3, 0), BLIND: (6, 6, 6, 1, 1, 1, 3, 0)}
 
 
 class Host:

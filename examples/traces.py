@@ -156,11 +156,16 @@ def traces(run):
     for trace, record, line, *words in WITNESSED:
         run.keep("trace.nvt", spelled(trace))
         run.keep("record.nvr", record_bytes(record))
-        run.expect(["nvmu", "witness", *words, "trace.nvt", "record.nvr"], 0 if line.startswith("explained") else 2, out=f"{line}\n")
+        for program in ("nvmu", "nvq"):
+            given = [program, "witness", *words, "trace.nvt", "record.nvr"]
+            run.expect(given, 0 if line.startswith("explained") else 2, out=f"{line}\n")
+    run.expect(["nvq", "witness", "-", "record.nvr"], given=spelled(trace), out=f"{line}\n", status=2)
+    run.expect(["nvq", "witness", "trace.nvt", "-"], given=record_bytes(record), out=f"{line}\n", status=2)
     faults_of_texts(run)
     faults_of_files(run)
     for words in ("witness", "witness a", "witness a b c", "witness --strictly a b"):
-        run.refuse(["nvmu", *words.split()])
+        for program in ("nvmu", "nvq"):
+            run.refuse([program, *words.split()])
     for words in ("trace", "trace a", "trace a b c"):
         run.refuse(["nvq", *words.split()])
 
@@ -222,12 +227,17 @@ def faults_of_files(run):
         run.keep("cut.nvt", whole[:offset] + bytes([value]) + whole[offset + 1 :])
         run.expect(["nvmu", "witness", "cut.nvt", "two.nvr"], 1, err=f"nvmu: trace: {fault}\n")
         told_by_nvq = fault.replace("ended before at", "ended before it began at")
-        run.expect(["nvq", "list", "cut.nvt"], 1, err=f"nvq: cut.nvt: {told_by_nvq}\n")
+        for words in ("list cut.nvt", "witness cut.nvt two.nvr"):
+            run.expect(["nvq", *words.split()], 1, err=f"nvq: cut.nvt: {told_by_nvq}\n")
     run.keep("whole.nvt", whole)
     run.keep("bad.nvr", b"NVR2")
     run.expect(["nvmu", "witness", "whole.nvt", "bad.nvr"], 1, err="nvmu: record: truncated at 4\n")
-    run.expect(["nvmu", "witness", "missing", "two.nvr"], 1, err=told("nvmu: cannot read missing", MISSING))
-    run.expect(["nvmu", "witness", "whole.nvt", "missing"], 1, err=told("nvmu: cannot read missing", MISSING))
+    run.expect(["nvq", "witness", "whole.nvt", "bad.nvr"], 1, err="nvq: bad.nvr: truncated at 4\n")
+    for program in ("nvmu", "nvq"):
+        for names in (["missing", "two.nvr"], ["whole.nvt", "missing"]):
+            run.expect([program, "witness", *names], 1, err=told(f"{program}: cannot read missing", MISSING))
+    for names in (["-", "-"], ["/dev/stdin", "-"]):
+        run.expect(["nvq", "witness", *names], 1, given=whole, err="nvq: standard input is named twice\n")
     run.expect(
         ["nvmu", "witness", "-", "-"],
         1,

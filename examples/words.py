@@ -116,15 +116,19 @@ TAKEN = [
     {"nabsn": 0, "nabo": 0, "nawun": 65_535, "nacwu": 65_534},
     {"nabsn": 0, "nabo": 0, "nawun": 65_533, "nacwu": 65_535},
 ]
-NOT_TAKEN = {
-    "workers": [0, 65, "x"],
-    "limit": [0, 4_194_305, 2**32 + 1],
-    "nsze": [-1, "x", 2**64, ""],
-    "block": [2**32, 2**32 + 512],
-    "nabsn": [65_536],
-    "nabo": [65_536],
-    "nawun": [65_536],
-    "nacwu": [65_536],
+# Words that say 4,096, and others by what they say.
+SAID = ["4096", "+4096", "004096", "4k", "4K", "0x1000", "0X1000", "+0x1000", "0x4k", "0x04K"]
+NUMBERS = {"4095k": 4_193_280, "4m": 4_194_304, "0x4M": 4_194_304, "0xabcd": 43_981, "0xEF": 239, "0xfk": 15_360, "9K": 9_216}
+NUMBER = "expected a number, as in 65536, 0x10000 or 64k"
+NO_NUMBERS = ["", "x", "-1", "+", "++1", "k", "+k", "0x", "0xk", "0xg", "x10", "1x0", "0x1.0", "1kk", "1k ", " 1", "1_0", "0b1", "0o7", "64kb", "1t", "12a", "\u0661"]
+TOO_LARGE = ["17179869184g", "18446744073709551616", "0x10000000000000000", "9" * 99 + "m"]
+# The first and the last number that an option takes.
+RANGES = {
+    "workers": (1, 64),
+    "limit": (1, MOST_LIMIT[2]),
+    "nsze": (0, LAST),
+    "block": (0, 2**32 - 1),
+    **{name: (0, 65_535) for name in ("nabsn", "nabo", "nawun", "nacwu")},
 }
 # Numbers that make no geometry.
 NO_GEOMETRY = [
@@ -171,17 +175,72 @@ def words_of_nvmu(run):
         ran(run, {**OPTIONS, **changed}, "none.nvq")
     for fault, changed in NO_GEOMETRY:
         run.expect(words("none.nvq", **changed), 1, err=told(f"nvmu: geometry: {fault}", GEOMETRY[fault]))
-    for name, values in NOT_TAKEN.items():
-        for value in values:
-            run.refuse(words("none.nvq", **{name: value}))
+    numbers_of_options(run, words)
+    nearest(run)
     for name in [*OPTIONS, "out"]:
         run.refuse(words("none.nvq", left_out=name))
     run.refuse(words())
     run.refuse([*words("none.nvq"), "--nsze", "33"])
-    for given in ([], ["walk"], ["run", "--bogus"], [b"\xff"], ["audit"], ["audit", "a", "b"], ["audit", "--bogus", "a"]):
+    for given in ([], ["walk"], ["run", "--bogus"], [b"\xff"], ["audit"], ["audit", "a", "b"], ["audit", "--bogus", "a"], ["audit", "--json"], ["audit", "--json=yes", "a"]):
         run.refuse(["nvmu", *given])
     for given in (["--help"], ["run", "--help"], ["audit", "--help"]):
         run.expect(["nvmu", *given], out=run.SOME)
+
+
+# Words that are no command or option, and the one that is nearest.
+NEAR = {
+    "nvq certfy a": "certify",
+    "nvq audti a": "audit",
+    "nvq explian a": "explain",
+    "nvmu witnes a b": "witness",
+    "nvq run --worker=1 a": "--workers",
+    "nvq audit --jason a": "--json",
+    "nvq draw --units 1 a b": "--unit",
+    "nvmu run --nzse=1 a": "--nsze",
+}
+
+
+def nearest(run):
+    """An unknown command or option is told with the nearest that there is, and one that is near to none without."""
+    for words, near in NEAR.items():
+        status, said = run.status_of(words.split())
+        tips = [line for line in said.decode().splitlines() if line.startswith("  tip: ") and "similar" in line]
+        run.hold(f"what is near: {words}", (status, [f"'{near}'" in line for line in tips]), (1, [True]))
+    for words in ("nvq walk a", "nvq audit --bogus a"):
+        status, said = run.status_of(words.split())
+        run.hold(f"nothing is near: {words}", (status, b"similar" in said, words.split()[-2].encode() in said), (1, False, True))
+
+
+def no_number(option, word, expected):
+    """What is said of an option's value that isn't taken."""
+    return f"error: invalid value '{word}' for '--{option}': {expected}\n\nFor more information, try '--help'.\n"
+
+
+def numbers_of_options(run, words):
+    """Each spelling of a number, and each word that is none or one that isn't taken. `words` are those of a run with another value."""
+    for said in SAID:
+        ran(run, {**OPTIONS, "block": 4096}, "none.nvq", said={"block": said})
+    for said, number in NUMBERS.items():
+        ran(run, {**OPTIONS, "limit": number}, "none.nvq", said={"limit": said})
+    for option, (least, most) in RANGES.items():
+        for said in [*([str(least - 1)] if least else []), str(most + 1), hex(most + 1), *TOO_LARGE]:
+            run.expect(words("none.nvq", **{option: said}), 1, err=no_number(option, said, f"expected a number from {least} to {most}"))
+        for said in NO_NUMBERS:
+            run.expect(words("none.nvq", **{option: said}), 1, err=no_number(option, said, NUMBER))
+    for given, expected_there in (
+        (["run", "--block=1k", "missing"], "expected 512 or 4096"),
+        (["list", "--block=0x201", "missing"], "expected 512 or 4096"),
+        (["run", "--workers=65", "missing"], "expected a number from 1 to 64"),
+        (["run", "--limit=5m", "missing"], f"expected a number from 1 to {MOST_LIMIT[2]}"),
+        (["generate", "--commands=0", "out"], "expected a number from 1 to 65535"),
+        (["generate", "--deallocate=64k", "out"], "expected a number from 0 to 65535"),
+        (["generate", "--seed=0x1ffffffffffffffff", "out"], f"expected a number from 0 to {LAST}"),
+        (["certify", "--effort=4g", "missing"], "expected a number from 0 to 4294967295"),
+        (["draw", "--unit=64k", "missing", "out"], "expected a number from 0 to 65535"),
+        (["draw", "--from=4k4", "missing", "out"], NUMBER),
+    ):
+        option, said = given[1].removeprefix("--").split("=")
+        run.expect(["nvq", *given], 1, err=no_number(option, said, expected_there))
 
 
 def files_of_nvmu(run):
@@ -255,6 +314,7 @@ def files_of_another_kind(run):
             run.expect(run_words(OPTIONS, "kind.nvq", name), 1, err=err)
         if not content.startswith(b"NVR"):
             run.expect(["nvmu", "audit", name], 1, err=told("nvmu: record: bad name", no_record(name, content)))
+            run.expect(["nvq", "audit", name], 1, err=told(f"nvq: {name}: bad name", no_record(name, content)))
         if not content.startswith((b"NVQ1", b"NVR")):
             run.expect(["nvq", "list", name], 1, err=told(f"nvq: {name}: bad name", no_host_file(name, content)))
     for name in ("kind.nvq", "kind.nvr"):
@@ -290,7 +350,8 @@ def standard_input(run):
         files = ["b" if name == "-" else name for name in names]
         record, shown = expected(run, OPTIONS, files)
         run.expect(run_words(OPTIONS, *names), given=run.kept("b"), out=shown, files={"record": spelled(record)})
-        run.expect(["nvmu", "audit", "-"], given=spelled(record), out=f"{shown.splitlines()[-1]}\n")
+        for program in ("nvmu", "nvq"):
+            run.expect([program, "audit", "-"], given=spelled(record), out=f"{shown.splitlines()[-1]}\n")
     record, shown = expected(run, OPTIONS, ["-", "a"])
     run.expect(run_words(OPTIONS, "./-", "a"), out=shown, files={"record": spelled(record)})
     record, shown = expected(run, OPTIONS, ["a"])

@@ -38,6 +38,13 @@ def audits(kept, missing, files, none):
     old = b"NVR1" + old[4:24] + (4).to_bytes(2, "little") + old[28:]
     return [
         audited("an audit of many jobs", done),
+        Run(
+            "an object of an audit",
+            "nvmu",
+            ["audit", "--json", kept("record-in-an-object", spelled(recorded(Namespace(limit=5), [none])))],
+            out='{"verdict":"lawful","jobs":0,"units":1,"changes":0,"refused":0}\n',
+            units=1,
+        ),
         audited("an audit of one unit", spelled(recorded(Namespace(), files[:1]))),
         audited("an audit of the first version", old),
         audited("an audit of no jobs", spelled(recorded(Namespace(nabsn=7), [none]))),

@@ -38,7 +38,7 @@ def runs(folder):
         out = f"{'looks' if target == 'looks' else 'changes'} {changes}\n"
         return Measuring(" ".join(words), "unit_bench", words, out=out, threads=threads)
 
-    line = "unit_bench: expected unit, versions, mutex or looks, 1 to 1024 units, 1 to 63 threads, 1 to 4194304 changes or looks, 1 to 65536 blocks, "
+    line = "unit_bench: expected unit, versions, mutex, looks or ports, 1 to 1024 units, 1 to 63 threads, 1 to 4194304 changes or looks, 1 to 65536 blocks, "
     line += "or run, 0 or 15 to 65535 for the boundary, 1 to 64 workers, a host file\n"
     return [
         *(measuring(target, 2, threads, 7, 3) for target in ("unit", "mutex", "looks") for threads in (1, 3)),

@@ -4,18 +4,22 @@ import os
 import subprocess
 import tempfile
 
+from auditor import verdict
 from cases import Run
 from hints import MISSING, the_line, told
 from host_files import compare, file_of, pair, read, write, zeroes
 from model import Namespace
 from record_explaining import lawful_explanation
 from recorded import recorded
+from records import record_of as parsed
 from records import spelled as record_bytes
 from trace_files import in_turn, no_trace, spelled, text_of, with_seen
 
 RECORD = recorded(Namespace(nabsn=7), [file_of([write(0, 0x41), read(0, 1), *pair(compare(0, 0x41), write(0, 0x42)), zeroes(9, 2), read(7, 2)])])
 TRACE = in_turn(RECORD)
 UNITS = len(RECORD.namespace.units())
+# The argument that nobody can have left what job 1 found in LBA 0, about unit 0.
+NOBODY = bytes.fromhex("4e564131 0000 0100000000000000 06 01000000 0000000000000000")
 NVQ = os.path.join(os.path.dirname(os.path.dirname(os.path.realpath(__file__))), "crates", "nvq", "out", "nvq")
 
 
@@ -31,8 +35,15 @@ def witnesses(kept):
         path = kept(f"trace-{name}", file)
         return Run(name, "nvmu", ["witness", path, record], 1, err=told(f"nvmu: trace: {line}", no_trace(path, file) if hint else ""))
 
+    def refuted(name, argument, status, **more):
+        path, file = kept("refuted.nvt", spelled(with_seen(TRACE, 1, data=b"\x43" * 512))), kept(f"argument-{name}", argument)
+        return Run(name, "nvmu", ["refute", path, file], status, **more)
+
     whole = spelled(TRACE)
     return [
+        refuted("a refuted trace", NOBODY, 0, out="refuted unit 0 facts 1\n"),
+        refuted("a fact that isn't given", NOBODY[:-1] + b"\1", 2, out="unrefuted FactWrong fact 0\n"),
+        refuted("a cut argument", NOBODY[:-1], 1, err=f"nvmu: argument: truncated at {len(NOBODY) - 8}\n"),
         judged("an explained trace", TRACE, f"explained jobs 5 units {UNITS} steps 6 excused 0 preparations 0"),
         judged("an explained trace of nothing but errors", in_errors(), f"explained jobs 5 units {UNITS} steps 6 excused 5 preparations 0", "--strict"),
         judged("a reply that differs", with_seen(TRACE, 1, data=b"\x42" * 512), "unexplained ReplyDiffers job 1 unit - place -"),
@@ -94,6 +105,29 @@ def explained(kept):
     ]
 
 
+def judged(kept):
+    """The cases of nvq which judge a record, and a trace by it."""
+    record, trace = kept("judged.nvr", record_bytes(RECORD)), kept("judged.nvt", spelled(TRACE))
+    cut, wrong = kept("cut-to-judge.nvr", record_bytes(RECORD)[:-1]), kept("wrong.nvt", spelled(with_seen(TRACE, 1, data=b"\x42" * 512)))
+    unlawful = bytearray(record_bytes(RECORD))
+    unlawful[-1] ^= 1
+
+    def done(name, words, out, status=0):
+        return Run(name, "nvq", words, status, out=out, units=UNITS)
+
+    return [
+        done("an audit by nvq", ["audit", record], verdict(RECORD) + "\n"),
+        done("an audit of a wrong record by nvq", ["audit", kept("wrong.nvr", bytes(unlawful))], verdict(parsed(bytes(unlawful))) + "\n", 2),
+        done("an object of an audit by nvq", ["audit", "--json", record], '{"verdict":"lawful","jobs":5,"units":%d,"changes":3,"refused":0}\n' % UNITS),
+        done("a witness by nvq", ["witness", trace, record], f"explained jobs 5 units {UNITS} steps 6 excused 0 preparations 0\n"),
+        done("a wrong trace by nvq", ["witness", wrong, record], "unexplained ReplyDiffers job 1 unit - place -\n", 2),
+        Run("a cut record to audit", "nvq", ["audit", cut], 1, err=f"nvq: {cut}: truncated at {len(record_bytes(RECORD)) - 1024}\n"),
+        Run("standard input named twice to judge", "nvq", ["witness", "-", "-"], 1, err="nvq: standard input is named twice\n"),
+        Run("no record to audit", "nvq", ["audit"], 1),
+        Run("help on the witness by nvq", "nvq", ["witness", "--help"], 0),
+    ]
+
+
 def line_of(trace, number):
     """The line of a trace's job in its text."""
     return text_of(trace).splitlines(keepends=True)[1 + number]
@@ -124,11 +158,14 @@ def certified(kept):
         done("a trace that is explained, and a record before", right, explained, "--record", "record", units=UNITS, rounds=2, files=record, before=before),
         done("a trace that is explained strictly", "-", explained, "--strict", input=right, units=UNITS, rounds=2),
         done("a trace that nothing explains", not_explained, contradiction, "--record", "record", status=2, before=before, units=UNITS),
+        done("an argument that nothing explains a trace", not_explained, contradiction, "--argument", "it", status=2, units=UNITS, files={"it": NOBODY}),
+        done("an argument, and a file before", not_explained, contradiction, "--argument", "it", status=2, units=UNITS, files={"it": NOBODY}, before={"it": b"old"}),
         done("an object of a trace that nothing explains", not_explained, contradiction_object, "--json", status=2, units=UNITS),
         fault("a cut trace to certify", f"{cut}: truncated at {len(spelled(TRACE)) - 1024}", cut),
         fault("a missing trace to certify", f"cannot read {missing}", missing, hint=MISSING),
         fault("the record of a trace that is written over it", f"cannot write {right}", right, "--record", right, hint="it is the trace"),
         fault("a record of a trace among the lines", "the record can't go to standard output", right, "--record", "-"),
+        fault("an argument among the lines", "the argument can't go to standard output", right, "--argument", "-"),
         fault("a record of a trace in no folder", "cannot write missing/record", right, "--record", "missing/record", hint=MISSING, units=UNITS, rounds=2),
         Run("no trace to certify", "nvq", ["certify"], 1),
         Run("help on a verdict", "nvq", ["certify", "--help"], 0),

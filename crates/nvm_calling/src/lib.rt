@@ -2,6 +2,7 @@
 //! shows its module here, to the byte.
 #![tactic(auto)]
 
+pub mod argument;
 pub mod audit;
 pub mod certify;
 pub mod file;

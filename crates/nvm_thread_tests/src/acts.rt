@@ -1,5 +1,6 @@
 //! One act of each kind, as a unit's history has it.
-use nvm_record::{LbaRange, Payload, ranges_data};
+use nvm_plan::{Body, Job};
+use nvm_record::{Command, Fuse, LbaRange, Op, Payload, ranges_data};
 use nvm_store::{Act, Entry, History};
 use std::alloc::Global;
 use std::test::Fail;
@@ -53,4 +54,45 @@ pub fn history_of(alloc: Global, acts: Vec<Act>) -> Result<History, Fail> {
         })?;
     }
     Ok(history)
+}
+
+/// The job of host 1 that an act on one block is done for, or one on all blocks of its ranges.
+pub fn job_of(act: Act) -> Job {
+    let (op, first, payload) = match act {
+        Act::Write { first, payload, .. } => (Op::Write, first, payload),
+        Act::Zeroes { first, .. } => (Op::WriteZeroes, first, Payload::empty()),
+        Act::Uncorrectable { first, .. } => (Op::WriteUncorrectable, first, Payload::empty()),
+        Act::Deallocate { ranges, .. } => (Op::Dataset { deallocate: true }, 0, ranges),
+        Act::Pair {
+            first,
+            compare,
+            write,
+            ..
+        } => {
+            return Job {
+                host: 1,
+                body: Body::Pair(
+                    command(Fuse::First, Op::Compare, first, compare),
+                    command(Fuse::Second, Op::Write, first, write),
+                ),
+            };
+        }
+    };
+    Job {
+        host: 1,
+        body: Body::Single(command(Fuse::Normal, op, first, payload)),
+    }
+}
+
+/// A command on one block.
+fn command(fuse: Fuse, op: Op, slba: u64, payload: Payload) -> Command {
+    Command {
+        cid: 7,
+        nsid: 1,
+        fuse,
+        op,
+        slba,
+        nlb: 0,
+        payload,
+    }
 }

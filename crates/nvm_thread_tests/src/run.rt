@@ -7,7 +7,7 @@ ghost use Rattle.nvm_record.specs.declared.op.Op.TheVariants.{Other};
 ghost use Rattle.nvm_audit.specs.declared.version.Version.TheVariants.{Two};
 ghost use Rattle.nvm_audit.specs.Recordable.{HoldsBody};
 
-use nvm_audit::Record;
+use nvm_audit::{DoneJob, Record};
 use nvm_geometry::Geometry;
 use nvm_plan::{Body, Job, PartResult, fits};
 use nvm_record::{Command, Fuse, Op, Payload, Status, Statuses};
@@ -85,7 +85,21 @@ impl Fitting {
     fn new(alloc: Global) -> Result<Fitting, Fail>
         ensures { IfOk result (λ none. none ≡ []) }
     {
-        let Ok(geometry) = Geometry::new(32, 512, 7, 0, 7, 3) else {
+        Fitting::within(alloc, 7)
+    }
+
+    /// None yet, in LBAs 0 to 31 in one unit.
+    fn in_one_unit(alloc: Global) -> Result<Fitting, Fail>
+        ensures { IfOk result (λ none. none ≡ []) }
+    {
+        Fitting::within(alloc, 0)
+    }
+
+    /// None yet, in LBAs 0 to 31 within such boundaries.
+    fn within(alloc: Global, nabsn: u16) -> Result<Fitting, Fail>
+        ensures { IfOk result (λ none. none ≡ []) }
+    {
+        let Ok(geometry) = Geometry::new(32, 512, nabsn, 0, 7, 3) else {
             return Err(Fail::new("there is no such geometry"));
         };
         Ok(Fitting {
@@ -166,13 +180,30 @@ fn first_status(statuses: Statuses) -> Status {
 
 /// How many jobs ended with 0/00.
 fn successes(record: &Record) -> u64 {
+    ended_with(record, Statuses::One(Status::SUCCESSFUL_COMPLETION))
+}
+
+/// How many jobs ended with these statuses.
+fn ended_with(record: &Record, statuses: Statuses) -> u64 {
     let mut count: u64 = 0;
     for work in &record.done {
         for done in work {
-            if done.statuses.is_success() {
+            if done.statuses == statuses {
                 count = count.wrapping_add(1);
             }
         }
     }
     count
+}
+
+/// What was done of the job of this number.
+fn done_of(record: &Record, job: u32) -> Option<&DoneJob> {
+    for work in &record.done {
+        for done in work {
+            if done.job == job {
+                return Some(done);
+            }
+        }
+    }
+    None
 }

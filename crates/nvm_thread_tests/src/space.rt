@@ -2,6 +2,7 @@
 mod histories;
 mod polls;
 mod reads;
+mod refusals;
 mod threads;
 
 ghost use Rattle.std.specs.Prelude.{◌≡◌, IfOk, true};

@@ -8,18 +8,26 @@ mod looks;
 mod refusals;
 mod threads;
 mod tries;
+mod unrecorded;
 
 ghost use Rattle.std.specs.Prelude.{◌≡◌, IfOk, true};
+ghost use Rattle.nvm_unit.specs.Ends.{new_passes};
 ghost use Rattle.nvm_unit.specs.Passes.{IsPassOf};
 
 use nvm_record::BlockSize;
-use nvm_store::{ActRef, History, Limit, Place};
-use nvm_unit::{Changed, Gate, Pass, Unit};
+use nvm_store::{ActRef, Limit, Place};
+use nvm_unit::{Changed, Gate, Kept, Pass, Unit};
 use std::alloc::Global;
 use std::sync::Wait;
 use std::test::Fail;
 
 const BLOCK: usize = 512;
+
+const PLACE: Place = Place {
+    first: 0,
+    blocks: 8,
+    size: BlockSize::BYTES_512,
+};
 
 /// The unit, opened with versions, and its two passes.
 fn two_passes(alloc: Global, limit: u32) -> Result<(Unit, Pass, Pass), Fail>
@@ -38,15 +46,22 @@ fn opened(alloc: Global, limit: u32, versions: bool) -> Result<(Unit, Pass, Pass
     ensures numbers { IfOk result (λ u. (u.1.view.number ≡ 0) × (u.2.view.number ≡ 1)) }
     ensures versions { IfOk result (λ u. u.0.versions ≡ versions) }
 {
-    let place = Place {
-        first: 0,
-        blocks: 8,
-        size: BlockSize::BYTES_512,
-    };
     let limit = Limit::new(limit).ok_or("there is no such limit")?;
-    let Ok((unit, mut passes)) = Unit::open(alloc, 3, place, 2, limit, versions) else {
+    let Ok((unit, passes)) = Unit::open(alloc, 3, PLACE, 2, limit, versions) else {
         return Err(Fail::new("there was no memory"));
     };
+    dealt(unit, passes)
+}
+
+/// The new unit, and its two passes.
+fn dealt<K: Kept>(unit: Unit<K>, passes: Vec<Pass<K>>) -> Result<(Unit<K>, Pass<K>, Pass<K>), Fail>
+    requires count { unit.bounds.passes ≡ 2 }
+    requires passes { passes.items ≡ new_passes unit }
+    ensures same { IfOk result (λ u. u.0 ≡ unit) }
+    ensures of { IfOk result (λ u. IsPassOf u.0 u.1 × IsPassOf u.0 u.2) }
+    ensures numbers { IfOk result (λ u. (u.1.view.number ≡ 0) × (u.2.view.number ≡ 1)) }
+{
+    let mut passes = passes;
     let Some(second) = passes.pop() else {
         return Err(Fail::new("there is no second pass"));
     };
@@ -78,8 +93,8 @@ fn change<R: Wait, G: Gate>(
     }
 }
 
-/// The whole history of the unit, which has just these passes.
-fn closed(alloc: Global, unit: Unit, first: Pass, second: Pass) -> Result<History, Fail>
+/// What is kept of the whole history of the unit, which has just these passes.
+fn closed<K: Kept>(alloc: Global, unit: Unit<K>, first: Pass<K>, second: Pass<K>) -> Result<K, Fail>
     requires of { IsPassOf unit first × IsPassOf unit second }
     requires count { unit.bounds.passes ≡ 2 }
     requires numbers { (first.view.number ≡ 0) × (second.view.number ≡ 1) }

@@ -1,7 +1,9 @@
-//! Tests of `nvm_refute`, `nvm_trace_text`, `nvm_certify`, `nvm_certify_text` and `nvm_story`, which reach them by what they make
-//! public.
+//! Tests of `nvm_refute`, `nvm_argument`, `nvm_trace_text`, `nvm_certify`, `nvm_certify_text` and `nvm_story`, which reach them by
+//! what they make public.
 #![tactic(auto)]
 
+#[cfg(test)]
+mod argument;
 #[cfg(test)]
 mod certify;
 #[cfg(test)]

@@ -6,6 +6,7 @@ fn copies_are_equal(rt: HostRuntime) -> Result<(), Fail> {
     let payload = Payload::copy_of(rt.alloc(), &[0x41; 512])?;
     let block = Block::Bytes(payload.clone()?);
     assert_eq!(rt; block.clone()?, block);
+    assert_eq!(rt; Block::Uncorrectable.clone()?, Block::Uncorrectable);
     let completion = Completion {
         host: 1,
         cid: 2,

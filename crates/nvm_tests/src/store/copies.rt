@@ -1,5 +1,5 @@
 use super::block;
-use nvm_record::{Payload, ReadData, Status};
+use nvm_record::{LbaRange, Payload, ReadData, Status, ranges_data};
 use nvm_store::{Act, Answer};
 use std::test::Fail;
 
@@ -22,6 +22,27 @@ fn copies_of_acts_are_equal(rt: HostRuntime) -> Result<(), Fail> {
         write: Payload::copy_of(rt.alloc(), &block(1))?,
     };
     assert_eq!(rt; pair.clone()?, pair);
+    Ok(())
+}
+
+#[test]
+fn copies_of_acts_with_data_are_equal(rt: HostRuntime) -> Result<(), Fail> {
+    let write = Act::Write {
+        first: 8,
+        blocks: 1,
+        payload: Payload::copy_of(rt.alloc(), &block(1))?,
+    };
+    assert_eq!(rt; write.clone()?, write);
+    let range = LbaRange {
+        first: 9,
+        blocks: 2,
+    };
+    let deallocate = Act::Deallocate {
+        first: 8,
+        blocks: 4,
+        ranges: ranges_data(rt.alloc(), &[range])?,
+    };
+    assert_eq!(rt; deallocate.clone()?, deallocate);
     Ok(())
 }
 

@@ -71,14 +71,23 @@ fn push_deallocate(
     push(alloc, size, history, deallocate)
 }
 
-/// Whether all bytes of the block at the LBA are this one.
-fn has(unit: &UnitBlocks, first: u64, byte: u8) -> bool {
+/// What is told of a comparison of the block at the LBA with this byte, if the unit has the LBA.
+fn compared(unit: &UnitBlocks, first: u64, byte: u8) -> Option<Status> {
     let look = Look::Compare {
         first,
         blocks: 1,
         payload: &block(byte),
     };
-    unit.covers_look(look) && judge_look(unit, look) == Status::SUCCESSFUL_COMPLETION
+    if unit.covers_look(look) {
+        Some(judge_look(unit, look))
+    } else {
+        None
+    }
+}
+
+/// Whether all bytes of the block at the LBA are this one.
+fn has(unit: &UnitBlocks, first: u64, byte: u8) -> bool {
+    compared(unit, first, byte) == Some(Status::SUCCESSFUL_COMPLETION)
 }
 
 #[test]
@@ -108,5 +117,40 @@ fn replay_clears_what_was_deallocated(rt: HostRuntime) -> Result<(), Fail> {
     for (first, byte) in [(8, 0), (9, 1), (10, 0)] {
         assert!(rt; has(&unit, first, byte), "at {first}");
     }
+    Ok(())
+}
+
+/// But for a Deallocate: each leaves one of the four blocks.
+#[test]
+fn replay_does_each_kind_of_act(rt: HostRuntime) -> Result<(), Fail> {
+    let alloc = rt.alloc();
+    let size = size()?;
+    let mut history = Vec::new(alloc);
+    push_write(alloc, size, &mut history, 8, 1)?;
+    let zeroes = ActRef::Zeroes {
+        first: 9,
+        blocks: 1,
+    };
+    push(alloc, size, &mut history, zeroes)?;
+    let mark = ActRef::Uncorrectable {
+        first: 10,
+        blocks: 1,
+    };
+    push(alloc, size, &mut history, mark)?;
+    let compare = Payload::copy_of(alloc, &block(0))?;
+    let write = Payload::copy_of(alloc, &block(2))?;
+    let pair = ActRef::Pair {
+        first: 11,
+        blocks: 1,
+        compare: compare.lend(),
+        write: write.lend(),
+    };
+    push(alloc, size, &mut history, pair)?;
+    let unit = replay(alloc, 8, 4, size, &history)?;
+    assert!(rt; has(&unit, 8, 1) && has(&unit, 9, 0) && has(&unit, 11, 2));
+    assert_eq!(rt;
+        compared(&unit, 10, 0),
+        Some(Status::UNRECOVERED_READ_ERROR)
+    );
     Ok(())
 }

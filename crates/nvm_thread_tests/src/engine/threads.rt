@@ -1,4 +1,6 @@
 //! Runs by workers, and audits of their records.
+mod hosts;
+
 use nvm_engine::{Fault, Judged, Settings, Shown, Workers, audit_bytes, execute};
 use nvm_file::write_record;
 use nvm_record::{Command, Fuse, Op, Payload, host_bytes};
@@ -11,12 +13,12 @@ use std::test::Fail;
 use std::thread::{Threads, yield_now};
 
 /// What is shown of a run of the host's file.
-const TEXT: &[u8; 74] =
-    b"1 1 zeroes 0/00\n1 2 zeroes 0/00\nlawful jobs 2 units 4 changes 2 refused 0\n";
+const TEXT: &[u8; 72] =
+    b"1 1 write 0/00\n1 2 write 0/00\nlawful jobs 2 units 4 changes 2 refused 0\n";
 
 /// The same beside the host's command list.
-const LONG_TEXT: &[u8; 159] = b"1 1 zeroes 0/00\n  zeroes  0 1: Successful Completion (0x0)\n\
-1 2 zeroes 0/00\n  zeroes 8 1: Successful Completion (0x0)\n\
+const LONG_TEXT: &[u8; 161] = b"1 1 write 0/00\n  write  0 1 41: Successful Completion (0x0)\n\
+1 2 write 0/00\n  write 8 1 42: Successful Completion (0x0)\n\
 lawful jobs 2 units 4 changes 2 refused 0\n";
 
 /// A change waits so many turns at most.
@@ -50,30 +52,39 @@ impl Gate for Holding {
     }
 }
 
-/// A Write Zeroes of one block.
-fn zeroes(cid: u16, lba: u64) -> Command {
+/// A Write of one block.
+fn write(cid: u16, lba: u64, payload: Payload) -> Command {
     Command {
         cid,
         nsid: 1,
         fuse: Fuse::Normal,
-        op: Op::WriteZeroes,
+        op: Op::Write,
         slba: lba,
         nlb: 0,
-        payload: Payload::empty(),
+        payload,
     }
+}
+
+/// A block of this byte.
+fn block(alloc: Global, byte: u8) -> Result<Payload, Fail> {
+    let payload = Payload::copy_of(alloc, &[byte; 512])?;
+    Ok(payload)
 }
 
 /// The file of a host with two commands, in two units of eight LBAs.
 fn host_file(alloc: Global) -> Result<Payload, Fail> {
-    let commands = vec![in alloc; zeroes(1, 0), zeroes(2, 8)]?;
+    let one = write(1, 0, block(alloc, 0x41)?);
+    let other = write(2, 8, block(alloc, 0x42)?);
+    let commands = vec![in alloc; one, other]?;
     let bytes = host_bytes(alloc, commands.as_slice())?;
     let file = Payload::new(alloc, bytes)?;
     Ok(file)
 }
 
-fn settings(workers: u16) -> Result<Settings, Fail> {
+/// Of LBAs 0 to 31 in four units, each of which takes so many changes.
+fn settings(workers: u16, limit: u32) -> Result<Settings, Fail> {
     let workers = Workers::new(workers).ok_or("there can't be so many workers")?;
-    let limit = Limit::new(100).ok_or("there is no such limit")?;
+    let limit = Limit::new(limit).ok_or("there is no such limit")?;
     Ok(Settings {
         nsze: 32,
         block: 512,
@@ -94,7 +105,7 @@ fn two_workers_act_at_once(rt: HostRuntime) -> Result<(), Fail> {
         done: AtomicU64::new(0),
         seen: AtomicU64::new(0),
     };
-    let Ok(shown) = execute(&rt, alloc, &settings(2)?, files.as_slice(), &gate) else {
+    let Ok(shown) = execute(&rt, alloc, &settings(2, 100)?, files.as_slice(), &gate) else {
         return Err(Fail::new("there was no memory"));
     };
     let text = text_of(alloc, &shown)?;
@@ -119,14 +130,31 @@ fn line_of(alloc: Global, judged: &Judged) -> Result<Vec<u8>, Fail> {
     Ok(line)
 }
 
-/// What one worker's run of the host's file shows. Where a growth was refused it isn't that.
+/// What one worker's run of the host's file shows.
 fn shown_of_run<R: Threads + Wait + Sync>(rt: &R, alloc: Global) -> Result<Shown, Fail> {
     let files = vec![in alloc; host_file(alloc)?]?;
-    let Ok(shown) = execute(rt, alloc, &settings(1)?, files.as_slice(), &Open) else {
+    shown_as(
+        rt,
+        alloc,
+        &settings(1, 100)?,
+        files.as_slice(),
+        TEXT.as_slice(),
+    )
+}
+
+/// What a run of the files shows, which must be this text. Where a growth was refused it isn't that.
+fn shown_as<R: Threads + Wait + Sync>(
+    rt: &R,
+    alloc: Global,
+    settings: &Settings,
+    files: &[Payload],
+    wanted: &[u8],
+) -> Result<Shown, Fail> {
+    let Ok(shown) = execute(rt, alloc, settings, files, &Open) else {
         return Err(Fail::new("there was no memory"));
     };
     let text = text_of(alloc, &shown)?;
-    if text.as_slice() == TEXT.as_slice() {
+    if text.as_slice() == wanted {
         return Ok(shown);
     }
     if text.as_slice().ends_with(b" refused 0\n") {
@@ -167,7 +195,7 @@ fn a_run_gives_a_record_that_is_lawful(rt: HostRuntime) -> Result<(), Fail> {
 #[test]
 fn lists_stand_under_the_lines(rt: HostRuntime) -> Result<(), Fail> {
     let shown = shown_of_run(&rt, rt.alloc())?;
-    let mut lists = [b"# two\n zeroes  0 1 # one\n\nzeroes 8 1\t\r\n".as_slice()];
+    let mut lists = [b"# two\n write  0 1 41 # one\n\nwrite 8 1 42\t\r\n".as_slice()];
     let mut text = Vec::new(rt.alloc());
     shown.write_long_text(&mut text, &mut lists)?;
     assert!(rt; text.as_slice() == LONG_TEXT.as_slice());

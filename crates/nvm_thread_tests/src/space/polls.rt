@@ -17,14 +17,19 @@ pub(super) type Told = (Status, Vec<(u16, u32, PartResult)>);
 
 /// A Write Zeroes of host 1.
 pub(super) fn zeroes(slba: u64, nlb: u16) -> Job {
+    single(Op::WriteZeroes, slba, nlb, Payload::empty())
+}
+
+/// A command of host 1 that is a job.
+pub(super) fn single(op: Op, slba: u64, nlb: u16, payload: Payload) -> Job {
     let command = Command {
         cid: 7,
         nsid: 1,
         fuse: Fuse::Normal,
-        op: Op::WriteZeroes,
+        op,
         slba,
         nlb,
-        payload: Payload::empty(),
+        payload,
     };
     Job {
         host: 1,
@@ -77,5 +82,46 @@ fn a_port_alone_polls_once(rt: HostRuntime) -> Result<(), Fail> {
         parts.as_slice(),
         [(0, 0, done), (1, 0, done), (2, 0, done)].as_slice()
     );
+    Ok(())
+}
+
+/// The port does a job of one try, for which there must be memory.
+fn poll_alone(alloc: Global, space: &Space, port: &mut Port, job: &Job) -> Result<JobDone, Fail>
+    requires { IsPortOf space.now port.old }
+    ensures { IsPortOf space.now port.new }
+{
+    if !fits(&space.geometry(), job) {
+        return Err(Fail::new("the job doesn't fit"));
+    }
+    match poll_once(alloc, space, port, job) {
+        Progress::Done(done) => Ok(done),
+        Progress::Pending(_) => Err(Fail::new("no other port holds a unit")),
+    }
+}
+
+/// A Read of two units has the data of both.
+#[test]
+fn a_polled_read_has_what_a_polled_write_wrote(rt: HostRuntime) -> Result<(), Fail> {
+    let alloc = rt.alloc();
+    let (space, mut first, mut second) = two_ports(alloc, 8)?;
+    let mut bytes = vec![in alloc; 0x41; 2 * 512]?;
+    bytes.extend_from_slice(&[0x42; 2 * 512])?;
+    let payload = Payload::copy_of(alloc, &bytes)?;
+    let write = single(Op::Write, 6, 3, payload);
+    let (status, _) = told(alloc, poll_alone(alloc, &space, &mut first, &write)?)?;
+    assert_eq!(rt; status, Status::SUCCESSFUL_COMPLETION);
+    let read = single(Op::Read, 6, 3, Payload::empty());
+    let JobDone {
+        completions,
+        parts: _,
+    } = poll_alone(alloc, &space, &mut second, &read)?;
+    let Completions::One(completion) = completions else {
+        return Err(Fail::new("the job is one command"));
+    };
+    if completion.status == Status::INTERNAL_ERROR {
+        return Err(Fail::new("there was no memory"));
+    }
+    let found = completion.payload.map(|payload| payload.into_vec());
+    assert_eq!(rt; found, Some(bytes));
     Ok(())
 }

@@ -14,10 +14,10 @@ use std::test::Fail;
 const BLOCK: usize = 512;
 
 /// A Read's point and status, and the byte of which its data is full, if it has data.
-type Read = (u32, Status, Option<u8>);
+pub(super) type Read = (u64, Status, Option<u8>);
 
 /// Reads such blocks by the port, for which there must be memory.
-fn read(
+pub(super) fn read(
     alloc: Global,
     space: &Space,
     port: &mut Port,
@@ -61,7 +61,7 @@ fn byte_of(data: &[u8], blocks: u32) -> Result<u8, &'static str> {
 }
 
 /// Does a command of one block by the port, as job 5 of host 1. Gives its status.
-pub(super) fn run(
+fn run(
     rt: &impl Wait,
     alloc: Global,
     space: &Space,
@@ -158,6 +158,27 @@ fn a_read_behind_a_refresh_sees_the_change(rt: HostRuntime) -> Result<(), Fail> 
         read(alloc, &space, &mut first, 0, 1)?,
         Ok((1, ok, Some(0x41)))
     );
+    Ok(())
+}
+
+/// Each has seen its own change alone when they meet.
+#[test]
+fn ports_that_met_read_what_the_other_wrote(rt: HostRuntime) -> Result<(), Fail> {
+    let alloc = rt.alloc();
+    let (space, mut first, mut second) = two_ports(alloc, 8)?;
+    let ok = Status::SUCCESSFUL_COMPLETION;
+    assert_eq!(rt; write(&rt, alloc, &space, &mut first, 0, 0x41)?, ok);
+    assert_eq!(rt; write(&rt, alloc, &space, &mut second, 31, 0x42)?, ok);
+    let newer = ReadNow::Newer { count: 1 };
+    assert_eq!(rt; read(alloc, &space, &mut first, 31, 1)?, Err(newer));
+    assert_eq!(rt; read(alloc, &space, &mut second, 0, 1)?, Err(newer));
+    space.meet(&rt, &mut first, &mut second);
+    let one = Ok((1, ok, Some(0x41)));
+    let other = Ok((1, ok, Some(0x42)));
+    assert_eq!(rt; read(alloc, &space, &mut first, 0, 1)?, one);
+    assert_eq!(rt; read(alloc, &space, &mut first, 31, 1)?, other);
+    assert_eq!(rt; read(alloc, &space, &mut second, 0, 1)?, one);
+    assert_eq!(rt; read(alloc, &space, &mut second, 31, 1)?, other);
     Ok(())
 }
 

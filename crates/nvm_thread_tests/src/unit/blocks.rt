@@ -5,21 +5,21 @@ ghost use Rattle.nvm_unit.specs.Passes.{IsPassOf};
 use super::BLOCK;
 use nvm_record::Payload;
 use nvm_store::{ActRef, Answer, Look};
-use nvm_unit::{Busy, Changed, Gate, LookFault, Observed, Open, Pass, Unit};
+use nvm_unit::{Busy, Changed, Gate, Kept, LookFault, Observed, Open, Pass, Unit};
 use std::alloc::Global;
 use std::sync::Wait;
 
 pub(super) const NO_MEMORY: &'static str = "there was no memory";
 
 /// The point of a Read's answer, and the byte of which the block is full.
-pub(super) type Read = (u32, u8);
+pub(super) type Read = (u64, u8);
 
 /// Does a Write as job 5, for which there must be memory.
-pub(super) fn write<R: Wait, G: Gate>(
+pub(super) fn write<K: Kept, R: Wait, G: Gate>(
     rt: &R,
     alloc: Global,
-    unit: &Unit,
-    pass: &mut Pass,
+    unit: &Unit<K>,
+    pass: &mut Pass<K>,
     lba: u64,
     byte: u8,
     gate: &G,
@@ -76,10 +76,10 @@ pub(super) fn try_write<G: Gate>(
 }
 
 /// Reads the block from what the pass keeps, for which there must be memory.
-pub(super) fn look_at(
+pub(super) fn look_at<K: Kept>(
     alloc: Global,
-    unit: &Unit,
-    pass: &mut Pass,
+    unit: &Unit<K>,
+    pass: &mut Pass<K>,
     lba: u64,
 ) -> Result<Result<Read, LookFault>, &'static str>
     requires of { IsPassOf unit.now pass.old }

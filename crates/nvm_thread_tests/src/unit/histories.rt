@@ -1,11 +1,13 @@
-//! What a copy of a unit's history has.
+//! What copies of a unit's history have, and what its end is.
 ghost use Rattle.std.specs.Prelude.{◌≡◌};
 ghost use Rattle.nvm_unit.specs.Passes.{IsPassOf};
 
-use super::{change, two_passes};
+use super::blocks::write;
+use super::{BLOCK, change, two_passes};
 use crate::acts::{each_kind, history_of};
-use nvm_store::Act;
-use nvm_unit::{Changed, Open, Pass, Unit};
+use nvm_record::Payload;
+use nvm_store::{Act, Answer, Entry, Look};
+use nvm_unit::{Changed, Observed, Open, Pass, Unit};
 use std::alloc::Global;
 use std::sync::Wait;
 use std::test::Fail;
@@ -38,5 +40,62 @@ fn a_history_has_each_kind_of_change(rt: HostRuntime) -> Result<(), Fail> {
     change_by_all(&rt, alloc, &unit, &mut first, &acts)?;
     let seen = unit.history(&rt, alloc, &mut second)?;
     assert_eq!(rt; seen, history_of(alloc, acts)?);
+    Ok(())
+}
+
+/// The entry of a Write of a block by this pass.
+fn written(alloc: Global, pass: u16, first: u64, byte: u8) -> Result<Entry, Fail> {
+    Ok(Entry {
+        pass,
+        job: 5,
+        act: Act::Write {
+            first,
+            blocks: 1,
+            payload: Payload::copy_of(alloc, &[byte; BLOCK])?,
+        },
+    })
+}
+
+/// Reads the first two blocks, for which there must be memory. Gives the answer's point with them.
+fn read_two(
+    rt: &impl Wait,
+    alloc: Global,
+    unit: &Unit,
+    pass: &mut Pass,
+) -> Result<(u64, Vec<u8>), Fail>
+    requires { IsPassOf unit.now pass.old }
+    ensures of { IsPassOf unit.now pass.new }
+{
+    let look = Look::Read {
+        first: 0,
+        blocks: 2,
+    };
+    if !unit.covers_look(look) {
+        return Err(Fail::new("the unit doesn't cover the Read"));
+    }
+    let Ok(Observed { point, answer }) = unit.observe(rt, alloc, pass, look) else {
+        return Err(Fail::new("there was no memory"));
+    };
+    let Answer::Payload(read) = answer else {
+        return Err(Fail::new("the Read failed"));
+    };
+    Ok((point, read.into_vec()))
+}
+
+#[test]
+fn passes_that_met_have_one_history(rt: HostRuntime) -> Result<(), Fail> {
+    let alloc = rt.alloc();
+    let (unit, mut first, mut second) = two_passes(alloc, 100)?;
+    let changed = write(&rt, alloc, &unit, &mut first, 0, 0x41, &Open)?;
+    assert_eq!(rt; changed, Changed::Done { point: 0 });
+    let changed = write(&rt, alloc, &unit, &mut second, 1, 0x42, &Open)?;
+    assert_eq!(rt; changed, Changed::Done { point: 1 });
+    let mut bytes = vec![in alloc; 0x41; BLOCK]?;
+    bytes.extend_from_slice(&[0x42; BLOCK])?;
+    assert_eq!(rt; read_two(&rt, alloc, &unit, &mut first)?, (2, bytes));
+    unit.meet(&rt, &mut first, &mut second);
+    let both = vec![in alloc; written(alloc, 0, 0, 0x41)?, written(alloc, 1, 1, 0x42)?]?;
+    assert_eq!(rt; unit.history(&rt, alloc, &mut first)?, both);
+    assert_eq!(rt; unit.history(&rt, alloc, &mut second)?, both);
     Ok(())
 }

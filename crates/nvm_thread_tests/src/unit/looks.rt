@@ -160,7 +160,7 @@ fn each_change_is_seen(rt: HostRuntime) -> Result<(), Fail> {
     let (unit, mut first, mut second) = two_passes(alloc, 100)?;
     let shared = &unit;
     for byte in 0..100u8 {
-        let point = u32::from(byte);
+        let point = u64::from(byte);
         let count = point + 1;
         let expected = Turn {
             changed: Changed::Done { point },

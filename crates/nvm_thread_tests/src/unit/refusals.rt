@@ -1,9 +1,9 @@
-//! What stands where a growth of memory is refused. `sweep/run` refuses each growth in turn.
+//! What stands where a growth of memory is refused, and what is answered all the same. `sweep/run` refuses each growth in turn.
 ghost use Rattle.std.specs.Prelude.{◌≡◌};
 ghost use Rattle.nvm_unit.specs.Passes.{IsPassOf};
 
 use super::{BLOCK, two_passes};
-use nvm_record::{Payload, PayloadRef, Status};
+use nvm_record::{Payload, PayloadRef, Status, Statuses};
 use nvm_store::{ActRef, Answer, Look};
 use nvm_unit::{Changed, Observed, Open, Pass, Unit};
 use std::alloc::Global;
@@ -54,7 +54,7 @@ fn compared(
 }
 
 /// The answer to a comparison that holds at this point.
-fn equal_at(point: u32) -> Observed {
+fn equal_at(point: u64) -> Observed {
     Observed {
         point,
         answer: Answer::Status(Status::SUCCESSFUL_COMPLETION),
@@ -96,5 +96,36 @@ fn a_refused_change_leaves_the_block(rt: HostRuntime) -> Result<(), Fail> {
         let entries = unit.history(&rt, alloc, &mut second)?.len();
         assert_eq!(rt; entries, point as usize);
     }
+    Ok(())
+}
+
+/// At the limit a pair that finds other bytes has failed, too.
+#[test]
+fn failed_pairs_and_acts_at_the_limit_are_answered(rt: HostRuntime) -> Result<(), Fail> {
+    let alloc = rt.alloc();
+    let ones = Payload::copy_of(alloc, &[1; BLOCK])?;
+    let failing = pair(ones.lend(), ones.lend());
+    let zeroes = ActRef::Zeroes {
+        first: 0,
+        blocks: 1,
+    };
+    let statuses = Statuses::Two(
+        Status::COMPARE_FAILURE,
+        Status::ABORTED_DUE_TO_FAILED_FUSED_COMMAND,
+    );
+    let (unit, mut first, mut second) = two_passes(alloc, 1)?;
+    let failed = told(&rt, alloc, &unit, &mut first, failing)?;
+    assert_eq!(rt; failed, Changed::Failed { point: 0, statuses });
+    assert_eq!(rt; compared(&rt, alloc, &unit, &mut second, 0)?, equal_at(0));
+    let done = told(&rt, alloc, &unit, &mut first, zeroes)?;
+    if done == (Changed::NoMemory { point: 0 }) {
+        return Err(Fail::new("there was no memory"));
+    }
+    assert_eq!(rt; done, Changed::Done { point: 0 });
+    let full = told(&rt, alloc, &unit, &mut second, zeroes)?;
+    assert_eq!(rt; full, Changed::Full { point: 1 });
+    let failed = told(&rt, alloc, &unit, &mut second, failing)?;
+    assert_eq!(rt; failed, Changed::Failed { point: 1, statuses });
+    assert_eq!(rt; compared(&rt, alloc, &unit, &mut second, 0)?, equal_at(1));
     Ok(())
 }

@@ -11,7 +11,7 @@ fn a_pass_alone_is_never_busy(rt: HostRuntime) -> Result<(), Fail> {
     let shared = &unit;
     for byte in 0..100u8 {
         let tried = try_write(alloc, shared, &mut first, 0, byte, &Open)?;
-        let point = u32::from(byte);
+        let point = u64::from(byte);
         assert_eq!(rt; tried, Ok(Changed::Done { point }));
     }
     assert_eq!(rt; look_at(alloc, shared, &mut first, 0)?, Ok((100, 99)));

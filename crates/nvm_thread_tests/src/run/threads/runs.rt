@@ -1,59 +1,73 @@
 //! Runs by one worker and by many, and what stands in their records.
-use super::super::audited::is_lawful;
-use super::super::{Fitting, pair, single, successes};
-use nvm_record::{Op, Payload};
+use super::super::audited::{lawful, verdict_of};
+use super::super::{Fitting, ended_with, pair, single, successes};
+use nvm_record::{Op, Payload, Status, Statuses};
 use nvm_run::{RunFault, run};
 use nvm_store::Limit;
 use nvm_unit::Open;
 use std::test::Fail;
 
+/// Each of 64 hosts writes its own block a hundred times.
 #[test]
 fn each_write_has_its_entry(rt: HostRuntime) -> Result<(), Fail> {
     let alloc = rt.alloc();
-    let data = Payload::copy_of(alloc, &[0x42; 512])?;
+    let data = Payload::copy_of(alloc, &[0x41; 512])?;
     let mut jobs = Fitting::new(alloc)?;
-    for number in 0..6400u16 {
-        let lba = u64::from(number % 32);
-        jobs = jobs.with(single(1 + number % 64, Op::Write, lba, data.share()?))?;
+    for _turn in 0..100u8 {
+        for host in 1..65u16 {
+            let lba = u64::from(host % 32);
+            jobs = jobs.with(single(host, Op::Write, lba, data.share()?))?;
+        }
     }
-    let record = jobs.record(&rt, alloc, 8, 1600, &Open)?;
+    let record = jobs.record(&rt, alloc, 8, 65_536, &Open)?;
     assert_eq!(rt; successes(&record), 6400);
-    assert_eq!(rt; record.units.len(), 4);
     for history in &record.units {
         assert_eq!(rt; history.len(), 1600);
     }
-    assert!(rt; is_lawful(&rt, alloc, &record)?);
+    assert_eq!(rt; verdict_of(&rt, alloc, &record)?, lawful(6400, 4, 6400, 0));
     Ok(())
 }
 
+/// Each of 64 hosts writes its own block 32 times, in one unit that takes 1,000 changes.
 #[test]
 fn a_full_history_takes_no_more(rt: HostRuntime) -> Result<(), Fail> {
     let alloc = rt.alloc();
-    let mut jobs = Fitting::new(alloc)?;
-    for number in 0..2048u16 {
-        let lba = u64::from(number % 8);
-        jobs = jobs.with(single(1, Op::WriteZeroes, lba, Payload::empty()))?;
+    let data = Payload::copy_of(alloc, &[0x41; 512])?;
+    let mut jobs = Fitting::in_one_unit(alloc)?;
+    for _turn in 0..32u8 {
+        for host in 1..65u16 {
+            let lba = u64::from((host - 1) % 32);
+            jobs = jobs.with(single(host, Op::Write, lba, data.share()?))?;
+        }
     }
     let record = jobs.record(&rt, alloc, 64, 1000, &Open)?;
     assert_eq!(rt; successes(&record), 1000);
-    assert_eq!(rt; record.units[0].len(), 1000);
-    assert!(rt; is_lawful(&rt, alloc, &record)?);
+    let refused = Statuses::One(Status::INTERNAL_ERROR);
+    assert_eq!(rt; ended_with(&record, refused), 1048);
+    let told = verdict_of(&rt, alloc, &record)?;
+    assert_eq!(rt; told, lawful(2048, 1, 1000, 1048));
     Ok(())
 }
 
+/// The pair of each of 64 hosts finds zeroes in a block and writes the host's number there, or doesn't find zeroes any more.
 #[test]
 fn one_of_many_pairs_succeeds(rt: HostRuntime) -> Result<(), Fail> {
     let alloc = rt.alloc();
     let zeroes = Payload::copy_of(alloc, &[0; 512])?;
-    let data = Payload::copy_of(alloc, &[0x42; 512])?;
     let mut jobs = Fitting::new(alloc)?;
-    for host in 1..65u16 {
-        jobs = jobs.with(pair(host, 3, zeroes.share()?, data.share()?))?;
+    for host in 1..65u8 {
+        let own = Payload::copy_of(alloc, &[host; 512])?;
+        jobs = jobs.with(pair(u16::from(host), 0, zeroes.share()?, own))?;
     }
-    let record = jobs.record(&rt, alloc, 64, 64, &Open)?;
-    assert_eq!(rt; successes(&record), 1);
-    assert_eq!(rt; record.units[0].len(), 1);
-    assert!(rt; is_lawful(&rt, alloc, &record)?);
+    let record = jobs.record(&rt, alloc, 64, 100, &Open)?;
+    let done = Status::SUCCESSFUL_COMPLETION;
+    assert_eq!(rt; ended_with(&record, Statuses::Two(done, done)), 1);
+    let failed = Statuses::Two(
+        Status::COMPARE_FAILURE,
+        Status::ABORTED_DUE_TO_FAILED_FUSED_COMMAND,
+    );
+    assert_eq!(rt; ended_with(&record, failed), 63);
+    assert_eq!(rt; verdict_of(&rt, alloc, &record)?, lawful(64, 4, 1, 0));
     Ok(())
 }
 
@@ -75,7 +89,7 @@ fn one_worker_does_all_in_order(rt: HostRuntime) -> Result<(), Fail> {
     for (number, done) in (0u32..).zip(record.done[0].iter()) {
         assert_eq!(rt; done.job, number);
     }
-    assert!(rt; is_lawful(&rt, alloc, &record)?);
+    assert_eq!(rt; verdict_of(&rt, alloc, &record)?, lawful(20, 4, 13, 0));
     Ok(())
 }
 
@@ -85,7 +99,7 @@ fn no_jobs_leave_no_entries(rt: HostRuntime) -> Result<(), Fail> {
     let record = Fitting::new(alloc)?.record(&rt, alloc, 3, 1, &Open)?;
     assert_eq!(rt; record.done.len(), 3);
     assert_eq!(rt; record.units.len(), 4);
-    assert!(rt; is_lawful(&rt, alloc, &record)?);
+    assert_eq!(rt; verdict_of(&rt, alloc, &record)?, lawful(0, 4, 0, 0));
     Ok(())
 }
 

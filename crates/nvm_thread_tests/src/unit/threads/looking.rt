@@ -66,7 +66,7 @@ fn try_to_catch_up(alloc: Global, unit: &Unit, pass: &mut Pass) -> Result<u64, &
         return Err("the unit doesn't cover the pair");
     }
     match unit.try_change(alloc, pass, 5, act, &Open) {
-        Ok(Changed::Failed { point, .. }) => Ok(u64::from(point)),
+        Ok(Changed::Failed { point, .. }) => Ok(point),
         Ok(_) => Err("the comparison didn't fail"),
         Err(Busy { word }) => Ok(word / 2),
     }
@@ -101,7 +101,7 @@ impl Reader {
     {
         match look_at(alloc, unit, pass, 0)? {
             Ok(read) => {
-                self.found(u64::from(read.0))?;
+                self.found(read.0)?;
                 if read.0 == self.last.0 && read.1 != self.last.1 {
                     return Err("two Reads differ at one point");
                 }
@@ -109,7 +109,7 @@ impl Reader {
                 Ok(true)
             }
             Err(LookFault::Newer { count }) => {
-                self.found(u64::from(count))?;
+                self.found(count)?;
                 let entries = try_to_catch_up(alloc, unit, pass)?;
                 self.found(entries)?;
                 Ok(false)

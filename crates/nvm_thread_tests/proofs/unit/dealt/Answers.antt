@@ -1,10 +1,9 @@
 use Rattle.std.proofs.Common.{◌≡◌, ℕ, List, [], ◌∷◌, ◌++◌, length, length-append, map, sym, ap, ◌∙◌, arith}
-use Rattle.nvm_unit.specs.declared.bounds.Bounds.{Bounds}
 use Rattle.nvm_unit.specs.Ends.{pass_at, new_passes}
 use Rattle.nvm_unit.specs.Machine.{newcomers_from}
 use Rattle.nvm_unit.specs.Passes.{PassState, UnitName}
 use Rattle.nvm_unit.specs.Views.{newcomer}
-use Rattle.nvm_thread_tests.proofs.unit.opened.Goals as goal
+use Rattle.nvm_thread_tests.proofs.unit.dealt.Goals as goal
 
 -- What is popped from a list of two, the last first.
 popped : (a b x y : PassState) (rest : List PassState) → a ∷ b ∷ [] ≡ (rest ++ x ∷ []) ++ y ∷ [] → (x ≡ a) × (y ≡ b)
@@ -24,17 +23,13 @@ two_new unit passes middle rest first second count new last before =
     popped _ _ first second rest (sym two ∙ (sym new ∙ (last ∙ ap (λ (xs : List PassState). xs ++ second ∷ []) before)))
 
 pub returns-clause-of : goal.returns-clause-of
-returns-clause-of c =
-    let unit = c.in-Ok.unit in
-    let count : unit.bounds.passes ≡ 2 = ap (λ (b : Bounds). b.passes) c.in-Ok.ensures.bounds in
-    let two = two_new unit _ _ _ c.in-Some-pop.first c.in-Some.second count c.in-Ok.ensures.passes c.in-Some.ensures.items c.in-Some-pop.ensures.items in (
+returns-clause-of g c =
+    let two = two_new c.args.unit _ _ _ c.in-Some-pop.first c.in-Some.second c.requires.count c.requires.passes c.in-Some.ensures.items c.in-Some-pop.ensures.items in (
       record { table = ap (λ (x : PassState). x.table) two.0; bounds = ap (λ (x : PassState). x.view.bounds) two.0; kept = λ keeps. sym (ap (λ (x : PassState). x.keeps) two.0) ∙ keeps },
       record { table = ap (λ (x : PassState). x.table) two.1; bounds = ap (λ (x : PassState). x.view.bounds) two.1; kept = λ keeps. sym (ap (λ (x : PassState). x.keeps) two.1) ∙ keeps },
     )
 
 pub returns-clause-numbers : goal.returns-clause-numbers
-returns-clause-numbers c =
-    let unit = c.in-Ok.unit in
-    let count : unit.bounds.passes ≡ 2 = ap (λ (b : Bounds). b.passes) c.in-Ok.ensures.bounds in
-    let two = two_new unit _ _ _ c.in-Some-pop.first c.in-Some.second count c.in-Ok.ensures.passes c.in-Some.ensures.items c.in-Some-pop.ensures.items in
+returns-clause-numbers g c =
+    let two = two_new c.args.unit _ _ _ c.in-Some-pop.first c.in-Some.second c.requires.count c.requires.passes c.in-Some.ensures.items c.in-Some-pop.ensures.items in
     (ap (λ (x : PassState). x.view.number) two.0, ap (λ (x : PassState). x.view.number) two.1)
