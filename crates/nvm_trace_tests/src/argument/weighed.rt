@@ -56,7 +56,7 @@ fn weighed(alloc: Global, unit: u16, facts: &[Fact]) -> Result<Weighed, Fail> {
     let file = write_argument(alloc, &Argument { unit, facts })?;
     match refute_bytes(alloc, Judging::Standard, &trace, &file) {
         Ok(weighed) => Ok(weighed),
-        Err(_) => Err(Fail::new("no fault")),
+        Err(_) => Err(Fail::new("there was no memory")),
     }
 }
 
