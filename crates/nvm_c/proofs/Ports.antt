@@ -44,35 +44,35 @@ map_with f [] x rest = refl
 map_with f (y ∷ ys) x rest = ap (λ zs. f y ∷ zs) (map_with f ys x rest)
 
 -- These handles hold engines that make, with the boxed ones that are left, those of a new namespace.
-pub record AreMade (ns : Namespace) (limit : ℕ) (versions recorded : Bool) (count : ℕ) (held : List Handle) (rest : List (Box Engine Global)) : Type 0 where
+pub record AreMade (ns : Namespace) (limit : Option ℕ) (versions : Bool) (count : ℕ) (held : List Handle) (rest : List (Box Engine Global)) : Type 0 where
   pub engines : List Engine
   pub hold : engines_of held ≡ map (λ e. Some e) engines
-  pub new : NewPorts ns limit versions recorded count (map state_of engines ++ map (λ b. state_of b.value) rest)
+  pub new : NewPorts ns limit versions count (map state_of engines ++ map (λ b. state_of b.value) rest)
 
-module _ (ns : Namespace) (limit : ℕ) (versions recorded : Bool) (count : ℕ) where
+module _ (ns : Namespace) (limit : Option ℕ) (versions : Bool) (count : ℕ) where
   -- One more engine is held.
   pub next_made : (held : List Handle) (h : Handle) (b : Box Engine Global) (rest : List (Box Engine Global)) → h.held.engine ≡ Some b.value
-      → AreMade ns limit versions recorded count held (b ∷ rest) → AreMade ns limit versions recorded count (held ++ h ∷ []) rest
+      → AreMade ns limit versions count held (b ∷ rest) → AreMade ns limit versions count (held ++ h ∷ []) rest
   next_made held h b rest is made = record {
     engines = made.engines ++ b.value ∷ [];
     hold = map-append (λ h'. h'.held.engine) held (h ∷ []) ∙ ap (λ (xs : List (Option Engine)). xs ++ h.held.engine ∷ []) made.hold
         ∙ ap (λ (x : Option Engine). map (λ e. Some e) made.engines ++ x ∷ []) is ∙ sym (map-append (λ e. Some e) made.engines (b.value ∷ []));
-    new = subst (NewPorts ns limit versions recorded count) (sym (map_with state_of made.engines b.value (map (λ b'. state_of b'.value) rest))) made.new;
+    new = subst (NewPorts ns limit versions count) (sym (map_with state_of made.engines b.value (map (λ b'. state_of b'.value) rest))) made.new;
   }
 
   -- Where none is left, all are held.
-  pub all_made : (held : List Handle) → AreMade ns limit versions recorded count held [] → IsOpened ns limit versions recorded (engines_of held) × (length held ≡ count)
+  pub all_made : (held : List Handle) → AreMade ns limit versions count held [] → IsOpened ns limit versions (engines_of held) × (length held ≡ count)
   all_made held made =
       let news = made.new in
       let bare : map state_of made.engines ++ [] ≡ map state_of made.engines = append-nil (map state_of made.engines) in
-      let new = subst (NewPorts ns limit versions recorded count) bare news in
+      let new = subst (NewPorts ns limit versions count) bare news in
       let many : length (engines_of held) ≡ count =
       ap length made.hold ∙ length-map made.engines (λ e. Some e) ∙ sym (length-map made.engines state_of) ∙ ap length new.all
-      ∙ length-map (new_ports new.space) (new_engine new.space recorded) ∙ length-map-range_with_len (new_port new.space.units) 0 new.space.ports ∙ new.ports in (
-        record { engines = made.engines; hold = made.hold; new = subst (λ (n : ℕ). NewPorts ns limit versions recorded n (map state_of made.engines)) (sym many) new },
+      ∙ length-map (new_ports new.space) (new_engine new.space) ∙ length-map-range_with_len (new_port new.space.units) 0 new.space.ports ∙ new.ports in (
+        record { engines = made.engines; hold = made.hold; new = subst (λ (n : ℕ). NewPorts ns limit versions n (map state_of made.engines)) (sym many) new },
         sym (length-map held (λ h. h.held.engine)) ∙ many,
       )
 
   -- Before the first, none is held.
-  pub none_made : (bs : List (Box Engine Global)) → NewPorts ns limit versions recorded count (map (λ b. state_of b.value) bs) → AreMade ns limit versions recorded count [] bs
+  pub none_made : (bs : List (Box Engine Global)) → NewPorts ns limit versions count (map (λ b. state_of b.value) bs) → AreMade ns limit versions count [] bs
   none_made bs new = record { engines = []; hold = refl; new = new }

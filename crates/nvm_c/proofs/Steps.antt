@@ -2,7 +2,7 @@
 use Rattle.std.proofs.Common.{◌≡◌, List, ℕ, Some, None}
 use Rattle.nvm_unit.specs.declared.views.PassView.{PassView}
 use Rattle.nvm_space.specs.UnderWay.{IsUnderWay}
-use Rattle.nvm_c.specs.Engines.{namespace_of, seen_by}
+use Rattle.nvm_c.specs.Engines.{namespace_of, seen_by, space_of}
 use Rattle.nvm_c.specs.Submitted.{Buffers, Begins, GoesOn, Polls, Submits}
 use Rattle.nvm_c.specs.declared.code.Code.{Code}
 use Rattle.nvm_c.specs.declared.code.Code.TheVariants.{Done, Pending, NotOpen, IsOpen, NoMemory, BadNamespace, BadPorts, BadLimit, BadLength, NoPair, Busy, Idle, Newer, OutOfRange, Crosses, NoVersions}
@@ -29,7 +29,7 @@ submits_of Crosses e e' entries old new none begins = absurd begins.progress
 submits_of NoVersions e e' entries old new none begins = absurd begins.progress
 
 module _ (e e' : Engine) (p : PendingJob) (old new : Buffers) (is : e.pending ≡ Some p)
-    (under : (start : List PassView) × IsUnderWay (namespace_of e) p.job p.under_way start (seen_by e)) where
+    (under : (start : List PassView) × IsUnderWay (namespace_of e) (space_of e).lists p.job p.under_way start (seen_by e)) where
   pub polls_of : (code : Code) → GoesOn code e e' p old new → Polls code e e' old new
   polls_of Done goes = (p, is, goes)
   polls_of Pending goes = (p, is, goes)

@@ -37,14 +37,14 @@ abbrev pub seen_by : Engine → List PassView
 seen_by e = views_of e.port.passes
 
 -- The job fits the namespace, and is under way since some earlier state of the port. There is room to keep it.
-pub record CanGoOn (ns : Namespace) (p : Pending) (now : List PassView) (log : Option Log) : Type 0 where
-  pub fits : FitsNamespace ns p.job
+pub record CanGoOn (s : SpaceName) (p : Pending) (now : List PassView) (log : Option Log) : Type 0 where
+  pub fits : FitsNamespace s.namespace p.job
   pub same : p.under_way.number ≡ p.number
   pub room : HasRoomIn log
-  pub under_way : (start : List PassView) × IsUnderWay ns p.job p.under_way start now
+  pub under_way : (start : List PassView) × IsUnderWay s.namespace s.lists p.job p.under_way start now
 
 -- Its port is of its space, and one of 64. A job that is pending can be gone on with.
 pub record IsSound (e : Engine) : Type 0 where
   pub of : IsPortOf (space_of e) e.port
   pub few : e.port.number < 64
-  pub pending : MatchOption e.pending (Unit {0}) (λ p. CanGoOn (namespace_of e) p (seen_by e) e.log)
+  pub pending : MatchOption e.pending (Unit {0}) (λ p. CanGoOn (space_of e) p (seen_by e) e.log)

@@ -1,12 +1,12 @@
 -- What C holds once a namespace was opened: at each place a port of one new space.
-use Rattle.std.specs.Prelude.{◌≡◌, ℕ, Bool, IsTrue, if◌then◌else◌, List, [], length, map, Option, Some, None, is_some, false}
+use Rattle.std.specs.Prelude.{◌≡◌, ◌⊎◌, ℕ, nat_eq, Bool, IsTrue, if◌then◌else◌, List, [], length, map, Option, Some, None, is_some, false}
 use Rattle.std.specs.List.{list_any}
 use Rattle.nvm_geometry.specs.Faults.{IsFirstGeometryFault}
 use Rattle.nvm_geometry.specs.Namespace.{Namespace, namespace_of}
 use Rattle.nvm_geometry.specs.declared.geometry_fault.GeometryFault.{GeometryFault}
 use Rattle.nvm_store.specs.Limit.{IsLimit}
 use Rattle.nvm_space.specs.Ports.{PortState, new_ports}
-use Rattle.nvm_space.specs.Spaces.{SpaceName, IsLaidOut, IsPortCount}
+use Rattle.nvm_space.specs.Spaces.{SpaceName, IsLaidOut, IsPortCount, most_entries}
 use Rattle.nvm_c.specs.Engines.{EngineState, state_of}
 use Rattle.nvm_c.specs.Logs.{LogState}
 use Rattle.nvm_c.specs.declared.code.Code.{Code}
@@ -31,41 +31,50 @@ is_open h = is_some h.held.engine
 abbrev pub new_log : Bool → Option LogState
 new_log recorded = if recorded then Some (record { jobs = []; done = []; full = false }) else None
 
--- an engine by which nothing was done yet, of this port of the space
-abbrev pub new_engine : SpaceName → Bool → PortState → EngineState
-new_engine s recorded port = record { space = s; port = port; number = 0; pending = None; log = new_log recorded }
+-- the limit that C wrote: 0 is none, and then nothing is recorded
+abbrev pub limit_of : ℕ → Option ℕ
+limit_of limit = if nat_eq limit 0 then None else Some limit
 
--- A new space of this namespace, and these are the engines of its ports, in their order.
-pub record NewPorts (ns : Namespace) (limit : ℕ) (versions recorded : Bool) (count : ℕ) (engines : List EngineState) : Type 0 where
+-- It is 0, or the limit of a record.
+abbrev pub IsRecordLimit : ℕ → Type 0
+IsRecordLimit limit = (limit ≡ 0) ⊎ IsLimit limit
+
+-- an engine by which nothing was done yet, of this port of the space
+abbrev pub new_engine : SpaceName → PortState → EngineState
+new_engine s port = record { space = s; port = port; number = 0; pending = None; log = new_log s.lists }
+
+-- A new space of this namespace, and these are the engines of its ports, in their order. With a limit they are recorded.
+pub record NewPorts (ns : Namespace) (limit : Option ℕ) (versions : Bool) (count : ℕ) (engines : List EngineState) : Type 0 where
   pub space : SpaceName
   pub namespace : space.namespace ≡ ns
-  pub limited : space.limit ≡ limit
+  pub limited : space.limit ≡ most_entries limit
+  pub listed : space.lists ≡ is_some limit
   pub kept : space.versions ≡ versions
   pub ports : space.ports ≡ count
   pub laid_out : IsLaidOut space
-  pub all : engines ≡ map (new_engine space recorded) (new_ports space)
+  pub all : engines ≡ map (new_engine space) (new_ports space)
 
 -- The engines of a new space's ports are held, each at the place of its port's number.
-pub record IsOpened (ns : Namespace) (limit : ℕ) (versions recorded : Bool) (held : List (Option Engine)) : Type 0 where
+pub record IsOpened (ns : Namespace) (limit : Option ℕ) (versions : Bool) (held : List (Option Engine)) : Type 0 where
   pub engines : List Engine
   pub hold : held ≡ map (λ e. Some e) engines
-  pub new : NewPorts ns limit versions recorded (length held) (map state_of engines)
+  pub new : NewPorts ns limit versions (length held) (map state_of engines)
 
 -- What was opened, or why nothing was. Where it's refused, the ports are as they were.
-abbrev pub Opens : Code → Namespace → ℕ → Bool → Bool → List Handle → List Handle → Type 0
-Opens Done ns limit versions recorded old new = IsOpened ns limit versions recorded (engines_of new) × (list_any is_open old ≡ false)
-Opens IsOpen ns limit versions recorded old new = (new ≡ old) × IsTrue (list_any is_open old)
-Opens BadPorts ns limit versions recorded old new = (new ≡ old) × ¬ (IsPortCount (length old))
-Opens BadNamespace ns limit versions recorded old new = (new ≡ old) × ((fault : GeometryFault) × IsFirstGeometryFault ns fault)
-Opens BadLimit ns limit versions recorded old new = (new ≡ old) × ¬ (IsLimit limit)
-Opens NoMemory ns limit versions recorded old new = new ≡ old
-Opens Pending ns limit versions recorded old new = ⊥
-Opens NotOpen ns limit versions recorded old new = ⊥
-Opens BadLength ns limit versions recorded old new = ⊥
-Opens NoPair ns limit versions recorded old new = ⊥
-Opens Busy ns limit versions recorded old new = ⊥
-Opens Idle ns limit versions recorded old new = ⊥
-Opens Newer ns limit versions recorded old new = ⊥
-Opens OutOfRange ns limit versions recorded old new = ⊥
-Opens Crosses ns limit versions recorded old new = ⊥
-Opens NoVersions ns limit versions recorded old new = ⊥
+abbrev pub Opens : Code → Namespace → ℕ → Bool → List Handle → List Handle → Type 0
+Opens Done ns limit versions old new = IsOpened ns (limit_of limit) versions (engines_of new) × (list_any is_open old ≡ false)
+Opens IsOpen ns limit versions old new = (new ≡ old) × IsTrue (list_any is_open old)
+Opens BadPorts ns limit versions old new = (new ≡ old) × ¬ (IsPortCount (length old))
+Opens BadNamespace ns limit versions old new = (new ≡ old) × ((fault : GeometryFault) × IsFirstGeometryFault ns fault)
+Opens BadLimit ns limit versions old new = (new ≡ old) × ¬ (IsRecordLimit limit)
+Opens NoMemory ns limit versions old new = new ≡ old
+Opens Pending ns limit versions old new = ⊥
+Opens NotOpen ns limit versions old new = ⊥
+Opens BadLength ns limit versions old new = ⊥
+Opens NoPair ns limit versions old new = ⊥
+Opens Busy ns limit versions old new = ⊥
+Opens Idle ns limit versions old new = ⊥
+Opens Newer ns limit versions old new = ⊥
+Opens OutOfRange ns limit versions old new = ⊥
+Opens Crosses ns limit versions old new = ⊥
+Opens NoVersions ns limit versions old new = ⊥

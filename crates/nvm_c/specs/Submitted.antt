@@ -1,8 +1,8 @@
 -- What a submission does to an engine, and what a poll does.
 use Rattle.std.specs.Prelude.{◌≡◌, ℕ, ◌+◌, List, Option, Some, None}
-use Rattle.nvm_geometry.specs.Namespace.{Namespace}
 use Rattle.nvm_plan.specs.declared.job.Job.{Job}
 use Rattle.nvm_unit.specs.declared.views.PassView.{PassView}
+use Rattle.nvm_space.specs.Spaces.{SpaceName}
 use Rattle.nvm_space.specs.Trace.{DoesJob}
 use Rattle.nvm_space.specs.UnderWay.{UnderWay, IsUnderWay}
 use Rattle.nvm_space.specs.declared.job_done.JobDone.{JobDone}
@@ -21,43 +21,43 @@ pub record Buffers : Type 0 where
   pub posted : List ℕ
 
 -- The job that began at `start` was done, C was told of it, and it is kept where it is recorded.
-pub record IsDone (ns : Namespace) (number : ℕ) (job : Job) (start now : List PassView) (pending : Option PendingJob)
+pub record IsDone (s : SpaceName) (number : ℕ) (job : Job) (start now : List PassView) (pending : Option PendingJob)
     (log log' : Option LogState) (old new : Buffers) : Type 0 where
   pub told : JobDone
-  pub does : DoesJob ns number job start now told
+  pub does : DoesJob s.namespace s.lists number job start now told
   pub buffers : AreTold told.completions old.bytes new.bytes old.posted new.posted
   pub idle : pending ≡ None
   pub kept : log' ≡ with_kept log number job told
 
 -- The job that began at `start` is pending, and C was told nothing.
-pub record IsPending (ns : Namespace) (number : ℕ) (job : Job) (start now : List PassView) (pending : Option PendingJob)
+pub record IsPending (s : SpaceName) (number : ℕ) (job : Job) (start now : List PassView) (pending : Option PendingJob)
     (log log' : Option LogState) (old new : Buffers) : Type 0 where
   pub under_way : UnderWay
   pub same : under_way.number ≡ number
-  pub goes : IsUnderWay ns job under_way start now
+  pub goes : IsUnderWay s.namespace s.lists job under_way start now
   pub kept : pending ≡ Some (record { number = number; job = job; under_way = under_way })
   pub log_kept : log' ≡ log
   pub buffers : new ≡ old
 
 -- how far the job is that began at `start`, by the code
-abbrev pub Progresses : Code → Namespace → ℕ → Job → List PassView → List PassView → Option PendingJob → Option LogState → Option LogState
+abbrev pub Progresses : Code → SpaceName → ℕ → Job → List PassView → List PassView → Option PendingJob → Option LogState → Option LogState
     → Buffers → Buffers → Type 0
-Progresses Done ns number job start now pending log log' old new = IsDone ns number job start now pending log log' old new
-Progresses Pending ns number job start now pending log log' old new = IsPending ns number job start now pending log log' old new
-Progresses NotOpen ns number job start now pending log log' old new = ⊥
-Progresses IsOpen ns number job start now pending log log' old new = ⊥
-Progresses NoMemory ns number job start now pending log log' old new = ⊥
-Progresses BadNamespace ns number job start now pending log log' old new = ⊥
-Progresses BadPorts ns number job start now pending log log' old new = ⊥
-Progresses BadLimit ns number job start now pending log log' old new = ⊥
-Progresses BadLength ns number job start now pending log log' old new = ⊥
-Progresses NoPair ns number job start now pending log log' old new = ⊥
-Progresses Busy ns number job start now pending log log' old new = ⊥
-Progresses Idle ns number job start now pending log log' old new = ⊥
-Progresses Newer ns number job start now pending log log' old new = ⊥
-Progresses OutOfRange ns number job start now pending log log' old new = ⊥
-Progresses Crosses ns number job start now pending log log' old new = ⊥
-Progresses NoVersions ns number job start now pending log log' old new = ⊥
+Progresses Done s number job start now pending log log' old new = IsDone s number job start now pending log log' old new
+Progresses Pending s number job start now pending log log' old new = IsPending s number job start now pending log log' old new
+Progresses NotOpen s number job start now pending log log' old new = ⊥
+Progresses IsOpen s number job start now pending log log' old new = ⊥
+Progresses NoMemory s number job start now pending log log' old new = ⊥
+Progresses BadNamespace s number job start now pending log log' old new = ⊥
+Progresses BadPorts s number job start now pending log log' old new = ⊥
+Progresses BadLimit s number job start now pending log log' old new = ⊥
+Progresses BadLength s number job start now pending log log' old new = ⊥
+Progresses NoPair s number job start now pending log log' old new = ⊥
+Progresses Busy s number job start now pending log log' old new = ⊥
+Progresses Idle s number job start now pending log log' old new = ⊥
+Progresses Newer s number job start now pending log log' old new = ⊥
+Progresses OutOfRange s number job start now pending log log' old new = ⊥
+Progresses Crosses s number job start now pending log log' old new = ⊥
+Progresses NoVersions s number job start now pending log log' old new = ⊥
 
 -- A job that the entries ask for was begun, under the number that was drawn for it, and gone on with.
 pub record Begins (code : Code) (e e' : Engine) (entries : List ℕ) (old new : Buffers) : Type 0 where
@@ -66,13 +66,13 @@ pub record Begins (code : Code) (e e' : Engine) (entries : List ℕ) (old new : 
   pub number : ℕ
   pub log : Option LogState
   pub drawn : HasDrawn e.number e'.number (kept_by e.log) log number
-  pub progress : Progresses code (namespace_of e) number job (seen_by e) (seen_by e') e'.pending log (kept_by e'.log) old new
+  pub progress : Progresses code (space_of e) number job (seen_by e) (seen_by e') e'.pending log (kept_by e'.log) old new
   pub space : space_of e' ≡ space_of e
 
 -- The pending job was gone on with, whatever state of the port it began at.
 pub record GoesOn (code : Code) (e e' : Engine) (p : PendingJob) (old new : Buffers) : Type 0 where
-  pub progress : (start : List PassView) → IsUnderWay (namespace_of e) p.job p.under_way start (seen_by e)
-      → Progresses code (namespace_of e) p.number p.job start (seen_by e') e'.pending (kept_by e.log) (kept_by e'.log) old new
+  pub progress : (start : List PassView) → IsUnderWay (namespace_of e) (space_of e).lists p.job p.under_way start (seen_by e)
+      → Progresses code (space_of e) p.number p.job start (seen_by e') e'.pending (kept_by e.log) (kept_by e'.log) old new
   pub space : space_of e' ≡ space_of e
   pub number : e'.number ≡ e.number
 

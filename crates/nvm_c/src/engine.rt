@@ -1,5 +1,5 @@
 //! A port of a namespace as C works with it: a job is begun and gone on with, and C is told when it is done.
-ghost use Rattle.std.specs.Prelude.{◌≡◌, ◌+◌, ◌%◌, ◌^◌, ◌<◌, ◌≤◌, ℕ, List, None, length};
+ghost use Rattle.std.specs.Prelude.{◌≡◌, ◌+◌, ◌%◌, ◌^◌, ◌<◌, ◌≤◌, ℕ, Bool, List, None, length};
 ghost use Rattle.std.specs.Arc.{arc_value};
 ghost use Rattle.nvm_geometry.specs.Namespace.{Namespace};
 ghost use Rattle.nvm_plan.specs.Fits.{FitsNamespace};
@@ -22,14 +22,15 @@ use crate::telling::{entries_length, tell};
 use nvm_plan::{Body, Job};
 use nvm_record::Op;
 use nvm_space::{JobUnderWay, Port, Progress, Space};
+use nvm_unit::Count;
 use std::alloc::Global;
 use std::sync::Arc;
 
 /// A port of a namespace that others share, with the job that is pending in it.
 #[derive(Drop)]
 pub struct Engine {
-    pub(crate) space: Arc<Space, Global>,
-    pub(crate) port: Port,
+    pub(crate) space: Arc<Space<Count>, Global>,
+    pub(crate) port: Port<Count>,
     /// The number of the next job, where the namespace isn't recorded.
     pub(crate) number: u32,
     pub(crate) pending: Option<Pending>,
@@ -129,7 +130,7 @@ impl Engine {
         requires idle { self.old.pending ≡ None }
         requires fits { FitsNamespace (namespace_of self.old) job }
         requires under_way { (start : List PassView)
-            × IsUnderWay (namespace_of self.old) job under_way start (seen_by self.old) }
+            × IsUnderWay (namespace_of self.old) (space_of self.old).lists job under_way start (seen_by self.old) }
         requires same { under_way.number ≡ number }
         requires log { HasRoomIn self.old.log }
         requires room { length posted.old ≡ posted_length job.body }
@@ -137,8 +138,8 @@ impl Engine {
         ensures space { space_of self.new ≡ space_of self.old }
         ensures number { self.new.number ≡ self.old.number }
         ensures progress { (start : List PassView)
-            → IsUnderWay (namespace_of self.old) job under_way start (seen_by self.old)
-            → Progresses result (namespace_of self.old) number job start (seen_by self.new) self.new.pending
+            → IsUnderWay (namespace_of self.old) (space_of self.old).lists job under_way start (seen_by self.old)
+            → Progresses result (space_of self.old) number job start (seen_by self.new) self.new.pending
             (kept_by self.old.log) (kept_by self.new.log)
             (record { bytes = data.old; posted = posted.old }) (record { bytes = data.new; posted = posted.new }) }
     {
@@ -165,7 +166,7 @@ impl Engine {
 }
 
 /// How many bytes the job reads, if it succeeds.
-fn room(job: &Job, space: &Space) -> usize {
+fn room(job: &Job, space: &Space<Count>) -> usize {
     match &job.body {
         Body::Single(command) if command.op == Op::Read => {
             (usize::from(command.nlb) + 1) * space.geometry().block_size().bytes() as usize
@@ -176,8 +177,8 @@ fn room(job: &Job, space: &Space) -> usize {
 
 /// Each status of a job that was done fits its entry, and there is an entry for each of the job's commands.
 fn told_statuses_fit_their_entries()
-    ensures fit { (ns : Namespace) (number : ℕ) (job : Asked) (start now : List PassView) (done : Told)
-        → DoesJob ns number job start now done → FitEntries done.completions }
-    ensures each { (ns : Namespace) (number : ℕ) (job : Asked) (start now : List PassView) (done : Told)
-        → DoesJob ns number job start now done → told_length done.completions ≡ posted_length job.body }
+    ensures fit { (ns : Namespace) (lists : Bool) (number : ℕ) (job : Asked) (start now : List PassView) (done : Told)
+        → DoesJob ns lists number job start now done → FitEntries done.completions }
+    ensures each { (ns : Namespace) (lists : Bool) (number : ℕ) (job : Asked) (start now : List PassView) (done : Told)
+        → DoesJob ns lists number job start now done → told_length done.completions ≡ posted_length job.body }
 {}

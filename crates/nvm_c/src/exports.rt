@@ -33,7 +33,7 @@ pub extern "C" fn zk_version() -> u32
     VERSION
 }
 
-/// Opens each port of the array on a port of a new namespace, whose blocks are zero bytes.
+/// Opens each port of the array on a port of a new namespace, whose blocks are zero bytes. With a limit it is recorded.
 #[unsafe(no_mangle)]
 pub extern "C" fn zk_open(
     alloc: Global,
@@ -41,12 +41,11 @@ pub extern "C" fn zk_open(
     namespace: &Numbers,
     limit: u32,
     versions: bool,
-    recorded: bool,
 ) -> i32
     ensures { (code : Answer) × (result ≡ number_of code)
-        × Opens code (numbers_of namespace.now) limit versions recorded ports.old ports.new }
+        × Opens code (numbers_of namespace.now) limit versions ports.old ports.new }
 {
-    open_ports(alloc, ports, namespace, limit, versions, recorded).number()
+    open_ports(alloc, ports, namespace, limit, versions).number()
 }
 
 /// Closes the port. The namespace goes with its last port.

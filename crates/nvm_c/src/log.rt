@@ -6,6 +6,7 @@ use nvm_audit::{DoneJob, MOST_JOBS};
 use nvm_plan::{Completions, Job};
 use nvm_record::{NoMemory, Statuses};
 use nvm_space::JobDone;
+use nvm_store::Limit;
 use std::alloc::Global;
 use std::sync::Arc;
 use std::sync::atomic::{AtomicU64, Ordering};
@@ -46,6 +47,8 @@ impl Numbering {
 #[derive(Drop)]
 pub struct Log {
     pub(crate) numbering: Arc<Numbering, Global>,
+    /// How often each unit may be changed.
+    pub(crate) limit: Limit,
     /// The jobs that were done.
     pub(crate) jobs: Vec<Job>,
     /// What was done of each, at the same place.

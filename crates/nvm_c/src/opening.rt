@@ -1,11 +1,12 @@
 //! How a namespace is opened: its space, an engine for each port, and a handle for each engine.
-ghost use Rattle.std.specs.Prelude.{◌≡◌, ◌<◌, ◌≤◌, IfOk, length, map, Some};
+ghost use Rattle.std.specs.Prelude.{◌≡◌, ◌<◌, ◌≤◌, ¬◌, IfErr, IfOk, is_some, length, map, Some};
 ghost use Rattle.std.specs.List.{AllByRecursion, list_any};
 ghost use Rattle.nvm_space.specs.Spaces.{IsPortCount};
 ghost use Rattle.nvm_c.specs.Engines.{IsSound, state_of};
 ghost use Rattle.nvm_c.specs.Logs.{kept_by};
 ghost use Rattle.nvm_c.specs.Opening as spec;
-ghost use Rattle.nvm_c.specs.Opening.{IsOpened, NewPorts, Opens, engines_of, is_open, numbers_of};
+ghost use Rattle.nvm_c.specs.declared.code.Code.TheVariants.{BadLimit};
+ghost use Rattle.nvm_c.specs.Opening.{IsOpened, IsRecordLimit, NewPorts, Opens, engines_of, is_open, numbers_of};
 
 use crate::code::Code;
 use crate::engine::Engine;
@@ -37,9 +38,8 @@ pub(crate) fn open_ports(
     numbers: &Numbers,
     limit: u32,
     versions: bool,
-    recorded: bool,
 ) -> Code
-    ensures { Opens result (numbers_of numbers.now) limit versions recorded ports.old ports.new }
+    ensures { Opens result (numbers_of numbers.now) limit versions ports.old ports.new }
 {
     if any_open(ports) {
         return Code::IsOpen;
@@ -57,15 +57,30 @@ pub(crate) fn open_ports(
     ) else {
         return Code::BadNamespace;
     };
-    let Some(limit) = Limit::new(limit) else {
-        return Code::BadLimit;
+    let limit = match limit_of(limit) {
+        Ok(limit) => limit,
+        Err(code) => return code,
     };
     let count = ports.len() as u16;
-    let Ok(mut held) = handles(alloc, geometry, count, limit, versions, recorded) else {
+    let Ok(mut held) = handles(alloc, geometry, count, limit, versions) else {
         return Code::NoMemory;
     };
     ports.swap_with_slice(&mut held);
     Code::Done
+}
+
+/// The limit that C wrote: 0 is none.
+fn limit_of(limit: u32) -> Result<Option<Limit>, Code>
+    ensures taken { IfOk result (λ most. most ≡ spec.limit_of limit) }
+    ensures refused { IfErr result (λ code. (code ≡ BadLimit) × ¬ (IsRecordLimit limit)) }
+{
+    if limit == 0 {
+        return Ok(None);
+    }
+    match Limit::new(limit) {
+        Some(limit) => Ok(Some(limit)),
+        None => Err(Code::BadLimit),
+    }
 }
 
 /// Whether one of them is open.
@@ -85,15 +100,14 @@ fn handles(
     alloc: Global,
     geometry: Geometry,
     count: u16,
-    limit: Limit,
+    limit: Option<Limit>,
     versions: bool,
-    recorded: bool,
 ) -> Result<Vec<Handle>, NoMemory>
     requires { IsPortCount count }
-    ensures opened { IfOk result (λ hs. IsOpened geometry limit versions recorded (engines_of hs.items)) }
+    ensures opened { IfOk result (λ hs. IsOpened geometry limit versions (engines_of hs.items)) }
     ensures count { IfOk result (λ hs. length hs.items ≡ count) }
 {
-    let engines = engines(alloc, geometry, count, limit, versions, recorded)?;
+    let engines = engines(alloc, geometry, count, limit, versions)?;
     let mut held = Vec::with_capacity(alloc, engines.len())?;
     for engine in engines {
         held.push_reserved(Handle::of(engine));
@@ -106,15 +120,14 @@ fn engines(
     alloc: Global,
     geometry: Geometry,
     count: u16,
-    limit: Limit,
+    limit: Option<Limit>,
     versions: bool,
-    recorded: bool,
 ) -> Result<Vec<Box<Engine>>, NoMemory>
     requires { IsPortCount count }
-    ensures new { IfOk result (λ bs. NewPorts geometry limit versions recorded count (map (λ b. state_of b.value) bs.items)) }
+    ensures new { IfOk result (λ bs. NewPorts geometry limit versions count (map (λ b. state_of b.value) bs.items)) }
     ensures sound { IfOk result (λ bs. AllByRecursion (λ b. IsSound b.value) bs.items) }
 {
-    let Ok((space, ports)) = Space::open(alloc, geometry, count, limit, versions) else {
+    let Ok((space, ports)) = Space::unrecorded(alloc, geometry, count, limit, versions) else {
         return Err(AllocError);
     };
     let space = Arc::new(alloc, space)?;
@@ -122,7 +135,7 @@ fn engines(
     let mut engines = Vec::with_capacity(alloc, ports.len())?;
     for port in ports {
         let space = Arc::try_clone(&space)?;
-        let log = new_log(alloc, &numbering, recorded)?;
+        let log = new_log(alloc, &numbering, limit)?;
         let engine = Box::new(
             alloc,
             Engine {
@@ -142,16 +155,17 @@ fn engines(
 fn new_log(
     alloc: Global,
     numbering: &Arc<Numbering, Global>,
-    recorded: bool,
+    limit: Option<Limit>,
 ) -> Result<Option<Log>, NoMemory>
-    ensures { IfOk result (λ log. kept_by log ≡ spec.new_log recorded) }
+    ensures { IfOk result (λ log. kept_by log ≡ spec.new_log (is_some limit)) }
 {
-    if !recorded {
+    let Some(limit) = limit else {
         return Ok(None);
-    }
+    };
     let numbering = Arc::try_clone(numbering)?;
     Ok(Some(Log {
         numbering,
+        limit,
         jobs: Vec::new(alloc),
         done: Vec::new(alloc),
         full: false,

@@ -141,7 +141,7 @@ impl Engine {
         };
         Ok(Head {
             geometry: self.space.geometry(),
-            limit: self.space.limit(),
+            limit: log.limit,
             numbering,
         })
     }
@@ -162,7 +162,7 @@ impl Engine {
         if !head.numbering.is(&log.numbering)
             || self.port.number() != place
             || self.space.geometry() != head.geometry
-            || self.space.limit() != head.limit
+            || self.space.limit() != Some(head.limit)
         {
             return Err(RecordCode::OtherPorts);
         }

@@ -1,5 +1,5 @@
 -- A job that was done by the one port of a new space, and what that left (own).
-use Rattle.std.specs.Prelude.{◌≡◌, ℕ, List, [], ◌∷◌}
+use Rattle.std.specs.Prelude.{◌≡◌, ℕ, true, List, [], ◌∷◌}
 use Rattle.nvm_record.specs.Lists.{IsAt}
 use Rattle.nvm_geometry.specs.Namespace.{Namespace}
 use Rattle.nvm_plan.specs.declared.job.Job.{Job}
@@ -18,7 +18,7 @@ pub record IsJobAlone (ns : Namespace) (job : Job) (done : JobDone) (histories :
   -- the port, as it ends
   pub port : PortState
   -- From when it was new, the port did this job and no other.
-  pub does : DoesJob ns 0 job (views_of (new_port space.units 0).passes) (views_of port.passes) done
+  pub does : DoesJob ns true 0 job (views_of (new_port space.units 0).passes) (views_of port.passes) done
   -- Each unit ended with its history, of which the port's pass made all entries.
   pub ends : (k : ℕ) (unit : UnitName) (history : List HistoryEntry) → IsAt space.units k unit → IsAt histories k history
       → EndsWhole k unit (port ∷ []) history

@@ -101,12 +101,12 @@ pub fn poll_turn(
     requires of { IsPortOf space.now port.old }
     requires fits { FitsNamespace space.now.namespace job.now }
     requires begun { (number : ℕ) × (start : List PassView)
-        × IsProgress space.now.namespace number job.now start (views_of port.old.passes) progress }
+        × IsProgress space.now.namespace space.now.lists number job.now start (views_of port.old.passes) progress }
     ensures of { IsPortOf space.now port.new }
     ensures number { port.new.number ≡ port.old.number }
     ensures goes { (number : ℕ) (start : List PassView)
-        → IsProgress space.now.namespace number job.now start (views_of port.old.passes) progress
-        → IsProgress space.now.namespace number job.now start (views_of port.new.passes) result }
+        → IsProgress space.now.namespace space.now.lists number job.now start (views_of port.old.passes) progress
+        → IsProgress space.now.namespace space.now.lists number job.now start (views_of port.new.passes) result }
 {
     match progress {
         Progress::Done(done) => Progress::Done(done),

@@ -1,5 +1,5 @@
 -- What a record shows of a job that was done.
-use Rattle.std.proofs.Common.{◌≡◌, ℕ, List, map, Option, Some, None, IsSome, subst, refl, sym, ap, ◌∙◌}
+use Rattle.std.proofs.Common.{◌≡◌, ℕ, true, List, map, Option, Some, None, IsSome, subst, refl, sym, ap, ◌∙◌}
 use Rattle.nvm_record.specs.declared.status.Statuses.{Statuses}
 use Rattle.nvm_record.specs.declared.status.Statuses.TheVariants.{One, Two}
 use Rattle.nvm_record.specs.Lists.{IsAt}
@@ -31,7 +31,7 @@ shown host (Pair c d) (Two s t) (Some bytes) each payload_law = let no : Two s t
 pub done_job : (ns : Namespace) (jobs : List Job) (number : ℕ) (job : Job) (done : JobDone) (d : RecordedJob) (old new : List PassView)
     → ((replies : List Reply) (told : Statuses) (read : Option (List ℕ)) → IsOutcome ns job replies told read → IsForEach job.body told)
     → ((replies : List Reply) (told : Statuses) (read : Option (List ℕ)) → IsOutcome ns job replies told read → IsSome read → told ≡ One successful_completion)
-    → IsAt jobs number job → d ≡ recorded_job number done → DoesJob ns number job old new done → HasDoneJob ns jobs d old new
+    → IsAt jobs number job → d ≡ recorded_job number done → DoesJob ns true number job old new done → HasDoneJob ns jobs d old new
 done_job ns jobs number job done d old new for_each payload_law at is does =
     let replies : List Reply = map (λ did. did.reply) does.parts in
     let back = shown job.host job.body does.told does.read (for_each replies does.told does.read does.outcome) (payload_law replies does.told does.read does.outcome) in

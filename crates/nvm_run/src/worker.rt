@@ -1,5 +1,5 @@
 //! What one worker does.
-ghost use Rattle.std.specs.Prelude.{◌≡◌, ◌<◌, [], All, IfOk, length};
+ghost use Rattle.std.specs.Prelude.{◌≡◌, ◌<◌, [], All, IfOk, length, true};
 ghost use Rattle.nvm_plan.specs.Fits.{FitsNamespace};
 ghost use Rattle.nvm_space.specs.Ports.{IsPortOf};
 ghost use Rattle.nvm_unit.specs.Ends.{views_of};
@@ -41,6 +41,7 @@ pub(crate) fn work<R: Wait, G: Gate>(
     requires new { claim.drawn ≡ [] }
     requires jobs { counter.now.jobs ≡ length jobs.now }
     requires of { IsPortOf space.now port }
+    requires lists { space.now.lists ≡ true }
     requires fit { All (FitsNamespace space.now.namespace) jobs.now }
     ensures { IfOk result (HasWorked counter.now space.now jobs.now port) }
 {
@@ -69,6 +70,7 @@ fn do_job<R: Wait, G: Gate>(
     gate: &G,
 ) -> DoneJob
     requires of { IsPortOf space.now port.old }
+    requires lists { space.now.lists ≡ true }
     requires job { number < length jobs.now }
     requires fit { All (FitsNamespace space.now.namespace) jobs.now }
     ensures of { IsPortOf space.now port.new }

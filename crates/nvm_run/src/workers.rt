@@ -1,5 +1,5 @@
 //! All workers of a run, each on a thread of its own where one can be made.
-ghost use Rattle.std.specs.Prelude.{◌≡◌, [], All, IfOk, length, map, replicate};
+ghost use Rattle.std.specs.Prelude.{◌≡◌, [], All, IfOk, length, map, replicate, true};
 ghost use Rattle.std.specs.List.{zip};
 ghost use Rattle.nvm_plan.specs.Fits.{FitsNamespace};
 ghost use Rattle.nvm_space.specs.Ports.{AreAllPortsOf, IsPortOf, new_ports};
@@ -35,6 +35,7 @@ pub(crate) fn all_work<R: Threads + Wait + Sync, G: Gate + Sync>(
     requires claims { claims.items ≡ replicate space.now.ports (new_claim counter.now.table) }
     requires ports { ports.items ≡ new_ports space.now }
     requires all { AreAllPortsOf space.now ports.items }
+    requires lists { space.now.lists ≡ true }
     requires jobs { counter.now.jobs ≡ length jobs.now }
     requires fit { All (FitsNamespace space.now.namespace) jobs.now }
     ensures { IfOk result (λ b. AreOfWorkers counter.now space.now jobs.now b.0.items b.1.items
@@ -49,6 +50,7 @@ pub(crate) fn all_work<R: Threads + Wait + Sync, G: Gate + Sync>(
             requires new { given.0.drawn ≡ [] }
             requires jobs { counter.now.jobs ≡ length jobs.now }
             requires of { IsPortOf space.now given.1 }
+            requires lists { space.now.lists ≡ true }
             requires fit { All (FitsNamespace space.now.namespace) jobs.now }
             ensures { IfOk result (HasWorked counter.entry.now space.entry.now jobs.entry.now given.1) }
         {

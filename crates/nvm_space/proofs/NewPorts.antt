@@ -47,20 +47,20 @@ dealt_from units low (port ∷ ports) each =
     ap (λ (p : PortState). p ∷ ports) here ∙ ap (λ (ps : List PortState). new_port units low ∷ ps) rest
 
 -- In the end the ports are those of the new space.
-pub all_dealt : (ns : Namespace) (n limit : ℕ) (versions : Bool) (units : List UnitName) (ports : List PortState) → AreDealt n units ports → ports ≡ new_ports (space_of ns n limit versions units)
+pub all_dealt : (ns : Namespace) (n : ℕ) (limit : Option ℕ) (versions : Bool) (units : List UnitName) (ports : List PortState) → AreDealt n units ports → ports ≡ new_ports (space_of ns n limit versions units)
 all_dealt ns n limit versions units ports dealt =
     dealt_from units 0 ports (λ w port at. dealt.each w port at ∙ ap (new_port units) (let e : w ≡ 0 + w = omega arith in e))
     ∙ ap (λ (k : ℕ). map (new_port units) (range_with_len 0 k)) dealt.count
 
 -- The units so far are at their places.
-pub record AreLaid (ns : Namespace) (ports limit : ℕ) (versions : Bool) (n : ℕ) (units : List UnitName) : Type 0 where
+pub record AreLaid (ns : Namespace) (ports : ℕ) (limit : Option ℕ) (versions : Bool) (n : ℕ) (units : List UnitName) : Type 0 where
   pub count : length units ≡ n
   pub each : (k : ℕ) (unit : UnitName) → IsAt units k unit → IsUnitOf (space_of ns ports limit versions []) k unit
 
-pub laid_none : (ns : Namespace) (ports limit : ℕ) (versions : Bool) → AreLaid ns ports limit versions 0 []
+pub laid_none : (ns : Namespace) (ports : ℕ) (limit : Option ℕ) (versions : Bool) → AreLaid ns ports limit versions 0 []
 laid_none ns ports limit versions = record { count = refl; each = λ k unit at. absurd (some-ne-none unit (sym at)) }
 
-pub laid_one_more : (ns : Namespace) (ports limit : ℕ) (versions : Bool) (n : ℕ) (units : List UnitName) (unit : UnitName) → AreLaid ns ports limit versions n units
+pub laid_one_more : (ns : Namespace) (ports : ℕ) (limit : Option ℕ) (versions : Bool) (n : ℕ) (units : List UnitName) (unit : UnitName) → AreLaid ns ports limit versions n units
     → IsUnitOf (space_of ns ports limit versions []) n unit → AreLaid ns ports limit versions (n + 1) (units ++ unit ∷ [])
 laid_one_more ns ports limit versions n units unit laid is = record {
   count = length-append units (unit ∷ []) ∙ ap (λ (k : ℕ). k + 1) laid.count;
@@ -72,7 +72,7 @@ laid_one_more ns ports limit versions n units unit laid is = record {
       ];
 }
 
-pub all_laid : (ns : Namespace) (ports limit : ℕ) (versions : Bool) (n : ℕ) (units : List UnitName) → AreLaid ns ports limit versions n units → n ≡ units_of ns → IsLaidOut (space_of ns ports limit versions units)
+pub all_laid : (ns : Namespace) (ports : ℕ) (limit : Option ℕ) (versions : Bool) (n : ℕ) (units : List UnitName) → AreLaid ns ports limit versions n units → n ≡ units_of ns → IsLaidOut (space_of ns ports limit versions units)
 all_laid ns ports limit versions n units laid all = record {
   count = laid.count ∙ all;
   each = λ k unit at.

@@ -1,5 +1,5 @@
 -- The next part of a job that is under way, and what is known of the pass that does it.
-use Rattle.std.proofs.Common.{◌≡◌, ℕ, ◌+◌, ◌<◌, List, map, Option, Some, None, refl, sym, ◌∙◌, subst, inr}
+use Rattle.std.proofs.Common.{◌≡◌, ℕ, Bool, ◌+◌, ◌<◌, List, map, Option, Some, None, refl, sym, ◌∙◌, subst, inr}
 use Rattle.std.specs.Prelude.{IfNone, MatchOption}
 use Rattle.std.specs.List.{Contains}
 use Rattle.nvm_record.specs.Step.{Operation}
@@ -32,32 +32,32 @@ use Rattle.nvm_space.proofs.PartByPart.{is_among}
 use Rattle.nvm_space.proofs.Waiting.{after_waiting}
 
 -- The unit of the next part is one of the namespace's.
-pub next_known : (ns : Namespace) (job : Job) (w : UnderWay) (start now : List PassView)
+pub next_known : (ns : Namespace) (lists : Bool) (job : Job) (w : UnderWay) (start now : List PassView)
     → ((op : Operation) → refusal_of ns job ≡ None → job_operation_of ns job ≡ Some op → job_units ns job ≡ units_met ns op)
     → ((unit : ℕ) → Contains (job_units ns job) unit → unit < units_of ns)
-    → IsUnderWay ns job w start now → w.unit < units_of ns
-next_known ns job w start now units inside under =
+    → IsUnderWay ns lists job w start now → w.unit < units_of ns
+next_known ns lists job w start now units inside under =
     inside w.unit (subst (λ (us : List ℕ). Contains us w.unit) (sym (units under.op under.free under.is_op))
     (is_among (units_told (map (λ (did : PartDone). did.reply) under.have.parts)) (units_met ns under.op) w.unit
     (job_units_from ns job (w.unit + 1)) under.have.done.units))
 
 -- what is known of a job that is done, and of one that is pending
-pub when_done : (ns : Namespace) (number : ℕ) (job : Job) (start now : List PassView) (progress : Progress) (done : JobDone)
-    → progress ≡ Done done → IsProgress ns number job start now progress → DoesJob ns number job start now done
-when_done ns number job start now progress done is known =
-    subst (λ (p : Progress). IsProgress ns number job start now p) is known
+pub when_done : (ns : Namespace) (lists : Bool) (number : ℕ) (job : Job) (start now : List PassView) (progress : Progress) (done : JobDone)
+    → progress ≡ Done done → IsProgress ns lists number job start now progress → DoesJob ns lists number job start now done
+when_done ns lists number job start now progress done is known =
+    subst (λ (p : Progress). IsProgress ns lists number job start now p) is known
 
-pub when_pending : (ns : Namespace) (number : ℕ) (job : Job) (start now : List PassView) (progress : Progress) (w : UnderWay)
-    → progress ≡ Pending w → IsProgress ns number job start now progress
-    → (w.number ≡ number) × IsUnderWay ns job w start now
-when_pending ns number job start now progress w is known =
-    subst (λ (p : Progress). IsProgress ns number job start now p) is known
+pub when_pending : (ns : Namespace) (lists : Bool) (number : ℕ) (job : Job) (start now : List PassView) (progress : Progress) (w : UnderWay)
+    → progress ≡ Pending w → IsProgress ns lists number job start now progress
+    → (w.number ≡ number) × IsUnderWay ns lists job w start now
+when_pending ns lists number job start now progress w is known =
+    subst (λ (p : Progress). IsProgress ns lists number job start now p) is known
 
 -- The pass of its unit did the next part.
-pub replies_so : (ns : Namespace) (number unit : ℕ) (job : Job) (w : UnderWay) (reply : Reply) (part : Operation) (start now new : List PassView)
-    → w.number ≡ number → unit ≡ w.unit → IsUnderWay ns job w start now → job_part_in ns job w.unit ≡ Some part → reply.part.unit ≡ unit
-    → BecomesAt unit (DoesPart (part_done number part reply)) now new → RepliesTo ns job w reply start now new
-replies_so ns number unit job w reply part start now new same here under in_unit at step = record {
+pub replies_so : (ns : Namespace) (lists : Bool) (number unit : ℕ) (job : Job) (w : UnderWay) (reply : Reply) (part : Operation) (start now new : List PassView)
+    → w.number ≡ number → unit ≡ w.unit → IsUnderWay ns lists job w start now → job_part_in ns job w.unit ≡ Some part → reply.part.unit ≡ unit
+    → BecomesAt unit (DoesPart (part_done number part reply)) now new → RepliesTo ns lists job w reply start now new
+replies_so ns lists number unit job w reply part start now new same here under in_unit at step = record {
   under_way = under;
   part = part;
   in_unit = in_unit;
@@ -67,17 +67,17 @@ replies_so ns number unit job w reply part start now new same here under in_unit
 }
 
 -- A job whose list of parts is the same is as far as it is.
-pub same_under_way : (ns : Namespace) (job : Job) (number unit : ℕ) (parts listed : List Part) (bytes : List ℕ) (room has : ℕ) (start new : List PassView)
+pub same_under_way : (ns : Namespace) (lists : Bool) (job : Job) (number unit : ℕ) (parts listed : List Part) (bytes : List ℕ) (room has : ℕ) (start new : List PassView)
     → listed ≡ parts → has ≡ room
-    → IsUnderWay ns job (record { number = number; unit = unit; parts = parts; bytes = bytes; room = room }) start new
-    → IsUnderWay ns job (record { number = number; unit = unit; parts = listed; bytes = bytes; room = has }) start new
-same_under_way ns job number unit parts listed bytes room has start new same holds under = rw (same, holds) under
+    → IsUnderWay ns lists job (record { number = number; unit = unit; parts = parts; bytes = bytes; room = room }) start new
+    → IsUnderWay ns lists job (record { number = number; unit = unit; parts = listed; bytes = bytes; room = has }) start new
+same_under_way ns lists job number unit parts listed bytes room has start new same holds under = rw (same, holds) under
 
 -- One whose pass waited is as far as it was.
-pub still_under_way : (ns : Namespace) (unit : ℕ) (job : Job) (w : UnderWay) (start now new : List PassView)
-    → ((p q r : PassView) → Waits p q → Waits q r → Waits p r) → unit ≡ w.unit → IsUnderWay ns job w start now
-    → BecomesAt unit Waits now new → IsUnderWay ns job w start new
-still_under_way ns unit job w start now new again here under waits = record {
+pub still_under_way : (ns : Namespace) (lists : Bool) (unit : ℕ) (job : Job) (w : UnderWay) (start now new : List PassView)
+    → ((p q r : PassView) → Waits p q → Waits q r → Waits p r) → unit ≡ w.unit → IsUnderWay ns lists job w start now
+    → BecomesAt unit Waits now new → IsUnderWay ns lists job w start new
+still_under_way ns lists unit job w start now new again here under waits = record {
   free = under.free;
   op = under.op;
   is_op = under.is_op;

@@ -1,5 +1,5 @@
 -- The parts of a job, one after the other, are what is asked of it.
-use Rattle.std.proofs.Common.{◌≡◌, inl, inr, ℕ, List, [], ◌∷◌, ◌++◌, map, Option, Some, None, IsSome, unwrap_or, refl, sym, ap, ◌∙◌, subst, arith}
+use Rattle.std.proofs.Common.{◌≡◌, inl, inr, ℕ, ◌+◌, Bool, true, false, length, length-append, List, [], ◌∷◌, ◌++◌, map, Option, Some, None, IsSome, unwrap_or, refl, sym, ap, ◌∙◌, subst, arith}
 use Rattle.std.specs.List.{AllByRecursion, Contains}
 use Rattle.std.specs.Prelude.{filter, nat_le}
 use Rattle.std.proofs.lemmas.List.Elements.{Contains-append_right}
@@ -22,7 +22,8 @@ use Rattle.nvm_unit.specs.declared.views.PassView.{PassView}
 use Rattle.nvm_space.specs.declared.job_done.JobDone.{JobDone}
 use Rattle.nvm_space.specs.declared.replies.PartReply.{PartReply}
 use Rattle.nvm_space.specs.Inside.Parts.{reply_told, part_done, job_ended, IsGathered}
-use Rattle.nvm_space.specs.Trace.{PartDone, DoesPart, DoesParts, IsPartOfJob, DoesJob, part_ended}
+use Rattle.nvm_space.specs.Inside.Replying.{with_part}
+use Rattle.nvm_space.specs.Trace.{PartDone, DoesPart, DoesParts, IsPartOfJob, DoesJob, listed_of, part_ended}
 use Rattle.nvm_space.specs.UnderWay.{HaveDone}
 use Rattle.nvm_space.specs.Visits.{BecomesAt}
 use Rattle.nvm_space.proofs.DeedLemmas.{internal_error_fails}
@@ -49,6 +50,22 @@ becomes_too k So Too old new too becomes = record {
   others = becomes.others;
 }
 
+-- Before the first part none is listed, and with each one more is, where parts are listed.
+pub none_listed : (lists : Bool) → listed_of lists [] ≡ []
+none_listed true = refl
+none_listed false = refl
+
+listed_more : (lists : Bool) (parts : List PartDone) (did : PartDone) (listed : List Part) (part : Part) → listed ≡ listed_of lists parts
+    → did.reply.part ≡ part → with_part lists listed part ≡ listed_of lists (parts ++ did ∷ [])
+listed_more true parts did listed part are its =
+    ap (λ (ps : List Part). ps ++ part ∷ []) are ∙ ap (λ (p : Part). map (λ (d : PartDone). d.reply.part) parts ++ p ∷ []) (sym its)
+    ∙ sym (map_more (λ (d : PartDone). d.reply.part) parts did)
+listed_more false parts did listed part are its = are
+
+pub one_longer : (lists : Bool) (listed : List Part) (part : Part) → lists ≡ true → length (with_part lists listed part) ≡ length listed + 1
+one_longer true listed part on = length-append listed (part ∷ [])
+one_longer false listed part on = absurd (let bad = on in cc bad)
+
 -- One part of the job was done in the unit, with these statuses.
 pub record IsStep (ns : Namespace) (number : ℕ) (job : Job) (op : Operation) (unit : ℕ) (now new : List PassView)
     (bytes more : List ℕ) (part : Part) (statuses : Statuses) : Type 0 where
@@ -63,7 +80,7 @@ pub record IsStep (ns : Namespace) (number : ℕ) (job : Job) (op : Operation) (
 
 -- what a unit told of the job's part there, with its data gathered
 pub step_of : (ns : Namespace) (number : ℕ) (job : Job) (op part : Operation) (unit : ℕ) (now new : List PassView) (bytes more : List ℕ) (r : PartReply) (ended : Part) (statuses : Statuses)
-    → BecomesAt unit (DoesPart (part_done number part (reply_told r))) now new → r.part.unit ≡ unit → job_part_in ns job unit ≡ Some part
+    → BecomesAt unit (DoesPart (part_done number part (reply_told r))) now new → r.unit ≡ unit → job_part_in ns job unit ≡ Some part
     → ((p q : PassView) → DoesPart (part_done number part (reply_told r)) p q → IsReplyTo op.deed (reply_told r))
     → ((point : ℕ) → IsReplyTo op.deed (reply_of_stop part.deed (part_ended unit point result.NoMemory)))
     → IsGathered r bytes more ended statuses
@@ -81,29 +98,29 @@ step_of ns number job op part unit now new bytes more r ended statuses becomes a
 step_of ns number job op part unit now new bytes more r ended statuses becomes at in_unit replies stops (inr none) =
     let told : stop_of part.deed ≡ One internal_error = told_one number part (reply_told r) becomes.before becomes.after none.0 becomes.so in
     record {
-      did = part_done number part (reply_of_stop part.deed (part_ended r.part.unit r.part.point result.NoMemory));
-      becomes = becomes_too unit _ (DoesPart (part_done number part (reply_of_stop part.deed (part_ended r.part.unit r.part.point result.NoMemory)))) now new
+      did = part_done number part (reply_of_stop part.deed (part_ended r.unit r.point result.NoMemory));
+      becomes = becomes_too unit _ (DoesPart (part_done number part (reply_of_stop part.deed (part_ended r.unit r.point result.NoMemory)))) now new
           (λ p q does. found_no_memory number part (reply_told r) p q none.0 does) becomes;
       of_job = (refl, ap (λ (u : ℕ). job_part_in ns job u) at ∙ in_unit);
       at = at;
       its_part = sym none.1;
       told = told ∙ sym none.2;
-      reply = subst (λ (u : ℕ). IsReplyTo op.deed (reply_of_stop part.deed (part_ended u r.part.point result.NoMemory))) (sym at) (stops r.part.point);
+      reply = subst (λ (u : ℕ). IsReplyTo op.deed (reply_of_stop part.deed (part_ended u r.point result.NoMemory))) (sym at) (stops r.point);
       goes = λ success. absurd (internal_error_fails (subst IsSuccess none.2 success));
     }
 
-module _ (ns : Namespace) (number : ℕ) (job : Job) (op : Operation) where
+module _ (ns : Namespace) (lists : Bool) (number : ℕ) (job : Job) (op : Operation) where
   -- Before the first part.
   pub not_begun : (start : List PassView) (left : List ℕ) (listed : List Part) (bytes : List ℕ) → AreDone ns op [] left → listed ≡ [] → bytes ≡ []
-      → HaveDone ns number job op start start left listed bytes
-  not_begun start left listed bytes begun none empty = record { parts = []; does = refl; each = tt; done = begun; read = sym empty; are_listed = none }
+      → HaveDone ns lists number job op start start left listed bytes
+  not_begun start left listed bytes begun none empty = record { parts = []; does = refl; each = tt; done = begun; read = sym empty; are_listed = none ∙ sym (none_listed lists) }
 
   -- One part more, which succeeded.
   pub one_more : ((replies : List Reply) (r : Reply) (left : List ℕ) → AreDone ns op replies (r.part.unit ∷ left) → IsSuccessfulReply op.deed r → AreDone ns op (replies ++ r ∷ []) left)
       → ((replies : List Reply) (r : Reply) → data_told (replies ++ r ∷ []) ≡ data_told replies ++ unwrap_or r.payload [])
       → (start now new : List PassView) (unit : ℕ) (left : List ℕ) (listed after : List Part) (bytes more_bytes : List ℕ) (part : Part) (statuses : Statuses)
-      → HaveDone ns number job op start now (unit ∷ left) listed bytes → IsStep ns number job op unit now new bytes more_bytes part statuses → IsSuccess statuses
-      → after ≡ listed ++ part ∷ [] → HaveDone ns number job op start new left after more_bytes
+      → HaveDone ns lists number job op start now (unit ∷ left) listed bytes → IsStep ns number job op unit now new bytes more_bytes part statuses → IsSuccess statuses
+      → after ≡ with_part lists listed part → HaveDone ns lists number job op start new left after more_bytes
   one_more more joined start now new unit left listed after bytes more_bytes part statuses have step success is =
       let did = step.did in
       let replies = map (λ (d : PartDone). d.reply) have.parts in
@@ -116,16 +133,14 @@ module _ (ns : Namespace) (number : ℕ) (job : Job) (op : Operation) where
             (more replies did.reply left (subst (λ (u : ℕ). AreDone ns op replies (u ∷ left)) (sym step.at) have.done)
             (record { reply = step.reply; success = subst IsSuccess (sym step.told) success }));
         read = ap data_told longer ∙ joined replies did.reply ∙ ap (λ (xs : List ℕ). xs ++ unwrap_or did.reply.payload []) have.read ∙ sym (step.goes success);
-        are_listed = is ∙ ap (λ (ps : List Part). ps ++ part ∷ []) have.are_listed
-            ∙ ap (λ (p : Part). map (λ (d : PartDone). d.reply.part) have.parts ++ p ∷ []) (sym step.its_part)
-            ∙ sym (map_more (λ (d : PartDone). d.reply.part) have.parts did);
+        are_listed = is ∙ listed_more lists have.parts did listed part have.are_listed step.its_part;
       }
 
   -- What is told of a part that doesn't succeed is told of the job.
   pub stops_so : ((replies : List Reply) (r : Reply) (left : List ℕ) → AreDone ns op replies (r.part.unit ∷ left) → IsReplyTo op.deed r → (IsSuccess r.statuses → ⊥) → IsOutcomeOf ns op (replies ++ r ∷ []) r.statuses None)
       → ((replies : List Reply) (told : Statuses) (read : Option (List ℕ)) → IsOutcomeOf ns op replies told read → IsOutcome ns job replies told read)
       → (start now new : List PassView) (unit : ℕ) (left : List ℕ) (listed : List Part) (bytes more_bytes : List ℕ) (part : Part) (statuses : Statuses)
-      → HaveDone ns number job op start now (unit ∷ left) listed bytes → IsStep ns number job op unit now new bytes more_bytes part statuses → (IsSuccess statuses → ⊥)
+      → HaveDone ns lists number job op start now (unit ∷ left) listed bytes → IsStep ns number job op unit now new bytes more_bytes part statuses → (IsSuccess statuses → ⊥)
       → (replies : List Reply) × IsOutcome ns job replies statuses None
   stops_so stopped outcome start now new unit left listed bytes more_bytes part statuses have step failure =
       let did = step.did in
@@ -137,8 +152,8 @@ module _ (ns : Namespace) (number : ℕ) (job : Job) (op : Operation) where
   pub stops : ((replies : List Reply) (r : Reply) (left : List ℕ) → AreDone ns op replies (r.part.unit ∷ left) → IsReplyTo op.deed r → (IsSuccess r.statuses → ⊥) → IsOutcomeOf ns op (replies ++ r ∷ []) r.statuses None)
       → ((replies : List Reply) (told : Statuses) (read : Option (List ℕ)) → IsOutcomeOf ns op replies told read → IsOutcome ns job replies told read)
       → (start now new : List PassView) (unit : ℕ) (left : List ℕ) (listed after : List Part) (bytes more_bytes : List ℕ) (part : Part) (statuses : Statuses) (done : JobDone)
-      → HaveDone ns number job op start now (unit ∷ left) listed bytes → IsStep ns number job op unit now new bytes more_bytes part statuses → (IsSuccess statuses → ⊥)
-      → after ≡ listed ++ part ∷ [] → job_ended job statuses None after done → DoesJob ns number job start new done
+      → HaveDone ns lists number job op start now (unit ∷ left) listed bytes → IsStep ns number job op unit now new bytes more_bytes part statuses → (IsSuccess statuses → ⊥)
+      → after ≡ with_part lists listed part → job_ended job statuses None after done → DoesJob ns lists number job start new done
   stops stopped outcome start now new unit left listed after bytes more_bytes part statuses done have step failure is ended =
       let did = step.did in
       let replies = map (λ (d : PartDone). d.reply) have.parts in
@@ -153,16 +168,14 @@ module _ (ns : Namespace) (number : ℕ) (job : Job) (op : Operation) where
         outcome = subst (λ (rs : List Reply). IsOutcome ns job rs statuses None) (sym longer)
             (subst (λ (x : Statuses). IsOutcome ns job (replies ++ did.reply ∷ []) x None) step.told (outcome (replies ++ did.reply ∷ []) did.reply.statuses None so));
         completions = ended.0;
-        listed = ended.1 ∙ is ∙ ap (λ (ps : List Part). ps ++ part ∷ []) have.are_listed
-            ∙ ap (λ (p : Part). map (λ (d : PartDone). d.reply.part) have.parts ++ p ∷ []) (sym step.its_part)
-            ∙ sym (map_more (λ (d : PartDone). d.reply.part) have.parts did);
+        listed = ended.1 ∙ is ∙ listed_more lists have.parts did listed part have.are_listed step.its_part;
       }
 
   -- After the last part.
   pub all_done : ((replies : List Reply) → AreDone ns op replies [] → IsOutcomeOf ns op replies (success_of op.deed) (answered op.deed (data_told replies)))
       → ((replies : List Reply) (told : Statuses) (read : Option (List ℕ)) → IsOutcomeOf ns op replies told read → IsOutcome ns job replies told read)
-      → (start now : List PassView) (left : List ℕ) (listed : List Part) (bytes : List ℕ) (done : JobDone) → HaveDone ns number job op start now left listed bytes → left ≡ []
-      → job_ended job (success_of op.deed) (answered op.deed bytes) listed done → DoesJob ns number job start now done
+      → (start now : List PassView) (left : List ℕ) (listed : List Part) (bytes : List ℕ) (done : JobDone) → HaveDone ns lists number job op start now left listed bytes → left ≡ []
+      → job_ended job (success_of op.deed) (answered op.deed bytes) listed done → DoesJob ns lists number job start now done
   all_done whole outcome start now left listed bytes done have none ended =
       let replies = map (λ (d : PartDone). d.reply) have.parts in
       let so = whole replies (subst (λ (us : List ℕ). AreDone ns op replies us) none have.done) in
@@ -185,7 +198,7 @@ pub step_so : (ns : Namespace) (number : ℕ) (job : Job) (op part : Operation) 
     → ((p : Part) → p.result ≡ result.NoMemory → IsReplyTo op.deed (reply_of_stop op.deed p))
     → ((p : Part) → IsAct op.deed → p.result ≡ result.Full → IsReplyTo op.deed (reply_of_stop op.deed p))
     → part ≡ part_in ns op unit → job_part_in ns job unit ≡ Some part
-    → r.part.unit ≡ unit → BecomesAt unit (DoesPart (part_done number part (reply_told r))) now new → IsGathered r bytes more ended statuses
+    → r.unit ≡ unit → BecomesAt unit (DoesPart (part_done number part (reply_told r))) now new → IsGathered r bytes more ended statuses
     → IsStep ns number job op unit now new bytes more ended statuses
 step_so ns number job op part unit now new bytes more r ended statuses look pair looked failed no_memory full is in_unit at becomes gathered =
     step_of ns number job op part unit now new bytes more r ended statuses becomes at in_unit
@@ -208,9 +221,9 @@ the_operation None some = absurd (cc some)
 the_operation (Some op) some = (op, refl)
 
 -- Nothing was done.
-pub nothing_done : (ns : Namespace) (number : ℕ) (job : Job) (views : List PassView) (told : Statuses) (read : Option (List ℕ)) (listed : List Part) (done : JobDone) → IsOutcome ns job [] told read
-    → listed ≡ [] → job_ended job told read listed done → DoesJob ns number job views views done
-nothing_done ns number job views told read listed done outcome none ended = record {
+pub nothing_done : (ns : Namespace) (lists : Bool) (number : ℕ) (job : Job) (views : List PassView) (told : Statuses) (read : Option (List ℕ)) (listed : List Part) (done : JobDone) → IsOutcome ns job [] told read
+    → listed ≡ [] → job_ended job told read listed done → DoesJob ns lists number job views views done
+nothing_done ns lists number job views told read listed done outcome none ended = record {
   parts = [];
   does = refl;
   each = tt;
@@ -218,5 +231,5 @@ nothing_done ns number job views told read listed done outcome none ended = reco
   read = read;
   outcome = outcome;
   completions = ended.0;
-  listed = ended.1 ∙ none;
+  listed = ended.1 ∙ none ∙ sym (none_listed lists);
 }

@@ -1,5 +1,5 @@
 -- What contracts see of a space: a namespace as the units that its boundaries make (own).
-use Rattle.std.specs.Prelude.{◌≡◌, ℕ, ◌<◌, ◌≤◌, Bool, List, length}
+use Rattle.std.specs.Prelude.{◌≡◌, ℕ, ◌<◌, ◌≤◌, ◌^◌, Bool, List, Option, length, unwrap_or}
 use Rattle.nvm_record.specs.Lists.{IsAt}
 use Rattle.nvm_geometry.specs.Boundaries.{units_of}
 use Rattle.nvm_geometry.specs.Namespace.{Namespace}
@@ -8,14 +8,19 @@ use Rattle.nvm_unit.specs.Passes.{UnitName}
 use Rattle.nvm_space.specs.declared.space_fault.SpaceFault.{SpaceFault}
 use Rattle.nvm_space.specs.declared.space_fault.SpaceFault.TheVariants.{Ports, NoMemory}
 
--- the namespace, how many ports there are, the limit of each unit's history, whether passes keep versions, and which
--- units they are
+-- the namespace, how many ports there are, how many entries each unit's history may have, whether jobs list their parts,
+-- whether passes keep versions, and which units they are
 pub record SpaceName : Type 0 where
   pub namespace : Namespace
   pub ports : ℕ
   pub limit : ℕ
+  pub lists : Bool
   pub versions : Bool
   pub units : List UnitName
+
+-- how many entries a history may have, where that is the limit of a record, or none
+abbrev pub most_entries : Option ℕ → ℕ
+most_entries limit = unwrap_or limit (2 ^ 62)
 
 -- The unit has this number and its place in the namespace, a pass for each port, the limit, and versions or not.
 pub record IsUnitOf (s : SpaceName) (k : ℕ) (unit : UnitName) : Type 0 where

@@ -1,5 +1,5 @@
 -- What a port does for a job: a step of its pass for each part, and what is told of them (own).
-use Rattle.std.specs.Prelude.{◌≡◌, ◌⊎◌, ℕ, List, [], ◌∷◌, map, Option, Some, None, Ok, Err, Result}
+use Rattle.std.specs.Prelude.{◌≡◌, ◌⊎◌, ℕ, Bool, if◌then◌else◌, List, [], ◌∷◌, map, Option, Some, None, Ok, Err, Result}
 use Rattle.std.specs.List.{AllByRecursion}
 use Rattle.nvm_record.specs.declared.status.Statuses.{Statuses}
 use Rattle.nvm_record.specs.Deeds.{IsAct, IsLook, success_of}
@@ -72,8 +72,13 @@ DoesParts (did ∷ rest) old new =
 abbrev pub IsPartOfJob : Namespace → ℕ → Job → PartDone → Type 0
 IsPartOfJob ns number job did = (did.job ≡ number) × (job_part_in ns job did.reply.part.unit ≡ Some did.operation)
 
--- The job of this number was done: parts of it, one after the other, whose replies have this outcome.
-pub record DoesJob (ns : Namespace) (number : ℕ) (job : Job) (old new : List PassView) (done : JobDone) : Type 0 where
+-- what is listed of the parts, where they are listed at all
+abbrev pub listed_of : Bool → List PartDone → List Part
+listed_of lists parts = if lists then map (λ did. did.reply.part) parts else []
+
+-- The job of this number was done: parts of it, one after the other, whose replies have this outcome. They are listed, or
+-- none is.
+pub record DoesJob (ns : Namespace) (lists : Bool) (number : ℕ) (job : Job) (old new : List PassView) (done : JobDone) : Type 0 where
   pub parts : List PartDone
   pub does : DoesParts parts old new
   pub each : AllByRecursion (IsPartOfJob ns number job) parts
@@ -81,4 +86,4 @@ pub record DoesJob (ns : Namespace) (number : ℕ) (job : Job) (old new : List P
   pub read : Option (List ℕ)
   pub outcome : IsOutcome ns job (map (λ did. did.reply) parts) told read
   pub completions : done.completions ≡ completions_of job told read
-  pub listed : done.parts.items ≡ map (λ did. did.reply.part) parts
+  pub listed : done.parts.items ≡ listed_of lists parts

@@ -1,5 +1,5 @@
 -- A job that was begun and isn't done: what was done of it, and what the port's passes have seen meanwhile (own).
-use Rattle.std.specs.Prelude.{◌≡◌, ◌⊎◌, ℕ, ◌+◌, ◌≤◌, List, ◌∷◌, length, map, Some, None}
+use Rattle.std.specs.Prelude.{◌≡◌, ◌⊎◌, ℕ, ◌+◌, ◌≤◌, Bool, true, List, ◌∷◌, length, map, Some, None}
 use Rattle.std.specs.List.{AllByRecursion}
 use Rattle.nvm_record.specs.Step.{Operation}
 use Rattle.nvm_geometry.specs.Namespace.{Namespace}
@@ -11,11 +11,11 @@ use Rattle.nvm_plan.specs.declared.job.Job.{Job}
 use Rattle.nvm_plan.specs.declared.part.Part.{Part}
 use Rattle.nvm_unit.specs.Replies.{Waits}
 use Rattle.nvm_unit.specs.declared.views.PassView.{PassView}
-use Rattle.nvm_space.specs.Trace.{PartDone, DoesParts, IsPartOfJob}
+use Rattle.nvm_space.specs.Trace.{PartDone, DoesParts, IsPartOfJob, listed_of}
 use Rattle.nvm_space.specs.Visits.{BecomesAt}
 
--- the job's number, the unit of its next part, the parts that were done, what they read, and for how many parts in all
--- its list has room
+-- the job's number, the unit of its next part, the list of the parts that were done, what they read, and for how many parts
+-- in all the list has room
 pub record UnderWay : Type 0 where
   pub number : ℕ
   pub unit : ℕ
@@ -24,14 +24,14 @@ pub record UnderWay : Type 0 where
   pub room : ℕ
 
 -- Parts of the job were done, each with success; they read these bytes, and those in the units `left` are left.
-pub record HaveDone (ns : Namespace) (number : ℕ) (job : Job) (op : Operation) (start now : List PassView)
+pub record HaveDone (ns : Namespace) (lists : Bool) (number : ℕ) (job : Job) (op : Operation) (start now : List PassView)
     (left : List ℕ) (listed : List Part) (bytes : List ℕ) : Type 0 where
   pub parts : List PartDone
   pub does : DoesParts parts start now
   pub each : AllByRecursion (IsPartOfJob ns number job) parts
   pub done : AreDone ns op (map (λ did. did.reply) parts) left
   pub read : data_told (map (λ did. did.reply) parts) ≡ bytes
-  pub are_listed : listed ≡ map (λ did. did.reply.part) parts
+  pub are_listed : listed ≡ listed_of lists parts
 
 -- The pass of the unit may have found that it couldn't have it, which is no part.
 abbrev pub MayHaveWaited : ℕ → List PassView → List PassView → Type 0
@@ -42,12 +42,12 @@ abbrev pub units_left : Namespace → Job → UnderWay → List ℕ
 units_left ns job w = w.unit ∷ job_units_from ns job (w.unit + 1)
 
 -- The job isn't refused. Since `start` its parts before the next one were done, each with success, and the port has done
--- nothing else but ask for the unit of the next one. There is room for all parts that are left.
-pub record IsUnderWay (ns : Namespace) (job : Job) (w : UnderWay) (start now : List PassView) : Type 0 where
+-- nothing else but ask for the unit of the next one. Where parts are listed, there is room for all that are left.
+pub record IsUnderWay (ns : Namespace) (lists : Bool) (job : Job) (w : UnderWay) (start now : List PassView) : Type 0 where
   pub free : refusal_of ns job ≡ None
   pub op : Operation
   pub is_op : job_operation_of ns job ≡ Some op
   pub reached : List PassView
-  pub have : HaveDone ns w.number job op start reached (units_left ns job w) w.parts w.bytes
+  pub have : HaveDone ns lists w.number job op start reached (units_left ns job w) w.parts w.bytes
   pub waited : MayHaveWaited w.unit reached now
-  pub room : length w.parts + length (units_left ns job w) ≤ w.room
+  pub room : lists ≡ true → length w.parts + length (units_left ns job w) ≤ w.room

@@ -10,20 +10,19 @@ ghost use Rattle.nvm_space.specs.Spaces.{SpaceName, IsLaidOut};
 
 use crate::port::Port;
 use nvm_record::NoMemory;
-use nvm_store::History;
-use nvm_unit::{Pass, Unit};
+use nvm_unit::{Kept, Pass, Unit};
 use std::alloc::Global;
 
-/// The histories of the units, in their order.
-pub(crate) fn histories(
+/// What is kept of the histories of the units, in their order.
+pub(crate) fn histories<K: Kept>(
     alloc: Global,
-    units: Vec<Unit>,
-    ports: Vec<Port>,
-) -> Result<Vec<History>, NoMemory>
+    units: Vec<Unit<K>>,
+    ports: Vec<Port<K>>,
+) -> Result<Vec<K>, NoMemory>
     requires { (s : SpaceName) × (s.units ≡ units.items) × IsLaidOut s × AreAllPortsOf s ports.items }
     ensures count { IfOk result (λ hs. length hs.items ≡ length units.items) }
     ensures each { IfOk result (λ hs. (k : ℕ) (unit : UnitName) (history : _) → IsAt units.items k unit
-        → IsAt hs.items k history → EndsWhole k unit ports.items history.items) }
+        → IsAt hs.items k history → EndsWhole k unit ports.items (K.told history)) }
 {
     let mut units = units;
     let mut ports = ports;
@@ -37,7 +36,7 @@ pub(crate) fn histories(
 }
 
 /// The last pass of each port, in the order of the ports.
-fn gathered(alloc: Global, ports: &mut Vec<Port>) -> Result<Vec<Pass>, NoMemory>
+fn gathered<K: Kept>(alloc: Global, ports: &mut Vec<Port<K>>) -> Result<Vec<Pass<K>>, NoMemory>
     requires { (w : ℕ) (port : PortState) → IsAt ports.old.items w port → port.passes ≢ [] }
     ensures { IfOk result (λ passes. HaveOneMore passes.items ports.new.items ports.old.items) }
 {

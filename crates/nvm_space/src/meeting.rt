@@ -4,15 +4,15 @@ ghost use Rattle.nvm_unit.specs.Ends.{views_of};
 ghost use Rattle.nvm_space.specs.Ports.{ArePassesOfAll};
 ghost use Rattle.nvm_space.specs.Visits.{MeetInEach};
 
-use nvm_unit::{Pass, Unit};
+use nvm_unit::{Kept, Pass, Unit};
 use std::sync::Wait;
 
 /// Brings the two passes of each unit to one history.
-pub(crate) fn meet_in_each<R: Wait>(
+pub(crate) fn meet_in_each<R: Wait, K: Kept>(
     rt: &R,
-    units: &[Unit],
-    one: &mut Vec<Pass>,
-    other: &mut Vec<Pass>,
+    units: &[Unit<K>],
+    one: &mut Vec<Pass<K>>,
+    other: &mut Vec<Pass<K>>,
 )
     requires one { (n : ℕ) × ArePassesOfAll units.now n one.old.items }
     requires other { (n : ℕ) × ArePassesOfAll units.now n other.old.items }

@@ -1,8 +1,9 @@
 //! How a space begins: its units are made one after the other, and each unit's passes are handed out to the
 //! ports.
-ghost use Rattle.std.specs.Prelude.{◌≡◌, [], IfOk, IfErr, OnOk, length};
+ghost use Rattle.std.specs.Prelude.{◌≡◌, ◌≤◌, ◌^◌, [], IfOk, IfErr, OnOk, length};
 ghost use Rattle.nvm_space.specs.Inside.Dealing.{space_of, AreDealt, HaveOneMore};
 ghost use Rattle.nvm_space.specs.Ports.{new_ports};
+ghost use Rattle.nvm_space.specs.Spaces as spec;
 ghost use Rattle.nvm_space.specs.Spaces.{IsLaidOut, IsPortCount, IsSpaceFault};
 
 use crate::port::Port;
@@ -12,17 +13,17 @@ use nvm_plan::unit_place;
 use nvm_record::NoMemory;
 use nvm_store::Limit;
 use nvm_unit::laws::new_passes_are_all;
-use nvm_unit::{Pass, Unit};
+use nvm_unit::{Kept, MOST_ENTRIES, Pass, Unit};
 use std::alloc::Global;
 
 /// The units of a new space, and its ports.
-pub(crate) fn opened(
+pub(crate) fn opened<K: Kept>(
     alloc: Global,
     geometry: Geometry,
     ports: u16,
-    limit: Limit,
+    limit: Option<Limit>,
     versions: bool,
-) -> Result<(Vec<Unit>, Vec<Port>), SpaceFault>
+) -> Result<(Vec<Unit<K>>, Vec<Port<K>>), SpaceFault>
     requires { IsPortCount ports }
     ensures refused { IfErr result (IsSpaceFault ports) }
     ensures units { IfOk result (λ u. IsLaidOut (space_of geometry ports limit versions u.0.items)) }
@@ -31,12 +32,14 @@ pub(crate) fn opened(
     new_passes_are_all();
     // For the proof alone: how many LBAs there can be.
     let _nsze = geometry.nsze();
+    let most = most_entries(limit);
     let count = geometry.units();
     let mut dealt = bare_ports(alloc, ports, count)?;
     let mut units = Vec::with_capacity(alloc, usize::from(count))?;
     for number in 0..count {
         let place = unit_place(&geometry, number);
-        let Ok((unit, passes)) = Unit::open(alloc, number, place, ports, limit, versions) else {
+        let Ok((unit, passes)) = Unit::with_limit(alloc, number, place, ports, most, versions)
+        else {
             return Err(SpaceFault::NoMemory);
         };
         hand_out(&mut dealt, passes)?;
@@ -45,8 +48,19 @@ pub(crate) fn opened(
     Ok((units, dealt))
 }
 
+/// How many entries a history may have.
+fn most_entries(limit: Option<Limit>) -> u64
+    ensures most { result ≡ spec.most_entries limit }
+    ensures few { result ≤ 2 ^ 62 }
+{
+    match limit {
+        Some(limit) => u64::from(limit.entries()),
+        None => MOST_ENTRIES,
+    }
+}
+
 /// The ports of a space that has no units yet, with room for so many passes each.
-fn bare_ports(alloc: Global, count: u16, units: u16) -> Result<Vec<Port>, NoMemory>
+fn bare_ports<K: Kept>(alloc: Global, count: u16, units: u16) -> Result<Vec<Port<K>>, NoMemory>
     ensures { IfOk result (λ ports. AreDealt count [] ports.items) }
 {
     let mut ports = Vec::with_capacity(alloc, usize::from(count))?;
@@ -58,7 +72,7 @@ fn bare_ports(alloc: Global, count: u16, units: u16) -> Result<Vec<Port>, NoMemo
 }
 
 /// Hands a pass to each port, in their order.
-fn hand_out(ports: &mut Vec<Port>, passes: Vec<Pass>) -> Result<(), NoMemory>
+fn hand_out<K: Kept>(ports: &mut Vec<Port<K>>, passes: Vec<Pass<K>>) -> Result<(), NoMemory>
     requires { length passes.items ≡ length ports.old.items }
     ensures { OnOk result (HaveOneMore passes.items ports.old.items ports.new.items) }
 {

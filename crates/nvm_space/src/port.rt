@@ -1,5 +1,6 @@
 use nvm_record::NoMemory;
-use nvm_unit::Pass;
+use nvm_store::History;
+use nvm_unit::{Kept, Pass};
 use std::marker::Model;
 
 /// A caller's token at a space: a pass of each of its units, all of the port's number.
@@ -7,13 +8,13 @@ use std::marker::Model;
 /// Contracts see its number, and of its passes the unit that each is of and what it has seen and done. A port
 /// that is dropped makes it impossible to close the space.
 #[derive(Drop)]
-pub struct Port {
+pub struct Port<K: Kept = History> {
     pub(crate) number: u16,
     /// The pass of unit k stands at place k.
-    pub(crate) passes: Vec<Pass>,
+    pub(crate) passes: Vec<Pass<K>>,
 }
 
-impl Model for Port {
+impl<K: Kept> Model for Port<K> {
     ghost use Rattle.nvm_space.specs.Ports.{PortState};
 
     ghost Value = { PortState };
@@ -21,7 +22,7 @@ impl Model for Port {
     ghost view = { λ p. record { number = p.number; passes = p.passes.items } };
 }
 
-impl Port {
+impl<K: Kept> Port<K> {
     ghost use Rattle.std.specs.Prelude.{◌≡◌, ◌≢◌, [], OnOk};
     ghost use Rattle.nvm_space.specs.Inside.Dealing.{with_one_more};
 
@@ -33,7 +34,7 @@ impl Port {
     }
 
     /// Adds the pass of the next unit.
-    pub(crate) fn add(&mut self, pass: Pass) -> Result<(), NoMemory>
+    pub(crate) fn add(&mut self, pass: Pass<K>) -> Result<(), NoMemory>
         ensures { OnOk result (self.new ≡ with_one_more self.old pass) }
     {
         self.passes.push(pass)?;
@@ -41,7 +42,7 @@ impl Port {
     }
 
     /// The pass of the last unit, which leaves the port.
-    pub(crate) fn take_last(&mut self) -> Pass
+    pub(crate) fn take_last(&mut self) -> Pass<K>
         requires { self.old.passes ≢ [] }
         ensures { self.old ≡ with_one_more self.new result }
     {

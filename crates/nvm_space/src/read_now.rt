@@ -7,7 +7,7 @@ use crate::space::Space;
 use nvm_geometry::laws;
 use nvm_record::{ReadData, Status};
 use nvm_store::{Answer, Look};
-use nvm_unit::{LookFault, Observed};
+use nvm_unit::{Kept, LookFault, Observed};
 use std::alloc::Global;
 
 /// The answer of a Read by [`Space::read_now`](crate::Space::read_now).
@@ -60,14 +60,14 @@ impl ReadAnswer {
     }
 }
 
-impl Space {
+impl<K: Kept> Space<K> {
     /// Answers a Read from the version that the port keeps of its unit, without taking the unit: with one load it finds how
     /// many entries the unit's history has, and the answer is only given if the port has seen them all. It doesn't matter
     /// whether another port holds the unit. The port keeps what it kept. It waits for nothing.
     pub fn read_now(
         &self,
         alloc: Global,
-        port: &mut Port,
+        port: &mut Port<K>,
         slba: u64,
         blocks: u32,
     ) -> Result<ReadAnswer, ReadNow>

@@ -1,14 +1,13 @@
 //! What a unit tells of a job's part.
-ghost use Rattle.std.specs.Prelude.{◌≡◌, ◌++◌, ◌^◌, ◌<◌, OnOk};
+ghost use Rattle.std.specs.Prelude.{◌≡◌, ◌++◌, OnOk};
 ghost use Rattle.nvm_record.specs.Deeds.{success_of};
 ghost use Rattle.nvm_store.specs.ActRef.{lent_operation_of};
 ghost use Rattle.nvm_store.specs.Look.{look_operation_of};
 ghost use Rattle.nvm_plan.specs.Reply.{stop_of};
-ghost use Rattle.nvm_unit.specs.Marks.{point_of_look};
-ghost use Rattle.nvm_unit.specs.Replies.{point_of};
 ghost use Rattle.nvm_space.specs.Trace as spec;
+ghost use Rattle.nvm_space.specs.Trace.{part_ended};
 
-use nvm_plan::{Part, PartResult};
+use nvm_plan::PartResult;
 use nvm_record::{NoMemory, ReadData, Status, Statuses};
 use nvm_store::{ActRef, Answer, Look};
 use nvm_unit::{Changed, ObserveFault, Observed};
@@ -16,7 +15,9 @@ use nvm_unit::{Changed, ObserveFault, Observed};
 /// The part, what its host would be told of it alone, and the data that a Read's part read.
 #[derive(Debug, Drop)]
 pub struct PartReply {
-    pub part: Part,
+    pub unit: u16,
+    pub point: u64,
+    pub result: PartResult,
     pub statuses: Statuses,
     pub payload: Option<ReadData>,
 }
@@ -25,7 +26,6 @@ ghost use Rattle.nvm_space.specs.Inside.Parts.{IsGathered, reply_told};
 
 /// What is told of a change.
 pub(crate) fn reply_of_change(unit: u16, act: ActRef<'_>, changed: Changed) -> PartReply
-    requires few { point_of changed < 2 ^ 32 }
     ensures { reply_told result ≡ spec.reply_of_change unit (lent_operation_of act.entry).deed changed }
 {
     let (point, result, statuses) = match changed {
@@ -35,11 +35,9 @@ pub(crate) fn reply_of_change(unit: u16, act: ActRef<'_>, changed: Changed) -> P
         Changed::Full { point } => (point, PartResult::Full, stop(act)),
     };
     PartReply {
-        part: Part {
-            unit,
-            point: point as u32,
-            result,
-        },
+        unit,
+        point,
+        result,
         statuses,
         payload: None,
     }
@@ -51,36 +49,30 @@ pub(crate) fn reply_of_look(
     look: Look<'_>,
     answer: Result<Observed, ObserveFault>,
 ) -> PartReply
-    requires few { point_of_look answer < 2 ^ 32 }
     ensures { reply_told result ≡ spec.reply_of_look unit (look_operation_of look.entry).deed answer }
 {
     let _ = look;
     match answer {
         Ok(Observed { point, answer }) => {
-            let part = Part {
-                unit,
-                point: point as u32,
-                result: PartResult::Looked,
+            let (statuses, payload) = match answer {
+                Answer::Payload(payload) => (
+                    Statuses::One(Status::SUCCESSFUL_COMPLETION),
+                    Some(payload),
+                ),
+                Answer::Status(status) => (Statuses::One(status), None),
             };
-            match answer {
-                Answer::Payload(payload) => PartReply {
-                    part,
-                    statuses: Statuses::One(Status::SUCCESSFUL_COMPLETION),
-                    payload: Some(payload),
-                },
-                Answer::Status(status) => PartReply {
-                    part,
-                    statuses: Statuses::One(status),
-                    payload: None,
-                },
+            PartReply {
+                unit,
+                point,
+                result: PartResult::Looked,
+                statuses,
+                payload,
             }
         }
         Err(ObserveFault::NoMemory { point }) => PartReply {
-            part: Part {
-                unit,
-                point: point as u32,
-                result: PartResult::NoMemory,
-            },
+            unit,
+            point,
+            result: PartResult::NoMemory,
             statuses: Statuses::One(Status::INTERNAL_ERROR),
             payload: None,
         },
@@ -112,29 +104,24 @@ fn stop(act: ActRef<'_>) -> Statuses
     }
 }
 
-/// Adds what the part read to the bytes that the parts before it read. Where memory for that is refused, the
-/// part is one that found no memory.
-pub(crate) fn gathered(reply: PartReply, bytes: &mut Vec<u8>) -> (Part, Statuses)
-    ensures { IsGathered reply bytes.old.items bytes.new.items result.0 result.1 }
+/// Adds what the part read to the bytes that the parts before it read, and says how the part ended. Where memory for that is
+/// refused, the part is one that found no memory.
+pub(crate) fn gathered(reply: PartReply, bytes: &mut Vec<u8>) -> (PartResult, Statuses)
+    ensures { IsGathered reply bytes.old.items bytes.new.items (part_ended reply.unit reply.point result.0) result.1 }
 {
     let PartReply {
-        part,
+        unit: _,
+        point: _,
+        result,
         statuses,
         payload,
     } = reply;
     let Some(payload) = payload else {
-        return (part, statuses);
+        return (result, statuses);
     };
     match add(bytes, payload) {
-        Ok(()) => (part, statuses),
-        Err(_) => (
-            Part {
-                unit: part.unit,
-                point: part.point,
-                result: PartResult::NoMemory,
-            },
-            Statuses::One(Status::INTERNAL_ERROR),
-        ),
+        Ok(()) => (result, statuses),
+        Err(_) => (PartResult::NoMemory, Statuses::One(Status::INTERNAL_ERROR)),
     }
 }
 

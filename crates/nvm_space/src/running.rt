@@ -1,10 +1,9 @@
 //! How a port does a job: a step of its pass in each unit in which the job has a part, one after the other, up to
 //! the first that doesn't succeed.
-ghost use Rattle.std.specs.Prelude.{◌≡◌, ℕ, List, MatchOption};
+ghost use Rattle.std.specs.Prelude.{◌≡◌, ◌≤◌, ℕ, List, MatchOption};
 ghost use Rattle.nvm_geometry.specs.Namespace.{Namespace};
 ghost use Rattle.nvm_plan.specs.Fits.{FitsNamespace};
 ghost use Rattle.nvm_plan.specs.LentPart.{part_operation_of};
-ghost use Rattle.nvm_store.specs.Limit.{IsLimit};
 ghost use Rattle.nvm_store.specs.Place.{IsCovered};
 ghost use Rattle.nvm_unit.specs.Ends.{views_of};
 ghost use Rattle.nvm_unit.specs.Passes.{IsPassOf, IsProperPass};
@@ -26,23 +25,23 @@ use nvm_plan::laws::parts_of_jobs;
 use nvm_plan::{Job, LentPart};
 use nvm_store::laws::acts_and_looks;
 use nvm_unit::laws::waiting_is_no_step;
-use nvm_unit::{Gate, Pass, Unit};
+use nvm_unit::{Gate, Kept, Pass, Unit};
 use std::alloc::Global;
 use std::sync::Wait;
 
-impl Space {
+impl<K: Kept> Space<K> {
     /// Does a job by the port's passes, or refuses it, and says what its host is told. `number` is the job's number,
     /// which the entries bear that it makes. Each part is one step of its unit; the parts are done in the order
     /// of the units, up to the first that doesn't succeed.
     ///
     /// A job that is refused, or has no parts, takes no memory. Any other asks for the memory of its list of parts
-    /// before its first part, and a Read over several units for that of its data; where it is refused, nothing is
-    /// done. It waits for the units.
+    /// before its first part, where parts are listed, and a Read over several units for that of its data; where it is refused,
+    /// nothing is done. It waits for the units.
     pub fn run_job<R: Wait, G: Gate>(
         &self,
         rt: &R,
         alloc: Global,
-        port: &mut Port,
+        port: &mut Port<K>,
         number: u32,
         job: &Job,
         gate: &G,
@@ -51,16 +50,16 @@ impl Space {
         requires fits { FitsNamespace self.now.namespace job.now }
         ensures of { IsPortOf self.now port.new }
         ensures number { port.new.number ≡ port.old.number }
-        ensures does { DoesJob self.now.namespace number job.now (views_of port.old.passes) (views_of port.new.passes)
+        ensures does { DoesJob self.now.namespace self.now.lists number job.now (views_of port.old.passes) (views_of port.new.passes)
             result }
     {
-        // For the proof alone: how large a point can be.
-        let _entries = self.limit.entries();
+        let lists = self.limit().is_some();
         do_job(
             rt,
             alloc,
             &self.geometry,
             &self.units,
+            lists,
             &mut port.passes,
             number,
             job,
@@ -73,9 +72,9 @@ impl Space {
     /// that of [`run_job`](Space::run_job) before its first part: where it is refused, the answer is `Done` with 0/06 and no
     /// parts. It touches no unit.
     pub fn begin_job(&self, alloc: Global, number: u32, job: &Job) -> Progress
-        ensures { (views : List PassView) → IsProgress self.now.namespace number job.now views views result }
+        ensures { (views : List PassView) → IsProgress self.now.namespace self.now.lists number job.now views views result }
     {
-        begin(alloc, &self.geometry, number, job)
+        begin(alloc, &self.geometry, self.limit().is_some(), number, job)
     }
 
     /// Resumes a job that was begun, part by part, up to the first whose unit it doesn't get, since another port has it or
@@ -86,7 +85,7 @@ impl Space {
     pub fn poll_job<G: Gate>(
         &self,
         alloc: Global,
-        port: &mut Port,
+        port: &mut Port<K>,
         job: &Job,
         under_way: JobUnderWay,
         gate: &G,
@@ -94,19 +93,19 @@ impl Space {
         requires of { IsPortOf self.now port.old }
         requires fits { FitsNamespace self.now.namespace job.now }
         requires under_way { (start : List PassView)
-            × IsUnderWay self.now.namespace job.now under_way start (views_of port.old.passes) }
+            × IsUnderWay self.now.namespace self.now.lists job.now under_way start (views_of port.old.passes) }
         ensures of { IsPortOf self.now port.new }
         ensures number { port.new.number ≡ port.old.number }
         ensures goes { (start : List PassView)
-            → IsUnderWay self.now.namespace job.now under_way start (views_of port.old.passes)
-            → IsProgress self.now.namespace under_way.number job.now start (views_of port.new.passes) result }
+            → IsUnderWay self.now.namespace self.now.lists job.now under_way start (views_of port.old.passes)
+            → IsProgress self.now.namespace self.now.lists under_way.number job.now start (views_of port.new.passes) result }
     {
-        // For the proof alone: how large a point can be.
-        let _entries = self.limit.entries();
+        let lists = self.limit().is_some();
         poll_job(
             alloc,
             &self.geometry,
             &self.units,
+            lists,
             &mut port.passes,
             job,
             under_way,
@@ -116,25 +115,26 @@ impl Space {
 }
 
 /// Does a job, or refuses it, and says what its host is told. `number` is its number.
-fn do_job<R: Wait, G: Gate>(
+fn do_job<R: Wait, G: Gate, K: Kept>(
     rt: &R,
     alloc: Global,
     geometry: &Geometry,
-    units: &[Unit],
-    passes: &mut Vec<Pass>,
+    units: &[Unit<K>],
+    lists: bool,
+    passes: &mut Vec<Pass<K>>,
     number: u32,
     job: &Job,
     gate: &G,
 ) -> JobDone
-    requires units { AreUnitsOf geometry.now units.now }
+    requires units { AreUnitsOf geometry.now lists units.now }
     requires passes { (n : ℕ) × ArePassesOfAll units.now n passes.old.items }
     requires fits { FitsNamespace geometry.now job.now }
     ensures passes { (n : ℕ) → ArePassesOfAll units.now n passes.old.items
         → ArePassesOfAll units.now n passes.new.items }
-    ensures does { DoesJob geometry.now number job.now (views_of passes.old.items) (views_of passes.new.items) result }
+    ensures does { DoesJob geometry.now lists number job.now (views_of passes.old.items) (views_of passes.new.items) result }
 {
     parts_of_jobs();
-    let mut progress = begin(alloc, geometry, number, job);
+    let mut progress = begin(alloc, geometry, lists, number, job);
     loop {
         match progress {
             Progress::Done(done) => return done,
@@ -151,32 +151,33 @@ fn do_job<R: Wait, G: Gate>(
                     part,
                     gate,
                 );
-                progress = under_way.replied(geometry, job, reply);
+                progress = under_way.replied(geometry, lists, job, reply);
             }
         }
     }
 }
 
 /// Goes on with a job, part by part, up to the first whose unit is held.
-fn poll_job<G: Gate>(
+fn poll_job<G: Gate, K: Kept>(
     alloc: Global,
     geometry: &Geometry,
-    units: &[Unit],
-    passes: &mut Vec<Pass>,
+    units: &[Unit<K>],
+    lists: bool,
+    passes: &mut Vec<Pass<K>>,
     job: &Job,
     under_way: JobUnderWay,
     gate: &G,
 ) -> Progress
-    requires units { AreUnitsOf geometry.now units.now }
+    requires units { AreUnitsOf geometry.now lists units.now }
     requires passes { (n : ℕ) × ArePassesOfAll units.now n passes.old.items }
     requires fits { FitsNamespace geometry.now job.now }
     requires under_way { (start : List PassView)
-        × IsUnderWay geometry.now job.now under_way start (views_of passes.old.items) }
+        × IsUnderWay geometry.now lists job.now under_way start (views_of passes.old.items) }
     ensures passes { (n : ℕ) → ArePassesOfAll units.now n passes.old.items
         → ArePassesOfAll units.now n passes.new.items }
     ensures goes { (start : List PassView)
-        → IsUnderWay geometry.now job.now under_way start (views_of passes.old.items)
-        → IsProgress geometry.now under_way.number job.now start (views_of passes.new.items) result }
+        → IsUnderWay geometry.now lists job.now under_way start (views_of passes.old.items)
+        → IsProgress geometry.now lists under_way.number job.now start (views_of passes.new.items) result }
 {
     parts_of_jobs();
     waiting_is_no_step();
@@ -200,30 +201,30 @@ fn poll_job<G: Gate>(
                 let Some(reply) = polled else {
                     return Progress::Pending(under_way);
                 };
-                progress = under_way.replied(geometry, job, reply);
+                progress = under_way.replied(geometry, lists, job, reply);
             }
         }
     }
 }
 
 /// Does the part of a job in a unit.
-fn do_part<R: Wait, G: Gate>(
+fn do_part<R: Wait, G: Gate, K: Kept>(
     rt: &R,
     alloc: Global,
-    unit: &Unit,
-    pass: &mut Pass,
+    unit: &Unit<K>,
+    pass: &mut Pass<K>,
     number: u32,
     place: u16,
     part: LentPart<'_>,
     gate: &G,
 ) -> PartReply
     requires of { IsPassOf unit.now pass.old }
-    requires limit { IsLimit unit.now.bounds.limit }
     requires covered { IsCovered unit.now.bounds.place (part_operation_of part) }
     ensures of { IsPassOf unit.now pass.new }
     ensures number { pass.new.view.number ≡ pass.old.view.number }
     ensures proper { IsProperPass pass.new.view }
-    ensures unit { result.part.unit ≡ place }
+    ensures unit { result.unit ≡ place }
+    ensures within { result.point ≤ unit.now.bounds.limit }
     ensures does { DoesPart (part_done number (part_operation_of part.entry) (reply_told result)) pass.old.view
         pass.new.view }
 {
@@ -237,23 +238,22 @@ fn do_part<R: Wait, G: Gate>(
 }
 
 /// Does the part of a job in a unit, unless the unit is held: then it is `None`.
-fn poll_part<G: Gate>(
+fn poll_part<G: Gate, K: Kept>(
     alloc: Global,
-    unit: &Unit,
-    pass: &mut Pass,
+    unit: &Unit<K>,
+    pass: &mut Pass<K>,
     number: u32,
     place: u16,
     part: LentPart<'_>,
     gate: &G,
 ) -> Option<PartReply>
     requires of { IsPassOf unit.now pass.old }
-    requires limit { IsLimit unit.now.bounds.limit }
     requires covered { IsCovered unit.now.bounds.place (part_operation_of part) }
     ensures of { IsPassOf unit.now pass.new }
     ensures number { pass.new.view.number ≡ pass.old.view.number }
     ensures proper { IsProperPass pass.new.view }
-    ensures does { MatchOption result (Waits pass.old.view pass.new.view) (λ reply. (reply.part.unit ≡ place)
-        × DoesPart (part_done number (part_operation_of part.entry) (reply_told reply)) pass.old.view pass.new.view) }
+    ensures does { MatchOption result (Waits pass.old.view pass.new.view) (λ reply. (reply.unit ≡ place)
+        × (reply.point ≤ unit.now.bounds.limit) × DoesPart (part_done number (part_operation_of part.entry) (reply_told reply)) pass.old.view pass.new.view) }
 {
     acts_and_looks();
     match part {

@@ -1,7 +1,8 @@
-ghost use Rattle.std.specs.Prelude.{◌≡◌, ◌<◌, ℕ, IfOk, IfErr, length, true};
+ghost use Rattle.std.specs.Prelude.{◌≡◌, ◌<◌, ℕ, IfOk, IfErr, IfSome, is_some, length, true};
 ghost use Rattle.nvm_record.specs.Lists.{IsAt};
 ghost use Rattle.nvm_store.specs.HistoryEntry.{HistoryEntry};
 ghost use Rattle.nvm_geometry.specs.Boundaries.{units_of};
+ghost use Rattle.nvm_store.specs.Limit.{IsLimit};
 ghost use Rattle.nvm_unit.specs.declared.views.PassView.{PassView};
 ghost use Rattle.nvm_unit.specs.Ends.{views_of};
 ghost use Rattle.nvm_unit.specs.Passes.{UnitName};
@@ -9,7 +10,7 @@ ghost use Rattle.nvm_unit.specs.Replies.{IsBroughtUp};
 ghost use Rattle.nvm_space.specs.Visits.{BecomesAt, MeetInEach};
 ghost use Rattle.nvm_space.specs.Closing.{EndsWhole};
 ghost use Rattle.nvm_space.specs.Ports.{AreAllPortsOf, IsPortOf, new_ports};
-ghost use Rattle.nvm_space.specs.Spaces.{IsLaidOut, IsPortCount, IsSpaceFault};
+ghost use Rattle.nvm_space.specs.Spaces.{IsLaidOut, IsPortCount, IsSpaceFault, most_entries};
 
 use crate::closing::histories;
 use crate::meeting::meet_in_each;
@@ -19,7 +20,7 @@ use crate::space_fault::SpaceFault;
 use nvm_geometry::Geometry;
 use nvm_record::NoMemory;
 use nvm_store::{History, Limit};
-use nvm_unit::Unit;
+use nvm_unit::{Count, Kept, Unit};
 use std::alloc::Global;
 use std::marker::Model;
 use std::sync::Wait;
@@ -29,30 +30,35 @@ pub const MOST_PORTS: u16 = 64;
 
 /// A namespace as the atomic units that its boundaries make, which many threads read and change by their ports.
 ///
-/// Contracts see the namespace, the number of ports, the limit of each unit's history, whether it was opened with
-/// versions, and the units.
+/// It keeps the history of each unit, or only counts its entries (`Space<Count>`).
+///
+/// Contracts see the namespace, the number of ports, the limit of each unit's history, if it has one, whether it was opened
+/// with versions, and the units.
 #[derive(Drop)]
-pub struct Space {
+pub struct Space<K: Kept = History> {
     pub(crate) geometry: Geometry,
     pub(crate) ports: u16,
-    pub(crate) limit: Limit,
+    /// The most entries of a unit's history, which a space without histories needn't have.
+    pub(crate) limit: Option<Limit>,
     /// Whether the ports' passes keep versions.
     pub(crate) versions: bool,
     /// Unit k stands at place k.
-    pub(crate) units: Vec<Unit>,
+    pub(crate) units: Vec<Unit<K>>,
 }
 
-impl Model for Space {
-    ghost use Rattle.nvm_space.specs.Spaces.{SpaceName, IsLaidOut};
+impl<K: Kept> Model for Space<K> {
+    ghost use Rattle.std.specs.Prelude.{is_some};
+    ghost use Rattle.nvm_space.specs.Spaces.{SpaceName, IsLaidOut, most_entries};
 
     ghost Value = { SpaceName };
 
-    ghost view = { λ s. record { namespace = s.geometry; ports = s.ports; limit = s.limit; versions = s.versions; units = s.units.items } };
+    ghost view = { λ s. record { namespace = s.geometry; ports = s.ports; limit = most_entries s.limit; lists = is_some s.limit; versions = s.versions; units = s.units.items } };
 
     ghost invariant = { λ s. IsLaidOut (record {
       namespace = s.geometry;
       ports = s.ports;
-      limit = s.limit;
+      limit = most_entries s.limit;
+      lists = is_some s.limit;
       versions = s.versions;
       units = s.units.items;
     }) };
@@ -75,6 +81,7 @@ impl Space {
         ensures refused { IfErr result (IsSpaceFault ports) }
         ensures namespace { IfOk result (λ s. s.0.namespace ≡ geometry) }
         ensures limit { IfOk result (λ s. s.0.limit ≡ limit) }
+        ensures lists { IfOk result (λ s. s.0.lists ≡ true) }
         ensures units { IfOk result (λ s. IsLaidOut s.0) }
         ensures count { IfOk result (λ s. s.0.ports ≡ ports) }
         ensures ports { IfOk result (λ s. s.1.items ≡ new_ports s.0) }
@@ -97,6 +104,59 @@ impl Space {
         ensures refused { IfErr result (IsSpaceFault ports) }
         ensures namespace { IfOk result (λ s. s.0.namespace ≡ geometry) }
         ensures limit { IfOk result (λ s. s.0.limit ≡ limit) }
+        ensures lists { IfOk result (λ s. s.0.lists ≡ true) }
+        ensures units { IfOk result (λ s. IsLaidOut s.0) }
+        ensures count { IfOk result (λ s. s.0.ports ≡ ports) }
+        ensures ports { IfOk result (λ s. s.1.items ≡ new_ports s.0) }
+        ensures all { IfOk result (λ s. AreAllPortsOf s.0 s.1.items) }
+        ensures versions { IfOk result (λ s. s.0.versions ≡ versions) }
+    {
+        Space::with_limit(alloc, geometry, ports, Some(limit), versions)
+    }
+}
+
+impl Space<Count> {
+    /// What [`open`](Space::open) does, of a space that keeps no histories. They are those of all its changes as before, and contracts
+    /// speak of them, but nobody can ask for them, and they take no memory.
+    ///
+    /// With a limit the points of parts are those that a record can hold, and a job that is done lists its parts. Without, each unit's
+    /// history may have 2^62 entries, and no parts are listed.
+    pub fn unrecorded(
+        alloc: Global,
+        geometry: Geometry,
+        ports: u16,
+        limit: Option<Limit>,
+        versions: bool,
+    ) -> Result<(Space<Count>, Vec<Port<Count>>), SpaceFault>
+        ensures taken { IfOk result (λ s. IsPortCount ports) }
+        ensures refused { IfErr result (IsSpaceFault ports) }
+        ensures namespace { IfOk result (λ s. s.0.namespace ≡ geometry) }
+        ensures limit { IfOk result (λ s. s.0.limit ≡ most_entries limit) }
+        ensures lists { IfOk result (λ s. s.0.lists ≡ is_some limit) }
+        ensures units { IfOk result (λ s. IsLaidOut s.0) }
+        ensures count { IfOk result (λ s. s.0.ports ≡ ports) }
+        ensures ports { IfOk result (λ s. s.1.items ≡ new_ports s.0) }
+        ensures all { IfOk result (λ s. AreAllPortsOf s.0 s.1.items) }
+        ensures versions { IfOk result (λ s. s.0.versions ≡ versions) }
+    {
+        Space::with_limit(alloc, geometry, ports, limit, versions)
+    }
+}
+
+impl<K: Kept> Space<K> {
+    /// A new space, whatever it keeps.
+    fn with_limit(
+        alloc: Global,
+        geometry: Geometry,
+        ports: u16,
+        limit: Option<Limit>,
+        versions: bool,
+    ) -> Result<(Space<K>, Vec<Port<K>>), SpaceFault>
+        ensures taken { IfOk result (λ s. IsPortCount ports) }
+        ensures refused { IfErr result (IsSpaceFault ports) }
+        ensures namespace { IfOk result (λ s. s.0.namespace ≡ geometry) }
+        ensures limit { IfOk result (λ s. s.0.limit ≡ most_entries limit) }
+        ensures lists { IfOk result (λ s. s.0.lists ≡ is_some limit) }
         ensures units { IfOk result (λ s. IsLaidOut s.0) }
         ensures count { IfOk result (λ s. s.0.ports ≡ ports) }
         ensures ports { IfOk result (λ s. s.1.items ≡ new_ports s.0) }
@@ -126,10 +186,16 @@ impl Space {
         self.geometry
     }
 
-    /// The most entries that a unit's history may have.
-    pub fn limit(&self) -> Limit
-        ensures { result ≡ self.now.limit }
+    /// The most entries that a unit's history may have. A space that was opened without a limit has none, but 2^62.
+    pub fn limit(&self) -> Option<Limit>
+        ensures limit { self.now.limit ≡ most_entries result }
+        ensures lists { self.now.lists ≡ is_some result }
+        ensures valid { IfSome result IsLimit }
     {
+        if let Some(limit) = self.limit {
+            // For the proof alone: how large it can be.
+            let _entries = limit.entries();
+        }
         self.limit
     }
 
@@ -142,7 +208,7 @@ impl Space {
 
     /// Brings the port's pass of the unit to the history that it finds. It waits for the unit, and takes no
     /// memory.
-    pub fn refresh<R: Wait>(&self, rt: &R, port: &mut Port, unit: u16)
+    pub fn refresh<R: Wait>(&self, rt: &R, port: &mut Port<K>, unit: u16)
         requires of { IsPortOf self.now port.old }
         requires known { unit < units_of self.now.namespace }
         ensures of { IsPortOf self.now port.new }
@@ -153,6 +219,42 @@ impl Space {
         self.units[place].refresh(rt, &mut port.passes[place]);
     }
 
+    /// Brings both ports to one history in each unit, so that what either had seen stands in it. It waits for
+    /// the units, one after the other, and takes no memory.
+    pub fn meet<R: Wait>(&self, rt: &R, one: &mut Port<K>, other: &mut Port<K>)
+        requires one { IsPortOf self.now one.old }
+        requires other { IsPortOf self.now other.old }
+        ensures one { IsPortOf self.now one.new }
+        ensures other { IsPortOf self.now other.new }
+        ensures number { one.new.number ≡ one.old.number }
+        ensures other_number { other.new.number ≡ other.old.number }
+        ensures met { MeetInEach (views_of one.old.passes) (views_of other.old.passes) (views_of one.new.passes)
+            (views_of other.new.passes) }
+    {
+        meet_in_each(rt, &self.units, &mut one.passes, &mut other.passes);
+    }
+
+    /// What is kept of the whole history of each unit, in the order of the units, once nobody uses the space any more: the
+    /// history, or the number of its entries. The ports are those that came with the space, in their order. It waits for
+    /// nothing. A refusal of memory leaves nothing.
+    pub fn close(self, alloc: Global, ports: Vec<Port<K>>) -> Result<Vec<K>, NoMemory>
+        requires { AreAllPortsOf self ports.items }
+        ensures count { IfOk result (λ hs. length hs.items ≡ length self.units) }
+        ensures each { IfOk result (λ hs. (k : ℕ) (unit : UnitName) (history : _) → IsAt self.units k unit
+            → IsAt hs.items k history → EndsWhole k unit ports.items (K.told history)) }
+    {
+        let Space {
+            geometry: _,
+            ports: _,
+            limit: _,
+            versions: _,
+            units,
+        } = self;
+        histories(alloc, units, ports)
+    }
+}
+
+impl Space {
     /// Brings the port's pass of the unit to the history that it finds, and gives a copy of it. It waits for the
     /// unit. Where memory is refused, the pass is brought up nevertheless.
     pub fn history<R: Wait>(
@@ -172,39 +274,5 @@ impl Space {
     {
         let place = usize::from(unit);
         self.units[place].history(rt, alloc, &mut port.passes[place])
-    }
-
-    /// Brings both ports to one history in each unit, so that what either had seen stands in it. It waits for
-    /// the units, one after the other, and takes no memory.
-    pub fn meet<R: Wait>(&self, rt: &R, one: &mut Port, other: &mut Port)
-        requires one { IsPortOf self.now one.old }
-        requires other { IsPortOf self.now other.old }
-        ensures one { IsPortOf self.now one.new }
-        ensures other { IsPortOf self.now other.new }
-        ensures number { one.new.number ≡ one.old.number }
-        ensures other_number { other.new.number ≡ other.old.number }
-        ensures met { MeetInEach (views_of one.old.passes) (views_of other.old.passes) (views_of one.new.passes)
-            (views_of other.new.passes) }
-    {
-        meet_in_each(rt, &self.units, &mut one.passes, &mut other.passes);
-    }
-
-    /// The whole history of each unit, in the order of the units, once nobody uses the space any more. The ports
-    /// are those that [`Space::new`] gave with it, in their order. It waits for nothing. A refusal of memory
-    /// leaves nothing.
-    pub fn close(self, alloc: Global, ports: Vec<Port>) -> Result<Vec<History>, NoMemory>
-        requires { AreAllPortsOf self ports.items }
-        ensures count { IfOk result (λ hs. length hs.items ≡ length self.units) }
-        ensures each { IfOk result (λ hs. (k : ℕ) (unit : UnitName) (history : _) → IsAt self.units k unit
-            → IsAt hs.items k history → EndsWhole k unit ports.items history.items) }
-    {
-        let Space {
-            geometry: _,
-            ports: _,
-            limit: _,
-            versions: _,
-            units,
-        } = self;
-        histories(alloc, units, ports)
     }
 }

@@ -1,5 +1,5 @@
 //! A job that is done without waiting: begun, gone on with as far as the units are free, and done.
-ghost use Rattle.std.specs.Prelude.{◌≡◌, ◌<◌, ℕ, List, [], length, Some, None, IfOk};
+ghost use Rattle.std.specs.Prelude.{◌≡◌, ◌<◌, ◌^◌, ℕ, Bool, true, List, [], length, Some, None, IfOk};
 ghost use Rattle.nvm_record.specs.declared.status.Statuses.{Statuses as Told};
 ghost use Rattle.nvm_geometry.specs.Boundaries.{units_of};
 ghost use Rattle.nvm_geometry.specs.Namespace.{Namespace};
@@ -40,7 +40,7 @@ pub struct JobUnderWay {
     pub(crate) number: u32,
     /// The unit of the next part.
     unit: u16,
-    /// The parts that were done, with room for all that are left.
+    /// The parts that were done, with room for all that are left, where they are listed.
     parts: Vec<Part>,
     /// What they read.
     bytes: Vec<u8>,
@@ -70,9 +70,16 @@ pub enum Progress {
     Pending(JobUnderWay),
 }
 
-/// Begins a job: refuses it, or asks for the memory of its list of parts and of its data. No part is done.
-pub(crate) fn begin(alloc: Global, geometry: &Geometry, number: u32, job: &Job) -> Progress
-    ensures { (views : List PassView) → IsProgress geometry.now number job.now views views result }
+/// Begins a job: refuses it, or asks for the memory of its list of parts, where they are listed, and of its data. No part is
+/// done.
+pub(crate) fn begin(
+    alloc: Global,
+    geometry: &Geometry,
+    lists: bool,
+    number: u32,
+    job: &Job,
+) -> Progress
+    ensures { (views : List PassView) → IsProgress geometry.now lists number job.now views views result }
 {
     outcomes_by_plan();
     outcomes_are_made_part_by_part();
@@ -86,7 +93,11 @@ pub(crate) fn begin(alloc: Global, geometry: &Geometry, number: u32, job: &Job) 
     let Some(unit) = next_job_unit(geometry, job, 0) else {
         return Progress::Done(JobDone::of_success(job, Vec::new(alloc), Vec::new(alloc)));
     };
-    let count = job_part_count(geometry, job);
+    let count = if lists {
+        job_part_count(geometry, job)
+    } else {
+        0
+    };
     let Ok(parts) = Vec::with_capacity(alloc, usize::from(count)) else {
         return Progress::Done(JobDone::of_no_part(alloc, job));
     };
@@ -106,7 +117,7 @@ impl JobUnderWay {
     pub(crate) fn next_part<'a>(&self, geometry: &Geometry, job: &'a Job) -> (u16, LentPart<'a>)
         requires fits { FitsNamespace geometry.now job.now }
         requires under_way { (start : List PassView) × (now : List PassView)
-            × IsUnderWay geometry.now job.now self.now start now }
+            × (lists : Bool) × IsUnderWay geometry.now lists job.now self.now start now }
         ensures unit { result.0 ≡ self.now.unit }
         ensures known { result.0 < units_of geometry.now }
         ensures part { plan_spec.job_part_in geometry.now job.now self.now.unit ≡ Some (part_operation_of result.1) }
@@ -121,12 +132,19 @@ impl JobUnderWay {
     }
 
     /// What the reply to its next part makes of it.
-    pub(crate) fn replied(self, geometry: &Geometry, job: &Job, reply: PartReply) -> Progress
-        requires { (start : List PassView) × (now : List PassView) × (new : List PassView)
-            × RepliesTo geometry.now job.now self (reply_told reply) start now new }
+    pub(crate) fn replied(
+        self,
+        geometry: &Geometry,
+        lists: bool,
+        job: &Job,
+        reply: PartReply,
+    ) -> Progress
+        requires few { lists ≡ true → reply.point < 2 ^ 32 }
+        requires replies { (start : List PassView) × (now : List PassView) × (new : List PassView)
+            × RepliesTo geometry.now lists job.now self (reply_told reply) start now new }
         ensures progress { (start now new : List PassView)
-            → RepliesTo geometry.now job.now self (reply_told reply) start now new
-            → IsProgress geometry.now self.number job.now start new result }
+            → RepliesTo geometry.now lists job.now self (reply_told reply) start now new
+            → IsProgress geometry.now lists self.number job.now start new result }
         ensures fewer { left_of geometry.now job.now result < length (units_left geometry.now job.now self) }
     {
         parts_follow_parts();
@@ -138,8 +156,15 @@ impl JobUnderWay {
             mut parts,
             mut bytes,
         } = self;
-        let (part, statuses) = gathered(reply, &mut bytes);
-        parts.push_reserved(part);
+        let (at, point) = (reply.unit, reply.point);
+        let (result, statuses) = gathered(reply, &mut bytes);
+        if lists {
+            parts.push_reserved(Part {
+                unit: at,
+                point: point as u32,
+                result,
+            });
+        }
         if !statuses.is_success() {
             return Progress::Done(JobDone::of(job, statuses, None, parts));
         }
@@ -158,9 +183,9 @@ impl JobUnderWay {
 /// A part that succeeded leaves the job under way at its next unit, or ends it where that was the last. One that didn't
 /// ends it too.
 fn parts_follow_parts()
-    ensures { (ns : Namespace) (job : JobName) (w : UnderWay) (reply : ReplyToPart) (start now new : List PassView)
+    ensures { (ns : Namespace) (lists : Bool) (job : JobName) (w : UnderWay) (reply : ReplyToPart) (start now new : List PassView)
         (bytes : List ℕ) (part : PartEnded) (statuses : Told)
-        → HasReplied ns job w reply start now new bytes part statuses → Follows ns job w start new bytes part statuses }
+        → HasReplied ns lists job w reply start now new bytes part statuses → Follows ns lists job w start new bytes part statuses }
 {
     outcomes_by_plan();
     outcomes_are_made_part_by_part();

@@ -102,7 +102,7 @@ impl Unit {
         ensures passes { IfOk result (λ u. u.1.items ≡ new_passes u.0) }
         ensures versions { IfOk result (λ u. u.0.versions ≡ versions) }
     {
-        Unit::made(
+        Unit::with_limit(
             alloc,
             number,
             place,
@@ -132,13 +132,13 @@ impl Unit<Count> {
         ensures passes { IfOk result (λ u. u.1.items ≡ new_passes u.0) }
         ensures versions { IfOk result (λ u. u.0.versions ≡ versions) }
     {
-        Unit::made(alloc, number, place, passes, MOST_ENTRIES, versions)
+        Unit::with_limit(alloc, number, place, passes, MOST_ENTRIES, versions)
     }
 }
 
 impl<K: Kept> Unit<K> {
-    /// A new unit, whatever it keeps.
-    fn made(
+    /// What [`open`](Unit::open) and [`unrecorded`](Unit::unrecorded) do, of a unit that keeps a `K` of its history, which may have so many entries.
+    pub fn with_limit(
         alloc: Global,
         number: u16,
         place: Place,

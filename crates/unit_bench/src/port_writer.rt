@@ -10,23 +10,23 @@ use nvm_plan::{Body, Completions, Job, fits, unit_place};
 use nvm_record::{Command, Fuse, Op, Payload, PayloadRef, Status};
 use nvm_space::{JobDone, Port, Progress, Space, SpaceFault};
 use nvm_store::Limit;
-use nvm_unit::Open;
+use nvm_unit::{Count, Open};
 use std::alloc::Global;
 use std::sync::{Arc, Wait};
 
-/// A port of a namespace whose writers have a unit each, and where this writer's unit begins. Each write is a job that is begun
+/// A port of a namespace that isn't recorded, whose writers have a unit each, and where this writer's unit begins. Each write is a job that is begun
 /// and polled, with a copy of its data, as a caller does it whose buffer is another's.
 #[derive(Drop)]
 pub struct PortWriter {
-    space: Arc<Space, Global>,
-    port: Port,
+    space: Arc<Space<Count>, Global>,
+    port: Port<Count>,
     first: u64,
     ghost of: { IsPortOf (arc_value space) port },
 }
 
 impl PortWriter {
     /// The writer of this port.
-    fn new(space: Arc<Space, Global>, port: Port, blocks: u32) -> PortWriter
+    fn new(space: Arc<Space<Count>, Global>, port: Port<Count>, blocks: u32) -> PortWriter
         requires { IsPortOf (arc_value space) port }
     {
         let first = u64::from(port.number()) * u64::from(blocks);
@@ -36,8 +36,8 @@ impl PortWriter {
     /// A writer of each of these ports.
     fn of_each(
         alloc: Global,
-        space: &Arc<Space, Global>,
-        ports: Vec<Port>,
+        space: &Arc<Space<Count>, Global>,
+        ports: Vec<Port<Count>>,
         blocks: u32,
     ) -> Result<Vec<PortWriter>, Fault>
         requires { All (IsPortOf (arc_value space.now)) ports.items }
@@ -83,7 +83,7 @@ impl Writer for PortWriter {
         let Ok(geometry) = Geometry::new(nsze, BLOCK as u32, (blocks - 1) as u16, 0, 0, 0) else {
             return Err(Fault::Refused);
         };
-        let (space, ports) = match Space::open(alloc, geometry, ports, limit, versions) {
+        let (space, ports) = match Space::unrecorded(alloc, geometry, ports, Some(limit), versions) {
             Ok(made) => made,
             Err(SpaceFault::NoMemory) => return Err(Fault::NoMemory),
             Err(SpaceFault::Ports) => return Err(Fault::Refused),

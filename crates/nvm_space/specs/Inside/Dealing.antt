@@ -1,15 +1,15 @@
 -- Passes that are handed out to ports, and gathered from them: unit by unit, a pass for each port.
-use Rattle.std.specs.Prelude.{◌≡◌, ℕ, ◌<◌, ◌≤◌, Bool, List, [], ◌∷◌, ◌++◌, length}
+use Rattle.std.specs.Prelude.{◌≡◌, ℕ, ◌<◌, ◌≤◌, Bool, Option, is_some, List, [], ◌∷◌, ◌++◌, length}
 use Rattle.nvm_record.specs.Lists.{IsAt}
 use Rattle.nvm_geometry.specs.Namespace.{Namespace}
 use Rattle.nvm_unit.specs.Passes.{UnitName, PassState}
 use Rattle.nvm_space.specs.Ports.{PortState, new_port}
-use Rattle.nvm_space.specs.Spaces.{SpaceName}
+use Rattle.nvm_space.specs.Spaces.{SpaceName, most_entries}
 
 -- the space of these units
-abbrev pub space_of : Namespace → ℕ → ℕ → Bool → List UnitName → SpaceName
+abbrev pub space_of : Namespace → ℕ → Option ℕ → Bool → List UnitName → SpaceName
 space_of ns ports limit versions units =
-    record { namespace = ns; ports = ports; limit = limit; versions = versions; units = units }
+    record { namespace = ns; ports = ports; limit = most_entries limit; lists = is_some limit; versions = versions; units = units }
 
 -- the port with this pass behind those that it has
 abbrev pub with_one_more : PortState → PassState → PortState

@@ -1,5 +1,5 @@
 -- The parts of a job, and what is told of them.
-use Rattle.std.specs.Prelude.{◌≡◌, ◌⊎◌, ℕ, List, [], ◌++◌, length, Option, unwrap_or, IsSome}
+use Rattle.std.specs.Prelude.{◌≡◌, ◌⊎◌, ℕ, Bool, true, List, [], ◌++◌, length, Option, unwrap_or, IsSome}
 use Rattle.nvm_record.specs.Lists.{IsAt}
 use Rattle.nvm_record.specs.declared.status.Statuses.{Statuses}
 use Rattle.nvm_record.specs.declared.status.Statuses.TheVariants.{One}
@@ -19,15 +19,15 @@ use Rattle.nvm_space.specs.declared.job_done.JobDone.{JobDone}
 use Rattle.nvm_space.specs.declared.replies.PartReply.{PartReply}
 use Rattle.nvm_space.specs.Trace.{PartDone, part_ended}
 
--- These are the units of the namespace, each at the place of its number, with a limit of records.
-pub record AreUnitsOf (ns : Namespace) (units : List UnitName) : Type 0 where
+-- These are the units of the namespace, each at the place of its number. Where parts are listed, it has a limit of records.
+pub record AreUnitsOf (ns : Namespace) (lists : Bool) (units : List UnitName) : Type 0 where
   pub count : length units ≡ units_of ns
   pub place : (k : ℕ) (unit : UnitName) → IsAt units k unit → IsUnitPlace ns k unit.bounds.place
-  pub limit : (k : ℕ) (unit : UnitName) → IsAt units k unit → IsLimit unit.bounds.limit
+  pub limit : lists ≡ true → (k : ℕ) (unit : UnitName) → IsAt units k unit → IsLimit unit.bounds.limit
 
 -- what a unit told, as plain data
 abbrev pub reply_told : PartReply → Reply
-reply_told r = record { part = r.part; statuses = r.statuses; payload = r.payload }
+reply_told r = record { part = part_ended r.unit r.point r.result; statuses = r.statuses; payload = r.payload }
 
 abbrev pub part_done : ℕ → Operation → Reply → PartDone
 part_done number op reply = record { job = number; operation = op; reply = reply }
@@ -39,6 +39,6 @@ job_ended job told read parts done = (done.completions ≡ completions_of job to
 -- The data of the reply was added to the bytes before it; or there was no memory for that, and the part found none.
 abbrev pub IsGathered : PartReply → List ℕ → List ℕ → Part → Statuses → Type 0
 IsGathered r old new part statuses =
-    ((part ≡ r.part) × (statuses ≡ r.statuses) × (new ≡ old ++ unwrap_or r.payload []))
-    ⊎ (IsSome r.payload × (part ≡ part_ended r.part.unit r.part.point result.NoMemory)
+    ((part ≡ part_ended r.unit r.point r.result) × (statuses ≡ r.statuses) × (new ≡ old ++ unwrap_or r.payload []))
+    ⊎ (IsSome r.payload × (part ≡ part_ended r.unit r.point result.NoMemory)
     × (statuses ≡ One internal_error))

@@ -1,5 +1,5 @@
 -- What a reply to its next part makes of a job that is under way.
-use Rattle.std.specs.Prelude.{◌≡◌, ℕ, ◌+◌, List, [], ◌∷◌, ◌++◌, length, Some, None}
+use Rattle.std.specs.Prelude.{◌≡◌, ℕ, ◌+◌, Bool, if◌then◌else◌, List, [], ◌∷◌, ◌++◌, length, Some, None}
 use Rattle.nvm_record.specs.declared.status.Statuses.{Statuses}
 use Rattle.nvm_record.specs.Deeds.{success_of}
 use Rattle.nvm_record.specs.Status.{IsSuccess}
@@ -23,36 +23,40 @@ use Rattle.nvm_space.specs.declared.under_way.Progress.{Progress}
 use Rattle.nvm_space.specs.declared.under_way.Progress.TheVariants.{Done, Pending}
 
 -- The next part of the job was done, and this is the reply to it.
-pub record RepliesTo (ns : Namespace) (job : Job) (w : UnderWay) (reply : Reply) (start now new : List PassView) : Type 0 where
-  pub under_way : IsUnderWay ns job w start now
+pub record RepliesTo (ns : Namespace) (lists : Bool) (job : Job) (w : UnderWay) (reply : Reply) (start now new : List PassView) : Type 0 where
+  pub under_way : IsUnderWay ns lists job w start now
   pub part : Operation
   pub in_unit : job_part_in ns job w.unit ≡ Some part
   pub at : reply.part.unit ≡ w.unit
   pub step : BecomesAt w.unit (DoesPart (part_done w.number part reply)) now new
 
 -- It was, and with its data gathered the part and its statuses are these.
-abbrev pub HasReplied : Namespace → Job → UnderWay → PartReply → List PassView → List PassView → List PassView → List ℕ → Part → Statuses → Type 0
-HasReplied ns job w r start now new bytes part statuses =
-    RepliesTo ns job w (reply_told r) start now new × IsGathered r w.bytes bytes part statuses
+abbrev pub HasReplied : Namespace → Bool → Job → UnderWay → PartReply → List PassView → List PassView → List PassView → List ℕ → Part → Statuses → Type 0
+HasReplied ns lists job w r start now new bytes part statuses =
+    RepliesTo ns lists job w (reply_told r) start now new × IsGathered r w.bytes bytes part statuses
+
+-- the list of parts with one more, where they are listed
+abbrev pub with_part : Bool → List Part → Part → List Part
+with_part lists parts part = if lists then parts ++ part ∷ [] else parts
 
 -- the job with one part more, that goes on at this unit
-abbrev pub gone_on : UnderWay → ℕ → Part → List ℕ → UnderWay
-gone_on w next part bytes =
-    record { number = w.number; unit = next; parts = w.parts ++ part ∷ []; bytes = bytes; room = w.room }
+abbrev pub gone_on : Bool → UnderWay → ℕ → Part → List ℕ → UnderWay
+gone_on lists w next part bytes =
+    record { number = w.number; unit = next; parts = with_part lists w.parts part; bytes = bytes; room = w.room }
 
 -- What follows from that: a part that succeeded leaves the job under way at the next unit, or ends it where it was the
 -- last. One that didn't ends it too.
-pub record Follows (ns : Namespace) (job : Job) (w : UnderWay) (start new : List PassView) (bytes : List ℕ) (part : Part)
+pub record Follows (ns : Namespace) (lists : Bool) (job : Job) (w : UnderWay) (start new : List PassView) (bytes : List ℕ) (part : Part)
     (statuses : Statuses) : Type 0 where
   pub more : (next : ℕ) → IsSuccess statuses → job_units_from ns job (w.unit + 1) ≡ next ∷ job_units_from ns job (next + 1)
-      → IsUnderWay ns job (gone_on w next part bytes) start new
+      → IsUnderWay ns lists job (gone_on lists w next part bytes) start new
   pub last : (done : JobDone) → IsSuccess statuses → job_units_from ns job (w.unit + 1) ≡ []
       → ((op : Operation) → job_operation_of ns job ≡ Some op
-      → job_ended job (success_of op.deed) (answered op.deed bytes) (w.parts ++ part ∷ []) done)
-      → DoesJob ns w.number job start new done
+      → job_ended job (success_of op.deed) (answered op.deed bytes) (with_part lists w.parts part) done)
+      → DoesJob ns lists w.number job start new done
   pub told : ¬ (IsSuccess statuses) → IsForEach job.body statuses
-  pub stopped : (done : JobDone) → ¬ (IsSuccess statuses) → job_ended job statuses None (w.parts ++ part ∷ []) done
-      → DoesJob ns w.number job start new done
+  pub stopped : (done : JobDone) → ¬ (IsSuccess statuses) → job_ended job statuses None (with_part lists w.parts part) done
+      → DoesJob ns lists w.number job start new done
 
 -- how many parts are left
 abbrev pub left_of : Namespace → Job → Progress → ℕ

@@ -58,7 +58,7 @@ pub(super) fn poll_once(alloc: Global, space: &Space, port: &mut Port, job: &Job
     requires of { IsPortOf space.now port.old }
     requires fits { FitsNamespace space.now.namespace job.now }
     ensures of { IsPortOf space.now port.new }
-    ensures begun { IsProgress space.now.namespace 9 job.now (views_of port.old.passes) (views_of port.new.passes) result }
+    ensures begun { IsProgress space.now.namespace space.now.lists 9 job.now (views_of port.old.passes) (views_of port.new.passes) result }
 {
     match space.begin_job(alloc, 9, job) {
         Progress::Done(done) => Progress::Done(done),

@@ -30,7 +30,7 @@ fn meanwhile(
     requires fits { FitsNamespace space.now.namespace job.now }
     ensures of { IsPortOf space.now result.1 }
     ensures begun { IfSome result.0 (λ progress. (start : List PassView)
-        × IsProgress space.now.namespace 9 job.now start (views_of result.1.passes) progress) }
+        × IsProgress space.now.namespace space.now.lists 9 job.now start (views_of result.1.passes) progress) }
 {
     // For want of memory for a thread, or for the job that holds the unit, it is never held.
     if !gate.holds() {
@@ -59,7 +59,7 @@ fn at_once<R: Threads + Wait + Sync>(
     requires job { FitsNamespace space.now.namespace job.now }
     ensures of { IsPortOf space.now result.1.1 }
     ensures begun { IfSome result.1.0 (λ progress. (start : List PassView)
-        × IsProgress space.now.namespace 9 job.now start (views_of result.1.1.passes) progress) }
+        × IsProgress space.now.namespace space.now.lists 9 job.now start (views_of result.1.1.passes) progress) }
 {
     join(
         rt,
@@ -79,7 +79,7 @@ fn poll_again(
     requires of { IsPortOf space.now port.old }
     requires fits { FitsNamespace space.now.namespace job.now }
     requires begun { IfSome progress (λ p. (start : List PassView)
-        × IsProgress space.now.namespace 9 job.now start (views_of port.old.passes) p) }
+        × IsProgress space.now.namespace space.now.lists 9 job.now start (views_of port.old.passes) p) }
     ensures of { IsPortOf space.now port.new }
 {
     let Some(progress) = progress else {

@@ -4,5 +4,5 @@ use Rattle.nvm_c.proofs.ThreeBits.{completions_fit, outcome_fits}
 use Rattle.nvm_c.proofs.engine.told_statuses_fit_their_entries.Goals as goal
 
 pub returns-clause-fit : goal.returns-clause-fit
-returns-clause-fit c ns number job start now done does =
+returns-clause-fit c ns lists number job start now done does =
     subst FitEntries (sym does.completions) (completions_fit job.host job.body does.told does.read (outcome_fits ns job _ does.told does.read does.outcome))

@@ -20,7 +20,7 @@ loop-port-init c =
     let few : c.in-Ok.space.ports ≤ 64 = omega (arith, c.in-Ok.ensures.count, c.requires.1) in
     let long : length rest ≡ length c.in-Ok.ports.items = ap length all in
     record {
-      made = ap (λ (bs : List (Box Engine Global)). map (λ b. state_of b.value) bs ++ map (new_engine s c.args.recorded) rest) none ∙ ap (map (new_engine s c.args.recorded)) new;
+      made = ap (λ (bs : List (Box Engine Global)). map (λ b. state_of b.value) bs ++ map (new_engine s) rest) none ∙ ap (map (new_engine s)) new;
       sound = subst (λ (bs : List (Box Engine Global)). AllByRecursion (λ b. IsSound b.value) bs) (sym none) tt;
       rest = subst (λ (t : SpaceName). AllByRecursion (IsPort64 t) rest) (sym same)
           (subst (λ (ps : List PortState). AllByRecursion (IsPort64 c.in-Ok.space) ps) (sym all) (all_ports c.in-Ok.space c.in-Ok.ports.items few c.in-Ok.ensures.all));

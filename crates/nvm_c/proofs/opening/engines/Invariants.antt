@@ -10,8 +10,8 @@ use Rattle.nvm_c.proofs.opening.engines.Given as goal
 -- The engines so far are those of the ports that are gone, and there is room for those of the rest.
 abbrev pub invariant-loop-port : goal.invariant-loop-port
 invariant-loop-port l = record {
-  made : map (λ b. state_of b.value) l.engines.items ++ map (new_engine (arc_value l.space) l.fn.recorded) l.port-iterator.rest.items
-      ≡ map (new_engine (arc_value l.space) l.fn.recorded) (new_ports (arc_value l.space));
+  made : map (λ b. state_of b.value) l.engines.items ++ map (new_engine (arc_value l.space)) l.port-iterator.rest.items
+      ≡ map (new_engine (arc_value l.space)) (new_ports (arc_value l.space));
   sound : AllByRecursion (λ b. IsSound b.value) l.engines.items;
   rest : AllByRecursion (IsPort64 (arc_value l.space)) l.port-iterator.rest.items;
   room : vec_len l.engines + length l.port-iterator.rest.items ≤ vec_capacity l.engines;

@@ -1,4 +1,4 @@
-use Rattle.std.proofs.Common.{◌≡◌, ◌<◌, ◌∙◌, ℕ, List, [], ◌∷◌, length, map, set, get_or, refl, ap, subst, sym, arith}
+use Rattle.std.proofs.Common.{◌≡◌, ◌<◌, ◌∙◌, ℕ, Bool, true, List, [], ◌∷◌, length, map, set, get_or, refl, ap, subst, sym, arith}
 use Rattle.std.specs.List.{range_with_len}
 use Rattle.std.proofs.lemmas.List.{length-map}
 use Rattle.nvm_geometry.specs.Namespace.{Namespace}
@@ -60,10 +60,11 @@ returns-clause-alone g c =
       namespace = c.in_ok-space.ensures.namespace;
       port = port;
       does =
-          subst (λ (ns : Namespace). DoesJob ns 0 c.args.job.now (views_of (new_port s.units 0).passes) (views_of port.passes) c.run_job-done.result)
+          subst (λ (ns : Namespace). DoesJob ns true 0 c.args.job.now (views_of (new_port s.units 0).passes) (views_of port.passes) c.run_job-done.result)
           c.in_ok-space.ensures.namespace
-          (subst (λ (p : PortState). DoesJob s.namespace 0 c.args.job.now (views_of p.passes) (views_of port.passes) c.run_job-done.result) new
-          c.run_job-done.ensures.does);
+          (subst (λ (p : PortState). DoesJob s.namespace true 0 c.args.job.now (views_of p.passes) (views_of port.passes) c.run_job-done.result) new
+          (subst (λ (lists : Bool). DoesJob s.namespace lists 0 c.args.job.now (views_of c.index_mut.result.now.passes) (views_of port.passes) c.run_job-done.result)
+          c.in_ok-space.ensures.lists c.run_job-done.ensures.does));
       ends = λ k unit history is at.
           let back = at_map_back (λ history. history.items) ended k history at in
           subst (λ (ports : List PortState). EndsWhole k unit ports history) (one_set before port one)

@@ -1,3 +1,5 @@
+use Rattle.std.proofs.Common.{Bool, subst}
+use Rattle.nvm_space.specs.Trace.{DoesJob}
 use Rattle.nvm_run.proofs.Places.{at_index}
 use Rattle.nvm_run.proofs.Recorded.{done_job}
 use Rattle.nvm_run.proofs.worker.do_job.Goals as goal
@@ -11,4 +13,5 @@ returns-clause-done g c =
     done_job ns jobs number job c.run_job-done.result c.recorded.result _ _
     (c.each_command_has_a_status.ensures.outcome ns job)
     (λ replies told read outcome some. (c.data_comes_with_success.ensures.outcome ns job replies told read outcome some).3)
-    (at_index jobs number job c.requires.job c.index-jobs-number.is) c.recorded.ensures c.run_job-done.ensures.does
+    (at_index jobs number job c.requires.job c.index-jobs-number.is) c.recorded.ensures
+    (subst (λ (lists : Bool). DoesJob ns lists number job _ _ c.run_job-done.result) c.requires.lists c.run_job-done.ensures.does)

@@ -7,13 +7,13 @@ use Rattle.nvm_space.proofs.OneMore.{none_more, next_gives, all_more}
 use Rattle.nvm_space.proofs.closing.gathered.Goals as goal
 
 pub loop-place-init : goal.loop-place-init
-loop-place-init c = record {
+loop-place-init g c = record {
   count = ap length c.in_ok-passes.ensures.items;
   below = none_more c.in_ok-passes.passes.items c.args.ports.now.items;
 }
 
 pub take_last-requires : goal.take_last-requires
-take_last-requires c =
+take_last-requires g c =
     let same : length c.args.ports.now.items ≡ length c.loop-place.ports.items = c.loop-place.invariant.below.count in
     let lt : c.loop-place.place < length c.loop-place.ports.items = omega (arith, c.loop-place-test.true, c.loop-place.auto.place-end, c.len-place-end.ensures, c.args.ports.now.ok.0) in
     let at = at_index c.loop-place.ports.items c.loop-place.place c.index_mut.result.now lt c.index_mut.ensures.value in
@@ -22,7 +22,7 @@ take_last-requires c =
     subst (λ (p : PortState). p.passes ≡ [] → ⊥) is (c.requires c.loop-place.place was.0 was.1)
 
 pub loop-place-preserved : goal.loop-place-preserved
-loop-place-preserved c =
+loop-place-preserved g c =
     let same : length c.args.ports.now.items ≡ length c.loop-place.ports.items = c.loop-place.invariant.below.count in
     let lt : c.loop-place.place < length c.loop-place.ports.items = omega (arith, c.loop-place-test.true, c.loop-place.auto.place-end, c.len-place-end.ensures, c.args.ports.now.ok.0) in
     let at = at_index c.loop-place.ports.items c.loop-place.place c.index_mut.result.now lt c.index_mut.ensures.value in
@@ -36,7 +36,7 @@ loop-place-preserved c =
     }
 
 pub returns : goal.returns
-returns c =
+returns g c =
     let same : length c.args.ports.now.items ≡ length c.loop-place.ports.items = c.loop-place.invariant.below.count in
     let end : c.loop-place.place ≡ length c.args.ports.now.items = omega (arith, c.loop-place-test.false, c.loop-place.auto.place-end, c.len-place-end.ensures, c.args.ports.now.ok.0) in
     all_more c.loop-place.place c.loop-place.passes.items c.loop-place.ports.items c.args.ports.now.items c.loop-place.invariant.below

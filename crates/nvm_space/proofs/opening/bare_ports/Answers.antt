@@ -5,7 +5,7 @@ use Rattle.nvm_space.proofs.NewPorts.{bare_none, bare_one_more}
 use Rattle.nvm_space.proofs.opening.bare_ports.Goals as goal
 
 pub loop-number-init : goal.loop-number-init
-loop-number-init c = subst (λ (ps : List PortState). AreDealt 0 [] ps) (sym c.in_ok-ports.ensures.items) bare_none
+loop-number-init g c = subst (λ (ps : List PortState). AreDealt 0 [] ps) (sym c.in_ok-ports.ensures.items) bare_none
 
 pub loop-number-preserved : goal.loop-number-preserved
-loop-number-preserved c = bare_one_more c.loop-number.number _ c.in_ok-passes.passes.items c.loop-number.ports.items refl c.push.new.self.items c.loop-number.invariant c.in_ok-passes.ensures.items c.in_ok-push.ensures.items
+loop-number-preserved g c = bare_one_more c.loop-number.number _ c.in_ok-passes.passes.items c.loop-number.ports.items refl c.push.new.self.items c.loop-number.invariant c.in_ok-passes.ensures.items c.in_ok-push.ensures.items

@@ -3,4 +3,4 @@ use Rattle.nvm_space.specs.Inside.Dealing.{AreDealt}
 use Rattle.nvm_space.proofs.opening.bare_ports.Given as goal
 
 abbrev pub invariant-loop-number : goal.invariant-loop-number
-invariant-loop-number l = AreDealt l.number [] l.ports.items
+invariant-loop-number g l = AreDealt l.number [] l.ports.items

@@ -8,17 +8,17 @@ use Rattle.nvm_space.proofs.NewPorts.{AreLaid, laid_none, laid_one_more, all_lai
 use Rattle.nvm_space.proofs.opening.opened.Goals as goal
 
 pub loop-number-init : goal.loop-number-init
-loop-number-init c = record {
+loop-number-init g c = record {
   laid = subst (λ (us : List UnitName). AreLaid c.args.geometry c.args.ports c.args.limit c.args.versions 0 us) (sym c.in_ok-units.ensures.items) (laid_none c.args.geometry c.args.ports c.args.limit c.args.versions);
   dealt = subst (λ (us : List UnitName). AreDealt c.args.ports us c.in_ok-dealt.dealt.items) (sym c.in_ok-units.ensures.items) c.in_ok-dealt.ensures;
 }
 
 pub hand_out-requires : goal.hand_out-requires
-hand_out-requires c =
+hand_out-requires g c =
     ap length c.in-Ok.ensures.passes ∙ (c.new_passes_are_all.ensures.all c.in-Ok.unit).count ∙ ap (λ (b : Bounds). b.passes) c.in-Ok.ensures.bounds ∙ sym c.loop-number.invariant.dealt.count
 
 pub loop-number-preserved : goal.loop-number-preserved
-loop-number-preserved c =
+loop-number-preserved g c =
     let pushed : c.push.new.self.items ≡ c.loop-number.units.items ++ c.in-Ok.unit ∷ [] = c.in_ok-push.ensures.items in
     let bounds = c.in-Ok.ensures.bounds in
     record {
@@ -27,7 +27,7 @@ loop-number-preserved c =
             number = c.in-Ok.ensures.number;
             place = subst (λ (p : Place). IsUnitPlace c.args.geometry c.loop-number.number p) (sym (ap (λ (b : Bounds). b.place) bounds)) c.unit_place-place.ensures;
             passes = ap (λ (b : Bounds). b.passes) bounds;
-            limit = ap (λ (b : Bounds). b.limit) bounds;
+            limit = ap (λ (b : Bounds). b.limit) bounds ∙ c.most_entries-most.ensures.most;
             versions = c.in-Ok.ensures.versions;
           }));
       dealt = subst (λ (us : List UnitName). AreDealt c.args.ports us c.hand_out.new.ports.items) (sym pushed)
@@ -36,9 +36,9 @@ loop-number-preserved c =
     }
 
 pub returns-clause-units : goal.returns-clause-units
-returns-clause-units c =
+returns-clause-units g c =
     all_laid c.args.geometry c.args.ports c.args.limit c.args.versions c.loop-number.number c.loop-number.units.items c.loop-number.invariant.laid
     (let end : c.loop-number.number ≡ c.units-count.result = omega (arith, c.loop-number.auto.number-end, c.loop-number-test.false) in end ∙ c.units-count.ensures.value)
 
 pub returns-clause-ports : goal.returns-clause-ports
-returns-clause-ports c = all_dealt c.args.geometry c.args.ports c.args.limit c.args.versions c.loop-number.units.items c.loop-number.dealt.items c.loop-number.invariant.dealt
+returns-clause-ports g c = all_dealt c.args.geometry c.args.ports c.args.limit c.args.versions c.loop-number.units.items c.loop-number.dealt.items c.loop-number.invariant.dealt

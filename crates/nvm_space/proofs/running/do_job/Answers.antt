@@ -17,8 +17,8 @@ pub next_part-unit-requires-clause-under_way : goal.next_part-unit-requires-clau
 next_part-unit-requires-clause-under_way g c =
     let start = views_of c.args.passes.now.items in
     let now = views_of c.loop-progress.passes.items in
-    let known = when_pending c.args.geometry.now c.args.number c.args.job.now start now c.loop-progress.progress c.in-Pending.under_way c.in-Pending.is c.loop-progress.invariant.progress in
-    (start, now, known.1)
+    let known = when_pending c.args.geometry.now c.args.lists c.args.number c.args.job.now start now c.loop-progress.progress c.in-Pending.under_way c.in-Pending.is c.loop-progress.invariant.progress in
+    (start, now, c.args.lists, known.1)
 
 pub index_mut-requires : goal.index_mut-requires
 index_mut-requires g c =
@@ -32,13 +32,6 @@ do_part-reply-requires-clause-of g c =
     let all = c.loop-progress.invariant.passes c.requires.passes.0 c.requires.passes.1 in
     of_unit c.args.geometry.now c.args.units.now c.args.units.now c.requires.passes.0 c.next_part-unit.result.0 c.from-place.result c.loop-progress.passes.items c.index-units-place.result c.index_mut.result.now
     c.requires.units.count refl all c.next_part-unit.ensures.known c.from-place.ensures c.index-units-place.is c.index_mut.ensures.value
-
-pub do_part-reply-requires-clause-limit : goal.do_part-reply-requires-clause-limit
-do_part-reply-requires-clause-limit g c =
-    let all = c.loop-progress.invariant.passes c.requires.passes.0 c.requires.passes.1 in
-    c.requires.units.limit c.from-place.result c.index-units-place.result
-    (unit_there c.args.geometry.now c.args.units.now c.args.units.now c.requires.passes.0 c.next_part-unit.result.0 c.from-place.result c.loop-progress.passes.items c.index-units-place.result c.index_mut.result.now
-    c.requires.units.count refl all c.next_part-unit.ensures.known c.from-place.ensures c.index-units-place.is c.index_mut.ensures.value)
 
 pub do_part-reply-requires-clause-covered : goal.do_part-reply-requires-clause-covered
 do_part-reply-requires-clause-covered g c =
@@ -58,13 +51,13 @@ replied-progress-requires g c =
     let start = views_of c.args.passes.now.items in
     let now = views_of c.loop-progress.passes.items in
     let new = views_of (set c.loop-progress.passes.items c.from-place.result c.do_part-reply.new.pass) in
-    let known = when_pending ns c.args.number job start now c.loop-progress.progress w c.in-Pending.is c.loop-progress.invariant.progress in
+    let known = when_pending ns c.args.lists c.args.number job start now c.loop-progress.progress w c.in-Pending.is c.loop-progress.invariant.progress in
     let all = c.loop-progress.invariant.passes c.requires.passes.0 c.requires.passes.1 in
     let part = part_operation_of c.next_part-unit.result.1 in
     let does = becomes ns c.args.units.now c.args.units.now c.requires.passes.0 unit c.from-place.result c.loop-progress.passes.items c.index-units-place.result c.index_mut.result.now
     c.requires.units.count refl all c.next_part-unit.ensures.known c.from-place.ensures c.index-units-place.is c.index_mut.ensures.value
     (DoesPart (part_done c.args.number part (reply_told c.do_part-reply.result))) c.loop-progress.passes.items c.do_part-reply.new.pass refl c.do_part-reply.ensures.does c.do_part-reply.ensures.proper in
-    (start, now, new, replies_so ns c.args.number unit job w (reply_told c.do_part-reply.result) part start now new known.0 c.next_part-unit.ensures.unit known.1 c.next_part-unit.ensures.part c.do_part-reply.ensures.unit does)
+    (start, now, new, replies_so ns c.args.lists c.args.number unit job w (reply_told c.do_part-reply.result) part start now new known.0 c.next_part-unit.ensures.unit known.1 c.next_part-unit.ensures.part c.do_part-reply.ensures.unit does)
 
 pub loop-progress-preserved : goal.loop-progress-preserved
 loop-progress-preserved g c =
@@ -75,7 +68,7 @@ loop-progress-preserved g c =
     let start = views_of c.args.passes.now.items in
     let now = views_of c.loop-progress.passes.items in
     let new = views_of (set c.loop-progress.passes.items c.from-place.result c.do_part-reply.new.pass) in
-    let known = when_pending ns c.args.number job start now c.loop-progress.progress w c.in-Pending.is c.loop-progress.invariant.progress in
+    let known = when_pending ns c.args.lists c.args.number job start now c.loop-progress.progress w c.in-Pending.is c.loop-progress.invariant.progress in
     let all = c.loop-progress.invariant.passes c.requires.passes.0 c.requires.passes.1 in
     let part = part_operation_of c.next_part-unit.result.1 in
     let does = becomes ns c.args.units.now c.args.units.now c.requires.passes.0 unit c.from-place.result c.loop-progress.passes.items c.index-units-place.result c.index_mut.result.now
@@ -85,7 +78,7 @@ loop-progress-preserved g c =
       passes = λ n its. still_all ns c.args.units.now c.args.units.now n unit c.from-place.result c.loop-progress.passes.items c.index-units-place.result c.index_mut.result.now
           c.requires.units.count refl (c.loop-progress.invariant.passes n its) c.next_part-unit.ensures.known c.from-place.ensures c.index-units-place.is c.index_mut.ensures.value
           c.do_part-reply.new.pass c.do_part-reply.ensures.of c.do_part-reply.ensures.number;
-      progress = subst (λ (n : ℕ). IsProgress ns n job start new c.replied-progress.result) known.0
+      progress = subst (λ (n : ℕ). IsProgress ns c.args.lists n job start new c.replied-progress.result) known.0
           (c.replied-progress.ensures.progress start now new
-          (replies_so ns c.args.number unit job w (reply_told c.do_part-reply.result) part start now new known.0 c.next_part-unit.ensures.unit known.1 c.next_part-unit.ensures.part c.do_part-reply.ensures.unit does));
+          (replies_so ns c.args.lists c.args.number unit job w (reply_told c.do_part-reply.result) part start now new known.0 c.next_part-unit.ensures.unit known.1 c.next_part-unit.ensures.part c.do_part-reply.ensures.unit does));
     }

@@ -9,7 +9,7 @@ use Rattle.nvm_space.proofs.running.do_job.Given as goal
 abbrev pub invariant-loop-progress : goal.invariant-loop-progress
 invariant-loop-progress g l = record {
   passes : (n : ℕ) → ArePassesOfAll l.units n l.fn.passes.items → ArePassesOfAll l.units n l.passes.items;
-  progress : IsProgress l.geometry l.number l.job (views_of l.fn.passes.items) (views_of l.passes.items) l.progress;
+  progress : IsProgress l.geometry l.lists l.number l.job (views_of l.fn.passes.items) (views_of l.passes.items) l.progress;
 }
 
 -- Each part leaves fewer.

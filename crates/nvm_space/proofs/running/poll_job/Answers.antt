@@ -14,16 +14,16 @@ use Rattle.nvm_space.proofs.running.poll_job.Goals as goal
 
 pub returns-in-Done-clause-goes : goal.returns-in-Done-clause-goes
 returns-in-Done-clause-goes g c = λ start under.
-    when_done c.args.geometry.now c.args.under_way.number c.args.job.now start (views_of c.loop-progress.passes.items) c.loop-progress.progress c.in-Done.done c.in-Done.is
+    when_done c.args.geometry.now c.args.lists c.args.under_way.number c.args.job.now start (views_of c.loop-progress.passes.items) c.loop-progress.progress c.in-Done.done c.in-Done.is
     (c.loop-progress.invariant.progress start under)
 
 pub next_part-unit-requires-clause-under_way : goal.next_part-unit-requires-clause-under_way
 next_part-unit-requires-clause-under_way g c =
     let start = c.requires.under_way.0 in
     let now = views_of c.loop-progress.passes.items in
-    let known = when_pending c.args.geometry.now c.args.under_way.number c.args.job.now start now c.loop-progress.progress c.in-Pending.under_way c.in-Pending.is
+    let known = when_pending c.args.geometry.now c.args.lists c.args.under_way.number c.args.job.now start now c.loop-progress.progress c.in-Pending.under_way c.in-Pending.is
     (c.loop-progress.invariant.progress start c.requires.under_way.1) in
-    (start, now, known.1)
+    (start, now, c.args.lists, known.1)
 
 pub index_mut-requires : goal.index_mut-requires
 index_mut-requires g c =
@@ -37,13 +37,6 @@ poll_part-polled-requires-clause-of g c =
     let all = c.loop-progress.invariant.passes c.requires.passes.0 c.requires.passes.1 in
     of_unit c.args.geometry.now c.args.units.now c.args.units.now c.requires.passes.0 c.next_part-unit.result.0 c.from-place.result c.loop-progress.passes.items c.index-units-place.result c.index_mut.result.now
     c.requires.units.count refl all c.next_part-unit.ensures.known c.from-place.ensures c.index-units-place.is c.index_mut.ensures.value
-
-pub poll_part-polled-requires-clause-limit : goal.poll_part-polled-requires-clause-limit
-poll_part-polled-requires-clause-limit g c =
-    let all = c.loop-progress.invariant.passes c.requires.passes.0 c.requires.passes.1 in
-    c.requires.units.limit c.from-place.result c.index-units-place.result
-    (unit_there c.args.geometry.now c.args.units.now c.args.units.now c.requires.passes.0 c.next_part-unit.result.0 c.from-place.result c.loop-progress.passes.items c.index-units-place.result c.index_mut.result.now
-    c.requires.units.count refl all c.next_part-unit.ensures.known c.from-place.ensures c.index-units-place.is c.index_mut.ensures.value)
 
 pub poll_part-polled-requires-clause-covered : goal.poll_part-polled-requires-clause-covered
 poll_part-polled-requires-clause-covered g c =
@@ -68,11 +61,11 @@ returns-in_default-clause-goes g c = λ start under.
     let unit = c.next_part-unit.result.0 in
     let now = views_of c.loop-progress.passes.items in
     let new = views_of (set c.loop-progress.passes.items c.from-place.result c.poll_part-polled.new.pass) in
-    let known = when_pending ns c.args.under_way.number job start now c.loop-progress.progress w c.in-Pending.is (c.loop-progress.invariant.progress start under) in
+    let known = when_pending ns c.args.lists c.args.under_way.number job start now c.loop-progress.progress w c.in-Pending.is (c.loop-progress.invariant.progress start under) in
     let all = c.loop-progress.invariant.passes c.requires.passes.0 c.requires.passes.1 in
     let waits = match_none (Waits c.index_mut.result.now.view c.poll_part-polled.new.pass.view) c.poll_part-polled.result _ c.in_default.not-Some c.poll_part-polled.ensures.does in (
       known.0,
-      still_under_way ns unit job w start now new c.waiting_is_no_step.ensures.again c.next_part-unit.ensures.unit known.1
+      still_under_way ns c.args.lists unit job w start now new c.waiting_is_no_step.ensures.again c.next_part-unit.ensures.unit known.1
           (becomes ns c.args.units.now c.args.units.now c.requires.passes.0 unit c.from-place.result c.loop-progress.passes.items c.index-units-place.result c.index_mut.result.now
           c.requires.units.count refl all c.next_part-unit.ensures.known c.from-place.ensures c.index-units-place.is c.index_mut.ensures.value
           Waits c.loop-progress.passes.items c.poll_part-polled.new.pass refl waits c.poll_part-polled.ensures.proper),
@@ -87,7 +80,7 @@ replied-progress-requires g c =
     let start = c.requires.under_way.0 in
     let now = views_of c.loop-progress.passes.items in
     let new = views_of (set c.loop-progress.passes.items c.from-place.result c.poll_part-polled.new.pass) in
-    let known = when_pending ns c.args.under_way.number job start now c.loop-progress.progress w c.in-Pending.is (c.loop-progress.invariant.progress start c.requires.under_way.1) in
+    let known = when_pending ns c.args.lists c.args.under_way.number job start now c.loop-progress.progress w c.in-Pending.is (c.loop-progress.invariant.progress start c.requires.under_way.1) in
     let all = c.loop-progress.invariant.passes c.requires.passes.0 c.requires.passes.1 in
     let part = part_operation_of c.next_part-unit.result.1 in
     let does = becomes ns c.args.units.now c.args.units.now c.requires.passes.0 unit c.from-place.result c.loop-progress.passes.items c.index-units-place.result c.index_mut.result.now
@@ -96,7 +89,7 @@ replied-progress-requires g c =
       start,
       now,
       new,
-      replies_so ns c.under_way.inside.number unit job w (reply_told c.in-Some.reply) part start now new (known.0 ∙ sym (ap (λ (x : UnderWay). x.number) c.under_way.view_is)) c.next_part-unit.ensures.unit known.1 c.next_part-unit.ensures.part c.in-Some.ensures.does.0 does,
+      replies_so ns c.args.lists c.under_way.inside.number unit job w (reply_told c.in-Some.reply) part start now new (known.0 ∙ sym (ap (λ (x : UnderWay). x.number) c.under_way.view_is)) c.next_part-unit.ensures.unit known.1 c.next_part-unit.ensures.part c.in-Some.ensures.does.0 does,
     )
 
 pub loop-progress-preserved : goal.loop-progress-preserved
@@ -117,8 +110,8 @@ loop-progress-preserved g c =
           c.requires.units.count refl (c.loop-progress.invariant.passes n its) c.next_part-unit.ensures.known c.from-place.ensures c.index-units-place.is c.index_mut.ensures.value
           c.poll_part-polled.new.pass c.poll_part-polled.ensures.of c.poll_part-polled.ensures.number;
       progress = λ start under.
-          let known = when_pending ns c.args.under_way.number job start now c.loop-progress.progress w c.in-Pending.is (c.loop-progress.invariant.progress start under) in
-          subst (λ (n : ℕ). IsProgress ns n job start new c.replied-progress.result) known.0
+          let known = when_pending ns c.args.lists c.args.under_way.number job start now c.loop-progress.progress w c.in-Pending.is (c.loop-progress.invariant.progress start under) in
+          subst (λ (n : ℕ). IsProgress ns c.args.lists n job start new c.replied-progress.result) known.0
           (c.replied-progress.ensures.progress start now new
-          (replies_so ns c.under_way.inside.number unit job w (reply_told c.in-Some.reply) part start now new (known.0 ∙ sym (ap (λ (x : UnderWay). x.number) c.under_way.view_is)) c.next_part-unit.ensures.unit known.1 c.next_part-unit.ensures.part c.in-Some.ensures.does.0 does));
+          (replies_so ns c.args.lists c.under_way.inside.number unit job w (reply_told c.in-Some.reply) part start now new (known.0 ∙ sym (ap (λ (x : UnderWay). x.number) c.under_way.view_is)) c.next_part-unit.ensures.unit known.1 c.next_part-unit.ensures.part c.in-Some.ensures.does.0 does));
     }

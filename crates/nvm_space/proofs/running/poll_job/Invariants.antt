@@ -11,8 +11,8 @@ use Rattle.nvm_space.proofs.running.poll_job.Given as goal
 abbrev pub invariant-loop-progress : goal.invariant-loop-progress
 invariant-loop-progress g l = record {
   passes : (n : ℕ) → ArePassesOfAll l.units n l.fn.passes.items → ArePassesOfAll l.units n l.passes.items;
-  progress : (start : List PassView) → IsUnderWay l.geometry l.job l.fn.under_way start (views_of l.fn.passes.items)
-      → IsProgress l.geometry l.fn.under_way.number l.job start (views_of l.passes.items) l.progress;
+  progress : (start : List PassView) → IsUnderWay l.geometry l.lists l.job l.fn.under_way start (views_of l.fn.passes.items)
+      → IsProgress l.geometry l.lists l.fn.under_way.number l.job start (views_of l.passes.items) l.progress;
 }
 
 -- Each part leaves fewer.

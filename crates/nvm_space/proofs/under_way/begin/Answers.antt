@@ -21,7 +21,7 @@ returns-in-Refused c = λ views.
     let ns = c.args.geometry.now in
     let job = c.args.job.now in
     let statuses = c.in-Refused.statuses in
-    nothing_done ns c.args.number job views statuses None c.new.result.items c.of.result
+    nothing_done ns c.args.lists c.args.number job views statuses None c.new.result.items c.of.result
     ((c.outcomes_by_plan.ensures.refused ns job statuses [] statuses None c.in-Refused.ensures.table).1
     (record { none_done = refl; statuses = refl; payload = refl })) c.new.ensures.items c.of.ensures
 
@@ -36,10 +36,10 @@ returns-in_default-next_job_unit c = λ views.
     let begun = subst (λ (us : List ℕ). AreDone ns op.0 [] us) (sym all ∙ none) (c.outcomes_are_made_part_by_part.ensures.begun ns op.0) in
     let bytes = c.new-in_default-next_job_unit in
     let parts = c.new-in_default-next_job_unit-2 in
-    all_done ns c.args.number job op.0 (c.outcomes_are_made_part_by_part.ensures.whole ns op.0)
+    all_done ns c.args.lists c.args.number job op.0 (c.outcomes_are_made_part_by_part.ensures.whole ns op.0)
     (λ replies told read so. (c.outcomes_by_plan.ensures.ready ns job op.0 replies told read free op.1).1 so)
     views views [] parts.result.items bytes.result.items c.of_success.result
-    (not_begun ns c.args.number job op.0 views [] parts.result.items bytes.result.items begun parts.ensures.items bytes.ensures.items)
+    (not_begun ns c.args.lists c.args.number job op.0 views [] parts.result.items bytes.result.items begun parts.ensures.items bytes.ensures.items)
     refl (c.of_success.ensures ns op.0 op.1)
 
 pub returns-in_default-with_capacity : goal.returns-in_default-with_capacity
@@ -50,7 +50,7 @@ returns-in_default-with_capacity c = λ views.
     let op = the_operation (job_operation_of ns job) (c.ready_jobs.ensures.operation ns job free) in
     let all = units_from_all ns job op.0 (c.parts_of_jobs.ensures.units ns job op.0 free op.1) (c.ranges_meet_their_units.ensures.all ns op.0) in
     let some : units_met ns op.0 ≡ [] → ⊥ = λ none. let bad = sym (all ∙ none) ∙ c.in-Some.ensures.first in cc bad in
-    nothing_done ns c.args.number job views (unstarted_of op.0.deed) None [] c.of_no_part.result
+    nothing_done ns c.args.lists c.args.number job views (unstarted_of op.0.deed) None [] c.of_no_part.result
     ((c.outcomes_by_plan.ensures.ready ns job op.0 [] (unstarted_of op.0.deed) None free op.1).1
     (c.outcomes_are_made_part_by_part.ensures.unstarted ns op.0 some)) refl (c.of_no_part.ensures ns op.0 op.1)
 
@@ -62,7 +62,7 @@ returns-in_default-room c = λ views.
     let op = the_operation (job_operation_of ns job) (c.ready_jobs.ensures.operation ns job free) in
     let all = units_from_all ns job op.0 (c.parts_of_jobs.ensures.units ns job op.0 free op.1) (c.ranges_meet_their_units.ensures.all ns op.0) in
     let some : units_met ns op.0 ≡ [] → ⊥ = λ none. let bad = sym (all ∙ none) ∙ c.in-Some.ensures.first in cc bad in
-    nothing_done ns c.args.number job views (unstarted_of op.0.deed) None [] c.of_no_part-in_default-room.result
+    nothing_done ns c.args.lists c.args.number job views (unstarted_of op.0.deed) None [] c.of_no_part-in_default-room.result
     ((c.outcomes_by_plan.ensures.ready ns job op.0 [] (unstarted_of op.0.deed) None free op.1).1
     (c.outcomes_are_made_part_by_part.ensures.unstarted ns op.0 some)) refl (c.of_no_part-in_default-room.ensures ns op.0 op.1)
 
@@ -84,7 +84,7 @@ returns c = λ views.
         op = op.0;
         is_op = op.1;
         reached = views;
-        have = not_begun ns c.args.number job op.0 views (c.in-Some.unit ∷ job_units_from ns job (c.in-Some.unit + 1)) c.in-Ok.parts.items c.in-Ok-room.bytes.items begun c.in-Ok.ensures.items c.in-Ok-room.ensures;
+        have = not_begun ns c.args.lists c.args.number job op.0 views (c.in-Some.unit ∷ job_units_from ns job (c.in-Some.unit + 1)) c.in-Ok.parts.items c.in-Ok-room.bytes.items begun c.in-Ok.ensures.items c.in-Ok-room.ensures;
         waited = inl refl;
         room = omega (arith, empty, counted, c.in-Ok.ensures.capacity, c.from.ensures, c.job_part_count-count.ensures.value);
       },

@@ -1,17 +1,17 @@
 use Rattle.std.proofs.Common.{◌≡◌, ℕ, ◌+◌, List, [], ◌∷◌, ◌++◌, length, None, inl, refl, sym, ap, ◌∙◌, subst, arith}
-use Rattle.std.proofs.lemmas.List.{length-append}
 use Rattle.std.proofs.lemmas.Option.{same_Some}
 use Rattle.nvm_record.specs.Step.{Operation}
 use Rattle.nvm_geometry.specs.Parts.{part_in}
 use Rattle.nvm_plan.specs.JobPart.{job_units_from}
 use Rattle.nvm_space.specs.Inside.Parts.{part_done, reply_told}
 use Rattle.nvm_space.specs.UnderWay.{HaveDone}
-use Rattle.nvm_space.proofs.PartByPart.{one_more, stops, stops_so, all_done, step_so, IsStep}
+use Rattle.nvm_space.specs.Inside.Replying.{with_part}
+use Rattle.nvm_space.proofs.PartByPart.{one_longer, one_more, stops, stops_so, all_done, step_so, IsStep}
 use Rattle.nvm_space.proofs.Waiting.{part_after_waiting}
 use Rattle.nvm_space.proofs.under_way.parts_follow_parts.Goals as goal
 
 pub returns : goal.returns
-returns c = λ ns job w r start now new bytes part statuses replied.
+returns c = λ ns lists job w r start now new bytes part statuses replied.
     let under = replied.0.under_way in
     let op = under.op in
     let after = job_units_from ns job (w.unit + 1) in
@@ -31,20 +31,21 @@ returns c = λ ns job w r start now new bytes part statuses replied.
         op = op;
         is_op = under.is_op;
         reached = new;
-        have = subst (λ (us : List ℕ). HaveDone ns w.number job op start new us (w.parts ++ part ∷ []) bytes) units
-            (one_more ns w.number job op (c.outcomes_are_made_part_by_part.ensures.more ns op) c.outcomes_are_made_part_by_part.ensures.payload
-            start under.reached new w.unit after w.parts (w.parts ++ part ∷ []) w.bytes bytes part statuses under.have step success refl);
+        have = subst (λ (us : List ℕ). HaveDone ns lists w.number job op start new us (with_part lists w.parts part) bytes) units
+            (one_more ns lists w.number job op (c.outcomes_are_made_part_by_part.ensures.more ns op) c.outcomes_are_made_part_by_part.ensures.payload
+            start under.reached new w.unit after w.parts (with_part lists w.parts part) w.bytes bytes part statuses under.have step success refl);
         waited = inl refl;
-        room = let left : length after ≡ length (next ∷ job_units_from ns job (next + 1)) = ap length units in omega (arith, under.room, left, length-append w.parts (part ∷ []));
+        room = λ on. let left : length after ≡ length (next ∷ job_units_from ns job (next + 1)) = ap length units in
+            let room = under.room on in omega (arith, room, left, one_longer lists w.parts part on);
       };
       last = λ done success none ended.
-          all_done ns w.number job op (c.outcomes_are_made_part_by_part.ensures.whole ns op) (λ replies told read so. (c.outcomes_by_plan.ensures.ready ns job op replies told read under.free under.is_op).1 so) start new after (w.parts ++ part ∷ []) bytes done
-          (one_more ns w.number job op (c.outcomes_are_made_part_by_part.ensures.more ns op) c.outcomes_are_made_part_by_part.ensures.payload
-          start under.reached new w.unit after w.parts (w.parts ++ part ∷ []) w.bytes bytes part statuses under.have step success refl) none (ended op under.is_op);
+          all_done ns lists w.number job op (c.outcomes_are_made_part_by_part.ensures.whole ns op) (λ replies told read so. (c.outcomes_by_plan.ensures.ready ns job op replies told read under.free under.is_op).1 so) start new after (with_part lists w.parts part) bytes done
+          (one_more ns lists w.number job op (c.outcomes_are_made_part_by_part.ensures.more ns op) c.outcomes_are_made_part_by_part.ensures.payload
+          start under.reached new w.unit after w.parts (with_part lists w.parts part) w.bytes bytes part statuses under.have step success refl) none (ended op under.is_op);
       told = λ failure.
-          let so = stops_so ns w.number job op (c.outcomes_are_made_part_by_part.ensures.stopped ns op) (λ replies told read so. (c.outcomes_by_plan.ensures.ready ns job op replies told read under.free under.is_op).1 so) start under.reached new w.unit after w.parts w.bytes bytes part statuses under.have step failure in
+          let so = stops_so ns lists w.number job op (c.outcomes_are_made_part_by_part.ensures.stopped ns op) (λ replies told read so. (c.outcomes_by_plan.ensures.ready ns job op replies told read under.free under.is_op).1 so) start under.reached new w.unit after w.parts w.bytes bytes part statuses under.have step failure in
           c.each_command_has_a_status.ensures.outcome ns job so.0 statuses None so.1;
       stopped = λ done failure ended.
-          stops ns w.number job op (c.outcomes_are_made_part_by_part.ensures.stopped ns op) (λ replies told read so. (c.outcomes_by_plan.ensures.ready ns job op replies told read under.free under.is_op).1 so) start under.reached new w.unit after w.parts (w.parts ++ part ∷ []) w.bytes bytes part statuses done
+          stops ns lists w.number job op (c.outcomes_are_made_part_by_part.ensures.stopped ns op) (λ replies told read so. (c.outcomes_by_plan.ensures.ready ns job op replies told read under.free under.is_op).1 so) start under.reached new w.unit after w.parts (with_part lists w.parts part) w.bytes bytes part statuses done
           under.have step failure refl ended;
     }

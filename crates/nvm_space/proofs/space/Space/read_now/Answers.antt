@@ -15,7 +15,7 @@ use Rattle.nvm_space.proofs.space.Space.read_now.Goals as goal
 use Rattle.nvm_space.proofs.space.Space.read_now.Goals.{in-Ok, in-Err-Newer, in-Err-NoMemory}
 
 pub look-requires-clause-of : goal.look-requires-clause-of
-look-requires-clause-of c =
+look-requires-clause-of g c =
     let ns = c.args.self.now.namespace in
     let unit = unit_number ns c.args.slba in
     let geo : c.self.inside.geometry ≡ ns = ap (λ (s : SpaceName). s.namespace) c.self.view_is in
@@ -26,7 +26,7 @@ look-requires-clause-of c =
     (subst IsLaidOut c.self.view_is c.self.invariant) (ap (λ (s : SpaceName). s.units) c.self.view_is) c.port.view_is c.requires.of known same c.index.ensures c.index_mut.ensures.value
 
 pub look-requires-clause-covered : goal.look-requires-clause-covered
-look-requires-clause-covered c =
+look-requires-clause-covered g c =
     let ns = c.args.self.now.namespace in
     let unit = unit_number ns c.args.slba in
     let geo : c.self.inside.geometry ≡ ns = ap (λ (s : SpaceName). s.namespace) c.self.view_is in
@@ -41,7 +41,7 @@ look-requires-clause-covered c =
     read_is_covered ns c.from-place.result c.index.result.now.bounds.place c.args.slba c.args.blocks its.place c.requires.some inside (sym same) last
 
 pub look-requires-clause-versions : goal.look-requires-clause-versions
-look-requires-clause-versions c =
+look-requires-clause-versions g c =
     let ns = c.args.self.now.namespace in
     let unit = unit_number ns c.args.slba in
     let geo : c.self.inside.geometry ≡ ns = ap (λ (s : SpaceName). s.namespace) c.self.view_is in
@@ -53,7 +53,7 @@ look-requires-clause-versions c =
     its.versions ∙ c.requires.versions
 
 pub returns-clause-of : goal.returns-clause-of
-returns-clause-of c =
+returns-clause-of g c =
     let ns = c.args.self.now.namespace in
     let unit = unit_number ns c.args.slba in
     let geo : c.self.inside.geometry ≡ ns = ap (λ (s : SpaceName). s.namespace) c.self.view_is in
@@ -64,7 +64,7 @@ returns-clause-of c =
     (subst IsLaidOut c.self.view_is c.self.invariant) (ap (λ (s : SpaceName). s.units) c.self.view_is) c.port.view_is c.requires.of known same c.index.ensures c.index_mut.ensures.value c.look.new.pass c.look.ensures.of c.look.ensures.number
 
 pub returns-clause-read : goal.returns-clause-read
-returns-clause-read c =
+returns-clause-read g c =
     let ns = c.args.self.now.namespace in
     let unit = unit_number ns c.args.slba in
     let geo : c.self.inside.geometry ≡ ns = ap (λ (s : SpaceName). s.namespace) c.self.view_is in

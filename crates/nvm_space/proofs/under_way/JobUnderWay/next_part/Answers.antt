@@ -9,5 +9,5 @@ returns-clause-known c =
     let ns = c.args.geometry.now in
     let job = c.args.job.now in
     let under = c.requires.under_way in
-    let known = next_known ns job c.args.self.now under.0 under.1 (c.parts_of_jobs.ensures.units ns job) (c.parts_of_jobs.ensures.inside ns job) under.2 in
+    let known = next_known ns under.2 job c.args.self.now under.0 under.1 (c.parts_of_jobs.ensures.units ns job) (c.parts_of_jobs.ensures.inside ns job) under.3 in
     subst (λ (w : UnderWay). w.unit < units_of ns) (sym c.self.view_is) known

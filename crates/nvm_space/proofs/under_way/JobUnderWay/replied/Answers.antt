@@ -11,7 +11,7 @@ pub overflow_add-unit : goal.overflow_add-unit
 overflow_add-unit c =
     let ns = c.args.geometry.now in
     let job = c.args.job.now in
-    let known = next_known ns job c.args.self c.requires.0 c.requires.1 (c.parts_of_jobs.ensures.units ns job) (c.parts_of_jobs.ensures.inside ns job) c.requires.3.under_way in
+    let known = next_known ns c.args.lists job c.args.self c.requires.replies.0 c.requires.replies.1 (c.parts_of_jobs.ensures.units ns job) (c.parts_of_jobs.ensures.inside ns job) c.requires.replies.3.under_way in
     let unit : c.self.inside.unit ≡ c.args.self.unit = ap (λ (w : UnderWay). w.unit) c.self.view_is in
     let most : units_of ns ≤ 4096 = subst (λ (n : ℕ). n ≤ 4096) c.units-units.ensures.value c.units-units.ensures.valid in
     omega (arith, known, unit, most)
@@ -21,9 +21,9 @@ returns-then-not-is_success-clause-progress c = λ start now new replies.
     let ns = c.args.geometry.now in
     let job = c.args.job.now in
     let w : UnderWay = record { number = c.self.inside.number; unit = c.self.inside.unit; parts = c.self.inside.parts.items; bytes = c.self.inside.bytes.items; room = vec_capacity c.self.inside.parts } in
-    let here = subst (λ (x : UnderWay). RepliesTo ns job x (reply_told c.args.reply) start now new) (sym c.self.view_is) replies in
-    let follows = c.parts_follow_parts.ensures ns job w c.args.reply start now new _ _ _ (here, c.gathered-statuses.ensures) in
-    subst (λ (n : ℕ). DoesJob ns n job start new c.of.result) (ap (λ (x : UnderWay). x.number) c.self.view_is)
+    let here = subst (λ (x : UnderWay). RepliesTo ns c.args.lists job x (reply_told c.args.reply) start now new) (sym c.self.view_is) replies in
+    let follows = c.parts_follow_parts.ensures ns c.args.lists job w c.args.reply start now new _ _ _ (here, c.gathered-statuses.ensures) in
+    subst (λ (n : ℕ). DoesJob ns c.args.lists n job start new c.of.result) (ap (λ (x : UnderWay). x.number) c.self.view_is)
     (follows.stopped c.of.result (λ ok. let bad = c.if-not-is_success.ensures.1 ok in cc bad) (c.of.ensures.0, c.of.ensures.1 ∙ c.push_reserved.ensures.items))
 
 pub returns-in-Some-clause-progress : goal.returns-in-Some-clause-progress
@@ -31,10 +31,10 @@ returns-in-Some-clause-progress c = λ start now new replies.
     let ns = c.args.geometry.now in
     let job = c.args.job.now in
     let w : UnderWay = record { number = c.self.inside.number; unit = c.self.inside.unit; parts = c.self.inside.parts.items; bytes = c.self.inside.bytes.items; room = vec_capacity c.self.inside.parts } in
-    let here = subst (λ (x : UnderWay). RepliesTo ns job x (reply_told c.args.reply) start now new) (sym c.self.view_is) replies in
-    let follows = c.parts_follow_parts.ensures ns job w c.args.reply start now new _ _ _ (here, c.gathered-statuses.ensures) in (
+    let here = subst (λ (x : UnderWay). RepliesTo ns c.args.lists job x (reply_told c.args.reply) start now new) (sym c.self.view_is) replies in
+    let follows = c.parts_follow_parts.ensures ns c.args.lists job w c.args.reply start now new _ _ _ (here, c.gathered-statuses.ensures) in (
       ap (λ (x : UnderWay). x.number) c.self.view_is,
-      same_under_way ns job c.self.inside.number c.in-Some.unit _ c.push_reserved.new.self.items c.gathered-statuses.new.bytes.items (vec_capacity c.self.inside.parts) (vec_capacity c.push_reserved.new.self) start new
+      same_under_way ns c.args.lists job c.self.inside.number c.in-Some.unit _ c.push_reserved.new.self.items c.gathered-statuses.new.bytes.items (vec_capacity c.self.inside.parts) (vec_capacity c.push_reserved.new.self) start new
           c.push_reserved.ensures.items c.push_reserved.ensures.capacity (follows.more c.in-Some.unit (c.if-not-is_success.ensures.0 refl) c.in-Some.ensures.first),
     )
 
@@ -43,8 +43,8 @@ returns-in-None-clause-progress c = λ start now new replies.
     let ns = c.args.geometry.now in
     let job = c.args.job.now in
     let w : UnderWay = record { number = c.self.inside.number; unit = c.self.inside.unit; parts = c.self.inside.parts.items; bytes = c.self.inside.bytes.items; room = vec_capacity c.self.inside.parts } in
-    let here = subst (λ (x : UnderWay). RepliesTo ns job x (reply_told c.args.reply) start now new) (sym c.self.view_is) replies in
-    let follows = c.parts_follow_parts.ensures ns job w c.args.reply start now new _ _ _ (here, c.gathered-statuses.ensures) in
-    subst (λ (n : ℕ). DoesJob ns n job start new c.of_success.result) (ap (λ (x : UnderWay). x.number) c.self.view_is)
+    let here = subst (λ (x : UnderWay). RepliesTo ns c.args.lists job x (reply_told c.args.reply) start now new) (sym c.self.view_is) replies in
+    let follows = c.parts_follow_parts.ensures ns c.args.lists job w c.args.reply start now new _ _ _ (here, c.gathered-statuses.ensures) in
+    subst (λ (n : ℕ). DoesJob ns c.args.lists n job start new c.of_success.result) (ap (λ (x : UnderWay). x.number) c.self.view_is)
     (follows.last c.of_success.result (c.if-not-is_success.ensures.0 refl) c.in-None.ensures.none
     (λ op is. let ended = c.of_success.ensures ns op is in (ended.0, ended.1 ∙ c.push_reserved.ensures.items)))

@@ -10,6 +10,6 @@ pub poll_job-requires-clause-under_way : goal.poll_job-requires-clause-under_way
 poll_job-requires-clause-under_way c =
     let ns = c.args.space.now.namespace in
     let now = views_of c.args.port.now.passes in
-    let begun = subst (λ (o : Option Progress). IfSome o (λ p. (start : List PassView) × IsProgress ns 9 c.args.job.now start now p)) c.in-Some.is c.requires.begun in
-    let known = subst (λ (p : Progress). IsProgress ns 9 c.args.job.now begun.0 now p) c.in-Pending.is begun.1 in
+    let begun = subst (λ (o : Option Progress). IfSome o (λ p. (start : List PassView) × IsProgress ns c.args.space.now.lists 9 c.args.job.now start now p)) c.in-Some.is c.requires.begun in
+    let known = subst (λ (p : Progress). IsProgress ns c.args.space.now.lists 9 c.args.job.now begun.0 now p) c.in-Pending.is begun.1 in
     (begun.0, known.1)

@@ -1,5 +1,4 @@
-use Rattle.std.proofs.Common.{◌≡◌, ◌∙◌, ap, sym, subst}
-use Rattle.nvm_geometry.specs.Namespace.{Namespace}
+use Rattle.std.proofs.Common.{◌≡◌, ◌∙◌, sym, subst}
 use Rattle.nvm_space.specs.Spaces.{SpaceName}
 use Rattle.nvm_space.specs.UnderWay.{IsUnderWay}
 use Rattle.nvm_unit.specs.Ends.{views_of}
@@ -9,6 +8,5 @@ use Rattle.unit_bench.proofs.port_writer.PortWriter.done_at_once.Goals as goal
 pub poll_job-progress-requires-clause-under_way : goal.poll_job-progress-requires-clause-under_way
 poll_job-progress-requires-clause-under_way c =
     let views = views_of c.args.self.now.port.passes in
-    let same : c.deref.result.now.namespace ≡ c.deref-in-Pending.result.now.namespace =
-    ap (λ (s : SpaceName). s.namespace) (c.deref.ensures ∙ sym c.deref-in-Pending.ensures) in
-    (views, subst (λ (ns : Namespace). IsUnderWay ns c.args.job.now c.in-Pending.under_way views views) same (c.in-Pending.ensures views).1)
+    let same : c.deref.result.now ≡ c.deref-in-Pending.result.now = c.deref.ensures ∙ sym c.deref-in-Pending.ensures in
+    (views, subst (λ (s : SpaceName). IsUnderWay s.namespace s.lists c.args.job.now c.in-Pending.under_way views views) same (c.in-Pending.ensures views).1)
