@@ -2,9 +2,9 @@
  * writes on standard output, and on standard error the nanoseconds by the wall's clock and of processor time, and the calls of malloc, realloc and
  * free. Link it with libnvm_c.a, liblibc_c.a and -Wl,--wrap=malloc,--wrap=realloc,--wrap=free.
  *
- *     c_writes THREADS WRITES BLOCKS
+ *     c_writes THREADS WRITES BLOCKS [LIMIT]
  *
- * WRITES are those of all threads. BLOCKS is a unit's. The blocks are written in the order, and with the data, of `unit_bench`. */
+ * WRITES are those of all threads. BLOCKS is a unit's. With a LIMIT the namespace is recorded. The blocks are written in the order, and with the data, of `unit_bench`. */
 #include <pthread.h>
 #include <stdint.h>
 #include <stdio.h>
@@ -76,11 +76,12 @@ static long long now(clockid_t clock)
 
 int main(int words, char **word)
 {
-    if (words != 4) {
-        fprintf(stderr, "c_writes THREADS WRITES BLOCKS\n");
+    if (words != 4 && words != 5) {
+        fprintf(stderr, "c_writes THREADS WRITES BLOCKS [LIMIT]\n");
         return 2;
     }
     unsigned long threads = strtoul(word[1], NULL, 10), writes = strtoul(word[2], NULL, 10), blocks = strtoul(word[3], NULL, 10);
+    uint32_t limit = words == 5 ? (uint32_t)strtoul(word[4], NULL, 10) : ZK_NO_LIMIT;
     struct zk_port ports[ZK_MOST_PORTS];
     struct share shares[ZK_MOST_PORTS];
     pthread_t ids[ZK_MOST_PORTS];
@@ -88,7 +89,7 @@ int main(int words, char **word)
     memset(ports, 0, sizeof ports);
     for (int i = 0; i < DATA; i++)
         memset(data[i], i, BLOCK);
-    if (threads == 0 || threads > ZK_MOST_PORTS || zk_open(ports, threads, &ns, ZK_MOST_CHANGES, false, false) != ZK_DONE)
+    if (threads == 0 || threads > ZK_MOST_PORTS || zk_open(ports, threads, &ns, limit, false) != ZK_DONE)
         return 1;
     for (unsigned long t = 0; t < threads; t++)
         shares[t] = (struct share){ .port = &ports[t], .first = t * blocks, .blocks = blocks, .writes = writes / threads };

@@ -104,11 +104,11 @@ static int refusals(void)
     MUST(zk_identify(port, block, BLOCK), ZK_NOT_OPEN);
     MUST(zk_submit(port, entries, 64, block, BLOCK, told, 16), ZK_NOT_OPEN);
     MUST(zk_poll(port, block, BLOCK, told, 16), ZK_NOT_OPEN);
-    MUST(zk_open(ports, 0, &ns, 100, true, false), ZK_BAD_PORTS);
-    MUST(zk_open(ports, 2, &none, 100, true, false), ZK_BAD_NAMESPACE);
-    MUST(zk_open(ports, 2, &ns, 0, true, false), ZK_BAD_LIMIT);
-    MUST(zk_open(ports, 2, &ns, 100, true, false), ZK_DONE);
-    MUST(zk_open(ports, 2, &ns, 100, true, false), ZK_IS_OPEN);
+    MUST(zk_open(ports, 0, &ns, ZK_NO_LIMIT, true), ZK_BAD_PORTS);
+    MUST(zk_open(ports, 2, &none, ZK_NO_LIMIT, true), ZK_BAD_NAMESPACE);
+    MUST(zk_open(ports, 2, &ns, ZK_MOST_CHANGES + 1, true), ZK_BAD_LIMIT);
+    MUST(zk_open(ports, 2, &ns, ZK_NO_LIMIT, true), ZK_DONE);
+    MUST(zk_open(ports, 2, &ns, ZK_NO_LIMIT, true), ZK_IS_OPEN);
     MUST(zk_poll(port, block, BLOCK, told, 16), ZK_IDLE);
     MUST(zk_submit(port, entries, 63, block, BLOCK, told, 16), ZK_BAD_LENGTH);
     MUST(zk_submit(port, entries, 64, block, BLOCK - 1, told, 16), ZK_BAD_LENGTH);
@@ -150,7 +150,7 @@ static int refusals(void)
     MUST(zk_record(ports, 2, block, BLOCK, &size), ZK_NOT_OPEN);
     MUST(zk_read_now(port, 0, 0, block, BLOCK, &status), ZK_NOT_OPEN);
     MUST(zk_close(&ports[1]), ZK_DONE);
-    MUST(zk_open(ports, 1, &ns, 100, false, false), ZK_DONE);
+    MUST(zk_open(ports, 1, &ns, ZK_NO_LIMIT, false), ZK_DONE);
     MUST(zk_read_now(port, 0, 0, block, BLOCK, &status), ZK_NO_VERSIONS);
     MUST(zk_close(port), ZK_DONE);
     return 0;
@@ -185,7 +185,7 @@ int main(int words, char **word)
         return 1;
     struct zk_namespace ns = { 64, BLOCK, 7, 0, 7, 7 };
     struct zk_port ports[THREADS] = { ZK_PORT_INIT, ZK_PORT_INIT, ZK_PORT_INIT, ZK_PORT_INIT };
-    if (zk_open(ports, THREADS, &ns, ZK_MOST_CHANGES, true, true) != ZK_DONE)
+    if (zk_open(ports, THREADS, &ns, ZK_MOST_CHANGES, true) != ZK_DONE)
         return 1;
     pthread_t threads[THREADS];
     for (int i = 0; i < THREADS; i++)

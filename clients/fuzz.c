@@ -255,7 +255,7 @@ static void change(struct space *s, const struct command *c, struct expected *x)
             surely = false;
             continue;
         }
-        if (s->changes[unit] == s->limit) {
+        if (s->limit != ZK_NO_LIMIT && s->changes[unit] == s->limit) {
             may_answer(x, 0x006);
             return;
         }
@@ -323,7 +323,7 @@ static void compare_and_write(struct space *s, const struct command *c, const st
     uint32_t compared = comparison(s, c);
     if (compared) {
         may_answer(x, compared << 16 | 0x009);
-    } else if (s->changes[unit] == s->limit) {
+    } else if (s->limit != ZK_NO_LIMIT && s->changes[unit] == s->limit) {
         may_answer(x, 0x006);
     } else {
         s->changes[unit]++;
@@ -701,15 +701,15 @@ static bool try_opens(struct worker *w)
         if (below(w, 12) == 0)
             ns.nsze = below(w, 2) ? below(w, 70000) : 0;
         uint32_t limit = below(w, 12) ? 1 + (uint32_t)below(w, ZK_MOST_CHANGES) : below(w, 2) ? 0 : ZK_MOST_CHANGES + 1;
-        bool versions = below(w, 2), recorded = below(w, 2);
+        bool versions = below(w, 2);
         size_t first = below(w, 4), count = below(w, 5 - first);
         bool any = false;
         for (size_t i = first; i < first + count; i++)
             any |= open[i];
         int due = any ? ZK_IS_OPEN : count == 0 ? ZK_BAD_PORTS : !is_namespace(&ns) ? ZK_BAD_NAMESPACE
-            : limit == 0 || limit > ZK_MOST_CHANGES ? ZK_BAD_LIMIT : ZK_DONE;
+            : limit > ZK_MOST_CHANGES ? ZK_BAD_LIMIT : ZK_DONE;
         memcpy(before, ports, sizeof ports);
-        if (!judge_code(w, "open", NULL, zk_open(ports + first, count, &ns, limit, versions, recorded), BIT(due)))
+        if (!judge_code(w, "open", NULL, zk_open(ports + first, count, &ns, limit, versions), BIT(due)))
             return false;
         if (due != ZK_DONE && memcmp(ports, before, sizeof ports) != 0)
             return wrong(w, "ports written by a refused open", NULL, (uint64_t)due, ZK_DONE);
@@ -729,7 +729,7 @@ static bool try_opens(struct worker *w)
             return false;
     memset(many, 0, sizeof many);
     struct zk_namespace ns = { 8, 512, 0, 0, 0, 0 };
-    return judge_code(w, "open of too many", NULL, zk_open(many, ZK_MOST_PORTS + 1, &ns, 1, false, false), BIT(ZK_BAD_PORTS));
+    return judge_code(w, "open of too many", NULL, zk_open(many, ZK_MOST_PORTS + 1, &ns, 1, false), BIT(ZK_BAD_PORTS));
 }
 
 /* Reads the thread's own zone, block by block. Others may read there, too, so a unit may be held. */
@@ -770,7 +770,7 @@ static void *work(void *given)
 /* Numbers of a namespace, with few changes a unit now and then. */
 static void some_space(struct worker *w, struct space *s)
 {
-    static const uint32_t limits[] = { 1, 3, 20, 1000, ZK_MOST_CHANGES };
+    static const uint32_t limits[] = { 1, 3, 20, 1000, ZK_MOST_CHANGES, ZK_NO_LIMIT, ZK_NO_LIMIT };
     memset(s, 0, sizeof *s);
     s->ns.nsze = 1 + below(w, 240);
     s->ns.block_size = below(w, 8) ? 512 : 4096;
@@ -778,7 +778,7 @@ static void some_space(struct worker *w, struct space *s)
     s->ns.nabo = (uint16_t)(below(w, 2) ? below(w, s->ns.nabsn + 1u) : 0);
     s->ns.nawun = (uint16_t)below(w, s->ns.nabsn ? s->ns.nabsn + 1u : 65536);
     s->ns.nacwu = (uint16_t)below(w, s->ns.nabsn ? s->ns.nabsn + 1u : 65536);
-    s->limit = limits[below(w, 5)];
+    s->limit = limits[below(w, 7)];
     s->versions = below(w, 4);
 }
 
@@ -813,7 +813,7 @@ static bool round_of(uint64_t seed, int threads, unsigned long calls[CODES])
     for (int i = 0; i < 2; i++) {
         some_space(&whole, &spaces[i]);
         if (!judge_code(&whole, "open of a round", NULL,
-                        zk_open(ports[i], (size_t)threads, &spaces[i].ns, spaces[i].limit, spaces[i].versions, false), BIT(ZK_DONE)))
+                        zk_open(ports[i], (size_t)threads, &spaces[i].ns, spaces[i].limit, spaces[i].versions), BIT(ZK_DONE)))
             return false;
     }
     pthread_t ids[MOST_THREADS];

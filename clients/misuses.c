@@ -78,7 +78,6 @@ static const struct row rows[] = {
     OPEN_ROW(ZK_BAD_NAMESPACE, SHUT, "NAWUN above NABSN", 2, 100, 64, BLOCK, 7, 0, 8, 7),
     OPEN_ROW(ZK_BAD_NAMESPACE, SHUT, "NACWU above NABSN", 2, 100, 64, BLOCK, 7, 0, 7, 8),
     OPEN_ROW(ZK_BAD_NAMESPACE, SHUT, "4,097 units", 2, 100, 8194, BLOCK, 1, 0, 1, 1),
-    OPEN_ROW(ZK_BAD_LIMIT, SHUT, "a limit of 0", 2, 0, 64, BLOCK, 7, 0, 7, 7),
     OPEN_ROW(ZK_BAD_LIMIT, SHUT, "a limit above ZK_MOST_CHANGES", 2, ZK_MOST_CHANGES + 1, 64, BLOCK, 7, 0, 7, 7),
     OPEN_ROW(ZK_NO_MEMORY, SHUT_STARVED, "open without memory", 2, 100, 64, BLOCK, 7, 0, 7, 7),
     CLOSE_ROW(ZK_NOT_OPEN, SHUT, "close of a port that was never opened"),
@@ -151,6 +150,7 @@ static const struct row rows[] = {
     RECORD_ROW(ZK_SHORT_ROOM, RECORDED, "record without room", 0, PORTS, 0),
     RECORD_ROW(ZK_NO_MEMORY, RECORDED_STARVED, "record without memory", 0, PORTS, ROOM),
     OPEN_ROW(ZK_DONE, SHUT, "open", 2, 100, 64, BLOCK, 7, 0, 7, 7),
+    OPEN_ROW(ZK_DONE, SHUT, "open without a limit", 2, ZK_NO_LIMIT, 64, BLOCK, 7, 0, 7, 7),
     OPEN_ROW(ZK_DONE, CLOSED, "open again", 2, ZK_MOST_CHANGES, 65536, 4096, 15, 0, 15, 0),
     CLOSE_ROW(ZK_DONE, OPEN, "close"),
     CLOSE_ROW(ZK_DONE, PENDING, "close while a command is pending"),
@@ -252,13 +252,13 @@ static bool recorded;
 
 static bool open_all(bool versions)
 {
-    return zk_open(ports, PORTS, &usual, 100, versions, recorded) == ZK_DONE;
+    return zk_open(ports, PORTS, &usual, recorded ? 100 : ZK_NO_LIMIT, versions) == ZK_DONE;
 }
 
 /* The third port of another namespace stands at the place of the third. */
 static bool mix(void)
 {
-    if (!open_all(true) || zk_open(&ports[PORTS], PORTS, &usual, 100, true, true) != ZK_DONE)
+    if (!open_all(true) || zk_open(&ports[PORTS], PORTS, &usual, 100, true) != ZK_DONE)
         return false;
     struct zk_port moved = ports[PORTS - 1];
     ports[PORTS - 1] = ports[2 * PORTS - 1];
@@ -299,7 +299,7 @@ static bool prepare(enum state state, struct holder *holder)
         close_all();
         return true;
     case SECOND:
-        return zk_open(&ports[1], 1, &usual, 100, true, false) == ZK_DONE;
+        return zk_open(&ports[1], 1, &usual, ZK_NO_LIMIT, true) == ZK_DONE;
     case OPEN:
     case STARVED:
     case RECORDED:
@@ -337,7 +337,7 @@ static int call(const struct row *row, struct written *written)
     entry_of(entries + 2 * ZK_ENTRY_BYTES, WRITE, 0, 3, 0, 1);
     switch (row->call) {
     case OPENS:
-        return zk_open(ports, row->entries, &row->ns, row->limit, true, false);
+        return zk_open(ports, row->entries, &row->ns, row->limit, true);
     case CLOSES:
         return zk_close(ports);
     case SUBMITS:
@@ -407,8 +407,8 @@ static bool nulls_are_answered(void)
         return false;
     struct zk_port *port = ports;
     const struct { const char *misuse; int code, answer; } calls[] = {
-        { "open of NULL", ZK_BAD_PORTS, zk_open(NULL, 1, &usual, 100, true, false) },
-        { "open of a NULL namespace", ZK_BAD_NAMESPACE, zk_open(&ports[PORTS], 1, NULL, 100, true, false) },
+        { "open of NULL", ZK_BAD_PORTS, zk_open(NULL, 1, &usual, ZK_NO_LIMIT, true) },
+        { "open of a NULL namespace", ZK_BAD_NAMESPACE, zk_open(&ports[PORTS], 1, NULL, ZK_NO_LIMIT, true) },
         { "close of NULL", ZK_NOT_OPEN, zk_close(NULL) },
         { "submit to NULL", ZK_NOT_OPEN, zk_submit(NULL, entry, sizeof entry, block, BLOCK, told, sizeof told) },
         { "submit of NULL", ZK_BAD_LENGTH, zk_submit(port, NULL, sizeof entry, block, BLOCK, told, sizeof told) },

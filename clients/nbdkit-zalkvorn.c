@@ -1,11 +1,11 @@
 /* An nbdkit plugin: serves a namespace to whatever speaks NBD, as QEMU, libnbd, fio and Linux's nbd do.
  *
- *     nbdkit ./nbdkit-zalkvorn.so size=64M [block=512|4096] [unit=BLOCKS] [ports=COUNT] [limit=CHANGES] [most=BLOCKS]
+ *     nbdkit ./nbdkit-zalkvorn.so size=64M [block=512|4096] [unit=BLOCKS] [ports=COUNT] [most=BLOCKS]
  *
  * `size` is a multiple of the block size, at most 65,536 blocks. `unit` blocks are an atomic unit (16, or more where there would be
  * too many units), `ports` is how many requests are done at the same time (16), `most` how many blocks one command has (256): a
- * longer request is cut into several commands. Memory grows with each change by its data and some 200 bytes, since histories are
- * kept. After `limit` changes (4,194,304) a unit takes no more, and then each write to it ends with EIO and a line that says so.
+ * longer request is cut into several commands. A block that was written holds the data of its whole command until all blocks of that
+ * command were written again, so a smaller `most` bounds memory: at worst each block holds `most` blocks.
  *
  * Each request takes a port that no other request has. A mutex hands ports from thread to thread, as the library wants. Blocks
  * that a request covers only in part are changed by a fused Compare and Write, so that nothing is lost between two of them. */
@@ -28,7 +28,7 @@
 enum { MOST_BLOCKS = 65536, MOST_UNITS = 4096, MOST_BLOCK_SIZE = 4096 };
 
 static int64_t size = -1;
-static uint32_t block_size = 4096, ports = 16, limit = ZK_MOST_CHANGES, most = 256, unit;
+static uint32_t block_size = 4096, ports = 16, most = 256, unit;
 static struct zk_namespace ns;
 static struct zk_port opened[ZK_MOST_PORTS];
 static pthread_mutex_t mutexes[ZK_MOST_PORTS];
@@ -40,7 +40,7 @@ static int zalkvorn_config(const char *key, const char *value)
         return size < 0 ? -1 : 0;
     }
     uint32_t *number = strcmp(key, "block") == 0 ? &block_size : strcmp(key, "unit") == 0 ? &unit
-        : strcmp(key, "ports") == 0 ? &ports : strcmp(key, "limit") == 0 ? &limit : strcmp(key, "most") == 0 ? &most : NULL;
+        : strcmp(key, "ports") == 0 ? &ports : strcmp(key, "most") == 0 ? &most : NULL;
     if (!number) {
         nbdkit_error("zalkvorn: there is no parameter %s", key);
         return -1;
@@ -90,10 +90,10 @@ static int zalkvorn_after_fork(void)
     mallopt(M_ARENA_MAX, 1);
     mallopt(M_TOP_PAD, 16 << 20);
 #endif
-    int code = zk_open(opened, ports, &ns, limit, false, false);
+    int code = zk_open(opened, ports, &ns, ZK_NO_LIMIT, false);
     if (code != ZK_DONE) {
-        nbdkit_error("zalkvorn: %s", code == ZK_BAD_PORTS ? "ports is 1 to 64" : code == ZK_BAD_LIMIT
-                     ? "limit is 1 to 4194304" : code == ZK_NO_MEMORY ? "no memory" : "no such namespace");
+        nbdkit_error("zalkvorn: %s", code == ZK_BAD_PORTS ? "ports is 1 to 64"
+                     : code == ZK_NO_MEMORY ? "no memory" : "no such namespace");
         return -1;
     }
     for (uint32_t i = 0; i < ports; i++)
@@ -148,12 +148,7 @@ static int failed(const uint8_t *entry, uint16_t status)
 {
     const char *name = zk_status_name((uint8_t)(status >> 8), (uint8_t)status);
     unsigned long long lba = little(entry + 40, 8);
-    if (status == 0x006)
-        nbdkit_error("zalkvorn: opcode %02xh at LBA %llu: %s: the history of an atomic unit is full (limit=%u), or malloc refused "
-                     "memory",
-                     entry[0], lba, name, limit);
-    else
-        nbdkit_error("zalkvorn: opcode %02xh at LBA %llu: %s", entry[0], lba, name);
+    nbdkit_error("zalkvorn: opcode %02xh at LBA %llu: %s%s", entry[0], lba, name, status == 0x006 ? ": malloc refused memory" : "");
     errno = EIO;
     return -1;
 }
@@ -317,7 +312,6 @@ static struct nbdkit_plugin plugin = {
                    "block=512|4096        bytes of a block (4096)\n"
                    "unit=BLOCKS           blocks of an atomic unit (16)\n"
                    "ports=COUNT           requests at the same time, 1 to 64 (16)\n"
-                   "limit=CHANGES         changes that each unit's history keeps (4194304)\n"
                    "most=BLOCKS           blocks of one command (256)",
     .magic_config_key = "size",
     .after_fork = zalkvorn_after_fork,

@@ -33,11 +33,14 @@ extern "C" {
 #endif
 
 /* The version of this header. zk_version() gives that of the library; the two must be equal. */
-#define ZK_VERSION 1
+#define ZK_VERSION 2
 
-/* The most ports of a namespace, and the most changes of an atomic unit that its history can keep. */
+/* The most ports of a namespace, and the most changes of an atomic unit that a record can have. */
 #define ZK_MOST_PORTS 64
 #define ZK_MOST_CHANGES 4194304
+
+/* The limit of a namespace that is not recorded. */
+#define ZK_NO_LIMIT 0
 
 /* The most jobs of a record. A job is a command by itself or a fused pair. */
 #define ZK_MOST_JOBS 4194304
@@ -59,7 +62,7 @@ enum zk_code {
     ZK_NO_MEMORY = 4,     /* malloc refused before anything was done. */
     ZK_BAD_NAMESPACE = 5, /* There is no namespace of these numbers. */
     ZK_BAD_PORTS = 6,     /* There are no ports, or more than ZK_MOST_PORTS. */
-    ZK_BAD_LIMIT = 7,     /* The limit is 0, or above ZK_MOST_CHANGES. */
+    ZK_BAD_LIMIT = 7,     /* The limit is above ZK_MOST_CHANGES. */
     ZK_BAD_LENGTH = 8,    /* Entries, data or completions of another length than the command calls for. */
     ZK_NO_PAIR = 9,       /* Two entries that are not a fused pair. */
     ZK_BUSY = 10,         /* A command is pending in the port. */
@@ -72,7 +75,7 @@ enum zk_code {
     ZK_BAD_RECORD = 17,   /* The bytes are not those of a record file. */
     ZK_SHORT_ROOM = 18,   /* The line with its byte of 0, or the record's file, is longer than its room. */
     ZK_OTHER_PORTS = 19,  /* These are not all ports of one namespace, in the order of zk_open. */
-    ZK_NO_RECORD = 20,    /* The namespace was opened without a record. */
+    ZK_NO_RECORD = 20,    /* The namespace was opened with ZK_NO_LIMIT. */
     ZK_RECORD_FULL = 21   /* There were more than ZK_MOST_JOBS commands or pairs, which no record has. */
 };
 
@@ -99,15 +102,19 @@ struct zk_namespace {
 /* The library's version. Any thread, any time. */
 uint32_t zk_version(void);
 
-/* Opens `count` ports on a new namespace whose blocks are zero bytes. Each atomic unit keeps up to `limit` changes
- * in its history; a change beyond ends with status 0/06, as does a command that finds no memory once it is under way. With `versions` each port keeps what it has seen, for
- * zk_read_now. With `recorded` each port keeps each job that it did, with its data, what it read and how it ended, for zk_record: memory
- * grows with each command then, up to ZK_MOST_JOBS of all ports together.
+/* Opens `count` ports on a new namespace whose blocks are zero bytes. With ZK_NO_LIMIT it keeps its blocks and nothing of its
+ * past, so it can run for as long as you like. A command that finds no memory once it is under way ends with status 0/06. A block
+ * holds the data of the command that wrote it last: all blocks of that command, until each of them is written again.
+ *
+ * With another `limit` the namespace is recorded: each port keeps each job that it did, with its data, what it read and how it
+ * ended, for zk_record. So memory grows with each command, up to ZK_MOST_JOBS of all ports together. Each atomic unit can be
+ * changed `limit` times. A change beyond that ends with status 0/06.
+ *
+ * With `versions` each port keeps what it has seen, for zk_read_now.
  * ZK_DONE; or ZK_IS_OPEN, ZK_BAD_PORTS, ZK_BAD_NAMESPACE, ZK_BAD_LIMIT or ZK_NO_MEMORY, tried in this order, and every
  * port is as it was.
  * Threads: nobody else uses these ports during the call. */
-int zk_open(struct zk_port *ports, size_t count, const struct zk_namespace *ns, uint32_t limit, bool versions,
-            bool recorded);
+int zk_open(struct zk_port *ports, size_t count, const struct zk_namespace *ns, uint32_t limit, bool versions);
 
 /* Closes the port, and forgets a pending command, whose parts that were done stay done. The namespace is freed with
  * its last port. ZK_DONE or ZK_NOT_OPEN: a second close does nothing.
@@ -199,10 +206,9 @@ int zk_record(struct zk_port *ports, size_t count, uint8_t *bytes, size_t room, 
 /* NULL, which the library's own functions don't take, is answered here. A port that is NULL is not open; ports that are NULL are none. A
  * buffer that is NULL has no room: where its length is above 0, or the call has to write to it, the answer is ZK_BAD_LENGTH, and
  * ZK_SHORT_ROOM of zk_audit. A namespace that is NULL has no numbers. */
-static inline int zk_open_or_null(struct zk_port *ports, size_t count, const struct zk_namespace *ns, uint32_t limit, bool versions,
-                                  bool recorded)
+static inline int zk_open_or_null(struct zk_port *ports, size_t count, const struct zk_namespace *ns, uint32_t limit, bool versions)
 {
-    return !ports ? ZK_BAD_PORTS : !ns ? ZK_BAD_NAMESPACE : zk_open(ports, count, ns, limit, versions, recorded);
+    return !ports ? ZK_BAD_PORTS : !ns ? ZK_BAD_NAMESPACE : zk_open(ports, count, ns, limit, versions);
 }
 
 static inline int zk_close_or_null(struct zk_port *port)

@@ -23,7 +23,7 @@ use crate::recording::record_ports;
 use std::alloc::Global;
 
 /// The version of the header that goes with this library.
-const VERSION: u32 = 1;
+const VERSION: u32 = 2;
 
 /// The version of the header that goes with this library.
 #[unsafe(no_mangle)]
