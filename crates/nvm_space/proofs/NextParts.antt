@@ -5,7 +5,7 @@ use Rattle.std.specs.List.{Contains}
 use Rattle.nvm_record.specs.Step.{Operation}
 use Rattle.nvm_geometry.specs.Boundaries.{units_of}
 use Rattle.nvm_geometry.specs.Namespace.{Namespace}
-use Rattle.nvm_geometry.specs.Parts.{units_met}
+use Rattle.nvm_geometry.specs.Parts.{part_in, units_met}
 use Rattle.nvm_plan.specs.Checks.{refusal_of}
 use Rattle.nvm_plan.specs.JobPart.{job_part_in, job_units, job_units_from}
 use Rattle.nvm_plan.specs.Operation.{job_operation_of}
@@ -40,6 +40,17 @@ next_known ns lists job w start now units inside under =
     inside w.unit (subst (λ (us : List ℕ). Contains us w.unit) (sym (units under.op under.free under.is_op))
     (is_among (units_told (map (λ (did : PartDone). did.reply) under.have.parts)) (units_met ns under.op) w.unit
     (job_units_from ns job (w.unit + 1)) under.have.done.units))
+
+-- The job has a part there.
+pub next_there : (ns : Namespace) (lists : Bool) (job : Job) (w : UnderWay) (start now : List PassView)
+    → ((op : Operation) (unit : ℕ) → refusal_of ns job ≡ None → job_operation_of ns job ≡ Some op → Contains (units_met ns op) unit
+    → job_part_in ns job unit ≡ Some (part_in ns op unit))
+    → IsUnderWay ns lists job w start now → job_part_in ns job w.unit ≡ None → ⊥
+next_there ns lists job w start now part under none =
+    let there = part under.op w.unit under.free under.is_op
+    (is_among (units_told (map (λ (did : PartDone). did.reply) under.have.parts)) (units_met ns under.op) w.unit
+    (job_units_from ns job (w.unit + 1)) under.have.done.units) in
+    let bad = sym none ∙ there in cc bad
 
 -- what is known of a job that is done, and of one that is pending
 pub when_done : (ns : Namespace) (lists : Bool) (number : ℕ) (job : Job) (start now : List PassView) (progress : Progress) (done : JobDone)

@@ -21,13 +21,13 @@ pub(crate) fn opened<K: Kept>(
     alloc: Global,
     geometry: Geometry,
     ports: u16,
-    limit: Option<Limit>,
+    limit: &Option<Limit>,
     versions: bool,
 ) -> Result<(Vec<Unit<K>>, Vec<Port<K>>), SpaceFault>
     requires { IsPortCount ports }
     ensures refused { IfErr result (IsSpaceFault ports) }
-    ensures units { IfOk result (λ u. IsLaidOut (space_of geometry ports limit versions u.0.items)) }
-    ensures ports { IfOk result (λ u. u.1.items ≡ new_ports (space_of geometry ports limit versions u.0.items)) }
+    ensures units { IfOk result (λ u. IsLaidOut (space_of geometry ports limit.now versions u.0.items)) }
+    ensures ports { IfOk result (λ u. u.1.items ≡ new_ports (space_of geometry ports limit.now versions u.0.items)) }
 {
     new_passes_are_all();
     // For the proof alone: how many LBAs there can be.
@@ -49,8 +49,8 @@ pub(crate) fn opened<K: Kept>(
 }
 
 /// How many entries a history may have.
-fn most_entries(limit: Option<Limit>) -> u64
-    ensures most { result ≡ spec.most_entries limit }
+fn most_entries(limit: &Option<Limit>) -> u64
+    ensures most { result ≡ spec.most_entries limit.now }
     ensures few { result ≤ 2 ^ 62 }
 {
     match limit {

@@ -166,7 +166,7 @@ impl<K: Kept> Space<K> {
         if ports == 0 || ports > MOST_PORTS {
             return Err(SpaceFault::Ports);
         }
-        let (units, dealt) = opened(alloc, geometry, ports, limit, versions)?;
+        let (units, dealt) = opened(alloc, geometry, ports, &limit, versions)?;
         Ok((
             Space {
                 geometry,

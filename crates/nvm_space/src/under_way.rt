@@ -1,5 +1,5 @@
 //! A job that is done without waiting: begun, gone on with as far as the units are free, and done.
-ghost use Rattle.std.specs.Prelude.{◌≡◌, ◌<◌, ◌^◌, ℕ, Bool, true, List, [], length, Some, None, IfOk};
+ghost use Rattle.std.specs.Prelude.{◌≡◌, ◌<◌, ◌^◌, ℕ, Bool, true, List, [], length, vec_capacity, vec_len, Some, None, IfOk};
 ghost use Rattle.nvm_record.specs.declared.status.Statuses.{Statuses as Told};
 ghost use Rattle.nvm_geometry.specs.Boundaries.{units_of};
 ghost use Rattle.nvm_geometry.specs.Namespace.{Namespace};
@@ -14,8 +14,9 @@ ghost use Rattle.nvm_store.specs.Place.{IsCovered};
 ghost use Rattle.nvm_store.specs.declared.place.Place.{Place as UnitPlace};
 ghost use Rattle.nvm_unit.specs.declared.views.PassView.{PassView};
 ghost use Rattle.nvm_space.specs.Inside.Parts.{reply_told};
-ghost use Rattle.nvm_space.specs.Inside.Replying.{Follows, HasReplied, RepliesTo, left_of};
+ghost use Rattle.nvm_space.specs.Inside.Replying.{Follows, HasReplied, RepliesTo, left_of, with_part};
 ghost use Rattle.nvm_space.specs.Progress.{IsProgress};
+ghost use Rattle.nvm_space.specs.Trace.{part_ended};
 ghost use Rattle.nvm_space.specs.UnderWay.{UnderWay, IsUnderWay, units_left};
 ghost use Rattle.nvm_space.specs.declared.replies.PartReply.{PartReply as ReplyToPart};
 
@@ -26,7 +27,9 @@ use nvm_plan::laws::{
     answers_of_the_step_are_replies, each_command_has_a_status, outcomes_are_made_part_by_part,
     outcomes_by_plan, parts_of_jobs, ready_jobs,
 };
-use nvm_plan::{Body, Job, LentPart, Part, Plan, job_part_count, job_part_in, next_job_unit, plan};
+use nvm_plan::{
+    Body, Job, LentPart, Part, PartResult, Plan, job_part_count, job_part_in, next_job_unit, plan,
+};
 use nvm_record::{NoMemory, Op};
 use std::alloc::Global;
 use std::marker::Model;
@@ -48,6 +51,7 @@ pub struct JobUnderWay {
 
 impl Model for JobUnderWay {
     ghost use Rattle.std.specs.Prelude.{vec_capacity};
+    ghost use Rattle.nvm_space.specs.Trace.{part_ended};
     ghost use Rattle.nvm_space.specs.UnderWay.{UnderWay};
 
     ghost Value = { UnderWay };
@@ -158,13 +162,7 @@ impl JobUnderWay {
         } = self;
         let (at, point) = (reply.unit, reply.point);
         let (result, statuses) = gathered(reply, &mut bytes);
-        if lists {
-            parts.push_reserved(Part {
-                unit: at,
-                point: point as u32,
-                result,
-            });
-        }
+        list_part(lists, &mut parts, at, point, result);
         if !statuses.is_success() {
             return Progress::Done(JobDone::of(job, statuses, None, parts));
         }
@@ -177,6 +175,22 @@ impl JobUnderWay {
             }),
             None => Progress::Done(JobDone::of_success(job, bytes, parts)),
         }
+    }
+}
+
+/// Lists a part that was done, where parts are listed.
+fn list_part(lists: bool, parts: &mut Vec<Part>, unit: u16, point: u64, ended: PartResult)
+    requires few { lists ≡ true → point < 2 ^ 32 }
+    requires room { lists ≡ true → vec_len parts.old < vec_capacity parts.old }
+    ensures items { parts.new.items ≡ with_part lists parts.old.items (part_ended unit point ended) }
+    ensures capacity { vec_capacity parts.new ≡ vec_capacity parts.old }
+{
+    if lists {
+        parts.push_reserved(Part {
+            unit,
+            point: point as u32,
+            result: ended,
+        });
     }
 }
 

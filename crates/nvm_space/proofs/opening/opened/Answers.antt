@@ -9,7 +9,7 @@ use Rattle.nvm_space.proofs.opening.opened.Goals as goal
 
 pub loop-number-init : goal.loop-number-init
 loop-number-init g c = record {
-  laid = subst (λ (us : List UnitName). AreLaid c.args.geometry c.args.ports c.args.limit c.args.versions 0 us) (sym c.in_ok-units.ensures.items) (laid_none c.args.geometry c.args.ports c.args.limit c.args.versions);
+  laid = subst (λ (us : List UnitName). AreLaid c.args.geometry c.args.ports c.args.limit.now c.args.versions 0 us) (sym c.in_ok-units.ensures.items) (laid_none c.args.geometry c.args.ports c.args.limit.now c.args.versions);
   dealt = subst (λ (us : List UnitName). AreDealt c.args.ports us c.in_ok-dealt.dealt.items) (sym c.in_ok-units.ensures.items) c.in_ok-dealt.ensures;
 }
 
@@ -22,8 +22,8 @@ loop-number-preserved g c =
     let pushed : c.push.new.self.items ≡ c.loop-number.units.items ++ c.in-Ok.unit ∷ [] = c.in_ok-push.ensures.items in
     let bounds = c.in-Ok.ensures.bounds in
     record {
-      laid = subst (λ (us : List UnitName). AreLaid c.args.geometry c.args.ports c.args.limit c.args.versions (c.loop-number.number + 1) us) (sym pushed)
-          (laid_one_more c.args.geometry c.args.ports c.args.limit c.args.versions c.loop-number.number c.loop-number.units.items c.in-Ok.unit c.loop-number.invariant.laid (record {
+      laid = subst (λ (us : List UnitName). AreLaid c.args.geometry c.args.ports c.args.limit.now c.args.versions (c.loop-number.number + 1) us) (sym pushed)
+          (laid_one_more c.args.geometry c.args.ports c.args.limit.now c.args.versions c.loop-number.number c.loop-number.units.items c.in-Ok.unit c.loop-number.invariant.laid (record {
             number = c.in-Ok.ensures.number;
             place = subst (λ (p : Place). IsUnitPlace c.args.geometry c.loop-number.number p) (sym (ap (λ (b : Bounds). b.place) bounds)) c.unit_place-place.ensures;
             passes = ap (λ (b : Bounds). b.passes) bounds;
@@ -37,8 +37,8 @@ loop-number-preserved g c =
 
 pub returns-clause-units : goal.returns-clause-units
 returns-clause-units g c =
-    all_laid c.args.geometry c.args.ports c.args.limit c.args.versions c.loop-number.number c.loop-number.units.items c.loop-number.invariant.laid
+    all_laid c.args.geometry c.args.ports c.args.limit.now c.args.versions c.loop-number.number c.loop-number.units.items c.loop-number.invariant.laid
     (let end : c.loop-number.number ≡ c.units-count.result = omega (arith, c.loop-number.auto.number-end, c.loop-number-test.false) in end ∙ c.units-count.ensures.value)
 
 pub returns-clause-ports : goal.returns-clause-ports
-returns-clause-ports g c = all_dealt c.args.geometry c.args.ports c.args.limit c.args.versions c.loop-number.units.items c.loop-number.dealt.items c.loop-number.invariant.dealt
+returns-clause-ports g c = all_dealt c.args.geometry c.args.ports c.args.limit.now c.args.versions c.loop-number.units.items c.loop-number.dealt.items c.loop-number.invariant.dealt

@@ -42,8 +42,18 @@ do_part-reply-requires-clause-covered g c =
     c.next_part-unit.ensures.covered c.index-units-place.result.bounds.place
     (subst (λ (k : ℕ). IsUnitPlace ns k c.index-units-place.result.bounds.place) c.from-place.ensures (c.requires.units.place c.from-place.result c.index-units-place.result there))
 
-pub replied-progress-requires : goal.replied-progress-requires
-replied-progress-requires g c =
+pub replied-progress-requires-clause-few : goal.replied-progress-requires-clause-few
+replied-progress-requires-clause-few g c = λ listed.
+    let all = c.loop-progress.invariant.passes c.requires.passes.0 c.requires.passes.1 in
+    let there =
+    unit_there c.args.geometry.now c.args.units.now c.args.units.now c.requires.passes.0 c.next_part-unit.result.0 c.from-place.result c.loop-progress.passes.items c.index-units-place.result c.index_mut.result.now
+    c.requires.units.count refl all c.next_part-unit.ensures.known c.from-place.ensures c.index-units-place.is c.index_mut.ensures.value in
+    let limit = c.requires.units.limit listed c.from-place.result c.index-units-place.result there in
+    let within = c.do_part-reply.ensures.within in
+    omega (arith, limit.1, within)
+
+pub replied-progress-requires-clause-replies : goal.replied-progress-requires-clause-replies
+replied-progress-requires-clause-replies g c =
     let ns = c.args.geometry.now in
     let job = c.args.job.now in
     let w = c.in-Pending.under_way in

@@ -71,8 +71,18 @@ returns-in_default-clause-goes g c = λ start under.
           Waits c.loop-progress.passes.items c.poll_part-polled.new.pass refl waits c.poll_part-polled.ensures.proper),
     )
 
-pub replied-progress-requires : goal.replied-progress-requires
-replied-progress-requires g c =
+pub replied-progress-requires-clause-few : goal.replied-progress-requires-clause-few
+replied-progress-requires-clause-few g c = λ listed.
+    let all = c.loop-progress.invariant.passes c.requires.passes.0 c.requires.passes.1 in
+    let there =
+    unit_there c.args.geometry.now c.args.units.now c.args.units.now c.requires.passes.0 c.next_part-unit.result.0 c.from-place.result c.loop-progress.passes.items c.index-units-place.result c.index_mut.result.now
+    c.requires.units.count refl all c.next_part-unit.ensures.known c.from-place.ensures c.index-units-place.is c.index_mut.ensures.value in
+    let limit = c.requires.units.limit listed c.from-place.result c.index-units-place.result there in
+    let within = c.in-Some.ensures.does.1 in
+    omega (arith, limit.1, within)
+
+pub replied-progress-requires-clause-replies : goal.replied-progress-requires-clause-replies
+replied-progress-requires-clause-replies g c =
     let ns = c.args.geometry.now in
     let job = c.args.job.now in
     let w = c.in-Pending.under_way in
@@ -85,7 +95,7 @@ replied-progress-requires g c =
     let part = part_operation_of c.next_part-unit.result.1 in
     let does = becomes ns c.args.units.now c.args.units.now c.requires.passes.0 unit c.from-place.result c.loop-progress.passes.items c.index-units-place.result c.index_mut.result.now
     c.requires.units.count refl all c.next_part-unit.ensures.known c.from-place.ensures c.index-units-place.is c.index_mut.ensures.value
-    (DoesPart (part_done c.under_way.inside.number part (reply_told c.in-Some.reply))) c.loop-progress.passes.items c.poll_part-polled.new.pass refl c.in-Some.ensures.does.1 c.poll_part-polled.ensures.proper in (
+    (DoesPart (part_done c.under_way.inside.number part (reply_told c.in-Some.reply))) c.loop-progress.passes.items c.poll_part-polled.new.pass refl c.in-Some.ensures.does.2 c.poll_part-polled.ensures.proper in (
       start,
       now,
       new,
@@ -104,7 +114,7 @@ loop-progress-preserved g c =
     let part = part_operation_of c.next_part-unit.result.1 in
     let does = becomes ns c.args.units.now c.args.units.now c.requires.passes.0 unit c.from-place.result c.loop-progress.passes.items c.index-units-place.result c.index_mut.result.now
     c.requires.units.count refl all c.next_part-unit.ensures.known c.from-place.ensures c.index-units-place.is c.index_mut.ensures.value
-    (DoesPart (part_done c.under_way.inside.number part (reply_told c.in-Some.reply))) c.loop-progress.passes.items c.poll_part-polled.new.pass refl c.in-Some.ensures.does.1 c.poll_part-polled.ensures.proper in
+    (DoesPart (part_done c.under_way.inside.number part (reply_told c.in-Some.reply))) c.loop-progress.passes.items c.poll_part-polled.new.pass refl c.in-Some.ensures.does.2 c.poll_part-polled.ensures.proper in
     record {
       passes = λ n its. still_all ns c.args.units.now c.args.units.now n unit c.from-place.result c.loop-progress.passes.items c.index-units-place.result c.index_mut.result.now
           c.requires.units.count refl (c.loop-progress.invariant.passes n its) c.next_part-unit.ensures.known c.from-place.ensures c.index-units-place.is c.index_mut.ensures.value

@@ -6,6 +6,7 @@ use Rattle.nvm_plan.specs.Outcome.{unstarted_of, AreDone}
 use Rattle.nvm_space.proofs.NextParts.{not_refused, if_none}
 use Rattle.nvm_space.proofs.PartByPart.{not_begun, all_done, nothing_done, the_operation, units_from_all}
 use Rattle.nvm_space.proofs.under_way.begin.Goals as goal
+use Rattle.nvm_space.proofs.under_way.begin.Goals.{then-lists, else-lists}
 
 pub of-requires : goal.of-requires
 of-requires c =
@@ -86,6 +87,9 @@ returns c = λ views.
         reached = views;
         have = not_begun ns c.args.lists c.args.number job op.0 views (c.in-Some.unit ∷ job_units_from ns job (c.in-Some.unit + 1)) c.in-Ok.parts.items c.in-Ok-room.bytes.items begun c.in-Ok.ensures.items c.in-Ok-room.ensures;
         waited = inl refl;
-        room = omega (arith, empty, counted, c.in-Ok.ensures.capacity, c.from.ensures, c.job_part_count-count.ensures.value);
+        room = λ on. elim c.if-lists.branch [
+          | then-lists w ↦ omega (arith, empty, counted, c.in-Ok.ensures.capacity, c.from.ensures, w.count-is, w.job_part_count-count.ensures.value)
+          | else-lists w ↦ absurd (let bad = sym w.if-lists.false ∙ on in cc bad)
+        ];
       },
     )
