@@ -12,3 +12,4 @@ pub mod PartByPart
 pub mod NextParts
 pub mod PortsKept
 pub mod AtUnits
+pub mod Moments

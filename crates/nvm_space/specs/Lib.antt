@@ -7,4 +7,5 @@ pub mod Progress
 pub mod ReadNow
 pub mod Closing
 pub mod Shuffle
+pub mod Moment
 pub mod Inside

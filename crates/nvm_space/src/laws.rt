@@ -1,10 +1,10 @@
 //! What holds of the histories of all units by their definitions alone. Each law is a call that does nothing
 //! and whose contract is the law.
-ghost use Rattle.std.specs.Prelude.{◌≡◌, ℕ, ◌<◌, ◌≤◌, List, get_or, length, map, set, take};
+ghost use Rattle.std.specs.Prelude.{◌≡◌, ℕ, ◌<◌, ◌≤◌, List, Result, get_or, length, map, set, take};
 ghost use Rattle.std.specs.List.{flat_map};
 ghost use Rattle.nvm_record.specs.Lists.{IsAt};
 ghost use Rattle.nvm_record.specs.Medium.{zero_medium};
-ghost use Rattle.nvm_record.specs.Step.{statuses_of};
+ghost use Rattle.nvm_record.specs.Step.{Operation, statuses_of};
 ghost use Rattle.nvm_geometry.specs.Boundaries.{unit_number};
 ghost use Rattle.nvm_geometry.specs.Namespace.{Namespace};
 ghost use Rattle.nvm_store.specs.Call.{Call};
@@ -12,14 +12,26 @@ ghost use Rattle.nvm_store.specs.History.{replay_of};
 ghost use Rattle.nvm_store.specs.HistoryEntry.{HistoryEntry};
 ghost use Rattle.nvm_store.specs.PlacedRun.{RunStep, IsRunFrom, HasItsAnswer, answers, changes, entries_in};
 ghost use Rattle.nvm_store.specs.Point.{point};
+ghost use Rattle.nvm_unit.specs.Machine.{UnitState};
 ghost use Rattle.nvm_unit.specs.Passes.{UnitName};
+ghost use Rattle.nvm_unit.specs.Replies.{Makes, Observes, entry_of_job};
+ghost use Rattle.nvm_unit.specs.declared.replies.Changed.{Changed as ChangeReply};
+ghost use Rattle.nvm_unit.specs.declared.replies.Changed.TheVariants.{Done};
+ghost use Rattle.nvm_unit.specs.declared.replies.ObserveFault.{ObserveFault};
+ghost use Rattle.nvm_unit.specs.declared.replies.Observed.{Observed as LookReply};
+ghost use Rattle.nvm_unit.specs.declared.views.PassView.{PassView};
 ghost use Rattle.nvm_space.specs.Closing.{EndsWhole};
+ghost use Rattle.nvm_space.specs.Moment.{AreStatesOf, ChangeRests, HasBeenSeen, LookRests, histories_of};
 ghost use Rattle.nvm_space.specs.Ports.{PortState, AreAllPortsOf, IsPortOf};
 ghost use Rattle.nvm_space.specs.Spaces.{SpaceName, IsLaidOut};
 ghost use Rattle.nvm_space.specs.Shuffle.{AreLawfulHistories, IsShuffle, StandsAtItsPoint};
 ghost use Rattle.nvm_space.specs.Shuffle.{count_of_unit, entries_of_unit, unit_of_entry};
 
 use nvm_record::laws::{looks_change_nothing, steps_are_local};
+use nvm_unit::laws::{
+    beginnings_of_beginnings_begin, changes_mark_their_points, changes_rest_on_their_points,
+    events_lead_to_sound_states, looks_mark_their_points, looks_rest_on_their_points,
+};
 
 /// Units don't disturb one another. Each shuffle of the units' lawful histories is a run of the step on the
 /// whole namespace. An entry has the same statuses there as at its place in its unit's history. And after so
@@ -84,6 +96,31 @@ pub fn calls_keep_their_answers()
 {
     looks_change_nothing();
     steps_are_local();
+}
+
+/// Whatever was answered by any moment of a space's life fits one run, whether the space keeps histories or not. The histories of
+/// that moment are lawful, so the laws above speak of them. What a unit's pass was answered by then is the step's answer at a point
+/// of the unit's history, not before what the pass had seen, and the entry of a change that was done stands there.
+pub fn answers_rest_on_the_histories_of_any_moment()
+    ensures lawful { (s : SpaceName) (states : List UnitState) → IsLaidOut s → AreStatesOf s states
+        → AreLawfulHistories s.namespace (histories_of states) }
+    ensures changed { (s : SpaceName) (states : List UnitState) (k : ℕ) (unit : UnitName) (state : UnitState)
+        (changed : ChangeReply) (p q : PassView) (job : ℕ) (op : Operation) → AreStatesOf s states → IsAt s.units k unit
+        → IsAt states k state → Makes changed p job op q → HasBeenSeen q.seen state → ChangeRests changed p op state.history }
+    ensures done { (s : SpaceName) (states : List UnitState) (k : ℕ) (unit : UnitName) (state : UnitState) (n : ℕ)
+        (p q : PassView) (job : ℕ) (op : Operation) → AreStatesOf s states → IsAt s.units k unit → IsAt states k state
+        → Makes (Done n) p job op q → HasBeenSeen q.seen state → IsAt state.history n (entry_of_job p job op) }
+    ensures looked { (s : SpaceName) (states : List UnitState) (k : ℕ) (unit : UnitName) (state : UnitState)
+        (answer : Result LookReply ObserveFault) (p q : PassView) (op : Operation) → AreStatesOf s states
+        → IsAt s.units k unit → IsAt states k state → Observes answer p op q → HasBeenSeen q.seen state
+        → LookRests answer p op state.history }
+{
+    events_lead_to_sound_states();
+    changes_rest_on_their_points();
+    looks_rest_on_their_points();
+    changes_mark_their_points();
+    looks_mark_their_points();
+    beginnings_of_beginnings_begin();
 }
 
 /// The ports of a space stay all its ports while calls change them in place. The port at a place is one of the space, and a port

@@ -1,5 +1,6 @@
 use Rattle.std.proofs.Common.{Bool, subst}
 use Rattle.nvm_space.specs.Trace.{DoesJob}
+use Rattle.nvm_unit.specs.Ends.{views_of}
 use Rattle.nvm_run.proofs.Places.{at_index}
 use Rattle.nvm_run.proofs.Recorded.{done_job}
 use Rattle.nvm_run.proofs.worker.do_job.Goals as goal
@@ -14,4 +15,4 @@ returns-clause-done g c =
     (c.each_command_has_a_status.ensures.outcome ns job)
     (λ replies told read outcome some. (c.data_comes_with_success.ensures.outcome ns job replies told read outcome some).3)
     (at_index jobs number job c.requires.job c.index-jobs-number.is) c.recorded.ensures
-    (subst (λ (lists : Bool). DoesJob ns lists number job _ _ c.run_job-done.result) c.requires.lists c.run_job-done.ensures.does)
+    (subst (λ (lists : Bool). DoesJob ns lists number job (views_of c.args.port.now.passes) (views_of c.run_job-done.new.port.passes) c.run_job-done.result) c.requires.lists c.run_job-done.ensures.does)
