@@ -104,8 +104,8 @@ impl<K: Kept> Book<K> {
         Snapshot::of(self.kept.entries(), &self.blocks, versions)
     }
 
-    /// Makes the act's step, and keeps its entry: the entry first, then its room and the blocks, which may be
-    /// refused, and then nothing that may. An error leaves all as it was.
+    /// Keeps the act's entry, and makes its step. Both may be refused: where the step is, the entry is taken back. An
+    /// error leaves all as it was.
     pub fn add(
         &mut self,
         alloc: Global,
@@ -124,9 +124,11 @@ impl<K: Kept> Book<K> {
     {
         success_on_held();
         replay_of_one_more();
-        let ready = self.kept.make_ready(alloc, pass, job, act)?;
-        self.blocks.change(alloc, act)?;
-        self.kept.keep(ready, pass, job, act);
+        self.kept.keep(alloc, pass, job, act)?;
+        if let Err(refused) = self.blocks.change(alloc, act) {
+            self.kept.take_back();
+            return Err(refused);
+        }
         Ok(())
     }
 

@@ -3,7 +3,7 @@ ghost use Rattle.std.specs.Prelude.{◌≡◌};
 use crate::kept::Kept;
 use crate::told::{Telling, Told};
 use nvm_record::NoMemory;
-use nvm_store::{ActRef, Entry};
+use nvm_store::ActRef;
 use std::alloc::Global;
 use std::marker::Model;
 
@@ -29,8 +29,6 @@ impl Model for Count {
 impl Kept for Count {
     ghost told = { λ c. c };
 
-    ghost is_ready = { λ c ready entry. Unit {0} };
-
     fn nothing(_alloc: Global) -> Count {
         Count {
             entries: 0,
@@ -42,17 +40,13 @@ impl Kept for Count {
         self.entries
     }
 
-    fn make_ready(
+    fn keep(
         &mut self,
         _alloc: Global,
-        _pass: u16,
-        _job: u32,
-        _act: ActRef<'_>,
-    ) -> Result<Option<Entry>, NoMemory> {
-        Ok(None)
-    }
-
-    fn keep(&mut self, _ready: Option<Entry>, pass: u16, job: u32, act: ActRef<'_>) {
+        pass: u16,
+        job: u32,
+        act: ActRef<'_>,
+    ) -> Result<(), NoMemory> {
         self.entries += 1;
         self.told = Told::by(&Telling::OneMore {
             before: &self.told,
@@ -60,5 +54,11 @@ impl Kept for Count {
             job,
             act,
         });
+        Ok(())
+    }
+
+    fn take_back(&mut self) {
+        self.entries -= 1;
+        self.told = Told::by(&Telling::OneLess { before: &self.told });
     }
 }

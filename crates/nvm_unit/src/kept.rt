@@ -1,5 +1,5 @@
 //! What a unit keeps of its history.
-ghost use Rattle.std.specs.Prelude.{◌≡◌, ◌<◌, ◌^◌, ◌++◌, List, [], ◌∷◌, length, vec_len, vec_capacity, Option, Some, IfOk};
+ghost use Rattle.std.specs.Prelude.{◌≡◌, ◌<◌, ◌-◌, ◌^◌, ◌++◌, List, [], ◌∷◌, length, take, IfOk, OnErr, OnOk};
 ghost use Rattle.nvm_store.specs.ActRef.{lent_operation_of};
 ghost use Rattle.nvm_store.specs.HistoryEntry.{HistoryEntry};
 
@@ -11,9 +11,6 @@ use std::alloc::Global;
 pub trait Kept: Drop {
     ghost told: { Self → List HistoryEntry };
 
-    /// That is the entry, which only has to be put down, where it is kept at all.
-    ghost is_ready: { Self → Option HistoryEntry → HistoryEntry → Type 0 };
-
     /// No entry. It takes no memory.
     fn nothing(alloc: Global) -> Self
         ensures { told result ≡ [] };
@@ -22,29 +19,21 @@ pub trait Kept: Drop {
     fn entries(&self) -> u64
         ensures { result ≡ length (told self.now) };
 
-    /// Makes an entry ready, with all that may be refused: the entry itself, if it is to be kept.
-    fn make_ready(
-        &mut self,
-        alloc: Global,
-        pass: u16,
-        job: u32,
-        act: ActRef<'_>,
-    ) -> Result<Option<Entry>, NoMemory>
-        ensures same { told self.new ≡ told self.old }
-        ensures ready { IfOk result (λ r. is_ready self.new r (record { pass = pass; job = job; operation = lent_operation_of act.entry })) };
-
-    /// Keeps what is to be kept of the entry.
-    fn keep(&mut self, ready: Option<Entry>, pass: u16, job: u32, act: ActRef<'_>)
-        requires ready { is_ready self.old ready (record { pass = pass; job = job; operation = lent_operation_of act }) }
+    /// Keeps one entry more, or what is to be kept of it. A refusal leaves all as it was.
+    fn keep(&mut self, alloc: Global, pass: u16, job: u32, act: ActRef<'_>) -> Result<(), NoMemory>
         requires few { length (told self.old) < 2 ^ 62 }
-        ensures { told self.new ≡ told self.old ++ record { pass = pass; job = job; operation = lent_operation_of act.entry } ∷ [] };
+        ensures kept { OnOk result (told self.new ≡ told self.old ++ record { pass = pass; job = job; operation = lent_operation_of act.entry } ∷ []) }
+        ensures same { OnErr result (told self.new ≡ told self.old) };
+
+    /// Takes the last entry back. It takes no memory.
+    fn take_back(&mut self)
+        requires { 0 < length (told self.old) }
+        ensures { told self.new ≡ take (length (told self.old) - 1) (told self.old) };
 }
 
 /// Every entry.
 impl Kept for History {
     ghost told = { λ v. v.items };
-
-    ghost is_ready = { λ v ready entry. (vec_len v < vec_capacity v) × (ready ≡ Some entry) };
 
     fn nothing(alloc: Global) -> History {
         Vec::new(alloc)
@@ -54,27 +43,25 @@ impl Kept for History {
         self.len() as u64
     }
 
-    fn make_ready(
+    fn keep(
         &mut self,
         alloc: Global,
         pass: u16,
         job: u32,
         act: ActRef<'_>,
-    ) -> Result<Option<Entry>, NoMemory> {
+    ) -> Result<(), NoMemory> {
+        self.reserve(1)?;
         let entry = Entry {
             pass,
             job,
             act: act.to_act(alloc)?,
         };
-        self.reserve(1)?;
-        Ok(Some(entry))
+        self.push_reserved(entry);
+        Ok(())
     }
 
-    fn keep(&mut self, ready: Option<Entry>, _pass: u16, _job: u32, _act: ActRef<'_>) {
-        let Some(entry) = ready else {
-            unreachable!("the entry is ready")
-        };
-        self.push_reserved(entry);
+    fn take_back(&mut self) {
+        drop(self.take_last());
     }
 }
 

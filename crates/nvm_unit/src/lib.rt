@@ -4,6 +4,7 @@
 //! [`Unit::observe`] are one atomic step each, and what they answer is the step of the command after a
 //! number of entries of the unit's history that isn't below what the pass had seen. What a pass has seen
 //! grows at each call; [`Unit::meet`] brings two passes to one history, and [`Unit::close`] gives the whole.
+//! [`Unit::unrecorded`] gives one that keeps the number of its entries alone, with the same contracts.
 //!
 //! Those two wait for a unit that another pass has. [`Unit::try_change`] and [`Unit::look`] never do, nor do
 //! [`Unit::poll_change`] and [`Unit::poll_observe`], which are called again until the unit was free.

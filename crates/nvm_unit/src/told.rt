@@ -31,6 +31,10 @@ pub enum Telling<'a> {
         job: u32,
         act: ActRef<'a>,
     },
+    /// It is what was told before, but for the last entry.
+    OneLess {
+        before: &'a Told,
+    },
 }
 
 impl Told {

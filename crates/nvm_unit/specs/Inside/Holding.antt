@@ -60,12 +60,6 @@ GivesMore book m m' =
     → book ≡ recorded p.bounds (history ++ entry ∷ [])
     → m' ≡ resting (added (length history) history entry p ∷ [])
 
--- The pass found a history, whose book was read, and was brought to it.
-abbrev pub Visits : PassView → PassView → (Recorded → Type 0) → Type 0
-Visits p q IsRead =
-    (history : List HistoryEntry) × Finds (length history) p history
-    × (q ≡ shown false (length history) history p) × IsRead (recorded p.bounds history)
-
 -- Two passes were brought to one history, with what they keep of it.
 abbrev pub HasMet : Snapshot → Snapshot → PassView → PassView → Sits → Sits → Type 0
 HasMet one other p o m m' =
