@@ -4,6 +4,7 @@ mod polls;
 mod reads;
 mod refusals;
 mod threads;
+mod unrecorded;
 
 ghost use Rattle.std.specs.Prelude.{◌≡◌, IfOk, true};
 ghost use Rattle.nvm_space.specs.Ports.{IsPortOf};

@@ -7,7 +7,7 @@ use Rattle.nvm_run.proofs.workers.all_work.Goals as goal
 pub map_vec-requires-after_bounds : goal.map_vec-requires-after_bounds
 map_vec-requires-after_bounds g c κs within i pair below read =
     let given = given_at c.args.space.now c.args.counter.now.table c.args.claims.items c.args.ports.items c.in_ok-given.given.items i pair c.requires.claims c.in_ok-given.ensures below read in
-    (ap (λ (claim : ClaimView). claim.table) given.0, (ap (λ (claim : ClaimView). claim.drawn) given.0, (c.requires.jobs, ((c.requires.all.each i pair.1 given.1).0, c.requires.fit))))
+    (ap (λ (claim : ClaimView). claim.table) given.0, (ap (λ (claim : ClaimView). claim.drawn) given.0, (c.requires.jobs, ((c.requires.all.each i pair.1 given.1).0, (c.requires.lists, c.requires.fit)))))
 
 pub returns : goal.returns
 returns g c =
