@@ -39,7 +39,7 @@ extern "C" {
 #define ZK_MOST_PORTS 64
 #define ZK_MOST_CHANGES 4194304
 
-/* The limit of a namespace that is not recorded. */
+/* The `limit` of zk_open for a namespace that is not recorded: nothing of its past is kept. */
 #define ZK_NO_LIMIT 0
 
 /* The most jobs of a record. A job is a command by itself or a fused pair. */
@@ -102,15 +102,19 @@ struct zk_namespace {
 /* The library's version. Any thread, any time. */
 uint32_t zk_version(void);
 
-/* Opens `count` ports on a new namespace whose blocks are zero bytes. With ZK_NO_LIMIT it keeps its blocks and nothing of its
- * past, so it can run for as long as you like. A command that finds no memory once it is under way ends with status 0/06. A block
- * holds the data of the command that wrote it last: all blocks of that command, until each of them is written again.
+/* Opens `count` ports on a new namespace whose blocks are zero bytes. With a `limit` of ZK_NO_LIMIT it keeps its blocks and nothing
+ * of its past, so it can run for as long as you like.
  *
- * With another `limit` the namespace is recorded: each port keeps each job that it did, with its data, what it read and how it
- * ended, for zk_record. So memory grows with each command, up to ZK_MOST_JOBS of all ports together. Each atomic unit can be
- * changed `limit` times. A change beyond that ends with status 0/06.
+ * With a `limit` of 1 to ZK_MOST_CHANGES it is recorded: each port keeps each command that it did, with its data, what it read and
+ * how it ended, for zk_record. Memory grows with each command. After ZK_MOST_JOBS of all ports together no more is kept, and
+ * zk_record answers ZK_RECORD_FULL. Each atomic unit can be changed `limit` times; a command counts once in each unit that it
+ * changes. A change beyond that ends with status 0/06, and the unit's blocks stay as they were.
  *
- * With `versions` each port keeps what it has seen, for zk_read_now.
+ * In both, a command that finds no memory once it is under way ends with status 0/06. What it did in other units by then stays
+ * done. The data of a Write stays in memory until each of its blocks was changed again, so at worst each block holds the longest
+ * Write that you submit. With `versions` each port also keeps, of each unit, the data as it last saw it, for zk_read_now, until it
+ * works there again.
+ *
  * ZK_DONE; or ZK_IS_OPEN, ZK_BAD_PORTS, ZK_BAD_NAMESPACE, ZK_BAD_LIMIT or ZK_NO_MEMORY, tried in this order, and every
  * port is as it was.
  * Threads: nobody else uses these ports during the call. */

@@ -35,9 +35,9 @@ new_log recorded = if recorded then Some (record { jobs = []; done = []; full = 
 abbrev pub limit_of : ℕ → Option ℕ
 limit_of limit = if nat_eq limit 0 then None else Some limit
 
--- It is 0, or the limit of a record.
-abbrev pub IsRecordLimit : ℕ → Type 0
-IsRecordLimit limit = (limit ≡ 0) ⊎ IsLimit limit
+-- It is 0, which is none, or the limit of a record.
+abbrev pub IsNoneOrLimit : ℕ → Type 0
+IsNoneOrLimit limit = (limit ≡ 0) ⊎ IsLimit limit
 
 -- an engine by which nothing was done yet, of this port of the space
 abbrev pub new_engine : SpaceName → PortState → EngineState
@@ -62,11 +62,11 @@ pub record IsOpened (ns : Namespace) (limit : Option ℕ) (versions : Bool) (hel
 
 -- What was opened, or why nothing was. Where it's refused, the ports are as they were.
 abbrev pub Opens : Code → Namespace → ℕ → Bool → List Handle → List Handle → Type 0
-Opens Done ns limit versions old new = IsOpened ns (limit_of limit) versions (engines_of new) × (list_any is_open old ≡ false)
+Opens Done ns limit versions old new = IsOpened ns (limit_of limit) versions (engines_of new) × (list_any is_open old ≡ false) × IsNoneOrLimit limit
 Opens IsOpen ns limit versions old new = (new ≡ old) × IsTrue (list_any is_open old)
 Opens BadPorts ns limit versions old new = (new ≡ old) × ¬ (IsPortCount (length old))
 Opens BadNamespace ns limit versions old new = (new ≡ old) × ((fault : GeometryFault) × IsFirstGeometryFault ns fault)
-Opens BadLimit ns limit versions old new = (new ≡ old) × ¬ (IsRecordLimit limit)
+Opens BadLimit ns limit versions old new = (new ≡ old) × ¬ (IsNoneOrLimit limit)
 Opens NoMemory ns limit versions old new = new ≡ old
 Opens Pending ns limit versions old new = ⊥
 Opens NotOpen ns limit versions old new = ⊥

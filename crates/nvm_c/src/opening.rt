@@ -6,7 +6,7 @@ ghost use Rattle.nvm_c.specs.Engines.{IsSound, state_of};
 ghost use Rattle.nvm_c.specs.Logs.{kept_by};
 ghost use Rattle.nvm_c.specs.Opening as spec;
 ghost use Rattle.nvm_c.specs.declared.code.Code.TheVariants.{BadLimit};
-ghost use Rattle.nvm_c.specs.Opening.{IsOpened, IsRecordLimit, NewPorts, Opens, engines_of, is_open, numbers_of};
+ghost use Rattle.nvm_c.specs.Opening.{IsOpened, IsNoneOrLimit, NewPorts, Opens, engines_of, is_open, numbers_of};
 
 use crate::code::Code;
 use crate::engine::Engine;
@@ -71,8 +71,8 @@ pub(crate) fn open_ports(
 
 /// The limit that C wrote: 0 is none.
 fn limit_of(limit: u32) -> Result<Option<Limit>, Code>
-    ensures taken { IfOk result (λ most. most ≡ spec.limit_of limit) }
-    ensures refused { IfErr result (λ code. (code ≡ BadLimit) × ¬ (IsRecordLimit limit)) }
+    ensures taken { IfOk result (λ most. (most ≡ spec.limit_of limit) × IsNoneOrLimit limit) }
+    ensures refused { IfErr result (λ code. (code ≡ BadLimit) × ¬ (IsNoneOrLimit limit)) }
 {
     if limit == 0 {
         return Ok(None);

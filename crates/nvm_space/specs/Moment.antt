@@ -40,13 +40,14 @@ pub record IsPointSince (p : PassView) (n : ℕ) (history : List HistoryEntry) :
   pub since : length p.seen ≤ n
   pub within : n ≤ length history
 
--- What the pass was answered to its change is the step's answer at a point of the history, not before what it had seen.
+-- What the pass was answered to its change is what the step gives at a point of the history, or that there was no memory or no
+-- room there. The point isn't before what the pass had seen.
 pub record ChangeRests (changed : Changed) (p : PassView) (op : Operation) (history : List HistoryEntry) : Type 0 where
   pub at : IsPointSince p (point_of changed) history
   pub answers : AnswersChange changed (point_of changed) p.bounds.limit op
       (point p.bounds.place.size history (point_of changed))
 
--- So is what it was answered to its look.
+-- The same of its look.
 pub record LookRests (answer : Result Observed ObserveFault) (p : PassView) (op : Operation) (history : List HistoryEntry) : Type 0 where
   pub at : IsPointSince p (point_of_look answer) history
   pub answers : AnswersLook answer (point_of_look answer) op (point p.bounds.place.size history (point_of_look answer))

@@ -18,7 +18,7 @@ pub record SpaceName : Type 0 where
   pub versions : Bool
   pub units : List UnitName
 
--- how many entries a history may have, where that is the limit of a record, or none
+-- the most entries of a history: the limit of a record, or 2^62 where there is none
 abbrev pub most_entries : Option ℕ → ℕ
 most_entries limit = unwrap_or limit (2 ^ 62)
 

@@ -72,12 +72,12 @@ DoesParts (did ∷ rest) old new =
 abbrev pub IsPartOfJob : Namespace → ℕ → Job → PartDone → Type 0
 IsPartOfJob ns number job did = (did.job ≡ number) × (job_part_in ns job did.reply.part.unit ≡ Some did.operation)
 
--- what is listed of the parts, where they are listed at all
+-- the parts that are listed: all of them, or none
 abbrev pub listed_of : Bool → List PartDone → List Part
 listed_of lists parts = if lists then map (λ did. did.reply.part) parts else []
 
--- The job of this number was done: parts of it, one after the other, whose replies have this outcome. They are listed, or
--- none is.
+-- The job of this number was done: parts of it, one after the other, whose replies have this outcome. They are all
+-- listed where `lists` says so, else none is.
 pub record DoesJob (ns : Namespace) (lists : Bool) (number : ℕ) (job : Job) (old new : List PassView) (done : JobDone) : Type 0 where
   pub parts : List PartDone
   pub does : DoesParts parts old new

@@ -14,7 +14,7 @@ use Rattle.nvm_unit.specs.declared.views.PassView.{PassView}
 use Rattle.nvm_space.specs.Trace.{PartDone, DoesParts, IsPartOfJob, listed_of}
 use Rattle.nvm_space.specs.Visits.{BecomesAt}
 
--- the job's number, the unit of its next part, the list of the parts that were done, what they read, and for how many parts
+-- the job's number, the unit of its next part, the parts that were done, where they are listed, what they read, and for how many parts
 -- in all the list has room
 pub record UnderWay : Type 0 where
   pub number : ℕ

@@ -15,7 +15,7 @@ use std::alloc::Global;
 pub struct JobDone {
     /// What its host is told: one completion, or two of a fused pair.
     pub completions: Completions,
-    /// The parts that were done, in the order of their units. A space without a limit lists none.
+    /// The parts that were done, in the order of their units. Always empty in a space without a limit.
     pub parts: Vec<Part>,
 }
 

@@ -12,7 +12,7 @@ ghost use Rattle.nvm_store.specs.History.{replay_of};
 ghost use Rattle.nvm_store.specs.HistoryEntry.{HistoryEntry};
 ghost use Rattle.nvm_store.specs.PlacedRun.{RunStep, IsRunFrom, HasItsAnswer, answers, changes, entries_in};
 ghost use Rattle.nvm_store.specs.Point.{point};
-ghost use Rattle.nvm_unit.specs.Machine.{UnitState};
+ghost use Rattle.nvm_unit.specs.Machine.{AreMarked, UnitState};
 ghost use Rattle.nvm_unit.specs.Passes.{UnitName};
 ghost use Rattle.nvm_unit.specs.Replies.{Makes, Observes, entry_of_job};
 ghost use Rattle.nvm_unit.specs.declared.replies.Changed.{Changed as ChangeReply};
@@ -98,12 +98,16 @@ pub fn calls_keep_their_answers()
     steps_are_local();
 }
 
-/// Whatever was answered by any moment of a space's life fits one run, whether the space keeps histories or not. The histories of
-/// that moment are lawful, so the laws above speak of them. What a unit's pass was answered by then is the step's answer at a point
-/// of the unit's history, not before what the pass had seen, and the entry of a change that was done stands there.
+/// What was answered by a moment rests on that moment's histories, whether the space keeps them or not. A moment is any list of
+/// states that the units can reach; that the real one is among them is the rule of the units' table, and no call says it. The
+/// histories are lawful, so the laws above speak of them, and each entry is one of its pass's own. A change or a look whose pass has
+/// been seen there has its answer at a point of its unit's history: what the step gives, or that there was no memory or no room. The
+/// point isn't before what the pass had seen. The entry of a change that was done stands there.
 pub fn answers_rest_on_the_histories_of_any_moment()
     ensures lawful { (s : SpaceName) (states : List UnitState) → IsLaidOut s → AreStatesOf s states
         → AreLawfulHistories s.namespace (histories_of states) }
+    ensures own { (s : SpaceName) (states : List UnitState) (k : ℕ) (unit : UnitName) (state : UnitState)
+        → AreStatesOf s states → IsAt s.units k unit → IsAt states k state → AreMarked state }
     ensures changed { (s : SpaceName) (states : List UnitState) (k : ℕ) (unit : UnitName) (state : UnitState)
         (changed : ChangeReply) (p q : PassView) (job : ℕ) (op : Operation) → AreStatesOf s states → IsAt s.units k unit
         → IsAt states k state → Makes changed p job op q → HasBeenSeen q.seen state → ChangeRests changed p op state.history }

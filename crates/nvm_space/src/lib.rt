@@ -2,6 +2,7 @@
 //!
 //! [`Space::new`] gives a space with its ports, which threads take with them. A port holds a pass of each
 //! unit, and what its passes have seen grows at each call. [`Space::close`] gives the histories of all units.
+//! [`Space::unrecorded`] gives one that keeps the number of each unit's changes alone.
 #![tactic(auto)]
 
 mod closing;

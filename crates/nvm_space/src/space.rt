@@ -32,13 +32,13 @@ pub const MOST_PORTS: u16 = 64;
 ///
 /// It keeps the history of each unit, or only counts its entries (`Space<Count>`).
 ///
-/// Contracts see the namespace, the number of ports, the limit of each unit's history, if it has one, whether it was opened
-/// with versions, and the units.
+/// Contracts see the namespace, the number of ports, the limit of each unit's history (2^62 where it has none), whether jobs list
+/// their parts, whether it was opened with versions, and the units.
 #[derive(Drop)]
 pub struct Space<K: Kept = History> {
     pub(crate) geometry: Geometry,
     pub(crate) ports: u16,
-    /// The most entries of a unit's history, which a space without histories needn't have.
+    /// The most entries of a unit's history. `None` only where no histories are kept.
     pub(crate) limit: Option<Limit>,
     /// Whether the ports' passes keep versions.
     pub(crate) versions: bool,
@@ -111,13 +111,13 @@ impl Space {
         ensures all { IfOk result (λ s. AreAllPortsOf s.0 s.1.items) }
         ensures versions { IfOk result (λ s. s.0.versions ≡ versions) }
     {
-        Space::with_limit(alloc, geometry, ports, Some(limit), versions)
+        Space::made(alloc, geometry, ports, Some(limit), versions)
     }
 }
 
 impl Space<Count> {
-    /// What [`open`](Space::open) does, of a space that keeps no histories. They are those of all its changes as before, and contracts
-    /// speak of them, but nobody can ask for them, and they take no memory.
+    /// What [`open`](Space::open) does, but the space keeps no histories. Each unit still has one, of which contracts speak; it takes no
+    /// memory, and no call gives it. [`close`](Space::close) gives the number of its entries.
     ///
     /// With a limit the points of parts are those that a record can hold, and a job that is done lists its parts. Without, each unit's
     /// history may have 2^62 entries, and no parts are listed.
@@ -139,13 +139,13 @@ impl Space<Count> {
         ensures all { IfOk result (λ s. AreAllPortsOf s.0 s.1.items) }
         ensures versions { IfOk result (λ s. s.0.versions ≡ versions) }
     {
-        Space::with_limit(alloc, geometry, ports, limit, versions)
+        Space::made(alloc, geometry, ports, limit, versions)
     }
 }
 
 impl<K: Kept> Space<K> {
     /// A new space, whatever it keeps.
-    fn with_limit(
+    fn made(
         alloc: Global,
         geometry: Geometry,
         ports: u16,
@@ -186,7 +186,7 @@ impl<K: Kept> Space<K> {
         self.geometry
     }
 
-    /// The most entries that a unit's history may have. A space that was opened without a limit has none, but 2^62.
+    /// The most entries that a unit's history may have. `None` if the space was opened without a limit: then it is 2^62.
     pub fn limit(&self) -> Option<Limit>
         ensures limit { self.now.limit ≡ most_entries result }
         ensures lists { self.now.lists ≡ is_some result }

@@ -34,7 +34,7 @@ use nvm_record::{NoMemory, Op};
 use std::alloc::Global;
 use std::marker::Model;
 
-/// A job that was begun and isn't done: the parts that were done, and in which unit the next one is.
+/// A job that was begun and isn't done: the parts that were done, where they are listed, and in which unit the next one is.
 ///
 /// It holds its number and what its parts read, too, but not the job, which is lent each time. Dropped, it leaves the parts that were
 /// done.

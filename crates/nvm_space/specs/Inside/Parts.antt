@@ -19,7 +19,8 @@ use Rattle.nvm_space.specs.declared.job_done.JobDone.{JobDone}
 use Rattle.nvm_space.specs.declared.replies.PartReply.{PartReply}
 use Rattle.nvm_space.specs.Trace.{PartDone, part_ended}
 
--- These are the units of the namespace, each at the place of its number. Where parts are listed, it has a limit of records.
+-- These are the units of the namespace, each at the place of its number. Where parts are listed, each
+-- unit's limit is one that a record can have.
 pub record AreUnitsOf (ns : Namespace) (lists : Bool) (units : List UnitName) : Type 0 where
   pub count : length units ≡ units_of ns
   pub place : (k : ℕ) (unit : UnitName) → IsAt units k unit → IsUnitPlace ns k unit.bounds.place

@@ -45,7 +45,8 @@ gone_on lists w next part bytes =
     record { number = w.number; unit = next; parts = with_part lists w.parts part; bytes = bytes; room = w.room }
 
 -- What follows from that: a part that succeeded leaves the job under way at the next unit, or ends it where it was the
--- last. One that didn't ends it too.
+-- last. One that didn't ends it too. Its
+-- statuses are then one for each command.
 pub record Follows (ns : Namespace) (lists : Bool) (job : Job) (w : UnderWay) (start new : List PassView) (bytes : List ℕ) (part : Part)
     (statuses : Statuses) : Type 0 where
   pub more : (next : ℕ) → IsSuccess statuses → job_units_from ns job (w.unit + 1) ≡ next ∷ job_units_from ns job (next + 1)

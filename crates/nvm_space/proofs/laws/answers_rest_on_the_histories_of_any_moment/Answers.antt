@@ -18,6 +18,11 @@ returns-clause-lawful c s states laid all = record {
       (unit.0.bounds.place, (laid.each k unit.0 unit.1).place, subst (IsLawfulHistory unit.0.bounds.place) (sym back.2) sound.hold.lawful);
 }
 
+pub returns-clause-own : goal.returns-clause-own
+returns-clause-own c s states k unit state all its at =
+    let reached = all.reached k unit state its at in
+    (c.events_lead_to_sound_states.ensures.sound unit.bounds reached.0 state reached.1).marks
+
 pub returns-clause-changed : goal.returns-clause-changed
 returns-clause-changed c s states k unit state changed p q job op all its at made seen =
     let reached = all.reached k unit state its at in

@@ -2,7 +2,7 @@ use Rattle.std.proofs.Common.{sym, subst, List}
 use Rattle.nvm_space.specs.Inside.Dealing.{space_of}
 use Rattle.nvm_space.specs.Ports.{PortState, AreAllPortsOf}
 use Rattle.nvm_space.proofs.NewPorts.{new_ports_are_all}
-use Rattle.nvm_space.proofs.space.Space.with_limit.Goals as goal
+use Rattle.nvm_space.proofs.space.Space.made.Goals as goal
 
 pub returns-clause-all : goal.returns-clause-all
 returns-clause-all g c =
