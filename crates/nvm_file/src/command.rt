@@ -15,15 +15,14 @@ use crate::standing::Standing;
 use byteorder::{ByteOrder, LittleEndian};
 use nvm_audit::Version;
 use nvm_record::{BlockSize, Command, ENTRY_BYTES, EntryFields, Fuse, Op, entry_fields};
-use std::alloc::Global;
 
 /// The opcode of Dataset Management, which is an unknown one to the first version.
 const DATASET_MANAGEMENT: u8 = 0x09;
 
-/// A command: its entry, and then the data that it calls for, which is shared with the file.
+/// A command: its entry, and then the data that it calls for, which is shared with the file. It has no count of owners of its own,
+/// since no thread shares it.
 #[tactic(auto, unfolding(crate::specs::CommandReading::command_at, crate::specs::Fields::bytes_at))]
 pub fn command_of<'a>(
-    alloc: Global,
     scope: &Scope,
     standing: Standing,
     rest: Rest<'a>,
@@ -43,7 +42,7 @@ pub fn command_of<'a>(
         op: fields.op,
         slba: fields.slba,
         nlb: fields.nlb,
-        payload: rest.share(alloc, wanted)?,
+        payload: rest.part(wanted)?,
     };
     if !follows(&command, fields.nr, size) {
         return Err(refused(scope.total, rest));

@@ -45,7 +45,7 @@ fn some_jobs_of<'a>(
     let mut jobs = Vec::with_capacity(alloc, room)?;
     let mut rest = from;
     for _ in 0..count {
-        let (job, after) = job_of(alloc, scope, rest)?;
+        let (job, after) = job_of(scope, rest)?;
         jobs.push(job)?;
         rest = after;
     }
@@ -54,58 +54,41 @@ fn some_jobs_of<'a>(
 
 /// A job: the number of its host, its kind, and its command or commands.
 #[tactic(auto, unfolding(crate::specs::JobReading::job_at))]
-pub fn job_of<'a>(
-    alloc: Global,
-    scope: &Scope,
-    rest: Rest<'a>,
-) -> Result<(Job, Rest<'a>), RecordFault>
+pub fn job_of<'a>(scope: &Scope, rest: Rest<'a>) -> Result<(Job, Rest<'a>), RecordFault>
     ensures { Gives (λ x. (x.0, left_of x.1)) result (job_at scope.now (left_of rest.entry)) }
 {
     let (host, rest) = u16_in(scope.total, 1, MOST_HOSTS, rest)?;
     let (kind, rest) = u8_in(scope.total, 0, 1, rest)?;
-    let (body, rest) = body_of(alloc, kind, scope, rest)?;
+    let (body, rest) = body_of(kind, scope, rest)?;
     Ok((Job { host, body }, rest))
 }
 
 /// What the kind says: 0 is a command by itself, and 1 a pair.
-fn body_of<'a>(
-    alloc: Global,
-    kind: u8,
-    scope: &Scope,
-    rest: Rest<'a>,
-) -> Result<(Body, Rest<'a>), RecordFault>
+fn body_of<'a>(kind: u8, scope: &Scope, rest: Rest<'a>) -> Result<(Body, Rest<'a>), RecordFault>
     ensures { Gives (λ x. (x.0, left_of x.1)) result (spec.body_at kind scope.now (left_of rest.entry)) }
 {
     if kind == 0 {
-        single_of(alloc, scope, rest)
+        single_of(scope, rest)
     } else {
-        pair_of(alloc, scope, rest)
+        pair_of(scope, rest)
     }
 }
 
 /// A command by itself.
 #[tactic(auto, unfolding(crate::specs::JobReading::single_at))]
-fn single_of<'a>(
-    alloc: Global,
-    scope: &Scope,
-    rest: Rest<'a>,
-) -> Result<(Body, Rest<'a>), RecordFault>
+fn single_of<'a>(scope: &Scope, rest: Rest<'a>) -> Result<(Body, Rest<'a>), RecordFault>
     ensures { Gives (λ x. (x.0, left_of x.1)) result (single_at scope.now (left_of rest.entry)) }
 {
-    let (command, rest) = command_of(alloc, scope, Standing::Alone, rest)?;
+    let (command, rest) = command_of(scope, Standing::Alone, rest)?;
     Ok((Body::Single(command), rest))
 }
 
 /// The two commands of a fused pair.
 #[tactic(auto, unfolding(crate::specs::JobReading::pair_at))]
-fn pair_of<'a>(
-    alloc: Global,
-    scope: &Scope,
-    rest: Rest<'a>,
-) -> Result<(Body, Rest<'a>), RecordFault>
+fn pair_of<'a>(scope: &Scope, rest: Rest<'a>) -> Result<(Body, Rest<'a>), RecordFault>
     ensures { Gives (λ x. (x.0, left_of x.1)) result (pair_at scope.now (left_of rest.entry)) }
 {
-    let (first, rest) = command_of(alloc, scope, Standing::FirstOfPair, rest)?;
-    let (second, rest) = command_of(alloc, scope, Standing::SecondOfPair, rest)?;
+    let (first, rest) = command_of(scope, Standing::FirstOfPair, rest)?;
+    let (second, rest) = command_of(scope, Standing::SecondOfPair, rest)?;
     Ok((Body::Pair(first, second), rest))
 }

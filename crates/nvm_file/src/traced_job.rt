@@ -51,7 +51,7 @@ fn traced_job_of<'a>(
 ) -> Result<(TracedJob, Rest<'a>), TraceFileFault>
     ensures { GivesTraced (λ x. (x.0, left_of x.1)) result (traced_at scope.now (left_of rest.entry)) }
 {
-    let (job, rest) = job_of(alloc, scope, rest)?;
+    let (job, rest) = job_of(scope, rest)?;
     let (began, rest) = began_of(scope.total, rest)?;
     let (ended, rest) = ended_of(alloc, scope, &job.body, began, rest)?;
     Ok((TracedJob { job, began, ended }, rest))

@@ -1,9 +1,10 @@
-ghost use Rattle.std.specs.Prelude.{◌≡◌};
+ghost use Rattle.std.specs.Prelude.{◌≡◌, ◌&&◌};
+ghost use Rattle.nvm_plan.specs.Checks.{refusal_of};
 ghost use Rattle.nvm_trace.specs.Saying as spec;
 
 use crate::traced_job::TracedJob;
 use nvm_geometry::Geometry;
-use nvm_plan::{Body, Plan, plan};
+use nvm_plan::{Body, Job, Plan, plan};
 use nvm_record::{Op, Status, Statuses};
 
 fn is_status(status: Status, other: Status) -> bool
@@ -100,22 +101,38 @@ fn is_served(body: &Body) -> bool
     }
 }
 
+/// Whether it is success of each of the job's commands, which are of the profile.
+fn is_plain_success(body: &Body, statuses: Statuses) -> bool
+    ensures { result ≡ (spec.is_success statuses && spec.can_be_of body.now statuses && spec.is_served body.now) }
+{
+    is_success(statuses) && can_be_of(body, statuses) && is_served(body)
+}
+
+/// Whether these statuses say what was done of the job.
+fn says_of(geometry: &Geometry, job: &Job, statuses: Statuses) -> bool
+    ensures { result ≡ spec.says_of (refusal_of geometry.now job.now) job.now.body statuses }
+{
+    // This says it whether a check applies to the job or not, so the checks aren't made.
+    if is_plain_success(&job.body, statuses) {
+        return true;
+    }
+    match plan(geometry, job) {
+        Plan::Refused(refusal) => {
+            is_served(&job.body)
+                && (are_statuses(statuses, refusal)
+                    || is_success(statuses)
+                    || contradicts_itself(statuses))
+        }
+        Plan::Ready => can_be_of(&job.body, statuses) || contradicts_itself(statuses),
+    }
+}
+
 /// Whether the job's reply says what was done.
 pub fn says_what_was_done(geometry: &Geometry, traced: &TracedJob) -> bool
     ensures { result ≡ spec.says_what_was_done geometry.now traced.now }
 {
     match &traced.ended {
-        Some(ending) => match plan(geometry, &traced.job) {
-            Plan::Refused(refusal) => {
-                is_served(&traced.job.body)
-                    && (are_statuses(ending.statuses, refusal)
-                        || is_success(ending.statuses)
-                        || contradicts_itself(ending.statuses))
-            }
-            Plan::Ready => {
-                can_be_of(&traced.job.body, ending.statuses) || contradicts_itself(ending.statuses)
-            }
-        },
+        Some(ending) => says_of(geometry, &traced.job, ending.statuses),
         None => false,
     }
 }

@@ -70,6 +70,8 @@ fn put_work(
 ) -> Result<(), NoMemory>
     ensures { OnOk result (steps.new.items ≡ steps.old.items ++ steps_of_work (map (λ o. o.whole.now) owners.now.items) work.now.items) }
 {
+    // Most jobs have one part.
+    steps.reserve(work.len())?;
     for k in 0..work.len() {
         put_job(owners, &work[k], steps)?;
     }

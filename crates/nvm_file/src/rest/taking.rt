@@ -54,6 +54,16 @@ impl<'a> Rest<'a> {
         }
     }
 
+    /// The next `count` bytes, shared.
+    #[tactic(auto, unfolding(crate::specs::Inside::Rest::left_of))]
+    pub fn part(self, count: usize) -> Result<Payload, NoMemory>
+        requires { count ≤ length (left_of self) }
+        ensures { IfOk result (λ p. p ≡ take count (left_of self.entry)) }
+    {
+        let _length = self.file.len();
+        self.file.part(self.from, self.from + count)
+    }
+
     /// The next `count` bytes, shared, with a count of owners of their own.
     #[tactic(auto, unfolding(crate::specs::Inside::Rest::left_of))]
     pub fn share(self, alloc: Global, count: usize) -> Result<Payload, NoMemory>
