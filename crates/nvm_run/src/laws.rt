@@ -1,6 +1,7 @@
 //! Laws of the definitions alone.
 ghost use Rattle.std.specs.Prelude.{ℕ, ◌<◌, List, length};
 ghost use Rattle.nvm_space.specs.Ports.{PortState};
+ghost use Rattle.nvm_space.specs.Shuffle.{AreLawfulHistories};
 ghost use Rattle.nvm_space.specs.Spaces.{SpaceName};
 ghost use Rattle.nvm_audit.specs.LawfulRecord.{IsLawfulRecord};
 ghost use Rattle.nvm_audit.specs.RecordView.{RecordView};
@@ -45,3 +46,9 @@ pub fn gathered_records_are_lawful()
     parts_show_what_was_done();
     done_reads_are_whole();
 }
+
+/// The histories of a lawful record are those of which the laws of `nvm_space` speak. So whoever reads a record has the order of all
+/// units' entries without a space: each shuffle of them is a run of the step on the whole namespace.
+pub fn lawful_records_have_lawful_histories()
+    ensures { (r : RecordView) → IsLawfulRecord r → AreLawfulHistories r.namespace r.units }
+{}
