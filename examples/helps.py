@@ -1,7 +1,9 @@
 #!/usr/bin/env python3
 """Holds the help that docs/help keeps to what the built programs print: the scripts nvq and nvmu answer --help from it until the programs are built.
+The manual pages in docs/man and the completions in docs/completion are held to what manuals.py derives from that help.
 
-    examples/helps.py --write    writes it as the programs print it now
+    examples/helps.py --write     writes all of it, the help as the programs print it now
+    examples/helps.py --derive    writes what is derived from the help as it stands; no program need be built for that
 """
 
 import glob
@@ -10,9 +12,13 @@ import re
 import subprocess
 import sys
 
+import manuals
+
 TOP = os.path.dirname(os.path.dirname(os.path.realpath(__file__)))
-KEPT = os.path.join(TOP, "docs", "help")
+DOCS = os.path.join(TOP, "docs")
 COMMAND = re.compile(r"^  ([a-z]+) ", re.MULTILINE)
+# What each folder of docs/ must hold.
+HELD = {"help": "what the program prints", "man": "what is derived from docs/help", "completion": "what is derived from docs/help"}
 
 
 def printed(name, *words):
@@ -21,40 +27,48 @@ def printed(name, *words):
 
 
 def pages():
-    """The help of each program and of each of its commands, by the name of its file."""
-    for name in ("nvmu", "nvq"):
+    """The help of each program and of each of its commands, by its path in docs/."""
+    for name in manuals.PROGRAMS:
         whole = printed(name)
-        yield f"{name}.txt", whole
+        yield f"help/{name}.txt", whole
         for command in COMMAND.findall(whole.partition("Commands:\n")[2].partition("\n\n")[0]):
             if command != "help":
-                yield f"{name}-{command}.txt", printed(name, command)
+                yield f"help/{name}-{command}.txt", printed(name, command)
 
 
-def kept(page):
+def kept(path):
     try:
-        with open(os.path.join(KEPT, page)) as file:
+        with open(os.path.join(DOCS, path)) as file:
             return file.read()
     except FileNotFoundError:
         return None
 
 
 def held():
-    """How many pages are as they must be, and how many aren't."""
-    due = dict(pages())
-    wrong = [page for page, text in due.items() if kept(page) != text]
-    wrong += sorted({os.path.basename(it) for it in glob.glob(os.path.join(KEPT, "*"))} - set(due))
-    for page in wrong:
-        print(f"docs/help/{page} isn't what the program prints; examples/helps.py --write writes it")
-    return len(due) - len(wrong), len(wrong)
+    """How many files are as they must be, with how many completions by them, and how many aren't."""
+    due = {**dict(pages()), **dict(manuals.derived(kept))}
+    wrong = [path for path, text in due.items() if kept(path) != text]
+    found = {os.path.relpath(it, DOCS) for folder in HELD for it in glob.glob(os.path.join(DOCS, folder, "*"))}
+    wrong += sorted(found - set(due))
+    for path in wrong:
+        print(f"docs/{path} isn't {HELD[os.path.dirname(path)]}; examples/helps.py --write writes it")
+    answered, unanswered = manuals.completed(os.path.join(DOCS, "completion"))
+    return len(due) - len(wrong) + answered, len(wrong) + unanswered
+
+
+def write(files):
+    for path, text in files:
+        os.makedirs(os.path.dirname(os.path.join(DOCS, path)), exist_ok=True)
+        with open(os.path.join(DOCS, path), "w") as file:
+            file.write(text)
 
 
 def main():
-    if sys.argv[1:] != ["--write"]:
+    if sys.argv[1:] not in (["--write"], ["--derive"]):
         sys.exit(__doc__)
-    os.makedirs(KEPT, exist_ok=True)
-    for page, text in pages():
-        with open(os.path.join(KEPT, page), "w") as file:
-            file.write(text)
+    if sys.argv[1] == "--write":
+        write(pages())
+    write(manuals.derived(kept))
 
 
 if __name__ == "__main__":
