@@ -13,11 +13,11 @@ from dataclasses import dataclass
 PROGRAMS = ("nvmu", "nvq")
 WORDS = (
     "nvq is for people, and nvmu for other programs. Both have audit and witness, which print the same.",
-    "A number of an option is decimal, or hexadecimal behind 0x. Behind it may stand k, m or g, for 1,024, 1,048,576 or 1,073,741,824 times as much.",
+    "An option's number is decimal, or hexadecimal after 0x. It may end in k, m or g, for 1,024, 1,048,576 or 1,073,741,824 times as much.",
     "A file whose name is - is written ./-.",
 )
 DONE = "What was asked for was done."
-FAULT = "A fault, which stands on standard error."
+FAULT = "A fault, which is told on standard error."
 # The lines for each status, from 0 on.
 EXITS = {
     "nvmu": (
