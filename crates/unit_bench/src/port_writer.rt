@@ -83,7 +83,13 @@ impl Writer for PortWriter {
         let Ok(geometry) = Geometry::new(nsze, BLOCK as u32, (blocks - 1) as u16, 0, 0, 0) else {
             return Err(Fault::Refused);
         };
-        let (space, ports) = match Space::unrecorded(alloc, geometry, ports, Some(limit), versions) {
+        let (space, ports) = match Space::unrecorded(
+            alloc,
+            geometry,
+            ports,
+            Some(limit),
+            versions,
+        ) {
             Ok(made) => made,
             Err(SpaceFault::NoMemory) => return Err(Fault::NoMemory),
             Err(SpaceFault::Ports) => return Err(Fault::Refused),

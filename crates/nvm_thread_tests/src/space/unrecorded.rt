@@ -12,11 +12,7 @@ use std::sync::Wait;
 use std::test::Fail;
 
 /// What is told of a Write Zeroes of LBAs 6 to 17 in a new space, and how many changes each unit counts in the end.
-fn zeroed(
-    rt: &impl Wait,
-    alloc: Global,
-    limit: Option<Limit>,
-) -> Result<(Told, Vec<u64>), Fail> {
+fn zeroed(rt: &impl Wait, alloc: Global, limit: Option<Limit>) -> Result<(Told, Vec<u64>), Fail> {
     ports_are_changed_in_place();
     let Ok(geometry) = Geometry::new(32, 512, 7, 0, 7, 3) else {
         return Err(Fail::new("there is no such geometry"));
