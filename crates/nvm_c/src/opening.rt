@@ -1,5 +1,5 @@
 //! How a namespace is opened: its space, an engine for each port, and a handle for each engine.
-ghost use Rattle.std.specs.Prelude.{◌≡◌, ◌<◌, ◌≤◌, ¬◌, IfErr, IfOk, is_some, length, map, Some};
+ghost use Rattle.std.specs.Prelude.{◌≡◌, ◌<◌, ◌≤◌, IfErr, IfOk, is_some, length, map, Some};
 ghost use Rattle.std.specs.List.{AllByRecursion, list_any};
 ghost use Rattle.nvm_space.specs.Spaces.{IsPortCount};
 ghost use Rattle.nvm_c.specs.Engines.{IsSound, state_of};
@@ -107,7 +107,7 @@ fn handles(
     ensures opened { IfOk result (λ hs. IsOpened geometry limit versions (engines_of hs.items)) }
     ensures count { IfOk result (λ hs. length hs.items ≡ count) }
 {
-    let engines = engines(alloc, geometry, count, limit, versions)?;
+    let engines = engines(alloc, geometry, count, &limit, versions)?;
     let mut held = Vec::with_capacity(alloc, engines.len())?;
     for engine in engines {
         held.push_reserved(Handle::of(engine));
@@ -120,14 +120,14 @@ fn engines(
     alloc: Global,
     geometry: Geometry,
     count: u16,
-    limit: Option<Limit>,
+    limit: &Option<Limit>,
     versions: bool,
 ) -> Result<Vec<Box<Engine>>, NoMemory>
     requires { IsPortCount count }
-    ensures new { IfOk result (λ bs. NewPorts geometry limit versions count (map (λ b. state_of b.value) bs.items)) }
+    ensures new { IfOk result (λ bs. NewPorts geometry limit.now versions count (map (λ b. state_of b.value) bs.items)) }
     ensures sound { IfOk result (λ bs. AllByRecursion (λ b. IsSound b.value) bs.items) }
 {
-    let Ok((space, ports)) = Space::unrecorded(alloc, geometry, count, limit, versions) else {
+    let Ok((space, ports)) = Space::unrecorded(alloc, geometry, count, *limit, versions) else {
         return Err(AllocError);
     };
     let space = Arc::new(alloc, space)?;
@@ -155,9 +155,9 @@ fn engines(
 fn new_log(
     alloc: Global,
     numbering: &Arc<Numbering, Global>,
-    limit: Option<Limit>,
+    limit: &Option<Limit>,
 ) -> Result<Option<Log>, NoMemory>
-    ensures { IfOk result (λ log. kept_by log ≡ spec.new_log (is_some limit)) }
+    ensures { IfOk result (λ log. kept_by log ≡ spec.new_log (is_some limit.now)) }
 {
     let Some(limit) = limit else {
         return Ok(None);
@@ -165,7 +165,7 @@ fn new_log(
     let numbering = Arc::try_clone(numbering)?;
     Ok(Some(Log {
         numbering,
-        limit,
+        limit: *limit,
         jobs: Vec::new(alloc),
         done: Vec::new(alloc),
         full: false,

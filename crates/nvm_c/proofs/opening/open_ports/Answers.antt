@@ -8,10 +8,10 @@ pub returns : goal.returns
 returns c =
     let held = c.in-Ok-handles.held.items in
     let there : c.swap_with_slice.new.self ≡ held = c.swap_with_slice.ensures.after ∙ c.deref_mut.ensures.value in
-    let limited : c.in-Ok-limit_of.limit ≡ limit_of c.args.limit = c.in-Ok-limit_of.ensures.0 in
+    let limited : c.in-Ok-limit_of.limit ≡ limit_of c.args.limit = c.in-Ok-limit_of.ensures.taken.0 in
     let opened = subst (λ (ns : Namespace). IsOpened ns c.in-Ok-limit_of.limit c.args.versions (engines_of held)) c.in-Ok.ensures.taken c.in-Ok-handles.ensures.opened in (
       subst (λ (hs : List Handle). IsOpened (numbers_of c.args.numbers.now) (limit_of c.args.limit) c.args.versions (engines_of hs)) (sym there)
           (subst (λ (n : Option ℕ). IsOpened (numbers_of c.args.numbers.now) n c.args.versions (engines_of held)) limited opened),
       sym c.any_open.ensures ∙ c.if-any_open.false,
-      c.in-Ok-limit_of.ensures.1,
+      c.in-Ok-limit_of.ensures.taken.1,
     )
