@@ -6,5 +6,5 @@ use Rattle.unit_bench.proofs.port_writer.PortWriterWriter.share.Goals as goal
 
 pub of_each-requires : goal.of_each-requires
 of_each-requires c =
-    subst (λ (s : SpaceName). All (IsPortOf s) c.in-Ok-open.made.1.items) (sym c.in_ok-space.ensures.ok)
-    (are_its_ports c.in-Ok-open.made.0 c.in-Ok-open.made.1.items c.in-Ok-open.ensures.all)
+    subst (λ (s : SpaceName). All (IsPortOf s) c.in-Ok-unrecorded.made.1.items) (sym c.in_ok-space.ensures.ok)
+    (are_its_ports c.in-Ok-unrecorded.made.0 c.in-Ok-unrecorded.made.1.items c.in-Ok-unrecorded.ensures.all)
