@@ -9,9 +9,10 @@
  * A written block is a stamp: who wrote it, the number of that port's change, the command's range, and bytes that follow from these. So a
  * block that was read is zero bytes or one whole stamp, or it is wrong. The namespace has zones:
  *   - A zone of each port, which that port alone changes and all read. What stands there is known exactly, unless a change is under way.
- *   - Three zones that all ports change: one is only written, one is zeroed and deallocated, too, and one is marked uncorrectable, too. Of
- *     each port's changes of a block a reader has seen one, or has been told that one is done: none from before it may be read again, nor a
- *     stamp that was seen replaced. The blocks of one atomic unit that are read at once have to have an order of their writes.
+ *   - Three zones that all ports change: one is only written, one is zeroed and deallocated, too, and one is marked uncorrectable, too. Once a
+ *     reader has seen a port's change of a block, or that port has told that it is done, none of that port's earlier ones may be read there;
+ *     and a stamp that was seen replaced may not come back. Blocks of one atomic unit that are read at once have to be what some order of the
+ *     writes leaves.
  *   - Counters, each in two blocks of a unit, which fused pairs alone change. None may be lost.
  * Each N seconds (10 without that word) a line tells on standard error how far it is. It ends with 1 at the first wrong answer, and
  * says what is wrong with it. */
