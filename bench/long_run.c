@@ -1,15 +1,16 @@
 /* Has a namespace run for long, and measures its resident memory and the time of a change.
  *
  *     long_run changes THREADS CHANGES UNITS LIMIT
- *     long_run memory BLOCKS BLOCK_SIZE UNIT WRITTEN
+ *     long_run memory BLOCKS BLOCK_SIZE UNIT WRITTEN [DISTANCE]
  *
  * `changes` does one-block Writes of 512 bytes by threads with a port each, all on the same units of 8 blocks. It prints the resident memory in KB after
  * 100,000 changes and at the end, how much of it was no file's then, and the nanoseconds by the wall's clock and of processor time of the changes between. With a LIMIT of 0 the namespace
  * isn't recorded.
  *
- * `memory` has one port write all blocks of a namespace that isn't recorded, by Writes of WRITTEN blocks, then each block of such a Write but the first again, by
- * one-block Writes, where WRITTEN is above 1, and deallocates all of them. It prints a line after each step: its name, the resident memory in KB, and
- * what malloc has handed out and what it has of the system, in KB, too. */
+ * `memory` has one port write all blocks of a namespace that isn't recorded, by Writes of WRITTEN blocks that begin DISTANCE blocks apart, WRITTEN without
+ * that word. Where WRITTEN is above 1 and the Writes don't overlap, it then writes each block of each Write but the first again, by one-block Writes. Then
+ * it deallocates all blocks. It prints a line after each step: its name, the resident memory in KB, and what malloc has handed out and what it has of the
+ * system, in KB, too. */
 #include <malloc.h>
 #include <pthread.h>
 #include <sched.h>
@@ -131,31 +132,32 @@ static void tell(const char *step)
     printf("%s\t%ld\t%zu\t%zu\n", step, size().resident, (info.uordblks + info.hblkhd) / 1024, (info.arena + info.hblkhd) / 1024);
 }
 
-static int memory(uint64_t blocks, uint32_t block_size, uint32_t unit, uint32_t written)
+static int memory(uint64_t blocks, uint32_t block_size, uint32_t unit, uint32_t written, uint32_t distance)
 {
     static uint8_t bytes[MOST_WRITTEN * MOST_BLOCK];
     struct zk_port port = ZK_PORT_INIT;
     uint8_t entry[ZK_ENTRY_BYTES], range[RANGE_BYTES];
     struct zk_namespace ns = { blocks, block_size, (uint16_t)(unit - 1), 0, (uint16_t)(unit - 1), (uint16_t)(unit - 1) };
-    if (block_size > MOST_BLOCK || written == 0 || written > MOST_WRITTEN || blocks % written)
+    if (block_size > MOST_BLOCK || written == 0 || written > MOST_WRITTEN || distance == 0 || blocks % written)
         return 1;
     memset(bytes, 0x5a, sizeof bytes);
     tell("before zk_open");
     if (zk_open(&port, 1, &ns, ZK_NO_LIMIT, false) != ZK_DONE)
         return 1;
     tell("open");
-    for (uint64_t lba = 0; lba < blocks; lba += written) {
+    for (uint64_t lba = 0; lba + written <= blocks; lba += distance) {
         entry_of(entry, WRITE, 0, (uint16_t)lba, lba, written);
         if (!done(&port, entry, bytes, (size_t)written * block_size))
             return 1;
     }
     tell("written");
-    for (uint64_t lba = 0; lba < blocks && written > 1; lba++) {
+    bool again = written > 1 && distance == written;
+    for (uint64_t lba = 0; lba < blocks && again; lba++) {
         entry_of(entry, WRITE, 0, (uint16_t)lba, lba, 1);
         if (lba % written && !done(&port, entry, bytes, block_size))
             return 1;
     }
-    if (written > 1)
+    if (again)
         tell("but one written again");
     deallocate_of(entry, 1, 1);
     range_of(range, 0, (uint32_t)blocks);
@@ -173,13 +175,13 @@ static int memory(uint64_t blocks, uint32_t block_size, uint32_t unit, uint32_t 
 
 int main(int words, char **word)
 {
-    unsigned long number[4] = { 0 };
-    for (int i = 2; i < words && i < 6; i++)
+    unsigned long number[5] = { 0 };
+    for (int i = 2; i < words && i < 7; i++)
         number[i - 2] = strtoul(word[i], NULL, 10);
     if (words == 6 && strcmp(word[1], "changes") == 0 && number[0] <= ZK_MOST_PORTS)
         return changes(number[0], number[1], number[2], (uint32_t)number[3]);
-    if (words == 6 && strcmp(word[1], "memory") == 0)
-        return memory(number[0], (uint32_t)number[1], (uint32_t)number[2], (uint32_t)number[3]);
-    fprintf(stderr, "long_run changes THREADS CHANGES UNITS LIMIT\nlong_run memory BLOCKS BLOCK_SIZE UNIT WRITTEN\n");
+    if ((words == 6 || words == 7) && strcmp(word[1], "memory") == 0)
+        return memory(number[0], (uint32_t)number[1], (uint32_t)number[2], (uint32_t)number[3], (uint32_t)number[words - 3]);
+    fprintf(stderr, "long_run changes THREADS CHANGES UNITS LIMIT\nlong_run memory BLOCKS BLOCK_SIZE UNIT WRITTEN [DISTANCE]\n");
     return 2;
 }
