@@ -3,7 +3,7 @@
  *     long_run changes THREADS CHANGES UNITS LIMIT
  *     long_run memory BLOCKS BLOCK_SIZE UNIT WRITTEN [DISTANCE]
  *
- * `changes` does one-block Writes of 512 bytes by threads with a port each, all on the same units of 8 blocks. It prints the resident memory in KB after
+ * `changes` does one-block Writes of 512 bytes by threads with a port each, all on the first UNITS units of a namespace of 4,096 units of 8 blocks, in which each block was written once before. It prints the resident memory in KB after
  * 100,000 changes and at the end, how much of it was no file's then, and the nanoseconds by the wall's clock and of processor time of the changes between. With a LIMIT of 0 the namespace
  * isn't recorded.
  *
@@ -21,7 +21,8 @@
 
 #include "../clients/entries.h"
 
-enum { BLOCK = 512, UNIT = 8, STRIDE = 40503, DATA = 256, PHASES = 3, FIRST = 1000, EARLY = 100000, MOST_BLOCK = 4096, MOST_WRITTEN = 256 };
+enum { BLOCK = 512, UNIT = 8, STRIDE = 40503, DATA = 256, PHASES = 3, FIRST = 1000, EARLY = 100000, MOST_UNITS = 4096, MOST_BLOCK = 4096,
+       MOST_WRITTEN = 256 };
 
 struct share {
     struct zk_port *port;
@@ -94,16 +95,22 @@ static int changes(unsigned long threads, unsigned long count, unsigned long uni
     static struct zk_port ports[ZK_MOST_PORTS];
     static struct share shares[ZK_MOST_PORTS];
     pthread_t ids[ZK_MOST_PORTS];
-    struct zk_namespace ns = { units * UNIT, BLOCK, UNIT - 1, 0, UNIT - 1, UNIT - 1 };
+    struct zk_namespace ns = { MOST_UNITS * UNIT, BLOCK, UNIT - 1, 0, UNIT - 1, UNIT - 1 };
+    struct share whole = { ports, 0, ns.nsze, { 0 }, 0 };
+    uint64_t blocks = units * UNIT;
     struct size sizes[PHASES + 1];
     long long wall = 0, processor = 0;
     for (int i = 0; i < DATA; i++)
         memset(data[i], i, BLOCK);
-    if (threads == 0 || count < EARLY || zk_open(ports, threads, &ns, limit, false) != ZK_DONE)
+    if (threads == 0 || count < EARLY || units > MOST_UNITS || zk_open(ports, threads, &ns, limit, false) != ZK_DONE)
+        return 1;
+    /* Each block of the namespace is written once before. */
+    change(&whole, 0, ns.nsze);
+    if (whole.failed)
         return 1;
     pthread_barrier_init(&barrier, NULL, (unsigned)threads + 1);
     for (unsigned long t = 0; t < threads; t++) {
-        shares[t] = (struct share) { &ports[t], t * ns.nsze / threads, ns.nsze, { 0, FIRST / threads, EARLY / threads, count / threads }, 0 };
+        shares[t] = (struct share) { &ports[t], t * blocks / threads, blocks, { 0, FIRST / threads, EARLY / threads, count / threads }, 0 };
         if (pthread_create(&ids[t], NULL, work, &shares[t]))
             return 1;
     }
