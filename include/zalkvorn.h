@@ -79,13 +79,14 @@ enum zk_code {
     ZK_RECORD_FULL = 21   /* There were more than ZK_MOST_JOBS commands or pairs, which no record has. */
 };
 
-/* A port. Its bytes are the library's own. */
+/* A port. Its bytes are the library's own. There are 64 of them, so that neighboring ports of an array, which threads use at the same
+ * time, share no cache line. */
 struct zk_port {
-    uint64_t opaque[2];
+    uint64_t opaque[8];
 };
 
 /* A port that is not open. */
-#define ZK_PORT_INIT { { 0, 0 } }
+#define ZK_PORT_INIT { { 0 } }
 
 /* What a namespace advertises. NABSN, NAWUN and NACWU are 0's based values, as in Identify Namespace; a NABSN of 0 is
  * no boundary, and then NABO is 0. Else NABO, NAWUN and NACWU are at most NABSN. A namespace has 1 to 65,536 blocks of
@@ -327,7 +328,7 @@ static inline const char *zk_status_name(uint8_t type, uint8_t code)
 }
 
 #ifndef __cplusplus
-_Static_assert(sizeof(void *) == 8 && sizeof(struct zk_port) == 16, "a port has two words of 64 bits");
+_Static_assert(sizeof(void *) == 8 && sizeof(struct zk_port) == 64, "a port has 64 bytes");
 _Static_assert(sizeof(struct zk_namespace) == 24 && sizeof(struct zk_status) == 2, "no other padding than at the ends");
 #endif
 

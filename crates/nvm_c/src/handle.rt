@@ -29,6 +29,8 @@ impl Model for Held {
 pub struct Handle {
     is_open: bool,
     held: Held,
+    /// It keeps the handles of two threads off one cache line.
+    apart: [u64; 6],
     ghost tied: { is_open ≡ is_some held.engine },
 }
 
@@ -73,6 +75,7 @@ impl Handle {
         Handle {
             is_open: true,
             held: sealed(address_of(engine)),
+            apart: [0; 6],
         }
     }
 
@@ -96,8 +99,13 @@ impl Handle {
         let shut = Handle {
             is_open: false,
             held: nothing(),
+            apart: [0; 6],
         };
-        let Handle { is_open: _, held } = replace(self, shut);
+        let Handle {
+            is_open: _,
+            held,
+            apart: _,
+        } = replace(self, shut);
         Some(box_at(alloc, unsealed(held)))
     }
 
