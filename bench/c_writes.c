@@ -1,10 +1,10 @@
 /* One-block Writes through the library for C: each thread has a port, and units that no other thread has. Prints the number of
- * writes on standard output, and on standard error the nanoseconds by the wall's clock and of processor time, and the calls of malloc, realloc and
- * free. Link it with libnvm_c.a, liblibc_c.a and -Wl,--wrap=malloc,--wrap=realloc,--wrap=free.
+ * writes on standard output, and on standard error the nanoseconds by the wall's clock and of processor time. Compiled with -DCOUNTED, and linked with
+ * -Wl,--wrap=malloc,--wrap=realloc,--wrap=free, it prints the calls of these three after that, which cost some time. Link it with libnvm_c.a and liblibc_c.a.
  *
  *     c_writes THREADS WRITES BLOCKS [LIMIT]
  *
- * WRITES are those of all threads. BLOCKS is a unit's. With a LIMIT the namespace is recorded. The blocks are written in the order, and with the data, of `unit_bench`. */
+ * WRITES are those of all threads. BLOCKS is a unit's. With a LIMIT the namespace is recorded. As in `unit_bench` it has a port and a unit more than there are threads. The blocks are written in the order, and with the data, of `unit_bench`. */
 #include <pthread.h>
 #include <stdint.h>
 #include <stdio.h>
@@ -18,6 +18,7 @@ enum { BLOCK = 512, STRIDE = 40503, DATA = 256 };
 
 static _Thread_local unsigned long mallocs, reallocs, frees;
 
+#ifdef COUNTED
 void *__real_malloc(size_t size);
 void *__real_realloc(void *old, size_t size);
 void __real_free(void *old);
@@ -39,6 +40,7 @@ void __wrap_free(void *old)
     frees++;
     __real_free(old);
 }
+#endif
 
 struct share {
     struct zk_port *port;
@@ -85,11 +87,11 @@ int main(int words, char **word)
     struct zk_port ports[ZK_MOST_PORTS];
     struct share shares[ZK_MOST_PORTS];
     pthread_t ids[ZK_MOST_PORTS];
-    struct zk_namespace ns = { threads * blocks, BLOCK, (uint16_t)(blocks - 1), 0, 0, 0 };
+    struct zk_namespace ns = { (threads + 1) * blocks, BLOCK, (uint16_t)(blocks - 1), 0, 0, 0 };
     memset(ports, 0, sizeof ports);
     for (int i = 0; i < DATA; i++)
         memset(data[i], i, BLOCK);
-    if (threads == 0 || threads > ZK_MOST_PORTS || zk_open(ports, threads, &ns, limit, false) != ZK_DONE)
+    if (threads == 0 || threads >= ZK_MOST_PORTS || zk_open(ports, threads + 1, &ns, limit, false) != ZK_DONE)
         return 1;
     for (unsigned long t = 0; t < threads; t++)
         shares[t] = (struct share){ .port = &ports[t], .first = t * blocks, .blocks = blocks, .writes = writes / threads };
@@ -112,6 +114,10 @@ int main(int words, char **word)
         sums[2] += shares[t].frees;
     }
     printf("writes %lu\n", done);
-    fprintf(stderr, "%lld %lld %lu %lu %lu\n", wall, processor, sums[0], sums[1], sums[2]);
+    fprintf(stderr, "%lld %lld", wall, processor);
+#ifdef COUNTED
+    fprintf(stderr, " %lu %lu %lu", sums[0], sums[1], sums[2]);
+#endif
+    fprintf(stderr, "\n");
     return 0;
 }

@@ -22,17 +22,16 @@ enum { FUSED_FIRST = 1, FUSED_SECOND = 2 };
 /* The bytes of a range of a Dataset Management, and the bit of its dword 11 that asks for Deallocate. */
 enum { RANGE_BYTES = 16, DEALLOCATE = 4 };
 
+/* The lowest `count` bytes of a number. The library is for little-endian machines, so they are its first. */
 static inline void put_little(uint8_t *bytes, size_t count, uint64_t number)
 {
-    for (size_t i = 0; i < count; i++)
-        bytes[i] = (uint8_t)(number >> 8 * i);
+    memcpy(bytes, &number, count);
 }
 
 static inline uint64_t little(const uint8_t *bytes, size_t count)
 {
     uint64_t number = 0;
-    for (size_t i = count; i-- > 0;)
-        number = number << 8 | bytes[i];
+    memcpy(&number, bytes, count);
     return number;
 }
 

@@ -69,6 +69,8 @@ fn reads(op: Op) -> bool
 }
 
 /// The commands of two entries, whose data stands in the buffer in their order.
+// Not inlined, since a command by itself would have room for two cleared.
+#[inline(never)]
 fn asked_together(
     alloc: Global,
     size: BlockSize,

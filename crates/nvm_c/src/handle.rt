@@ -96,16 +96,8 @@ impl Handle {
         if !self.is_open {
             return None;
         }
-        let shut = Handle {
-            is_open: false,
-            held: nothing(),
-            apart: [0; 6],
-        };
-        let Handle {
-            is_open: _,
-            held,
-            apart: _,
-        } = replace(self, shut);
+        self.is_open = false;
+        let held = replace(&mut self.held, nothing());
         Some(box_at(alloc, unsealed(held)))
     }
 
@@ -114,6 +106,8 @@ impl Handle {
         requires { IsSound engine.value }
         ensures { self.new.held.engine ≡ Some engine.value }
     {
-        *self = Handle::of(engine);
+        may_change_threads(&*engine);
+        self.is_open = true;
+        self.held = sealed(address_of(engine));
     }
 }

@@ -105,6 +105,8 @@ pub(crate) fn draw(next: &mut u32, log: &mut Option<Log>) -> Result<u32, NoMemor
 }
 
 /// Keeps a job that was done, where it is recorded.
+// Inlined, since the job isn't moved then where nothing is kept.
+#[inline(always)]
 pub(crate) fn keep(log: &mut Option<Log>, number: u32, job: Job, done: JobDone)
     requires { HasRoomIn log.old }
     ensures { kept_by log.new ≡ with_kept (kept_by log.old) number job done }
