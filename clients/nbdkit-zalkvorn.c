@@ -84,11 +84,12 @@ static int zalkvorn_after_fork(void)
         nbdkit_error("zalkvorn: the library is of another version than its header");
         return -1;
     }
-    /* Each change keeps its data. The arenas that glibc gives further threads grow by a page and a system call at a time, and the
-     * main one by as much as it is told. */
+    /* A Write takes memory for its data and gives back what it replaces. One arena hands it on from thread to thread, and isn't given back to the
+     * system and taken again. */
 #ifdef M_ARENA_MAX
     mallopt(M_ARENA_MAX, 1);
     mallopt(M_TOP_PAD, 16 << 20);
+    mallopt(M_TRIM_THRESHOLD, 1 << 30);
 #endif
     int code = zk_open(opened, ports, &ns, ZK_NO_LIMIT, false);
     if (code != ZK_DONE) {
