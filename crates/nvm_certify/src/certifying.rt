@@ -1,25 +1,25 @@
 ghost use Rattle.std.specs.Prelude.{IfOk, IfSome};
 ghost use Rattle.nvm_certify.specs.Certified.{IsCertified};
-ghost use Rattle.nvm_certify.specs.Tried.{IsRightlyTried};
 
 use crate::arguing::argument_for;
 use crate::certification::{Certification, Reached};
 use crate::finding::{UnitOrder, UnitOrdering, orderings_of_units};
-use crate::numbers::Numbers;
 use crate::ordering::Stuck;
+use crate::placing::Placing;
 use crate::record_bytes::RecordDraft;
-use crate::steps::{UnitSteps, skip_units};
+use crate::steps::{Failing, UnitSteps};
 use crate::workers::workers_of;
 use nvm_audit::Record;
 use nvm_file::{RecordFault, read_record};
+use nvm_geometry::Geometry;
 use nvm_record::{NoMemory, Payload};
 use nvm_refute::{Argument, RefuteFault, refute};
 use nvm_trace::{Judging, Owner, Start, Trace, WitnessFault, traced_pieces, witness};
 use std::alloc::{AllocError, Global};
 use std::thread::Threads;
 
-/// How often it is tried to find in which units looks failed.
-const MOST_TRIES: u32 = 4;
+/// How often a unit is searched.
+const MOST_SEARCHES: u32 = 8;
 
 /// The verdict by a record that was found, if it explains the trace.
 fn explained<R: Threads + Sync>(
@@ -94,58 +94,110 @@ fn record_of<'t>(
     }
 }
 
-/// What was found of a trace, where it is held that looks of several units failed in these units, or where its search stopped.
-#[derive(Drop)]
-enum Tried {
-    Certified(Certification),
-    Stuck(Reached),
-    NoRecord,
+/// The verdict by an argument about one of the units that have no order and were searched last, if one is found.
+fn contradiction_in(
+    alloc: Global,
+    judging: Judging,
+    trace: &Trace,
+    found: &Vec<UnitOrdering<'_>>,
+    units: &[u16],
+) -> Result<Option<Certification>, NoMemory>
+    ensures { IfOk result (λ found. IfSome found (IsCertified judging «trace».now)) }
+{
+    for unit in units {
+        if let Some(UnitOrdering::Stuck(steps, stuck)) = found.get(usize::from(*unit)) {
+            if let Some(contradiction) = stuck_at(alloc, judging, trace, steps, *stuck)? {
+                return Ok(Some(contradiction));
+            }
+        }
+    }
+    Ok(None)
 }
 
-/// Tries to find a record or an argument.
-fn try_once<'t, R: Threads + Sync>(
+/// How far the search came in the first unit that has no order, if there is one.
+fn first_stuck(found: &Vec<UnitOrdering<'_>>) -> Option<Reached> {
+    for ordering in found {
+        if let UnitOrdering::Stuck(_, stuck) = ordering {
+            return Some(stuck.reached);
+        }
+    }
+    None
+}
+
+/// The verdict by a record of these orders, if it explains the trace.
+fn verdict_by<'t, R: Threads + Sync>(
     rt: &R,
     alloc: Global,
     judging: Judging,
     trace: &'t Trace,
     owners: &Vec<Owner<'t>>,
-    skips: &Numbers,
-    effort: u32,
-) -> Result<Tried, NoMemory>
-    ensures { IfOk result (IsRightlyTried judging «trace».now) }
+    orders: &Vec<UnitOrder<'t>>,
+) -> Result<Certification, NoMemory>
+    ensures { IfOk result (IsCertified judging «trace».now) }
 {
-    let mut orders = Vec::with_capacity(alloc, trace.geometry.units() as usize)?;
-    let mut all_stuck = Vec::new(alloc);
-    for ordering in orderings_of_units(rt, alloc, trace, owners.as_slice(), skips, effort)? {
-        match ordering? {
-            UnitOrdering::Ordered(order) => orders.push(order)?,
-            UnitOrdering::Stuck(unit, stuck) => all_stuck.push((unit, stuck))?,
+    if let Some(run) = record_of(alloc, trace, owners, orders)? {
+        if let Some(certification) = explained(rt, alloc, judging, trace, run)? {
+            return Ok(certification);
         }
     }
-    for (unit, stuck) in &all_stuck {
-        if let Some(contradiction) = stuck_at(alloc, judging, trace, unit, *stuck)? {
-            return Ok(Tried::Certified(contradiction));
+    Ok(Certification::Unknown { reached: None })
+}
+
+/// Searches these units, and puts what was found in each at its place.
+fn search_units<'t, R: Threads + Sync>(
+    rt: &R,
+    alloc: Global,
+    trace: &Trace,
+    owners: &[Owner<'t>],
+    failing: &Failing,
+    units: &[u16],
+    effort: u32,
+    found: &mut Vec<UnitOrdering<'t>>,
+) -> Result<(), NoMemory> {
+    let orderings = orderings_of_units(rt, alloc, trace, owners, failing, units, effort)?;
+    let mut k = 0usize;
+    for ordering in orderings {
+        let ordering = ordering?;
+        let unit = match units.get(k) {
+            Some(unit) => usize::from(*unit),
+            None => found.len(),
+        };
+        k = k.saturating_add(1);
+        if unit >= found.len() {
+            found.push(ordering)?;
+        } else if let Some(place) = found.get_mut(unit) {
+            *place = ordering;
         }
     }
-    if let Some((_, stuck)) = all_stuck.first() {
-        return Ok(Tried::Stuck(stuck.reached));
+    Ok(())
+}
+
+/// Has looks fail in later units that met one without an order. Says whether there was such a look.
+fn skip_stuck(
+    geometry: &Geometry,
+    owners: &[Owner<'_>],
+    found: &Vec<UnitOrdering<'_>>,
+    failing: &mut Failing,
+) -> bool {
+    let mut some = false;
+    for ordering in found {
+        if let UnitOrdering::Stuck(steps, _) = ordering {
+            some = failing.skip_units(geometry, owners, steps.unit) || some;
+        }
     }
-    let Some(run) = record_of(alloc, trace, owners, &orders)? else {
-        return Ok(Tried::NoRecord);
-    };
-    match explained(rt, alloc, judging, trace, run)? {
-        Some(certification) => Ok(Tried::Certified(certification)),
-        None => Ok(Tried::NoRecord),
-    }
+    some
 }
 
 /// Whether a record explains the trace, and else whether an argument shows that none does.
 ///
-/// It searches for an order of each unit's steps, at most `effort` steps back in each unit and try, and makes a record of them; where
-/// a unit has none it searches for an argument there. There are up to 4 tries: of a Read or a Compare over several units that failed
-/// each takes another of the units in which it may have failed. Where nothing was known of the blocks at first, each try is made with
-/// up to two guesses of what they held, and each guess has as many steps back. `Unknown` is answered where neither was found, or where what was found wasn't taken by its
-/// checker. `NoMemory` is answered where a growth was refused: nothing is known then.
+/// It searches for an order of each unit's steps, at most `effort` steps back in each search. Reads, Compares and pairs that failed are put
+/// into the orders that were found; those that have no place there are a part of the next search of their units. Of one over several
+/// units it isn't known in which it failed: where a unit has no order, the next search takes another one. There are up to 8 searches of a
+/// unit. Where one finds no order, an argument is looked for there. Where nothing was known of the blocks at first, each search is
+/// made with up to two guesses of what they held, and each guess has as many steps back.
+///
+/// `Unknown` is answered where neither was found, or where what was found wasn't taken by its checker. `NoMemory` is answered where a
+/// growth was refused: nothing is known then.
 pub fn certify<R: Threads + Sync>(
     rt: &R,
     alloc: Global,
@@ -156,18 +208,39 @@ pub fn certify<R: Threads + Sync>(
     ensures { IfOk result (IsCertified judging «trace».now) }
 {
     let owners = traced_pieces(alloc, judging, trace)?;
-    let mut skips = Numbers::new(alloc, owners.len(), 0)?;
+    let geometry = trace.geometry;
+    let mut failing = Failing::new(alloc, &geometry, owners.len())?;
+    let mut found = Vec::new(alloc);
     let mut first = None;
-    for _ in 0..MOST_TRIES {
-        match try_once(rt, alloc, judging, trace, &owners, &skips, effort)? {
-            Tried::Certified(certification) => return Ok(certification),
-            Tried::Stuck(reached) => {
-                first = first.or(Some(reached));
-                if !skip_units(&trace.geometry, owners.as_slice(), &mut skips, reached.unit) {
-                    return Ok(Certification::Unknown { reached: first });
-                }
+    for _ in 0..MOST_SEARCHES {
+        let units = failing.take_changed(alloc, &geometry)?;
+        search_units(
+            rt,
+            alloc,
+            trace,
+            owners.as_slice(),
+            &failing,
+            units.as_slice(),
+            effort,
+            &mut found,
+        )?;
+        if let Some(verdict) = contradiction_in(alloc, judging, trace, &found, units.as_slice())? {
+            return Ok(verdict);
+        }
+        if let Some(reached) = first_stuck(&found) {
+            first = first.or(Some(reached));
+            if !skip_stuck(&geometry, owners.as_slice(), &found, &mut failing) {
+                return Ok(Certification::Unknown { reached: first });
             }
-            Tried::NoRecord => return Ok(Certification::Unknown { reached: None }),
+            continue;
+        }
+        let placing = Placing::new(alloc, &found)?;
+        if placing.unplaced.is_empty() {
+            let orders = placing.into_orders(alloc, found)?;
+            return verdict_by(rt, alloc, judging, trace, &owners, &orders);
+        }
+        for piece in &placing.unplaced {
+            failing.search(&geometry, owners.as_slice(), *piece);
         }
     }
     Ok(Certification::Unknown { reached: first })

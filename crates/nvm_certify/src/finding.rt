@@ -1,6 +1,6 @@
-use crate::numbers::Numbers;
+use crate::aside::{LookPlace, places_of_looks};
 use crate::ordering::{Order, Ordering, Stuck, order_of};
-use crate::steps::{UnitPiece, UnitStep, UnitSteps, pieces_of_units, steps_of_unit};
+use crate::steps::{Failing, UnitPieces, UnitSteps, pieces_of_units, steps_of_unit};
 use crate::values::Values;
 use nvm_geometry::Geometry;
 use nvm_record::NoMemory;
@@ -16,6 +16,16 @@ pub struct FirstBlock<'t> {
     pub bytes: &'t [u8],
 }
 
+/// A step that was done in a unit.
+#[derive(Clone, Copy, Debug)]
+pub struct OrderedStep {
+    /// The number of the piece.
+    pub piece: u32,
+    /// Whether it changed nothing.
+    pub is_look: bool,
+    pub is_success: bool,
+}
+
 /// A unit's steps, in an order in which each reply is right and that keeps the times.
 #[derive(Drop)]
 pub struct UnitOrder<'t> {
@@ -23,14 +33,14 @@ pub struct UnitOrder<'t> {
     pub unit: u16,
     /// What its blocks held at first, where that isn't zero bytes.
     pub first: Vec<FirstBlock<'t>>,
-    /// The steps that were done.
-    pub steps: Vec<UnitStep>,
+    pub steps: Vec<OrderedStep>,
 }
 
 /// What a search for an order of a unit's steps found there.
 #[derive(Drop)]
 pub enum UnitOrdering<'t> {
-    Ordered(UnitOrder<'t>),
+    /// An order, and where looks that were set aside have a place in it.
+    Ordered(UnitOrder<'t>, Vec<LookPlace>),
     /// No order. Where the search stopped among these steps.
     Stuck(UnitSteps, Stuck),
 }
@@ -42,7 +52,7 @@ struct Finding<'f, 't> {
     geometry: Geometry,
     start: Start,
     owners: &'f [Owner<'t>],
-    pieces: &'f Vec<Vec<UnitPiece>>,
+    pieces: &'f Vec<UnitPieces>,
     effort: u32,
 }
 
@@ -66,7 +76,11 @@ impl<'t> UnitOrder<'t> {
         let mut steps = Vec::with_capacity(alloc, order.steps.len())?;
         for place in &order.steps {
             if let Some(step) = unit.steps.get(*place as usize) {
-                steps.push(*step)?;
+                steps.push(OrderedStep {
+                    piece: step.piece,
+                    is_look: step.is_look(),
+                    is_success: !step.reply.is_failure(),
+                })?;
             }
         }
         Ok(UnitOrder {
@@ -78,38 +92,60 @@ impl<'t> UnitOrder<'t> {
 }
 
 impl<'f, 't> Finding<'f, 't> {
+    /// Where these looks have a place in the order of the unit's steps.
+    fn places(
+        &self,
+        unit: u16,
+        steps: &UnitSteps,
+        order: &Order,
+        looks: &UnitSteps,
+    ) -> Result<Vec<LookPlace>, NoMemory> {
+        let nsze = self.geometry.nsze() as u32;
+        match self.geometry.piece_in(unit, 0, nsze) {
+            Some(on) => places_of_looks(self.alloc, self.owners, on, steps, order, looks),
+            None => Ok(Vec::new(self.alloc)),
+        }
+    }
+
     /// What is found in the unit of this number.
     fn in_unit(&self, unit: u16) -> Result<UnitOrdering<'t>, NoMemory> {
         let alloc = self.alloc;
         let geometry = self.geometry;
-        let pieces = match self.pieces.get(unit as usize) {
-            Some(pieces) => pieces.as_slice(),
+        let mut values = Values::new(alloc)?;
+        let searched = match self.pieces.get(unit as usize) {
+            Some(pieces) => pieces.searched.as_slice(),
             None => &[],
         };
-        let mut values = Values::new(alloc)?;
-        let steps = steps_of_unit(alloc, &geometry, unit, self.owners, pieces, &mut values)?;
+        let steps = steps_of_unit(alloc, &geometry, unit, self.owners, searched, &mut values)?;
+        let aside = match self.pieces.get(unit as usize) {
+            Some(pieces) => pieces.aside.as_slice(),
+            None => &[],
+        };
+        let looks = steps_of_unit(alloc, &geometry, unit, self.owners, aside, &mut values)?;
         let fresh = values.fresh(geometry.block_size())?;
         match order_of(alloc, &steps, self.start, fresh, self.effort)? {
             Ordering::Ordered(order) => {
+                let places = self.places(unit, &steps, &order, &looks)?;
                 let order = UnitOrder::new(alloc, &steps, &values, &order)?;
-                Ok(UnitOrdering::Ordered(order))
+                Ok(UnitOrdering::Ordered(order, places))
             }
             Ordering::Stuck(stuck) => Ok(UnitOrdering::Stuck(steps, stuck)),
         }
     }
 }
 
-/// What is found in each unit, in their order, from as many threads as there are processors. Of each look that failed, so many units are
-/// skipped in which it may have failed.
+/// What is found in each of these units, in their order, from as many threads as there are processors. The looks that failed are dealt with
+/// in this way.
 pub fn orderings_of_units<'t, R: Threads + Sync>(
     rt: &R,
     alloc: Global,
     trace: &Trace,
     owners: &[Owner<'t>],
-    skips: &Numbers,
+    failing: &Failing,
+    units: &[u16],
     effort: u32,
 ) -> Result<Vec<Result<UnitOrdering<'t>, NoMemory>>, NoMemory> {
-    let pieces = pieces_of_units(alloc, &trace.geometry, trace.start, owners, skips)?;
+    let pieces = pieces_of_units(alloc, &trace.geometry, trace.start, owners, failing)?;
     let finding = Finding {
         alloc,
         geometry: trace.geometry,
@@ -118,9 +154,11 @@ pub fn orderings_of_units<'t, R: Threads + Sync>(
         pieces: &pieces,
         effort,
     };
-    (0..trace.geometry.units())
+    (0..units.len() as u16)
         .into_par_iter()
         .with_min_len(1)
-        .map(|unit: u16| -> Result<UnitOrdering, NoMemory> { finding.in_unit(unit) })
+        .map(|place: u16| -> Result<UnitOrdering, NoMemory> {
+            finding.in_unit(units[usize::from(place)])
+        })
         .collect(rt, alloc)
 }

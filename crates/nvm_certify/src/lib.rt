@@ -6,6 +6,7 @@
 #![tactic(auto)]
 
 mod arguing;
+mod aside;
 mod beginning;
 mod board;
 mod bytes;
@@ -18,6 +19,7 @@ mod line;
 mod moments;
 mod numbers;
 mod ordering;
+mod placing;
 mod record_bytes;
 mod search;
 mod steps;

@@ -6,10 +6,10 @@ mod making;
 mod pieces;
 mod replies;
 
-pub use failing::skip_units;
+pub use failing::Failing;
 pub use lbas::{lbas_in, leading};
 pub use making::steps_of_unit;
-pub use pieces::{UnitPiece, pieces_of_units};
+pub use pieces::{UnitPieces, pieces_of_units};
 use std::ops::Range;
 
 /// A block, and a value that a step found or puts there.

@@ -1,12 +1,12 @@
 //! The histories of a record's units.
 use crate::bytes::{put_u16, put_u32, put_u64};
 use crate::data::data_on;
-use crate::finding::UnitOrder;
+use crate::finding::{OrderedStep, UnitOrder};
 use crate::numbers::to_u32;
 use crate::record_bytes::RecordDraft;
 use crate::record_bytes::jobs::ranges_on;
 use crate::record_bytes::shares::{DONE, result_of};
-use crate::steps::{UnitStep, lbas_in, leading};
+use crate::steps::{lbas_in, leading};
 use nvm_plan::Body;
 use nvm_record::{NoMemory, Op};
 
@@ -33,7 +33,7 @@ fn kind_of(body: &Body, op: Op) -> u8 {
 
 impl<'m, 't> RecordDraft<'m, 't> {
     /// Whether the step makes a change.
-    fn is_change(&self, step: &UnitStep) -> bool {
+    fn is_change(&self, step: &OrderedStep) -> bool {
         result_of(self.owners.as_slice(), step) == DONE
     }
 
@@ -72,7 +72,7 @@ impl<'m, 't> RecordDraft<'m, 't> {
     }
 
     /// Puts the change that a step makes at the end.
-    fn put_entry(&self, out: &mut Vec<u8>, unit: u16, step: &UnitStep) -> Result<(), NoMemory> {
+    fn put_entry(&self, out: &mut Vec<u8>, unit: u16, step: &OrderedStep) -> Result<(), NoMemory> {
         let Some(owner) = self.owners.get(step.piece as usize) else {
             return Ok(());
         };

@@ -1,6 +1,5 @@
-use crate::finding::UnitOrder;
+use crate::finding::{OrderedStep, UnitOrder};
 use crate::numbers::{Numbers, to_u32};
-use crate::steps::{Reply, UnitStep};
 use nvm_plan::Body;
 use nvm_record::NoMemory;
 use nvm_trace::Owner;
@@ -33,8 +32,8 @@ pub struct Shares {
 }
 
 /// How the part of a step ended.
-pub fn result_of(owners: &[Owner<'_>], step: &UnitStep) -> u8 {
-    if !step.is_look() {
+pub fn result_of(owners: &[Owner<'_>], step: &OrderedStep) -> u8 {
+    if !step.is_look {
         return DONE;
     }
     match owners.get(step.piece as usize) {
@@ -77,7 +76,7 @@ impl Shares {
                     unit: order.unit,
                     point,
                     result,
-                    is_success: !step.reply.is_failure(),
+                    is_success: step.is_success,
                 })?;
                 if result == DONE {
                     point = point.saturating_add(1);

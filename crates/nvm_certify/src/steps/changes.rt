@@ -1,69 +1,102 @@
+use crate::beginning::Beginning;
 use crate::data::block_at;
 use crate::hash::is_zero;
-use crate::numbers::{Numbers, to_u32};
 use crate::steps::Reply;
-use crate::steps::lbas::{lbas_in, unit_of_cut};
+use crate::steps::lbas::{lbas_in, leading, unit_of_cut};
 use crate::steps::replies::reply_of;
 use nvm_geometry::{Geometry, Piece};
 use nvm_plan::{Body, job_units};
-use nvm_record::{BlockSize, Command, NoMemory, Op};
-use nvm_trace::{Owner, Start};
+use nvm_record::{BlockSize, NoMemory, Op};
+use nvm_trace::{Owner, Start, TracedJob};
 use std::alloc::Global;
 
-/// That a piece may put bytes other than zeroes into a block.
-const OTHERS: u32 = 1;
-/// That a piece may put a mark into a block.
-const MARKS: u32 = 2;
+/// So many blocks, by the changes of their unit, are looked through for a mark. Where there are more, there may be one.
+const MOST: u64 = 1 << 20;
 
-/// What pieces may put into each block, beside zeroes.
+/// What a piece puts into blocks, or may.
+#[derive(Clone, Copy, Debug, PartialEq, Eq)]
+enum Content {
+    Zeroes,
+    Mark,
+    Others,
+}
+
+/// A change of a unit's blocks by a piece of a command.
+#[derive(Clone, Copy, Debug)]
+struct Change {
+    on: Piece,
+    began: u64,
+    ended: u64,
+    content: Content,
+    /// Whether each of these blocks surely had it then.
+    is_sure: bool,
+}
+
+/// What pieces of commands change in each unit, in the order in which they began.
 #[derive(Drop)]
 pub struct Changes {
     start: Start,
     size: BlockSize,
-    /// Of each LBA the bits of these.
-    changes: Numbers,
+    units: Vec<Vec<Change>>,
 }
 
-/// What a piece may put into its blocks: one of these, or nothing but zeroes.
-fn change_of(geometry: &Geometry, owner: &Owner<'_>) -> u32 {
-    match reply_of(geometry, owner.whole) {
-        Some(Reply::Done | Reply::Open) => {}
-        _ => return 0,
+/// When the job ended: 2^64 - 1 where it never did.
+fn end_of(traced: &TracedJob) -> u64 {
+    match &traced.ended {
+        Some(ending) => ending.time,
+        None => u64::MAX,
     }
+}
+
+/// What a piece puts into its blocks, or may, and whether it surely does into each.
+fn content_of(geometry: &Geometry, owner: &Owner<'_>) -> Option<(Content, bool)> {
+    let is_done = match reply_of(geometry, owner.whole) {
+        Some(Reply::Done) => true,
+        Some(Reply::Open) => false,
+        _ => return None,
+    };
     match &owner.whole.job.body {
         Body::Single(command) => match command.op {
-            Op::Write => OTHERS,
-            Op::WriteUncorrectable => MARKS,
-            Op::WriteZeroes | Op::Dataset { .. } => 0,
-            Op::Read | Op::Compare | Op::Other(_) => 0,
+            Op::Write => Some((Content::Others, is_done)),
+            Op::WriteUncorrectable => Some((Content::Mark, is_done)),
+            Op::WriteZeroes => Some((Content::Zeroes, is_done)),
+            // Which blocks those of its ranges are isn't looked at.
+            Op::Dataset { .. } => Some((Content::Zeroes, false)),
+            Op::Read | Op::Compare | Op::Other(_) => None,
         },
-        Body::Pair(_, _) => OTHERS,
+        Body::Pair(_, _) => Some((Content::Others, is_done)),
     }
 }
 
 impl Changes {
-    /// What these pieces may put into each block, of which this was known at first.
+    /// What these pieces change, of which this is the order in which they began, in blocks of which this was known at first.
     pub fn new(
         alloc: Global,
         geometry: &Geometry,
         start: Start,
         owners: &[Owner<'_>],
+        order: &[Beginning],
     ) -> Result<Changes, NoMemory> {
         let mut changes = Changes {
             start,
             size: geometry.block_size(),
-            changes: Numbers::new(alloc, geometry.nsze() as usize, 0)?,
+            units: Vec::with_capacity(alloc, usize::from(geometry.units()))?,
         };
-        for owner in owners {
-            let change = change_of(geometry, owner);
-            if change == 0 {
+        for _ in 0..geometry.units() {
+            changes.units.push(Vec::new(alloc))?;
+        }
+        for beginning in order {
+            let Some(owner) = owners.get(beginning.number as usize) else {
                 continue;
-            }
+            };
+            let Some((content, is_sure)) = content_of(geometry, owner) else {
+                continue;
+            };
             match unit_of_cut(geometry, owner) {
-                Some(unit) => changes.note(lbas_in(geometry, owner, unit), change),
+                Some(unit) => changes.note(geometry, owner, unit, content, is_sure)?,
                 None => {
                     for unit in job_units(geometry, &owner.whole.job) {
-                        changes.note(lbas_in(geometry, owner, unit), change);
+                        changes.note(geometry, owner, unit, content, is_sure)?;
                     }
                 }
             }
@@ -71,34 +104,101 @@ impl Changes {
         Ok(changes)
     }
 
-    /// Notes the change at blocks.
-    fn note(&mut self, on: Option<Piece>, change: u32) {
-        let Some(on) = on else {
-            return;
+    /// Notes what a piece changes in a unit.
+    fn note(
+        &mut self,
+        geometry: &Geometry,
+        owner: &Owner<'_>,
+        unit: u16,
+        content: Content,
+        is_sure: bool,
+    ) -> Result<(), NoMemory> {
+        let Some(on) = lbas_in(geometry, owner, unit) else {
+            return Ok(());
         };
-        for k in 0..u64::from(on.blocks) {
-            let lba = to_u32(on.first.saturating_add(k) as usize);
-            self.changes.put(lba, self.changes.at(lba) | change);
+        if let Some(changes) = self.units.get_mut(unit as usize) {
+            changes.push(Change {
+                on,
+                began: owner.whole.began,
+                ended: end_of(owner.whole),
+                content,
+                is_sure,
+            })?;
+        }
+        Ok(())
+    }
+
+    /// The changes of a unit's blocks.
+    fn of(&self, unit: u16) -> &[Change] {
+        match self.units.get(unit as usize) {
+            Some(changes) => changes.as_slice(),
+            None => &[],
         }
     }
 
     /// Whether a look may fail so at one of these blocks of its unit.
-    pub fn may_fail(&self, command: &Command, on: Piece, reply: Reply) -> bool {
+    pub fn may_fail(&self, owner: &Owner<'_>, on: Piece, reply: Reply) -> bool {
+        let changes = self.of(on.unit);
+        if u64::from(on.blocks).saturating_mul(changes.len() as u64) > MOST {
+            return true;
+        }
         for k in 0..u64::from(on.blocks) {
             let lba = on.first.saturating_add(k);
-            let changes = self.changes.at(to_u32(lba as usize));
-            if reply == Reply::Marked {
-                if changes & MARKS != 0 {
-                    return true;
-                }
+            let may_fail = if reply == Reply::Marked {
+                may_be_marked(changes, owner.whole, lba)
             } else {
-                let place = lba.saturating_sub(command.slba) as usize;
-                let bytes = block_at(command.payload.as_slice(), self.size, place);
-                if changes & OTHERS != 0 || self.start == Start::Unknown || !is_zero(bytes) {
-                    return true;
-                }
+                self.may_differ(changes, owner, lba)
+            };
+            if may_fail {
+                return true;
             }
         }
         false
     }
+
+    /// Whether the block may hold other bytes than a command compares it with.
+    fn may_differ(&self, changes: &[Change], owner: &Owner<'_>, lba: u64) -> bool {
+        let command = leading(&owner.whole.job.body);
+        let place = lba.saturating_sub(command.slba) as usize;
+        if self.start == Start::Unknown
+            || !is_zero(block_at(command.payload.as_slice(), self.size, place))
+        {
+            return true;
+        }
+        for change in changes {
+            if change.content == Content::Others && change.has(lba) {
+                return true;
+            }
+        }
+        false
+    }
+}
+
+impl Change {
+    /// Whether the block is one of these.
+    fn has(&self, lba: u64) -> bool {
+        lba >= self.on.first && lba - self.on.first < u64::from(self.on.blocks)
+    }
+}
+
+/// Whether the block may be marked while the look is under way: whether a mark was put there that wasn't surely gone before.
+fn may_be_marked(changes: &[Change], look: &TracedJob, lba: u64) -> bool {
+    // Of the changes that ended before the look began, when the last one began.
+    let mut last = 0;
+    for change in changes {
+        if change.is_sure && change.ended < look.began && change.has(lba) {
+            last = change.began.max(last);
+        }
+    }
+    let ended = end_of(look);
+    for change in changes {
+        if change.content == Content::Mark
+            && change.began <= ended
+            && change.ended >= last
+            && change.has(lba)
+        {
+            return true;
+        }
+    }
+    false
 }

@@ -1,8 +1,8 @@
 use crate::beginning::Beginning;
-use crate::numbers::{Numbers, to_u32};
+use crate::numbers::to_u32;
 use crate::steps::Reply;
 use crate::steps::changes::Changes;
-use crate::steps::failing::failing_unit;
+use crate::steps::failing::Failing;
 use crate::steps::lbas::{lbas_in, unit_of_cut};
 use crate::steps::replies::reply_of;
 use nvm_geometry::Geometry;
@@ -19,6 +19,15 @@ pub struct UnitPiece {
     pub reply: Reply,
 }
 
+/// The pieces of a unit, in the order in which their commands began.
+#[derive(Debug, Drop)]
+pub struct UnitPieces {
+    /// Those that a search puts in order.
+    pub searched: Vec<UnitPiece>,
+    /// Looks that failed in this unit or in another one, and are set aside.
+    pub aside: Vec<UnitPiece>,
+}
+
 /// When each piece began, in that order.
 fn beginnings(alloc: Global, owners: &[Owner<'_>]) -> Result<Vec<Beginning>, NoMemory> {
     let mut order = Vec::with_capacity(alloc, owners.len())?;
@@ -32,10 +41,25 @@ fn beginnings(alloc: Global, owners: &[Owner<'_>]) -> Result<Vec<Beginning>, NoM
     Ok(order)
 }
 
-/// Puts a piece at the end of those of the unit.
-fn put_piece(units: &mut Vec<Vec<UnitPiece>>, unit: u16, one: UnitPiece) -> Result<(), NoMemory> {
+/// Puts a piece at the end of those of the unit that a search puts in order.
+fn put_piece(units: &mut Vec<UnitPieces>, unit: u16, one: UnitPiece) -> Result<(), NoMemory> {
     if let Some(pieces) = units.get_mut(unit as usize) {
-        pieces.push(one)?;
+        pieces.searched.push(one)?;
+    }
+    Ok(())
+}
+
+/// Puts a look that failed at the end of those that are set aside in each of its units.
+fn put_aside(
+    units: &mut Vec<UnitPieces>,
+    geometry: &Geometry,
+    owner: &Owner<'_>,
+    failed: UnitPiece,
+) -> Result<(), NoMemory> {
+    for unit in job_units(geometry, &owner.whole.job) {
+        if let Some(pieces) = units.get_mut(unit as usize) {
+            pieces.aside.push(failed)?;
+        }
     }
     Ok(())
 }
@@ -43,7 +67,7 @@ fn put_piece(units: &mut Vec<Vec<UnitPiece>>, unit: u16, one: UnitPiece) -> Resu
 /// Puts a look that failed at the end of the pieces of its units, up to that in which it failed. Before that it found blocks without a
 /// mark, which a Compare found equal.
 fn put_failed(
-    units: &mut Vec<Vec<UnitPiece>>,
+    units: &mut Vec<UnitPieces>,
     geometry: &Geometry,
     owner: &Owner<'_>,
     failed: UnitPiece,
@@ -67,7 +91,7 @@ fn put_failed(
 
 /// Puts a piece at the end of those of each of its units.
 fn put_in_units(
-    units: &mut Vec<Vec<UnitPiece>>,
+    units: &mut Vec<UnitPieces>,
     geometry: &Geometry,
     owner: &Owner<'_>,
     one: UnitPiece,
@@ -83,21 +107,43 @@ fn put_in_units(
     }
 }
 
-/// The pieces of each unit, in the order in which their commands began. Of each look that failed, so many units are skipped in which it may
-/// have failed.
+/// The unit in which the search has a look fail.
+fn failing_unit(
+    geometry: &Geometry,
+    failing: &Failing,
+    changes: &Option<Changes>,
+    owner: &Owner<'_>,
+    one: UnitPiece,
+) -> Option<u16> {
+    match changes {
+        Some(changes) => failing.unit_of(geometry, changes, owner, one.piece, one.reply),
+        // Then it has one unit alone.
+        None => job_units(geometry, &owner.whole.job).next(),
+    }
+}
+
+/// The pieces of each unit, in the order in which their commands began, with the looks that failed as they are dealt with here.
 pub fn pieces_of_units(
     alloc: Global,
     geometry: &Geometry,
     start: Start,
     owners: &[Owner<'_>],
-    skips: &Numbers,
-) -> Result<Vec<Vec<UnitPiece>>, NoMemory> {
+    failing: &Failing,
+) -> Result<Vec<UnitPieces>, NoMemory> {
     let mut units = Vec::with_capacity(alloc, geometry.units() as usize)?;
     for _ in 0..geometry.units() {
-        units.push(Vec::new(alloc))?;
+        units.push(UnitPieces {
+            searched: Vec::new(alloc),
+            aside: Vec::new(alloc),
+        })?;
     }
-    let changes = Changes::new(alloc, geometry, start, owners)?;
-    for beginning in &beginnings(alloc, owners)? {
+    let order = beginnings(alloc, owners)?;
+    let changes = if failing.has_several() {
+        Some(Changes::new(alloc, geometry, start, owners, order.as_slice())?)
+    } else {
+        None
+    };
+    for beginning in &order {
         let piece = beginning.number;
         let Some(owner) = owners.get(piece as usize) else {
             continue;
@@ -106,11 +152,13 @@ pub fn pieces_of_units(
             continue;
         };
         let one = UnitPiece { piece, reply };
-        if reply.is_failure() {
-            let failing = failing_unit(geometry, &changes, owner, reply, skips.at(piece));
-            put_failed(&mut units, geometry, owner, one, failing)?;
-        } else {
+        if !reply.is_failure() {
             put_in_units(&mut units, geometry, owner, one)?;
+        } else if failing.is_searched(piece) {
+            let unit = failing_unit(geometry, failing, &changes, owner, one);
+            put_failed(&mut units, geometry, owner, one, unit)?;
+        } else {
+            put_aside(&mut units, geometry, owner, one)?;
         }
     }
     Ok(units)
