@@ -10,12 +10,16 @@ mod surroundings;
 mod window;
 
 use crate::arguing::contradiction::least_contradiction;
+use crate::arguing::derivation::derive;
 use crate::arguing::history::History;
 use crate::arguing::surroundings::{anywhere, near};
+use crate::arguing::window::Window;
 use crate::steps::{Cell, UnitSteps};
 use crate::values::ZERO;
 use nvm_record::NoMemory;
 use nvm_refute::{Argument, Fact};
+pub use orders::Orders;
+pub use place_set::PlaceSet;
 use std::alloc::Global;
 
 /// So many steps that contradict each other are few enough.
@@ -121,6 +125,25 @@ fn facts_against(
         Some(found) => Ok(Some(found.facts)),
         None => Ok(None),
     }
+}
+
+/// Which of the unit's steps has to be done before which, by their times and by what they found, and a step that would have to be done before
+/// itself, if there is one. All are named by their places in the unit.
+///
+/// The trace starts from zero bytes. A step that may have been done comes before or after another only if it was.
+pub fn orders_in(alloc: Global, unit: &UnitSteps) -> Result<(Orders, Option<usize>), NoMemory> {
+    let history = History::new(alloc, unit)?;
+    let mut steps = Vec::with_capacity(alloc, history.len())?;
+    for place in 0..history.len() {
+        steps.push(place)?;
+    }
+    let window = Window::new(alloc, &history, steps)?;
+    let derivation = derive(alloc, &window)?;
+    let around = match derivation.loops(alloc)?.first() {
+        Some(place) => Some(*place),
+        None => None,
+    };
+    Ok((derivation.into_orders(), around))
 }
 
 /// An argument that the unit's steps contradict each other, if the rules give one.

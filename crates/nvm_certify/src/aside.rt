@@ -76,24 +76,23 @@ impl<'s, 't> Sweep<'s, 't> {
                 passes: None,
             })?;
         }
-        let mut sweep = Sweep {
+        let first = to_u32(on.first as usize);
+        let mut now = Numbers::new(alloc, on.blocks as usize, ZERO)?;
+        for cell in &order.first {
+            now.put(cell.lba.saturating_sub(first), cell.value);
+        }
+        Ok(Sweep {
             owners,
             unit,
             looks,
-            first: to_u32(on.first as usize),
-            now: Numbers::new(alloc, on.blocks as usize, ZERO)?,
+            first,
+            now,
             done: 0,
             latest: 0,
             places,
             begun: 0,
             near: Vec::new(alloc),
-        };
-        for cell in &order.first {
-            sweep
-                .now
-                .put(cell.lba.saturating_sub(sweep.first), cell.value);
-        }
-        Ok(sweep)
+        })
     }
 
     /// Whether the look compares blocks with data of its own.

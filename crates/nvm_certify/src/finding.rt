@@ -154,11 +154,9 @@ pub fn orderings_of_units<'t, R: Threads + Sync>(
         pieces: &pieces,
         effort,
     };
-    (0..units.len() as u16)
-        .into_par_iter()
+    units
+        .par_iter()
         .with_min_len(1)
-        .map(|place: u16| -> Result<UnitOrdering, NoMemory> {
-            finding.in_unit(units[usize::from(place)])
-        })
+        .map(|unit: &u16| -> Result<UnitOrdering, NoMemory> { finding.in_unit(*unit) })
         .collect(rt, alloc)
 }

@@ -1,3 +1,4 @@
+use crate::arguing::{Orders, orders_in};
 use crate::board::{Board, Guess};
 use crate::certification::Reached;
 use crate::numbers::to_u32;
@@ -7,6 +8,9 @@ use crate::times::{Times, by_beginning};
 use nvm_record::NoMemory;
 use nvm_trace::Start;
 use std::alloc::Global;
+
+/// The most steps of a unit of which it is derived which have to be done before which. That takes some two bits for each pair of them, twice.
+const MOST_DERIVED: usize = 16_384;
 
 /// An order of a unit's steps.
 #[derive(Debug, Drop)]
@@ -57,12 +61,14 @@ fn first_lacking(board: &Board, unit: &UnitSteps) -> Option<u32> {
     None
 }
 
-/// An order of the unit's steps in which each reply is right and that keeps the times, if the search finds one with this guess.
+/// An order of the unit's steps in which each reply is right and that keeps the times and the derived orders, if the search finds one with
+/// this guess.
 fn order_by(
     alloc: Global,
     unit: &UnitSteps,
     start: Start,
     guess: Guess,
+    orders: Option<&Orders>,
     effort: u32,
 ) -> Result<Ordering, NoMemory> {
     let mut board = Board::new(alloc, unit, start, guess)?;
@@ -72,7 +78,7 @@ fn order_by(
     let times = Times::new(alloc, unit, &board)?;
     board.set_zones(alloc, &times.zones(alloc, &board)?)?;
     let timed_steps = by_beginning(alloc, unit, &times)?;
-    let mut search = Search::new(alloc, unit.unit, &timed_steps, board, effort)?;
+    let mut search = Search::new(alloc, unit.unit, &timed_steps, board, orders, effort)?;
     if search.run()? {
         Ok(Ordering::Ordered(search.into_order()?))
     } else {
@@ -80,9 +86,33 @@ fn order_by(
     }
 }
 
+/// What `order_by` gives, where it is derived first which steps have to be done before which.
+///
+/// All blocks were of zero bytes at first. `stuck` is where the search stopped without that.
+fn order_by_derived(
+    alloc: Global,
+    unit: &UnitSteps,
+    guess: Guess,
+    stuck: Stuck,
+    effort: u32,
+) -> Result<Ordering, NoMemory> {
+    if unit.steps.len() > MOST_DERIVED {
+        return Ok(Ordering::Stuck(stuck));
+    }
+    let (orders, around) = orders_in(alloc, unit)?;
+    match around {
+        Some(around) => Ok(Ordering::Stuck(Stuck {
+            around: to_u32(around),
+            ..stuck
+        })),
+        None => order_by(alloc, unit, Start::Zeroes, guess, Some(&orders), effort),
+    }
+}
+
 /// An order of the unit's steps in which each reply is right and that keeps the times, if the search finds one.
 ///
-/// It takes at most `effort` steps back, and where nothing was known of the blocks at first as many again with another guess of that.
+/// It takes at most `effort` steps back. Where that isn't enough, it derives which steps have to be done before which, and takes as many
+/// back again, or where nothing was known of the blocks at first with another guess of that.
 /// `fresh` is the value of bytes that no command is expected to have found or put.
 pub fn order_of(
     alloc: Global,
@@ -95,13 +125,16 @@ pub fn order_of(
         fresh,
         takes_any: false,
     };
-    match (order_by(alloc, unit, start, guess, effort)?, start) {
+    match (order_by(alloc, unit, start, guess, None, effort)?, start) {
         (Ordering::Stuck(_), Start::Unknown) => {
             let guess = Guess {
                 fresh,
                 takes_any: true,
             };
-            order_by(alloc, unit, start, guess, effort)
+            order_by(alloc, unit, start, guess, None, effort)
+        }
+        (Ordering::Stuck(stuck), Start::Zeroes) => {
+            order_by_derived(alloc, unit, guess, stuck, effort)
         }
         (found, _) => Ok(found),
     }

@@ -92,8 +92,12 @@ impl Placing {
         let mut orders = Vec::with_capacity(alloc, found.len())?;
         let mut next = 0usize;
         for ordering in found {
-            if let UnitOrdering::Ordered(order, _) = ordering {
-                orders.push(self.with_looks(alloc, order, &mut next)?)?;
+            match ordering {
+                UnitOrdering::Ordered(order, looks) => {
+                    drop(looks);
+                    orders.push(self.with_looks(alloc, order, &mut next)?)?;
+                }
+                UnitOrdering::Stuck(steps, _) => drop(steps),
             }
         }
         Ok(orders)

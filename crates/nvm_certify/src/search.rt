@@ -1,6 +1,7 @@
 mod candidates;
 mod choices;
 
+use crate::arguing::{Orders, PlaceSet};
 use crate::board::Board;
 use crate::line::Line;
 use crate::numbers::to_u32;
@@ -46,6 +47,10 @@ pub struct Search<'u> {
     deadlines: Vec<Deadline>,
     /// How many have to be in order and aren't.
     left: usize,
+    /// Which of the unit's steps have to be done before which, where that was derived.
+    orders: Option<&'u Orders>,
+    /// The places in the unit of those that have to be in order and aren't.
+    waiting: PlaceSet,
     placed: Vec<PlacedStep>,
     latest: u64,
     turns: Vec<Turn>,
@@ -60,12 +65,13 @@ pub struct Search<'u> {
 }
 
 impl<'u> Search<'u> {
-    /// A search for an order of these steps, which takes at most `effort` of them back.
+    /// A search for an order of these steps that keeps the derived orders, which takes at most `effort` of them back.
     pub fn new(
         alloc: Global,
         unit: u16,
         steps: &'u Vec<Timed>,
         board: Board,
+        orders: Option<&'u Orders>,
         effort: u32,
     ) -> Result<Search<'u>, NoMemory> {
         let count = to_u32(steps.len());
@@ -79,6 +85,8 @@ impl<'u> Search<'u> {
             given_up: Vec::new(alloc),
             deadlines: Vec::new(alloc),
             left: 0,
+            orders,
+            waiting: PlaceSet::new(alloc, steps.len())?,
             placed: Vec::new(alloc),
             latest: 0,
             turns: Vec::new(alloc),
@@ -93,6 +101,7 @@ impl<'u> Search<'u> {
             if step.is_needed() {
                 search.open.take(to_u32(place));
                 search.left = search.left.saturating_add(1);
+                search.waiting.put(steps[place].place as usize);
                 continue;
             }
             search.needed.take(to_u32(place));
@@ -114,6 +123,14 @@ impl<'u> Search<'u> {
         Some(&timed.step)
     }
 
+    /// The place in the unit of the step at the place.
+    fn unit_place(&self, place: u32) -> usize {
+        match self.steps.get(place as usize) {
+            Some(timed) => timed.place as usize,
+            None => usize::MAX,
+        }
+    }
+
     /// Puts the step next.
     fn place(&mut self, place: u32) -> Result<(), NoMemory> {
         let Some(step) = self.step(place) else {
@@ -129,6 +146,8 @@ impl<'u> Search<'u> {
         if step.is_needed() {
             self.needed.take(place);
             self.left = self.left.saturating_sub(1);
+            let of_unit = self.unit_place(place);
+            self.waiting.take_out(of_unit);
         } else {
             self.open.take(place);
         }
@@ -160,6 +179,8 @@ impl<'u> Search<'u> {
         if step.is_needed() {
             self.needed.put_back(last.step);
             self.left = self.left.saturating_add(1);
+            let of_unit = self.unit_place(last.step);
+            self.waiting.put(of_unit);
         } else {
             self.open.put_back(last.step);
         }
@@ -178,7 +199,7 @@ impl<'u> Search<'u> {
                 let Some(step) = self.step(place) else {
                     continue;
                 };
-                if self.is_free(step) {
+                if self.is_free(place, step) {
                     self.place(place)?;
                     some = true;
                 }

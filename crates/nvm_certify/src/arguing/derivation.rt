@@ -268,6 +268,12 @@ impl Derivation {
         Ok(())
     }
 
+    /// What stands before what.
+    pub fn into_orders(self) -> Orders {
+        let Derivation { orders, .. } = self;
+        orders
+    }
+
     /// The steps that stand before themselves.
     pub fn loops(&self, alloc: Global) -> Result<Vec<usize>, NoMemory> {
         let mut loops = Vec::new(alloc);

@@ -30,11 +30,23 @@ impl<'u> Search<'u> {
         Ok(bound)
     }
 
+    /// Whether no step that isn't in order has to be before the one at the place, by the derived orders.
+    fn is_ready(&self, place: u32) -> bool {
+        let Some(orders) = self.orders else {
+            return true;
+        };
+        match orders.before(self.unit_place(place)) {
+            Some(before) => before.first_with(&self.waiting, &self.waiting).is_none(),
+            None => true,
+        }
+    }
+
     /// Whether the step can be next without making any order impossible that is possible now: a look that is right now, or a change
     /// that nobody has to see.
-    pub fn is_free(&self, step: &UnitStep) -> bool {
+    pub fn is_free(&self, place: u32, step: &UnitStep) -> bool {
         self.board.holds(step)
             && (step.is_look() || self.board.is_quiet(step))
+            && self.is_ready(place)
             && !self.is_too_soon(step)
     }
 
@@ -64,9 +76,15 @@ impl<'u> Search<'u> {
         false
     }
 
-    /// Whether the change can be next, as far as what it finds and puts goes.
-    pub fn can_change(&self, step: &UnitStep) -> bool {
+    /// Whether the look can be next, as far as what it finds and the derived orders go.
+    pub fn can_look(&self, place: u32, step: &UnitStep) -> bool {
+        step.is_look() && self.board.holds(step) && self.is_ready(place)
+    }
+
+    /// Whether the change can be next, as far as what it finds and puts and the derived orders go.
+    pub fn can_change(&self, place: u32, step: &UnitStep) -> bool {
         !step.is_look()
+            && self.is_ready(place)
             && self.board.holds(step)
             && !self.board.loses(step)
             && self.board.is_in_turn(step)

@@ -60,9 +60,9 @@ impl<'u> Search<'u> {
             let Some(step) = self.step(*place) else {
                 continue;
             };
-            if self.can_change(step) {
+            if self.can_change(*place, step) {
                 choices.push(self.change_choice(*place, step))?;
-            } else if step.is_look() && self.board.holds(step) {
+            } else if self.can_look(*place, step) {
                 choices.push(Choice {
                     rank: 2,
                     ended: step.ended,
@@ -99,7 +99,7 @@ impl<'u> Search<'u> {
             next = self.open.after(place);
             if step.ended < self.latest || !self.board.may_be_wanted(step) {
                 self.give_up(place)?;
-            } else if self.board.is_wanted(step) && self.can_change(step) {
+            } else if self.board.is_wanted(step) && self.can_change(place, step) {
                 choices.push(self.change_choice(place, step))?;
             }
         }
