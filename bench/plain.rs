@@ -2,7 +2,7 @@
 //! the same record, and prints the same lines, to the byte. bench/plainly builds it by `rustc` and measures `nvmu` beside it:
 //!
 //!     rustc -C opt-level=3 -C codegen-units=1 --edition 2021 -o plain bench/plain.rs
-//!     plain run --nsze N --block N --nabsn N --nabo N --nawun N --nacwu N --workers N --limit N --out REC FILE..
+//!     plain run --nsze N --block N --nabsn N --nabo N --nawun N --nacwu N --workers N --limit N --record REC FILE..
 //!     plain audit REC
 //!
 //! Commands are slices of the files, which are read once. The blocks are one zeroed allocation, cut into units, each behind a mutex.
@@ -1541,13 +1541,13 @@ enum Asked {
 const USAGE: &str = "\
 The plain engine beside nvmu, without a proof.
 
-  plain run --nsze N --block N --nabsn N --nabo N --nawun N --nacwu N --workers N --limit N --out REC [--unaudited] FILE..
+  plain run --nsze N --block N --nabsn N --nabo N --nawun N --nacwu N --workers N --limit N --record REC [--unaudited] FILE..
   plain audit REC
 
 FILE and REC are those of nvmu; - is standard input. --unaudited counts what the last line tells, and audits nothing.
 ";
 
-const OPTIONS: [&str; 9] = ["nsze", "block", "nabsn", "nabo", "nawun", "nacwu", "workers", "limit", "out"];
+const OPTIONS: [&str; 9] = ["nsze", "block", "nabsn", "nabo", "nawun", "nacwu", "workers", "limit", "record"];
 
 fn asked(words: &[String]) -> Result<Asked, String> {
     let (name, rest) = words.split_first().ok_or("expected run or audit; --help says more")?;
@@ -1616,7 +1616,7 @@ fn asked(words: &[String]) -> Result<Asked, String> {
         limit: number("limit", 1, 4_194_304)? as u32,
     };
     let workers = number("workers", 1, 64)? as usize;
-    Ok(Asked::Run { space, workers, out: value("out")?, files, is_audited })
+    Ok(Asked::Run { space, workers, out: value("record")?, files, is_audited })
 }
 
 /// The bytes of a file, which are kept until the program ends.

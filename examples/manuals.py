@@ -89,8 +89,8 @@ CASE = """\
 ANSWERS = {
     "nvmu": {
         "--v": "--version",
-        "run --limit --o": "",
-        "run --limit 1 --o": "--out",
+        "run --limit --r": "",
+        "run --limit 1 --r": "--record",
         "refute --": "--strict --help",
         "list --": "",
     },

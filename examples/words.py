@@ -177,10 +177,11 @@ def words_of_nvmu(run):
         run.expect(words("none.nvq", **changed), 1, err=told(f"nvmu: geometry: {fault}", GEOMETRY[fault]))
     numbers_of_options(run, words)
     nearest(run)
-    for name in [*OPTIONS, "out"]:
+    for name in [*OPTIONS, "record"]:
         run.refuse(words("none.nvq", left_out=name))
     run.refuse(words())
     run.refuse([*words("none.nvq"), "--nsze", "33"])
+    run.refuse([*words("none.nvq"), "--out=other"])
     for given in ([], ["walk"], ["run", "--bogus"], [b"\xff"], ["audit"], ["audit", "a", "b"], ["audit", "--bogus", "a"], ["audit", "--json"], ["audit", "--json=yes", "a"]):
         run.refuse(["nvmu", *given])
     for given in (["--help"], ["run", "--help"], ["audit", "--help"]):

@@ -35,7 +35,7 @@ def words(paths, out=Recording.name, **changed):
     options = {"nsze": 32, "block": 512, "nabsn": 0, "nabo": 0, "nawun": 7, "nacwu": 3, "workers": 1, "limit": 100}
     options.update(changed)
     given = [word for name in options for word in (f"--{name}", str(options[name]))]
-    return ["run", *given, "--out", out, *paths]
+    return ["run", *given, "--record", out, *paths]
 
 
 def single_commands():

@@ -5,7 +5,7 @@ use Rattle.nvmu.specs.declared.words.Asked.TheVariants.{Run, Audit, Witness, Ref
 
 -- A run of one host file or more, the audit of a record, or the judging of a trace by a record or by an argument. The ranges of options are their types'.
 abbrev pub IsAsked : Asked → Type 0
-IsAsked (Run settings out files) = 1 ≤ length files.items
+IsAsked (Run settings path files) = 1 ≤ length files.items
 IsAsked (Audit words) = Unit {0}
 IsAsked (Witness words) = Unit {0}
 IsAsked (Refute judging trace argument) = Unit {0}

@@ -74,10 +74,10 @@ fn done<R: AllocGlobal + Files + Input + Print + Eprint + Threads + Wait + Sync>
     match asked {
         Asked::Run {
             settings,
-            out,
+            record,
             files,
         } => {
-            let shown = recorded(rt, settings, out.as_str(), files.as_slice(), progress);
+            let shown = recorded(rt, settings, record.as_str(), files.as_slice(), progress);
             progress.clear();
             match shown {
                 Ok(shown) => printed(rt, &shown, output, progress),
@@ -126,16 +126,16 @@ fn done<R: AllocGlobal + Files + Input + Print + Eprint + Threads + Wait + Sync>
 fn recorded<R: AllocGlobal + Files + Input + Print + Eprint + Threads + Wait + Sync>(
     rt: &R,
     settings: &Settings,
-    out: &str,
+    record: &str,
     paths: &[String],
     progress: &Progress<'_, R>,
 ) -> Result<Shown, Failure>
     ensures shown { IfOk result (IsShownOn settings.now (map (λ path. string_bytes path) paths.now)) }
-    ensures fault { IfErr result (λ failure. IsRunFaultOn settings.now out.now (map (λ path. string_bytes path) paths.now) failure.fault) }
+    ensures fault { IfErr result (λ failure. IsRunFaultOn settings.now «record».now (map (λ path. string_bytes path) paths.now) failure.fault) }
 {
-    check_output(rt, out, paths)?;
+    check_output(rt, record, paths)?;
     let shown = run(rt, settings, paths, progress)?;
-    write_file(rt, out, shown.record(), progress)?;
+    write_file(rt, record, shown.record(), progress)?;
     Ok(shown)
 }
 

@@ -20,7 +20,7 @@ pub enum Asked {
     Run {
         settings: Settings,
         /// Where the record goes.
-        out: String,
+        record: String,
         /// The host files, at least one.
         files: Vec<String>,
     },
@@ -80,9 +80,9 @@ fn asked_of(alloc: Global, matches: &ArgMatches<'_>) -> Result<Option<Asked>, Wo
 fn run_asked(alloc: Global, run: &ArgMatches<'_>) -> Result<Option<Asked>, WordFault>
     ensures { IfOk result (λ asked. IfSome asked IsAsked) }
 {
-    let (Some(settings), Some(out), Some(paths)) = (
+    let (Some(settings), Some(record), Some(paths)) = (
         settings_of(alloc, run)?,
-        run.get_str("out"),
+        run.get_str("record"),
         run.get_strs("file"),
     ) else {
         return Ok(None);
@@ -90,11 +90,11 @@ fn run_asked(alloc: Global, run: &ArgMatches<'_>) -> Result<Option<Asked>, WordF
     if paths.is_empty() {
         return Ok(None);
     }
-    let out = String::from_str(alloc, out)?;
+    let record = String::from_str(alloc, record)?;
     let files = owned(alloc, paths)?;
     Ok(Some(Asked::Run {
         settings,
-        out,
+        record,
         files,
     }))
 }
@@ -183,8 +183,8 @@ fn run_command<'a>(alloc: Global) -> Result<Command<'a>, Error> {
     for (name, help) in &NUMBERS {
         command = command.arg(number_option(alloc, name, help).required(true))?;
     }
-    let out = Arg::new(alloc, "out")
-        .long("out")
+    let record = Arg::new(alloc, "record")
+        .long("record")
         .required(true)
         .value_name("REC")
         .help("Where the record goes");
@@ -194,5 +194,5 @@ fn run_command<'a>(alloc: Global) -> Result<Command<'a>, Error> {
         .action(ArgAction::Append)
         .value_name("FILE")
         .help("The host files, host 1 first; one may be - for standard input");
-    Ok(command.arg(out)?.arg(file)?)
+    Ok(command.arg(record)?.arg(file)?)
 }
