@@ -1,52 +1,28 @@
-//! The job for which C's entries ask.
+//! The commands for which C's entries ask.
 ghost use Rattle.std.specs.Prelude.{◌≡◌, ◌⊎◌, ◌++◌, ◌+◌, ◌*◌, ◌<◌, ◌≤◌, IfOk, IfErr, length};
-ghost use Rattle.nvm_geometry.specs.Namespace.{Namespace};
 ghost use Rattle.nvm_record.specs.Entry.{IsSpelling, IsWhole, called_for};
-ghost use Rattle.nvm_plan.specs.Fits.{FitsNamespace};
 ghost use Rattle.nvm_c.specs.Asked as spec;
-ghost use Rattle.nvm_c.specs.Asked.{IsAsked, IsAskedAlone, IsAskedTogether};
+ghost use Rattle.nvm_c.specs.Asked.{IsAskedAlone, IsAskedTogether};
 ghost use Rattle.nvm_c.specs.Refused.{IsRefusal};
 
 use crate::code::Code;
-use nvm_geometry::Geometry;
-use nvm_plan::{Body, Job, fits};
 use nvm_record::{
     BlockSize, Command, CommandFault, NoMemory, Op, Payload, entry_fields, read_command,
 };
 use std::alloc::Global;
 
-/// The job of one entry, or of two that are a fused pair.
-pub(crate) fn asked_job(
-    alloc: Global,
-    geometry: &Geometry,
-    host: u16,
-    entries: &[u8],
-    buffer: &[u8],
-) -> Result<Job, Code>
-    ensures asked { IfOk result (λ job. IsAsked geometry.now.block_size host entries.now buffer.now job) }
-    ensures fits { IfOk result (λ job. FitsNamespace geometry.now job) }
-    ensures refused { IfErr result IsRefusal }
-{
-    let size = geometry.block_size();
-    let body = match entries.len() {
-        64 => Body::Single(asked_alone(alloc, size, entries, buffer)?),
-        128 => {
-            let (first, second) = asked_together(alloc, size, entries, buffer)?;
-            Body::Pair(first, second)
-        }
-        _ => return Err(Code::BadLength),
-    };
-    let job = Job { host, body };
-    if !fits(geometry, &job) {
-        return Err(Code::NoPair);
-    }
-    Ok(job)
-}
-
 /// The command of an entry by itself. The buffer is room for what a Read reads, and data of any other.
-fn asked_alone(alloc: Global, size: BlockSize, entry: &[u8], buffer: &[u8]) -> Result<Command, Code>
+// Inlined, as what it calls is, since the command isn't moved then.
+#[inline(always)]
+pub(crate) fn asked_alone(
+    alloc: Global,
+    size: BlockSize,
+    entry: &[u8],
+    buffer: &[u8],
+) -> Result<Command, Code>
     requires { length entry.now ≡ 64 }
     ensures asked { IfOk result (λ c. IsAskedAlone size entry.now buffer.now c) }
+    ensures whole { IfOk result (λ c. IsWhole size c) }
     ensures refused { IfErr result IsRefusal }
 {
     let fields = entry_fields(entry);
@@ -54,11 +30,15 @@ fn asked_alone(alloc: Global, size: BlockSize, entry: &[u8], buffer: &[u8]) -> R
         if buffer.len() != (usize::from(fields.nlb) + 1) * size.bytes() as usize {
             return Err(Code::BadLength);
         }
-        let command = command_of(alloc, size, entry, &[])?;
-        return Ok(command);
     }
-    let command = command_of(alloc, size, entry, buffer)?;
-    Ok(command)
+    command_of(alloc, size, entry, sent_with(fields.op, buffer))
+}
+
+/// What of the buffer goes with a command: nothing with a Read.
+fn sent_with(op: Op, buffer: &[u8]) -> &[u8]
+    ensures { result.now ≡ spec.sent_with op buffer.now }
+{
+    if reads(op) { &[] } else { buffer }
 }
 
 /// Whether it is a Read, for which the buffer is room.
@@ -69,9 +49,7 @@ fn reads(op: Op) -> bool
 }
 
 /// The commands of two entries, whose data stands in the buffer in their order.
-// Not inlined, since a command by itself would have room for two cleared.
-#[inline(never)]
-fn asked_together(
+pub(crate) fn asked_together(
     alloc: Global,
     size: BlockSize,
     entries: &[u8],
@@ -102,6 +80,7 @@ fn called(size: BlockSize, entry: &[u8]) -> usize
 }
 
 /// The command of the entry and this data, which has to be as long as it calls for. Data that isn't a list of ranges is copied as it is.
+#[inline(always)]
 fn command_of(alloc: Global, size: BlockSize, entry: &[u8], data: &[u8]) -> Result<Command, Code>
     requires { length entry.now ≡ 64 }
     ensures spelled { IfOk result (λ c. IsSpelling size (entry.now ++ data.now) c) }

@@ -9,17 +9,18 @@ ghost use Rattle.nvm_space.specs.Ports.{IsPortOf};
 ghost use Rattle.nvm_space.specs.Trace.{DoesJob};
 ghost use Rattle.nvm_space.specs.UnderWay.{IsUnderWay};
 ghost use Rattle.nvm_space.specs.declared.job_done.JobDone.{JobDone as Told};
+ghost use Rattle.nvm_c.specs.Asked.{IsAsked};
 ghost use Rattle.nvm_c.specs.Engines.{IsSound, namespace_of, seen_by, space_of};
 ghost use Rattle.nvm_c.specs.Logs.{HasRoomIn, kept_by};
 ghost use Rattle.nvm_c.specs.Submitted.{Polls, Progresses, Submits};
 ghost use Rattle.nvm_c.specs.Told.{FitEntries, posted_length, told_length};
 
-use crate::asking::asked_job;
+use crate::asking::{asked_alone, asked_together};
 use crate::code::Code;
 use crate::log::{Log, draw, keep};
 use crate::quiet::Quiet;
 use crate::telling::{entries_length, tell};
-use nvm_plan::{Body, Job};
+use nvm_plan::{Body, Job, fits};
 use nvm_record::Op;
 use nvm_space::{JobUnderWay, Port, Progress, Space};
 use nvm_unit::Count;
@@ -61,16 +62,72 @@ impl Engine {
         ensures submits { Submits result self.old self.new entries.now
             (record { bytes = data.old; posted = posted.old }) (record { bytes = data.new; posted = posted.new }) }
     {
-        told_statuses_fit_their_entries();
         match &self.pending {
             Some(_) => return Code::Busy,
             None => {}
         }
+        let geometry = self.space.geometry();
         let host = self.port.number() + 1;
-        let job = match asked_job(alloc, &self.space.geometry(), host, entries, data) {
-            Ok(job) => job,
-            Err(code) => return code,
-        };
+        match entries.len() {
+            64 => match asked_alone(alloc, geometry.block_size(), entries, data) {
+                Ok(command) => {
+                    let body = Body::Single(command);
+                    self.begin(alloc, Job { host, body }, data, posted)
+                }
+                Err(code) => code,
+            },
+            128 => self.submit_pair(alloc, host, entries, data, posted),
+            _ => Code::BadLength,
+        }
+    }
+
+    /// Begins the fused pair that two entries ask for, and goes on with it.
+    // Not inlined, since a command by itself would have room for two cleared.
+    #[inline(never)]
+    fn submit_pair(
+        &mut self,
+        alloc: Global,
+        host: u16,
+        entries: &[u8],
+        data: &mut [u8],
+        posted: &mut [u8],
+    ) -> Code
+        requires sound { IsSound self.old }
+        requires idle { self.old.pending ≡ None }
+        requires host { host ≡ self.old.port.number + 1 }
+        requires two { length entries.now ≡ 128 }
+        ensures sound { IsSound self.new }
+        ensures submits { Submits result self.old self.new entries.now
+            (record { bytes = data.old; posted = posted.old }) (record { bytes = data.new; posted = posted.new }) }
+    {
+        let geometry = self.space.geometry();
+        match asked_together(alloc, geometry.block_size(), entries, data) {
+            Ok((first, second)) => {
+                let body = Body::Pair(first, second);
+                let job = Job { host, body };
+                if !fits(&geometry, &job) {
+                    return Code::NoPair;
+                }
+                self.begin(alloc, job, data, posted)
+            }
+            Err(code) => code,
+        }
+    }
+
+    /// Begins a job that entries ask for, and goes on with it.
+    // Inlined, since the job isn't moved then.
+    #[inline(always)]
+    fn begin(&mut self, alloc: Global, job: Job, data: &mut [u8], posted: &mut [u8]) -> Code
+        requires sound { IsSound self.old }
+        requires idle { self.old.pending ≡ None }
+        requires fits { FitsNamespace (namespace_of self.old) job }
+        ensures sound { IsSound self.new }
+        ensures submits { (entries : List ℕ)
+            → IsAsked (namespace_of self.old).block_size (self.old.port.number + 1) entries data.old job
+            → Submits result self.old self.new entries
+            (record { bytes = data.old; posted = posted.old }) (record { bytes = data.new; posted = posted.new }) }
+    {
+        told_statuses_fit_their_entries();
         if posted.len() != entries_length(&job) {
             return Code::BadLength;
         }

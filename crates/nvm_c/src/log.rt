@@ -75,6 +75,7 @@ impl Log {
     }
 
     /// Keeps a job that was done.
+    #[inline(never)]
     fn keep(&mut self, number: u32, job: Job, done: JobDone)
         requires { HasRoom self.old }
         ensures { log_state self.new ≡ with_job (log_state self.old) number job done }
