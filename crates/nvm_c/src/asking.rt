@@ -1,15 +1,55 @@
-//! The commands for which C's entries ask.
+//! The job for which C's entries ask.
 ghost use Rattle.std.specs.Prelude.{◌≡◌, ◌⊎◌, ◌++◌, ◌+◌, ◌*◌, ◌<◌, ◌≤◌, IfOk, IfErr, length};
+ghost use Rattle.std.specs.Bool.{OnTrue};
+ghost use Rattle.nvm_geometry.specs.Namespace.{Namespace};
 ghost use Rattle.nvm_record.specs.Entry.{IsSpelling, IsWhole, called_for};
+ghost use Rattle.nvm_plan.specs.Fits.{FitsNamespace};
 ghost use Rattle.nvm_c.specs.Asked as spec;
-ghost use Rattle.nvm_c.specs.Asked.{IsAskedAlone, IsAskedTogether};
+ghost use Rattle.nvm_c.specs.Asked.{IsAsked, IsAskedAlone, IsAskedTogether};
 ghost use Rattle.nvm_c.specs.Refused.{IsRefusal};
 
 use crate::code::Code;
+use nvm_geometry::Geometry;
+use nvm_plan::{Body, Job, fits};
 use nvm_record::{
     BlockSize, Command, CommandFault, NoMemory, Op, Payload, entry_fields, read_command,
 };
 use std::alloc::Global;
+
+/// Whether it is one entry, of a command without ranges.
+pub(crate) fn is_plain(entries: &[u8]) -> bool
+    ensures { OnTrue result (length entries.now ≡ 64) }
+{
+    entries.len() == 64 && !entry_fields(entries).op.carries_ranges()
+}
+
+/// The job of one entry, or of two that are a fused pair.
+pub(crate) fn asked_job(
+    alloc: Global,
+    geometry: &Geometry,
+    host: u16,
+    entries: &[u8],
+    buffer: &[u8],
+) -> Result<Job, Code>
+    ensures asked { IfOk result (λ job. IsAsked geometry.now.block_size host entries.now buffer.now job) }
+    ensures fits { IfOk result (λ job. FitsNamespace geometry.now job) }
+    ensures refused { IfErr result IsRefusal }
+{
+    let size = geometry.block_size();
+    let body = match entries.len() {
+        64 => Body::Single(asked_alone(alloc, size, entries, buffer)?),
+        128 => {
+            let (first, second) = asked_together(alloc, size, entries, buffer)?;
+            Body::Pair(first, second)
+        }
+        _ => return Err(Code::BadLength),
+    };
+    let job = Job { host, body };
+    if !fits(geometry, &job) {
+        return Err(Code::NoPair);
+    }
+    Ok(job)
+}
 
 /// The command of an entry by itself. The buffer is room for what a Read reads, and data of any other.
 // Inlined, as what it calls is, since the command isn't moved then.
@@ -49,7 +89,7 @@ fn reads(op: Op) -> bool
 }
 
 /// The commands of two entries, whose data stands in the buffer in their order.
-pub(crate) fn asked_together(
+fn asked_together(
     alloc: Global,
     size: BlockSize,
     entries: &[u8],

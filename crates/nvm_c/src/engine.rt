@@ -15,12 +15,12 @@ ghost use Rattle.nvm_c.specs.Logs.{HasRoomIn, kept_by};
 ghost use Rattle.nvm_c.specs.Submitted.{Polls, Progresses, Submits};
 ghost use Rattle.nvm_c.specs.Told.{FitEntries, posted_length, told_length};
 
-use crate::asking::{asked_alone, asked_together};
+use crate::asking::{asked_alone, asked_job, is_plain};
 use crate::code::Code;
 use crate::log::{Log, draw, keep};
 use crate::quiet::Quiet;
 use crate::telling::{entries_length, tell};
-use nvm_plan::{Body, Job, fits};
+use nvm_plan::{Body, Job};
 use nvm_record::Op;
 use nvm_space::{JobUnderWay, Port, Progress, Space};
 use nvm_unit::Count;
@@ -66,25 +66,23 @@ impl Engine {
             Some(_) => return Code::Busy,
             None => {}
         }
-        let geometry = self.space.geometry();
         let host = self.port.number() + 1;
-        match entries.len() {
-            64 => match asked_alone(alloc, geometry.block_size(), entries, data) {
-                Ok(command) => {
-                    let body = Body::Single(command);
-                    self.begin(alloc, Job { host, body }, data, posted)
-                }
-                Err(code) => code,
-            },
-            128 => self.submit_pair(alloc, host, entries, data, posted),
-            _ => Code::BadLength,
+        if !is_plain(entries) {
+            return self.submit_apart(alloc, host, entries, data, posted);
+        }
+        match asked_alone(alloc, self.space.geometry().block_size(), entries, data) {
+            Ok(command) => {
+                let body = Body::Single(command);
+                self.begin(alloc, Job { host, body }, data, posted)
+            }
+            Err(code) => code,
         }
     }
 
-    /// Begins the fused pair that two entries ask for, and goes on with it.
-    // Not inlined, since a command by itself would have room for two cleared.
+    /// Begins the job of a fused pair or of a command with ranges, and goes on with it.
+    // Not inlined, since any other command would have room for what is here cleared.
     #[inline(never)]
-    fn submit_pair(
+    fn submit_apart(
         &mut self,
         alloc: Global,
         host: u16,
@@ -95,21 +93,12 @@ impl Engine {
         requires sound { IsSound self.old }
         requires idle { self.old.pending ≡ None }
         requires host { host ≡ self.old.port.number + 1 }
-        requires two { length entries.now ≡ 128 }
         ensures sound { IsSound self.new }
         ensures submits { Submits result self.old self.new entries.now
             (record { bytes = data.old; posted = posted.old }) (record { bytes = data.new; posted = posted.new }) }
     {
-        let geometry = self.space.geometry();
-        match asked_together(alloc, geometry.block_size(), entries, data) {
-            Ok((first, second)) => {
-                let body = Body::Pair(first, second);
-                let job = Job { host, body };
-                if !fits(&geometry, &job) {
-                    return Code::NoPair;
-                }
-                self.begin(alloc, job, data, posted)
-            }
+        match asked_job(alloc, &self.space.geometry(), host, entries, data) {
+            Ok(job) => self.begin(alloc, job, data, posted),
             Err(code) => code,
         }
     }
