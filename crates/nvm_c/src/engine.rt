@@ -1,5 +1,5 @@
 //! A port of a namespace as C works with it: a job is begun and gone on with, and C is told when it is done.
-ghost use Rattle.std.specs.Prelude.{◌≡◌, ◌+◌, ◌%◌, ◌^◌, ◌<◌, ◌≤◌, ℕ, Bool, List, None, length};
+ghost use Rattle.std.specs.Prelude.{◌≡◌, ◌+◌, ◌%◌, ◌^◌, ◌<◌, ◌≤◌, ℕ, Bool, List, None, IsSome, IfSome, length};
 ghost use Rattle.std.specs.Arc.{arc_value};
 ghost use Rattle.nvm_geometry.specs.Namespace.{Namespace};
 ghost use Rattle.nvm_plan.specs.Fits.{FitsNamespace};
@@ -73,7 +73,8 @@ impl Engine {
         match asked_alone(alloc, self.space.geometry().block_size(), entries, data) {
             Ok(command) => {
                 let body = Body::Single(command);
-                self.begin(alloc, Job { host, body }, data, posted)
+                let mut held = Some(Job { host, body });
+                self.begin(alloc, &mut held, data, posted)
             }
             Err(code) => code,
         }
@@ -98,39 +99,51 @@ impl Engine {
             (record { bytes = data.old; posted = posted.old }) (record { bytes = data.new; posted = posted.new }) }
     {
         match asked_job(alloc, &self.space.geometry(), host, entries, data) {
-            Ok(job) => self.begin(alloc, job, data, posted),
+            Ok(job) => {
+                let mut held = Some(job);
+                self.begin(alloc, &mut held, data, posted)
+            }
             Err(code) => code,
         }
     }
 
-    /// Begins a job that entries ask for, and goes on with it.
-    // Inlined, since the job isn't moved then.
-    #[inline(always)]
-    fn begin(&mut self, alloc: Global, job: Job, data: &mut [u8], posted: &mut [u8]) -> Code
+    /// Begins a job that entries ask for, and goes on with it. It is taken where it is kept or pending afterwards, and else it stays
+    /// where it is held.
+    fn begin(
+        &mut self,
+        alloc: Global,
+        held: &mut Option<Job>,
+        data: &mut [u8],
+        posted: &mut [u8],
+    ) -> Code
         requires sound { IsSound self.old }
         requires idle { self.old.pending ≡ None }
-        requires fits { FitsNamespace (namespace_of self.old) job }
+        requires held { IsSome held.old }
+        requires fits { IfSome held.old (λ job. FitsNamespace (namespace_of self.old) job) }
         ensures sound { IsSound self.new }
-        ensures submits { (entries : List ℕ)
+        ensures submits { IfSome held.old (λ job. (entries : List ℕ)
             → IsAsked (namespace_of self.old).block_size (self.old.port.number + 1) entries data.old job
             → Submits result self.old self.new entries
-            (record { bytes = data.old; posted = posted.old }) (record { bytes = data.new; posted = posted.new }) }
+            (record { bytes = data.old; posted = posted.old }) (record { bytes = data.new; posted = posted.new })) }
     {
         told_statuses_fit_their_entries();
-        if posted.len() != entries_length(&job) {
+        let Some(job) = &*held else {
+            unreachable!("a job is held")
+        };
+        if posted.len() != entries_length(job) {
             return Code::BadLength;
         }
         let Ok(number) = draw(&mut self.number, &mut self.log) else {
             return Code::NoMemory;
         };
-        match self.space.begin_job(alloc, number, &job) {
+        match self.space.begin_job(alloc, number, job) {
             Progress::Done(done) => {
                 tell(&done.completions, data, posted);
-                keep(&mut self.log, number, job, done);
+                keep(&mut self.log, number, held, done);
                 Code::Done
             }
             Progress::Pending(under_way) => {
-                self.go_on(alloc, number, job, under_way, data, posted)
+                self.go_on(alloc, number, held, under_way, data, posted)
             }
         }
     }
@@ -158,15 +171,16 @@ impl Engine {
             job,
             under_way,
         } = taken;
-        self.go_on(alloc, number, job, under_way, data, posted)
+        let mut held = Some(job);
+        self.go_on(alloc, number, &mut held, under_way, data, posted)
     }
 
-    /// Goes on with a job that isn't in `pending`.
+    /// Goes on with a job that isn't in `pending`. It is taken where it is kept or pending afterwards, and else it stays where it is held.
     fn go_on(
         &mut self,
         alloc: Global,
         number: u32,
-        job: Job,
+        held: &mut Option<Job>,
         under_way: JobUnderWay,
         data: &mut [u8],
         posted: &mut [u8],
@@ -174,32 +188,39 @@ impl Engine {
         requires of { IsPortOf (space_of self.old) self.old.port }
         requires few { self.old.port.number < 64 }
         requires idle { self.old.pending ≡ None }
-        requires fits { FitsNamespace (namespace_of self.old) job }
-        requires under_way { (start : List PassView)
-            × IsUnderWay (namespace_of self.old) (space_of self.old).lists job under_way start (seen_by self.old) }
+        requires held { IsSome held.old }
+        requires fits { IfSome held.old (λ job. FitsNamespace (namespace_of self.old) job) }
+        requires under_way { IfSome held.old (λ job. (start : List PassView)
+            × IsUnderWay (namespace_of self.old) (space_of self.old).lists job under_way start (seen_by self.old)) }
         requires same { under_way.number ≡ number }
         requires log { HasRoomIn self.old.log }
-        requires room { length posted.old ≡ posted_length job.body }
+        requires room { IfSome held.old (λ job. length posted.old ≡ posted_length job.body) }
         ensures sound { IsSound self.new }
         ensures space { space_of self.new ≡ space_of self.old }
         ensures number { self.new.number ≡ self.old.number }
-        ensures progress { (start : List PassView)
+        ensures progress { IfSome held.old (λ job. (start : List PassView)
             → IsUnderWay (namespace_of self.old) (space_of self.old).lists job under_way start (seen_by self.old)
             → Progresses result (space_of self.old) number job start (seen_by self.new) self.new.pending
             (kept_by self.old.log) (kept_by self.new.log)
-            (record { bytes = data.old; posted = posted.old }) (record { bytes = data.new; posted = posted.new }) }
+            (record { bytes = data.old; posted = posted.old }) (record { bytes = data.new; posted = posted.new })) }
     {
         told_statuses_fit_their_entries();
+        let Some(job) = &*held else {
+            unreachable!("a job is held")
+        };
         match self
             .space
-            .poll_job(alloc, &mut self.port, &job, under_way, &Quiet)
+            .poll_job(alloc, &mut self.port, job, under_way, &Quiet)
         {
             Progress::Done(done) => {
                 tell(&done.completions, data, posted);
-                keep(&mut self.log, number, job, done);
+                keep(&mut self.log, number, held, done);
                 Code::Done
             }
             Progress::Pending(under_way) => {
+                let Some(job) = held.take() else {
+                    unreachable!("a job is held")
+                };
                 self.pending = Some(Pending {
                     number,
                     job,

@@ -11,4 +11,4 @@ returns-in-Ok-clause-submits c =
     let here : c.geometry.result ≡ namespace_of e = c.geometry.ensures ∙ ap (λ (s : SpaceName). s.namespace) c.deref.ensures in
     c.begin.ensures.submits c.args.entries.now
     (subst (λ (host : ℕ). IsAsked (namespace_of e).block_size host c.args.entries.now c.args.data.now c.in-Ok.job) c.requires.host
-      (subst (λ (ns : Namespace). IsAsked ns.block_size c.args.host c.args.entries.now c.args.data.now c.in-Ok.job) here c.in-Ok.ensures.asked))
+    (subst (λ (ns : Namespace). IsAsked ns.block_size c.args.host c.args.entries.now c.args.data.now c.in-Ok.job) here c.in-Ok.ensures.asked))
