@@ -16,13 +16,6 @@ use nvm_record::{
 };
 use std::alloc::Global;
 
-/// Whether it is one entry, of a command without ranges.
-pub(crate) fn is_plain(entries: &[u8]) -> bool
-    ensures { OnTrue result (length entries.now ≡ 64) }
-{
-    entries.len() == 64 && !entry_fields(entries).op.carries_ranges()
-}
-
 /// The job of one entry, or of two that are a fused pair.
 pub(crate) fn asked_job(
     alloc: Global,
@@ -51,8 +44,15 @@ pub(crate) fn asked_job(
     Ok(job)
 }
 
+/// Whether it is one entry, of a command without ranges.
+pub(crate) fn is_plain(entries: &[u8]) -> bool
+    ensures { OnTrue result (length entries.now ≡ 64) }
+{
+    entries.len() == 64 && !entry_fields(entries).op.carries_ranges()
+}
+
 /// The command of an entry by itself. The buffer is room for what a Read reads, and data of any other.
-// Inlined, as what it calls is, since the command isn't moved then.
+// Inlined with `command_of`, since the command isn't moved then.
 #[inline(always)]
 pub(crate) fn asked_alone(
     alloc: Global,

@@ -81,7 +81,7 @@ impl Engine {
     }
 
     /// Begins the job of a fused pair or of a command with ranges, and goes on with it.
-    // Not inlined, since any other command would have room for what is here cleared.
+    // Not inlined, since any other command would clear the room that this takes.
     #[inline(never)]
     fn submit_apart(
         &mut self,
@@ -107,8 +107,8 @@ impl Engine {
         }
     }
 
-    /// Begins a job that entries ask for, and goes on with it. It is taken where it is kept or pending afterwards, and else it stays
-    /// where it is held.
+    /// Begins a job that entries ask for, and goes on with it. The job is taken if it is kept or pending then. Else it stays where it is
+    /// held, so that it isn't moved.
     fn begin(
         &mut self,
         alloc: Global,
@@ -175,7 +175,7 @@ impl Engine {
         self.go_on(alloc, number, &mut held, under_way, data, posted)
     }
 
-    /// Goes on with a job that isn't in `pending`. It is taken where it is kept or pending afterwards, and else it stays where it is held.
+    /// Goes on with a job that isn't in `pending`. It is taken if it is kept or pending then.
     fn go_on(
         &mut self,
         alloc: Global,

@@ -75,8 +75,6 @@ impl Log {
     }
 
     /// Keeps a job that was done, which is taken.
-    // Not inlined, since a port that isn't recorded would clear room for it.
-    #[inline(never)]
     fn keep(&mut self, number: u32, held: &mut Option<Job>, done: JobDone)
         requires { HasRoom self.old }
         ensures { IfSome held.old (λ job. log_state self.new ≡ with_job (log_state self.old) number job done) }
