@@ -1,9 +1,9 @@
-use Rattle.std.proofs.Common.{◌≡◌, ◌∙◌, ◌+◌, ℕ, length, refl, sym, subst, arith}
+use Rattle.std.proofs.Common.{◌≡◌, ◌∙◌, ℕ, length, refl, sym, subst, arith}
 use Rattle.nvm_space.specs.Spaces.{SpaceName}
 use Rattle.nvm_space.specs.Trace.{DoesJob}
 use Rattle.nvm_space.specs.UnderWay.{IsUnderWay}
 use Rattle.nvm_plan.specs.declared.job.Job.{Job}
-use Rattle.nvm_c.specs.Engines.{namespace_of, seen_by, space_of}
+use Rattle.nvm_c.specs.Engines.{seen_by}
 use Rattle.nvm_c.specs.Logs.{HasDrawn, kept_by, with_kept}
 use Rattle.nvm_c.proofs.Steps.{if_held, of_held, submits_of}
 use Rattle.nvm_c.proofs.engine.Engine.begin.Goals as goal

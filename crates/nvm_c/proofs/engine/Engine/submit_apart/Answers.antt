@@ -1,4 +1,4 @@
-use Rattle.std.proofs.Common.{◌≡◌, ◌∙◌, ◌+◌, ℕ, ap, subst}
+use Rattle.std.proofs.Common.{◌≡◌, ◌∙◌, ℕ, ap, subst}
 use Rattle.nvm_geometry.specs.Namespace.{Namespace}
 use Rattle.nvm_space.specs.Spaces.{SpaceName}
 use Rattle.nvm_c.specs.Asked.{IsAsked}
