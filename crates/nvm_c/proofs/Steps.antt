@@ -1,5 +1,5 @@
 -- What a code says of a job that was gone on with, by the code alone.
-use Rattle.std.proofs.Common.{◌≡◌, List, ℕ, Some, None}
+use Rattle.std.proofs.Common.{◌≡◌, List, ℕ, Option, Some, None, IfSome, subst, sym}
 use Rattle.nvm_unit.specs.declared.views.PassView.{PassView}
 use Rattle.nvm_space.specs.UnderWay.{IsUnderWay}
 use Rattle.nvm_c.specs.Engines.{namespace_of, seen_by, space_of}
@@ -8,6 +8,14 @@ use Rattle.nvm_c.specs.declared.code.Code.{Code}
 use Rattle.nvm_c.specs.declared.code.Code.TheVariants.{Done, Pending, NotOpen, IsOpen, NoMemory, BadNamespace, BadPorts, BadLimit, BadLength, NoPair, Busy, Idle, Newer, OutOfRange, Crosses, NoVersions}
 use Rattle.nvm_c.specs.declared.engine.Engine.{Engine}
 use Rattle.nvm_c.specs.declared.engine.Pending.{Pending as PendingJob}
+
+-- what is said of what is held
+module _ {A : Type 0} (P : A → Type 0) {o : Option A} {a : A} (is : o ≡ Some a) where
+  pub of_held : IfSome o P → P a
+  of_held said = subst (λ (o' : Option A). IfSome o' P) is said
+
+  pub if_held : P a → IfSome o P
+  if_held said = subst (λ (o' : Option A). IfSome o' P) (sym is) said
 
 pub submits_of : (code : Code) (e e' : Engine) (entries : List ℕ) (old new : Buffers) → e.pending ≡ None
     → Begins code e e' entries old new → Submits code e e' entries old new

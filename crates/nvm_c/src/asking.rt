@@ -1,5 +1,6 @@
 //! The job for which C's entries ask.
 ghost use Rattle.std.specs.Prelude.{◌≡◌, ◌⊎◌, ◌++◌, ◌+◌, ◌*◌, ◌<◌, ◌≤◌, IfOk, IfErr, length};
+ghost use Rattle.std.specs.Bool.{OnTrue};
 ghost use Rattle.nvm_geometry.specs.Namespace.{Namespace};
 ghost use Rattle.nvm_record.specs.Entry.{IsSpelling, IsWhole, called_for};
 ghost use Rattle.nvm_plan.specs.Fits.{FitsNamespace};
@@ -43,10 +44,25 @@ pub(crate) fn asked_job(
     Ok(job)
 }
 
+/// Whether it is one entry, of a command without ranges.
+pub(crate) fn is_plain(entries: &[u8]) -> bool
+    ensures { OnTrue result (length entries.now ≡ 64) }
+{
+    entries.len() == 64 && !entry_fields(entries).op.carries_ranges()
+}
+
 /// The command of an entry by itself. The buffer is room for what a Read reads, and data of any other.
-fn asked_alone(alloc: Global, size: BlockSize, entry: &[u8], buffer: &[u8]) -> Result<Command, Code>
+// Inlined with `command_of`, since the command isn't moved then.
+#[inline(always)]
+pub(crate) fn asked_alone(
+    alloc: Global,
+    size: BlockSize,
+    entry: &[u8],
+    buffer: &[u8],
+) -> Result<Command, Code>
     requires { length entry.now ≡ 64 }
     ensures asked { IfOk result (λ c. IsAskedAlone size entry.now buffer.now c) }
+    ensures whole { IfOk result (λ c. IsWhole size c) }
     ensures refused { IfErr result IsRefusal }
 {
     let fields = entry_fields(entry);
@@ -54,11 +70,15 @@ fn asked_alone(alloc: Global, size: BlockSize, entry: &[u8], buffer: &[u8]) -> R
         if buffer.len() != (usize::from(fields.nlb) + 1) * size.bytes() as usize {
             return Err(Code::BadLength);
         }
-        let command = command_of(alloc, size, entry, &[])?;
-        return Ok(command);
     }
-    let command = command_of(alloc, size, entry, buffer)?;
-    Ok(command)
+    command_of(alloc, size, entry, sent_with(fields.op, buffer))
+}
+
+/// What of the buffer goes with a command: nothing with a Read.
+fn sent_with(op: Op, buffer: &[u8]) -> &[u8]
+    ensures { result.now ≡ spec.sent_with op buffer.now }
+{
+    if reads(op) { &[] } else { buffer }
 }
 
 /// Whether it is a Read, for which the buffer is room.
@@ -69,8 +89,6 @@ fn reads(op: Op) -> bool
 }
 
 /// The commands of two entries, whose data stands in the buffer in their order.
-// Not inlined, since a command by itself would have room for two cleared.
-#[inline(never)]
 fn asked_together(
     alloc: Global,
     size: BlockSize,
@@ -102,6 +120,7 @@ fn called(size: BlockSize, entry: &[u8]) -> usize
 }
 
 /// The command of the entry and this data, which has to be as long as it calls for. Data that isn't a list of ranges is copied as it is.
+#[inline(always)]
 fn command_of(alloc: Global, size: BlockSize, entry: &[u8], data: &[u8]) -> Result<Command, Code>
     requires { length entry.now ≡ 64 }
     ensures spelled { IfOk result (λ c. IsSpelling size (entry.now ++ data.now) c) }

@@ -1,5 +1,5 @@
 //! A port of a namespace as C works with it: a job is begun and gone on with, and C is told when it is done.
-ghost use Rattle.std.specs.Prelude.{◌≡◌, ◌+◌, ◌%◌, ◌^◌, ◌<◌, ◌≤◌, ℕ, Bool, List, None, length};
+ghost use Rattle.std.specs.Prelude.{◌≡◌, ◌+◌, ◌%◌, ◌^◌, ◌<◌, ◌≤◌, ℕ, Bool, List, None, IsSome, IfSome, length};
 ghost use Rattle.std.specs.Arc.{arc_value};
 ghost use Rattle.nvm_geometry.specs.Namespace.{Namespace};
 ghost use Rattle.nvm_plan.specs.Fits.{FitsNamespace};
@@ -9,12 +9,13 @@ ghost use Rattle.nvm_space.specs.Ports.{IsPortOf};
 ghost use Rattle.nvm_space.specs.Trace.{DoesJob};
 ghost use Rattle.nvm_space.specs.UnderWay.{IsUnderWay};
 ghost use Rattle.nvm_space.specs.declared.job_done.JobDone.{JobDone as Told};
+ghost use Rattle.nvm_c.specs.Asked.{IsAsked};
 ghost use Rattle.nvm_c.specs.Engines.{IsSound, namespace_of, seen_by, space_of};
 ghost use Rattle.nvm_c.specs.Logs.{HasRoomIn, kept_by};
 ghost use Rattle.nvm_c.specs.Submitted.{Polls, Progresses, Submits};
 ghost use Rattle.nvm_c.specs.Told.{FitEntries, posted_length, told_length};
 
-use crate::asking::asked_job;
+use crate::asking::{asked_alone, asked_job, is_plain};
 use crate::code::Code;
 use crate::log::{Log, draw, keep};
 use crate::quiet::Quiet;
@@ -61,30 +62,88 @@ impl Engine {
         ensures submits { Submits result self.old self.new entries.now
             (record { bytes = data.old; posted = posted.old }) (record { bytes = data.new; posted = posted.new }) }
     {
-        told_statuses_fit_their_entries();
         match &self.pending {
             Some(_) => return Code::Busy,
             None => {}
         }
         let host = self.port.number() + 1;
-        let job = match asked_job(alloc, &self.space.geometry(), host, entries, data) {
-            Ok(job) => job,
-            Err(code) => return code,
+        if !is_plain(entries) {
+            return self.submit_apart(alloc, host, entries, data, posted);
+        }
+        match asked_alone(alloc, self.space.geometry().block_size(), entries, data) {
+            Ok(command) => {
+                let body = Body::Single(command);
+                let mut held = Some(Job { host, body });
+                self.begin(alloc, &mut held, data, posted)
+            }
+            Err(code) => code,
+        }
+    }
+
+    /// Begins the job of a fused pair or of a command with ranges, and goes on with it.
+    // Not inlined, since any other command would clear the room that this takes.
+    #[inline(never)]
+    fn submit_apart(
+        &mut self,
+        alloc: Global,
+        host: u16,
+        entries: &[u8],
+        data: &mut [u8],
+        posted: &mut [u8],
+    ) -> Code
+        requires sound { IsSound self.old }
+        requires idle { self.old.pending ≡ None }
+        requires host { host ≡ self.old.port.number + 1 }
+        ensures sound { IsSound self.new }
+        ensures submits { Submits result self.old self.new entries.now
+            (record { bytes = data.old; posted = posted.old }) (record { bytes = data.new; posted = posted.new }) }
+    {
+        match asked_job(alloc, &self.space.geometry(), host, entries, data) {
+            Ok(job) => {
+                let mut held = Some(job);
+                self.begin(alloc, &mut held, data, posted)
+            }
+            Err(code) => code,
+        }
+    }
+
+    /// Begins a job that entries ask for, and goes on with it. The job is taken if it is kept or pending then. Else it stays where it is
+    /// held, so that it isn't moved.
+    fn begin(
+        &mut self,
+        alloc: Global,
+        held: &mut Option<Job>,
+        data: &mut [u8],
+        posted: &mut [u8],
+    ) -> Code
+        requires sound { IsSound self.old }
+        requires idle { self.old.pending ≡ None }
+        requires held { IsSome held.old }
+        requires fits { IfSome held.old (λ job. FitsNamespace (namespace_of self.old) job) }
+        ensures sound { IsSound self.new }
+        ensures submits { IfSome held.old (λ job. (entries : List ℕ)
+            → IsAsked (namespace_of self.old).block_size (self.old.port.number + 1) entries data.old job
+            → Submits result self.old self.new entries
+            (record { bytes = data.old; posted = posted.old }) (record { bytes = data.new; posted = posted.new })) }
+    {
+        told_statuses_fit_their_entries();
+        let Some(job) = &*held else {
+            unreachable!("a job is held")
         };
-        if posted.len() != entries_length(&job) {
+        if posted.len() != entries_length(job) {
             return Code::BadLength;
         }
         let Ok(number) = draw(&mut self.number, &mut self.log) else {
             return Code::NoMemory;
         };
-        match self.space.begin_job(alloc, number, &job) {
+        match self.space.begin_job(alloc, number, job) {
             Progress::Done(done) => {
                 tell(&done.completions, data, posted);
-                keep(&mut self.log, number, job, done);
+                keep(&mut self.log, number, held, done);
                 Code::Done
             }
             Progress::Pending(under_way) => {
-                self.go_on(alloc, number, job, under_way, data, posted)
+                self.go_on(alloc, number, held, under_way, data, posted)
             }
         }
     }
@@ -112,15 +171,16 @@ impl Engine {
             job,
             under_way,
         } = taken;
-        self.go_on(alloc, number, job, under_way, data, posted)
+        let mut held = Some(job);
+        self.go_on(alloc, number, &mut held, under_way, data, posted)
     }
 
-    /// Goes on with a job that isn't in `pending`.
+    /// Goes on with a job that isn't in `pending`. It is taken if it is kept or pending then.
     fn go_on(
         &mut self,
         alloc: Global,
         number: u32,
-        job: Job,
+        held: &mut Option<Job>,
         under_way: JobUnderWay,
         data: &mut [u8],
         posted: &mut [u8],
@@ -128,32 +188,39 @@ impl Engine {
         requires of { IsPortOf (space_of self.old) self.old.port }
         requires few { self.old.port.number < 64 }
         requires idle { self.old.pending ≡ None }
-        requires fits { FitsNamespace (namespace_of self.old) job }
-        requires under_way { (start : List PassView)
-            × IsUnderWay (namespace_of self.old) (space_of self.old).lists job under_way start (seen_by self.old) }
+        requires held { IsSome held.old }
+        requires fits { IfSome held.old (λ job. FitsNamespace (namespace_of self.old) job) }
+        requires under_way { IfSome held.old (λ job. (start : List PassView)
+            × IsUnderWay (namespace_of self.old) (space_of self.old).lists job under_way start (seen_by self.old)) }
         requires same { under_way.number ≡ number }
         requires log { HasRoomIn self.old.log }
-        requires room { length posted.old ≡ posted_length job.body }
+        requires room { IfSome held.old (λ job. length posted.old ≡ posted_length job.body) }
         ensures sound { IsSound self.new }
         ensures space { space_of self.new ≡ space_of self.old }
         ensures number { self.new.number ≡ self.old.number }
-        ensures progress { (start : List PassView)
+        ensures progress { IfSome held.old (λ job. (start : List PassView)
             → IsUnderWay (namespace_of self.old) (space_of self.old).lists job under_way start (seen_by self.old)
             → Progresses result (space_of self.old) number job start (seen_by self.new) self.new.pending
             (kept_by self.old.log) (kept_by self.new.log)
-            (record { bytes = data.old; posted = posted.old }) (record { bytes = data.new; posted = posted.new }) }
+            (record { bytes = data.old; posted = posted.old }) (record { bytes = data.new; posted = posted.new })) }
     {
         told_statuses_fit_their_entries();
+        let Some(job) = &*held else {
+            unreachable!("a job is held")
+        };
         match self
             .space
-            .poll_job(alloc, &mut self.port, &job, under_way, &Quiet)
+            .poll_job(alloc, &mut self.port, job, under_way, &Quiet)
         {
             Progress::Done(done) => {
                 tell(&done.completions, data, posted);
-                keep(&mut self.log, number, job, done);
+                keep(&mut self.log, number, held, done);
                 Code::Done
             }
             Progress::Pending(under_way) => {
+                let Some(job) = held.take() else {
+                    unreachable!("a job is held")
+                };
                 self.pending = Some(Pending {
                     number,
                     job,

@@ -1,5 +1,5 @@
 //! What the ports of a recorded namespace did.
-ghost use Rattle.std.specs.Prelude.{◌≡◌, Some, IfOk, OnErr, OnOk};
+ghost use Rattle.std.specs.Prelude.{◌≡◌, Some, IfOk, IfSome, OnErr, OnOk};
 ghost use Rattle.nvm_c.specs.Logs.{HasDrawn, HasRoom, HasRoomIn, kept_by, log_state, recorded_job, with_job, with_kept};
 
 use nvm_audit::{DoneJob, MOST_JOBS};
@@ -74,16 +74,18 @@ impl Log {
         Ok(drawn as u32)
     }
 
-    /// Keeps a job that was done.
-    fn keep(&mut self, number: u32, job: Job, done: JobDone)
+    /// Keeps a job that was done, which is taken.
+    fn keep(&mut self, number: u32, held: &mut Option<Job>, done: JobDone)
         requires { HasRoom self.old }
-        ensures { log_state self.new ≡ with_job (log_state self.old) number job done }
+        ensures { IfSome held.old (λ job. log_state self.new ≡ with_job (log_state self.old) number job done) }
     {
         if self.full {
             return;
         }
-        self.jobs.push_reserved(job);
-        self.done.push_reserved(recorded(number, done));
+        if let Some(job) = held.take() {
+            self.jobs.push_reserved(job);
+            self.done.push_reserved(recorded(number, done));
+        }
     }
 }
 
@@ -104,15 +106,15 @@ pub(crate) fn draw(next: &mut u32, log: &mut Option<Log>) -> Result<u32, NoMemor
     }
 }
 
-/// Keeps a job that was done, where it is recorded.
-// Inlined, since the job isn't moved then where nothing is kept.
+/// Keeps a job that was done, where it is recorded. Else it stays where it is held.
+// Inlined, since what was done isn't moved then where nothing is kept.
 #[inline(always)]
-pub(crate) fn keep(log: &mut Option<Log>, number: u32, job: Job, done: JobDone)
+pub(crate) fn keep(log: &mut Option<Log>, number: u32, held: &mut Option<Job>, done: JobDone)
     requires { HasRoomIn log.old }
-    ensures { kept_by log.new ≡ with_kept (kept_by log.old) number job done }
+    ensures { IfSome held.old (λ job. kept_by log.new ≡ with_kept (kept_by log.old) number job done) }
 {
     match log {
-        Some(log) => log.keep(number, job, done),
+        Some(log) => log.keep(number, held, done),
         None => {}
     }
 }
