@@ -27,7 +27,7 @@ from host_files import compare, dataset, pair, read, uncorrectable, write, zeroe
 from simulated import PLANTED, device_trace, small_trace
 from trace_files import seen_text, spelled, text_of
 from verdict_objects import text_of as text_of_object
-from witness_model import DIFFERS, MARKED, says, sent
+from witness_model import DIFFERS, MARKED, SUCCESS, says, sent
 
 PROGRAMS = {name: os.path.join(TOP, "crates", name, "out", name) for name in ("nvq", "nvmu")}
 # The first words of the verdicts, and their exit statuses. `PERHAPS` stands for an order that the search need not find.
@@ -255,6 +255,15 @@ def of_devices(folder):
         yield wrong and f"{bug}: {wrong}"
 
 
+def of_right_devices(folder):
+    """A device without a bug is cleared, also where many of its commands fail while others are under way."""
+    for seed in range(6):
+        trace, _ = device_trace(None, seed, number=1_000, queues=8)
+        failed = sum(statuses != (SUCCESS,) * len(statuses) for statuses in (seen.statuses for seen in trace.jobs))
+        wrong = judged(folder, trace, (), EXPLAINED)[1] if failed > 100 else f"{failed} failed alone"
+        yield wrong and f"seed {seed}: {wrong}"
+
+
 def of_seed(folder, seed):
     """The verdict on a random trace, whether some order explains it, and what is wrong, if anything."""
     trace, is_strict, bug = small_trace(seed)
@@ -283,7 +292,7 @@ def tried():
     """How many traces had the verdict that they must have, and how many hadn't."""
     with tempfile.TemporaryDirectory(prefix="certified-") as folder:
         passed, failed = at_random(folder, 150, 0)
-        for table in (by_hand, of_devices):
+        for table in (by_hand, of_devices, of_right_devices):
             for wrong in table(folder):
                 passed, failed = passed + (wrong is None), failed + (wrong is not None)
                 if wrong:

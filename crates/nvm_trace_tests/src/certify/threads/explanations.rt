@@ -1,4 +1,4 @@
-use super::verdict;
+use super::{verdict, verdict_by};
 use nvm_certify::Certification;
 use nvm_trace::{Explained, Judging};
 use std::alloc::Global;
@@ -70,6 +70,39 @@ fn a_read_fails_in_its_second_unit(rt: HostRuntime) -> Result<(), Fail> {
     let lines = "1 2 1 1 uncorrectable 8 1 = 0/00\n3 4 1 1 read 7 2 = 2/81\n";
     assert_eq!(rt; explained(&rt, rt.alloc(), HEAD, lines)?, numbers(2, 3, 0));
     Ok(())
+}
+
+#[test]
+fn looks_that_failed_have_their_moments(rt: HostRuntime) -> Result<(), Fail> {
+    let lines = "1 10 1 1 uncorrectable 0 1 = 0/00
+1 10 2 1 write 0 1 41 = 0/00
+1 10 3 1 compare 0 1 41 = 2/81
+11 12 3 2 read 0 1 = 0/00 41
+13 14 1 2 uncorrectable 7 1 = 0/00
+15 16 2 2 read 7 2 = 2/81
+17 18 1 3 write 7 1 42 = 0/00
+19 20 1 4 uncorrectable 8 1 = 0/00
+21 22 2 3 read 7 2 = 2/81
+";
+    assert_eq!(rt; explained(&rt, rt.alloc(), HEAD, lines)?, numbers(9, 10, 0));
+    Ok(())
+}
+
+#[test]
+fn no_step_is_taken_back_where_what_was_found_tells_the_order(rt: HostRuntime) -> Result<(), Fail> {
+    let lines = "1 12 1 1 write 1 1 41 = 0/00
+4 8 2 1 read 0 2 = 0/00 1024*00
+11 18 3 1 write 1 1 44 = 0/00
+11 20 4 1 write 0 2 512*42,512*43 = 0/00
+17 19 2 2 read 0 2 = 0/00 512*42,512*44
+";
+    match verdict_by(&rt, rt.alloc(), Judging::Standard, HEAD, lines, 0)? {
+        Certification::Explained { numbers: found, .. } => {
+            assert_eq!(rt; found, numbers(5, 5, 0));
+            Ok(())
+        }
+        _ => Err(Fail::new("no record was found")),
+    }
 }
 
 /// Two Writes over both units, whose order is another in each.
