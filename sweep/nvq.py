@@ -161,6 +161,7 @@ def runs(folder):
         drawn("a record is drawn", record),
         drawn("a part of an unlawful record is drawn", "--unit", "0", "--from", "1", kept("spoiled", of_one_unit)),
         drawn("a record of the first version is drawn", first),
+        fault("a unit that a record doesn't have", f"{record}: no unit 4", "draw", "--unit=4", record, "out.svg", hint="units in the record: 4, counted from 0"),
         fault("a record that can't be drawn", f"{cut_record}: truncated at {len(spelled_record) - 1}", "draw", cut_record, "out.svg"),
         fault("a wrong line", "line 3: expected data of 512 bytes and not of 511", "assemble", wrong, "out", hint=the_line("write 0 1 511*41")),
         fault("a missing list", f"cannot read {missing}", "assemble", missing, "out", hint=MISSING),
