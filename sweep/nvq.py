@@ -106,13 +106,13 @@ def runs(folder):
     def in_large(word):
         return [word, "--block", "4096"]
 
-    def ran(name, hosts, **more):
+    def ran(name, hosts, err=None, **more):
         """A run of the lists of these host files by one worker, in units of eight blocks."""
         space = Namespace(nsze=32, nabsn=7, nacwu=7, limit=3)
         lists = [f"# {name}\n\n {listing(file, 512)}" for file in hosts]
         paths = [kept(f"{name}-{host}".replace(" ", "-"), it.encode()) for host, it in enumerate(lists, 1)]
         given = ["run", "--nsze", "32", "--limit", "3", "--workers", "1", "--record", Recording.name, *paths]
-        return Run(name, "nvq", given, before=more, model=Recording(space, hosts, lists=lists))
+        return Run(name, "nvq", given, err=err, before=more, model=Recording(space, hosts, lists=lists))
 
     def not_ran(name, line, *given, hint="", **more):
         return Run(name, "nvq", ["run", "--nsze", "32", "--workers", "1", *given], 1, err=told(f"nvq: {line}", hint), **more)
@@ -185,7 +185,7 @@ def runs(folder):
         fault("numbers of no namespace to generate for", "geometry: Size", "generate", "--nsze", "0", "out", hint=GEOMETRY["Size"]),
         ran("lists that are run", [plain, file_of([read(0, 2), dataset((0, 1))])]),
         ran("a list that is run and a record before", [plain], **{Recording.name: b"old"}),
-        ran("no commands that are run", [file_of([])]),
+        ran("no commands that are run", [file_of([])], err="nvq: the lists have no command\n"),
         not_ran("a wrong line of a run", f"{wrong}: line 3: expected data of 512 bytes and not of 511", plain_list, wrong, hint=the_line("write 0 1 511*41")),
         not_ran("a missing list of a run", f"cannot read {missing}", plain_list, missing, hint=MISSING),
         not_ran("standard input twice", "standard input is named twice", "-", "-"),
