@@ -50,6 +50,21 @@ part: unit 0 point 1 read 0 1
 recorded: status 0/00 data 511*41,1*01
 the step gives: status 0/00 data 512*41
 first difference: LBA 0 byte 511 recorded 01 given 41
+last change of LBA 0: unit 0 place 0 worker 0 job 0 write 0 1 512*41
+unit 0 first 0 blocks 8 entries 1 limit 100
+unit 0 place 0 worker 0 job 0 write 0 1 512*41
+unit 0 point 1 rests job 1
+"""
+WRONG_COMPARISON = """unlawful StatusWrong job 1 unit 0 place 1
+StatusWrong: at its point the part doesn't end as it is recorded.
+job 1 host 1 cid 2 nsid 1 compare 0 1 512*42
+worker 0 job 1 status 0/00
+worker 0 job 1 unit 0 point 1 looked
+part: unit 0 point 1 compare 0 1 512*42
+recorded: status 0/00
+the step gives: status 2/85
+first difference: LBA 0 byte 0 compared 42 held 41
+last change of LBA 0: unit 0 place 0 worker 0 job 0 write 0 1 512*41
 unit 0 first 0 blocks 8 entries 1 limit 100
 unit 0 place 0 worker 0 job 0 write 0 1 512*41
 unit 0 point 1 rests job 1
@@ -140,6 +155,9 @@ def runs(folder):
     # The last byte is the last of the Read's data, and the last of the entry's stands before three units without one.
     wrong_data = kept("wrong-data", short[:-1] + b"\x01")
     wrong_entry = kept("wrong-entry", short[:1214] + b"\x01" + short[1215:])
+    compared = recorded(Namespace(nabsn=7), [file_of([write(0, 0x41), compare(0, 0x42)])])
+    found_equal = replace(compared, done=((compared.done[0][0], replace(compared.done[0][1], statuses=((0, 0),))),))
+    wrong_comparison = kept("wrong-comparison", spelled(found_equal))
     loads = {f"out-{host}": generated(Load(commands=30), host).encode() for host in (1, 2)}
     return [
         done("a list is assembled", ["assemble", list_, "out.nvq"], files={"out.nvq": host}),
@@ -157,6 +175,7 @@ def runs(folder):
         done("a record of no jobs is explained", ["explain", "-"], lawful_explanation(of_nobody), input=first, units=len(of_nobody.units)),
         done("a spoiled record is explained", ["explain", wrong_data], WRONG_DATA, units=4),
         done("a record with a wrong entry is explained", ["explain", wrong_entry], WRONG_ENTRY, units=4),
+        done("a record with a wrong comparison is explained", ["explain", wrong_comparison], WRONG_COMPARISON, units=4),
         fault("a cut record to explain", f"{cut_record}: truncated at {len(spelled_record) - 1}", "explain", cut_record),
         drawn("a record is drawn", record),
         drawn("a part of an unlawful record is drawn", "--unit", "0", "--from", "1", kept("spoiled", of_one_unit)),
