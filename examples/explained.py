@@ -3,14 +3,19 @@
 The namespace has 32 blocks of 512 bytes in units of eight, and pairs have up to four blocks.
 """
 
+import os
+import random
+import re
+from collections import Counter
 from dataclasses import replace
 
 from forged import ENTRIES, OTHER, SEEN, SPACE, TWO, WRITTEN, WRONG, changes, one, pair_failed, seen
 from hints import MISSING, VERSIONS, no_record, told
-from host_files import compare, file_of, pair, read, write
-from record_explaining import lawful_explanation
+from host_files import compare, dataset, file_of, mixed, pair, read, write
+from model import COMPARE, READ
+from record_explaining import byte_lines, lawful_explanation
 from recorded import recorded
-from records import LOOKED, Done, record_of, spelled
+from records import DONE, LOOKED, Done, record_of, spelled
 from stories import stories
 
 READ = "job 2 host 1 cid 2 nsid 1 read 0 1\n"
@@ -19,6 +24,21 @@ SECOND = "unit 0 place 1 worker 0 job 0 write 0 1 512*41\n"
 UNIT = "unit 0 first 0 blocks 8 entries 2 limit 100\n"
 DONE_0 = "worker 0 job 0 status 0/00\nworker 0 job 0 unit 0 point 1 done\n"
 DONE_1 = "worker 1 job 1 status 0/00\nworker 1 job 1 unit 0 point 0 done\n"
+
+# A pair behind a Write of its block and a Deallocate of the blocks beside it.
+PAIRED = [write(1, 0x41), dataset((0, 1), (2, 1)), *pair(compare(1, 0x41), write(1, 0x55))]
+WROTE = "unit 0 place 0 worker 0 job 0 write 1 1 512*41\n"
+PAIR = "unit 0 place 2 worker 0 job 2 pair 1 1 511*41,1*42 512*55\n"
+
+
+def with_compared(record, job, data):
+    """The record with other data that the pair of a job compares, in its command and in its entry."""
+    compared, second = record.jobs[job].body
+    blocks = tuple(data[at : at + 512] for at in range(0, len(data), 512))
+    jobs = tuple(replace(it, body=(replace(compared, data=blocks), second)) if at == job else it for at, it in enumerate(record.jobs))
+    entries = [[replace(it, data=data + it.data[len(data) :]) if it.job == job else it for it in unit] for unit in record.units]
+    return replace(record, jobs=jobs, units=tuple(map(tuple, entries)))
+
 
 # Two Writes of one block by two workers, and a Read of it: the record, what is wrong with it, and its explanation.
 EXPLAINED = [
@@ -99,7 +119,26 @@ EXPLAINED = [
         "job 0 host 1 cid 1 nsid 1 compare 0 1 512*01 first\njob 0 host 1 cid 2 nsid 1 write 0 1 512*55 second\n"
         "worker 0 job 0 status 0/00 0/00\nworker 0 job 0 unit 0 point 0 failed\n"
         "part: unit 0 point 0 pair 0 1 512*01 512*55\nrecorded: status 0/00 0/00\nthe step gives: status 2/85 0/09\n"
+        "first difference: LBA 0 byte 0 compared 01 held 00\nlast change of LBA 0: none\n"
         "unit 0 first 0 blocks 8 entries 0 limit 100\nunit 0 point 0 rests job 0\n",
+    ),
+    (
+        one([compare(0, 0)], Done(0, ((0, 0, LOOKED),), ((2, 0x85),))),
+        "unlawful StatusWrong job 0 unit 0 place 0\n"
+        "StatusWrong: at its point the part doesn't end as it is recorded.\n"
+        "job 0 host 1 cid 1 nsid 1 compare 0 1 512*00\nworker 0 job 0 status 2/85\nworker 0 job 0 unit 0 point 0 looked\n"
+        "part: unit 0 point 0 compare 0 1 512*00\nrecorded: status 2/85\nthe step gives: status 0/00\nfirst difference: none\n"
+        "unit 0 first 0 blocks 8 entries 0 limit 100\nunit 0 point 0 rests job 0\n",
+    ),
+    (
+        with_compared(recorded(SPACE, [file_of(PAIRED)]), 2, b"\x41" * 511 + b"\x42"),
+        "unlawful EntryWrong job 2 unit 0 place 2\n"
+        "EntryWrong: the entry isn't its job's part in the unit, or it doesn't succeed after the entries before it.\n"
+        "job 2 host 1 cid 3 nsid 1 compare 1 1 511*41,1*42 first\njob 2 host 1 cid 4 nsid 1 write 1 1 512*55 second\n"
+        "worker 0 job 2 status 0/00 0/00\nworker 0 job 2 unit 0 point 2 done\n"
+        f"recorded: {PAIR}the job's part: pair 1 1 511*41,1*42 512*55\nthe step gives: status 2/85 0/09\n"
+        f"first difference: LBA 1 byte 511 compared 42 held 41\nlast change of LBA 1: {WROTE}"
+        f"unit 0 first 0 blocks 8 entries 3 limit 100\n{WROTE}unit 0 place 1 worker 0 job 1 deallocate 0+1,2+1\n{PAIR}",
     ),
     (
         seen(data=WRONG),
@@ -107,7 +146,8 @@ EXPLAINED = [
         f"DataWrong: the Read's data isn't what the unit held at the part's point.\n{READ}"
         "worker 0 job 2 status 0/00\nworker 0 job 2 unit 0 point 2 looked\nworker 0 job 2 data 512*42\n"
         "part: unit 0 point 2 read 0 1\nrecorded: status 0/00 data 512*42\nthe step gives: status 0/00 data 512*41\n"
-        f"first difference: LBA 0 byte 0 recorded 42 given 41\n{UNIT}{FIRST}{SECOND}unit 0 point 2 rests job 2\n",
+        f"first difference: LBA 0 byte 0 recorded 42 given 41\nlast change of LBA 0: {SECOND}"
+        f"{UNIT}{FIRST}{SECOND}unit 0 point 2 rests job 2\n",
     ),
 ]
 
@@ -124,6 +164,7 @@ part: unit 1 point 0 read 8 1
 recorded: status 0/00 data 511*00,1*01
 the step gives: status 0/00 data 512*00
 first difference: LBA 8 byte 511 recorded 01 given 00
+last change of LBA 8: none
 unit 1 first 8 blocks 8 entries 0 limit 100
 unit 1 point 0 rests job 1
 """
@@ -148,6 +189,49 @@ def with_data_of(record, job, data):
     return replace(record, done=(done, *record.done[1:]))
 
 
+def with_done(record, job, **changed):
+    """The record with something else of a job that the first worker did."""
+    done = tuple(replace(it, **changed) if it.job == job else it for it in record.done[0])
+    return replace(record, done=(done, *record.done[1:]))
+
+
+def spoiled(record, dice):
+    """The record with one byte of a Read's data changed, or of what a pair compares, or with another end of a comparison: one of each job."""
+    for done in record.done[0]:
+        body = record.jobs[done.job].body
+        if body[0].opcode == READ and done.data:
+            at = dice.randrange(len(done.data))
+            yield with_data_of(record, done.job, done.data[:at] + bytes([done.data[at] ^ 1]) + done.data[at + 1 :])
+        elif len(body) == 2 and done.parts and done.parts[-1][2] == DONE:
+            data = b"".join(body[0].data)
+            at = dice.randrange(len(data))
+            yield with_compared(record, done.job, data[:at] + bytes([data[at] ^ 1]) + data[at + 1 :])
+        elif body[0].opcode == COMPARE and done.parts and done.statuses[0] in ((0, 0), (2, 0x85), (2, 0x81)):
+            other = ((2, 0x85), (0, 9)) if done.statuses[0] == (0, 0) else ((0, 0), (0, 0))
+            yield with_done(record, done.job, statuses=other[: len(body)])
+
+
+# How these lines begin, of which each must occur.
+KINDS = {"first difference: LBA ", "first difference: none", "last change of LBA "}
+
+
+def bytes_told(run):
+    """Records of all kinds of commands, each spoiled in some ways: the lines that tell of bytes are those of a model."""
+    kinds = Counter()
+    for seed in range(12):
+        dice = random.Random(seed)
+        several = list(spoiled(recorded(SPACE, [mixed(seed, 60, 32)]), dice))
+        for place, record in enumerate(dice.sample(several, min(20, len(several)))):
+            run.keep("spoiled", spelled(record))
+            with open(os.path.join(run.folder, "told"), "wb") as file:
+                ended = run.status_of(["nvq", "explain", "spoiled"], stdout=file)
+            wanted = byte_lines(record)
+            lines = run.kept("told").decode().splitlines()
+            run.hold(f"bytes of record {place} of {seed}", (ended, [it for it in lines if it.startswith(("first diff", "last change"))]), ((0, b""), wanted))
+            kinds.update(re.sub(r"\d+.*", "", line) for line in wanted)
+    run.hold("the lines that tell of bytes", set(kinds), KINDS)
+
+
 def explained(run):
     def explains(file, text):
         run.keep("explained", file)
@@ -166,7 +250,8 @@ def explained(run):
         out="unlawful DataWrong job 5 unit 0 place 5\nDataWrong: the Read's data isn't what the unit held at the part's point.\n"
         "job 5 host 1 cid 6 nsid 1 read 0 1\nworker 0 job 5 status 0/00\nworker 0 job 5 unit 0 point 5 looked\n"
         "worker 0 job 5 data 512*00\npart: unit 0 point 5 read 0 1\nrecorded: status 0/00 data 512*00\n"
-        f"the step gives: status 0/00 data 512*04\nfirst difference: LBA 0 byte 0 recorded 00 given 04\n{ROUND}",
+        "the step gives: status 0/00 data 512*04\nfirst difference: LBA 0 byte 0 recorded 00 given 04\n"
+        f"last change of LBA 0: unit 0 place 4 worker 0 job 4 write 0 1 512*04\n{ROUND}",
     )
     for given, fault, hint in (
         (b"NVR3", "unknown version", VERSIONS),
@@ -178,4 +263,5 @@ def explained(run):
     run.expect(["nvq", "explain", "missing"], 1, err=told("nvq: cannot read missing", MISSING))
     for words in ("explain", "explain --block 512 a"):
         run.refuse(["nvq", *words.split()])
+    bytes_told(run)
     stories(run)

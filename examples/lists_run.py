@@ -82,6 +82,8 @@ HOSTS = {
     "last": "zeroes 3 1\n",
 }
 ORDERS = [("first", "again"), ("last", "again", "first"), ("again", "last", "again", "first")]
+# What is said of a run without a command.
+IDLE = "nvq: the lists have no command\n"
 
 
 def words(*lists, **options):
@@ -132,7 +134,10 @@ def lists_run(run):
     run.hold("the defaults", (record.namespace, record.jobs), (Namespace(**DEFAULTS), handed))
     run.hold("the processors", 1 <= record.workers <= min(64, os.cpu_count()), True)
     run.keep("none", "# nothing\n")
-    run.expect(words("none"), out=verdict(0, 0))
+    run.expect(words("none"), out=verdict(0, 0), err=IDLE)
+    run.expect(words("none", workers=3, record="kept"), out=verdict(0, 0), err=IDLE)
+    run.expect(["nvmu", "audit", "kept"], out=verdict(0, 0))
+    run.expect(words("none", "-", "none"), out=verdict(0, 0), err=IDLE)
     run.expect(words(*["none"] * 63, "alone"), out="64 1 write 0/00\n  write 9 2 41: Successful Completion (0x0)\n" + verdict(1, 1))
     run.expect([*words("alone"), "--limit", "5", "none"], out=run.SOME)
     refused_runs(run)

@@ -84,7 +84,8 @@ STORIES = [
         "unlawful DataWrong job 2 unit 0 place 2\nDataWrong: the Read's data isn't what the unit held at the part's point.\n"
         "job 2 host 1 cid 2 nsid 1 read 0 1\nworker 0 job 2 status 0/00\nworker 0 job 2 unit 0 point 2 looked\nworker 0 job 2 data 512*42\n"
         "part: unit 0 point 2 read 0 1\nrecorded: status 0/00 data 512*42\nthe step gives: status 0/00 data 512*41\n"
-        "first difference: LBA 0 byte 0 recorded 42 given 41\nunit 0 first 0 blocks 8 entries 2 limit 100\n"
+        "first difference: LBA 0 byte 0 recorded 42 given 41\nlast change of LBA 0: unit 0 place 1 worker 0 job 0 write 0 1 512*41\n"
+        "unit 0 first 0 blocks 8 entries 2 limit 100\n"
         "unit 0 place 0 worker 1 job 1 write 0 1 512*42\nunit 0 place 1 worker 0 job 0 write 0 1 512*41\nunit 0 point 2 rests job 2\n",
     ),
     (

@@ -83,7 +83,7 @@ class Run:
     words: list
     status: int = 0
     out: str = None  # the whole of standard output, or None for the help of `clap`, or a text of the model
-    err: str = None  # the whole of standard error, or None for what `clap` says
+    err: str = None  # the whole of standard error, or None for what `clap` says, or for nothing of a run of host files
     files: dict = field(default_factory=dict)  # what it writes, by the file's name
     before: dict = field(default_factory=dict)  # what stands there before, and stays where it ends in a fault
     model: Recording = None  # of a run of host files
@@ -112,8 +112,8 @@ class Run:
         if self.model:
             if self.model.wants(end):
                 raise ValueError("a command wants memory")
-            if end.err:
-                raise ValueError("it says something on standard error")
+            if end.err != (self.err or ""):
+                raise ValueError(f"it isn't {self.err or ''!r} that it says on standard error")
             return
         if end.files != {**self.before, **self.files}:
             raise ValueError(f"it left {list(end.files)}, or another content than that of {list(self.files)}")
@@ -145,7 +145,7 @@ class Run:
         without = WITHOUT_A_THREAD if refusals == 1 else "with fewer threads"
         if self.units and end.said() == whole.said() and refusals <= self.thread_growths():
             return without
-        if not self.model or end.status or end.err:
+        if not self.model or end.status or end.err != (self.err or ""):
             raise ValueError("it is another end")
         # A command that is refused a growth asks for no more, and what is outside ends the program, but for threads.
         wants = self.model.wants(end)

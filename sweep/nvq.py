@@ -50,6 +50,21 @@ part: unit 0 point 1 read 0 1
 recorded: status 0/00 data 511*41,1*01
 the step gives: status 0/00 data 512*41
 first difference: LBA 0 byte 511 recorded 01 given 41
+last change of LBA 0: unit 0 place 0 worker 0 job 0 write 0 1 512*41
+unit 0 first 0 blocks 8 entries 1 limit 100
+unit 0 place 0 worker 0 job 0 write 0 1 512*41
+unit 0 point 1 rests job 1
+"""
+WRONG_COMPARISON = """unlawful StatusWrong job 1 unit 0 place 1
+StatusWrong: at its point the part doesn't end as it is recorded.
+job 1 host 1 cid 2 nsid 1 compare 0 1 512*42
+worker 0 job 1 status 0/00
+worker 0 job 1 unit 0 point 1 looked
+part: unit 0 point 1 compare 0 1 512*42
+recorded: status 0/00
+the step gives: status 2/85
+first difference: LBA 0 byte 0 compared 42 held 41
+last change of LBA 0: unit 0 place 0 worker 0 job 0 write 0 1 512*41
 unit 0 first 0 blocks 8 entries 1 limit 100
 unit 0 place 0 worker 0 job 0 write 0 1 512*41
 unit 0 point 1 rests job 1
@@ -106,13 +121,13 @@ def runs(folder):
     def in_large(word):
         return [word, "--block", "4096"]
 
-    def ran(name, hosts, **more):
+    def ran(name, hosts, err=None, **more):
         """A run of the lists of these host files by one worker, in units of eight blocks."""
         space = Namespace(nsze=32, nabsn=7, nacwu=7, limit=3)
         lists = [f"# {name}\n\n {listing(file, 512)}" for file in hosts]
         paths = [kept(f"{name}-{host}".replace(" ", "-"), it.encode()) for host, it in enumerate(lists, 1)]
         given = ["run", "--nsze", "32", "--limit", "3", "--workers", "1", "--record", Recording.name, *paths]
-        return Run(name, "nvq", given, before=more, model=Recording(space, hosts, lists=lists))
+        return Run(name, "nvq", given, err=err, before=more, model=Recording(space, hosts, lists=lists))
 
     def not_ran(name, line, *given, hint="", **more):
         return Run(name, "nvq", ["run", "--nsze", "32", "--workers", "1", *given], 1, err=told(f"nvq: {line}", hint), **more)
@@ -140,6 +155,9 @@ def runs(folder):
     # The last byte is the last of the Read's data, and the last of the entry's stands before three units without one.
     wrong_data = kept("wrong-data", short[:-1] + b"\x01")
     wrong_entry = kept("wrong-entry", short[:1214] + b"\x01" + short[1215:])
+    compared = recorded(Namespace(nabsn=7), [file_of([write(0, 0x41), compare(0, 0x42)])])
+    found_equal = replace(compared, done=((compared.done[0][0], replace(compared.done[0][1], statuses=((0, 0),))),))
+    wrong_comparison = kept("wrong-comparison", spelled(found_equal))
     loads = {f"out-{host}": generated(Load(commands=30), host).encode() for host in (1, 2)}
     return [
         done("a list is assembled", ["assemble", list_, "out.nvq"], files={"out.nvq": host}),
@@ -157,10 +175,12 @@ def runs(folder):
         done("a record of no jobs is explained", ["explain", "-"], lawful_explanation(of_nobody), input=first, units=len(of_nobody.units)),
         done("a spoiled record is explained", ["explain", wrong_data], WRONG_DATA, units=4),
         done("a record with a wrong entry is explained", ["explain", wrong_entry], WRONG_ENTRY, units=4),
+        done("a record with a wrong comparison is explained", ["explain", wrong_comparison], WRONG_COMPARISON, units=4),
         fault("a cut record to explain", f"{cut_record}: truncated at {len(spelled_record) - 1}", "explain", cut_record),
         drawn("a record is drawn", record),
         drawn("a part of an unlawful record is drawn", "--unit", "0", "--from", "1", kept("spoiled", of_one_unit)),
         drawn("a record of the first version is drawn", first),
+        fault("a unit that a record doesn't have", f"{record}: no unit 4", "draw", "--unit=4", record, "out.svg", hint="units in the record: 4, counted from 0"),
         fault("a record that can't be drawn", f"{cut_record}: truncated at {len(spelled_record) - 1}", "draw", cut_record, "out.svg"),
         fault("a wrong line", "line 3: expected data of 512 bytes and not of 511", "assemble", wrong, "out", hint=the_line("write 0 1 511*41")),
         fault("a missing list", f"cannot read {missing}", "assemble", missing, "out", hint=MISSING),
@@ -184,7 +204,7 @@ def runs(folder):
         fault("numbers of no namespace to generate for", "geometry: Size", "generate", "--nsze", "0", "out", hint=GEOMETRY["Size"]),
         ran("lists that are run", [plain, file_of([read(0, 2), dataset((0, 1))])]),
         ran("a list that is run and a record before", [plain], **{Recording.name: b"old"}),
-        ran("no commands that are run", [file_of([])]),
+        ran("no commands that are run", [file_of([])], err="nvq: the lists have no command\n"),
         not_ran("a wrong line of a run", f"{wrong}: line 3: expected data of 512 bytes and not of 511", plain_list, wrong, hint=the_line("write 0 1 511*41")),
         not_ran("a missing list of a run", f"cannot read {missing}", plain_list, missing, hint=MISSING),
         not_ran("standard input twice", "standard input is named twice", "-", "-"),

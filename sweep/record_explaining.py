@@ -1,8 +1,14 @@
-"""How a lawful record is explained, by docs/FORMATS.md: how much of what there was in it."""
+"""How a record is explained, by docs/FORMATS.md: of a lawful one how much of what there was in it, and of an unlawful one the bytes that differ."""
 
+import re
 from collections import Counter
 
-from auditor import verdict
+from auditor import SUCCESS, parts_of, told, verdict
+from model import COMPARE, READ
+from record_listing import lines as listed
+from records import KIND_DEALLOCATE, KIND_PAIR, KIND_UNCORRECTABLE, KIND_ZEROES
+
+DIFFERENT = "2/85"
 
 
 def statuses(done):
@@ -34,3 +40,60 @@ def lines(record):
 def lawful_explanation(record):
     """The explanation of a lawful record."""
     return "".join(f"{line}\n" for line in lines(record))
+
+
+def held_before(record, unit, point):
+    """By LBA what the unit's blocks hold before the entry at a point, None where they are marked, and the place of the entry that changed each last."""
+    size = record.namespace.block
+    begin, count = record.namespace.units()[unit]
+    held, last = dict.fromkeys(range(begin, begin + count), bytes(size)), {}
+    for place, entry in enumerate(record.units[unit][:point]):
+        for first, blocks in entry.ranges if entry.kind == KIND_DEALLOCATE else ((entry.first, entry.blocks),):
+            for lba in range(first, first + blocks):
+                last[lba] = place
+                # What a pair writes stands behind what it compares.
+                at = len(entry.data) - (first + blocks - lba) * size
+                is_zero = entry.kind in (KIND_DEALLOCATE, KIND_ZEROES)
+                held[lba] = None if entry.kind == KIND_UNCORRECTABLE else bytes(size) if is_zero else entry.data[at : at + size]
+    return held, last
+
+
+def recorded_bytes(record, fault, job, unit, place):
+    """Of the part at fault the first LBA, the bytes that were read or compared, if any were, and the status that it is recorded with."""
+    if fault == "EntryWrong":
+        entry = record.units[unit][place]
+        return entry.first, entry.data[: len(entry.data) // 2] if entry.kind == KIND_PAIR else None, SUCCESS
+    done = next(it for work in record.done for it in work if it.job == job)
+    body, is_last = record.jobs[job].body, done.parts[-1][0] == unit
+    first, count = next(part[1:] for part in parts_of(record.namespace, body) if part[0] == unit)
+    data = {READ: done.data, COMPARE: b"".join(body[0].data)}.get(body[0].opcode)
+    at, size = (first - body[0].first) * record.namespace.block, count * record.namespace.block
+    return first, None if data is None else data[at : at + size], told(done.statuses)[0] if is_last else SUCCESS
+
+
+def byte_lines(record):
+    """The lines of an explanation that tell of bytes: where those that were read or compared first differ from what the unit held, and
+    the entry that changed that block last."""
+    found = re.fullmatch(r"unlawful (EntryWrong|StatusWrong|DataWrong) job (\d+) unit (\d+) place (\d+)", verdict(record))
+    if not found:
+        return []
+    job, unit, place = map(int, found.groups()[1:])
+    first, data, status = recorded_bytes(record, found[1], job, unit, place)
+    if data is None:
+        return []
+    size, is_read = record.namespace.block, record.jobs[job].body[0].opcode == READ
+    held, last = held_before(record, unit, place)
+    blocks = [held[lba] for lba in range(first, first + len(data) // size)]
+    if None in blocks:
+        return []
+    at = next((at for at, (mine, other) in enumerate(zip(data, b"".join(blocks))) if mine != other), None)
+    if at is None or status != SUCCESS:
+        return ["first difference: none"] if at is None and status == DIFFERENT else []
+    lba, (mine, other) = first + at // size, ("recorded", "given") if is_read else ("compared", "held")
+    change = "none"
+    if lba in last:
+        change = next(line for line in listed(record) if line.startswith(f"unit {unit} place {last[lba]} "))
+    return [
+        f"first difference: LBA {lba} byte {at % size} {mine} {data[at]:02x} {other} {b''.join(blocks)[at]:02x}",
+        f"last change of LBA {lba}: {change}",
+    ]

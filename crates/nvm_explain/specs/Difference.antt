@@ -1,22 +1,31 @@
--- Where data that was recorded first differs from what the step gives.
-use Rattle.std.specs.Prelude.{ℕ, ◌+◌, ◌/◌, ◌%◌, ◌==◌, if◌then◌else◌, List, [], ◌∷◌, ◌++◌, codes, decimal}
+-- Where data first differs from other data, and how that is told.
+use Rattle.std.specs.Prelude.{ℕ, ◌+◌, ◌/◌, ◌%◌, ◌==◌, ◌&&◌, nat_le, if◌then◌else◌, List, [], ◌∷◌, ◌++◌, length, Option, Some, None, codes, decimal}
+use Rattle.nvm_store.specs.HistoryEntry.{HistoryEntry}
 use Rattle.nvm_text.specs.Lines.{hex2}
+use Rattle.nvm_explain.specs.declared.difference.Difference.{Difference}
+use Rattle.nvm_explain.specs.LastChange.{last_change_line}
+use Rattle.nvm_explain.specs.RecordedData.{most_blocks}
 
--- in which block a byte is, at which offset there, the byte that was recorded, and the one that the step gives
-unfoldable pub byte_line : ℕ → ℕ → ℕ → ℕ → List ℕ
-byte_line lba offset recorded given =
-    codes "first difference: LBA " ++ (decimal lba
-    ++ (codes " byte " ++ (decimal offset
-    ++ (codes " recorded " ++ (hex2 recorded ++ (codes " given " ++ (hex2 given ++ codes "\n")))))))
+-- The first byte that differs, if one does. There are `at` bytes before these, and the first of all is of block `first`.
+abbrev pub difference_from : ℕ → ℕ → ℕ → List ℕ → List ℕ → Option Difference
+difference_from first size at [] others = None
+difference_from first size at (a ∷ bytes) [] = None
+difference_from first size at (a ∷ bytes) (b ∷ others) =
+    if a == b then difference_from first size (at + 1) bytes others
+    else Some (record { lba = first + at / size; offset = at % size; byte = a; other = b })
 
--- The line of the first byte that differs, if one does. There are `at` bytes before these.
-abbrev pub difference_from : ℕ → ℕ → ℕ → List ℕ → List ℕ → List ℕ
-difference_from first size at [] given = []
-difference_from first size at (a ∷ recorded) [] = []
-difference_from first size at (a ∷ recorded) (b ∷ given) =
-    if a == b then difference_from first size (at + 1) recorded given
-    else byte_line (first + at / size) (at % size) a b
+-- the first byte that differs, if one does and there are as many of both, which are of blocks in a namespace
+abbrev pub difference_of : ℕ → ℕ → List ℕ → List ℕ → Option Difference
+difference_of first size bytes others =
+    if length bytes == length others && nat_le first most_blocks then difference_from first size 0 bytes others else None
 
--- the line of the first byte that differs, if one does
-abbrev pub difference_line : ℕ → ℕ → List ℕ → List ℕ → List ℕ
-difference_line first size recorded given = difference_from first size 0 recorded given
+-- in which block the byte is, at which offset there, what it is, and what the other is, each behind the words for it
+unfoldable pub byte_line : List ℕ → List ℕ → Difference → List ℕ
+byte_line words others found =
+    codes "first difference: LBA " ++ (decimal found.lba
+    ++ (codes " byte " ++ (decimal found.offset
+    ++ (words ++ (hex2 found.byte ++ (others ++ (hex2 found.other ++ codes "\n")))))))
+
+-- the byte that differs, and which of the unit's entries before changed its block last
+abbrev pub difference_lines : List ℕ → List ℕ → ℕ → List HistoryEntry → Difference → List ℕ
+difference_lines words others unit before found = byte_line words others found ++ last_change_line unit before found.lba

@@ -1,5 +1,8 @@
 -- What is told of an entry: how it is recorded, the part that its job has in the unit, and what the step gives it at its place.
-use Rattle.std.specs.Prelude.{ℕ, if◌then◌else◌, List, [], ◌++◌, Option, Some, None, codes, slice_get}
+use Rattle.std.specs.Prelude.{ℕ, if◌then◌else◌, List, [], ◌++◌, Option, Some, None, codes, slice_get, take}
+use Rattle.nvm_record.specs.declared.status.Statuses.TheVariants.{One}
+use Rattle.nvm_record.specs.Medium.{Medium}
+use Rattle.nvm_record.specs.Status.{successful_completion}
 use Rattle.nvm_record.specs.Step.{Operation}
 use Rattle.nvm_geometry.specs.Namespace.{Namespace}
 use Rattle.nvm_plan.specs.declared.job.Job.{Job}
@@ -9,6 +12,7 @@ use Rattle.nvm_store.specs.Point.{point}
 use Rattle.nvm_audit.specs.declared.audit_fault.Spot.{Spot}
 use Rattle.nvm_audit.specs.RecordView.{RecordView}
 use Rattle.nvm_report.specs.EntryLines.{entry_line, operation_text}
+use Rattle.nvm_explain.specs.Comparison.{comparison_story}
 use Rattle.nvm_explain.specs.IfAny.{if_any}
 use Rattle.nvm_explain.specs.Outcome.{given_line}
 use Rattle.nvm_explain.specs.Reached.{is_reached}
@@ -26,17 +30,24 @@ part_text (Some op) = operation_text op
 unfoldable pub own_line : Namespace → ℕ → Job → List ℕ
 own_line ns unit job = codes "the job's part:" ++ (part_text (job_part_in ns job unit) ++ codes "\n")
 
+-- What the step gives the operation of an entry on this medium, behind these entries of its unit. A pair's comparison is recorded as
+-- equal, as there is the entry.
+abbrev pub given_on : ℕ → ℕ → List HistoryEntry → Operation → Medium → List ℕ
+given_on size unit before op m =
+    given_line op m ++ comparison_story size (One successful_completion) unit before op m
+
 -- what the step gives the entry after those before its place, where each of these succeeds
-abbrev pub entry_given : ℕ → List HistoryEntry → ℕ → HistoryEntry → List ℕ
-entry_given size history place entry =
-    if is_reached size history place then given_line entry.operation (point size history place) else []
+abbrev pub entry_given : ℕ → Spot → List HistoryEntry → HistoryEntry → List ℕ
+entry_given size spot history entry =
+    if is_reached size history spot.place
+    then given_on size spot.unit (take spot.place history) entry.operation (point size history spot.place) else []
 
 -- what is told of this entry of the history, for which the job of this number, if there is one, is named
 unfoldable pub told_entry : RecordView → ℕ → Spot → List HistoryEntry → HistoryEntry → List ℕ
 told_entry r number spot history entry =
     recorded_line spot entry
     ++ (if_any (own_line r.namespace spot.unit) (slice_get r.jobs number)
-    ++ entry_given r.namespace.block_size history spot.place entry)
+    ++ entry_given r.namespace.block_size spot history entry)
 
 -- what is told of the entry at this place of the unit, if there is one
 abbrev pub entry_story : RecordView → ℕ → Spot → List ℕ

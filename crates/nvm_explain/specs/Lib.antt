@@ -1,4 +1,6 @@
+pub mod LastChange
 pub mod Difference
+pub mod Comparison
 pub mod Given
 pub mod IfAny
 pub mod JobStory

@@ -1,51 +1,104 @@
-ghost use Rattle.std.specs.Prelude.{◌≡◌, ◌≤◌, ◌<◌, ◌+◌, ◌++◌, OnOk, length, string_bytes};
+//! Where data first differs from other data.
+ghost use Rattle.std.specs.Prelude.{◌≡◌, ◌≤◌, ◌++◌, OnOk, length, string_bytes};
 ghost use Rattle.nvm_explain.specs.Difference as spec;
+ghost use Rattle.nvm_explain.specs.IfAny.{if_any};
 
+use crate::last_change::push_last_change;
+use nvm_geometry::MOST_BLOCKS;
 use nvm_record::{BlockSize, NoMemory};
+use nvm_store::Entry;
 use nvm_text::HexByte;
 
-/// Appends the line of the first byte that differs, if one does. Both are of the same blocks, from `first` on.
-pub(crate) fn push_difference(
-    text: &mut String,
-    first: u64,
-    size: BlockSize,
-    recorded: &[u8],
-    given: &[u8],
-) -> Result<(), NoMemory>
-    requires low { first ≤ 65536 }
-    requires same { length recorded.now ≡ length given.now }
-    ensures { OnOk result (string_bytes text.new
-        ≡ string_bytes text.old ++ spec.difference_line first size recorded.now given.now) }
-{
-    for at in 0..recorded.len() {
-        if recorded[at] != given[at] {
-            return push_place(
-                text,
-                first + at as u64 / u64::from(size.bytes()),
-                at % size.bytes() as usize,
-                recorded[at],
-                given[at],
-            );
-        }
-    }
-    Ok(())
+/// A byte of data that isn't the byte of other data at its place.
+#[derive(Clone, Copy, Debug)]
+pub struct Difference {
+    /// The LBA of its block.
+    pub lba: u64,
+    /// How many bytes stand before it in the block.
+    pub offset: usize,
+    pub byte: u8,
+    /// What the other data has there.
+    pub other: u8,
 }
 
-/// Appends in which block a byte is and at which offset there, the byte that was recorded, and the one that the step gives.
-#[tactic(auto, unfolding(crate::specs::Difference::byte_line))]
-fn push_place(
-    text: &mut String,
-    lba: u64,
-    offset: usize,
-    recorded: u8,
-    given: u8,
-) -> Result<(), NoMemory>
-    ensures { OnOk result (string_bytes text.new ≡ string_bytes text.old ++ spec.byte_line lba offset recorded given) }
+/// The first byte that differs, if one does and there are as many of both. Both are of the same blocks, from `first` on.
+pub(crate) fn difference_of(
+    first: u64,
+    size: BlockSize,
+    bytes: &[u8],
+    others: &[u8],
+) -> Option<Difference>
+    ensures { result ≡ spec.difference_of first size bytes.now others.now }
 {
-    let recorded = HexByte(recorded);
-    let given = HexByte(given);
+    if bytes.len() == others.len() && first <= MOST_BLOCKS {
+        difference_between(first, size, bytes, others)
+    } else {
+        None
+    }
+}
+
+/// The first byte that differs, if one does.
+fn difference_between(
+    first: u64,
+    size: BlockSize,
+    bytes: &[u8],
+    others: &[u8],
+) -> Option<Difference>
+    requires low { first ≤ 65536 }
+    requires same { length bytes.now ≡ length others.now }
+    ensures { result ≡ spec.difference_from first size 0 bytes.now others.now }
+{
+    for at in 0..bytes.len() {
+        if bytes[at] != others[at] {
+            return Some(Difference {
+                lba: first + at as u64 / u64::from(size.bytes()),
+                offset: at % size.bytes() as usize,
+                byte: bytes[at],
+                other: others[at],
+            });
+        }
+    }
+    None
+}
+
+/// Appends the byte that differs, if one does, behind the words for it and for the other, and which of the unit's entries before
+/// changed its block last.
+pub(crate) fn push_difference(
+    text: &mut String,
+    words: &str,
+    others: &str,
+    unit: u16,
+    before: &[Entry],
+    found: Option<Difference>,
+) -> Result<(), NoMemory>
+    ensures { OnOk result (string_bytes text.new ≡ string_bytes text.old
+        ++ if_any (spec.difference_lines words.now others.now unit before.now) found) }
+{
+    match found {
+        Some(difference) => {
+            push_byte(text, words, others, difference)?;
+            push_last_change(text, unit, before, difference.lba)
+        }
+        None => Ok(()),
+    }
+}
+
+/// Appends in which block the byte is and at which offset there, what it is, and what the other is.
+#[tactic(auto, unfolding(crate::specs::Difference::byte_line))]
+fn push_byte(
+    text: &mut String,
+    words: &str,
+    others: &str,
+    found: Difference,
+) -> Result<(), NoMemory>
+    ensures { OnOk result (string_bytes text.new
+        ≡ string_bytes text.old ++ spec.byte_line words.now others.now found) }
+{
+    let Difference { lba, offset, .. } = found;
+    let byte = HexByte(found.byte);
+    let other = HexByte(found.other);
     write!(
         text,
-        "first difference: LBA {lba} byte {offset} recorded {recorded} given {given}\n"
+        "first difference: LBA {lba} byte {offset}{words}{byte}{others}{other}\n"
     )
 }

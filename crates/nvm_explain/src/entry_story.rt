@@ -3,20 +3,25 @@ ghost use Rattle.nvm_geometry.specs.Boundaries.{units_of};
 ghost use Rattle.nvm_plan.specs.Fits.{FitsNamespace};
 ghost use Rattle.nvm_plan.specs.JobPart as part;
 ghost use Rattle.nvm_record.specs.Medium.{Medium};
+ghost use Rattle.nvm_record.specs.declared.status.Statuses.TheVariants.{One};
+ghost use Rattle.nvm_record.specs.Status.{successful_completion};
 ghost use Rattle.nvm_store.specs.Contents.{Covers, Holds};
+ghost use Rattle.nvm_explain.specs.Comparison.{comparison_story};
 ghost use Rattle.nvm_explain.specs.EntryStory as spec;
 ghost use Rattle.nvm_explain.specs.IfAny.{if_any};
 ghost use Rattle.nvm_explain.specs.Outcome.{given_line};
 ghost use Rattle.nvm_explain.specs.UnitAt.{AreCoveredIn, IsCoveredIn};
 
+use crate::before::before;
 use crate::blocks_at::blocks_at;
+use crate::comparison::push_comparison;
 use crate::given::{given_to_act, push_operation};
 use crate::looked_up::{entries_of, job_of};
 use crate::outcome::push_outcome;
 use nvm_audit::{Record, Spot};
 use nvm_geometry::Geometry;
-use nvm_plan::{Job, job_part_in};
-use nvm_record::NoMemory;
+use nvm_plan::{Job, LentPart, job_part_in};
+use nvm_record::{NoMemory, Status, Statuses};
 use nvm_report::push_entry;
 use nvm_store::{Entry, UnitBlocks};
 use std::alloc::Global;
@@ -164,12 +169,50 @@ fn push_entry_given(
     requires covered { AreCoveredIn geometry.now spot.unit history.now }
     requires here { IsCoveredIn geometry.now spot.unit entry.now.operation }
     ensures { OnOk result (string_bytes text.new ≡ string_bytes text.old
-        ++ spec.entry_given geometry.now.block_size history.now spot.place entry.now) }
+        ++ spec.entry_given geometry.now.block_size spot history.now entry.now) }
 {
     match blocks_at(alloc, geometry, spot.unit, history, spot.place)? {
-        Some(blocks) => push_given(text, &blocks, entry),
+        Some(blocks) => {
+            let before = before(history, spot.place);
+            push_given_on(text, alloc, spot.unit, before, &blocks, entry)
+        }
         None => Ok(()),
     }
+}
+
+/// Appends what the step gives an entry on these blocks, and the first byte that differs, as behind these entries of its unit.
+fn push_given_on(
+    text: &mut String,
+    alloc: Global,
+    unit: u16,
+    before: &[Entry],
+    blocks: &UnitBlocks,
+    entry: &Entry,
+) -> Result<(), NoMemory>
+    requires { Covers blocks.now entry.now.operation }
+    ensures { OnOk result ((m : Medium) → Holds blocks.now m → string_bytes text.new ≡ string_bytes text.old
+        ++ spec.given_on blocks.now.size unit before.now entry.now.operation m) }
+{
+    push_given(text, blocks, entry)?;
+    push_entry_comparison(text, alloc, unit, before, blocks, entry)
+}
+
+/// Appends the first byte that differs where it is the entry of a pair which doesn't compare equal on these blocks.
+fn push_entry_comparison(
+    text: &mut String,
+    alloc: Global,
+    unit: u16,
+    before: &[Entry],
+    blocks: &UnitBlocks,
+    entry: &Entry,
+) -> Result<(), NoMemory>
+    requires { Covers blocks.now entry.now.operation }
+    ensures { OnOk result ((m : Medium) → Holds blocks.now m → string_bytes text.new ≡ string_bytes text.old
+        ++ comparison_story blocks.now.size (One successful_completion) unit before.now entry.now.operation m) }
+{
+    let told = Statuses::One(Status::SUCCESSFUL_COMPLETION);
+    let part = LentPart::Act(entry.act.as_ref());
+    push_comparison(text, alloc, told, unit, before, &part, blocks)
 }
 
 /// Appends what the step gives an entry on these blocks.

@@ -2,13 +2,15 @@
 //!
 //! [`explain`] audits a record and tells the verdict, as an audit prints it. Of a first fault it tells what such a fault means,
 //! the job and what was done of it, the unit's entries round the place, and what the step gives at that point beside what was
-//! recorded there. [`push_job`] appends what a record has of one job. Explanations that were written by hand stand in
-//! `examples/explained.py`, which holds the built `nvq` to them.
+//! recorded there: where bytes decide, the first that differs, and the entry that changed its block last. [`push_job`] appends what a
+//! record has of one job. Explanations that were written by hand stand in `examples/explained.py`, which holds the built `nvq` to them.
 #![tactic(auto)]
 
 mod around;
 mod back_story;
+mod before;
 mod blocks_at;
+mod comparison;
 mod difference;
 mod doer;
 mod ended;
@@ -16,6 +18,7 @@ mod entry_story;
 mod explaining;
 mod given;
 mod job_story;
+mod last_change;
 mod looked_up;
 mod meaning;
 mod most;

@@ -1,16 +1,17 @@
-ghost use Rattle.std.specs.Prelude.{◌≡◌, ◌<◌, ◌++◌, OnOk, Some, option_map, string_bytes};
+ghost use Rattle.std.specs.Prelude.{◌≡◌, ◌<◌, ◌++◌, OnOk, option_map, string_bytes};
 ghost use Rattle.nvm_geometry.specs.Boundaries.{units_of};
 ghost use Rattle.nvm_plan.specs.Fits.{FitsNamespace};
 ghost use Rattle.nvm_record.specs.Medium.{Medium};
-ghost use Rattle.nvm_record.specs.Step.{statuses_of, data_of};
 ghost use Rattle.nvm_plan.specs.LentPart.{part_operation_of};
 ghost use Rattle.nvm_store.specs.ActRef.{lent_operation_of};
 ghost use Rattle.nvm_store.specs.Contents.{Covers, Holds};
 ghost use Rattle.nvm_explain.specs.PartStory as spec;
 ghost use Rattle.nvm_explain.specs.UnitAt.{AreCoveredIn, IsCoveredIn};
 
+use crate::before::before;
 use crate::blocks_at::blocks_at;
-use crate::difference::push_difference;
+use crate::comparison::push_comparison;
+use crate::difference::{Difference, difference_of, push_difference};
 use crate::doer::done_of;
 use crate::given::{Given, given_on, push_operation};
 use crate::looked_up::{entries_of, job_of};
@@ -18,7 +19,7 @@ use crate::outcome::push_outcome;
 use crate::recorded_data::recorded_data;
 use crate::told::{ToldPart, told_part};
 use nvm_audit::{DoneJob, Record, Spot};
-use nvm_geometry::{Geometry, MOST_BLOCKS};
+use nvm_geometry::Geometry;
 use nvm_plan::{Job, LentPart, Part, job_part_in};
 use nvm_record::{BlockSize, NoMemory, ReadData};
 use nvm_store::{ActRef, Entry, Look, UnitBlocks};
@@ -106,37 +107,33 @@ fn push_at_point(
         ++ spec.told_at_point geometry.now.block_size history.now job.now done.now told (part_operation_of part.now)) }
 {
     match blocks_at(alloc, geometry, told.part.unit, history, told.part.point)? {
-        Some(blocks) => push_told(text, alloc, job, done, told, part, &blocks),
+        Some(blocks) => {
+            let before = before(history, told.part.point);
+            push_told(text, alloc, job, done, told, before, part, &blocks)
+        }
         None => Ok(()),
     }
 }
 
-/// Appends what the part does, what is recorded of it, and what the step gives on these blocks.
+/// Appends what the part does, what is recorded of it, and what the step gives on these blocks, behind these entries of its unit.
 fn push_told(
     text: &mut String,
     alloc: Global,
     job: &Job,
     done: &DoneJob,
     told: ToldPart,
+    before: &[Entry],
     part: &LentPart<'_>,
     blocks: &UnitBlocks,
 ) -> Result<(), NoMemory>
     requires { Covers blocks.now (part_operation_of part.now) }
     ensures { OnOk result ((m : Medium) → Holds blocks.now m → string_bytes text.new ≡ string_bytes text.old
-        ++ spec.part_story blocks.now.size job.now.body done.now.payload told (part_operation_of part.now)
-        (statuses_of (part_operation_of part.now) m) (data_of (part_operation_of part.now) m)) }
+        ++ spec.told_on blocks.now.size job.now done.now told before.now (part_operation_of part.now) m) }
 {
     let given = given_on(alloc, blocks, part)?;
-    push_part(
-        text,
-        alloc,
-        blocks.place().size,
-        job,
-        done,
-        told,
-        part,
-        &given,
-    )
+    let size = blocks.place().size;
+    push_part(text, alloc, size, job, done, told, before, part, &given)?;
+    push_comparison(text, alloc, told.told, told.part.unit, before, part, blocks)
 }
 
 /// Appends what the part does, what is recorded of it, and what the step gives.
@@ -148,15 +145,16 @@ fn push_part(
     job: &Job,
     done: &DoneJob,
     told: ToldPart,
+    before: &[Entry],
     part: &LentPart<'_>,
     given: &Given,
 ) -> Result<(), NoMemory>
     ensures { OnOk result (string_bytes text.new ≡ string_bytes text.old
-        ++ spec.part_story size job.now.body done.now.payload told (part_operation_of part.now) given.now.statuses
-        given.now.payload) }
+        ++ spec.part_story size job.now.body done.now.payload told before.now (part_operation_of part.now)
+        given.now.statuses given.now.payload) }
 {
     push_what(text, alloc, told.part, part)?;
-    push_recorded(text, size, job, &done.payload, told, part, given)
+    push_recorded(text, size, job, &done.payload, told, before, part, given)
 }
 
 /// Appends what is recorded of the part, of a job with this data, and what the step gives.
@@ -166,37 +164,38 @@ fn push_recorded(
     job: &Job,
     recorded: &Option<ReadData>,
     told: ToldPart,
+    before: &[Entry],
     part: &LentPart<'_>,
     given: &Given,
 ) -> Result<(), NoMemory>
     ensures { OnOk result (string_bytes text.new ≡ string_bytes text.old
-        ++ spec.told_lines (part_operation_of part.now).first size told
+        ++ spec.told_lines (part_operation_of part.now).first size told before.now
         (spec.shown_of size job.now.body (part_operation_of part.now) recorded.now) given.now.statuses given.now.payload) }
 {
     let shown = match recorded {
         Some(bytes) => recorded_data(size, job, part, bytes.as_slice()),
         None => None,
     };
-    push_compared(text, first_of(part), size, told, shown, given)
+    push_compared(text, first_of(part), size, told, before, shown, given)
 }
 
-/// Appends what is recorded of the part, with its data where it has any, and what the step gives.
+/// Appends what is recorded of the part, with its data where it has any, what the step gives, and the first byte that differs.
 fn push_compared(
     text: &mut String,
     first: u64,
     size: BlockSize,
     told: ToldPart,
+    before: &[Entry],
     shown: Option<&[u8]>,
     given: &Given,
 ) -> Result<(), NoMemory>
     ensures { OnOk result (string_bytes text.new ≡ string_bytes text.old
-        ++ spec.told_lines first size told (option_map (λ bytes. bytes.now) shown.entry) given.now.statuses given.now.payload) }
+        ++ spec.told_lines first size told before.now (option_map (λ bytes. bytes.now) shown.entry) given.now.statuses
+        given.now.payload) }
 {
     push_outcomes(text, told, shown, given)?;
-    match shown {
-        Some(bytes) => push_if_differs(text, first, size, bytes, given),
-        None => Ok(()),
-    }
+    let found = read_difference(first, size, shown, given);
+    push_difference(text, " recorded ", " given ", told.part.unit, before, found)
 }
 
 /// Appends what the part does, in which unit and at which point.
@@ -235,38 +234,18 @@ fn push_outcomes(
     )
 }
 
-/// Appends the line of the first byte that differs, if data is given and one does.
-fn push_if_differs(
-    text: &mut String,
+/// The first byte of recorded data that differs from what the step gives, where both are there.
+fn read_difference(
     first: u64,
     size: BlockSize,
-    bytes: &[u8],
+    shown: Option<&[u8]>,
     given: &Given,
-) -> Result<(), NoMemory>
-    ensures { OnOk result (string_bytes text.new
-        ≡ string_bytes text.old ++ spec.difference_of first size bytes.now given.now.payload) }
+) -> Option<Difference>
+    ensures { result ≡ spec.read_difference first size (option_map (λ bytes. bytes.now) shown.entry) given.now.payload }
 {
-    match &given.payload {
-        Some(read) => push_if_as_long(text, first, size, bytes, read.as_slice()),
-        None => Ok(()),
-    }
-}
-
-/// Appends the line of the first byte that differs, if there are as many of both and one does.
-fn push_if_as_long(
-    text: &mut String,
-    first: u64,
-    size: BlockSize,
-    bytes: &[u8],
-    given: &[u8],
-) -> Result<(), NoMemory>
-    ensures { OnOk result (string_bytes text.new
-        ≡ string_bytes text.old ++ spec.difference_of first size bytes.now (Some given.now)) }
-{
-    if bytes.len() == given.len() && first <= MOST_BLOCKS {
-        push_difference(text, first, size, bytes, given)
-    } else {
-        Ok(())
+    match (shown, given.data()) {
+        (Some(bytes), Some(read)) => difference_of(first, size, bytes, read),
+        _ => None,
     }
 }
 

@@ -34,6 +34,7 @@ reading_at paths k path (of.Trailing shown at) lt is h = h
 reading_at paths k path (of.BadValue shown at) lt is h = h
 reading_at paths k path (of.BeganAtZero shown at) lt is h = h
 reading_at paths k path (of.EndedBefore shown at) lt is h = h
+reading_at paths k path (of.NoUnit shown unit) lt is h = h
 
 -- the same of writing
 pub writing_at : (paths : List (List ℕ)) (k : ℕ) (path : List ℕ) (fault : Fault) → k < length paths → get_or paths k path ≡ path
@@ -58,6 +59,7 @@ writing_at paths k path (of.Trailing shown at) lt is h = h
 writing_at paths k path (of.BadValue shown at) lt is h = h
 writing_at paths k path (of.BeganAtZero shown at) lt is h = h
 writing_at paths k path (of.EndedBefore shown at) lt is h = h
+writing_at paths k path (of.NoUnit shown unit) lt is h = h
 
 -- the bytes of the string at a place
 pub bytes_at : (paths : List (String Global)) (k : ℕ) (path : String Global) → k < length paths → get_or paths k path ≡ path

@@ -1,5 +1,6 @@
 pub mod Audited
 pub mod Certified
+pub mod Drawn
 pub mod Explained
 pub mod Fault
 pub mod Files

@@ -105,6 +105,12 @@ pub enum Fault {
         path: String,
         at: u64,
     },
+    /// The namespace of the record doesn't have the unit of which the picture should begin.
+    #[error("nvq: {path}: no unit {unit}")]
+    NoUnit {
+        path: String,
+        unit: u16,
+    },
     /// Memory was asked for and refused.
     #[error("nvq: no memory")]
     NoMemory,

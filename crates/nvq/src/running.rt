@@ -1,5 +1,5 @@
 //! `nvq run`: the commands of lists are done, and told beside the lists.
-ghost use Rattle.std.specs.Prelude.{◌≡◌, ◌≤◌, ◌⊎◌, ℕ, List, IfOk, IfErr, length, map, string_bytes};
+ghost use Rattle.std.specs.Prelude.{◌≡◌, ◌≤◌, ◌⊎◌, ◌↔◌, ℕ, List, [], IfOk, IfErr, IsTrue, length, map, string_bytes};
 ghost use Rattle.std.specs.List.{count_by};
 ghost use Rattle.nvm_engine.specs.Fault.{IsFirstRunFault};
 ghost use Rattle.nvm_engine.specs.Shown.{IsShown};
@@ -24,6 +24,9 @@ use std::rt::Files;
 use std::sync::Wait;
 use std::thread::{Threads, available_parallelism};
 
+/// What is said where the lists have no command.
+const IDLE: &str = "nvq: the lists have no command";
+
 /// Does the commands of the lists, keeps the record where that is asked for, and writes the lines to standard output. After a
 /// fault before the first line nothing is written. The room of standard output is taken first, so that no memory is wanted for
 /// the lines once the record stands.
@@ -45,9 +48,26 @@ pub fn run_lists<R: AllocGlobal + Files + Input + Print + Eprint + Threads + Wai
     }
     progress.clear();
     match print(output, &shown, &mut texts) {
-        Ok(()) => Ok(()),
+        Ok(()) => {
+            tell_if_idle(rt, &shown);
+            Ok(())
+        }
         Err(fault) => Err(unmade(rt.alloc(), STANDARD, fault)),
     }
+}
+
+/// Says so on standard error where the lists have no command. It is no fault.
+fn tell_if_idle<R: Eprint>(rt: &R, shown: &Shown) {
+    if is_idle(shown) {
+        let _ = rt.eprintln(IDLE);
+    }
+}
+
+/// Whether there was no job, and so no command in any list.
+fn is_idle(shown: &Shown) -> bool
+    ensures { IsTrue result ↔ (shown.now.jobs ≡ []) }
+{
+    shown.record().jobs.is_empty()
 }
 
 /// Standard input is named at most once, and standard output isn't the record's.
