@@ -85,6 +85,8 @@ BY_HAND = [
     # A Read may be torn where the trace says that each of its blocks has a moment of its own, and strictly it may not.
     (replace(TORN, by_blocks=True), (), EXPLAINED),
     (replace(TORN, by_blocks=True), (STRICT,), contradiction(3)),
+    # A success that no check allows can't be, and the job is named.
+    (trace_of(sent(1, 2, write(0, 0x41)), sent(3, 4, write(1_000, 0x41))), (), f"{UNKNOWN} job 1\n"),
     # A Write that never ended, or ended in an error that leaves open what was done, is done or not, and is not undone.
     *((written(None, *found), (), EXPLAINED) for found in ((0x41,), (0,), (0, 0x41))),
     *((written(2, *found, statuses=ERROR), (), EXPLAINED) for found in ((0x41,), (0,))),

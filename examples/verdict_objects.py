@@ -85,6 +85,9 @@ def text_of(printed):
         return f"explained{numbers(told, EXPLAINED)}\n"
     if verdict == "unknown":
         why = told.pop("why")
+        if "piece" in told:
+            named(told, "piece")
+            return f"unknown {piece(told['piece'])}\n" if why == "no record" else why
         return f"unknown{numbers(told, {'no order': REACHED, 'no record': ()}[why])}\n"
     unit, commands, facts, itself = named(told, "unit", "commands", "facts", "itself")
     lines = [f"{verdict} unit {unit} commands {len(commands)}", *map(command, commands), *map(fact, facts)]

@@ -25,4 +25,4 @@ pub record IsContradictedAs (judging : Judging) (t : TraceView) (unit : ℕ) (fa
 abbrev pub IsCertified : Judging → TraceView → Certification → Type 0
 IsCertified judging t (Explained run numbers) = IsExplainedAs judging t run numbers
 IsCertified judging t (Contradicted argument) = IsContradictedAs judging t argument.unit argument.facts.items
-IsCertified judging t (Unknown reached) = Unit {0}
+IsCertified judging t (Unknown reached piece) = Unit {0}

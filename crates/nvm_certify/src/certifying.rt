@@ -21,20 +21,34 @@ use std::thread::Threads;
 /// How often a unit is searched.
 const MOST_SEARCHES: u32 = 8;
 
-/// The verdict by a record that was found, if it explains the trace.
-fn explained<R: Threads + Sync>(
+/// The piece of which the fault is, if it is of one of so many.
+fn piece_of(fault: WitnessFault, pieces: usize) -> Option<u32> {
+    let job = fault.job()?;
+    if (job as usize) < pieces {
+        Some(job)
+    } else {
+        None
+    }
+}
+
+/// The verdict by a record that was found, whose first jobs are so many pieces.
+fn judged<R: Threads + Sync>(
     rt: &R,
     alloc: Global,
     judging: Judging,
     trace: &Trace,
     run: Record,
-) -> Result<Option<Certification>, NoMemory>
-    ensures { IfOk result (λ found. IfSome found (IsCertified judging «trace».now)) }
+    pieces: usize,
+) -> Result<Certification, NoMemory>
+    ensures { IfOk result (IsCertified judging «trace».now) }
 {
     match witness(rt, alloc, judging, trace, &run) {
-        Ok(numbers) => Ok(Some(Certification::Explained { run, numbers })),
+        Ok(numbers) => Ok(Certification::Explained { run, numbers }),
         Err(WitnessFault::NoMemory) => Err(AllocError),
-        Err(_) => Ok(None),
+        Err(fault) => Ok(Certification::Unknown {
+            reached: None,
+            piece: piece_of(fault, pieces),
+        }),
     }
 }
 
@@ -124,7 +138,7 @@ fn first_stuck(found: &Vec<UnitOrdering<'_>>) -> Option<Reached> {
     None
 }
 
-/// The verdict by a record of these orders, if it explains the trace.
+/// The verdict by a record of these orders.
 fn verdict_by<'t, R: Threads + Sync>(
     rt: &R,
     alloc: Global,
@@ -135,12 +149,13 @@ fn verdict_by<'t, R: Threads + Sync>(
 ) -> Result<Certification, NoMemory>
     ensures { IfOk result (IsCertified judging «trace».now) }
 {
-    if let Some(run) = record_of(alloc, trace, owners, orders)? {
-        if let Some(certification) = explained(rt, alloc, judging, trace, run)? {
-            return Ok(certification);
-        }
+    match record_of(alloc, trace, owners, orders)? {
+        Some(run) => judged(rt, alloc, judging, trace, run, owners.len()),
+        None => Ok(Certification::Unknown {
+            reached: None,
+            piece: None,
+        }),
     }
-    Ok(Certification::Unknown { reached: None })
 }
 
 /// Searches these units, and puts what was found in each at its place.
@@ -230,7 +245,10 @@ pub fn certify<R: Threads + Sync>(
         if let Some(reached) = first_stuck(&found) {
             first = first.or(Some(reached));
             if !skip_stuck(&geometry, owners.as_slice(), &found, &mut failing) {
-                return Ok(Certification::Unknown { reached: first });
+                return Ok(Certification::Unknown {
+                    reached: first,
+                    piece: None,
+                });
             }
             continue;
         }
@@ -243,5 +261,8 @@ pub fn certify<R: Threads + Sync>(
             failing.search(&geometry, owners.as_slice(), *piece);
         }
     }
-    Ok(Certification::Unknown { reached: first })
+    Ok(Certification::Unknown {
+        reached: first,
+        piece: None,
+    })
 }

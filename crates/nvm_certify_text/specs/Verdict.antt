@@ -24,11 +24,19 @@ explained_line e =
     ++ (codes " excused " ++ (decimal e.excused
     ++ (codes " preparations " ++ (decimal e.preparations ++ codes "\n")))))))))
 
--- how far a search came in which unit, if it says so
-unfoldable pub unknown_line : Option Reached → List ℕ
-unknown_line None = codes "unknown\n"
-unknown_line (Some r) =
+-- how far a search came in which unit
+unfoldable pub reached_line : Reached → List ℕ
+reached_line r =
     codes "unknown unit " ++ (decimal r.unit ++ (codes " placed " ++ (decimal r.placed ++ (codes " steps " ++ (decimal r.steps ++ codes "\n")))))
+
+-- of which piece the record that was made shows something other than was seen
+unfoldable pub piece_line : PieceName → List ℕ
+piece_line name = codes "unknown " ++ (name_text name ++ codes "\n")
+
+abbrev pub unknown_line : Judging → TraceView → Option Reached → Option ℕ → List ℕ
+unknown_line judging t (Some r) piece = reached_line r
+unknown_line judging t None (Some piece) = piece_line (name_at (names judging t) piece)
+unknown_line judging t None None = codes "unknown\n"
 
 -- the piece is of the job of this number
 abbrev pub is_of : List PieceName → ℕ → ℕ → Bool
@@ -94,9 +102,9 @@ contradiction_text judging t unit facts = contradiction_with (names judging t) t
 abbrev pub certification_text : Judging → TraceView → Certification → List ℕ
 certification_text judging t (verdict.Explained run numbers) = explained_line numbers
 certification_text judging t (verdict.Contradicted argument) = contradiction_text judging t argument.unit argument.facts.items
-certification_text judging t (verdict.Unknown reached) = unknown_line reached
+certification_text judging t (verdict.Unknown reached piece) = unknown_line judging t reached piece
 
 abbrev pub certification_status : Certification → ℕ
 certification_status (verdict.Explained run numbers) = 0
 certification_status (verdict.Contradicted argument) = 2
-certification_status (verdict.Unknown reached) = 3
+certification_status (verdict.Unknown reached piece) = 3

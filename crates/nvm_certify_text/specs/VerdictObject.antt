@@ -24,12 +24,20 @@ explained_object e =
     ++ (codes ",\"excused\":" ++ (decimal e.excused
     ++ (codes ",\"preparations\":" ++ (decimal e.preparations ++ codes "}\n")))))))))
 
--- a unit had no order of all of its steps; or each had one, and no record that explains the trace was made of them
-unfoldable pub unknown_object : Option Reached → List ℕ
-unknown_object None = codes "{\"verdict\":\"unknown\",\"why\":\"no record\"}\n"
-unknown_object (Some r) =
+-- a unit had no order of all of its steps
+unfoldable pub reached_object : Reached → List ℕ
+reached_object r =
     codes "{\"verdict\":\"unknown\",\"why\":\"no order\",\"unit\":" ++ (decimal r.unit
     ++ (codes ",\"placed\":" ++ (decimal r.placed ++ (codes ",\"steps\":" ++ (decimal r.steps ++ codes "}\n")))))
+
+-- each unit had one, and the record that was made of them shows something other of this piece than was seen
+unfoldable pub unknown_of : PieceName → List ℕ
+unknown_of name = codes "{\"verdict\":\"unknown\",\"why\":\"no record\",\"piece\":" ++ (piece_object name ++ codes "}\n")
+
+abbrev pub unknown_object : Judging → TraceView → Option Reached → Option ℕ → List ℕ
+unknown_object judging t (Some r) piece = reached_object r
+unknown_object judging t None (Some piece) = unknown_of (name_at (names judging t) piece)
+unknown_object judging t None None = codes "{\"verdict\":\"unknown\",\"why\":\"no record\"}\n"
 
 abbrev pub name_of : List PieceName → Option ℕ → Option PieceName
 name_of names None = None
@@ -66,4 +74,4 @@ contradiction_object judging t unit facts = contradiction_with (names judging t)
 abbrev pub certification_object : Judging → TraceView → Certification → List ℕ
 certification_object judging t (verdict.Explained run numbers) = explained_object numbers
 certification_object judging t (verdict.Contradicted argument) = contradiction_object judging t argument.unit argument.facts.items
-certification_object judging t (verdict.Unknown reached) = unknown_object reached
+certification_object judging t (verdict.Unknown reached piece) = unknown_object judging t reached piece

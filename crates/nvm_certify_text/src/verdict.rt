@@ -14,7 +14,8 @@ use std::alloc::Global;
 
 /// The text of a verdict on a trace, each line with its line feed. It begins with `explained`, `contradiction` or `unknown`.
 ///
-/// An explained trace has one line, with the numbers of an explained trace, and an unknown one has one with how far the search came.
+/// An explained trace has one line, with the numbers of an explained trace. An unknown one has one, with how far the search came in a unit,
+/// or with the piece of a command that the record which was found doesn't show as it was seen, or with neither.
 /// A contradiction has the number of the unit and how many commands the argument is about; then these commands, by rising number, each
 /// as the trace's text has it; then the argument's facts, in its order; and at last, unless the last fact is of nobody, that the piece
 /// which that fact puts first stands before itself. It does where the last fact closes the loop: the argument is told, and not judged.
@@ -34,7 +35,9 @@ pub fn certification_text(
         Certification::Contradicted { argument } => {
             contradiction_text(alloc, judging, trace, argument)
         }
-        Certification::Unknown { reached } => unknown_text(alloc, *reached),
+        Certification::Unknown { reached, piece } => {
+            unknown_text(alloc, judging, trace, *reached, *piece)
+        }
     }
 }
 
@@ -67,20 +70,44 @@ fn explained_text(alloc: Global, explained: Explained) -> Result<String, NoMemor
 }
 
 /// The line of a trace of which nothing is known.
-#[tactic(auto, unfolding(crate::specs::Verdict::unknown_line))]
-fn unknown_text(alloc: Global, reached: Option<Reached>) -> Result<String, NoMemory>
-    ensures { IfOk result (λ line. string_bytes line ≡ spec.unknown_line reached) }
+fn unknown_text(
+    alloc: Global,
+    judging: Judging,
+    trace: &Trace,
+    reached: Option<Reached>,
+    piece: Option<u32>,
+) -> Result<String, NoMemory>
+    ensures { IfOk result (λ line. string_bytes line ≡ spec.unknown_line judging «trace».now reached piece) }
 {
-    match reached {
-        Some(
-            Reached {
-                unit,
-                placed,
-                steps,
-            },
-        ) => format!(in alloc; "unknown unit {unit} placed {placed} steps {steps}\n"),
-        None => format!(in alloc; "unknown\n"),
+    match (reached, piece) {
+        (Some(reached), _) => reached_text(alloc, reached),
+        (None, Some(piece)) => {
+            let names = names(alloc, judging, trace)?;
+            piece_text(alloc, name_at(&names, piece))
+        }
+        (None, None) => format!(in alloc; "unknown\n"),
     }
+}
+
+/// The line that says how far the search came in a unit.
+#[tactic(auto, unfolding(crate::specs::Verdict::reached_line))]
+fn reached_text(alloc: Global, reached: Reached) -> Result<String, NoMemory>
+    ensures { IfOk result (λ line. string_bytes line ≡ spec.reached_line reached) }
+{
+    let Reached {
+        unit,
+        placed,
+        steps,
+    } = reached;
+    format!(in alloc; "unknown unit {unit} placed {placed} steps {steps}\n")
+}
+
+/// The line that says which piece the record doesn't show as it was seen.
+#[tactic(auto, unfolding(crate::specs::Verdict::piece_line))]
+fn piece_text(alloc: Global, name: PieceName) -> Result<String, NoMemory>
+    ensures { IfOk result (λ line. string_bytes line ≡ spec.piece_line name) }
+{
+    format!(in alloc; "unknown {name}\n")
 }
 
 /// The lines of a contradicted trace.

@@ -23,7 +23,8 @@ use std::fmt::{Display, Formatter};
 /// The verdict on a trace as one object of JSON, on one line with its line feed. Its names are the words of the verdict's text.
 ///
 /// `verdict` is `explained`, `contradiction` or `unknown`. An explained trace has the numbers of its line, and an unknown one says
-/// by `why` whether it is `no order` or `no record` that wasn't found, and of `no order` how far the search came. A contradiction has
+/// by `why` whether it is `no order` or `no record` that wasn't found, of `no order` how far the search came, and of `no record` which `piece` the
+/// record that was found doesn't show as it was seen, if there was one. A contradiction has
 /// the `unit`, the `commands` that the argument is about, by rising number, its `facts`, in its order, and by `itself` the piece that
 /// would stand before itself, or `null` after a fact of nobody. All in it is what the text says, and no string has to be escaped.
 ///
@@ -41,7 +42,9 @@ pub fn certification_object(
         Certification::Contradicted { argument } => {
             contradiction_object(alloc, judging, trace, argument)
         }
-        Certification::Unknown { reached } => unknown_object(alloc, *reached),
+        Certification::Unknown { reached, piece } => {
+            unknown_object(alloc, judging, trace, *reached, *piece)
+        }
     }
 }
 
@@ -63,22 +66,47 @@ fn explained_object(alloc: Global, explained: Explained) -> Result<String, NoMem
 }
 
 /// The object of a trace of which nothing is known.
-#[tactic(auto, unfolding(crate::specs::VerdictObject::unknown_object))]
-fn unknown_object(alloc: Global, reached: Option<Reached>) -> Result<String, NoMemory>
-    ensures { IfOk result (λ text. string_bytes text ≡ spec.unknown_object reached) }
+fn unknown_object(
+    alloc: Global,
+    judging: Judging,
+    trace: &Trace,
+    reached: Option<Reached>,
+    piece: Option<u32>,
+) -> Result<String, NoMemory>
+    ensures { IfOk result (λ text. string_bytes text ≡ spec.unknown_object judging «trace».now reached piece) }
 {
-    match reached {
-        Some(
-            Reached {
-                unit,
-                placed,
-                steps,
-            },
-        ) => format!(in alloc;
-            "{{\"verdict\":\"unknown\",\"why\":\"no order\",\"unit\":{unit},\"placed\":{placed},\"steps\":{steps}}}\n"
-        ),
-        None => format!(in alloc; "{{\"verdict\":\"unknown\",\"why\":\"no record\"}}\n"),
+    match (reached, piece) {
+        (Some(reached), _) => reached_object(alloc, reached),
+        (None, Some(piece)) => {
+            let names = names(alloc, judging, trace)?;
+            unknown_of(alloc, name_at(&names, piece))
+        }
+        (None, None) => format!(in alloc; "{{\"verdict\":\"unknown\",\"why\":\"no record\"}}\n"),
     }
+}
+
+/// The object that says how far the search came in a unit.
+#[tactic(auto, unfolding(crate::specs::VerdictObject::reached_object))]
+fn reached_object(alloc: Global, reached: Reached) -> Result<String, NoMemory>
+    ensures { IfOk result (λ text. string_bytes text ≡ spec.reached_object reached) }
+{
+    let Reached {
+        unit,
+        placed,
+        steps,
+    } = reached;
+    format!(in alloc;
+        "{{\"verdict\":\"unknown\",\"why\":\"no order\",\"unit\":{unit},\"placed\":{placed},\"steps\":{steps}}}\n"
+    )
+}
+
+/// The object that says which piece the record doesn't show as it was seen.
+#[tactic(auto, unfolding(crate::specs::VerdictObject::unknown_of))]
+fn unknown_of(alloc: Global, name: PieceName) -> Result<String, NoMemory>
+    ensures { IfOk result (λ text. string_bytes text ≡ spec.unknown_of name) }
+{
+    let piece = PieceObject(name);
+    format!(in alloc; "{{\"verdict\":\"unknown\",\"why\":\"no record\",\"piece\":{piece}}}\n")
 }
 
 /// The object of a contradicted trace.

@@ -216,9 +216,14 @@ fn what_is_explained_has_its_numbers(rt: HostRuntime) -> Result<(), Fail> {
     Ok(())
 }
 
-/// Whether the verdict of a search that came so far is told so, with status 3.
-fn is_unknown(alloc: Global, reached: Option<Reached>, text: &str) -> Result<bool, Fail> {
-    let verdict = Certification::Unknown { reached };
+/// Whether the verdict of a search that came so far, or of a record that shows the piece otherwise, is told so, with status 3.
+fn is_unknown(
+    alloc: Global,
+    reached: Option<Reached>,
+    piece: Option<u32>,
+    text: &str,
+) -> Result<bool, Fail> {
+    let verdict = Certification::Unknown { reached, piece };
     let told = text_of(alloc, Judging::Standard, &verdict)?;
     Ok(told.as_str() == text && certification_status(&verdict) == 3)
 }
@@ -231,7 +236,8 @@ fn what_is_unknown_says_how_far(rt: HostRuntime) -> Result<(), Fail> {
         placed: 17,
         steps: 20,
     };
-    assert!(rt; is_unknown(alloc, Some(reached), "unknown unit 3 placed 17 steps 20\n")?);
-    assert!(rt; is_unknown(alloc, None, "unknown\n")?);
+    assert!(rt; is_unknown(alloc, Some(reached), None, "unknown unit 3 placed 17 steps 20\n")?);
+    assert!(rt; is_unknown(alloc, None, Some(1), "unknown job 1\n")?);
+    assert!(rt; is_unknown(alloc, None, None, "unknown\n")?);
     Ok(())
 }
