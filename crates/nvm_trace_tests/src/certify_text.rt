@@ -236,8 +236,16 @@ fn what_is_unknown_says_how_far(rt: HostRuntime) -> Result<(), Fail> {
         placed: 17,
         steps: 20,
     };
-    assert!(rt; is_unknown(alloc, Some(reached), None, "unknown unit 3 placed 17 steps 20\n")?);
-    assert!(rt; is_unknown(alloc, None, Some(1), "unknown job 1\n")?);
+    assert!(rt;
+        is_unknown(
+            alloc,
+            Some(reached),
+            None,
+            "unknown unit 3 placed 17 steps 20\n"
+        )?
+    );
+    assert!(rt; is_unknown(alloc, None, Some(4), "unknown job 1 block 2\n")?);
+    assert!(rt; is_unknown(alloc, None, Some(7), "unknown job 3\n")?);
     assert!(rt; is_unknown(alloc, None, None, "unknown\n")?);
     Ok(())
 }

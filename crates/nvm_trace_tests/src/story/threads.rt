@@ -202,6 +202,7 @@ part: unit 0 point 0 read 0 1
 recorded: status 0/00 data 512*41
 the step gives: status 0/00 data 512*00
 first difference: LBA 0 byte 0 recorded 41 given 00
+last change of LBA 0: none
 unit 0 first 0 blocks 8 entries 1 limit 100
 unit 0 point 0 rests job 1
 unit 0 place 0 worker 0 job 0 write 0 1 512*41
