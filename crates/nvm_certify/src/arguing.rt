@@ -10,7 +10,7 @@ mod surroundings;
 mod window;
 
 use crate::arguing::contradiction::least_contradiction;
-use crate::arguing::derivation::derive;
+use crate::arguing::derivation::{Derivation, derive};
 use crate::arguing::history::History;
 use crate::arguing::surroundings::{anywhere, near};
 use crate::arguing::window::Window;
@@ -143,7 +143,8 @@ pub fn orders_in(alloc: Global, unit: &UnitSteps) -> Result<(Orders, Option<usiz
         Some(place) => Some(*place),
         None => None,
     };
-    Ok((derivation.into_orders(), around))
+    let Derivation { orders, .. } = derivation;
+    Ok((orders, around))
 }
 
 /// An argument that the unit's steps contradict each other, if the rules give one.

@@ -25,7 +25,7 @@ pub struct LookPlace {
 
 /// What a look finds at a place.
 #[derive(Clone, Copy, Debug, PartialEq, Eq)]
-enum Finding {
+enum Outcome {
     /// It fails as it was answered.
     Fails,
     /// It goes on to its next unit.
@@ -104,7 +104,7 @@ impl<'s, 't> Sweep<'s, 't> {
     }
 
     /// What the look finds now.
-    fn finding_of(&self, look: &UnitStep) -> Finding {
+    fn outcome_of(&self, look: &UnitStep) -> Outcome {
         let mut is_marked = false;
         let mut is_equal = true;
         for cell in self.looks.cells_of(look.found) {
@@ -113,11 +113,11 @@ impl<'s, 't> Sweep<'s, 't> {
             is_equal = is_equal && value == cell.value;
         }
         match (look.reply, is_marked) {
-            (Reply::Marked, true) => Finding::Fails,
-            (_, true) => Finding::Other,
-            (_, false) if is_equal || !self.compares(look) => Finding::Passes,
-            (Reply::Differs, false) => Finding::Fails,
-            _ => Finding::Other,
+            (Reply::Marked, true) => Outcome::Fails,
+            (_, true) => Outcome::Other,
+            (_, false) if is_equal || !self.compares(look) => Outcome::Passes,
+            (Reply::Differs, false) => Outcome::Fails,
+            _ => Outcome::Other,
         }
     }
 
@@ -129,14 +129,14 @@ impl<'s, 't> Sweep<'s, 't> {
         if self.latest > step.ended {
             return true;
         }
-        let finding = self.finding_of(step);
+        let outcome = self.outcome_of(step);
         let done = self.done;
-        match (self.places.get_mut(look as usize), finding) {
-            (Some(place), Finding::Fails) => {
+        match (self.places.get_mut(look as usize), outcome) {
+            (Some(place), Outcome::Fails) => {
                 place.fails = Some(done);
                 true
             }
-            (Some(place), Finding::Passes) => {
+            (Some(place), Outcome::Passes) => {
                 place.passes = place.passes.or(Some(done));
                 false
             }

@@ -16,7 +16,7 @@ pub struct Derivation {
     pub derived: Vec<Derived>,
     /// For each step where in `derived` it is the earlier one.
     pub leaving: Vec<Vec<usize>>,
-    orders: Orders,
+    pub orders: Orders,
     /// For each step those that are derived to stand after it, and before it.
     laters: Vec<PlaceSet>,
     earliers: Vec<PlaceSet>,
@@ -266,12 +266,6 @@ impl Derivation {
             self.orders.note(alloc, derived.earlier, derived.later)?;
         }
         Ok(())
-    }
-
-    /// What stands before what.
-    pub fn into_orders(self) -> Orders {
-        let Derivation { orders, .. } = self;
-        orders
     }
 
     /// The steps that stand before themselves.

@@ -2,10 +2,11 @@ use crate::beginning::Beginning;
 use crate::data::block_at;
 use crate::hash::is_zero;
 use crate::steps::Reply;
+use crate::steps::contents::{Content, content_put};
 use crate::steps::lbas::{lbas_in, leading, unit_of_cut};
 use crate::steps::replies::reply_of;
 use nvm_geometry::{Geometry, Piece};
-use nvm_plan::{Body, job_units};
+use nvm_plan::job_units;
 use nvm_record::{BlockSize, NoMemory, Op};
 use nvm_trace::{Owner, Start, TracedJob};
 use std::alloc::Global;
@@ -13,31 +14,24 @@ use std::alloc::Global;
 /// So many blocks, by the changes of their unit, are looked through for a mark. Where there are more, there may be one.
 const MOST: u64 = 1 << 20;
 
-/// What a piece puts into blocks, or may.
-#[derive(Clone, Copy, Debug, PartialEq, Eq)]
-enum Content {
-    Zeroes,
-    Mark,
-    Others,
-}
-
 /// A change of a unit's blocks by a piece of a command.
-#[derive(Clone, Copy, Debug)]
-struct Change {
+#[derive(Clone, Copy)]
+struct Change<'t> {
     on: Piece,
     began: u64,
     ended: u64,
-    content: Content,
+    /// What the piece puts into these blocks, or may.
+    content: Content<'t>,
     /// Whether each of these blocks surely had it then.
     is_sure: bool,
 }
 
 /// What pieces of commands change in each unit, in the order in which they began.
 #[derive(Drop)]
-pub struct Changes {
+pub struct Changes<'t> {
     start: Start,
     size: BlockSize,
-    units: Vec<Vec<Change>>,
+    units: Vec<Vec<Change<'t>>>,
 }
 
 /// When the job ended: 2^64 - 1 where it never did.
@@ -49,34 +43,27 @@ fn end_of(traced: &TracedJob) -> u64 {
 }
 
 /// What a piece puts into its blocks, or may, and whether it surely does into each.
-fn content_of(geometry: &Geometry, owner: &Owner<'_>) -> Option<(Content, bool)> {
-    let is_done = match reply_of(geometry, owner.whole) {
-        Some(Reply::Done) => true,
-        Some(Reply::Open) => false,
-        _ => return None,
-    };
-    match &owner.whole.job.body {
-        Body::Single(command) => match command.op {
-            Op::Write => Some((Content::Others, is_done)),
-            Op::WriteUncorrectable => Some((Content::Mark, is_done)),
-            Op::WriteZeroes => Some((Content::Zeroes, is_done)),
-            // Which blocks those of its ranges are isn't looked at.
-            Op::Dataset { .. } => Some((Content::Zeroes, false)),
-            Op::Read | Op::Compare | Op::Other(_) => None,
-        },
-        Body::Pair(_, _) => Some((Content::Others, is_done)),
+fn content_of<'t>(geometry: &Geometry, owner: &Owner<'t>) -> Option<(Content<'t>, bool)> {
+    let reply = reply_of(geometry, owner.whole)?;
+    if reply.is_failure() {
+        return None;
+    }
+    match leading(&owner.whole.job.body).op {
+        // Which blocks those of its ranges are isn't looked at.
+        Op::Dataset { .. } => Some((Content::Zeroes, false)),
+        _ => Some((content_put(owner, reply)?, reply == Reply::Done)),
     }
 }
 
-impl Changes {
+impl<'t> Changes<'t> {
     /// What these pieces change, of which this is the order in which they began, in blocks of which this was known at first.
     pub fn new(
         alloc: Global,
         geometry: &Geometry,
         start: Start,
-        owners: &[Owner<'_>],
+        owners: &[Owner<'t>],
         order: &[Beginning],
-    ) -> Result<Changes, NoMemory> {
+    ) -> Result<Changes<'t>, NoMemory> {
         let mut changes = Changes {
             start,
             size: geometry.block_size(),
@@ -110,7 +97,7 @@ impl Changes {
         geometry: &Geometry,
         owner: &Owner<'_>,
         unit: u16,
-        content: Content,
+        content: Content<'t>,
         is_sure: bool,
     ) -> Result<(), NoMemory> {
         let Some(on) = lbas_in(geometry, owner, unit) else {
@@ -128,17 +115,11 @@ impl Changes {
         Ok(())
     }
 
-    /// The changes of a unit's blocks.
-    fn of(&self, unit: u16) -> &[Change] {
-        match self.units.get(unit as usize) {
-            Some(changes) => changes.as_slice(),
-            None => &[],
-        }
-    }
-
     /// Whether a look may fail so at one of these blocks of its unit.
     pub fn may_fail(&self, owner: &Owner<'_>, on: Piece, reply: Reply) -> bool {
-        let changes = self.of(on.unit);
+        let Some(changes) = self.units.get(on.unit as usize) else {
+            return false;
+        };
         if u64::from(on.blocks).saturating_mul(changes.len() as u64) > MOST {
             return true;
         }
@@ -157,7 +138,7 @@ impl Changes {
     }
 
     /// Whether the block may hold other bytes than a command compares it with.
-    fn may_differ(&self, changes: &[Change], owner: &Owner<'_>, lba: u64) -> bool {
+    fn may_differ(&self, changes: &Vec<Change<'_>>, owner: &Owner<'_>, lba: u64) -> bool {
         let command = leading(&owner.whole.job.body);
         let place = lba.saturating_sub(command.slba) as usize;
         if self.start == Start::Unknown
@@ -166,7 +147,7 @@ impl Changes {
             return true;
         }
         for change in changes {
-            if change.content == Content::Others && change.has(lba) {
+            if matches!(change.content, Content::Data(_)) && change.has(lba) {
                 return true;
             }
         }
@@ -174,7 +155,7 @@ impl Changes {
     }
 }
 
-impl Change {
+impl Change<'_> {
     /// Whether the block is one of these.
     fn has(&self, lba: u64) -> bool {
         lba >= self.on.first && lba - self.on.first < u64::from(self.on.blocks)
@@ -182,7 +163,7 @@ impl Change {
 }
 
 /// Whether the block may be marked while the look is under way: whether a mark was put there that wasn't surely gone before.
-fn may_be_marked(changes: &[Change], look: &TracedJob, lba: u64) -> bool {
+fn may_be_marked(changes: &Vec<Change<'_>>, look: &TracedJob, lba: u64) -> bool {
     // Of the changes that ended before the look began, when the last one began.
     let mut last = 0;
     for change in changes {
@@ -192,7 +173,7 @@ fn may_be_marked(changes: &[Change], look: &TracedJob, lba: u64) -> bool {
     }
     let ended = end_of(look);
     for change in changes {
-        if change.content == Content::Mark
+        if matches!(change.content, Content::Mark)
             && change.began <= ended
             && change.ended >= last
             && change.has(lba)

@@ -106,7 +106,7 @@ impl Failing {
     pub fn unit_of(
         &self,
         geometry: &Geometry,
-        changes: &Changes,
+        changes: &Changes<'_>,
         owner: &Owner<'_>,
         piece: u32,
         reply: Reply,

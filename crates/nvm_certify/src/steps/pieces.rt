@@ -111,7 +111,7 @@ fn put_in_units(
 fn failing_unit(
     geometry: &Geometry,
     failing: &Failing,
-    changes: &Option<Changes>,
+    changes: &Option<Changes<'_>>,
     owner: &Owner<'_>,
     one: UnitPiece,
 ) -> Option<u16> {
