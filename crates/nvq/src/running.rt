@@ -1,5 +1,5 @@
 //! `nvq run`: the commands of lists are done, and told beside the lists.
-ghost use Rattle.std.specs.Prelude.{◌≡◌, ◌≤◌, ◌⊎◌, ◌↔◌, ℕ, List, [], IfOk, IfErr, IsTrue, length, map, string_bytes};
+ghost use Rattle.std.specs.Prelude.{◌≡◌, ◌≤◌, ◌⊎◌, ℕ, List, IfOk, IfErr, length, map, string_bytes};
 ghost use Rattle.std.specs.List.{count_by};
 ghost use Rattle.nvm_engine.specs.Fault.{IsFirstRunFault};
 ghost use Rattle.nvm_engine.specs.Shown.{IsShown};
@@ -56,18 +56,11 @@ pub fn run_lists<R: AllocGlobal + Files + Input + Print + Eprint + Threads + Wai
     }
 }
 
-/// Says so on standard error where the lists have no command. It is no fault.
+/// Says so on standard error where there was no job, and so no command in any list. It is no fault.
 fn tell_if_idle<R: Eprint>(rt: &R, shown: &Shown) {
-    if is_idle(shown) {
+    if shown.record().jobs.is_empty() {
         let _ = rt.eprintln(IDLE);
     }
-}
-
-/// Whether there was no job, and so no command in any list.
-fn is_idle(shown: &Shown) -> bool
-    ensures { IsTrue result ↔ (shown.now.jobs ≡ []) }
-{
-    shown.record().jobs.is_empty()
 }
 
 /// Standard input is named at most once, and standard output isn't the record's.
