@@ -567,6 +567,11 @@ impl Record {
         let (jobs, units, changes, refused) = (self.jobs.len(), self.histories.len(), self.changes(), self.refused());
         format!("lawful jobs {jobs} units {units} changes {changes} refused {refused}\n")
     }
+
+    fn lawful_object(&self) -> String {
+        let (jobs, units, changes, refused) = (self.jobs.len(), self.histories.len(), self.changes(), self.refused());
+        format!("{{\"verdict\":\"lawful\",\"jobs\":{jobs},\"units\":{units},\"changes\":{changes},\"refused\":{refused}}}\n")
+    }
 }
 
 fn body(commands: &[Command], job: Job) -> &[Command] {
@@ -792,6 +797,15 @@ impl Fault {
             Some((unit, place)) => format!("unlawful {name} job {job} unit {unit} place {place}\n"),
             None => format!("unlawful {name} job {job} unit - place -\n"),
         }
+    }
+
+    fn object(&self) -> String {
+        let (name, job) = (self.name, self.job);
+        let (unit, place) = match self.spot {
+            Some((unit, place)) => (unit.to_string(), place.to_string()),
+            None => ("null".to_string(), "null".to_string()),
+        };
+        format!("{{\"verdict\":\"unlawful\",\"fault\":\"{name}\",\"job\":{job},\"unit\":{unit},\"place\":{place}}}\n")
     }
 }
 
@@ -1534,7 +1548,7 @@ fn print_lines(record: &Record, found: &[&Done], last: &str) -> io::Result<()> {
 /// What the words after the program's name ask for.
 enum Asked {
     Run { space: Namespace, workers: usize, out: String, files: Vec<String>, is_audited: bool },
-    Audit { path: String },
+    Audit { path: String, is_object: bool },
     Told(String),
 }
 
@@ -1542,7 +1556,7 @@ const USAGE: &str = "\
 The plain engine beside nvmu, without a proof.
 
   plain run --nsze N --block N --nabsn N --nabo N --nawun N --nacwu N --workers N --limit N --record REC [--unaudited] FILE..
-  plain audit REC
+  plain audit [--json] REC
 
 FILE and REC are those of nvmu; - is standard input. --unaudited counts what the last line tells, and audits nothing.
 ";
@@ -1558,7 +1572,7 @@ fn asked(words: &[String]) -> Result<Asked, String> {
         _ => return Err(format!("expected run or audit, not {name}")),
     }
     let mut given: [Option<String>; OPTIONS.len()] = Default::default();
-    let (mut files, mut is_audited, mut is_option) = (Vec::new(), true, true);
+    let (mut files, mut is_audited, mut is_object, mut is_option) = (Vec::new(), true, false, true);
     let mut left = rest.iter();
     while let Some(word) = left.next() {
         let option = match word.strip_prefix("--") {
@@ -1577,6 +1591,7 @@ fn asked(words: &[String]) -> Result<Asked, String> {
             "" => is_option = false,
             "help" => return Ok(Asked::Told(USAGE.to_string())),
             "unaudited" if name == "run" && is_audited && value.is_none() => is_audited = false,
+            "json" if name == "audit" && !is_object && value.is_none() => is_object = true,
             _ => {
                 let place = OPTIONS.iter().position(|known| *known == option && name == "run");
                 let place = place.ok_or(format!("{word} is no option"))?;
@@ -1589,7 +1604,7 @@ fn asked(words: &[String]) -> Result<Asked, String> {
     }
     if name == "audit" {
         return match <[String; 1]>::try_from(files) {
-            Ok([path]) => Ok(Asked::Audit { path }),
+            Ok([path]) => Ok(Asked::Audit { path, is_object }),
             Err(_) => Err("audit takes one record".to_string()),
         };
     }
@@ -1602,7 +1617,7 @@ fn asked(words: &[String]) -> Result<Asked, String> {
     };
     let number = |name: &str, least: u64, most: u64| -> Result<u64, String> {
         let text = value(name)?;
-        let number = text.parse().ok().filter(|number| (least..=most).contains(number));
+        let number = number_of(&text).filter(|number| (least..=most).contains(number));
         number.ok_or(format!("--{name} is {least} to {most}, not {text}"))
     };
     let sixteen = |name: &str| number(name, 0, 65_535).map(|number| number as u16);
@@ -1617,6 +1632,25 @@ fn asked(words: &[String]) -> Result<Asked, String> {
     };
     let workers = number("workers", 1, 64)? as usize;
     Ok(Asked::Run { space, workers, out: value("record")?, files, is_audited })
+}
+
+/// What a word says, decimal or hexadecimal after `0x`, times 2^10, 2^20 or 2^30 with `k`, `m` or `g` at its end.
+fn number_of(text: &str) -> Option<u64> {
+    let (body, shift) = match text.as_bytes().last()?.to_ascii_lowercase() {
+        b'k' => (&text[..text.len() - 1], 10),
+        b'm' => (&text[..text.len() - 1], 20),
+        b'g' => (&text[..text.len() - 1], 30),
+        _ => (text, 0),
+    };
+    let body = body.strip_prefix('+').unwrap_or(body);
+    let (digits, radix) = match body.strip_prefix("0x").or(body.strip_prefix("0X")) {
+        Some(digits) => (digits, 16),
+        None => (body, 10),
+    };
+    if !digits.starts_with(|first: char| first.is_ascii_hexdigit()) {
+        return None;
+    }
+    u64::from_str_radix(digits, radix).ok()?.checked_mul(1 << shift)
 }
 
 /// The bytes of a file, which are kept until the program ends.
@@ -1727,10 +1761,12 @@ fn done(asked: Asked) -> Result<i32, String> {
     let print = |line: &str| told(Text::new().and_then(|mut text| text.out.write_all(line.as_bytes())));
     match asked {
         Asked::Told(text) => print(&text).map(|()| 0),
-        Asked::Audit { path } => {
+        Asked::Audit { path, is_object } => {
             let record = read_record(read_file(&path)?).map_err(|fault| fault.told())?;
             let (line, status) = match audit(&record) {
+                Ok(_) if is_object => (record.lawful_object(), 0),
                 Ok(_) => (record.lawful(), 0),
+                Err(fault) if is_object => (fault.object(), 2),
                 Err(fault) => (fault.line(), 2),
             };
             print(&line)?;

@@ -393,6 +393,14 @@ static bool holds(const struct row *row)
     return right;
 }
 
+/* A trace of the usual namespace from zero bytes on, in which no command was sent: NVT1, NSZE, the bytes of a block, NABSN, NABO, NAWUN,
+ * NACWU, the first LBA, what was known, what Reads are held to, and the number of jobs. */
+static const uint8_t no_jobs[] = { 'N', 'V', 'T', '1', 64, 0, 0, 0, 0, 0, 0, 0, 0, 2, 0, 0, 7, 0, 0, 0, 7, 0, 7, 0,
+                                   0, 0, 0, 0, 0, 0, 0, 0, 0, 0, 0, 0, 0, 0 };
+
+/* An argument about unit 0 without facts: NVA1, the unit, and the number of facts. */
+static const uint8_t no_facts[] = { 'N', 'V', 'A', '1', 0, 0, 0, 0, 0, 0, 0, 0, 0, 0 };
+
 /* NULL has its code in each call, and a command without data takes it. */
 static bool nulls_are_answered(void)
 {
@@ -427,6 +435,16 @@ static bool nulls_are_answered(void)
         { "audit of NULL", ZK_BAD_LENGTH, zk_audit(NULL, 4, (char *)line, sizeof line) },
         { "audit of NULL without a length", ZK_BAD_RECORD, zk_audit(NULL, 0, (char *)line, sizeof line) },
         { "audit into NULL", ZK_SHORT_ROOM, zk_audit(entry, sizeof entry, NULL, sizeof line) },
+        { "witness of NULL", ZK_BAD_LENGTH, zk_witness(NULL, 4, entry, sizeof entry, false, (char *)line, sizeof line) },
+        { "witness of NULL without a length", ZK_BAD_TRACE, zk_witness(NULL, 0, entry, sizeof entry, false, (char *)line, sizeof line) },
+        { "witness by NULL", ZK_BAD_LENGTH, zk_witness(no_jobs, sizeof no_jobs, NULL, 4, false, (char *)line, sizeof line) },
+        { "witness by NULL without a length", ZK_BAD_RECORD, zk_witness(no_jobs, sizeof no_jobs, NULL, 0, false, (char *)line, sizeof line) },
+        { "witness into NULL", ZK_SHORT_ROOM, zk_witness(no_jobs, sizeof no_jobs, entry, sizeof entry, false, NULL, sizeof line) },
+        { "refute of NULL", ZK_BAD_LENGTH, zk_refute(NULL, 4, entry, sizeof entry, true, (char *)line, sizeof line) },
+        { "refute of NULL without a length", ZK_BAD_TRACE, zk_refute(NULL, 0, entry, sizeof entry, true, (char *)line, sizeof line) },
+        { "refute by NULL", ZK_BAD_LENGTH, zk_refute(no_jobs, sizeof no_jobs, NULL, 4, true, (char *)line, sizeof line) },
+        { "refute by NULL without a length", ZK_BAD_ARGUMENT, zk_refute(no_jobs, sizeof no_jobs, NULL, 0, true, (char *)line, sizeof line) },
+        { "refute into NULL", ZK_SHORT_ROOM, zk_refute(no_jobs, sizeof no_jobs, entry, sizeof entry, true, NULL, sizeof line) },
         { "record of NULL", ZK_OTHER_PORTS, zk_record(NULL, PORTS, block, BLOCK, &length) },
         { "record into NULL", ZK_BAD_LENGTH, zk_record(ports, PORTS, NULL, BLOCK, &length) },
         { "record with NULL for its length", ZK_BAD_LENGTH, zk_record(ports, PORTS, block, BLOCK, NULL) },
@@ -517,12 +535,101 @@ static bool audit_starved(void)
     return false;
 }
 
+/* The bytes of two files to be judged, how long the room is, and what is answered: the code, and the line with it. */
+struct judged {
+    int code;
+    int (*call)(const uint8_t *, size_t, const uint8_t *, size_t, bool, char *, size_t);
+    const char *misuse;
+    const uint8_t *trace;
+    size_t trace_length;
+    const uint8_t *other;
+    size_t other_length, room;
+    const char *line;
+};
+
+/* Whether the call answers its code, and writes its line with a byte of 0 and nothing else. */
+static bool is_judged(const struct judged *row)
+{
+    char line[ZK_LINE_BYTES], due[ZK_LINE_BYTES];
+    memset(line, 0x5a, sizeof line);
+    memset(due, 0x5a, sizeof due);
+    if (row->line)
+        memcpy(due, row->line, strlen(row->line) + 1);
+    int code = row->call(row->trace, row->trace_length, row->other, row->other_length, false, line, row->room);
+    if (code == row->code && memcmp(line, due, sizeof line) == 0)
+        return true;
+    fprintf(stderr, "misuses: %s: %d, and not %d, or another line\n", row->misuse, code, row->code);
+    return false;
+}
+
+/* Where memory is refused at the nth time, nothing is judged and nothing written. In the end the row is answered as ever. */
+static bool judged_starved(const struct judged *row)
+{
+    for (unsigned nth = 1; nth < 256; nth++) {
+        refuses_from = nth;
+        char line[ZK_LINE_BYTES], due[ZK_LINE_BYTES];
+        memset(line, 0x5a, sizeof line);
+        memset(due, 0x5a, sizeof due);
+        int code = row->call(row->trace, row->trace_length, row->other, row->other_length, false, line, row->room);
+        bool was_refused = refuses_from == 0;
+        refuses_from = 0;
+        refuses = false;
+        if (!was_refused)
+            return nth > 1 && is_judged(row);
+        if (code != ZK_NO_MEMORY || memcmp(line, due, sizeof line) != 0)
+            return false;
+    }
+    return false;
+}
+
+/* Traces without commands, by the record of a namespace in which nothing was done, and by an argument without facts. */
+static bool judges_are_answered(size_t *count)
+{
+    static const char explained[] = "explained jobs 0 units 8 steps 0 excused 0 preparations 0\n";
+    static const char unrefuted[] = "unrefuted NothingRefuted fact -\n";
+    static uint8_t bytes[ROOM], other[sizeof no_jobs];
+    size_t length = 0;
+    recorded = true;
+    if (!open_all(true) || zk_record(ports, PORTS, bytes, sizeof bytes, &length) != ZK_DONE)
+        return false;
+    close_all();
+    memcpy(other, no_jobs, sizeof no_jobs);
+    other[4] = 56; /* NSZE */
+    const struct judged calls[] = {
+        { ZK_DONE, zk_witness, "witness", no_jobs, sizeof no_jobs, bytes, length, ZK_LINE_BYTES, explained },
+        { ZK_DONE, zk_witness, "witness into exactly enough room", no_jobs, sizeof no_jobs, bytes, length, sizeof explained, explained },
+        { ZK_SHORT_ROOM, zk_witness, "witness without room for the byte of 0", no_jobs, sizeof no_jobs, bytes, length, sizeof explained - 1, NULL },
+        { ZK_SHORT_ROOM, zk_witness, "witness without room", no_jobs, sizeof no_jobs, bytes, length, 0, NULL },
+        { ZK_UNEXPLAINED, zk_witness, "witness by a record of another namespace", other, sizeof other, bytes, length, ZK_LINE_BYTES,
+          "unexplained NamespaceDiffers job - unit - place -\n" },
+        { ZK_BAD_TRACE, zk_witness, "witness of a record", bytes, length, other, sizeof other, ZK_LINE_BYTES, "trace: bad name\n" },
+        { ZK_BAD_TRACE, zk_witness, "witness of what is cut", no_jobs, sizeof no_jobs - 1, bytes, length, ZK_LINE_BYTES, "trace: truncated at 34\n" },
+        { ZK_BAD_RECORD, zk_witness, "witness by a trace", no_jobs, sizeof no_jobs, other, sizeof other, ZK_LINE_BYTES, "record: bad name\n" },
+        { ZK_UNREFUTED, zk_refute, "refute", no_jobs, sizeof no_jobs, no_facts, sizeof no_facts, ZK_LINE_BYTES, unrefuted },
+        { ZK_SHORT_ROOM, zk_refute, "refute without room for the byte of 0", no_jobs, sizeof no_jobs, no_facts, sizeof no_facts, sizeof unrefuted - 1, NULL },
+        { ZK_BAD_TRACE, zk_refute, "refute of an argument", no_facts, sizeof no_facts, other, sizeof other, ZK_LINE_BYTES, "trace: bad name\n" },
+        { ZK_BAD_ARGUMENT, zk_refute, "refute by a trace", no_jobs, sizeof no_jobs, other, sizeof other, ZK_LINE_BYTES, "argument: bad name\n" },
+        { ZK_BAD_ARGUMENT, zk_refute, "refute by what is cut", no_jobs, sizeof no_jobs, no_facts, sizeof no_facts - 1, ZK_LINE_BYTES,
+          "argument: truncated at 6\n" },
+    };
+    bool right = true;
+    *count = sizeof calls / sizeof *calls;
+    for (size_t i = 0; i < *count; i++) {
+        right &= is_judged(&calls[i]);
+        if (!judged_starved(&calls[i])) {
+            fprintf(stderr, "misuses: %s, to which memory is refused\n", calls[i].misuse);
+            right = false;
+        }
+    }
+    return right;
+}
+
 int main(int words, char **word)
 {
     static const char *const codes[] = { "ZK_DONE", "ZK_PENDING", "ZK_NOT_OPEN", "ZK_IS_OPEN", "ZK_NO_MEMORY",
                                          "ZK_BAD_NAMESPACE", "ZK_BAD_PORTS", "ZK_BAD_LIMIT", "ZK_BAD_LENGTH", "ZK_NO_PAIR",
                                          "ZK_BUSY", "ZK_IDLE", "ZK_NEWER", "ZK_OUT_OF_RANGE", "ZK_CROSSES", "ZK_NO_VERSIONS",
-                                         /* Of a record that isn't lawful, of bytes that are none, and of one that is full: no row. */
+                                         /* Of what is judged, and of a record that is full: no row. */
                                          NULL, NULL, "ZK_SHORT_ROOM", "ZK_OTHER_PORTS", "ZK_NO_RECORD", NULL };
     bool right = true, answered[sizeof codes / sizeof *codes] = { false };
     size_t count = sizeof rows / sizeof *rows;
@@ -550,12 +657,18 @@ int main(int words, char **word)
         fprintf(stderr, "misuses: an audit to which memory is refused\n");
         right = false;
     }
+    size_t judged = 0;
+    if (!judges_are_answered(&judged)) {
+        fprintf(stderr, "misuses: a trace that is judged\n");
+        right = false;
+    }
     for (size_t i = 0; i < sizeof codes / sizeof *codes; i++)
         if (codes[i] && !answered[i]) {
             fprintf(stderr, "misuses: no row answers %s\n", codes[i]);
             right = false;
         }
     if (right)
-        printf("%zu calls, each answered as the table says, and no port or buffer written but with ZK_DONE\n", count);
+        printf("%zu calls, each answered as the table says, and no port or buffer written but with ZK_DONE; %zu judged, each with its line\n",
+               count, judged);
     return right ? 0 : 1;
 }

@@ -82,6 +82,14 @@ def arguments(run):
         run.expect(["nvq", "certify", "--record", f"{status}.nvr", "--argument", f"{status}.nva", trace], status, out=out)
     made = [os.path.exists(os.path.join(run.folder, name)) for name in ("0.nvr", "0.nva", "2.nvr", "2.nva")]
     run.hold("a record or an argument", made, [True, False, False, True])
+    arguments_weighed(run)
+    arguments_changed(run)
+    arguments_misplaced(run)
+    words_of_refute(run)
+
+
+def arguments_weighed(run):
+    """What arguments come to against traces that they refute, and against others."""
     for words in ("", "--strict"):
         run.expect(["nvmu", "refute", *words.split(), "wrong.nvt", "wrong.nva"], out="refuted unit 0 facts 1\n")
         run.expect(["nvmu", "refute", "right.nvt", "wrong.nva", *words.split()], 2, out="unrefuted FactWrong fact 0\n")
@@ -95,9 +103,6 @@ def arguments(run):
     trace_of(run, "unknown.nvt", STALE_TEXT.replace("start zeroes", "start unknown"))
     run.keep("stale.nva", STALE[0][0])
     run.expect(["nvmu", "refute", "unknown.nvt", "stale.nva"], 2, out="unrefuted NothingRefuted fact -\n")
-    arguments_changed(run)
-    arguments_misplaced(run)
-    words_of_refute(run)
 
 
 def arguments_changed(run):

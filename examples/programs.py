@@ -17,11 +17,13 @@ sys.path.insert(0, os.path.join(TOP, "sweep"))
 from arguments import arguments
 from devices import devices
 from drawn import pictures
+from drawn_arguments import drawn_arguments
 from explained import explained
 from forged import forged, spoiled
 from generated import lists_generated
 from hints import FOLDER, IS_OUTPUT, MISSING, NO_SPACE, no_host_file, the_line, told
 from host_files import Asked, compare, dataset, file_of, read, uncorrectable, unknown, write, zeroes
+from lists_expected import lists_expected
 from lists_run import lists_run
 from listings import listings
 from outs import outs_of_nvmu, outs_of_nvq, outs_that_are_read, shown_nowhere
@@ -387,9 +389,9 @@ def words_of_unit_bench(run):
         run.expect(["unit_bench", "run", "0", "1", name], 1, err="unit_bench: no host file\n")
 
 
-TABLES = [lists, words_of_nvq, listings, lists_run, lists_generated, explained, pictures, outs_of_nvq, words_of_nvmu, files_of_nvmu, files_that_stop, several_workers]
+TABLES = [lists, words_of_nvq, listings, lists_run, lists_expected, lists_generated, explained, pictures, outs_of_nvq, words_of_nvmu, files_of_nvmu, files_that_stop, several_workers]
 TABLES += [versions, standard_input, files_of_another_kind, outs_that_are_read]
-TABLES += [traces, words_of_certify, records_of_certify, arguments, devices, outs_of_nvmu, shown_nowhere, progress, runs, rows, forged, spoiled, two_owners, words_of_unit_bench]
+TABLES += [traces, words_of_certify, records_of_certify, arguments, drawn_arguments, devices, outs_of_nvmu, shown_nowhere, progress, runs, rows, forged, spoiled, two_owners, words_of_unit_bench]
 
 
 def tried():

@@ -96,8 +96,9 @@ def held(page, folder):
             is_told, is_ended = matches(ran.stderr, told), ran.returncode == 1
         else:
             is_told = told is None or is_apart(block) or matches(ran.stdout, told)
-            # such a verdict ends with 2, which the page shows by its line
-            is_ended = ran.returncode == 0 or ran.returncode == 2 and ran.stdout.startswith(("unlawful ", "unexplained ", "contradiction ", '{"verdict":"unlawful",'))
+            # such a verdict, or an expectation that isn't met, ends with 2, which the page shows by its line
+            is_two = ran.stdout.startswith(("unlawful ", "unexplained ", "contradiction ", '{"verdict":"unlawful",')) or "\nunmet " in ran.stdout
+            is_ended = ran.returncode == 0 or ran.returncode == 2 and is_two
         if is_told and is_ended:
             passed += 1
         else:

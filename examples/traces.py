@@ -191,6 +191,16 @@ def faults_of_texts(run):
     ):
         wrong = " ".join([*words[:at], word, *words[at + 1 :]])
         run.expect(["nvq", "trace", "-", "-"], 1, given=f"{head}\n{wrong}\n".encode(), err=told(f"nvq: line 2: {expected}", the_line(wrong)))
+    for wrong, why in (
+        ("2 1 1 4 zeroes 0 1 = 0/00", "it ended before it began"),
+        ("1 2 1 4 zeroes 0 1 = 0/00 41", "it has data and isn't a Read, or data of another length than its blocks"),
+        (
+            "1 2 1 4 read 0 1 + 5 read 0 1 = 0/00 0/00",
+            "its host isn't 1 to 64, its data isn't what it calls for, or its two commands aren't first and second of a pair",
+        ),
+    ):
+        err = told(f"nvq: line 2: expected what a trace can have, but {why}", the_line(wrong))
+        run.expect(["nvq", "trace", "-", "-"], 1, given=f"{head}\n{wrong}\n".encode(), err=err)
     run.expect(["nvq", "trace", "-", "-"], 1, given=b"# nothing\n", err="nvq: expected a trace's head\n")
     run.expect(["nvq", "trace", "missing", "-"], 1, err=told("nvq: cannot read missing", MISSING))
 

@@ -1,6 +1,6 @@
 /* The media side of an NVM Express controller: a namespace in memory that threads read and change through up to
- * ZK_MOST_PORTS ports. It also has the auditor, which judges the record of a run. Little-endian 64-bit machines. Link
- * libnvm_c.a and, for malloc and free, the toolchain's liblibc_c.a.
+ * ZK_MOST_PORTS ports. It also has the auditor, which judges the record of a run, and two judges of a device that is not this one: of what its
+ * hosts saw, by a record or by an argument. Little-endian 64-bit machines. Link libnvm_c.a and, for malloc and free, the toolchain's liblibc_c.a.
  *
  * A thread works through a port. Open a namespace with one port for each thread (or queue, or reactor), and give
  * each thread its own. No call waits, blocks or starts a thread: where another port holds the atomic unit that a
@@ -53,7 +53,7 @@ extern "C" {
 #define ZK_IDENTIFY_BYTES 4096
 
 /* What a call answers. Only with ZK_DONE and ZK_PENDING was anything done, and only with ZK_DONE is anything written, but for
- * zk_audit's line and zk_record's length. */
+ * zk_record's length and the line of zk_audit, zk_witness and zk_refute. */
 enum zk_code {
     ZK_DONE = 0,          /* It was done. */
     ZK_PENDING = 1,       /* The command is not done yet: call zk_poll. */
@@ -76,7 +76,11 @@ enum zk_code {
     ZK_SHORT_ROOM = 18,   /* The line with its byte of 0, or the record's file, is longer than its room. */
     ZK_OTHER_PORTS = 19,  /* These are not all ports of one namespace, in the order of zk_open. */
     ZK_NO_RECORD = 20,    /* The namespace was opened with ZK_NO_LIMIT. */
-    ZK_RECORD_FULL = 21   /* There were more than ZK_MOST_JOBS commands or pairs, which no record has. */
+    ZK_RECORD_FULL = 21,  /* There were more than ZK_MOST_JOBS commands or pairs, which no record has. */
+    ZK_UNEXPLAINED = 22,  /* The record does not explain the trace. */
+    ZK_UNREFUTED = 23,    /* The argument does not show that no record explains the trace. */
+    ZK_BAD_TRACE = 24,    /* The bytes are not those of a trace file. */
+    ZK_BAD_ARGUMENT = 25  /* The bytes are not those of an argument file. */
 };
 
 /* A port. Its bytes are the library's own. There are 64 of them, so that neighboring ports of an array, which threads use at the same
@@ -175,7 +179,7 @@ struct zk_status {
 int zk_read_now(struct zk_port *port, uint64_t slba, uint16_t nlb, uint8_t *data, size_t data_length,
                 struct zk_status *status);
 
-/* Room for any line that zk_audit writes. */
+/* Room for any line that zk_audit, zk_witness and zk_refute write. */
 #define ZK_LINE_BYTES 128
 
 /* Judges the record of a run by its file: whether in each atomic unit all answers together are those of a store that does one
@@ -191,6 +195,35 @@ int zk_read_now(struct zk_port *port, uint64_t slba, uint16_t nlb, uint8_t *data
  * It takes some memory for each byte of the file, and gives it back. It starts no thread, and waits for nothing.
  * Threads: any thread, any time. It uses no port. */
 int zk_audit(const uint8_t *bytes, size_t length, char *line, size_t room);
+
+/* Judges a trace, which is what the hosts of any device sent and saw, by a record of what the device may have done inside. Where the record
+ * explains it, each atomic unit behaved as a store that does one step at a time, each between the beginning and the end of its command. With
+ * `strict` each command is one step in each unit; without it, a Write that the standard lets a device tear may be. Judge a record by the `strict`
+ * under which it was made. `trace` is the whole file, as `nvq trace` or a test bench of yours writes it, and `record` that of a record, of either
+ * version, as `nvq certify --record` writes it; docs/FORMATS.md has the fields of both. `line` is as in zk_audit.
+ * ZK_DONE: the record explains the trace, and the line has its numbers, as `nvmu witness` prints them. Look at the number after `excused`: it counts
+ * the jobs that never ended, or ended with a reply that does not say what was done:
+ *     explained jobs 3 units 1 steps 4 excused 0 preparations 0
+ * ZK_UNEXPLAINED: this record does not explain it, and the line has the first fault. Another record may:
+ *     unexplained ReplyDiffers job 0 unit - place -
+ * ZK_BAD_TRACE, and if that is a trace ZK_BAD_RECORD: the bytes are no such file, and the line says why, as `nvmu` does after its name:
+ *     trace: truncated at 100
+ * ZK_SHORT_ROOM, ZK_NO_MEMORY: nothing was written. A line is never cut.
+ * It takes some memory for each byte of the files, and gives it back. It starts no thread, waits for nothing, and keeps no pointer.
+ * Threads: any thread, any time. It uses no port. */
+int zk_witness(const uint8_t *trace, size_t trace_length, const uint8_t *record, size_t record_length, bool strict, char *line, size_t room);
+
+/* Judges a trace by an argument that no record explains it: a list of facts, each of which follows from the trace and those before it, until they
+ * contradict each other. `trace`, `strict` and `line` are as in zk_witness, and `argument` is the whole file, as `nvq certify --argument` writes it.
+ * ZK_DONE: no record explains the trace, so the device is wrong, as far as it is held to `strict` or the standard. The line has the atomic unit
+ * and how many facts there are, as `nvmu refute` prints them:
+ *     refuted unit 0 facts 5
+ * ZK_UNREFUTED: the argument does not show that, and the line says why. Nothing is known of the trace:
+ *     unrefuted FactWrong fact 2
+ * ZK_BAD_TRACE, and if that is a trace ZK_BAD_ARGUMENT: the bytes are no such file, and the line says why:
+ *     argument: truncated at 4
+ * ZK_SHORT_ROOM, ZK_NO_MEMORY: as in zk_witness, and so are memory and threads. */
+int zk_refute(const uint8_t *trace, size_t trace_length, const uint8_t *argument, size_t argument_length, bool strict, char *line, size_t room);
 
 /* Gives the record of all that the ports of a namespace did since zk_open, as the bytes of a record file: a command that a check
  * refused is in it, and what zk_read_now answered is not. `ports` are all ports of one namespace, open, in the order in which zk_open
@@ -210,7 +243,7 @@ int zk_record(struct zk_port *ports, size_t count, uint8_t *bytes, size_t room, 
 
 /* NULL, which the library's own functions don't take, is answered here. A port that is NULL is not open; ports that are NULL are none. A
  * buffer that is NULL has no room: where its length is above 0, or the call has to write to it, the answer is ZK_BAD_LENGTH, and
- * ZK_SHORT_ROOM of zk_audit. A namespace that is NULL has no numbers. */
+ * for the line of zk_audit, zk_witness and zk_refute ZK_SHORT_ROOM. A namespace that is NULL has no numbers. */
 static inline int zk_open_or_null(struct zk_port *ports, size_t count, const struct zk_namespace *ns, uint32_t limit, bool versions)
 {
     return !ports ? ZK_BAD_PORTS : !ns ? ZK_BAD_NAMESPACE : zk_open(ports, count, ns, limit, versions);
@@ -260,6 +293,26 @@ static inline int zk_audit_or_null(const uint8_t *bytes, size_t length, char *li
     return !bytes && length ? ZK_BAD_LENGTH : !line ? ZK_SHORT_ROOM : zk_audit(bytes ? bytes : none, length, line, room);
 }
 
+static inline int zk_witness_or_null(const uint8_t *trace, size_t trace_length, const uint8_t *record, size_t record_length,
+                                     bool strict, char *line, size_t room)
+{
+    static const uint8_t none[1] = { 0 };
+    if ((!trace && trace_length) || (!record && record_length))
+        return ZK_BAD_LENGTH;
+    return !line ? ZK_SHORT_ROOM
+                 : zk_witness(trace ? trace : none, trace_length, record ? record : none, record_length, strict, line, room);
+}
+
+static inline int zk_refute_or_null(const uint8_t *trace, size_t trace_length, const uint8_t *argument, size_t argument_length,
+                                    bool strict, char *line, size_t room)
+{
+    static const uint8_t none[1] = { 0 };
+    if ((!trace && trace_length) || (!argument && argument_length))
+        return ZK_BAD_LENGTH;
+    return !line ? ZK_SHORT_ROOM
+                 : zk_refute(trace ? trace : none, trace_length, argument ? argument : none, argument_length, strict, line, room);
+}
+
 static inline int zk_record_or_null(struct zk_port *ports, size_t count, uint8_t *bytes, size_t room, size_t *length)
 {
     uint8_t none;
@@ -277,6 +330,8 @@ static inline int zk_record_or_null(struct zk_port *ports, size_t count, uint8_t
 #define zk_identify zk_identify_or_null
 #define zk_read_now zk_read_now_or_null
 #define zk_audit zk_audit_or_null
+#define zk_witness zk_witness_or_null
+#define zk_refute zk_refute_or_null
 #define zk_record zk_record_or_null
 
 /* The command identifier, the status code type and the status code of a completion queue entry. */

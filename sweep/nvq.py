@@ -21,6 +21,16 @@ from witnesses import certified, explained, judged, of_text
 # What is expected at the front of a list's line.
 NO_COMMAND = "expected write, read, compare, zeroes, uncorrectable, dataset, or op- and another opcode in two hexadecimal digits"
 FUSES = ["", " first", " second", " reserved"]
+# Commands that are refused before they take memory, and what is told of them.
+EXPECTING = "read 99 1 expect 0/80\nop-7f 0 1 expect 0/00\n"
+UNMET = """1 1 read 0/80
+  read 99 1: LBA Out of Range (0x80)
+1 2 op-7f 0/01
+  op-7f 0 1: Invalid Command Opcode (0x1)
+lawful jobs 2 units 4 changes 0 refused 0
+unmet 1 2 op-7f expected 0/00 got 0/01
+expectations 2 unmet 1
+"""
 PROGRAM = os.path.join(os.path.dirname(os.path.dirname(os.path.realpath(__file__))), "crates", "nvq", "out", "nvq")
 
 
@@ -143,6 +153,7 @@ def runs(folder):
     wrong = kept("wrong.list", b"read 0 1\n\nwrite 0 1 511*41\n")
     cut, empty, small = kept("cut.nvq", host[:700]), kept("empty.nvq", b""), kept("small.nvq", file_of([write(0, 0x41)]))
     many = kept("many.nvq", b"NVQ1" + file_of([unknown(0, 1)])[4:] * 65_536 + b"0")
+    expecting, unexpected = kept("expecting.list", EXPECTING.encode()), kept("unexpected.list", b"read 0 1 expect 2\n")
     missing = os.path.join(folder, "missing")
     of_hosts = recorded(Namespace(nabsn=7, limit=2), [host, file_of([read(6, 4)]), plain])
     of_nobody = replace(recorded(Namespace(), [file_of([])], workers=3), version=1)
@@ -204,6 +215,8 @@ def runs(folder):
         fault("numbers of no namespace to generate for", "geometry: Size", "generate", "--nsze", "0", "out", hint=GEOMETRY["Size"]),
         ran("lists that are run", [plain, file_of([read(0, 2), dataset((0, 1))])]),
         ran("a list that is run and a record before", [plain], **{Recording.name: b"old"}),
+        Run("what lists expect", "nvq", ["run", "--nsze", "32", "--workers", "1", "--check", expecting], 2, out=UNMET, units=4),
+        not_ran("a wrong expectation", f"{unexpected}: line 1: expected a status after expect, as in 2/85", unexpected, hint=the_line("read 0 1 expect 2")),
         ran("no commands that are run", [file_of([])], err="nvq: the lists have no command\n"),
         not_ran("a wrong line of a run", f"{wrong}: line 3: expected data of 512 bytes and not of 511", plain_list, wrong, hint=the_line("write 0 1 511*41")),
         not_ran("a missing list of a run", f"cannot read {missing}", plain_list, missing, hint=MISSING),

@@ -8,7 +8,7 @@ _nvq() {
     fi
     case ${COMP_WORDS[1]} in
     run)
-        options="--nsze --block --nabsn --nabo --nawun --nacwu --workers --limit --record -h --help"
+        options="--nsze --block --nabsn --nabo --nawun --nacwu --workers --limit --record --check -h --help"
         valued="--nsze --block --nabsn --nabo --nawun --nacwu --workers --limit --record"
         ;;
     generate)
@@ -44,8 +44,8 @@ _nvq() {
         valued=""
         ;;
     draw)
-        options="--unit --from -h --help"
-        valued="--unit --from"
+        options="--unit --from --argument --strict -h --help"
+        valued="--unit --from --argument"
         ;;
     esac
     # Where nothing is answered bash takes files: for an argument, and for what an option wants.

@@ -16,6 +16,7 @@ pub mod FaultName
 pub mod FaultPlace
 pub mod Verdict
 pub mod RecordedCalls
+pub mod OneThreadRun
 pub mod ReplyAtPoint
 pub mod OneAct
 pub mod Inside

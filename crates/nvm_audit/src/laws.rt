@@ -3,7 +3,6 @@
 ghost use Rattle.std.specs.Prelude.{◌≡◌, ◌⊎◌, ℕ, ◌*◌, ◌<◌, ◌≤◌, List, [], ◌∷◌, All, length, Some, None, true};
 ghost use Rattle.nvm_record.specs.Deeds.{IsAct, IsSingle, success_of};
 ghost use Rattle.nvm_record.specs.Lists.{IsAt};
-ghost use Rattle.nvm_record.specs.Medium.{zero_medium};
 ghost use Rattle.nvm_record.specs.Step.{Operation};
 ghost use Rattle.nvm_geometry.specs.Faults.{IsValid};
 ghost use Rattle.nvm_geometry.specs.Namespace.{Namespace};
@@ -17,7 +16,6 @@ ghost use Rattle.nvm_plan.specs.Shape.{HasOutcomeShape};
 ghost use Rattle.nvm_plan.specs.UnitPlace.{IsUnitPlace};
 ghost use Rattle.nvm_store.specs.declared.place.Place.{Place as UnitPlace};
 ghost use Rattle.nvm_store.specs.HistoryEntry.{HistoryEntry};
-ghost use Rattle.nvm_store.specs.PlacedRun.{RunStep, IsRunFrom};
 ghost use Rattle.nvm_store.specs.Point.{RestsOn};
 ghost use Rattle.nvm_audit.specs.declared.audit_fault.AuditFault.{AuditFault};
 ghost use Rattle.nvm_audit.specs.declared.audit_fault.AuditFault.TheVariants.{NoMemory};
@@ -26,9 +24,9 @@ ghost use Rattle.nvm_audit.specs.declared.version.Version.{Version as FileVersio
 ghost use Rattle.nvm_audit.specs.LawfulRecord.{HaveShapes, IsLawfulRecord};
 ghost use Rattle.nvm_audit.specs.NamedUnit.{names_unit};
 ghost use Rattle.nvm_audit.specs.OneAct.{entry_alone, IsOfOneAct, HasJust};
+ghost use Rattle.nvm_audit.specs.OneThreadRun.{IsOneThreadRun};
 ghost use Rattle.nvm_audit.specs.Recordable.{most_jobs, HoldsLimit, HoldsBody, IsRecordable, IsRecordableJob, IsRecordableEntry, IsRecordableDone};
 ghost use Rattle.nvm_audit.specs.RecordChecks.{HasNoFault, IsFirstFault};
-ghost use Rattle.nvm_audit.specs.RecordedCalls.{IsPlacedRunOf};
 ghost use Rattle.nvm_audit.specs.RecordedJob.{RecordedJob};
 ghost use Rattle.nvm_audit.specs.RecordedPart.{RecordedPart, parts_in_unit};
 ghost use Rattle.nvm_audit.specs.RecordView.{RecordView};
@@ -136,9 +134,7 @@ pub fn one_act_can_be_held()
 /// between them, at its point, each part that looked or whose pair failed, with each worker's parts in the worker's order; and
 /// that is a run of the step from zero bytes, in which every entry succeeds and each part has the answer that it got.
 pub fn lawful_units_are_runs()
-    ensures { (r : RecordView) (unit : ℕ) (history : List HistoryEntry) → IsLawfulRecord r → IsAt r.units unit history
-        → (run : List RunStep) × IsPlacedRunOf r.namespace r.jobs history (parts_in_unit unit r.done) run
-        × IsRunFrom r.namespace.block_size (zero_medium r.namespace.block_size) run }
+    ensures { (r : RecordView) → IsLawfulRecord r → IsOneThreadRun r }
 {
     parts_keep_their_kind();
     parts_of_jobs();

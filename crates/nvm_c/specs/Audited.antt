@@ -1,5 +1,5 @@
 -- What C is told of bytes that should be a record's file: the code, and a line of text.
-use Rattle.std.specs.Prelude.{◌≡◌, ◌⊎◌, ℕ, ◌<◌, ◌≤◌, List, [], ◌∷◌, ◌++◌, length, Result, Ok, Err}
+use Rattle.std.specs.Prelude.{◌≡◌, ◌⊎◌, ℕ, List, Result, Ok, Err}
 use Rattle.nvm_audit.specs.LawfulRecord.{IsLawfulRecord}
 use Rattle.nvm_audit.specs.RecordChecks.{IsFirstFault}
 use Rattle.nvm_audit.specs.RecordView.{RecordView}
@@ -9,7 +9,7 @@ use Rattle.nvm_file.specs.Reading.{record_at}
 use Rattle.nvm_file.specs.declared.record_fault.RecordFault.{RecordFault}
 use Rattle.nvm_engine.specs.Judged.{IsJudgedAs}
 use Rattle.nvm_engine.specs.VerdictLine.{answer_line}
-use Rattle.nvm_c.specs.Told.{overwritten}
+use Rattle.nvm_c.specs.LineRoom.{IsInRoom, IsTooLong}
 use Rattle.nvm_c.specs.UnreadLine.{unread_line}
 use Rattle.nvm_c.specs.declared.audit_code.AuditCode.{AuditCode}
 use Rattle.nvm_c.specs.declared.audit_code.AuditCode.TheVariants.{Lawful, Unlawful, BadRecord, NoMemory, ShortRoom}
@@ -42,22 +42,11 @@ IsFoundOf (Err fault) code line = IsUnread fault code line
 abbrev pub IsFound : List ℕ → AuditCode → List ℕ → Type 0
 IsFound bytes code line = IsFoundOf (record_at bytes) code line
 
--- The line stands in its room, with a byte of 0 behind it, and C is told the code.
-pub record IsTold (found code : AuditCode) (line old new : List ℕ) : Type 0 where
-  pub code_is : code ≡ found
-  pub room : length line < length old
-  pub written : new ≡ overwritten (line ++ 0 ∷ []) old
-
--- The line with its byte of 0 is longer than its room, and nothing is written.
-pub record IsTooLong (code : AuditCode) (line old new : List ℕ) : Type 0 where
-  pub code_is : code ≡ ShortRoom
-  pub room : length old ≤ length line
-  pub kept : new ≡ old
-
 -- What was found is told, or its line is too long.
 abbrev pub IsAnswer : List ℕ → AuditCode → List ℕ → List ℕ → Type 0
 IsAnswer bytes code old new =
-    (found : AuditCode) × (line : List ℕ) × IsFound bytes found line × (IsTold found code line old new ⊎ IsTooLong code line old new)
+    (found : AuditCode) × (line : List ℕ) × IsFound bytes found line
+    × (((code ≡ found) × IsInRoom line old new) ⊎ ((code ≡ ShortRoom) × IsTooLong line old new))
 
 -- What an audit of the bytes answers, unless memory was refused.
 abbrev pub IsAudited : List ℕ → AuditCode → List ℕ → List ℕ → Type 0

@@ -1,2 +1,3 @@
 -- What stands in Inside is cited by private functions and invariants alone: no public clause needs it.
 pub mod Gathering
+pub mod Line

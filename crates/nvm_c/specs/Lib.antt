@@ -12,7 +12,13 @@ pub mod ReadNow
 pub mod Identify
 pub mod AuditCodes
 pub mod UnreadLine
+pub mod LineRoom
 pub mod Audited
+pub mod TraceCodes
+pub mod UnreadTrace
+pub mod TraceAnswer
+pub mod Witnessed
+pub mod Weighed
 pub mod RecordCodes
 pub mod Recorded
 pub mod Inside

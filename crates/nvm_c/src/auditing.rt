@@ -2,11 +2,11 @@
 ghost use Rattle.std.specs.Prelude.{◌≡◌, ◌≢◌, ◌++◌, IfOk, OnOk, decimal};
 ghost use Rattle.nvm_file.specs.declared.record_fault.RecordFault.TheVariants.{NoMemory as NoMemoryFault};
 ghost use Rattle.nvm_c.specs.Audited as spec;
-ghost use Rattle.nvm_c.specs.Audited.{IsAudited, IsFound, IsRuling, IsUnread};
+ghost use Rattle.nvm_c.specs.Audited.{IsAudited, IsFound, IsRuling};
 ghost use Rattle.nvm_c.specs.UnreadLine as unread;
 
 use crate::audit_code::AuditCode;
-use crate::telling::overwrite;
+use crate::line::{LineFault, put_line};
 use nvm_audit::Record;
 use nvm_engine::{Judged, judge_alone};
 use nvm_file::{RecordFault, read_record};
@@ -29,15 +29,12 @@ pub(crate) fn audited(alloc: Global, bytes: &[u8], room: &mut [u8]) -> AuditCode
     let Ok(found) = finding_in(alloc, bytes) else {
         return AuditCode::NoMemory;
     };
-    let Found { code, mut line } = found;
-    if line.push(0).is_err() {
-        return AuditCode::NoMemory;
+    let Found { code, line } = found;
+    match put_line(line, room) {
+        Ok(()) => code,
+        Err(LineFault::NoMemory) => AuditCode::NoMemory,
+        Err(LineFault::ShortRoom) => AuditCode::ShortRoom,
     }
-    if room.len() < line.len() {
-        return AuditCode::ShortRoom;
-    }
-    overwrite(room, &line);
-    code
 }
 
 /// What is found in the bytes.
@@ -47,7 +44,10 @@ fn finding_in(alloc: Global, bytes: &[u8]) -> Result<Found, NoMemory>
     let file = Payload::copy_of(alloc, bytes)?;
     match read_record(alloc, &file) {
         Ok(record) => ruling(alloc, &record),
-        Err(fault) => unread(alloc, fault),
+        Err(fault) => Ok(Found {
+            code: AuditCode::BadRecord,
+            line: unread_line(alloc, fault)?,
+        }),
     }
 }
 
@@ -77,19 +77,16 @@ fn code_of(judged: &Judged) -> AuditCode
     }
 }
 
-/// What is found in bytes that are no record's file. Want of memory is no fault of theirs: it is answered.
-fn unread(alloc: Global, fault: RecordFault) -> Result<Found, NoMemory>
+/// The line of bytes that are no record's file. Want of memory is no fault of theirs: it is answered.
+pub(crate) fn unread_line(alloc: Global, fault: RecordFault) -> Result<Vec<u8>, NoMemory>
     ensures known { OnOk result (fault ≢ NoMemoryFault) }
-    ensures found { IfOk result (λ found. IsUnread fault found.code found.line.items) }
+    ensures line { IfOk result (λ line. line.items ≡ unread.unread_line fault) }
 {
     let mut line = Vec::new(alloc);
     line.extend_from_slice(b"record: ")?;
     push_fault(&mut line, fault)?;
     line.push(b'\n')?;
-    Ok(Found {
-        code: AuditCode::BadRecord,
-        line,
-    })
+    Ok(line)
 }
 
 /// Appends the fault in words.

@@ -10,8 +10,14 @@ ghost use Rattle.nvm_c.specs.ReadNow.{ReadsAt};
 ghost use Rattle.nvm_c.specs.declared.audit_code.AuditCode.{AuditCode as AuditAnswer};
 ghost use Rattle.nvm_c.specs.RecordCodes.{record_number};
 ghost use Rattle.nvm_c.specs.Recorded.{IsRecorded};
+ghost use Rattle.nvm_c.specs.TraceAnswer as spec;
+ghost use Rattle.nvm_c.specs.TraceAnswer.{IsAnswer, judging_of};
+ghost use Rattle.nvm_c.specs.TraceCodes.{trace_number};
+ghost use Rattle.nvm_c.specs.Weighed.{IsWeighed};
+ghost use Rattle.nvm_c.specs.Witnessed.{IsWitnessed};
 ghost use Rattle.nvm_c.specs.declared.code.Code.{Code as Answer};
 ghost use Rattle.nvm_c.specs.declared.record_code.RecordCode.{RecordCode as Recording};
+ghost use Rattle.nvm_c.specs.declared.trace_code.TraceCode.{TraceCode as TraceAnswer};
 
 use crate::auditing::audited;
 use crate::code::Code;
@@ -20,6 +26,9 @@ use crate::identify::{IDENTIFY_BYTES, identify};
 use crate::opening::{Numbers, open_ports};
 use crate::reading::ReadStatus;
 use crate::recording::record_ports;
+use crate::weighing::weighed;
+use crate::witnessing::witnessed;
+use nvm_trace::Judging;
 use std::alloc::Global;
 
 /// The version of the header that goes with this library.
@@ -155,6 +164,51 @@ pub extern "C" fn zk_audit(alloc: Global, bytes: &[u8], line: &mut [u8]) -> i32
     ensures { (code : AuditAnswer) × (result ≡ audit_number code) × IsAudited bytes.now code line.old line.new }
 {
     audited(alloc, bytes, line).number()
+}
+
+/// Judges the trace that the one file has by the record that the other has, and writes the line of that with a byte of 0 after it.
+/// Answers 0 where the record explains the trace, 22 where it doesn't, 24 where the bytes are no trace's file, and 17 where they are no
+/// record's. Nothing is written with 18, where the line with its byte of 0 is longer than the room, and with 4, where memory was refused.
+#[unsafe(no_mangle)]
+pub extern "C" fn zk_witness(
+    alloc: Global,
+    trace: &[u8],
+    record: &[u8],
+    strict: bool,
+    line: &mut [u8],
+) -> i32
+    ensures { (code : TraceAnswer) × (result ≡ trace_number code)
+        × IsAnswer (IsWitnessed (judging_of strict) trace.now «record».now) code line.old line.new }
+{
+    witnessed(alloc, judging_of(strict), trace, record, line).number()
+}
+
+/// Judges the trace that the one file has by the argument that the other has, and writes the line of that with a byte of 0 after it.
+/// Answers 0 where the argument shows that no record explains the trace, 23 where it doesn't, 24 where the bytes are no trace's file,
+/// and 25 where they are no argument's. Nothing is written with 18 and 4, as by `zk_witness`.
+#[unsafe(no_mangle)]
+pub extern "C" fn zk_refute(
+    alloc: Global,
+    trace: &[u8],
+    argument: &[u8],
+    strict: bool,
+    line: &mut [u8],
+) -> i32
+    ensures { (code : TraceAnswer) × (result ≡ trace_number code)
+        × IsAnswer (IsWeighed (judging_of strict) trace.now argument.now) code line.old line.new }
+{
+    weighed(alloc, judging_of(strict), trace, argument, line).number()
+}
+
+/// What the device is held to.
+fn judging_of(strict: bool) -> Judging
+    ensures { result ≡ spec.judging_of strict }
+{
+    if strict {
+        Judging::Strict
+    } else {
+        Judging::Standard
+    }
 }
 
 /// Writes the file of the record of what all ports of a namespace did, and its length. Any other answer than 0 leaves the bytes as

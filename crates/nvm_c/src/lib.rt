@@ -1,5 +1,5 @@
 //! The live engine, for C: handles on the ports of a namespace, and jobs that are begun and polled by them. It also has the auditor,
-//! for the bytes of a record's file.
+//! for the bytes of a record's file, and the two judges of a trace, for the bytes of its file and of a record's or an argument's.
 //!
 //! `include/zalkvorn.h` says to C what the exports are. Nothing here waits, wakes or starts a thread.
 #![tactic(auto)]
@@ -11,11 +11,13 @@ mod auditing;
 mod code;
 mod engine;
 mod exports;
+mod finding;
 mod gather_fault;
 mod gathering;
 mod handle;
 mod histories;
 mod identify;
+mod line;
 mod log;
 mod opening;
 mod quiet;
@@ -23,4 +25,7 @@ mod reading;
 mod record_code;
 mod recording;
 mod telling;
+mod trace_code;
+mod weighing;
+mod witnessing;
 mod work;

@@ -39,7 +39,7 @@ impl Display for OrderText {
 }
 
 /// When a job that ended so did, if it did.
-pub(crate) fn time_of(ended: &Option<Ending>) -> Option<u64>
+pub fn time_of(ended: &Option<Ending>) -> Option<u64>
     ensures { result ≡ spec.time_of ended.now }
 {
     match ended {
@@ -70,8 +70,9 @@ pub(crate) fn began_at(jobs: &[TracedJob], number: usize) -> Option<u64>
     }
 }
 
-/// Appends the line of a fact.
-pub(crate) fn push_fact(
+/// Appends the line of a fact, with its line feed: which piece comes before which, and by which rule. `names` are those of all pieces of
+/// these jobs. Where memory is refused the text has what it had, and maybe a front of the line.
+pub fn push_fact(
     text: &mut String,
     names: &[PieceName],
     jobs: &[TracedJob],

@@ -15,9 +15,9 @@ use std::fmt::{Display, Formatter};
 
 /// A piece of a trace's commands: the number of its job in the trace, and what of the job it is.
 #[derive(Clone, Copy)]
-pub(crate) struct PieceName {
-    pub(crate) job: usize,
-    pub(crate) cut: Cut,
+pub struct PieceName {
+    pub job: usize,
+    pub cut: Cut,
 }
 
 impl Display for PieceName {
@@ -84,12 +84,8 @@ fn put_names(
     }
 }
 
-/// The names of all pieces of a trace's commands, each at the place of its number.
-pub(crate) fn names(
-    alloc: Global,
-    judging: Judging,
-    trace: &Trace,
-) -> Result<Vec<PieceName>, NoMemory>
+/// The names of all pieces of a trace's commands, each at the place of its number. `NoMemory` is answered where a growth was refused.
+pub fn names(alloc: Global, judging: Judging, trace: &Trace) -> Result<Vec<PieceName>, NoMemory>
     ensures { IfOk result (λ names. names.items ≡ spec.names judging «trace».now) }
 {
     let mut names = Vec::new(alloc);

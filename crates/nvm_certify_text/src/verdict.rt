@@ -219,8 +219,9 @@ fn push_facts(
     push_end(text, names, facts)
 }
 
-/// Appends what the facts come to.
-fn push_end(text: &mut String, names: &[PieceName], facts: &[Fact]) -> Result<(), NoMemory>
+/// Appends what the facts come to, as a line: nothing, if the last of them puts no piece before another. Where memory is refused the text
+/// has what it had, and maybe a front of the line.
+pub fn push_end(text: &mut String, names: &[PieceName], facts: &[Fact]) -> Result<(), NoMemory>
     ensures { OnOk result (string_bytes text.new ≡ string_bytes text.old ++ spec.last_line names.now facts.now) }
 {
     match last_earlier(facts) {

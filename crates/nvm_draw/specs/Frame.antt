@@ -1,15 +1,13 @@
 -- How a picture begins: its size, how things look, and the paper.
-use Rattle.std.specs.Prelude.{ℕ, List, [], ◌∷◌, ◌++◌, codes}
+use Rattle.std.specs.Prelude.{ℕ, List, [], ◌∷◌, ◌++◌, codes, decimal}
 use Rattle.std.specs.List.{flat_map}
-use Rattle.nvm_report.specs.Numbered.{numbered}
 
--- The end of the first tag, and how things look. The first eight workers have colours of their own, and the others these with a border.
+-- How things look. The first eight workers have colours of their own, and the others these with a border.
 unfoldable pub style_text : List ℕ
 style_text =
     flat_map
     (λ line. line)
-    (codes "'>\n"
-    ∷ codes "<style type='text/css'>\n"
+    (codes "<style type='text/css'>\n"
     ∷ codes "text{font-family:DejaVu Sans Mono,Consolas,monospace;font-size:11px;fill:#333}\n"
     ∷ codes ".paper{fill:#fff}\n"
     ∷ codes ".title{font-size:16px;font-weight:bold}\n"
@@ -41,12 +39,10 @@ style_text =
     ∷ codes "</style>\n"
     ∷ [])
 
-unfoldable pub size_text : ℕ → ℕ → List ℕ
-size_text width height = numbered (codes " width='") width ++ numbered (codes "' height='") height
-
 unfoldable pub frame_text : ℕ → ℕ → List ℕ
 frame_text width height =
-    codes "<svg xmlns='http://www.w3.org/2000/svg' version='1.1'"
-    ++ (size_text width height
-    ++ (style_text
-    ++ (codes "<rect class='paper'" ++ (size_text width height ++ codes "'/>\n"))))
+    codes "<svg xmlns='http://www.w3.org/2000/svg' version='1.1' width='" ++ (decimal width
+    ++ (codes "' height='" ++ (decimal height
+    ++ (codes "'>\n" ++ (style_text
+    ++ (codes "<rect class='paper' width='" ++ (decimal width
+    ++ (codes "' height='" ++ (decimal height ++ codes "'/>\n")))))))))

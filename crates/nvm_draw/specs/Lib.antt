@@ -1,6 +1,6 @@
 pub mod Sizes
 pub mod Wrong
-pub mod Group
+pub mod Colour
 pub mod Letters
 pub mod Entries
 pub mod Marks

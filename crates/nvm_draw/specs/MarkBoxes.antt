@@ -1,38 +1,34 @@
 -- How marks are drawn: those of one point below each other, before the entry of that place. Of more than three, the first two stand
 -- there, and the number of the others.
-use Rattle.std.specs.Prelude.{ℕ, ◌+◌, ◌-◌, ◌*◌, nat_le, nat_lt, if◌then◌else◌, List, [], ◌∷◌, ◌++◌, length, take, drop, Bool, true, false, ◌||◌, Option, codes}
+use Rattle.std.specs.Prelude.{ℕ, ◌+◌, ◌-◌, ◌*◌, nat_le, nat_lt, if◌then◌else◌, List, [], ◌∷◌, ◌++◌, length, take, drop, Bool, true, false, Option, codes, decimal}
+use Rattle.std.specs.List.{list_any}
 use Rattle.nvm_plan.specs.declared.job.Job.{Job}
-use Rattle.nvm_report.specs.Numbered.{numbered}
 use Rattle.nvm_report.specs.DoneLines.{part_line}
 use Rattle.nvm_draw.specs.declared.mark.Mark.{Mark}
 use Rattle.nvm_draw.specs.declared.wrong.Wrong.{Wrong}
-use Rattle.nvm_draw.specs.Group.{group_text, stand_text}
+use Rattle.nvm_draw.specs.Colour.{colour_text}
 use Rattle.nvm_draw.specs.Letters.{letter}
 use Rattle.nvm_draw.specs.Wrong.{is_wrong}
 
--- the mark's line in a listing, which is shown where one points at the mark, and the mark itself
-unfoldable pub titled_text : Mark → List ℕ
-titled_text mark =
-    codes "<title>"
-    ++ (part_line mark.worker mark.job mark.part
-    ++ codes "</title><rect width='18' height='13' rx='6'/><text x='9' y='10'>")
-
--- a ring where the mark is wrong
-abbrev pub mark_end : Bool → List ℕ
-mark_end true = codes "</text><rect class='ring' x='-3' y='-3' width='24' height='19' rx='8'/></g>\n"
-mark_end false = codes "</text></g>\n"
+abbrev pub mark_ring : Bool → List ℕ
+mark_ring true = codes "<rect class='ring' x='-3' y='-3' width='24' height='19' rx='8'/>"
+mark_ring false = []
 
 abbrev pub is_wrong_mark : Option Wrong → Mark → Bool
 is_wrong_mark wrong mark = is_wrong wrong mark.part.unit mark.part.point mark.job
 
 abbrev pub has_wrong_mark : Option Wrong → List Mark → Bool
-has_wrong_mark wrong [] = false
-has_wrong_mark wrong (mark ∷ marks) = is_wrong_mark wrong mark || has_wrong_mark wrong marks
+has_wrong_mark wrong marks = list_any (λ mark. is_wrong_mark wrong mark) marks
 
+-- One mark at a place of the row, x pixels from its left and y from its top. Its title is the part's line in a listing. It has a ring where it is wrong.
 unfoldable pub mark_text : List Job → Option Wrong → ℕ → ℕ → Mark → List ℕ
 mark_text jobs wrong x y mark =
-    group_text (codes "mark") mark.worker x y
-    ++ (titled_text mark ++ (letter jobs mark ++ mark_end (is_wrong_mark wrong mark)))
+    codes "<g class='mark" ++ (colour_text mark.worker
+    ++ (codes "' transform='translate(" ++ (decimal x
+    ++ (codes "," ++ (decimal y
+    ++ (codes ")'><title>" ++ (part_line mark.worker mark.job mark.part
+    ++ (codes "</title><rect width='18' height='13' rx='6'/><text x='9' y='10'>" ++ (letter jobs mark
+    ++ (codes "</text>" ++ (mark_ring (is_wrong_mark wrong mark) ++ codes "</g>\n")))))))))))
 
 -- marks below each other, the first of which is on this level
 abbrev pub marks_text : List Job → Option Wrong → ℕ → ℕ → List Mark → List ℕ
@@ -44,25 +40,22 @@ abbrev pub mark_lines : List Mark → List ℕ
 mark_lines [] = []
 mark_lines (mark ∷ marks) = part_line mark.worker mark.job mark.part ++ mark_lines marks
 
--- a number of two digits, or that it is larger
-abbrev pub many_text : ℕ → List ℕ
-many_text count = if nat_lt 99 count then codes "&gt;99" else numbered (codes "+") count
-
 -- how many lines more there are than the title has
 abbrev pub more_lines : ℕ → List ℕ
-more_lines count = if nat_lt 16 count then numbered (codes "and ") (count - 16) ++ codes " more\n" else []
+more_lines count = if nat_lt 16 count then codes "and " ++ (decimal (count - 16) ++ codes " more\n") else []
 
--- the lines of marks, of the first 16 if there are more, and their number
-unfoldable pub rest_text : List Mark → List ℕ
-rest_text marks =
-    codes "<title>"
-    ++ (mark_lines (take 16 marks)
-    ++ (more_lines (length marks)
-    ++ (codes "</title><rect width='18' height='13' rx='2'/><text x='9' y='10'>" ++ many_text (length marks))))
+-- a number of two digits, or that it is larger
+abbrev pub many_text : ℕ → List ℕ
+many_text count = if nat_lt 99 count then codes "&gt;99" else codes "+" ++ decimal count
 
+-- the number of marks, with the lines of the first 16 as their title
 unfoldable pub others_text : Option Wrong → ℕ → List Mark → List ℕ
 others_text wrong x marks =
-    codes "<g class='mark others" ++ (stand_text x 30 ++ (rest_text marks ++ mark_end (has_wrong_mark wrong marks)))
+    codes "<g class='mark others' transform='translate(" ++ (decimal x
+    ++ (codes ",30)'><title>" ++ (mark_lines (take 16 marks)
+    ++ (more_lines (length marks)
+    ++ (codes "</title><rect width='18' height='13' rx='2'/><text x='9' y='10'>" ++ (many_text (length marks)
+    ++ (codes "</text>" ++ (mark_ring (has_wrong_mark wrong marks) ++ codes "</g>\n"))))))))
 
 -- the marks of one point
 abbrev pub stack_text : List Job → Option Wrong → ℕ → List Mark → List ℕ

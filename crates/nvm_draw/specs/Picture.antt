@@ -9,9 +9,9 @@ use Rattle.nvm_audit.specs.Verdict.{IsVerdict}
 use Rattle.nvm_draw.specs.declared.sheet.Sheet.{Sheet}
 use Rattle.nvm_draw.specs.declared.window.Window.{Window}
 use Rattle.nvm_draw.specs.declared.wrong.Wrong.{Wrong}
-use Rattle.nvm_draw.specs.Caption.{answer_text, cut_text, title_text}
+use Rattle.nvm_draw.specs.Caption.{caption_text}
 use Rattle.nvm_draw.specs.Frame.{frame_text}
-use Rattle.nvm_draw.specs.Key.{key_text, places_text}
+use Rattle.nvm_draw.specs.Key.{key_text}
 use Rattle.nvm_draw.specs.Rows.{rows_text}
 use Rattle.nvm_draw.specs.Sheet.{IsSheet}
 use Rattle.nvm_draw.specs.Sizes.{height, width}
@@ -27,20 +27,11 @@ abbrev pub wrong_in : Result Verdict AuditFault → Option Wrong
 wrong_in (Ok verdict) = None
 wrong_in (Err fault) = wrong_of fault
 
--- what stands above the answer
-unfoldable pub above_text : RecordView → Sheet → List ℕ
-above_text r sheet = frame_text (width sheet.columns) (height r.workers (length sheet.rows.items)) ++ title_text r
-
--- what stands between the answer and the rows
-unfoldable pub between_text : RecordView → Sheet → List ℕ
-between_text r sheet =
-    cut_text (length r.units) sheet ++ (key_text r.workers ++ places_text r.workers sheet.from sheet.columns)
-
 unfoldable pub picture_text : RecordView → Result Verdict AuditFault → Sheet → List ℕ
 picture_text r answer sheet =
-    above_text r sheet
-    ++ (answer_text answer
-    ++ (between_text r sheet
+    frame_text (width sheet.columns) (height r.workers (length sheet.rows.items))
+    ++ (caption_text r answer sheet
+    ++ (key_text r.workers sheet.from sheet.columns
     ++ (rows_text r (wrong_in answer) sheet.from sheet.columns 0 sheet.rows.items ++ codes "</svg>\n")))
 
 -- It tells what an audit answers of the record, and draws the units of the window.

@@ -1,92 +1,90 @@
-ghost use Rattle.std.specs.Prelude.{◌≡◌, ◌++◌, min, OnOk, string_bytes};
+ghost use Rattle.std.specs.Prelude.{◌≡◌, ◌++◌, OnOk, Some, string_bytes};
 ghost use Rattle.nvm_draw.specs.Caption as spec;
 
 use crate::sheet::Sheet;
 use crate::wrong::Wrong;
 use nvm_audit::{AuditFault, Record, Spot, Verdict};
 use nvm_record::NoMemory;
-use nvm_report::push_numbered;
+use std::fmt;
+use std::fmt::{Display, Formatter};
+
+/// Appends the lines at the top: what the record is of, what an audit answered, and what isn't drawn.
+#[tactic(auto, unfolding(crate::specs::Caption::caption_text))]
+pub(crate) fn push_caption(
+    text: &mut String,
+    run: &Record,
+    answer: &Result<Verdict, AuditFault>,
+    sheet: &Sheet,
+) -> Result<(), NoMemory>
+    ensures { OnOk result (string_bytes text.new ≡ string_bytes text.old ++ spec.caption_text run.now answer.now sheet.now) }
+{
+    push_title(text, run)?;
+    push_answer(text, answer)?;
+    push_cut(text, run.units.len() as u64, sheet)?;
+    Ok(())
+}
 
 /// Appends what the record is of.
 #[tactic(auto, unfolding(crate::specs::Caption::title_text))]
-pub(crate) fn push_title(text: &mut String, run: &Record) -> Result<(), NoMemory>
+fn push_title(text: &mut String, run: &Record) -> Result<(), NoMemory>
     ensures { OnOk result (string_bytes text.new ≡ string_bytes text.old ++ spec.title_text run.now) }
 {
-    push_numbered(
+    let jobs = run.jobs.len();
+    let workers = run.workers;
+    let units = run.units.len();
+    let limit = run.limit.entries();
+    write!(
         text,
-        "<text class='title' x='16' y='28'>Record: jobs ",
-        run.jobs.len() as u64,
-    )?;
-    push_numbered(text, ", workers ", u64::from(run.workers))?;
-    push_numbered(text, ", units ", run.units.len() as u64)?;
-    push_numbered(text, ", limit ", u64::from(run.limit.entries()))?;
-    text.push_str("</text>\n")?;
-    Ok(())
+        "<text class='title' x='16' y='28'>Record: jobs {jobs}, workers {workers}, units {units}, limit {limit}</text>\n"
+    )
 }
 
 /// Appends the verdict of a lawful record, or the first fault of another.
-pub(crate) fn push_answer(
-    text: &mut String,
-    answer: &Result<Verdict, AuditFault>,
-) -> Result<(), NoMemory>
+#[tactic(auto, unfolding(crate::specs::Caption::lawful_text, crate::specs::Caption::unlawful_text))]
+fn push_answer(text: &mut String, answer: &Result<Verdict, AuditFault>) -> Result<(), NoMemory>
     ensures { OnOk result (string_bytes text.new ≡ string_bytes text.old ++ spec.answer_text answer.now) }
 {
     match answer {
-        Ok(verdict) => push_lawful(text, *verdict),
-        Err(fault) => push_unlawful(text, *fault),
+        Ok(verdict) => {
+            let Verdict {
+                jobs,
+                units,
+                changes,
+                refused,
+            } = *verdict;
+            write!(
+                text,
+                "<text class='lawful' x='16' y='52'>lawful: jobs {jobs}, units {units}, changes {changes}, refused {refused}</text>\n"
+            )
+        }
+        Err(fault) => {
+            let name = fault.name();
+            let place = WrongText(Wrong::of(*fault));
+            let meaning = meaning(*fault);
+            write!(
+                text,
+                "<text class='unlawful' x='16' y='52'>unlawful: {name}{place}{meaning}</text>\n"
+            )
+        }
     }
 }
 
-/// Appends the numbers of a lawful record.
-#[tactic(auto, unfolding(crate::specs::Caption::lawful_text))]
-fn push_lawful(text: &mut String, verdict: Verdict) -> Result<(), NoMemory>
-    ensures { OnOk result (string_bytes text.new ≡ string_bytes text.old ++ spec.lawful_text verdict) }
-{
-    push_numbered(
-        text,
-        "<text class='lawful' x='16' y='52'>lawful: jobs ",
-        u64::from(verdict.jobs),
-    )?;
-    push_numbered(text, ", units ", u64::from(verdict.units))?;
-    push_numbered(text, ", changes ", verdict.changes)?;
-    push_numbered(text, ", refused ", u64::from(verdict.refused))?;
-    text.push_str("</text>\n")?;
-    Ok(())
-}
+/// The job of a fault, and where in a unit the fault is, if it is in one.
+#[derive(Clone, Copy)]
+struct WrongText(Option<Wrong>);
 
-/// Appends the name of a fault, where it is, and what it means.
-#[tactic(auto, unfolding(crate::specs::Caption::unlawful_text))]
-fn push_unlawful(text: &mut String, fault: AuditFault) -> Result<(), NoMemory>
-    ensures { OnOk result (string_bytes text.new ≡ string_bytes text.old ++ spec.unlawful_text fault) }
-{
-    text.push_str("<text class='unlawful' x='16' y='52'>unlawful: ")?;
-    text.push_str(fault.name())?;
-    push_wrong(text, Wrong::of(fault))?;
-    text.push_str(meaning(fault))?;
-    text.push_str("</text>\n")?;
-    Ok(())
-}
+impl Display for WrongText {
+    ghost output = { λ text. Some (spec.wrong_text text.0) };
 
-/// Appends the job of a fault, and where the fault is.
-fn push_wrong(text: &mut String, wrong: Option<Wrong>) -> Result<(), NoMemory>
-    ensures { OnOk result (string_bytes text.new ≡ string_bytes text.old ++ spec.wrong_text wrong) }
-{
-    let Some(wrong) = wrong else {
-        return Ok(());
-    };
-    push_numbered(text, ", job ", u64::from(wrong.job))?;
-    push_spot(text, wrong.spot)
-}
-
-/// Appends where in a unit a fault is, if it is in one.
-fn push_spot(text: &mut String, spot: Option<Spot>) -> Result<(), NoMemory>
-    ensures { OnOk result (string_bytes text.new ≡ string_bytes text.old ++ spec.spot_text spot) }
-{
-    let Some(spot) = spot else {
-        return Ok(());
-    };
-    push_numbered(text, ", unit ", u64::from(spot.unit))?;
-    push_numbered(text, ", place ", u64::from(spot.place))
+    fn fmt<W: fmt::Write>(&self, f: &mut Formatter<W>) -> fmt::Result {
+        let Some(Wrong { job, spot }) = self.0 else {
+            return Ok(());
+        };
+        match spot {
+            Some(Spot { unit, place }) => write!(f, ", job {job}, unit {unit}, place {place}"),
+            None => write!(f, ", job {job}"),
+        }
+    }
 }
 
 /// What a fault means.
@@ -109,82 +107,76 @@ fn meaning(fault: AuditFault) -> &'static str
 
 /// Appends what isn't drawn of so many units.
 #[tactic(auto, unfolding(crate::specs::Caption::cut_text))]
-pub(crate) fn push_cut(text: &mut String, units: u64, sheet: &Sheet) -> Result<(), NoMemory>
+fn push_cut(text: &mut String, units: u64, sheet: &Sheet) -> Result<(), NoMemory>
     ensures { OnOk result (string_bytes text.new ≡ string_bytes text.old ++ spec.cut_text units sheet.now) }
 {
-    push_cut_units(text, units, sheet)?;
-    push_before(text, "; places 0 to ", u64::from(sheet.from))?;
-    push_further(text, sheet.has_more, sheet.from)?;
-    push_hidden(text, sheet.hides_fault)?;
-    text.push_str("</text>\n")?;
-    Ok(())
+    let units_before = Before("; units 0 to ", units.min(sheet.first as u64));
+    let units_after = UnitsAfter(sheet.next, units);
+    let places_before = Before("; places 0 to ", sheet.from as u64);
+    let places_after = PlacesAfter(sheet.has_more, sheet.from);
+    let fault = hidden_fault(sheet.hides_fault);
+    write!(
+        text,
+        "<text class='cut' x='16' y='72'>Not drawn: units without entries and marks{units_before}{units_after}{places_before}{places_after}{fault}</text>\n"
+    )
 }
 
-/// Appends which of so many units aren't drawn.
-#[tactic(auto, unfolding(crate::specs::Caption::cut_units))]
-fn push_cut_units(text: &mut String, units: u64, sheet: &Sheet) -> Result<(), NoMemory>
-    ensures { OnOk result (string_bytes text.new ≡ string_bytes text.old ++ spec.cut_units units sheet.now) }
-{
-    text.push_str("<text class='cut' x='16' y='72'>Not drawn: units without entries and marks")?;
-    push_before(text, "; units 0 to ", lower(sheet.first, units))?;
-    push_units_behind(text, sheet.next, units)?;
-    Ok(())
-}
+/// What is before the first that is drawn, after these words, or nothing where that is the first of all.
+#[derive(Clone, Copy)]
+struct Before<'a>(&'a str, u64);
 
-/// The number of a unit, or that of the last one and 1 more, where that is lower.
-fn lower(unit: u16, units: u64) -> u64
-    ensures { result ≡ min unit units }
-{
-    u64::from(unit).min(units)
-}
+impl Display for Before<'_> {
+    ghost output = { λ before. Some (spec.before_text before.0.now before.1) };
 
-/// Appends that places behind the window aren't drawn, where something stands there.
-fn push_further(text: &mut String, has_more: bool, from: u32) -> Result<(), NoMemory>
-    ensures { OnOk result (string_bytes text.new ≡ string_bytes text.old ++ spec.further_text has_more from) }
-{
-    if has_more {
-        return push_from(text, from);
+    fn fmt<W: fmt::Write>(&self, f: &mut Formatter<W>) -> fmt::Result {
+        let Before(words, first) = *self;
+        if first == 0 {
+            return Ok(());
+        }
+        write!(f, "{words}{}", first - 1)
     }
-    Ok(())
 }
 
-/// Appends that places behind the window aren't drawn.
-#[tactic(auto, unfolding(crate::specs::Caption::from_text))]
-fn push_from(text: &mut String, from: u32) -> Result<(), NoMemory>
-    ensures { OnOk result (string_bytes text.new ≡ string_bytes text.old ++ spec.from_text from) }
-{
-    push_numbered(text, "; places from ", u64::from(from) + 64)?;
-    text.push_str(" on")?;
-    Ok(())
+/// The units from this one on, which the picture has no room for, up to the last of the record.
+#[derive(Clone, Copy)]
+struct UnitsAfter(Option<u16>, u64);
+
+impl Display for UnitsAfter {
+    ghost output = { λ after. Some (spec.units_after after.0 after.1) };
+
+    fn fmt<W: fmt::Write>(&self, f: &mut Formatter<W>) -> fmt::Result {
+        let UnitsAfter(next, units) = *self;
+        match next {
+            Some(next) => write!(f, "; units {next} to {}", units.saturating_sub(1)),
+            None => Ok(()),
+        }
+    }
 }
 
-/// Appends that the fault isn't drawn, where it isn't.
-fn push_hidden(text: &mut String, hides_fault: bool) -> Result<(), NoMemory>
-    ensures { OnOk result (string_bytes text.new ≡ string_bytes text.old ++ spec.hidden_text hides_fault) }
+/// The places after a window from this one on, where something is there.
+#[derive(Clone, Copy)]
+struct PlacesAfter(bool, u32);
+
+impl Display for PlacesAfter {
+    ghost output = { λ after. Some (spec.places_after after.0 after.1) };
+
+    fn fmt<W: fmt::Write>(&self, f: &mut Formatter<W>) -> fmt::Result {
+        let PlacesAfter(has_more, from) = *self;
+        if has_more {
+            write!(f, "; places from {} on", from as u64 + 64)
+        } else {
+            Ok(())
+        }
+    }
+}
+
+/// That the fault isn't drawn, where it isn't.
+fn hidden_fault(hides_fault: bool) -> &'static str
+    ensures { result.now ≡ spec.hidden_fault hides_fault }
 {
     if hides_fault {
-        text.push_str("; where the fault is")?;
+        "; where the fault is"
+    } else {
+        ""
     }
-    Ok(())
-}
-
-/// Appends that what is before the first number isn't drawn, where there is something.
-fn push_before(text: &mut String, words: &str, first: u64) -> Result<(), NoMemory>
-    ensures { OnOk result (string_bytes text.new ≡ string_bytes text.old ++ spec.before_text words.now first) }
-{
-    if first == 0 {
-        return Ok(());
-    }
-    push_numbered(text, words, first - 1)
-}
-
-/// Appends that units from the next one on aren't drawn.
-fn push_units_behind(text: &mut String, next: Option<u16>, units: u64) -> Result<(), NoMemory>
-    ensures { OnOk result (string_bytes text.new ≡ string_bytes text.old ++ spec.behind_text next units) }
-{
-    let Some(next) = next else {
-        return Ok(());
-    };
-    push_numbered(text, "; units ", u64::from(next))?;
-    push_numbered(text, " to ", units.saturating_sub(1))
 }

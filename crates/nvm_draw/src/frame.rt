@@ -2,7 +2,6 @@ ghost use Rattle.std.specs.Prelude.{◌≡◌, ◌++◌, OnOk, string_bytes};
 ghost use Rattle.nvm_draw.specs.Frame as spec;
 
 use nvm_record::NoMemory;
-use nvm_report::push_numbered;
 
 /// How things look. The first eight workers have colours that people who can't tell all colours tell apart; the others have these
 /// with a border.
@@ -39,35 +38,12 @@ g .ring{fill:none;stroke:#e00000;stroke-width:4;stroke-dasharray:none}
 ";
 
 /// Begins a picture of a width and a height.
-#[tactic(auto, unfolding(crate::specs::Frame::frame_text))]
+#[tactic(auto, unfolding(crate::specs::Frame::frame_text, crate::specs::Frame::style_text))]
 pub(crate) fn push_frame(text: &mut String, width: u64, height: u64) -> Result<(), NoMemory>
     ensures { OnOk result (string_bytes text.new ≡ string_bytes text.old ++ spec.frame_text width height) }
 {
-    text.push_str("<svg xmlns='http://www.w3.org/2000/svg' version='1.1'")?;
-    push_size(text, width, height)?;
-    push_style(text)?;
-    text.push_str("<rect class='paper'")?;
-    push_size(text, width, height)?;
-    text.push_str("'/>\n")?;
-    Ok(())
-}
-
-/// Appends a width and a height.
-#[tactic(auto, unfolding(crate::specs::Frame::size_text))]
-fn push_size(text: &mut String, width: u64, height: u64) -> Result<(), NoMemory>
-    ensures { OnOk result (string_bytes text.new ≡ string_bytes text.old ++ spec.size_text width height) }
-{
-    push_numbered(text, " width='", width)?;
-    push_numbered(text, "' height='", height)?;
-    Ok(())
-}
-
-/// Ends the picture's first tag, and appends how things look.
-#[tactic(auto, unfolding(crate::specs::Frame::style_text))]
-fn push_style(text: &mut String) -> Result<(), NoMemory>
-    ensures { OnOk result (string_bytes text.new ≡ string_bytes text.old ++ spec.style_text) }
-{
-    text.push_str("'>\n")?;
-    text.push_str(STYLE)?;
-    Ok(())
+    write!(
+        text,
+        "<svg xmlns='http://www.w3.org/2000/svg' version='1.1' width='{width}' height='{height}'>\n{STYLE}<rect class='paper' width='{width}' height='{height}'/>\n"
+    )
 }

@@ -1,10 +1,11 @@
 ghost use Rattle.std.specs.Prelude.{◌≡◌, ◌++◌, OnOk, string_bytes};
 ghost use Rattle.nvm_draw.specs.Key as spec;
 
-use crate::group::push_group;
+use crate::colour::Colour;
+use crate::sheet::Sheet;
 use crate::size::{GAP, LEFT, STEP, top};
+use nvm_audit::Record;
 use nvm_record::NoMemory;
-use nvm_report::push_numbered;
 
 /// What the letters stand for.
 const LETTERS: &str =
@@ -12,28 +13,21 @@ const LETTERS: &str =
 <text x='16' y='108'>Marks before them rest on that point: R read, C compare, F failed pair, M no memory, L at the limit, ! without its entry, +n more.</text>
 ";
 
-/// Appends what the letters and the colours stand for.
+/// Appends what the letters and the colours stand for, and the numbers of the places, above the boxes.
 #[tactic(auto, unfolding(crate::specs::Key::key_text))]
-pub(crate) fn push_key(text: &mut String, workers: u16) -> Result<(), NoMemory>
-    ensures { OnOk result (string_bytes text.new ≡ string_bytes text.old ++ spec.key_text workers) }
-{
-    push_letters(text)?;
-    push_workers(text, workers)?;
-    Ok(())
-}
-
-/// Appends what the letters stand for.
-#[tactic(auto, unfolding(crate::specs::Key::letters_text))]
-fn push_letters(text: &mut String) -> Result<(), NoMemory>
-    ensures { OnOk result (string_bytes text.new ≡ string_bytes text.old ++ spec.letters_text) }
+pub(crate) fn push_key(text: &mut String, run: &Record, sheet: &Sheet) -> Result<(), NoMemory>
+    ensures { OnOk result (string_bytes text.new
+        ≡ string_bytes text.old ++ spec.key_text run.now.workers sheet.now.from sheet.now.columns) }
 {
     text.push_str(LETTERS)?;
+    push_workers(text, run.workers)?;
+    push_places(text, top(run.workers) - 12, sheet.from, sheet.columns)?;
     Ok(())
 }
 
-/// Appends the colours of so many workers.
+/// Appends the names of the workers, in their colours.
 fn push_workers(text: &mut String, workers: u16) -> Result<(), NoMemory>
-    ensures { OnOk result (string_bytes text.new ≡ string_bytes text.old ++ spec.workers_text 0 workers) }
+    ensures { OnOk result (string_bytes text.new ≡ string_bytes text.old ++ spec.workers_text workers) }
 {
     for worker in 0..workers {
         push_worker(text, worker)?;
@@ -41,71 +35,30 @@ fn push_workers(text: &mut String, workers: u16) -> Result<(), NoMemory>
     Ok(())
 }
 
-/// Appends the colour of one worker.
+/// Appends the name of a worker.
 #[tactic(auto, unfolding(crate::specs::Key::worker_text))]
 fn push_worker(text: &mut String, worker: u16) -> Result<(), NoMemory>
     ensures { OnOk result (string_bytes text.new ≡ string_bytes text.old ++ spec.worker_text worker) }
 {
-    let place = u64::from(worker);
-    push_group(
+    let colour = Colour(worker);
+    let place = worker as u64;
+    let x = 16 + 104 * (place % 8);
+    let y = 122 + 22 * (place / 8);
+    write!(
         text,
-        "worker",
-        worker,
-        16 + 104 * (place % 8),
-        122 + 22 * (place / 8),
-    )?;
-    push_numbered(
-        text,
-        "<rect width='16' height='16' rx='3'/><text class='name' x='22' y='12'>worker ",
-        place,
-    )?;
-    text.push_str("</text></g>\n")?;
-    Ok(())
-}
-
-/// Appends the numbers of the places, above the boxes.
-pub(crate) fn push_places(
-    text: &mut String,
-    workers: u16,
-    from: u32,
-    columns: u8,
-) -> Result<(), NoMemory>
-    ensures { OnOk result (string_bytes text.new ≡ string_bytes text.old ++ spec.places_text workers from columns) }
-{
-    push_columns(text, top(workers) - 12, from, columns)
-}
-
-/// Appends the numbers of the places in so many columns.
-fn push_columns(text: &mut String, y: u64, from: u32, columns: u8) -> Result<(), NoMemory>
-    ensures { OnOk result (string_bytes text.new ≡ string_bytes text.old ++ spec.columns_text y from 0 columns) }
-{
-    for column in 0..columns {
-        push_column(text, y, from, column)?;
-    }
-    Ok(())
-}
-
-/// Appends the number of the place in a column.
-fn push_column(text: &mut String, y: u64, from: u32, column: u8) -> Result<(), NoMemory>
-    ensures { OnOk result (string_bytes text.new ≡ string_bytes text.old ++ spec.column_text y from column) }
-{
-    let place = u64::from(column);
-    push_place(
-        text,
-        LEFT + STEP * place + GAP + 20,
-        y,
-        u64::from(from) + place,
+        "<g class='worker{colour}' transform='translate({x},{y})'><rect width='16' height='16' rx='3'/><text class='name' x='22' y='12'>worker {worker}</text></g>\n"
     )
 }
 
-/// Appends the number of a place.
+/// Appends the numbers of the places, `y` pixels from the top.
 #[tactic(auto, unfolding(crate::specs::Key::place_text))]
-fn push_place(text: &mut String, x: u64, y: u64, place: u64) -> Result<(), NoMemory>
-    ensures { OnOk result (string_bytes text.new ≡ string_bytes text.old ++ spec.place_text x y place) }
+fn push_places(text: &mut String, y: u64, from: u32, columns: u8) -> Result<(), NoMemory>
+    ensures { OnOk result (string_bytes text.new ≡ string_bytes text.old ++ spec.places_text y from columns) }
 {
-    push_numbered(text, "<text class='place' x='", x)?;
-    push_numbered(text, "' y='", y)?;
-    push_numbered(text, "'>", place)?;
-    text.push_str("</text>\n")?;
+    for column in 0..columns {
+        let x = LEFT + STEP * column as u64 + GAP + 20;
+        let place = from as u64 + column as u64;
+        write!(text, "<text class='place' x='{x}' y='{y}'>{place}</text>\n")?;
+    }
     Ok(())
 }

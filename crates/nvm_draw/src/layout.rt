@@ -23,11 +23,10 @@ pub(crate) fn sheet_of(
     window: Window,
     wrong: Option<Wrong>,
 ) -> Result<Sheet, NoMemory>
-    ensures few { IfOk result (λ sheet. length sheet.rows.items ≤ 64) }
-    ensures value { IfOk result (λ sheet. IsSheet run.now window wrong sheet) }
+    ensures { IfOk result (λ sheet. IsSheet run.now window wrong sheet) }
 {
     let marks = marks_of(alloc, run)?;
-    let spot = spot_of(wrong);
+    let spot = wrong.and_then(|wrong| wrong.spot);
     let from = first_place(run, window.from, spot);
     let first = first_unit(window.unit, spot);
     let (rows, next) = rows_of(alloc, run, &marks, first, from)?;
@@ -45,68 +44,35 @@ pub(crate) fn sheet_of(
     })
 }
 
-/// The spot of the fault, if it has one.
-fn spot_of(wrong: Option<Wrong>) -> Option<Spot>
-    ensures { result ≡ spec.spot_of wrong }
+/// The number of the first unit that may be drawn: the chosen one. Without it that is unit 0 where the fault's unit is drawn then, and
+/// else the fault's.
+fn first_unit(chosen: Option<u16>, spot: Option<Spot>) -> u16
+    ensures { result ≡ spec.first_unit chosen spot }
 {
-    match wrong {
-        Some(wrong) => wrong.spot,
-        None => None,
+    match (chosen, spot) {
+        (Some(unit), _) => unit,
+        (None, Some(spot)) => { if spot.unit < 64 { 0 } else { spot.unit } }
+        (None, None) => 0,
     }
 }
 
-/// The number of the first unit that may be drawn.
-fn first_unit(unit: Option<u16>, spot: Option<Spot>) -> u16
-    ensures { result ≡ spec.first_unit unit spot }
+/// The first place that is drawn: the chosen one. Without it that is place 0 where the fault's place is drawn then. Else half of the
+/// window is before it, or before the end of the unit's entries.
+fn first_place(run: &Record, chosen: Option<u32>, spot: Option<Spot>) -> u32
+    ensures { result ≡ spec.first_place run.now chosen spot }
 {
-    match unit {
-        Some(unit) => unit,
-        None => unit_for(spot),
-    }
-}
-
-/// Unit 0, where the fault's unit is drawn then, and else that.
-fn unit_for(spot: Option<Spot>) -> u16
-    ensures { result ≡ spec.unit_for spot }
-{
-    match spot {
-        Some(spot) => { if spot.unit < 64 { 0 } else { spot.unit } }
-        None => 0,
-    }
-}
-
-/// The first place that is drawn.
-fn first_place(run: &Record, from: Option<u32>, spot: Option<Spot>) -> u32
-    ensures { result ≡ spec.first_place run.now from spot }
-{
-    match from {
-        Some(from) => from,
-        None => place_for(run, spot),
-    }
-}
-
-/// Place 0, where the fault's place is drawn then. Else half of the window stands before it, or before the end of the unit's entries.
-fn place_for(run: &Record, spot: Option<Spot>) -> u32
-    ensures { result ≡ spec.place_for run.now spot }
-{
-    match spot {
-        Some(spot) => {
+    match (chosen, spot) {
+        (Some(from), _) => from,
+        (None, Some(spot)) => {
             if spot.place < 64 {
                 0
             } else {
-                half_before(entries_of(run, spot.unit).len(), spot.place)
+                let entries = entries_of(run, spot.unit).len();
+                (entries.min(spot.place as usize) as u32).saturating_sub(32)
             }
         }
-        None => 0,
+        (None, None) => 0,
     }
-}
-
-/// Half of the window before a place, or before the end of so many entries.
-fn half_before(entries: usize, place: u32) -> u32
-    ensures { result ≡ min entries place - 32 }
-{
-    let end = entries.min(place as usize) as u32;
-    end.saturating_sub(32)
 }
 
 /// The entries of a unit.
@@ -225,7 +191,7 @@ fn has_more_in(run: &Record, marks: &[Vec<Mark>], unit: u16, from: u32) -> bool
     requires unit { unit < length run.now.units }
     ensures { result ≡ spec.has_more_in run.now from unit }
 {
-    let last = u64::from(from) + 64;
+    let last = from as u64 + 64;
     entries_of(run, unit).len() as u64 > last || has_behind(of_unit(run, marks, unit), last)
 }
 
@@ -233,58 +199,35 @@ fn has_more_in(run: &Record, marks: &[Vec<Mark>], unit: u16, from: u32) -> bool
 fn has_behind(marks: &[Mark], point: u64) -> bool
     ensures { result ≡ list_any (λ mark. nat_lt point mark.part.point) marks.now }
 {
-    for mark in marks {
-        if u64::from(mark.part.point) > point {
-            return true;
-        }
-    }
-    false
+    marks.iter().any(|mark| mark.part.point as u64 > point)
 }
 
 /// Whether a fault that is in a unit isn't drawn.
 fn hides(wrong: Option<Wrong>, rows: &[Row], from: u32) -> bool
     ensures { result ≡ spec.hides wrong from rows.now }
 {
-    match wrong {
-        Some(wrong) => hides_spot(wrong.job, wrong.spot, rows, from),
+    let Some(Wrong { job, spot }) = wrong else {
+        return false;
+    };
+    match spot {
+        Some(spot) => spot.place < from || !shows(rows, spot.unit, spot.place - from, job),
         None => false,
     }
 }
 
-/// Whether what is of a job in a spot isn't drawn.
-fn hides_spot(job: u32, spot: Option<Spot>, rows: &[Row], from: u32) -> bool
-    ensures { result ≡ spec.hides_spot job spot from rows.now }
-{
-    let Some(spot) = spot else {
-        return false;
-    };
-    spot.place < from || !shows(rows, spot.unit, spot.place - from, job)
-}
-
-/// Whether one of the rows is the unit's, and has the place so far behind its first.
+/// Whether one of the rows is the unit's, and has the place at this distance from its first. After its last place there are only marks.
 fn shows(rows: &[Row], unit: u16, place: u32, job: u32) -> bool
     ensures { result ≡ spec.shows unit place job rows.now }
 {
-    for row in rows {
-        if row.unit == unit && has_place(row, place, job) {
-            return true;
-        }
-    }
-    false
+    rows.iter().any(|row| row.unit == unit
+        && (place < 64 || place == 64 && has_mark_behind(row, job)))
 }
 
-/// Whether a row has the place so far behind its first. Behind its last place stand marks alone.
-fn has_place(row: &Row, place: u32, job: u32) -> bool
-    ensures { result ≡ spec.has_place place job row.now }
+/// Whether a mark of the job is after the last place of a row.
+fn has_mark_behind(row: &Row, job: u32) -> bool
+    ensures { result ≡ spec.has_mark job (slice_get (map (λ stack. stack.items) row.now.stacks.items) 64) }
 {
-    place < 64 || place == 64 && has_mark_behind(&row.stacks, job)
-}
-
-/// Whether a mark of the job stands behind the last place.
-fn has_mark_behind(stacks: &[Vec<Mark>], job: u32) -> bool
-    ensures { result ≡ spec.has_mark job (slice_get (map (λ stack. stack.items) stacks.now) 64) }
-{
-    match stacks.get(MOST) {
+    match row.stacks.get(MOST) {
         Some(marks) => has_mark(marks, job),
         None => false,
     }
@@ -294,10 +237,5 @@ fn has_mark_behind(stacks: &[Vec<Mark>], job: u32) -> bool
 fn has_mark(marks: &[Mark], job: u32) -> bool
     ensures { result ≡ list_any (λ mark. nat_eq mark.job job) marks.now }
 {
-    for mark in marks {
-        if mark.job == job {
-            return true;
-        }
-    }
-    false
+    marks.iter().any(|mark| mark.job == job)
 }

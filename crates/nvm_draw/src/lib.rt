@@ -6,9 +6,9 @@
 #![tactic(auto)]
 
 mod caption;
+mod colour;
 mod deed_box;
 mod frame;
-mod group;
 mod key;
 mod layout;
 mod mark;

@@ -1,4 +1,4 @@
-ghost use Rattle.std.specs.Prelude.{◌≡◌, slice_get};
+ghost use Rattle.std.specs.Prelude.{◌≡◌};
 ghost use Rattle.nvm_draw.specs.Letters as spec;
 ghost use Rattle.nvm_draw.specs.Marks as marks;
 
@@ -22,18 +22,11 @@ pub(crate) fn is_shown(mark: Mark, history: &[Entry]) -> bool
     ensures { result ≡ marks.is_shown history.now mark }
 {
     match mark.part.result {
-        PartResult::Done => is_made_by(mark, history),
+        PartResult::Done => match history.get(mark.part.point as usize) {
+            Some(entry) => entry.pass == mark.worker && entry.job == mark.job,
+            None => false,
+        },
         PartResult::Failed | PartResult::Looked | PartResult::NoMemory | PartResult::Full => false,
-    }
-}
-
-/// Whether the entry at the part's point is of its worker and its job.
-fn is_made_by(mark: Mark, history: &[Entry]) -> bool
-    ensures { result ≡ marks.is_made_by mark.worker mark.job (slice_get history.now mark.part.point) }
-{
-    match history.get(mark.part.point as usize) {
-        Some(entry) => entry.pass == mark.worker && entry.job == mark.job,
-        None => false,
     }
 }
 
@@ -44,41 +37,25 @@ pub(crate) fn letter(jobs: &[Job], mark: Mark) -> &'static str
     match mark.part.result {
         PartResult::Done => "!",
         PartResult::Failed => "F",
-        PartResult::Looked => look_letter(jobs, mark.job),
+        PartResult::Looked => match jobs.get(mark.job as usize) {
+            Some(job) => look_letter(&job.body),
+            None => "?",
+        },
         PartResult::NoMemory => "M",
         PartResult::Full => "L",
     }
 }
 
-/// The letter for the look of a job.
-fn look_letter(jobs: &[Job], job: u32) -> &'static str
-    ensures { result.now ≡ spec.look_letter (slice_get jobs.now job) }
-{
-    match jobs.get(job as usize) {
-        Some(job) => body_letter(&job.body),
-        None => "?",
-    }
-}
-
-fn body_letter(body: &Body) -> &'static str
+/// The letter for the look of a job: only a Read or a Compare looks.
+fn look_letter(body: &Body) -> &'static str
     ensures { result.now ≡ spec.body_letter body.now }
 {
     match body {
-        Body::Single(command) => op_letter(command.op),
+        Body::Single(command) => match command.op {
+            Op::Read => "R",
+            Op::Compare => "C",
+            _ => "?",
+        },
         Body::Pair(..) => "?",
-    }
-}
-
-fn op_letter(op: Op) -> &'static str
-    ensures { result.now ≡ spec.op_letter op }
-{
-    match op {
-        Op::Read => "R",
-        Op::Compare => "C",
-        Op::Write => "?",
-        Op::WriteUncorrectable => "?",
-        Op::WriteZeroes => "?",
-        Op::Dataset { .. } => "?",
-        Op::Other(_) => "?",
     }
 }

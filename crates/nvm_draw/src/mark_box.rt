@@ -1,13 +1,16 @@
-ghost use Rattle.std.specs.Prelude.{◌≡◌, ◌≤◌, ◌++◌, ◌+◌, OnOk, length, map, string_bytes, take};
+ghost use Rattle.std.specs.Prelude.{◌≡◌, ◌≤◌, ◌++◌, OnOk, Some, length, map, string_bytes};
 ghost use Rattle.nvm_draw.specs.MarkBoxes as spec;
 
-use crate::group::{push_group, push_place};
+use crate::colour::Colour;
 use crate::mark::{Mark, letter};
 use crate::size::{LEFT, STEP};
+use crate::window::first_of;
 use crate::wrong::{Wrong, is_wrong};
-use nvm_plan::Job;
+use nvm_plan::{Job, Part};
 use nvm_record::NoMemory;
-use nvm_report::{push_numbered, push_part};
+use nvm_report::push_part;
+use std::fmt;
+use std::fmt::{Display, Formatter};
 
 /// So many marks of one point stand below each other; of more, the last is their number.
 const STACK: usize = 3;
@@ -71,7 +74,6 @@ fn push_marks(
 }
 
 /// Appends one mark: its line, its letter, and a ring where it is wrong.
-#[tactic(auto, unfolding(crate::specs::MarkBoxes::mark_text))]
 fn push_mark(
     text: &mut String,
     jobs: &[Job],
@@ -82,26 +84,22 @@ fn push_mark(
 ) -> Result<(), NoMemory>
     ensures { OnOk result (string_bytes text.new ≡ string_bytes text.old ++ spec.mark_text jobs.now wrong x y mark) }
 {
-    push_group(text, "mark", mark.worker, x, y)?;
-    push_line(text, mark)?;
-    text.push_str(letter(jobs, mark))?;
-    push_end(text, is_wrong_mark(wrong, mark))?;
+    let colour = Colour(mark.worker);
+    let letter = letter(jobs, mark);
+    let ring = mark_ring(is_wrong_mark(wrong, mark));
+    write!(
+        text,
+        "<g class='mark{colour}' transform='translate({x},{y})'><title>"
+    )?;
+    push_part(text, mark.worker as u64, mark.job, mark.part)?;
+    write!(
+        text,
+        "</title><rect width='18' height='13' rx='6'/><text x='9' y='10'>{letter}</text>{ring}</g>\n"
+    )?;
     Ok(())
 }
 
-/// Appends the line of a mark as a title, and the mark itself.
-#[tactic(auto, unfolding(crate::specs::MarkBoxes::titled_text))]
-fn push_line(text: &mut String, mark: Mark) -> Result<(), NoMemory>
-    ensures { OnOk result (string_bytes text.new ≡ string_bytes text.old ++ spec.titled_text mark) }
-{
-    text.push_str("<title>")?;
-    push_part(text, u64::from(mark.worker), mark.job, mark.part)?;
-    text.push_str("</title><rect width='18' height='13' rx='6'/><text x='9' y='10'>")?;
-    Ok(())
-}
-
-/// Appends how many more marks there are, with their lines, and a ring where one of them is wrong.
-#[tactic(auto, unfolding(crate::specs::MarkBoxes::others_text))]
+/// Appends how many more marks there are, with the lines of the first, and a ring where one of them is wrong.
 fn push_others(
     text: &mut String,
     wrong: Option<Wrong>,
@@ -110,45 +108,18 @@ fn push_others(
 ) -> Result<(), NoMemory>
     ensures { OnOk result (string_bytes text.new ≡ string_bytes text.old ++ spec.others_text wrong x marks.now) }
 {
-    text.push_str("<g class='mark others")?;
-    push_place(text, x, 30)?;
-    push_rest(text, marks)?;
-    push_end(text, has_wrong_mark(wrong, marks))?;
-    Ok(())
-}
-
-/// Appends the lines of marks as a title, and their number.
-#[tactic(auto, unfolding(crate::specs::MarkBoxes::rest_text))]
-fn push_rest(text: &mut String, marks: &[Mark]) -> Result<(), NoMemory>
-    ensures { OnOk result (string_bytes text.new ≡ string_bytes text.old ++ spec.rest_text marks.now) }
-{
-    text.push_str("<title>")?;
-    push_lines(text, titled(marks))?;
-    push_more_lines(text, marks.len() as u64)?;
-    text.push_str("</title><rect width='18' height='13' rx='2'/><text x='9' y='10'>")?;
-    push_many(text, marks.len() as u64)?;
-    Ok(())
-}
-
-/// The first marks, at most as many as have a line in a title.
-fn titled(marks: &[Mark]) -> &[Mark]
-    ensures { result.now ≡ take 16 marks.now }
-{
-    if marks.len() > TITLED {
-        &marks[..TITLED]
-    } else {
-        marks
-    }
-}
-
-/// Appends how many marks have no line in the title, if some have none.
-fn push_more_lines(text: &mut String, count: u64) -> Result<(), NoMemory>
-    ensures { OnOk result (string_bytes text.new ≡ string_bytes text.old ++ spec.more_lines count) }
-{
-    if count > 16 {
-        push_numbered(text, "and ", count - 16)?;
-        text.push_str(" more\n")?;
-    }
+    let more = MoreLines(marks.len());
+    let count = Many(marks.len());
+    let ring = mark_ring(has_wrong_mark(wrong, marks));
+    write!(
+        text,
+        "<g class='mark others' transform='translate({x},30)'><title>"
+    )?;
+    push_lines(text, first_of(marks, TITLED))?;
+    write!(
+        text,
+        "{more}</title><rect width='18' height='13' rx='2'/><text x='9' y='10'>{count}</text>{ring}</g>\n"
+    )?;
     Ok(())
 }
 
@@ -157,20 +128,42 @@ fn push_lines(text: &mut String, marks: &[Mark]) -> Result<(), NoMemory>
     ensures { OnOk result (string_bytes text.new ≡ string_bytes text.old ++ spec.mark_lines marks.now) }
 {
     for mark in marks {
-        push_part(text, u64::from(mark.worker), mark.job, mark.part)?;
+        push_part(text, mark.worker as u64, mark.job, mark.part)?;
     }
     Ok(())
 }
 
-/// Appends a number that has to be short.
-fn push_many(text: &mut String, count: u64) -> Result<(), NoMemory>
-    ensures { OnOk result (string_bytes text.new ≡ string_bytes text.old ++ spec.many_text count) }
-{
-    if count > 99 {
-        text.push_str("&gt;99")?;
-        Ok(())
-    } else {
-        push_numbered(text, "+", count)
+/// How many of this number of marks have no line in the title, if some have none.
+#[derive(Clone, Copy)]
+struct MoreLines(usize);
+
+impl Display for MoreLines {
+    ghost output = { λ more. Some (spec.more_lines more.0) };
+
+    fn fmt<W: fmt::Write>(&self, f: &mut Formatter<W>) -> fmt::Result {
+        let count = self.0;
+        if count > TITLED {
+            write!(f, "and {} more\n", count - TITLED)
+        } else {
+            Ok(())
+        }
+    }
+}
+
+/// A number that has to be short.
+#[derive(Clone, Copy)]
+struct Many(usize);
+
+impl Display for Many {
+    ghost output = { λ many. Some (spec.many_text many.0) };
+
+    fn fmt<W: fmt::Write>(&self, f: &mut Formatter<W>) -> fmt::Result {
+        let count = self.0;
+        if count > 99 {
+            f.write_str("&gt;99")
+        } else {
+            write!(f, "+{count}")
+        }
     }
 }
 
@@ -178,30 +171,24 @@ fn push_many(text: &mut String, count: u64) -> Result<(), NoMemory>
 fn is_wrong_mark(wrong: Option<Wrong>, mark: Mark) -> bool
     ensures { result ≡ spec.is_wrong_mark wrong mark }
 {
-    is_wrong(wrong, mark.part.unit, u64::from(mark.part.point), mark.job)
+    let Part { unit, point, .. } = mark.part;
+    is_wrong(wrong, unit, point as u64, mark.job)
 }
 
 /// Whether one of the marks is of the fault.
 fn has_wrong_mark(wrong: Option<Wrong>, marks: &[Mark]) -> bool
     ensures { result ≡ spec.has_wrong_mark wrong marks.now }
 {
-    for mark in marks {
-        if is_wrong_mark(wrong, *mark) {
-            return true;
-        }
-    }
-    false
+    marks.iter().any(|mark| is_wrong_mark(wrong, *mark))
 }
 
-/// Ends a mark, with a ring where it is wrong.
-fn push_end(text: &mut String, is_wrong: bool) -> Result<(), NoMemory>
-    ensures { OnOk result (string_bytes text.new ≡ string_bytes text.old ++ spec.mark_end is_wrong) }
+/// The ring round a mark that is wrong.
+fn mark_ring(is_wrong: bool) -> &'static str
+    ensures { result.now ≡ spec.mark_ring is_wrong }
 {
-    let end = if is_wrong {
-        "</text><rect class='ring' x='-3' y='-3' width='24' height='19' rx='8'/></g>\n"
+    if is_wrong {
+        "<rect class='ring' x='-3' y='-3' width='24' height='19' rx='8'/>"
     } else {
-        "</text></g>\n"
-    };
-    text.push_str(end)?;
-    Ok(())
+        ""
+    }
 }

@@ -1,10 +1,10 @@
-ghost use Rattle.std.specs.Prelude.{◌≡◌, ◌≤◌, ◌++◌, IfOk, OnOk, length, string_bytes};
+ghost use Rattle.std.specs.Prelude.{◌≡◌, ◌++◌, IfOk, OnOk, string_bytes};
 ghost use Rattle.nvm_draw.specs.Picture as spec;
 ghost use Rattle.nvm_draw.specs.Picture.{IsAnswer, IsPicture};
 
-use crate::caption::{push_answer, push_cut, push_title};
+use crate::caption::push_caption;
 use crate::frame::push_frame;
-use crate::key::{push_key, push_places};
+use crate::key::push_key;
 use crate::layout::sheet_of;
 use crate::row::push_rows;
 use crate::sheet::Sheet;
@@ -58,47 +58,23 @@ fn answer_of<W: Watcher + Sync>(
 }
 
 /// Appends the picture of a record.
-#[tactic(auto, unfolding(crate::specs::Picture::picture_text))]
 fn push_picture(
     text: &mut String,
     run: &Record,
     answer: &Result<Verdict, AuditFault>,
     sheet: &Sheet,
 ) -> Result<(), NoMemory>
-    requires { length sheet.now.rows.items ≤ 64 }
     ensures { OnOk result (string_bytes text.new ≡ string_bytes text.old ++ spec.picture_text run.now answer.now sheet.now) }
-{
-    push_above(text, run, sheet)?;
-    push_answer(text, answer)?;
-    push_between(text, run, sheet)?;
-    push_rows(text, run, wrong_in(answer), sheet)?;
-    text.push_str("</svg>\n")?;
-    Ok(())
-}
-
-/// Appends what stands above the line of the verdict.
-#[tactic(auto, unfolding(crate::specs::Picture::above_text))]
-fn push_above(text: &mut String, run: &Record, sheet: &Sheet) -> Result<(), NoMemory>
-    requires { length sheet.now.rows.items ≤ 64 }
-    ensures { OnOk result (string_bytes text.new ≡ string_bytes text.old ++ spec.above_text run.now sheet.now) }
 {
     push_frame(
         text,
         width(sheet.columns),
         height(run.workers, sheet.rows.len()),
     )?;
-    push_title(text, run)?;
-    Ok(())
-}
-
-/// Appends what stands between the line of the verdict and the rows.
-#[tactic(auto, unfolding(crate::specs::Picture::between_text))]
-fn push_between(text: &mut String, run: &Record, sheet: &Sheet) -> Result<(), NoMemory>
-    ensures { OnOk result (string_bytes text.new ≡ string_bytes text.old ++ spec.between_text run.now sheet.now) }
-{
-    push_cut(text, run.units.len() as u64, sheet)?;
-    push_key(text, run.workers)?;
-    push_places(text, run.workers, sheet.from, sheet.columns)?;
+    push_caption(text, run, answer, sheet)?;
+    push_key(text, run, sheet)?;
+    push_rows(text, run, wrong_in(answer), sheet)?;
+    text.push_str("</svg>\n")?;
     Ok(())
 }
 

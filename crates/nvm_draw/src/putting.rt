@@ -15,7 +15,9 @@ pub(crate) fn marks_of(alloc: Global, run: &Record) -> Result<Vec<Vec<Mark>>, No
     ensures { IfOk result (λ marks. AreByUnit run.now (map (λ list. list.items) marks.items)) }
 {
     let mut marks = no_marks(alloc, run.units.len())?;
-    put_workers(run, &run.done, &mut marks)?;
+    for (worker, work) in run.done.iter().enumerate() {
+        put_work(run, worker as u16, work, &mut marks)?;
+    }
     Ok(marks)
 }
 
@@ -28,22 +30,6 @@ fn no_marks(alloc: Global, count: usize) -> Result<Vec<Vec<Mark>>, NoMemory>
         lists.push(Vec::new(alloc))?;
     }
     Ok(lists)
-}
-
-/// Puts the marks of what workers did behind the others of their units.
-fn put_workers(
-    run: &Record,
-    done: &[Vec<DoneJob>],
-    marks: &mut Vec<Vec<Mark>>,
-) -> Result<(), NoMemory>
-    requires { length done.now ≤ 64 }
-    ensures { OnOk result (map (λ list. list.items) marks.new.items
-        ≡ spec.with_parts run.now (parts_of_workers 0 (map (λ work. work.items) done.now)) (map (λ list. list.items) marks.old.items)) }
-{
-    for (worker, work) in done.iter().enumerate() {
-        put_work(run, worker as u16, work, marks)?;
-    }
-    Ok(())
 }
 
 /// Puts the marks of what a worker did behind the others of their units.
@@ -62,7 +48,7 @@ fn put_work(
     Ok(())
 }
 
-/// Puts the marks of a done job behind the others of their units.
+/// Puts the marks of a done job after the others of their units: a part is one unless an entry shows it.
 fn put_job(
     run: &Record,
     worker: u16,
@@ -78,18 +64,9 @@ fn put_job(
             job: done.job,
             part: *part,
         };
-        put_part(run, mark, marks)?;
-    }
-    Ok(())
-}
-
-/// Puts the mark of a part behind the others of its unit, unless an entry shows the part.
-fn put_part(run: &Record, mark: Mark, marks: &mut Vec<Vec<Mark>>) -> Result<(), NoMemory>
-    ensures { OnOk result (map (λ list. list.items) marks.new.items
-        ≡ spec.with_part run.now mark (map (λ list. list.items) marks.old.items)) }
-{
-    if !is_shown(mark, entries_of(run, mark.part.unit)) {
-        put(mark, mark.part.unit as usize, marks)?;
+        if !is_shown(mark, entries_of(run, part.unit)) {
+            put(mark, part.unit as usize, marks)?;
+        }
     }
     Ok(())
 }
@@ -124,28 +101,10 @@ pub(crate) fn stacks_of(
         ≡ by_number (λ mark. mark.part.point) from 65 marks.now) }
 {
     let mut stacks = no_marks(alloc, MOST + 1)?;
-    put_points(marks, from, &mut stacks)?;
-    Ok(stacks)
-}
-
-/// Puts marks behind the others of their points, the first of which is this one.
-fn put_points(marks: &[Mark], from: u32, stacks: &mut Vec<Vec<Mark>>) -> Result<(), NoMemory>
-    ensures { OnOk result (map (λ list. list.items) stacks.new.items
-        ≡ spec.with_points from marks.now (map (λ list. list.items) stacks.old.items)) }
-{
     for mark in marks {
-        put_point(*mark, from, stacks)?;
+        if mark.part.point >= from {
+            put(*mark, (mark.part.point - from) as usize, &mut stacks)?;
+        }
     }
-    Ok(())
-}
-
-/// Puts a mark behind the others of its point, if it isn't before the first.
-fn put_point(mark: Mark, from: u32, stacks: &mut Vec<Vec<Mark>>) -> Result<(), NoMemory>
-    ensures { OnOk result (map (λ list. list.items) stacks.new.items
-        ≡ spec.with_point from mark (map (λ list. list.items) stacks.old.items)) }
-{
-    if mark.part.point < from {
-        return Ok(());
-    }
-    put(mark, (mark.part.point - from) as usize, stacks)
+    Ok(stacks)
 }

@@ -1,3 +1,5 @@
+ghost use Rattle.std.specs.Prelude.{◌≤◌, length};
+
 use crate::mark::Mark;
 
 /// What of a record stands in a picture.
@@ -17,6 +19,7 @@ pub(crate) struct Sheet {
     pub has_more: bool,
     /// Whether the fault is at a spot outside of the window.
     pub hides_fault: bool,
+    ghost few: { length rows.items ≤ 64 },
 }
 
 /// A unit in a picture.
@@ -28,4 +31,5 @@ pub(crate) struct Row {
     pub lba: u64,
     /// Its marks, of each point in the window, from the first place that is drawn on.
     pub stacks: Vec<Vec<Mark>>,
+    ghost few: { length stacks.items ≤ 65 },
 }

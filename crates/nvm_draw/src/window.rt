@@ -18,28 +18,14 @@ pub(crate) fn drawn_entries(history: &[Entry], from: u32) -> &[Entry]
     ensures value { result.now ≡ take 64 (drop from history.now) }
     ensures few { length result.now ≤ 64 }
 {
-    front_of(behind(history, from as usize))
+    let start = history.len().min(from as usize);
+    first_of(&history[start..], MOST)
 }
 
-/// The entries from a place on.
-fn behind(history: &[Entry], from: usize) -> &[Entry]
-    ensures { result.now ≡ drop from history.now }
+/// The first items up to this number, or all where there are fewer.
+pub(crate) fn first_of<T>(items: &[T], count: usize) -> &[T]
+    ensures value { result.now ≡ take count items.now }
+    ensures few { length result.now ≤ count }
 {
-    if from < history.len() {
-        &history[from..]
-    } else {
-        &[]
-    }
-}
-
-/// The first entries, at most as many as are drawn.
-fn front_of(entries: &[Entry]) -> &[Entry]
-    ensures value { result.now ≡ take 64 entries.now }
-    ensures few { length result.now ≤ 64 }
-{
-    if entries.len() > MOST {
-        &entries[..MOST]
-    } else {
-        entries
-    }
+    &items[..items.len().min(count)]
 }

@@ -15,33 +15,23 @@ impl Wrong {
     pub fn of(fault: AuditFault) -> Option<Wrong>
         ensures { result ≡ spec.wrong_of fault }
     {
-        let Some(job) = fault.job() else {
-            return None;
-        };
         Some(Wrong {
-            job,
+            job: fault.job()?,
             spot: fault.spot(),
         })
     }
 }
 
-/// Whether what stands at a place, or rests on a point, is of the fault: it is of the fault's job, and in its spot.
+/// Whether an entry at a place, or a mark at a point, is of the fault: it is of the fault's job, and in its spot, if it has one.
 pub(crate) fn is_wrong(wrong: Option<Wrong>, unit: u16, place: u64, job: u32) -> bool
     ensures { result ≡ spec.is_wrong wrong unit place job }
 {
     match wrong {
-        Some(wrong) => wrong.job == job && is_in(wrong.spot, unit, place),
+        Some(wrong) => match wrong.spot {
+            Some(spot) => wrong.job == job && spot.unit == unit && spot.place as u64 == place,
+            None => wrong.job == job,
+        },
         None => false,
-    }
-}
-
-/// Whether a spot is there. A fault without one is in all units.
-fn is_in(spot: Option<Spot>, unit: u16, place: u64) -> bool
-    ensures { result ≡ spec.is_in spot unit place }
-{
-    match spot {
-        Some(spot) => spot.unit == unit && u64::from(spot.place) == place,
-        None => true,
     }
 }
 
@@ -49,17 +39,5 @@ fn is_in(spot: Option<Spot>, unit: u16, place: u64) -> bool
 pub(crate) fn is_wrong_unit(wrong: Option<Wrong>, unit: u16) -> bool
     ensures { result ≡ spec.is_wrong_unit wrong unit }
 {
-    match wrong {
-        Some(wrong) => is_of_unit(wrong.spot, unit),
-        None => false,
-    }
-}
-
-fn is_of_unit(spot: Option<Spot>, unit: u16) -> bool
-    ensures { result ≡ spec.is_of_unit spot unit }
-{
-    match spot {
-        Some(spot) => spot.unit == unit,
-        None => false,
-    }
+    matches!(wrong, Some(Wrong { spot: Some(spot), .. }) if spot.unit == unit)
 }

@@ -3,7 +3,7 @@
 //!
 //! [`execute`] is that call, and [`audit_bytes`] audits a record's file; [`judge_watched`] audits a record, and [`judge_alone`] does without threads. Which numbers describe a namespace and how many workers
 //! there are, [`Settings`] says; why nothing is shown, [`Fault`]. [`Shown`] and [`Judged`] write their text to a writer, and [`Judged`] has an object of JSON, too.
-//! [`witness_bytes`] judges a trace's file by a record's, [`witness_record`] a trace by a record, and [`Witnessed`] has the line of that.
+//! [`witness_bytes`] judges a trace's file by a record's, [`witness_record`] a trace by a record, [`witness_record_alone`] does without threads, and [`Witnessed`] has the line of that.
 #![tactic(auto)]
 
 mod engine;
@@ -25,6 +25,7 @@ mod verdict_object;
 mod witness_line;
 mod witnessed;
 mod witnessing;
+mod witnessing_alone;
 mod workers;
 
 pub use engine::{execute, execute_watched};
@@ -37,4 +38,5 @@ pub use shown::Shown;
 pub use status_names::status_name;
 pub use witnessed::Witnessed;
 pub use witnessing::{witness_bytes, witness_record};
+pub use witnessing_alone::witness_record_alone;
 pub use workers::Workers;

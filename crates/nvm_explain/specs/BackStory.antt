@@ -1,7 +1,6 @@
--- What is told of a part whose point lies before one that its worker had passed: the first part of the worker in the unit that
+-- What is said of a part whose point lies before one that its worker had passed: the first part of the worker in the unit that
 -- had passed it.
-use Rattle.std.specs.Prelude.{ℕ, ◌+◌, ◌==◌, ◌&&◌, ◌||◌, nat_lt, if◌then◌else◌, Bool, true, false, List, [], ◌∷◌, ◌++◌, Option, Some, None, codes, take}
-use Rattle.std.specs.Option.{option_map}
+use Rattle.std.specs.Prelude.{ℕ, ◌+◌, ◌==◌, ◌&&◌, ◌||◌, nat_lt, if◌then◌else◌, Bool, true, false, List, [], ◌∷◌, ◌++◌, Option, Some, None, codes, position, take}
 use Rattle.nvm_plan.specs.declared.part.Part.{Part}
 use Rattle.nvm_plan.specs.declared.part.PartResult.{PartResult}
 use Rattle.nvm_plan.specs.declared.part.PartResult.TheVariants.{Done, Failed, Looked, NoMemory, Full}
@@ -9,8 +8,9 @@ use Rattle.nvm_audit.specs.declared.audit_fault.Spot.{Spot}
 use Rattle.nvm_audit.specs.RecordedJob.{RecordedJob}
 use Rattle.nvm_audit.specs.RecordView.{RecordView}
 use Rattle.nvm_report.specs.DoneLines.{part_line}
-use Rattle.nvm_explain.specs.declared.told.ToldPart.{ToldPart}
+use Rattle.nvm_explain.specs.declared.doing.DonePart.{DonePart}
 use Rattle.nvm_explain.specs.Doing.{part_of_done}
+use Rattle.nvm_explain.specs.IfAny.{if_any}
 
 -- an entry was made
 abbrev pub made_entry : PartResult → Bool
@@ -24,37 +24,36 @@ made_entry Full = false
 abbrev pub has_passed : ℕ → Part → Bool
 has_passed point part = nat_lt point part.point || (part.point == point && made_entry part.result)
 
-unfoldable pub before_line : ℕ → ℕ → Part → List ℕ
-before_line worker job part = codes "before that: " ++ part_line worker job part
+-- the part of this job, if there is one and it had passed the point, and else another
+abbrev pub passed_or : ℕ → ℕ → Option (ℕ × Part) → Option DonePart → Option (ℕ × Part)
+passed_or job point other None = other
+passed_or job point other (Some found) = if has_passed point found.part then Some (job, found.part) else other
 
--- the line of a job's part, if there is one and it had passed the point, and else what is told of others
-abbrev pub passed_or : ℕ → ℕ → ℕ → List ℕ → Option ToldPart → List ℕ
-passed_or worker job point others None = others
-passed_or worker job point others (Some told) =
-    if has_passed point told.part then before_line worker job told.part else others
+-- the first part in the unit that had passed the point, among what a worker did, with the number of its job
+abbrev pub first_passed : Spot → List RecordedJob → Option (ℕ × Part)
+first_passed spot [] = None
+first_passed spot (done ∷ work) = passed_or done.job spot.place (first_passed spot work) (part_of_done spot.unit done)
 
--- the line of the first part in the unit that had passed the point, among what the worker did
+-- the line of the first part that had passed the point, among what the worker of this number did
 abbrev pub passed_line : ℕ → Spot → List RecordedJob → List ℕ
-passed_line worker spot [] = []
-passed_line worker spot (done ∷ work) =
-    passed_or worker done.job spot.place (passed_line worker spot work) (part_of_done spot.unit done)
+passed_line worker spot work =
+    if_any (first_passed spot work) (λ found. codes "before that: " ++ part_line worker found.0 found.1)
 
--- where the first that is of the job of this number stands
-abbrev pub job_place : ℕ → List RecordedJob → Option ℕ
-job_place number [] = None
-job_place number (done ∷ work) = if done.job == number then Some 0 else option_map (λ place. place + 1) (job_place number work)
+-- where the first that is of the job of this number is
+unfoldable pub job_place : ℕ → List RecordedJob → Option ℕ
+job_place number work = position (λ done. done.job == number) work
 
--- what is told of what the worker did before this place, if there is one, and else what is told of others
+-- what is said of what the worker did before this place, if there is one, and else what is said of others
 abbrev pub before_or : ℕ → Spot → List RecordedJob → List ℕ → Option ℕ → List ℕ
 before_or worker spot work others None = others
 before_or worker spot work others (Some place) = passed_line worker spot (take place work)
 
--- what is told of the first of these workers that did the job of this number; the first of all has this number
+-- what is said of the first of these workers that did the job of this number; the first of all has this number
 abbrev pub back_lines : ℕ → Spot → ℕ → List (List RecordedJob) → List ℕ
 back_lines number spot worker [] = []
 back_lines number spot worker (work ∷ others) =
     before_or worker spot work (back_lines number spot (worker + 1) others) (job_place number work)
 
--- what is told of what the worker of the job of this number had done before
+-- what is said of what the worker of the job of this number had done before
 abbrev pub back_story : RecordView → ℕ → Spot → List ℕ
 back_story r number spot = back_lines number spot 0 r.done

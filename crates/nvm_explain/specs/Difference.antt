@@ -1,4 +1,4 @@
--- Where data first differs from other data, and how that is told.
+-- Where data first differs from other data, and how that is said.
 use Rattle.std.specs.Prelude.{ℕ, ◌+◌, ◌/◌, ◌%◌, ◌==◌, ◌&&◌, nat_le, if◌then◌else◌, List, [], ◌∷◌, ◌++◌, length, Option, Some, None, codes, decimal}
 use Rattle.nvm_store.specs.HistoryEntry.{HistoryEntry}
 use Rattle.nvm_text.specs.Lines.{hex2}
@@ -19,7 +19,7 @@ abbrev pub difference_of : ℕ → ℕ → List ℕ → List ℕ → Option Diff
 difference_of first size bytes others =
     if length bytes == length others && nat_le first most_blocks then difference_from first size 0 bytes others else None
 
--- in which block the byte is, at which offset there, what it is, and what the other is, each behind the words for it
+-- in which block the byte is, at which offset there, what it is, and what the other is, each after the words for it
 unfoldable pub byte_line : List ℕ → List ℕ → Difference → List ℕ
 byte_line words others found =
     codes "first difference: LBA " ++ (decimal found.lba

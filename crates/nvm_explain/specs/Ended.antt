@@ -1,4 +1,4 @@
--- What is told of how jobs ended: with which statuses, and how many jobs with each.
+-- What is said of how jobs ended: with which statuses, and how many jobs with each.
 use Rattle.std.specs.Prelude.{ℕ, ◌==◌, ◌&&◌, ◌++◌, if◌then◌else◌, Bool, false, List, [], ◌∷◌, codes, decimal, count_by, flat_map, map}
 use Rattle.std.specs.List.{list_any, sum_by}
 use Rattle.nvm_record.specs.declared.status.Status.{Status}
@@ -30,7 +30,7 @@ different_statuses done = once same_statuses (all_statuses done)
 abbrev pub jobs_with : Statuses → List (List RecordedJob) → ℕ
 jobs_with statuses done = sum_by (λ work. count_by (λ d. same_statuses d.statuses statuses) work) done
 
--- so many jobs ended with these statuses
+-- how many jobs ended with these statuses
 unfoldable pub ended_line : Statuses → ℕ → List ℕ
 ended_line statuses jobs = codes "status " ++ (statuses_text statuses ++ (codes " jobs " ++ (decimal jobs ++ codes "\n")))
 
@@ -43,10 +43,10 @@ ended_with done (statuses ∷ more) = ended_line statuses (jobs_with statuses do
 abbrev pub ended_lines : List (List RecordedJob) → List ℕ
 ended_lines done = ended_with done (different_statuses done)
 
--- whether these are among those that were met
+-- these are among those that were met
 abbrev pub is_met : List Statuses → Statuses → Bool
 is_met met statuses = list_any (λ other. same_statuses statuses other) met
 
--- those that were met, with these behind them if they weren't
+-- those that were met, with these after them if they weren't
 abbrev pub met_with : List Statuses → Statuses → List Statuses
 met_with met statuses = if is_met met statuses then met else met ++ statuses ∷ []

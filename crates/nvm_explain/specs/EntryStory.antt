@@ -1,4 +1,4 @@
--- What is told of an entry: how it is recorded, the part that its job has in the unit, and what the step gives it at its place.
+-- What is said of an entry: how it is recorded, the part that its job has in the unit, and what the step gives it at its place.
 use Rattle.std.specs.Prelude.{ℕ, if◌then◌else◌, List, [], ◌++◌, Option, Some, None, codes, slice_get, take}
 use Rattle.nvm_record.specs.declared.status.Statuses.TheVariants.{One}
 use Rattle.nvm_record.specs.Medium.{Medium}
@@ -17,39 +17,31 @@ use Rattle.nvm_explain.specs.IfAny.{if_any}
 use Rattle.nvm_explain.specs.Outcome.{given_line}
 use Rattle.nvm_explain.specs.Reached.{is_reached}
 
--- how the entry is recorded
-unfoldable pub recorded_line : Spot → HistoryEntry → List ℕ
-recorded_line spot entry = codes "recorded: " ++ entry_line spot.unit spot.place entry
-
 -- what a part does, if there is one
 abbrev pub part_text : Option Operation → List ℕ
 part_text None = codes " none"
 part_text (Some op) = operation_text op
 
 -- the part that the job has in the unit
-unfoldable pub own_line : Namespace → ℕ → Job → List ℕ
+abbrev pub own_line : Namespace → ℕ → Job → List ℕ
 own_line ns unit job = codes "the job's part:" ++ (part_text (job_part_in ns job unit) ++ codes "\n")
 
--- What the step gives the operation of an entry on this medium, behind these entries of its unit. A pair's comparison is recorded as
+-- What the step gives the operation of an entry on this medium, after these entries of its unit. A pair's comparison is recorded as
 -- equal, as there is the entry.
 abbrev pub given_on : ℕ → ℕ → List HistoryEntry → Operation → Medium → List ℕ
 given_on size unit before op m =
     given_line op m ++ comparison_story size (One successful_completion) unit before op m
 
--- what the step gives the entry after those before its place, where each of these succeeds
-abbrev pub entry_given : ℕ → Spot → List HistoryEntry → HistoryEntry → List ℕ
-entry_given size spot history entry =
-    if is_reached size history spot.place
-    then given_on size spot.unit (take spot.place history) entry.operation (point size history spot.place) else []
+-- what is said of this entry of the history, for which the job of this number, if there is one, is named
+abbrev pub entry_lines : RecordView → ℕ → Spot → List HistoryEntry → HistoryEntry → List ℕ
+entry_lines r number spot history entry =
+    codes "recorded: " ++ (entry_line spot.unit spot.place entry
+    ++ (if_any (slice_get r.jobs number) (own_line r.namespace spot.unit)
+    ++ (if is_reached r.namespace.block_size history spot.place
+    then given_on r.namespace.block_size spot.unit (take spot.place history) entry.operation (point r.namespace.block_size history spot.place)
+    else [])))
 
--- what is told of this entry of the history, for which the job of this number, if there is one, is named
-unfoldable pub told_entry : RecordView → ℕ → Spot → List HistoryEntry → HistoryEntry → List ℕ
-told_entry r number spot history entry =
-    recorded_line spot entry
-    ++ (if_any (own_line r.namespace spot.unit) (slice_get r.jobs number)
-    ++ entry_given r.namespace.block_size spot history entry)
-
--- what is told of the entry at this place of the unit, if there is one
+-- what is said of the entry at this place of the unit, if there is one
 abbrev pub entry_story : RecordView → ℕ → Spot → List ℕ
 entry_story r number spot =
-    if_any (λ history. if_any (told_entry r number spot history) (slice_get history spot.place)) (slice_get r.units spot.unit)
+    if_any (slice_get r.units spot.unit) (λ history. if_any (slice_get history spot.place) (entry_lines r number spot history))

@@ -1,11 +1,9 @@
 -- What each fault of a record means, as a line.
-use Rattle.std.specs.Prelude.{ℕ, List, [], ◌++◌, Option, Some, None, codes}
+use Rattle.std.specs.Prelude.{ℕ, List, [], Some, None, codes}
 use Rattle.nvm_audit.specs.declared.audit_fault.AuditFault.{AuditFault}
 use Rattle.nvm_audit.specs.declared.audit_fault.AuditFault.TheVariants.{JobMissing, JobTwice, EntryUnclaimed, EntryWrong, PointPast, PointBack, StatusWrong, DataWrong, NoMemory}
-use Rattle.nvm_audit.specs.FaultName.{name_of}
-use Rattle.nvm_audit.specs.FaultPlace.{job_of}
 
--- what stands behind the name
+-- what is after the fault's name
 abbrev pub sense : AuditFault → List ℕ
 sense (JobMissing job) = codes ": no worker did the job.\n"
 sense (JobTwice job) = codes ": the job was done more than once.\n"
@@ -24,11 +22,3 @@ sense (StatusWrong job (Some spot)) =
 sense (DataWrong job spot) =
     codes ": the Read's data isn't what the unit held at the part's point.\n"
 sense NoMemory = []
-
--- The line of a fault of this job. Want of memory is no fault of a record.
-abbrev pub meaning_with : AuditFault → Option ℕ → List ℕ
-meaning_with fault None = []
-meaning_with fault (Some job) = name_of fault ++ sense fault
-
-abbrev pub meaning : AuditFault → List ℕ
-meaning fault = meaning_with fault (job_of fault)

@@ -21,7 +21,8 @@ data_of_blocks size start first blocks bytes =
     if nat_le first most_blocks && nat_le blocks most_blocks && nat_le start first && nat_le ((first - start + blocks) * size) (length bytes)
     then Some (data_part size (first - start) blocks bytes) else None
 
--- the bytes of the part's blocks, if it is the part of a Read and the data has them
-abbrev pub recorded_data : ℕ → Body → Operation → List ℕ → Option (List ℕ)
-recorded_data size body op bytes =
+-- the bytes of the part's blocks, if it is the part of a Read, and data is recorded that has them
+abbrev pub recorded_data : ℕ → Body → Operation → Option (List ℕ) → Option (List ℕ)
+recorded_data size body op None = None
+recorded_data size body op (Some bytes) =
     if is_read op.deed then data_of_blocks size (start_of body) op.first op.blocks bytes else None

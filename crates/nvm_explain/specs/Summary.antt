@@ -7,7 +7,7 @@ use Rattle.nvm_audit.specs.RecordView.{RecordView}
 use Rattle.nvm_engine.specs.VerdictLine.{lawful_line}
 use Rattle.nvm_explain.specs.Distinct.{workers_in}
 use Rattle.nvm_explain.specs.Ended.{ended_lines}
-use Rattle.nvm_explain.specs.Most.{most_line}
+use Rattle.nvm_explain.specs.Most.{most_text}
 
 -- how many jobs a worker did
 unfoldable pub worker_line : ℕ → ℕ → List ℕ
@@ -21,8 +21,8 @@ worker_lines worker (work ∷ others) = worker_line worker (length work) ++ work
 -- in how many units there are entries, and in how many those of several workers
 abbrev pub unit_lines : List (List HistoryEntry) → List ℕ
 unit_lines units =
-    most_line (codes "units with entries ") 0 (map length units)
-    ++ most_line (codes "units of several workers ") 1 (map workers_in units)
+    codes "units with entries " ++ (most_text 0 (map length units)
+    ++ (codes "\nunits of several workers " ++ (most_text 1 (map workers_in units) ++ codes "\n")))
 
 -- how the jobs ended, how many each worker did, and what there is in the units
 abbrev pub summary_text : RecordView → List ℕ

@@ -1,6 +1,7 @@
 ghost use Rattle.std.specs.Prelude.{◌≡◌, ◌+◌, ◌<◌, ◌≤◌, ◌++◌, OnOk, length, string_bytes};
 ghost use Rattle.nvm_geometry.specs.Boundaries.{units_of};
 ghost use Rattle.nvm_report.specs.EntryLines.{history_lines};
+ghost use Rattle.nvm_explain.specs.IfAny.{if_any};
 ghost use Rattle.nvm_explain.specs.Surroundings as spec;
 
 use crate::looked_up::entries_of;
@@ -26,32 +27,16 @@ pub(crate) fn push_around(
 ) -> Result<(), NoMemory>
     ensures { OnOk result (string_bytes text.new ≡ string_bytes text.old ++ spec.surroundings run.now spot job) }
 {
-    match entries_of(run, spot.unit) {
-        Some(history) => push_unit(text, &run.geometry, run.limit, spot, job, history),
-        None => Ok(()),
-    }
-}
-
-/// Appends where the unit of this history lies and how many entries it has, and its entries round a place.
-#[tactic(auto, unfolding(crate::specs::Surroundings::unit_surroundings))]
-fn push_unit(
-    text: &mut String,
-    geometry: &Geometry,
-    limit: Limit,
-    spot: Spot,
-    job: Option<u32>,
-    history: &[Entry],
-) -> Result<(), NoMemory>
-    requires { spot.unit < units_of geometry.now }
-    ensures { OnOk result (string_bytes text.new
-        ≡ string_bytes text.old ++ spec.unit_surroundings geometry.now limit spot job history.now) }
-{
-    push_place(text, geometry, limit, spot.unit, history.len())?;
+    let Some(history) = entries_of(run, spot.unit) else {
+        return Ok(());
+    };
     let at = (spot.place as usize).min(history.len());
+    push_place(text, &run.geometry, run.limit, spot.unit, history.len())?;
     push_entries_round(text, spot, job, at, history)
 }
 
 /// Appends where the unit lies, how many entries it has, and how many it may have.
+#[tactic(auto, unfolding(crate::specs::Surroundings::place_line))]
 fn push_place(
     text: &mut String,
     geometry: &Geometry,
@@ -60,27 +45,12 @@ fn push_place(
     entries: usize,
 ) -> Result<(), NoMemory>
     requires { unit < units_of geometry.now }
-    ensures { OnOk result (string_bytes text.new ≡ string_bytes text.old
-        ++ spec.place_line unit (spec.unit_piece geometry.now unit).first (spec.unit_piece geometry.now unit).blocks
-        entries limit) }
+    ensures { OnOk result (string_bytes text.new
+        ≡ string_bytes text.old ++ spec.place_line unit (spec.unit_piece geometry.now unit) entries limit) }
 {
     each_unit_has_one_place();
     let (first, blocks) = geometry.unit_range(unit);
-    push_place_line(text, unit, first, blocks, entries, limit.entries())
-}
-
-/// Appends the line of a unit with this first LBA, this many blocks and entries, and this limit.
-#[tactic(auto, unfolding(crate::specs::Surroundings::place_line))]
-fn push_place_line(
-    text: &mut String,
-    unit: u16,
-    first: u64,
-    blocks: u32,
-    entries: usize,
-    limit: u32,
-) -> Result<(), NoMemory>
-    ensures { OnOk result (string_bytes text.new ≡ string_bytes text.old ++ spec.place_line unit first blocks entries limit) }
-{
+    let limit = limit.entries();
     write!(
         text,
         "unit {unit} first {first} blocks {blocks} entries {entries} limit {limit}\n"
@@ -101,31 +71,24 @@ fn push_entries_round(
     let before = &history[..at];
     let from = at.saturating_sub(BEFORE);
     push_entries(text, spot.unit, from, &before[from..])?;
-    push_mark(text, spot, job)?;
+    push_rest(text, spot, job)?;
     let after = &history[at..];
     push_entries(text, spot.unit, at, &after[..after.len().min(FROM)])
 }
 
-/// Appends the line of the part that rests there, if it is one.
-fn push_mark(text: &mut String, spot: Spot, job: Option<u32>) -> Result<(), NoMemory>
-    ensures { OnOk result (string_bytes text.new ≡ string_bytes text.old ++ spec.mark_line spot job) }
+/// Appends that a part of the job rests there, if there is one.
+#[tactic(auto, unfolding(crate::specs::Surroundings::rest_line))]
+fn push_rest(text: &mut String, spot: Spot, job: Option<u32>) -> Result<(), NoMemory>
+    ensures { OnOk result (string_bytes text.new ≡ string_bytes text.old ++ if_any job (spec.rest_line spot)) }
 {
+    let Spot { unit, place } = spot;
     match job {
-        Some(number) => push_rest(text, spot, number),
+        Some(job) => write!(text, "unit {unit} point {place} rests job {job}\n"),
         None => Ok(()),
     }
 }
 
-/// Appends where a part of the job rests.
-#[tactic(auto, unfolding(crate::specs::Surroundings::rest_line))]
-fn push_rest(text: &mut String, spot: Spot, job: u32) -> Result<(), NoMemory>
-    ensures { OnOk result (string_bytes text.new ≡ string_bytes text.old ++ spec.rest_line spot job) }
-{
-    let Spot { unit, place } = spot;
-    write!(text, "unit {unit} point {place} rests job {job}\n")
-}
-
-/// Appends the lines of entries, of which the first stands at place `from`.
+/// Appends the lines of entries, of which the first has place `from`.
 fn push_entries(
     text: &mut String,
     unit: u16,
@@ -136,7 +99,7 @@ fn push_entries(
     ensures { OnOk result (string_bytes text.new ≡ string_bytes text.old ++ history_lines unit from entries.now) }
 {
     for (i, entry) in entries.iter().enumerate() {
-        push_entry(text, u64::from(unit), from as u64 + i as u64, entry)?;
+        push_entry(text, u64::from(unit), (from + i) as u64, entry)?;
     }
     Ok(())
 }

@@ -1,7 +1,7 @@
-ghost use Rattle.std.specs.Prelude.{◌≡◌, ◌++◌, ◌<◌, IfSome, OnOk, length, map, string_bytes};
+ghost use Rattle.std.specs.Prelude.{◌≡◌, ◌<◌, ◌++◌, IfSome, OnOk, length, string_bytes};
 ghost use Rattle.nvm_explain.specs.BackStory as spec;
 
-use crate::told::told_part;
+use crate::doing::part_of;
 use nvm_audit::{DoneJob, Record, Spot};
 use nvm_plan::{Part, PartResult};
 use nvm_record::NoMemory;
@@ -16,66 +16,39 @@ pub(crate) fn push_back_story(
 ) -> Result<(), NoMemory>
     ensures { OnOk result (string_bytes text.new ≡ string_bytes text.old ++ spec.back_story run.now number spot) }
 {
-    push_back_lines(text, &run.done, number, spot)
-}
-
-/// Appends the line of the first worker that did the job.
-fn push_back_lines(
-    text: &mut String,
-    all: &[Vec<DoneJob>],
-    number: u32,
-    spot: Spot,
-) -> Result<(), NoMemory>
-    ensures { OnOk result (string_bytes text.new
-        ≡ string_bytes text.old ++ spec.back_lines number spot 0 (map (λ work. work.items) all.now)) }
-{
-    for (worker, work) in all.iter().enumerate() {
-        match place_in(work, number) {
-            Some(place) => return push_passed(text, worker as u64, &work[..place], spot),
-            None => {}
+    for (worker, work) in run.done.iter().enumerate() {
+        if let Some(place) = place_in(work, number) {
+            let Some((job, part)) = first_passed(&work[..place], spot) else {
+                return Ok(());
+            };
+            text.push_str("before that: ")?;
+            return push_part(text, worker as u64, job, part);
         }
     }
     Ok(())
 }
 
-/// Where the job of this number stands first among those that a worker did.
+/// Where the job of this number is first among those that a worker did.
+#[tactic(auto, unfolding(crate::specs::BackStory::job_place))]
 fn place_in(work: &[DoneJob], number: u32) -> Option<usize>
     ensures is { result ≡ spec.job_place number work.now }
     ensures there { IfSome result (λ place. place < length work.now) }
 {
-    for place in 0..work.len() {
-        let it = &work[place];
-        if it.job == number {
-            return Some(place);
+    work.iter().position(|done| done.job == number)
+}
+
+/// The first part in the unit that had passed the point, with the number of its job.
+fn first_passed(work: &[DoneJob], spot: Spot) -> Option<(u32, Part)>
+    ensures { result ≡ spec.first_passed spot work.now }
+{
+    for done in work {
+        if let Some(found) = part_of(done, spot.unit) {
+            if has_passed(found.part, spot.place) {
+                return Some((done.job, found.part));
+            }
         }
     }
     None
-}
-
-/// Appends the first part in the unit that had passed the point.
-fn push_passed(text: &mut String, worker: u64, work: &[DoneJob], spot: Spot) -> Result<(), NoMemory>
-    ensures { OnOk result (string_bytes text.new ≡ string_bytes text.old ++ spec.passed_line worker spot work.now) }
-{
-    for done in work {
-        match told_part(done, spot.unit) {
-            Some(told) => {
-                if has_passed(told.part, spot.place) {
-                    return push_before(text, worker, done.job, told.part);
-                }
-            }
-            None => {}
-        }
-    }
-    Ok(())
-}
-
-/// Appends the line of a part that had passed the point.
-#[tactic(auto, unfolding(crate::specs::BackStory::before_line))]
-fn push_before(text: &mut String, worker: u64, job: u32, part: Part) -> Result<(), NoMemory>
-    ensures { OnOk result (string_bytes text.new ≡ string_bytes text.old ++ spec.before_line worker job part) }
-{
-    text.push_str("before that: ")?;
-    push_part(text, worker, job, part)
 }
 
 /// Whether the worker of the part had passed the point: its own was later, or it made the entry there.

@@ -1,20 +1,20 @@
 //! Where data first differs from other data.
-ghost use Rattle.std.specs.Prelude.{◌≡◌, ◌≤◌, ◌++◌, OnOk, length, string_bytes};
+ghost use Rattle.std.specs.Prelude.{◌≡◌, ◌++◌, OnOk, string_bytes};
 ghost use Rattle.nvm_explain.specs.Difference as spec;
 ghost use Rattle.nvm_explain.specs.IfAny.{if_any};
 
 use crate::last_change::push_last_change;
+use crate::unit_at::UnitAt;
 use nvm_geometry::MOST_BLOCKS;
 use nvm_record::{BlockSize, NoMemory};
-use nvm_store::Entry;
 use nvm_text::HexByte;
 
 /// A byte of data that isn't the byte of other data at its place.
-#[derive(Clone, Copy, Debug)]
+#[derive(Clone, Copy)]
 pub struct Difference {
     /// The LBA of its block.
     pub lba: u64,
-    /// How many bytes stand before it in the block.
+    /// How many bytes are before it in the block.
     pub offset: usize,
     pub byte: u8,
     /// What the other data has there.
@@ -30,24 +30,9 @@ pub(crate) fn difference_of(
 ) -> Option<Difference>
     ensures { result ≡ spec.difference_of first size bytes.now others.now }
 {
-    if bytes.len() == others.len() && first <= MOST_BLOCKS {
-        difference_between(first, size, bytes, others)
-    } else {
-        None
+    if bytes.len() != others.len() || first > MOST_BLOCKS {
+        return None;
     }
-}
-
-/// The first byte that differs, if one does.
-fn difference_between(
-    first: u64,
-    size: BlockSize,
-    bytes: &[u8],
-    others: &[u8],
-) -> Option<Difference>
-    requires low { first ≤ 65536 }
-    requires same { length bytes.now ≡ length others.now }
-    ensures { result ≡ spec.difference_from first size 0 bytes.now others.now }
-{
     for at in 0..bytes.len() {
         if bytes[at] != others[at] {
             return Some(Difference {
@@ -61,26 +46,23 @@ fn difference_between(
     None
 }
 
-/// Appends the byte that differs, if one does, behind the words for it and for the other, and which of the unit's entries before
+/// Appends the byte that differs, if one does, after the words for it and for the other, and which of the unit's entries before
 /// changed its block last.
 pub(crate) fn push_difference(
     text: &mut String,
     words: &str,
     others: &str,
-    unit: u16,
-    before: &[Entry],
+    at: &UnitAt<'_>,
     found: Option<Difference>,
 ) -> Result<(), NoMemory>
     ensures { OnOk result (string_bytes text.new ≡ string_bytes text.old
-        ++ if_any (spec.difference_lines words.now others.now unit before.now) found) }
+        ++ if_any found (spec.difference_lines words.now others.now at.now.unit at.now.before.now)) }
 {
-    match found {
-        Some(difference) => {
-            push_byte(text, words, others, difference)?;
-            push_last_change(text, unit, before, difference.lba)
-        }
-        None => Ok(()),
-    }
+    let Some(difference) = found else {
+        return Ok(());
+    };
+    push_byte(text, words, others, difference)?;
+    push_last_change(text, at, difference.lba)
 }
 
 /// Appends in which block the byte is and at which offset there, what it is, and what the other is.

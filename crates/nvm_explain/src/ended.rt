@@ -1,5 +1,5 @@
 //! With which statuses jobs ended, and how many jobs with each.
-ghost use Rattle.std.specs.Prelude.{◌≡◌, ◌≤◌, ◌++◌, All, IfOk, OnOk, count_by, length, map, string_bytes};
+ghost use Rattle.std.specs.Prelude.{◌≡◌, ◌≤◌, ◌++◌, All, IfOk, OnOk, length, map, string_bytes};
 ghost use Rattle.nvm_audit.specs.Recordable.{most_jobs, most_workers};
 ghost use Rattle.nvm_explain.specs.Ended as spec;
 
@@ -9,6 +9,7 @@ use nvm_text::StatusesText;
 use std::alloc::Global;
 
 /// Appends how many jobs ended with which statuses, in the order in which they first occur.
+#[tactic(auto, unfolding(crate::specs::Ended::ended_line))]
 pub(crate) fn push_ended(
     text: &mut String,
     alloc: Global,
@@ -20,32 +21,11 @@ pub(crate) fn push_ended(
         ≡ string_bytes text.old ++ spec.ended_lines (map (λ work. work.items) done.now)) }
 {
     let met = different_statuses(alloc, done)?;
-    push_each_ended(text, done, &met)
-}
-
-/// Appends a line for each of these statuses.
-fn push_each_ended(
-    text: &mut String,
-    done: &[Vec<DoneJob>],
-    met: &[Statuses],
-) -> Result<(), NoMemory>
-    requires workers { length done.now ≤ most_workers }
-    requires jobs { All (λ work. length work.items ≤ most_jobs) done.now }
-    ensures { OnOk result (string_bytes text.new
-        ≡ string_bytes text.old ++ spec.ended_with (map (λ work. work.items) done.now) met.now) }
-{
-    for statuses in met {
-        push_ended_line(text, *statuses, jobs_with(done, *statuses))?;
+    for statuses in &met {
+        let jobs = jobs_with(done, *statuses);
+        write!(text, "status {} jobs {jobs}\n", StatusesText(*statuses))?;
     }
     Ok(())
-}
-
-/// Appends that so many jobs ended with these statuses.
-#[tactic(auto, unfolding(crate::specs::Ended::ended_line))]
-fn push_ended_line(text: &mut String, statuses: Statuses, jobs: u64) -> Result<(), NoMemory>
-    ensures { OnOk result (string_bytes text.new ≡ string_bytes text.old ++ spec.ended_line statuses jobs) }
-{
-    write!(text, "status {} jobs {jobs}\n", StatusesText(statuses))
 }
 
 /// The statuses with which jobs ended, in the order in which they first occur.
@@ -66,10 +46,9 @@ fn different_statuses(alloc: Global, done: &[Vec<DoneJob>]) -> Result<Vec<Status
 fn meet(met: &mut Vec<Statuses>, statuses: Statuses) -> Result<(), NoMemory>
     ensures { OnOk result (met.new.items ≡ spec.met_with met.old.items statuses) }
 {
-    if is_met(met, statuses) {
-        return Ok(());
+    if !is_met(met, statuses) {
+        met.push(statuses)?;
     }
-    met.push(statuses)?;
     Ok(())
 }
 
@@ -88,14 +67,7 @@ fn jobs_with(done: &[Vec<DoneJob>], statuses: Statuses) -> u64
 {
     let mut jobs = 0;
     for work in done {
-        jobs += jobs_in(work, statuses) as u64;
+        jobs += work.iter().filter(|it| it.statuses == statuses).count() as u64;
     }
     jobs
-}
-
-/// How many of one worker's jobs ended with these statuses.
-fn jobs_in(work: &[DoneJob], statuses: Statuses) -> usize
-    ensures { result ≡ count_by (λ d. spec.same_statuses d.statuses statuses) work.now }
-{
-    work.iter().filter(|it| it.statuses == statuses).count()
 }

@@ -5,19 +5,19 @@ ghost use Rattle.nvm_audit.specs.Verdict.{IsVerdict};
 ghost use Rattle.nvm_audit.specs.declared.audit_fault.AuditFault.{AuditFault as Fault};
 ghost use Rattle.nvm_audit.specs.declared.audit_fault.AuditFault.TheVariants.{NoMemory as NoMemoryFault};
 ghost use Rattle.nvm_audit.specs.declared.verdict.Verdict.{Verdict as Numbers};
-ghost use Rattle.nvm_explain.specs.Story.{fault_text, rest_story, story};
+ghost use Rattle.nvm_explain.specs.Story.{details, fault_text};
 ghost use Rattle.nvm_explain.specs.Summary.{lawful_text};
 
 use crate::around::push_around;
 use crate::back_story::push_back_story;
 use crate::entry_story::push_entry_story;
 use crate::job_story::push_job;
-use crate::meaning::push_meaning;
+use crate::meaning::sense;
 use crate::part_story::push_part_story;
 use crate::shape_story::push_shape;
+use crate::spot_text::SpotText;
 use crate::summary::push_summary;
-use crate::verdict_line::{push_lawful, push_unlawful};
-use nvm_audit::{AuditFault, Record, Spot, Verdict, Watcher, audit_watched};
+use nvm_audit::{AuditFault, Record, Verdict, Watcher, audit_watched};
 use nvm_record::NoMemory;
 use std::alloc::{AllocError, Global};
 use std::thread::Threads;
@@ -44,91 +44,77 @@ pub fn explain<W: Watcher + Sync>(
     }
 }
 
-/// What is told of a lawful record.
+/// What is said of a lawful record.
+#[tactic(auto, unfolding(nvm_engine::specs::VerdictLine::changes_text, nvm_engine::specs::VerdictLine::count_text))]
 fn lawful_explanation(alloc: Global, run: &Record, verdict: Verdict) -> Result<String, NoMemory>
     ensures { IfOk result (λ text. string_bytes text ≡ lawful_text run.now verdict) }
 {
+    let Verdict {
+        jobs,
+        units,
+        changes,
+        refused,
+    } = verdict;
     let mut text = String::new(alloc);
-    push_lawful(&mut text, verdict)?;
+    write!(
+        text,
+        "lawful jobs {jobs} units {units} changes {changes} refused {refused}\n"
+    )?;
     push_summary(&mut text, alloc, run)?;
     Ok(text)
 }
 
-/// What is told of a record with this first fault. Want of memory is none: it is answered.
+/// What is said of a record with this first fault. Want of memory is none: it is answered.
+#[tactic(auto, unfolding(nvm_engine::specs::VerdictLine::count_text))]
 fn fault_explanation(alloc: Global, run: &Record, fault: AuditFault) -> Result<String, NoMemory>
-    ensures told { IfOk result (λ text. string_bytes text ≡ fault_text run.now fault) }
+    ensures text { IfOk result (λ text. string_bytes text ≡ fault_text run.now fault) }
     ensures known { IfOk result (λ _. fault ≢ NoMemoryFault) }
 {
-    match fault {
-        AuditFault::NoMemory => Err(AllocError),
-        _ => told_fault(alloc, run, fault),
-    }
-}
-
-/// What is told of a record with this first fault.
-fn told_fault(alloc: Global, run: &Record, fault: AuditFault) -> Result<String, NoMemory>
-    ensures { IfOk result (λ text. string_bytes text ≡ fault_text run.now fault) }
-{
+    let Some(job) = fault.job() else {
+        return Err(AllocError);
+    };
+    let name = fault.name();
+    let spot = SpotText(fault.spot());
     let mut text = String::new(alloc);
-    push_unlawful(&mut text, fault)?;
-    push_meaning(&mut text, fault)?;
-    push_story(&mut text, alloc, run, fault)?;
+    write!(text, "unlawful {name} job {job}{spot}\n")?;
+    write!(text, "{name}{}", sense(fault))?;
+    push_job(&mut text, run, job)?;
+    push_details(&mut text, alloc, run, job, fault)?;
     Ok(text)
 }
 
-/// Appends what the record shows of the fault.
-fn push_story(
-    text: &mut String,
-    alloc: Global,
-    run: &Record,
-    fault: AuditFault,
-) -> Result<(), NoMemory>
-    ensures { OnOk result (string_bytes text.new ≡ string_bytes text.old ++ story run.now fault) }
-{
-    match fault {
-        AuditFault::JobMissing { job } | AuditFault::JobTwice { job } => push_job(text, run, job),
-        AuditFault::StatusWrong { job, spot: None } => {
-            push_job(text, run, job)?;
-            push_shape(text, run, job)
-        }
-        AuditFault::EntryWrong { job, spot } => {
-            push_job(text, run, job)?;
-            push_entry_story(text, alloc, run, job, spot)?;
-            push_around(text, run, spot, None)
-        }
-        AuditFault::EntryUnclaimed { job, spot } => {
-            push_job(text, run, job)?;
-            push_around(text, run, spot, None)
-        }
-        AuditFault::PointPast { job, spot } => {
-            push_job(text, run, job)?;
-            push_around(text, run, spot, Some(job))
-        }
-        AuditFault::PointBack { job, spot } => {
-            push_job(text, run, job)?;
-            push_back_story(text, run, job, spot)?;
-            push_around(text, run, spot, Some(job))
-        }
-        AuditFault::StatusWrong {
-            job,
-            spot: Some(spot),
-        }
-        | AuditFault::DataWrong { job, spot } => push_rest(text, alloc, run, job, spot),
-        AuditFault::NoMemory => Ok(()),
-    }
-}
-
-/// Appends the job, what the step gives its part, and the unit round the part's point.
-fn push_rest(
+/// Appends what the record shows of this job's fault, beside the job.
+fn push_details(
     text: &mut String,
     alloc: Global,
     run: &Record,
     job: u32,
-    spot: Spot,
+    fault: AuditFault,
 ) -> Result<(), NoMemory>
-    ensures { OnOk result (string_bytes text.new ≡ string_bytes text.old ++ rest_story run.now job spot) }
+    ensures { OnOk result (string_bytes text.new ≡ string_bytes text.old ++ details run.now job fault) }
 {
-    push_job(text, run, job)?;
-    push_part_story(text, alloc, run, job, spot)?;
-    push_around(text, run, spot, Some(job))
+    match fault {
+        AuditFault::JobMissing { .. } | AuditFault::JobTwice { .. } | AuditFault::NoMemory => Ok(
+            (),
+        ),
+        AuditFault::StatusWrong { spot: None, .. } => push_shape(text, run, job),
+        AuditFault::EntryWrong { spot, .. } => {
+            push_entry_story(text, alloc, run, job, spot)?;
+            push_around(text, run, spot, None)
+        }
+        AuditFault::EntryUnclaimed { spot, .. } => push_around(text, run, spot, None),
+        AuditFault::PointPast { spot, .. } => push_around(text, run, spot, Some(job)),
+        AuditFault::PointBack { spot, .. } => {
+            push_back_story(text, run, job, spot)?;
+            push_around(text, run, spot, Some(job))
+        }
+        AuditFault::StatusWrong {
+            spot: Some(spot),
+            ..
+        }
+        | AuditFault::DataWrong { spot, .. } => {
+            push_part_story(text, alloc, run, job, spot)?;
+            push_around(text, run, spot, Some(job))
+        }
+    }
 }

@@ -1,78 +1,36 @@
 //! Which entry changed a block last.
-ghost use Rattle.std.specs.Prelude.{◌≡◌, ◌+◌, ◌++◌, ◌&&◌, nat_le, nat_lt, OnOk, Some, string_bytes};
+ghost use Rattle.std.specs.Prelude.{◌≡◌, ◌+◌, ◌++◌, ◌&&◌, nat_le, nat_lt, OnOk, option_map, string_bytes};
 ghost use Rattle.nvm_record.specs.Ranges.{ranges_have, ranges_of};
 ghost use Rattle.nvm_record.specs.Step.{reaches};
 ghost use Rattle.nvm_store.specs.Act.{operation_of};
 ghost use Rattle.nvm_explain.specs.LastChange as spec;
 
+use crate::unit_at::UnitAt;
 use nvm_record::{LbaRange, NoMemory, range_count};
 use nvm_report::push_entry;
 use nvm_store::{Act, Entry};
 
-/// Appends which of the unit's first entries changed the block of this LBA last, or that none did.
-pub(crate) fn push_last_change(
-    text: &mut String,
-    unit: u16,
-    entries: &[Entry],
-    lba: u64,
-) -> Result<(), NoMemory>
+/// Appends which of the unit's entries before changed the block of this LBA last, or that none did.
+#[tactic(auto, unfolding(crate::specs::LastChange::change_head, crate::specs::LastChange::last_change_line))]
+pub(crate) fn push_last_change(text: &mut String, at: &UnitAt<'_>, lba: u64) -> Result<(), NoMemory>
     ensures { OnOk result (string_bytes text.new
-        ≡ string_bytes text.old ++ spec.last_change_line unit entries.now lba) }
+        ≡ string_bytes text.old ++ spec.last_change_line at.now.unit at.now.before.now lba) }
 {
     write!(text, "last change of LBA {lba}: ")?;
-    push_change(text, unit, entries, last_change(entries, lba))?;
-    Ok(())
-}
-
-/// Appends the unit's entry at this place, or that there is none.
-fn push_change(
-    text: &mut String,
-    unit: u16,
-    entries: &[Entry],
-    place: Option<usize>,
-) -> Result<(), NoMemory>
-    ensures { OnOk result (string_bytes text.new
-        ≡ string_bytes text.old ++ spec.change_text unit entries.now place) }
-{
-    match place {
-        Some(place) => push_entry_at(text, unit, entries, place),
-        None => push_none(text),
+    match last_change(at.before, lba) {
+        Some((place, entry)) => push_entry(text, u64::from(at.unit), place as u64, entry),
+        None => write!(text, "none\n"),
     }
 }
 
-/// Appends the unit's entry at this place.
-fn push_entry_at(
-    text: &mut String,
-    unit: u16,
-    entries: &[Entry],
-    place: usize,
-) -> Result<(), NoMemory>
-    ensures { OnOk result (string_bytes text.new
-        ≡ string_bytes text.old ++ spec.change_text unit entries.now (Some place)) }
-{
-    match entries.get(place) {
-        Some(entry) => push_entry(text, u64::from(unit), place as u64, entry),
-        None => Ok(()),
-    }
-}
-
-/// Appends that there is none.
-fn push_none(text: &mut String) -> Result<(), NoMemory>
-    ensures { OnOk result (string_bytes text.new ≡ string_bytes text.old ++ spec.no_change) }
-{
-    text.push_str("none\n")?;
-    Ok(())
-}
-
-/// The place of the last of these entries that changes the block of this LBA, if one does.
-fn last_change(entries: &[Entry], lba: u64) -> Option<usize>
-    ensures { result ≡ spec.last_change lba entries.now }
+/// The last of these entries that changes the block of this LBA, if one does, with its place.
+fn last_change(entries: &[Entry], lba: u64) -> Option<(usize, &Entry)>
+    ensures { option_map (λ found. (found.0, found.1.now)) result ≡ spec.last_change lba entries.now }
 {
     let mut last = None;
-    for place in 0..entries.len() {
-        let entry = &entries[place];
+    for (place, entry) in entries.iter().enumerate() {
         if changes(&entry.act, lba) {
-            last = Some(place);
+            last = Some((place, entry));
         }
     }
     last
@@ -95,7 +53,7 @@ fn changes(act: &Act, lba: u64) -> bool
     }
 }
 
-/// Whether the LBA is one of the `blocks` from `first`, whose end may lie behind 2^64.
+/// Whether the LBA is one of the `blocks` from `first`, whose end may be above 2^64.
 fn is_in_range(first: u64, blocks: u32, lba: u64) -> bool
     ensures { result ≡ (nat_le first lba && nat_lt lba (first + blocks)) }
 {

@@ -8,11 +8,9 @@
 
 mod around;
 mod back_story;
-mod before;
-mod blocks_at;
 mod comparison;
 mod difference;
-mod doer;
+mod doing;
 mod ended;
 mod entry_story;
 mod explaining;
@@ -22,14 +20,13 @@ mod last_change;
 mod looked_up;
 mod meaning;
 mod most;
-mod outcome;
 mod part_story;
 mod recorded_data;
 mod shape_story;
+mod spot_text;
 mod summary;
-mod told;
+mod unit_at;
 mod unit_counts;
-mod verdict_line;
 
 pub use explaining::explain;
 pub use job_story::push_job;

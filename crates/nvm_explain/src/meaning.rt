@@ -1,21 +1,11 @@
-ghost use Rattle.std.specs.Prelude.{◌≡◌, ◌++◌, OnOk, string_bytes};
+//! What each fault of a record means.
+ghost use Rattle.std.specs.Prelude.{◌≡◌};
 ghost use Rattle.nvm_explain.specs.Meaning as spec;
 
 use nvm_audit::AuditFault;
-use nvm_record::NoMemory;
 
-/// Appends the line that says what a fault of this name means.
-pub(crate) fn push_meaning(text: &mut String, fault: AuditFault) -> Result<(), NoMemory>
-    ensures { OnOk result (string_bytes text.new ≡ string_bytes text.old ++ spec.meaning fault) }
-{
-    if let None = fault.job() {
-        return Ok(());
-    }
-    write!(text, "{}{}", fault.name(), sense(fault))
-}
-
-/// What is after a fault's name.
-fn sense(fault: AuditFault) -> &'static str
+/// What is after the fault's name in the line that says what it means. Want of memory means nothing of a record.
+pub(crate) fn sense(fault: AuditFault) -> &'static str
     ensures { result.now ≡ spec.sense fault }
 {
     match fault {

@@ -1,37 +1,36 @@
 //! In how many units something is counted, and in which most of it.
-ghost use Rattle.std.specs.Prelude.{◌≡◌, ◌++◌, OnOk, string_bytes};
+ghost use Rattle.std.specs.Prelude.{◌≡◌, Some};
 ghost use Rattle.nvm_explain.specs.Most as spec;
 
-use nvm_record::NoMemory;
+use std::fmt;
+use std::fmt::{Display, Formatter};
 
-/// Appends how many units have more than so many, and which of them has most.
-#[tactic(auto, unfolding(crate::specs::Most::most_line))]
-pub(crate) fn push_most(
-    text: &mut String,
-    words: &str,
-    least: u64,
-    counts: &[u64],
-) -> Result<(), NoMemory>
-    ensures { OnOk result (string_bytes text.new ≡ string_bytes text.old ++ spec.most_line words.now least counts.now) }
-{
-    let units = units_above(counts, least);
-    write!(text, "{words}{units}")?;
-    push_most_words(text, least, counts)?;
-    text.push_str("\n")
+/// How many units have more than `least`, and where one has, the most and the first unit that has it.
+#[derive(Clone, Copy)]
+pub(crate) struct MostText<'a> {
+    pub(crate) least: u64,
+    /// What was counted in each unit.
+    pub(crate) counts: &'a [u64],
 }
 
-/// Appends the most and the first unit that has it, where that is more than so many.
-fn push_most_words(text: &mut String, least: u64, counts: &[u64]) -> Result<(), NoMemory>
-    ensures { OnOk result (string_bytes text.new ≡ string_bytes text.old ++ spec.most_words least counts.now) }
-{
-    let most = most_of(counts);
-    if most > least {
-        write!(text, " most {most} unit {}", first_with(counts, most))?;
+impl Display for MostText<'_> {
+    ghost output = { λ text. Some (spec.most_text text.least text.counts.now) };
+
+    #[tactic(auto, unfolding(crate::specs::Most::most_text))]
+    fn fmt<W: fmt::Write>(&self, f: &mut Formatter<W>) -> fmt::Result {
+        let MostText { least, counts } = *self;
+        let units = units_above(counts, least);
+        let most = most_of(counts);
+        if most > least {
+            let unit = first_with(counts, most);
+            write!(f, "{units} most {most} unit {unit}")
+        } else {
+            write!(f, "{units}")
+        }
     }
-    Ok(())
 }
 
-/// How many units have more than so many.
+/// How many units have more than `least`.
 fn units_above(counts: &[u64], least: u64) -> usize
     ensures { result ≡ spec.units_above least counts.now }
 {
@@ -42,14 +41,10 @@ fn units_above(counts: &[u64], least: u64) -> usize
 fn most_of(counts: &[u64]) -> u64
     ensures { result ≡ spec.most_of counts.now }
 {
-    let mut most = 0;
-    for count in counts {
-        most = most.max(*count);
-    }
-    most
+    counts.iter().fold(0, |most, count| most.max(*count))
 }
 
-/// The first unit that has just so many, or the number of units.
+/// The first unit that has exactly this count, or the number of units.
 fn first_with(counts: &[u64], count: u64) -> usize
     ensures { result ≡ spec.first_with count counts.now }
 {

@@ -1,25 +1,27 @@
-ghost use Rattle.std.specs.Prelude.{◌≡◌, ◌≤◌, ◌+◌, option_map};
+ghost use Rattle.std.specs.Prelude.{◌≡◌, option_map};
 ghost use Rattle.nvm_plan.specs.LentPart.{part_operation_of};
 ghost use Rattle.nvm_explain.specs.RecordedData as spec;
 
+use nvm_audit::DoneJob;
 use nvm_geometry::MOST_BLOCKS;
 use nvm_plan::{Body, Job, LentPart};
 use nvm_record::BlockSize;
 use nvm_store::Look;
 
-/// Those bytes of a Read's data that are of its part's blocks, if the part is of a Read and the data has them.
+/// Those bytes of a Read's recorded data that are of its part's blocks, if the part is of a Read and the data has them.
 pub(crate) fn recorded_data<'a>(
     size: BlockSize,
     job: &Job,
+    done: &'a DoneJob,
     part: &LentPart<'_>,
-    bytes: &'a [u8],
 ) -> Option<&'a [u8]>
     ensures { option_map (λ shown. shown.now) result
-        ≡ spec.recorded_data size job.now.body (part_operation_of part.now) bytes.now }
+        ≡ spec.recorded_data size job.now.body (part_operation_of part.now) done.now.payload }
 {
-    match part {
-        LentPart::Look(Look::Read { first, blocks }) => {
-            data_of_blocks(size, start_of(job), *first, *blocks, bytes)
+    let (Body::Single(command) | Body::Pair(command, _)) = &job.body;
+    match (part, &done.payload) {
+        (LentPart::Look(Look::Read { first, blocks }), Some(data)) => {
+            data_of_blocks(size, command.slba, *first, *blocks, data.as_slice())
         }
         _ => None,
     }
@@ -45,15 +47,5 @@ fn data_of_blocks<'a>(
         Some(&bytes[from as usize..to as usize])
     } else {
         None
-    }
-}
-
-/// The LBA from which a job's command reads.
-fn start_of(job: &Job) -> u64
-    ensures { result ≡ spec.start_of job.now.body }
-{
-    match &job.body {
-        Body::Single(command) => command.slba,
-        Body::Pair(compare, _) => compare.slba,
     }
 }

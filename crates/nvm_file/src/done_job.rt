@@ -114,7 +114,7 @@ fn deeds_of<'a>(
     let (parts, rest) = parts_of(alloc, frame, rest)?;
     let (statuses, rest) = statuses_of(&job.body, frame.total, rest)?;
     let length = answer_length(&frame.geometry, job);
-    let (payload, rest) = payload_of(alloc, frame.total, length, rest)?;
+    let (payload, rest) = payload_of(frame.total, length, rest)?;
     let done = DoneJob {
         job: number,
         parts,
@@ -255,12 +255,11 @@ pub fn read_length(geometry: &Geometry, body: &Body) -> Option<usize>
 
 /// The data, if there is any: a flag of 0, or a flag of 1 and then the data, where there may be some.
 #[tactic(auto, unfolding(crate::specs::DoneReading::payload_at))]
-pub fn payload_of<'a>(
-    alloc: Global,
+pub fn payload_of(
     total: usize,
     length: Option<usize>,
-    rest: Rest<'a>,
-) -> Result<(Option<ReadData>, Rest<'a>), RecordFault>
+    rest: Rest<'_>,
+) -> Result<(Option<ReadData>, Rest<'_>), RecordFault>
     ensures { Gives (λ x. (x.0, left_of x.1)) result (payload_at total length (left_of rest.entry)) }
 {
     let (flag, after) = u8_in(total, 0, 1, rest)?;
@@ -268,24 +267,23 @@ pub fn payload_of<'a>(
         return Ok((None, after));
     }
     match length {
-        Some(length) => answer_of(alloc, total, length, after),
+        Some(length) => answer_of(total, length, after),
         None => Err(refused(total, rest)),
     }
 }
 
-/// The bytes that are answered, copied.
+/// The bytes that are answered, shared with the file.
 #[tactic(auto, unfolding(crate::specs::DoneReading::answer_at, crate::specs::Fields::bytes_at))]
-fn answer_of<'a>(
-    alloc: Global,
+fn answer_of(
     total: usize,
     length: usize,
-    rest: Rest<'a>,
-) -> Result<(Option<ReadData>, Rest<'a>), RecordFault>
+    rest: Rest<'_>,
+) -> Result<(Option<ReadData>, Rest<'_>), RecordFault>
     ensures { Gives (λ x. (x.0, left_of x.1)) result (answer_at total length (left_of rest.entry)) }
 {
     if rest.len() < length {
         return Err(cut_short(total, rest));
     }
-    let bytes = Vec::from_slice(alloc, rest.front(length))?;
-    Ok((Some(ReadData::new(bytes)), rest.after(length)))
+    let payload = rest.part(length)?;
+    Ok((Some(ReadData::shared(payload)), rest.after(length)))
 }

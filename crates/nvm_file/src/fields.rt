@@ -1,5 +1,5 @@
 //! Numbers and bytes, read from the front of what is left of a file of `total` bytes.
-ghost use Rattle.std.specs.Prelude.{◌≡◌, ◌<◌};
+ghost use Rattle.std.specs.Prelude.{◌≡◌, ◌<◌, ◌≤◌, ◌*◌, length};
 ghost use Rattle.nvm_file.specs.Fields.{Gives, bytes_at, number_at, number_in, number_below, offset};
 ghost use Rattle.nvm_file.specs.Inside.Rest.{left_of};
 ghost use Rattle.nvm_file.specs.declared.record_fault.RecordFault.TheVariants.{Truncated as CutShort, BadValue as Refused};
@@ -166,6 +166,8 @@ pub fn data_of(
 /// alone, whatever the count says.
 pub fn room_for(count: usize, least_bytes: usize, rest: Rest<'_>) -> usize
     requires { 0 < least_bytes }
+    ensures wanted { result ≤ count }
+    ensures held { result * least_bytes ≤ length (left_of rest.entry) }
 {
     count.min(rest.len() / least_bytes)
 }

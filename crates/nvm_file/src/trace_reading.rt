@@ -19,7 +19,7 @@ use std::alloc::Global;
 /// Reads a trace's file from its front. What is read is spelled just so, each byte of it, and the spelling of each trace that a
 /// file can hold is read as just that trace: see [`spellings_are_traces`](crate::laws::spellings_are_traces).
 ///
-/// The data of commands is a part of the bytes; that of Reads is copied. Memory is taken for the lists, never for more items than
+/// The data of commands and of Reads is a part of the bytes. Memory is taken for the lists, never for more items than
 /// the bytes that follow could hold, whatever a count says.
 ///
 /// The first fault from the front is answered, or `NoMemory` where a growth was refused before it, or 2^63 - 1 payloads

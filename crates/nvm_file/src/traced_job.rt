@@ -22,7 +22,7 @@ const LEAST_BYTES: usize = 83;
 /// The time of an end that wasn't seen.
 pub const NEVER: u64 = u64::MAX;
 
-/// So many jobs, each at the place of its number. The data of their commands is shared with the file.
+/// `count` jobs, each at the place of its number. Their data, and that of what Reads found, is shared with the file.
 pub fn traced_jobs_of<'a>(
     alloc: Global,
     scope: &Scope,
@@ -35,7 +35,7 @@ pub fn traced_jobs_of<'a>(
     let mut jobs = Vec::with_capacity(alloc, room)?;
     let mut rest = from;
     for _ in 0..count {
-        let (job, after) = traced_job_of(alloc, scope, rest)?;
+        let (job, after) = traced_job_of(scope, rest)?;
         jobs.push(job)?;
         rest = after;
     }
@@ -44,16 +44,12 @@ pub fn traced_jobs_of<'a>(
 
 /// A job, when it began, and how it ended.
 #[tactic(auto, unfolding(crate::specs::TracedJobReading::traced_at))]
-fn traced_job_of<'a>(
-    alloc: Global,
-    scope: &Scope,
-    rest: Rest<'a>,
-) -> Result<(TracedJob, Rest<'a>), TraceFileFault>
+fn traced_job_of<'a>(scope: &Scope, rest: Rest<'a>) -> Result<(TracedJob, Rest<'a>), TraceFileFault>
     ensures { GivesTraced (λ x. (x.0, left_of x.1)) result (traced_at scope.now (left_of rest.entry)) }
 {
     let (job, rest) = job_of(scope, rest)?;
     let (began, rest) = began_of(scope.total, rest)?;
-    let (ended, rest) = ended_of(alloc, scope, &job.body, began, rest)?;
+    let (ended, rest) = ended_of(scope, &job.body, began, rest)?;
     Ok((TracedJob { job, began, ended }, rest))
 }
 
@@ -74,7 +70,6 @@ fn began_of(total: usize, rest: Rest<'_>) -> Result<(u64, Rest<'_>), TraceFileFa
 /// How a job ended that began then, if its end was seen.
 #[tactic(auto, unfolding(crate::specs::TracedJobReading::ended_at, crate::specs::TracedJobReading::seen_at))]
 fn ended_of<'a>(
-    alloc: Global,
     scope: &Scope,
     body: &Body,
     began: u64,
@@ -91,14 +86,13 @@ fn ended_of<'a>(
             at: offset_of(scope.total, rest),
         });
     }
-    let (ending, after) = ending_of(alloc, scope, body, time, after)?;
+    let (ending, after) = ending_of(scope, body, time, after)?;
     Ok((Some(ending), after))
 }
 
 /// What came back at this time: the statuses, and the data of a Read.
 #[tactic(auto, unfolding(crate::specs::TracedJobReading::ending_at))]
 fn ending_of<'a>(
-    alloc: Global,
     scope: &Scope,
     body: &Body,
     time: u64,
@@ -108,7 +102,7 @@ fn ending_of<'a>(
 {
     let (statuses, rest) = statuses_of(body, scope.total, rest)?;
     let length = read_length(&scope.geometry, body);
-    let (payload, rest) = payload_of(alloc, scope.total, length, rest)?;
+    let (payload, rest) = payload_of(scope.total, length, rest)?;
     let ending = Ending {
         time,
         statuses,

@@ -11,3 +11,4 @@ pub mod Completion
 pub mod Lists
 pub mod PayloadRef
 pub mod SharedBytes
+pub mod ReadBytes

@@ -1,27 +1,35 @@
-ghost use Rattle.std.specs.Prelude.{◌≡◌, length};
+ghost use Rattle.std.specs.Prelude.{◌≡◌, MatchResult, length};
 
+use crate::payload::Payload;
 use std::alloc::AllocError;
 use std::cmp::{Eq, PartialEq};
 use std::marker::Model;
 
 /// The data that a Read is answered: bytes, which contracts see as their list.
 ///
-/// It is made of a `Vec` and gives it back, both without memory. Nothing shares it, unlike a
-/// [`Payload`](crate::Payload).
+/// It owns a `Vec`, or shares the bytes of a [`Payload`](crate::Payload), such as those of the file that it was read from.
+/// Neither way takes memory.
 #[derive(Debug, Drop)]
 pub struct ReadData {
-    bytes: Vec<u8>,
+    held: Held,
+}
+
+#[derive(Debug, Drop)]
+enum Held {
+    Own(Vec<u8>),
+    Shared(Payload),
 }
 
 impl Model for ReadData {
     ghost use Rattle.std.specs.Prelude.{List, ℕ};
+    ghost use Rattle.nvm_record.specs.ReadBytes.{read_bytes};
 
     ghost Value = { List ℕ };
 
-    ghost view = { λ read. read.bytes.items };
+    ghost view = { λ read. read_bytes read.held };
 }
 
-/// Two are equal where their bytes are.
+/// Two are equal where their bytes are, shared or not.
 impl PartialEq for ReadData {
     ghost use Rattle.std.specs.Prelude.{nat_eq};
     ghost use Rattle.std.specs.Cmp.{partial_equiv_from_equiv};
@@ -32,7 +40,7 @@ impl PartialEq for ReadData {
     ghost laws = { partial_equiv_from_equiv nat_list_eq_equiv };
 
     fn eq(&self, other: &ReadData) -> bool {
-        self.bytes == other.bytes
+        self.as_slice() == other.as_slice()
     }
 }
 
@@ -42,13 +50,16 @@ impl Eq for ReadData {
     ghost laws = { nat_list_eq_equiv };
 }
 
-/// A copy of the bytes, which takes memory.
+/// A copy of bytes of its own takes memory; shared bytes are shared once more.
 impl Clone for ReadData {
     ghost is_clone = { λ read copy. copy ≡ read };
 
     fn clone(&self) -> Result<ReadData, AllocError> {
-        let bytes = self.bytes.clone()?;
-        Ok(ReadData { bytes })
+        let held = match &self.held {
+            Held::Own(bytes) => Held::Own(bytes.clone()?),
+            Held::Shared(payload) => Held::Shared(payload.share()?),
+        };
+        Ok(ReadData { held })
     }
 }
 
@@ -57,28 +68,48 @@ impl ReadData {
     pub fn new(bytes: Vec<u8>) -> ReadData
         ensures { result ≡ bytes.items }
     {
-        ReadData { bytes }
+        ReadData {
+            held: Held::Own(bytes),
+        }
+    }
+
+    /// The bytes of `payload`, which stay shared.
+    pub fn shared(payload: Payload) -> ReadData
+        ensures { result ≡ payload }
+    {
+        ReadData {
+            held: Held::Shared(payload),
+        }
     }
 
     /// The bytes.
     pub fn as_slice(&self) -> &[u8]
         ensures { result.now ≡ self.now }
     {
-        self.bytes.as_slice()
+        match &self.held {
+            Held::Own(bytes) => bytes.as_slice(),
+            Held::Shared(payload) => payload.as_slice(),
+        }
     }
 
-    /// The bytes as the `Vec` that holds them, which isn't copied.
-    pub fn into_vec(self) -> Vec<u8>
-        ensures { result.items ≡ self }
+    /// The bytes as the `Vec` that holds them, which isn't copied. Shared bytes are given back.
+    pub fn into_vec(self) -> Result<Vec<u8>, ReadData>
+        ensures { MatchResult result (λ bytes. bytes.items ≡ self) (λ shared. shared ≡ self) }
     {
-        let ReadData { bytes } = self;
-        bytes
+        let ReadData { held } = self;
+        match held {
+            Held::Own(bytes) => Ok(bytes),
+            Held::Shared(payload) => Err(ReadData::shared(payload)),
+        }
     }
 
     /// How many bytes there are.
     pub fn len(&self) -> usize
         ensures { result ≡ length self.now }
     {
-        self.bytes.len()
+        match &self.held {
+            Held::Own(bytes) => bytes.len(),
+            Held::Shared(payload) => payload.len(),
+        }
     }
 }

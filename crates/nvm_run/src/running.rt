@@ -1,13 +1,8 @@
-ghost use Rattle.std.specs.Prelude.{◌≡◌, ℕ, ◌≤◌, List, All, length, map, IfOk, IfErr};
-ghost use Rattle.nvm_record.specs.Lists.{IsAt};
-ghost use Rattle.nvm_record.specs.Medium.{zero_medium};
+ghost use Rattle.std.specs.Prelude.{◌≡◌, ◌≤◌, All, length, map, IfOk, IfErr};
 ghost use Rattle.nvm_plan.specs.Fits.{FitsNamespace};
-ghost use Rattle.nvm_store.specs.HistoryEntry.{HistoryEntry};
-ghost use Rattle.nvm_store.specs.PlacedRun.{RunStep, IsRunFrom};
 ghost use Rattle.nvm_audit.specs.declared.version.Version.TheVariants.{Two};
 ghost use Rattle.nvm_audit.specs.Recordable.{most_jobs, HoldsBody};
-ghost use Rattle.nvm_audit.specs.RecordedCalls.{IsPlacedRunOf};
-ghost use Rattle.nvm_audit.specs.RecordedPart.{parts_in_unit};
+ghost use Rattle.nvm_audit.specs.OneThreadRun.{IsOneThreadRun};
 ghost use Rattle.nvm_run.specs.Counters.{IsWorkerCount};
 ghost use Rattle.nvm_run.specs.Inside.Gathering.{run_record, IsOfWorkers};
 ghost use Rattle.nvm_run.specs.RunFaults.{IsRunFault};
@@ -53,9 +48,7 @@ pub fn run<R: Threads + Wait + Sync, G: Gate + Sync>(
     ensures record { IfOk result (IsRecordOfRun geometry limit workers jobs.items) }
     // Each unit is a one-thread block store: its entries, and between them each part that looked or whose pair failed, are a run of
     // the step in which each has the answer that it got, each worker's in its order.
-    ensures one_thread { IfOk result (λ r. (unit : ℕ) (history : List HistoryEntry) → IsAt r.units unit history
-        → (steps : List RunStep) × IsPlacedRunOf r.namespace r.jobs history (parts_in_unit unit r.done) steps
-        × IsRunFrom r.namespace.block_size (zero_medium r.namespace.block_size) steps) }
+    ensures one_thread { IfOk result IsOneThreadRun }
     ensures fault { IfErr result (λ failed. IsRunFault workers failed.fault) }
     // A run that gives no record hands the jobs back.
     ensures back { IfErr result (λ failed. failed.jobs.items ≡ jobs.items) }

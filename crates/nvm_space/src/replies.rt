@@ -129,9 +129,16 @@ pub(crate) fn gathered(reply: PartReply, bytes: &mut Vec<u8>) -> (PartResult, St
 fn add(bytes: &mut Vec<u8>, payload: ReadData) -> Result<(), NoMemory>
     ensures { OnOk result (bytes.new.items ≡ bytes.old.items ++ payload) }
 {
-    if bytes.is_empty() && bytes.capacity() < payload.len() {
-        *bytes = payload.into_vec();
-        return Ok(());
-    }
+    let payload = if bytes.is_empty() && bytes.capacity() < payload.len() {
+        match payload.into_vec() {
+            Ok(own) => {
+                *bytes = own;
+                return Ok(());
+            }
+            Err(shared) => shared,
+        }
+    } else {
+        payload
+    };
     bytes.extend_from_slice(payload.as_slice())
 }

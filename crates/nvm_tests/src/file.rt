@@ -1,4 +1,5 @@
 //! Files that were written by hand, and what is read of them.
+mod fault_texts;
 mod threads;
 mod traces;
 mod worked_record;

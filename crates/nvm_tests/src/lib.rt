@@ -4,6 +4,8 @@
 #[cfg(test)]
 mod blocks;
 #[cfg(test)]
+mod expecting;
+#[cfg(test)]
 mod file;
 #[cfg(test)]
 mod front;

@@ -46,4 +46,4 @@ pub use trace::Trace;
 pub use trace_fault::TraceFault;
 pub use traced_job::{Ending, TracedJob};
 pub use witness_fault::WitnessFault;
-pub use witnessing::witness;
+pub use witnessing::{witness, witness_alone};

@@ -1,6 +1,8 @@
 ghost use Rattle.std.specs.Prelude.{◌≡◌, ◌⊎◌, ℕ, ◌≤◌, length, map, not, count_by, All, IfOk, IfErr, MatchOption, MatchResult};
 ghost use Rattle.nvm_audit.specs.LawfulRecord.{IsLawfulRecord};
+ghost use Rattle.nvm_audit.specs.RecordChecks.{IsFirstFault};
 ghost use Rattle.nvm_audit.specs.Recordable.{most_jobs};
+ghost use Rattle.nvm_audit.specs.declared.audit_fault.AuditFault.TheVariants.{NoMemory as NoMemoryOfAudit};
 ghost use Rattle.nvm_trace.specs.declared.judging.Judging.{Judging as JudgingView};
 ghost use Rattle.nvm_trace.specs.declared.witness_fault.WitnessFault.TheVariants.{NoMemory as NoMemoryFault};
 ghost use Rattle.nvm_trace.specs.ExplainedBy.{HasItsReply, IsExplainedBy};
@@ -26,7 +28,7 @@ use crate::trace::Trace;
 use crate::traced_job::TracedJob;
 use crate::witness_fault::WitnessFault;
 use nvm_audit::laws::one_check_is_the_first_fault;
-use nvm_audit::{AuditFault, Record, Spot, audit};
+use nvm_audit::{AuditFault, Record, Spot, Verdict, audit, audit_alone};
 use nvm_geometry::Geometry;
 use nvm_record::NoMemory;
 use std::alloc::Global;
@@ -136,6 +138,33 @@ fn time_fault(
     }
 }
 
+/// What a witness answers of a record whose first jobs are the trace's pieces, once it was audited.
+fn explained(
+    alloc: Global,
+    trace: &Trace,
+    owners: &Vec<Owner<'_>>,
+    record: &Record,
+    audited: Result<Verdict, AuditFault>,
+) -> Result<Explained, WitnessFault>
+    requires few { length owners.now.items ≤ length «record».now.jobs }
+    requires lawful { IfOk audited (λ _. IsLawfulRecord «record».now) }
+    requires fault { IfErr audited (λ fault. IsFirstFault «record».now fault ⊎ (fault ≡ NoMemoryOfAudit)) }
+    ensures { (judging : JudgingView) → map (λ o. piece o.whole.now o.cut) owners.now.items ≡ pieces judging «trace».now
+        → HasJobsOf judging «trace».now «record».now → MatchResult result
+        (λ explained. IsExplainedBy judging «trace».now «record».now × HasNumbers judging «trace».now «record».now explained)
+        (λ fault. IsFirstWitnessFault judging «trace».now «record».now fault ⊎ (fault ≡ NoMemoryFault)) }
+{
+    match audited {
+        Ok(_) => {}
+        Err(AuditFault::NoMemory) => return Err(WitnessFault::NoMemory),
+        Err(fault) => return Err(WitnessFault::Unlawful { fault }),
+    }
+    match reply_fault(trace, owners, record) {
+        Some(fault) => Err(fault),
+        None => time_fault(alloc, trace, owners, record),
+    }
+}
+
 /// Whether the record explains the trace: the numbers of the two, or the first fault.
 ///
 /// It finds the pieces of the trace's commands among the record's jobs, audits the record, and then looks at each done job and each
@@ -155,13 +184,26 @@ pub fn witness(
 {
     one_check_is_the_first_fault();
     let owners = matched(alloc, judging, trace, record)?;
-    match audit(rt, alloc, record) {
-        Ok(_) => {}
-        Err(AuditFault::NoMemory) => return Err(WitnessFault::NoMemory),
-        Err(fault) => return Err(WitnessFault::Unlawful { fault }),
-    }
-    match reply_fault(trace, &owners, record) {
-        Some(fault) => Err(fault),
-        None => time_fault(alloc, trace, &owners, record),
-    }
+    let audited = audit(rt, alloc, record);
+    explained(alloc, trace, &owners, record, audited)
+}
+
+/// What [`witness`] answers, found by this thread alone, without a wait: for where no thread may be started, as in a library that
+/// C links.
+pub fn witness_alone(
+    alloc: Global,
+    judging: Judging,
+    trace: &Trace,
+    record: &Record,
+) -> Result<Explained, WitnessFault>
+    ensures explained { IfOk result (λ _. IsExplainedBy judging «trace».now «record».now) }
+    ensures numbers { IfOk result (HasNumbers judging «trace».now «record».now) }
+    ensures fault { IfErr result
+        (λ fault. IsFirstWitnessFault judging «trace».now «record».now fault ⊎ (fault ≡ NoMemoryFault)) }
+    ensures accepted { IsExplainedBy judging «trace».now «record».now → IfErr result (λ fault. fault ≡ NoMemoryFault) }
+{
+    one_check_is_the_first_fault();
+    let owners = matched(alloc, judging, trace, record)?;
+    let audited = audit_alone(alloc, record);
+    explained(alloc, trace, &owners, record, audited)
 }

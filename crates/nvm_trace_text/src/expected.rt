@@ -43,6 +43,6 @@ pub enum TraceExpected {
     #[error("expected nothing more in this line")]
     End,
     /// The trace so far can't have this command or pair.
-    #[error("expected what a trace can have: {0}")]
+    #[error("expected what a trace can have, but {0}")]
     Unfit(TraceFault),
 }

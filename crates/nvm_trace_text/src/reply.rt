@@ -76,7 +76,7 @@ fn read_data(alloc: Global, words: &[u8], wanted: u64) -> Result<Option<ReadData
     if !is_end(rest) {
         return Err(LineFault::Expected(TraceExpected::End));
     }
-    Ok(Some(ReadData::new(payload.into_vec(alloc)?)))
+    Ok(Some(ReadData::shared(payload)))
 }
 
 /// The status that `2/85` writes.

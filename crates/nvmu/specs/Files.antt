@@ -1,8 +1,8 @@
 -- Why the files weren't read, or the record not written.
 use Rattle.std.specs.Prelude.{◌≡◌, ℕ, List, string_bytes}
 use Rattle.std.specs.List.{Contains}
-use Rattle.nvm_engine.specs.declared.fault.Fault.{Fault}
-use Rattle.nvm_engine.specs.declared.fault.Fault.TheVariants.{CannotRead, CannotWrite, NoMemory}
+use Rattle.nvmu.specs.declared.fault.Fault.{Fault}
+use Rattle.nvmu.specs.declared.fault.Fault.TheVariants.{CannotRead, CannotWrite, NoMemory}
 
 -- The file at this path couldn't be read, or memory was refused.
 abbrev pub IsReadFault : List ℕ → Fault → Type 0

@@ -1,4 +1,6 @@
 pub mod Words
 pub mod Files
 pub mod Runs
-pub mod Refuted
+pub mod Judged
+pub mod Answer
+pub mod Asked

@@ -1,9 +1,10 @@
 ghost use Rattle.std.specs.Prelude.{◌≡◌, IfOk, IfErr, length, map, string_bytes};
 ghost use Rattle.nvmu.specs.Files.{IsReadFault, IsReadingFault, IsWriteFault};
+ghost use Rattle.nvmu.specs.Judged.{IsPairFault};
 
 use crate::failure::Failure;
+use crate::fault::Fault;
 use nvm_audit::Record;
-use nvm_engine::Fault;
 use nvm_front::{
     FileFault, Progress, STANDARD, is_input, is_output, is_read, read_input, refusal, write_run,
 };
@@ -59,14 +60,23 @@ pub fn check_inputs(alloc: Global, paths: &[String]) -> Result<(), Failure>
     Ok(())
 }
 
-/// Refuses to read standard input as the trace and as the other file, and says why.
-pub fn check_pair(alloc: Global, trace: &str, other: &str, why: &str) -> Result<(), Failure>
-    ensures { IfErr result (λ failure. IsReadFault other.now failure.fault) }
+/// The bytes of a trace and of the other file. Where both would be standard input, that is refused before anything is read, and
+/// it is said why.
+pub fn read_pair<R: Files + AllocGlobal + Input + Eprint>(
+    rt: &R,
+    trace: &str,
+    other: &str,
+    why: &str,
+    progress: &Progress<'_, R>,
+) -> Result<(Payload, Payload), Failure>
+    ensures { IfErr result (λ failure. IsPairFault trace.now other.now failure.fault) }
 {
     if is_input(trace) && is_input(other) {
-        return Err(unread(alloc, other, Some(why)));
+        return Err(unread(rt.alloc(), other, Some(why)));
     }
-    Ok(())
+    let seen = bytes_of(rt, trace, progress)?;
+    let held = bytes_of(rt, other, progress)?;
+    Ok((seen, held))
 }
 
 /// Refuses a path for the record at which one of the files to read stands or that standard output goes to, and `-`, before

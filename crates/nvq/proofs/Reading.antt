@@ -4,6 +4,7 @@ use Rattle.std.proofs.lemmas.List.{take_more, get_or-map, length-map}
 use Rattle.std.proofs.lemmas.List.Elements.{Contains-get_or}
 use Rattle.std.specs.Global.{Global}
 use Rattle.std.specs.List.{Contains}
+use Rattle.nvq.specs.Expecting.{IsExpectationFault, IsExpectingFault}
 use Rattle.nvq.specs.Files.{IsReadFault, IsReadingFault, IsWriteFault, IsWritingFault}
 use Rattle.nvq.specs.declared.fault.Fault.{Fault}
 use Rattle.nvq.specs.declared.fault.Fault.TheVariants as of
@@ -19,6 +20,7 @@ reading_at paths k path of.NoMemory lt is h = tt
 reading_at paths k path (of.CannotWrite shown) lt is h = h
 reading_at paths k path (of.Line line expected) lt is h = h
 reading_at paths k path (of.ListLine shown line expected) lt is h = h
+reading_at paths k path (of.Expectation shown line expected) lt is h = h
 reading_at paths k path (of.TraceLine line expected) lt is h = h
 reading_at paths k path of.NoHead lt is h = h
 reading_at paths k path of.InputTwice lt is h = h
@@ -35,6 +37,8 @@ reading_at paths k path (of.BadValue shown at) lt is h = h
 reading_at paths k path (of.BeganAtZero shown at) lt is h = h
 reading_at paths k path (of.EndedBefore shown at) lt is h = h
 reading_at paths k path (of.NoUnit shown unit) lt is h = h
+reading_at paths k path (of.FactWrong shown fact) lt is h = h
+reading_at paths k path (of.NothingRefuted shown) lt is h = h
 
 -- the same of writing
 pub writing_at : (paths : List (List ℕ)) (k : ℕ) (path : List ℕ) (fault : Fault) → k < length paths → get_or paths k path ≡ path
@@ -44,6 +48,7 @@ writing_at paths k path of.NoMemory lt is h = tt
 writing_at paths k path (of.CannotRead shown) lt is h = h
 writing_at paths k path (of.Line line expected) lt is h = h
 writing_at paths k path (of.ListLine shown line expected) lt is h = h
+writing_at paths k path (of.Expectation shown line expected) lt is h = h
 writing_at paths k path (of.TraceLine line expected) lt is h = h
 writing_at paths k path of.NoHead lt is h = h
 writing_at paths k path of.InputTwice lt is h = h
@@ -60,6 +65,36 @@ writing_at paths k path (of.BadValue shown at) lt is h = h
 writing_at paths k path (of.BeganAtZero shown at) lt is h = h
 writing_at paths k path (of.EndedBefore shown at) lt is h = h
 writing_at paths k path (of.NoUnit shown unit) lt is h = h
+writing_at paths k path (of.FactWrong shown fact) lt is h = h
+writing_at paths k path (of.NothingRefuted shown) lt is h = h
+
+-- the same of an expectation
+pub expecting_at : (paths : List (List ℕ)) (k : ℕ) (path list : List ℕ) (fault : Fault) → k < length paths → get_or paths k path ≡ path
+    → IsExpectationFault path list fault → IsExpectingFault paths fault
+expecting_at paths k path list (of.Expectation shown line expected) lt is h = (contained paths k path (string_bytes shown) lt is h.0, (list, h.1))
+expecting_at paths k path list of.NoMemory lt is h = tt
+expecting_at paths k path list (of.CannotRead shown) lt is h = h
+expecting_at paths k path list (of.CannotWrite shown) lt is h = h
+expecting_at paths k path list (of.Line line expected) lt is h = h
+expecting_at paths k path list (of.ListLine shown line expected) lt is h = h
+expecting_at paths k path list (of.TraceLine line expected) lt is h = h
+expecting_at paths k path list of.NoHead lt is h = h
+expecting_at paths k path list of.InputTwice lt is h = h
+expecting_at paths k path list of.RecordAmongLines lt is h = h
+expecting_at paths k path list of.ArgumentAmongLines lt is h = h
+expecting_at paths k path list (of.Geometry fault) lt is h = h
+expecting_at paths k path list of.TooManyHosts lt is h = h
+expecting_at paths k path list (of.BadName shown) lt is h = h
+expecting_at paths k path list (of.Truncated shown at) lt is h = h
+expecting_at paths k path list (of.TooMany shown) lt is h = h
+expecting_at paths k path list (of.UnknownVersion shown) lt is h = h
+expecting_at paths k path list (of.Trailing shown at) lt is h = h
+expecting_at paths k path list (of.BadValue shown at) lt is h = h
+expecting_at paths k path list (of.BeganAtZero shown at) lt is h = h
+expecting_at paths k path list (of.EndedBefore shown at) lt is h = h
+expecting_at paths k path list (of.NoUnit shown unit) lt is h = h
+expecting_at paths k path list (of.FactWrong shown fact) lt is h = h
+expecting_at paths k path list (of.NothingRefuted shown) lt is h = h
 
 -- the bytes of the string at a place
 pub bytes_at : (paths : List (String Global)) (k : ℕ) (path : String Global) → k < length paths → get_or paths k path ≡ path

@@ -1,9 +1,13 @@
--- Which record is drawn, and why none is. What stands in a file no definition can say, so its bytes are some.
+-- Which record or argument is drawn, and why no record is. What stands in a file no definition can say, so its bytes are some.
 use Rattle.std.specs.Prelude.{◌≡◌, ◌⊎◌, ◌<◌, ◌≤◌, ℕ, List, Option, Some, None, Ok, IfSome, string_bytes}
 use Rattle.nvm_geometry.specs.Boundaries.{units_of}
 use Rattle.nvm_geometry.specs.Namespace.{Namespace}
 use Rattle.nvm_audit.specs.RecordView.{RecordView}
 use Rattle.nvm_file.specs.Reading.{record_at}
+use Rattle.nvm_refute.specs.Refutation.{IsRefutation}
+use Rattle.nvm_refute.specs.declared.fact.Fact.{Fact}
+use Rattle.nvm_trace.specs.declared.judging.Judging.{Judging}
+use Rattle.nvm_trace.specs.TraceView.{TraceView}
 use Rattle.nvq.specs.Fault.{IsFaultOfRecordAt}
 use Rattle.nvq.specs.Files.{IsReadFault, IsWriteFault}
 use Rattle.nvq.specs.declared.fault.Fault.{Fault}
@@ -35,3 +39,7 @@ IsUnitFault unit path fault =
 abbrev pub IsDrawingFault : Option ℕ → List ℕ → List ℕ → Fault → Type 0
 IsDrawingFault unit path out fault =
     (IsReadFault path fault ⊎ IsFaultOfRecordAt path fault) ⊎ (IsUnitFault unit path fault ⊎ IsWriteFault out fault)
+
+-- The facts refute a trace.
+abbrev pub IsOfRefutation : Judging → Type 0
+IsOfRefutation judging = (t : TraceView) × (unit : ℕ) × (facts : List Fact) × IsRefutation judging t unit facts

@@ -1,6 +1,8 @@
 -- Why a file wasn't read, or not written.
 use Rattle.std.specs.Prelude.{◌≡◌, ◌⊎◌, ℕ, List, string_bytes}
 use Rattle.std.specs.List.{Contains}
+use Rattle.nvm_expect.specs.Expectations.{without_expectations}
+use Rattle.nvq.specs.Expecting.{IsExpectationFault}
 use Rattle.nvq.specs.Fault.{IsFaultOfList, IsFaultOfText}
 use Rattle.nvq.specs.declared.fault.Fault.{Fault}
 use Rattle.nvq.specs.declared.fault.Fault.TheVariants.{CannotRead, CannotWrite, NoMemory}
@@ -29,10 +31,13 @@ IsWritingFault paths (CannotWrite shown) = Contains paths (string_bytes shown)
 IsWritingFault paths NoMemory = Unit {0}
 IsWritingFault paths fault = ⊥
 
--- The list at this path couldn't be read, or else it is its first fault, or else its host file couldn't be written to `out`.
+-- The list at this path couldn't be read, or else it is its first wrong expectation, or else the first fault of a list, or else the
+-- host file couldn't be written to `out`.
 abbrev pub IsAssemblingFault : ℕ → List ℕ → List ℕ → Fault → Type 0
 IsAssemblingFault size list out fault =
-    IsReadFault list fault ⊎ (((text : List ℕ) × IsFaultOfList size text fault) ⊎ IsWriteFault out fault)
+    IsReadFault list fault
+    ⊎ (((text : List ℕ) × IsExpectationFault list text fault)
+    ⊎ (((text : List ℕ) × IsFaultOfList size (without_expectations text) fault) ⊎ IsWriteFault out fault))
 
 -- The text at this path couldn't be read, or else it is its first fault, or else its trace's file couldn't be written to `out`.
 abbrev pub IsTracingFault : List ℕ → List ℕ → Fault → Type 0

@@ -3,6 +3,7 @@ pub mod Certified
 pub mod Drawn
 pub mod Explained
 pub mod Fault
+pub mod Expecting
 pub mod Files
 pub mod Generated
 pub mod Listed

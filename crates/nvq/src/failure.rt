@@ -21,9 +21,8 @@ pub fn of_list(alloc: Global, fault: Fault, path: &str, list: &[u8]) -> Failure
     ensures { result.fault ≡ fault }
 {
     let hint = match fault {
-        Fault::Line { line, .. } | Fault::ListLine { line, .. } => {
-            wrong_line(alloc, path, list, line)
-        }
+        Fault::Line { line, .. } | Fault::ListLine { line, .. } | Fault::Expectation { line, .. } =>
+            wrong_line(alloc, path, list, line),
         _ => Ok(None),
     };
     Failure::hinted(fault, hint)

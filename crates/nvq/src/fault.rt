@@ -2,6 +2,7 @@ ghost use Rattle.std.specs.Prelude.{◌≡◌};
 ghost use Rattle.nvq.specs.declared.fault.Fault.TheVariants.{NoMemory};
 ghost use Rattle.nvq.specs.Fault.{fault_of_list, fault_of_file, fault_of_record, fault_of_text, fault_of_trace};
 
+use nvm_expect::Expected as Unexpected;
 use nvm_file::{RecordFault, TraceFileFault};
 use nvm_geometry::GeometryFault;
 use nvm_list::{Expected, ListFault};
@@ -35,6 +36,13 @@ pub enum Fault {
         path: String,
         line: u64,
         expected: Expected,
+    },
+    /// An expectation in the list at a path is wrong. Lines count from 1.
+    #[error("nvq: {path}: line {line}: {expected}")]
+    Expectation {
+        path: String,
+        line: u64,
+        expected: Unexpected,
     },
     /// A line of a trace's text is wrong. Lines count from 1.
     #[error("nvq: line {line}: {expected}")]
@@ -110,6 +118,17 @@ pub enum Fault {
     NoUnit {
         path: String,
         unit: u16,
+    },
+    /// The argument's fact of this number, counted from 0, isn't given by its rule and the facts before it. It is the first such.
+    #[error("nvq: {path}: unrefuted FactWrong fact {fact}")]
+    FactWrong {
+        path: String,
+        fact: usize,
+    },
+    /// The argument's facts don't contradict each other, or are about another trace.
+    #[error("nvq: {path}: unrefuted NothingRefuted")]
+    NothingRefuted {
+        path: String,
     },
     /// Memory was asked for and refused.
     #[error("nvq: no memory")]

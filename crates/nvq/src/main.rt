@@ -1,13 +1,16 @@
 //! The program `nvq`: runs lists of commands, which people write or a seed gives, makes them into host files, lists those, records and
-//! traces, makes the text of traces into files, judges records and traces, and explains and draws records.
+//! traces, makes the text of traces into files, judges records and traces, and explains and draws records. It draws why nothing explains a
+//! trace, too.
 #![tactic(auto)]
 
 ghost use Rattle.std.specs.Prelude.{IfErr};
 ghost use Rattle.nvq.specs.Files.{IsAssemblingFault};
 
+mod argument_drawing;
 mod auditing;
 mod certifying;
 mod certifying_words;
+mod checked;
 mod conversion;
 mod drawing;
 mod drawing_words;
@@ -19,11 +22,13 @@ mod files;
 mod generating;
 mod generating_words;
 mod namespace_words;
+mod read_list;
 mod running;
 mod running_words;
 mod tracing;
 mod words;
 
+use crate::argument_drawing::run_draw_argument;
 use crate::auditing::{run_audit, run_witness};
 use crate::certifying::run_certify;
 use crate::conversion::{file_of, list_of};
@@ -32,6 +37,7 @@ use crate::explaining::run_explain;
 use crate::failure::{Failure, of_file, of_list};
 use crate::files::{bytes_of, check_output, write_bytes};
 use crate::generating::run_generate;
+use crate::read_list::split_list;
 use crate::running::run_lists;
 use crate::tracing::run_trace;
 use crate::words::{Asked, read_words};
@@ -90,7 +96,7 @@ fn run<R: AllocGlobal + Files + Input + Print + Eprint + Threads + Wait + Sync>(
         }
         Asked::Trace { text, out } => run_trace(rt, text.as_str(), out.as_str(), progress)?,
         Asked::List { size, file } => run_list(rt, size, file, progress)?,
-        Asked::Run(words) => run_lists(rt, &words, progress)?,
+        Asked::Run(words) => return run_lists(rt, &words, progress),
         Asked::Generate(words) => run_generate(rt, &words, progress)?,
         Asked::Audit(words) => {
             return run_audit(rt, words.telling, words.record.as_str(), progress);
@@ -102,14 +108,20 @@ fn run<R: AllocGlobal + Files + Input + Print + Eprint + Threads + Wait + Sync>(
         Asked::Certify(words) => return run_certify(rt, &words, progress),
         Asked::Explain(words) => run_explain(rt, &words, progress)?,
         Asked::Draw(words) => {
-            let (record, out) = (words.record.as_str(), words.out.as_str());
-            run_draw(rt, words.window, record, out, progress)?;
+            let (file, out) = (words.file.as_str(), words.out.as_str());
+            match &words.argument {
+                Some(argument) => {
+                    let argument = argument.as_str();
+                    run_draw_argument(rt, words.judging, file, argument, out, progress)?;
+                }
+                None => run_draw(rt, words.window, file, out, progress)?,
+            }
         }
     }
     Ok(0)
 }
 
-/// Makes a list into a host file.
+/// Makes a list into a host file, without what its commands expect.
 fn run_assemble<R: AllocGlobal + Files + Input + Print + Eprint>(
     rt: &R,
     size: BlockSize,
@@ -121,7 +133,8 @@ fn run_assemble<R: AllocGlobal + Files + Input + Print + Eprint>(
 {
     check_output(rt, out, list, "it is the list")?;
     let text = bytes_of(rt, list, progress)?;
-    match file_of(rt.alloc(), &text, size) {
+    let split = split_list(rt.alloc(), list, &text)?;
+    match file_of(rt.alloc(), &split.commands, size) {
         Ok(file) => write_bytes(rt, out, &file, progress),
         Err(fault) => Err(of_list(rt.alloc(), fault, list, &text)),
     }

@@ -6,20 +6,24 @@ ghost use Rattle.nvm_engine.specs.Shown.{IsShown};
 ghost use Rattle.nvm_engine.specs.declared.fault.Fault.{Fault as FaultOfRun};
 ghost use Rattle.nvm_front.specs.Standard.{names_input};
 ghost use Rattle.nvq.specs.declared.fault.Fault.TheVariants.{NoMemory};
-ghost use Rattle.nvq.specs.Files.{IsReadingFault, IsWriteFault};
+ghost use Rattle.nvq.specs.Expecting.{IsStatusOfRun};
+ghost use Rattle.nvq.specs.Files.{IsWriteFault};
 ghost use Rattle.nvq.specs.Ran.{AreFilesOf, IsFileOf, IsToldFault, fault_of_run};
 ghost use Rattle.nvq.specs.RunFaults.{FitNames, IsKeepingFault, IsLineFault, IsListsFault, IsNamesFault, IsSettingsOf};
 
+use crate::checked::{Checked, checked_of, status_of};
 use crate::failure::{Failure, of_list, of_run, plain};
 use crate::fault::Fault;
-use crate::files::{bytes_of, check_no_lines, check_output, keep, unmade};
+use crate::files::{check_no_lines, check_output, keep, unmade};
 use crate::namespace_words::NamespaceWords;
+use crate::read_list::{ReadList, read_lists, texts_of};
 use crate::running_words::RunWords;
 use nvm_engine::{Fault as RunFault, Settings, Shown, Workers, execute_watched};
 use nvm_front::{FileFault, Output, Progress, STANDARD, is_input};
 use nvm_list::{ListFault, assemble};
 use nvm_record::{BlockSize, Payload};
 use std::alloc::{AllocError, Global};
+use std::io::Write;
 use std::rt::Files;
 use std::sync::Wait;
 use std::thread::{Threads, available_parallelism};
@@ -27,14 +31,21 @@ use std::thread::{Threads, available_parallelism};
 /// What is said where the lists have no command.
 const IDLE: &str = "nvq: the lists have no command";
 
+/// What is said where they have commands, and no expectation that could be checked.
+const UNCHECKED: &str = "nvq: the lists have no expectation";
+
 /// Does the commands of the lists, keeps the record where that is asked for, and writes the lines to standard output. After a
 /// fault before the first line nothing is written. The room of standard output is taken first, so that no memory is wanted for
 /// the lines once the record stands.
+///
+/// The exit status is 0, or 2 if the expectations of the lists are checked and one isn't met.
 pub fn run_lists<R: AllocGlobal + Files + Input + Print + Eprint + Threads + Wait + Sync>(
     rt: &R,
     words: &RunWords,
     progress: &Progress<'_, R>,
-) -> Result<(), Failure> {
+) -> Result<u8, Failure>
+    ensures { IfOk result (IsStatusOfRun words.now.check) }
+{
     names_fit(words)?;
     check_record(rt, words)?;
     let output = standard(rt)?;
@@ -43,23 +54,31 @@ pub fn run_lists<R: AllocGlobal + Files + Input + Print + Eprint + Threads + Wai
     let files = files_of(rt.alloc(), words.namespace.size, lists.as_slice())?;
     let settings = settings_of(rt, words);
     let shown = shown_of(rt, &settings, files.as_slice(), progress)?;
+    let checked = checked_of(rt.alloc(), words.check, &shown, lists.as_slice())?;
     if let Some(path) = &words.record {
         keep(rt, path.as_str(), shown.record(), progress)?;
     }
     progress.clear();
-    match print(output, &shown, &mut texts) {
+    match print(output, &shown, &mut texts, &checked) {
         Ok(()) => {
-            tell_if_idle(rt, &shown);
-            Ok(())
+            tell_if_idle(rt, &shown, &checked);
+            Ok(status_of(&checked))
         }
         Err(fault) => Err(unmade(rt.alloc(), STANDARD, fault)),
     }
 }
 
-/// Says so on standard error where there was no job, and so no command in any list. It is no fault.
-fn tell_if_idle<R: Eprint>(rt: &R, shown: &Shown) {
+/// Says so on standard error where there was no job, and so no command in any list, or else no expectation to check. It is no fault.
+fn tell_if_idle<R: Eprint>(rt: &R, shown: &Shown, checked: &Option<Checked>) {
     if shown.record().jobs.is_empty() {
         let _ = rt.eprintln(IDLE);
+        return;
+    }
+    match checked {
+        Some(checked) if checked.expectations == 0 => {
+            let _ = rt.eprintln(UNCHECKED);
+        }
+        _ => {}
     }
 }
 
@@ -116,41 +135,6 @@ fn standard<R: AllocGlobal + Files + Print + Eprint>(rt: &R) -> Result<Output<'_
         Ok(output) => Ok(output),
         Err(_) => Err(AllocError),
     }
-}
-
-/// A list as it was read.
-#[derive(Drop)]
-struct ReadList<'a> {
-    path: &'a str,
-    text: Vec<u8>,
-}
-
-/// The lists at the paths, in their order. The first that can't be read is the fault.
-fn read_lists<'a, R: AllocGlobal + Files + Input + Eprint>(
-    rt: &R,
-    paths: &'a [String],
-    progress: &Progress<'_, R>,
-) -> Result<Vec<ReadList<'a>>, Failure>
-    ensures paths { IfOk result (λ lists. map (λ list. list.path.now) lists.items
-        ≡ map (λ path. string_bytes path) paths.now) }
-    ensures fault { IfErr result (λ failure. IsReadingFault (map (λ path. string_bytes path) paths.now) failure.fault) }
-{
-    let mut lists = Vec::with_capacity(rt.alloc(), paths.len())?;
-    for path in paths {
-        let path = path.as_str();
-        let text = bytes_of(rt, path, progress)?;
-        lists.push(ReadList { path, text })?;
-    }
-    Ok(lists)
-}
-
-/// The texts of lists, as borrowed bytes.
-fn texts_of<'a>(alloc: Global, lists: &'a [ReadList<'_>]) -> Result<Vec<&'a [u8]>, AllocError> {
-    let mut texts = Vec::with_capacity(alloc, lists.len())?;
-    for list in lists {
-        texts.push(list.text.as_slice())?;
-    }
-    Ok(texts)
 }
 
 /// The host file of each list, in their order. The first that has a line that is no command is the fault, and what helps is said of
@@ -291,12 +275,16 @@ fn told(fault: RunFault) -> Fault
     }
 }
 
-/// Writes the lines.
+/// Writes the lines, and what is said of expectations.
 fn print<R: Files + Print + Eprint>(
     mut output: Output<'_, R>,
     shown: &Shown,
     lists: &mut [&[u8]],
+    checked: &Option<Checked>,
 ) -> Result<(), FileFault> {
     shown.write_long_text(&mut output, lists)?;
+    if let Some(checked) = checked {
+        output.write_all(checked.text.as_bytes())?;
+    }
     output.finish()
 }

@@ -17,6 +17,8 @@ pub struct RunWords {
     pub limit: Limit,
     /// Where the record goes, if it is kept.
     pub record: Option<String>,
+    /// Whether what the lists expect is checked.
+    pub check: bool,
     /// The lists, host 1's first, at least one.
     pub lists: Vec<String>,
 }
@@ -52,6 +54,7 @@ pub fn read_run(alloc: Global, words: &ArgMatches<'_>) -> Result<Option<RunWords
         workers,
         limit,
         record,
+        check: words.get_flag("check"),
         lists,
     }))
 }
@@ -64,7 +67,12 @@ pub fn run_command<'a>(alloc: Global) -> Result<Command<'a>, Error> {
     let command = with_namespace(alloc, command, "32768")?
         .arg(workers(alloc))?
         .arg(with_default(limit(alloc), "4194304"))?;
-    Ok(command.arg(record(alloc))?.arg(lists(alloc))?)
+    Ok(
+        command
+            .arg(record(alloc))?
+            .arg(check(alloc))?
+            .arg(lists(alloc))?,
+    )
 }
 
 fn workers<'a>(alloc: Global) -> Arg<'a> {
@@ -84,6 +92,13 @@ fn record<'a>(alloc: Global) -> Arg<'a> {
         .long("record")
         .value_name("REC")
         .help("Where the record of the run goes")
+}
+
+fn check<'a>(alloc: Global) -> Arg<'a> {
+    Arg::new(alloc, "check")
+        .long("check")
+        .action(ArgAction::SetTrue)
+        .help("Checks what the lists expect, and ends with status 2 where that isn't met")
 }
 
 fn lists<'a>(alloc: Global) -> Arg<'a> {

@@ -45,7 +45,7 @@ pub enum Asked {
     Certify(CertifyWords),
     /// `nvq explain`: explain a record, or whether it explains a trace.
     Explain(ExplainWords),
-    /// `nvq draw`: draw a record.
+    /// `nvq draw`: draw a record, or why nothing explains a trace.
     Draw(DrawWords),
 }
 

@@ -26,3 +26,20 @@ fn copies_are_equal(rt: HostRuntime) -> Result<(), Fail> {
     assert_eq!(rt; command.clone()?, command);
     Ok(())
 }
+
+/// Data of its own is given back as it is; shared data is shared once more, and stays shared.
+#[test]
+fn read_data_is_its_own_or_shared(rt: HostRuntime) -> Result<(), Fail> {
+    let alloc = rt.alloc();
+    let own = ReadData::new(Vec::from_slice(alloc, &[0x41; 512])?);
+    let shared = ReadData::shared(Payload::copy_of(alloc, &[0x41; 512])?);
+    assert_eq!(rt; shared, own);
+    assert_eq!(rt; shared.clone()?, shared);
+    assert_eq!(rt; shared.len(), 512);
+    assert_eq!(rt; own.into_vec(), Ok(Vec::from_slice(alloc, &[0x41; 512])?));
+    assert_eq!(rt;
+        shared.into_vec(),
+        Err(ReadData::new(Vec::from_slice(alloc, &[0x41; 512])?))
+    );
+    Ok(())
+}

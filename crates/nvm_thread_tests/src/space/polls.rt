@@ -6,7 +6,7 @@ ghost use Rattle.nvm_unit.specs.Ends.{views_of};
 
 use super::two_ports;
 use nvm_plan::{Body, Completions, Job, PartResult, fits};
-use nvm_record::{Command, Fuse, Op, Payload, Status};
+use nvm_record::{Command, Fuse, Op, Payload, ReadData, Status};
 use nvm_space::{JobDone, Port, Progress, Space};
 use nvm_unit::Open;
 use std::alloc::Global;
@@ -121,7 +121,6 @@ fn a_polled_read_has_what_a_polled_write_wrote(rt: HostRuntime) -> Result<(), Fa
     if completion.status == Status::INTERNAL_ERROR {
         return Err(Fail::new("there was no memory"));
     }
-    let found = completion.payload.map(|payload| payload.into_vec());
-    assert_eq!(rt; found, Some(bytes));
+    assert_eq!(rt; completion.payload, Some(ReadData::new(bytes)));
     Ok(())
 }

@@ -5,7 +5,7 @@ use super::polls::single;
 use super::reads::{Read, read};
 use super::two_ports;
 use nvm_plan::{Completions, Job, PartResult, fits};
-use nvm_record::{Completion, Op, Payload, Status};
+use nvm_record::{Completion, Op, Payload, ReadData, Status};
 use nvm_space::{JobDone, Port, ReadNow, Space};
 use nvm_unit::Open;
 use std::alloc::Global;
@@ -80,11 +80,11 @@ fn a_refused_read_has_no_data(rt: HostRuntime) -> Result<(), Fail> {
     let job = single(Op::Read, 6, 3, Payload::empty());
     let (results, completion) = told(&rt, alloc, &space, &mut first, &job)?;
     let ok = Status::SUCCESSFUL_COMPLETION;
-    let data = completion.payload.map(|payload| payload.into_vec());
+    let data = completion.payload;
     match results.as_slice() {
         [PartResult::Looked, PartResult::Looked] => {
             assert_eq!(rt; completion.status, ok);
-            assert_eq!(rt; data, Some(vec![in alloc; 0; 4 * 512]?));
+            assert_eq!(rt; data, Some(ReadData::new(vec![in alloc; 0; 4 * 512]?)));
         }
         [PartResult::Looked, PartResult::NoMemory] | [PartResult::NoMemory] | [] => {
             assert_eq!(rt; (completion.status, data), (Status::INTERNAL_ERROR, None));

@@ -79,7 +79,10 @@ fn read_two(
     let Answer::Payload(read) = answer else {
         return Err(Fail::new("the Read failed"));
     };
-    Ok((point, read.into_vec()))
+    match read.into_vec() {
+        Ok(found) => Ok((point, found)),
+        Err(_) => Err(Fail::new("the data is shared")),
+    }
 }
 
 #[test]

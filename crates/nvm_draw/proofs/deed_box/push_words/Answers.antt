@@ -1,12 +1,13 @@
+use Rattle.std.proofs.Common.{◌≡◌, ap}
+use Rattle.nvm_store.specs.Act.{operation_of}
+use Rattle.nvm_store.specs.HistoryEntry.{HistoryEntry}
 use Rattle.nvm_draw.specs.EntryBoxes.{words_text}
-use Rattle.nvm_draw.proofs.Chains.{four, numbered_is}
 use Rattle.nvm_draw.proofs.deed_box.push_words.Goals as goal
 
 pub returns : goal.returns
 unfolding words_text
 returns c =
-    four _ _ _ _ _ _ _ _ _
-    c.in_ok-push_word.ensures
-    (numbered_is _ _ _ _ _ c.in_ok-push_numbered.ensures c.from.ensures)
-    (numbered_is _ _ _ _ _ c.in_ok-push_numbered-2.ensures c.from-2.ensures)
-    c.in_ok-push_str.ensures.bytes
+    let pass : c.entry.inside.pass ≡ c.args.entry.now.pass = ap (λ (e : HistoryEntry). e.pass) c.entry.view_is in
+    let job : c.entry.inside.job ≡ c.args.entry.now.job = ap (λ (e : HistoryEntry). e.job) c.entry.view_is in
+    let operation : operation_of c.entry.inside.act ≡ c.args.entry.now.operation = ap (λ (e : HistoryEntry). e.operation) c.entry.view_is in
+    rw (← pass, ← job, ← operation, ← c.box_ring-ring.ensures, ← c.deed_letter-letter.ensures) c.write.ensures.bytes

@@ -1,8 +1,6 @@
-use Rattle.std.proofs.Common.{◌≡◌, ◌-◌, ◌++◌, string_bytes}
+use Rattle.std.proofs.Common.{◌≡◌, ◌++◌, string_bytes}
 use Rattle.nvm_draw.specs.Key.{workers_text}
 use Rattle.nvm_draw.proofs.key.push_workers.Given as goal
 
--- the text so far and the workers that are left are the whole text
 abbrev pub invariant-loop-worker : goal.invariant-loop-worker
-invariant-loop-worker l =
-    string_bytes l.text ++ workers_text l.worker (l.workers - l.worker) ≡ string_bytes l.fn.text ++ workers_text 0 l.workers
+invariant-loop-worker l = string_bytes l.text ≡ string_bytes l.fn.text ++ workers_text l.worker

@@ -33,8 +33,8 @@ row_of-requires-clause-unit c =
     ∙ ap (λ (x : RecordView). units_of x.namespace) c.run.view_is in
     omega (arith, low, count)
 
-pub returns-then-len-ge-MOST-clause-units : goal.returns-then-len-ge-MOST-clause-units
-returns-then-len-ge-MOST-clause-units c =
+pub returns-then-len-ge-MOST : goal.returns-then-len-ge-MOST
+returns-then-len-ge-MOST c =
     let r = c.args.run.now in
     let rows = c.loop-unit.rows.items in
     let unit = c.loop-unit.unit in
@@ -45,21 +45,7 @@ returns-then-len-ge-MOST-clause-units c =
     let long : length rows ≡ 64 = omega (arith, len, c.if-len-ge-MOST.true, c.loop-unit.invariant.few) in
     let both = row_full (λ row. row.unit) (is_used r) rows unit (units_of r.namespace) (used_units r c.args.first) low
     (sym c.is_used.ensures ∙ c.if-is_used.true) long c.loop-unit.invariant.units in
-    both.0
-
-pub returns-then-len-ge-MOST-clause-next : goal.returns-then-len-ge-MOST-clause-next
-returns-then-len-ge-MOST-clause-next c =
-    let r = c.args.run.now in
-    let rows = c.loop-unit.rows.items in
-    let unit = c.loop-unit.unit in
-    let end : c.units-unit-end.result ≡ units_of r.namespace =
-    c.units-unit-end.ensures.value ∙ ap (λ (x : RecordView). units_of x.namespace) c.run.view_is in
-    let low : unit < units_of r.namespace = omega (arith, c.loop-unit-test.true, end) in
-    let len : c.len.result ≡ length rows = search rules in
-    let long : length rows ≡ 64 = omega (arith, len, c.if-len-ge-MOST.true, c.loop-unit.invariant.few) in
-    let both = row_full (λ row. row.unit) (is_used r) rows unit (units_of r.namespace) (used_units r c.args.first) low
-    (sym c.is_used.ensures ∙ c.if-is_used.true) long c.loop-unit.invariant.units in
-    both.1
+    record { few = c.loop-unit.invariant.few; units = both.0; each = c.loop-unit.invariant.each; next = both.1 }
 
 pub loop-unit-preserved : goal.loop-unit-preserved
 loop-unit-preserved c =
@@ -92,8 +78,8 @@ loop-unit-preserved c =
           })
     ]
 
-pub returns-clause-units : goal.returns-clause-units
-returns-clause-units c =
+pub returns : goal.returns
+returns c =
     let r = c.args.run.now in
     let rows = c.loop-unit.rows.items in
     let unit = c.loop-unit.unit in
@@ -102,16 +88,4 @@ returns-clause-units c =
     let past : units_of r.namespace ≤ unit = omega (arith, c.loop-unit-test.false, end) in
     let both = rows_end (λ row. row.unit) (is_used r) rows unit (units_of r.namespace) (used_units r c.args.first) past
     c.loop-unit.invariant.few c.loop-unit.invariant.units in
-    both.0
-
-pub returns-clause-next : goal.returns-clause-next
-returns-clause-next c =
-    let r = c.args.run.now in
-    let rows = c.loop-unit.rows.items in
-    let unit = c.loop-unit.unit in
-    let end : c.units-unit-end.result ≡ units_of r.namespace =
-    c.units-unit-end.ensures.value ∙ ap (λ (x : RecordView). units_of x.namespace) c.run.view_is in
-    let past : units_of r.namespace ≤ unit = omega (arith, c.loop-unit-test.false, end) in
-    let both = rows_end (λ row. row.unit) (is_used r) rows unit (units_of r.namespace) (used_units r c.args.first) past
-    c.loop-unit.invariant.few c.loop-unit.invariant.units in
-    both.1
+    record { few = c.loop-unit.invariant.few; units = both.0; each = c.loop-unit.invariant.each; next = both.1 }

@@ -1,13 +1,9 @@
-use Rattle.std.proofs.Common.{ap}
-use Rattle.nvm_draw.specs.MarkBoxes.{mark_end, mark_text}
-use Rattle.nvm_draw.proofs.Chains.{four, piece_is}
+use Rattle.std.proofs.Common.{append_assoc}
+use Rattle.nvm_draw.specs.MarkBoxes.{mark_text}
 use Rattle.nvm_draw.proofs.mark_box.push_mark.Goals as goal
 
 pub returns : goal.returns
 unfolding mark_text
 returns c =
-    four _ _ _ _ _ _ _ _ _
-    c.in_ok-push_group.ensures
-    c.in_ok-push_line.ensures
-    (piece_is _ _ _ _ c.in_ok-push_str.ensures.bytes c.letter.ensures)
-    (piece_is _ _ _ _ c.in_ok-push_end.ensures (ap mark_end c.is_wrong_mark.ensures))
+    rw (← c.is_wrong_mark.ensures, ← c.mark_ring-ring.ensures, ← c.letter-letter.ensures)
+    (simp (c.in_ok-write-2.ensures.bytes, c.in_ok-push_part.ensures, c.in_ok-write.ensures.bytes, append_assoc))

@@ -11,6 +11,6 @@ returns g c =
       answer = answer;
       its = c.in_ok-answer.ensures;
       sheet = sheet;
-      drawn = subst (λ wrong. IsSheet c.args.run.now c.args.window wrong sheet) c.wrong_in.ensures c.in_ok-sheet.ensures.value;
+      drawn = subst (λ wrong. IsSheet c.args.run.now c.args.window wrong sheet) c.wrong_in.ensures c.in_ok-sheet.ensures;
       whole = c.in_ok-push_picture.ensures ∙ ap (λ (x : List ℕ). x ++ picture_text c.args.run.now answer sheet) c.new-text.ensures.bytes;
     }

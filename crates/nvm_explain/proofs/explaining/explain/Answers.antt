@@ -10,12 +10,12 @@ returns-in-Ok-clause-named g c = λ fault h. absurd (c.in-Ok.ensures.named fault
 pub returns-in-Err : goal.returns-in-Err
 returns-in-Err g c =
     let it = c.fault_explanation.result in
-    let told = c.fault_explanation.ensures.told in
+    let said = c.fault_explanation.ensures.text in
     let known = c.fault_explanation.ensures.known in
     record {
       lawful = λ lawful. IfOk-weaker it _ _ (λ text apart. absurd (apart (c.in-Err.ensures.accepted lawful))) known;
       named = λ first h. elim (c.in-Err.ensures.named first h) [
-        | inl same ↦ subst (λ (f : AuditFault). IfOk it (λ text. string_bytes text ≡ fault_text c.args.run.now f)) same told
+        | inl same ↦ subst (λ (f : AuditFault). IfOk it (λ text. string_bytes text ≡ fault_text c.args.run.now f)) same said
         | inr none ↦ IfOk-weaker it _ _ (λ text apart. absurd (apart none)) known
       ];
     }

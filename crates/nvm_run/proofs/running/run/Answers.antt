@@ -31,4 +31,4 @@ returns-clause-one_thread g c unit history at =
     let done = map (λ work. work.items) c.in-Ok.ended.1.items in
     let r = run_record c.args.geometry c.args.limit c.args.workers jobs units done in
     let of : IsOfWorkers r = subst (λ (js : List Job). IsOfWorkers (run_record c.args.geometry c.args.limit c.args.workers js units done)) c.deref.ensures.value c.in-Ok.ensures.gathered in
-    c.lawful_units_are_runs.ensures r unit history (c.gathered_records_are_lawful.ensures of.space of.ports r of.gathered) at
+    c.lawful_units_are_runs.ensures r (c.gathered_records_are_lawful.ensures of.space of.ports r of.gathered) unit history at

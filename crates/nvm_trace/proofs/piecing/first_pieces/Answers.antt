@@ -1,4 +1,4 @@
-use Rattle.std.proofs.Common.{◌≡◌, ◌≤◌, ◌∙◌, List, length, map, take, drop, ap, sym, arith}
+use Rattle.std.proofs.Common.{◌≤◌, ◌∙◌, List, length, take, drop, ap, sym, arith}
 use Rattle.std.proofs.lemmas.Grind.{flat_map-append}
 use Rattle.std.proofs.lemmas.List.{length-map, take-append-drop}
 use Rattle.nvm_trace.specs.declared.traced_job.TracedJob.{TracedJob}

@@ -13,16 +13,9 @@ returns-in_err-owners-clause-accepted g c = λ explained.
     elim c.in_err-owners.ensures.fault [ inl first ↦ absurd (none fault explained first) | inr refused ↦ refused ] in
     rw (p.1, p.2) refused
 
-pub returns-in-Some-clause-accepted : goal.returns-in-Some-clause-accepted
-returns-in-Some-clause-accepted g c = λ explained.
-    absurd
-    (no_fault c.one_check_is_the_first_fault.ensures.none c.args.judging c.args.trace.now c.args.record.now c.in-Some.fault explained
-    (c.in-Some.ensures c.args.judging c.in_ok-owners.ensures.owners c.in_ok-owners.ensures.jobs c.in-Ok.ensures.lawful))
-
 pub returns-clause-accepted : goal.returns-clause-accepted
 returns-clause-accepted g c = λ explained.
     let none = no_fault c.one_check_is_the_first_fault.ensures.none c.args.judging c.args.trace.now c.args.record.now in
-    let replies = c.in-None.ensures c.args.judging c.in_ok-owners.ensures.owners c.in_ok-owners.ensures.jobs c.in-Ok.ensures.lawful in
-    MatchResult-weaker c.time_fault.result {P' = λ _. Unit {0}} {Q' = λ fault. fault ≡ NoMemory}
-    (c.time_fault.ensures c.args.judging c.in_ok-owners.ensures.owners c.in_ok-owners.ensures.jobs replies) (λ x of. tt)
+    MatchResult-weaker c.explained.result {P' = λ _. Unit {0}} {Q' = λ fault. fault ≡ NoMemory}
+    (c.explained.ensures c.args.judging c.in_ok-owners.ensures.owners c.in_ok-owners.ensures.jobs) (λ x of. tt)
     (λ fault h. elim h [ inl first ↦ absurd (none fault explained first) | inr refused ↦ refused ])

@@ -1,0 +1,4 @@
+pub mod Lines
+pub mod LawfulEnds
+pub mod Noting
+pub mod Walking

@@ -1,0 +1,14 @@
+pub mod Named
+pub mod Links
+pub mod Circle
+pub mod Lanes
+pub mod Times
+pub mod Places
+pub mod Seats
+pub mod Frame
+pub mod Axis
+pub mod Arrows
+pub mod StepBoxes
+pub mod LaneTexts
+pub mod FactTexts
+pub mod Picture

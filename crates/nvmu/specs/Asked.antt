@@ -1,0 +1,16 @@
+-- What is answered to the words of a command line.
+use Rattle.std.specs.Prelude.{◌≡◌, map, string_bytes}
+use Rattle.nvmu.specs.Judged.{AreWeighedFiles, AreWitnessedFiles, IsJudgedFile}
+use Rattle.nvmu.specs.Runs.{IsShownOn}
+use Rattle.nvmu.specs.declared.answer.Answer.{Answer}
+use Rattle.nvmu.specs.declared.answer.Answer.TheVariants.{Ran, Audited, Witnessed, Weighed}
+use Rattle.nvmu.specs.declared.words.Asked.{Asked}
+use Rattle.nvmu.specs.declared.words.Asked.TheVariants.{Run, Audit, Witness, Refute}
+
+-- It is an answer of what was asked for: of files, told and judged as the words say.
+abbrev pub IsAnswerTo : Asked → Answer → Type 0
+IsAnswerTo (Run settings out files) (Ran run) = IsShownOn settings (map (λ path. string_bytes path) files.items) run
+IsAnswerTo (Audit words) (Audited telling judged) = (telling ≡ words.telling) × IsJudgedFile judged
+IsAnswerTo (Witness words) (Witnessed witnessed) = AreWitnessedFiles words.judging witnessed
+IsAnswerTo (Refute judging trace argument) (Weighed weighed) = AreWeighedFiles judging weighed
+IsAnswerTo asked answer = ⊥

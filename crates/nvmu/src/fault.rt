@@ -1,0 +1,43 @@
+ghost use Rattle.std.specs.Prelude.{◌≡◌};
+ghost use Rattle.nvmu.specs.declared.fault.Fault.TheVariants.{NoMemory};
+
+use nvm_argument::WeighFault;
+use nvm_engine::Fault as EngineFault;
+use std::alloc::{AllocError, AllocFailed};
+use thiserror::Error;
+
+/// Why the program answers nothing. Each prints its one line, which goes to standard error.
+#[derive(Debug, Drop, Error)]
+pub enum Fault {
+    /// A file couldn't be read.
+    #[error("nvmu: cannot read {path}")]
+    CannotRead { path: String },
+    /// The record couldn't be written.
+    #[error("nvmu: cannot write {path}")]
+    CannotWrite { path: String },
+    /// The options, a host file, a record or a trace isn't one, or memory was refused.
+    #[error("{0}")]
+    Engine(EngineFault),
+    /// A trace or an argument isn't one, or memory was refused.
+    #[error("nvmu: {0}")]
+    Weigh(WeighFault),
+    /// Memory was asked for and refused, outside the engine and the weighing of an argument.
+    #[error("nvmu: no memory")]
+    NoMemory,
+}
+
+impl From<AllocError> for Fault {
+    ghost from_gives = { λ _ e. e ≡ NoMemory };
+
+    fn from(_e: AllocError) -> Fault {
+        Fault::NoMemory
+    }
+}
+
+impl<T: Drop> From<AllocFailed<T>> for Fault {
+    ghost from_gives = { λ _ e. e ≡ NoMemory };
+
+    fn from(_e: AllocFailed<T>) -> Fault {
+        Fault::NoMemory
+    }
+}
