@@ -16,7 +16,7 @@ from record_explaining import lawful_explanation
 from record_listing import record_listing
 from recorded import recorded
 from records import spelled
-from witnesses import certified, explained, judged, of_text
+from witnesses import certified, contradictions, explained, judged, of_text
 
 # What is expected at the front of a list's line.
 NO_COMMAND = "expected write, read, compare, zeroes, uncorrectable, dataset, or op- and another opcode in two hexadecimal digits"
@@ -211,6 +211,7 @@ def runs(folder):
         *certified(kept),
         *explained(kept),
         *judged(kept),
+        *contradictions(kept),
         done("lists are generated", ["generate", "--commands", "30", "out-1", "out-2"], files=loads),
         fault("numbers of no namespace to generate for", "geometry: Size", "generate", "--nsze", "0", "out", hint=GEOMETRY["Size"]),
         ran("lists that are run", [plain, file_of([read(0, 2), dataset((0, 1))])]),
