@@ -1,14 +1,8 @@
-//! Tests of the libraries, which reach them by what they make public.
+//! Tests of `nvm_record`, `nvm_geometry`, `nvm_blocks`, `nvm_store` and `nvm_plan`, which reach them by what they make public.
 #![tactic(auto)]
 
 #[cfg(test)]
 mod blocks;
-#[cfg(test)]
-mod expecting;
-#[cfg(test)]
-mod file;
-#[cfg(test)]
-mod front;
 #[cfg(test)]
 mod geometry;
 #[cfg(test)]

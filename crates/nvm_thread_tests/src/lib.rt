@@ -1,15 +1,7 @@
-//! Tests of `nvm_unit`, `nvm_space`, `nvm_run` and `nvm_engine`, which reach them by what they make public.
+//! Tests of `nvm_run` and `nvm_engine`, which reach them by what they make public.
 #![tactic(auto)]
 
 #[cfg(test)]
-mod acts;
-#[cfg(test)]
 mod engine;
 #[cfg(test)]
-mod holding;
-#[cfg(test)]
 mod run;
-#[cfg(test)]
-mod space;
-#[cfg(test)]
-mod unit;
