@@ -19,6 +19,7 @@ from devices import devices
 from drawn import pictures
 from drawn_arguments import drawn_arguments
 from explained import explained
+from faulty import faulty
 from forged import forged, spoiled
 from generated import lists_generated
 from hints import FOLDER, IS_OUTPUT, MISSING, NO_SPACE, no_host_file, the_line, told
@@ -391,7 +392,7 @@ def words_of_unit_bench(run):
 
 TABLES = [lists, words_of_nvq, listings, lists_run, lists_expected, lists_generated, explained, pictures, outs_of_nvq, words_of_nvmu, files_of_nvmu, files_that_stop, several_workers]
 TABLES += [versions, standard_input, files_of_another_kind, outs_that_are_read]
-TABLES += [traces, words_of_certify, records_of_certify, arguments, drawn_arguments, devices, outs_of_nvmu, shown_nowhere, progress, runs, rows, forged, spoiled, two_owners, words_of_unit_bench]
+TABLES += [traces, words_of_certify, records_of_certify, arguments, drawn_arguments, devices, outs_of_nvmu, shown_nowhere, progress, runs, rows, forged, spoiled, faulty, two_owners, words_of_unit_bench]
 
 
 def tried():

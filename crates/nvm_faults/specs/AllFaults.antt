@@ -41,6 +41,15 @@ abbrev pub AreFaultsAfter : Bool → RecordView → AuditFault → List AuditFau
 AreFaultsAfter true r first faults = AreFaultsOfUnits r 0 r.units faults
 AreFaultsAfter false r first faults = faults ≡ first ∷ []
 
+-- It is the first of these faults.
+abbrev pub IsFirstOf : AuditFault → List AuditFault → Type 0
+IsFirstOf fault faults = (others : List AuditFault) × (faults ≡ fault ∷ others)
+
+-- There are faults, and this is the first.
+abbrev pub BeginWith : AuditFault → Faults → Type 0
+BeginWith fault (Lawful verdict) = ⊥
+BeginWith fault (Unlawful faults) = IsFirstOf fault faults.items
+
 -- The record is lawful, with the verdict's numbers; or it has a first fault, and these are all.
 abbrev pub AreFaults : RecordView → Faults → Type 0
 AreFaults r (Lawful verdict) = IsLawfulRecord r × IsVerdict r verdict

@@ -2,8 +2,9 @@ ghost use Rattle.std.specs.Prelude.{◌≡◌, IfOk};
 ghost use Rattle.nvm_audit.specs.LawfulRecord.{IsLawfulRecord};
 ghost use Rattle.nvm_audit.specs.NamedUnit.{names_unit};
 ghost use Rattle.nvm_audit.specs.RecordChecks.{IsFirstFault};
+ghost use Rattle.nvm_audit.specs.declared.audit_fault.AuditFault.{AuditFault as Fault};
 ghost use Rattle.nvm_audit.specs.declared.verdict.Verdict.{Verdict as Numbers};
-ghost use Rattle.nvm_faults.specs.AllFaults.{AreFaults, AreFaultsAfter};
+ghost use Rattle.nvm_faults.specs.AllFaults.{AreFaults, AreFaultsAfter, BeginWith, IsFirstOf};
 ghost use Rattle.nvm_faults.specs.declared.faults.Faults.TheVariants.{Lawful};
 
 use crate::faults::Faults;
@@ -15,8 +16,8 @@ use nvm_record::NoMemory;
 use std::alloc::{AllocError, Global};
 use std::thread::Threads;
 
-/// All that is wrong in the record: the first fault of exactly the units that have one, in the order of the units. Or that nothing is, and
-/// the verdict. Where what was done of a job is wrong by itself, its fault is the only one that is answered.
+/// All that is wrong in the record: the first fault of exactly the units that have one, in the order of the units, of which the first is
+/// the one that an audit answers. Or that nothing is, and the verdict. Where what was done of a job is wrong by itself, its fault is the only one that is answered.
 ///
 /// The record is audited once, in several threads, of which the watcher is told. If that finds a fault in a unit, this thread looks at each
 /// unit that has entries or is named by a part: a pass over all that was done, and what the unit's own entries and parts cost.
@@ -28,6 +29,7 @@ pub fn all_faults<W: Watcher + Sync>(
     watcher: &W,
 ) -> Result<Faults, NoMemory>
     ensures found { IfOk result (AreFaults «record».now) }
+    ensures first { (first : Fault) → IsFirstFault «record».now first → IfOk result (BeginWith first) }
     ensures accepted { IsLawfulRecord «record».now → IfOk result (λ faults. (verdict : Numbers) × (faults ≡ Lawful verdict)) }
 {
     one_check_is_the_first_fault();
@@ -45,7 +47,8 @@ fn faults_after(
     first: AuditFault,
 ) -> Result<Vec<AuditFault>, NoMemory>
     requires { IsFirstFault «record».now first }
-    ensures { IfOk result (λ faults. AreFaultsAfter (names_unit first) «record».now first faults.items) }
+    ensures all { IfOk result (λ faults. AreFaultsAfter (names_unit first) «record».now first faults.items) }
+    ensures first { IfOk result (λ faults. IsFirstOf first faults.items) }
 {
     faults_of_units_come_after_shapes();
     if !first.names_unit() {
