@@ -1,5 +1,5 @@
 -- The record's first fault is the first of the faults of its units, where it names one.
-use Rattle.std.proofs.Common.{◌≡◌, ◌⊎◌, ℕ, ◌+◌, List, [], ◌∷◌, ◌++◌, Bool, true, false, length, map, refl, sym, ap, ◌∙◌, inl, inr}
+use Rattle.std.proofs.Common.{◌≡◌, ◌⊎◌, ℕ, ◌+◌, List, [], ◌∷◌, ◌++◌, true, false, length, map, refl, sym, ap, ◌∙◌, inl, inr}
 use Rattle.std.specs.List.{AllByRecursion, flat_map, range_with_len}
 use Rattle.nvm_store.specs.HistoryEntry.{HistoryEntry}
 use Rattle.nvm_audit.specs.FirstFailed.{IsFirstFailed}
@@ -9,7 +9,7 @@ use Rattle.nvm_audit.specs.RecordView.{RecordView}
 use Rattle.nvm_audit.specs.UnitChecks.{UnitCheck, PassesInUnit, unit_checks, fault_in}
 use Rattle.nvm_audit.specs.UnitView.{UnitView, view_of_unit}
 use Rattle.nvm_audit.specs.declared.audit_fault.AuditFault.{AuditFault}
-use Rattle.nvm_faults.specs.AllFaults.{AreFaultsOfUnits, BeginsWithFault, IsFirstOf}
+use Rattle.nvm_faults.specs.AllFaults.{AreFaultsOfUnits, IsFirstOf}
 
 module _ {C : Type 0} (P : C → Type 0) where
   -- The first that fails is among the front ones, or they all pass.
@@ -19,9 +19,9 @@ module _ {C : Type 0} (P : C → Type 0) where
   among (x ∷ front) rest c h = elim h [
     | inl here ↦ inl (inl here)
     | inr more ↦ elim (among front rest c more.1) [
-        | inl early ↦ inl (inr (more.0, early))
-        | inr late ↦ inr ((more.0, late.0), late.1)
-      ]
+      | inl early ↦ inl (inr (more.0, early))
+      | inr late ↦ inr ((more.0, late.0), late.1)
+    ]
   ]
 
   none_failed : (cs : List C) (c : C) → AllByRecursion P cs → IsFirstFailed P cs c → ⊥
@@ -42,9 +42,9 @@ module _ (r : RecordView) where
   no_unit_in_counts (n ∷ numbers) c h = elim h [
     | inl done ↦ ap (λ (check : RecordCheck). names_unit (fault_of check)) done.0
     | inr more ↦ elim more.1 [
-        | inl once ↦ ap (λ (check : RecordCheck). names_unit (fault_of check)) once.0
-        | inr others ↦ no_unit_in_counts numbers c others.1
-      ]
+      | inl once ↦ ap (λ (check : RecordCheck). names_unit (fault_of check)) once.0
+      | inr others ↦ no_unit_in_counts numbers c others.1
+    ]
   ]
 
   no_unit_in_shapes : (numbers : List ℕ) (c : RecordCheck) → IsFirstFailed (Passes r) (map shape_right numbers) c

@@ -5,7 +5,7 @@ use Rattle.nvm_store.specs.HistoryEntry.{HistoryEntry}
 use Rattle.nvm_audit.specs.RecordView.{RecordView}
 use Rattle.nvm_audit.specs.declared.audit_fault.AuditFault.{AuditFault}
 use Rattle.nvm_audit.specs.RecordedPart.{parts_in_unit}
-use Rattle.nvm_audit.specs.UnitChecks.{unit_checks, PassesInUnit, HasNoUnitFault}
+use Rattle.nvm_audit.specs.UnitChecks.{HasNoUnitFault}
 use Rattle.nvm_audit.specs.UnitView.{view_of_unit}
 use Rattle.nvm_audit.proofs.Standing.{read_there}
 use Rattle.nvm_faults.specs.AllFaults.{AreFaultsOfUnits, IsFoundInUnit}

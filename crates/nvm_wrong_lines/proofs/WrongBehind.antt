@@ -1,11 +1,10 @@
 -- The wrong lines and what reading a list answers.
-use Rattle.std.proofs.Common.{◌≡◌, ℕ, ◌+◌, List, [], ◌∷◌, Option, Some, None, Result, Ok, Err, refl, sym, ap, ◌∙◌}
+use Rattle.std.proofs.Common.{◌≡◌, ℕ, ◌+◌, List, [], ◌∷◌, Result, Ok, Err, refl}
 use Rattle.nvm_record.specs.declared.command.Command.{Command}
 use Rattle.nvm_list.specs.Words.{words}
 use Rattle.nvm_list.specs.Lists.{command_at, at_line, on_line, in_front, followed_by as read_behind, commands_from}
 use Rattle.nvm_list.specs.declared.expected.Expected.{Expected}
 use Rattle.nvm_list.specs.declared.fault.ListFault.{ListFault}
-use Rattle.nvm_list.specs.declared.fault.ListFault.TheVariants.{Line}
 use Rattle.nvm_wrong_lines.specs.declared.wrong_line.WrongLine.{WrongLine}
 use Rattle.nvm_wrong_lines.specs.WrongLines.{said_by, said_on, followed_by, wrong_from, BeginWith}
 

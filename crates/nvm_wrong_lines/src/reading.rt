@@ -14,11 +14,7 @@ use std::alloc::{AllocError, Global};
 
 /// All lines of a list that are no commands, in their order. There are none exactly where the list is read, and else the first is the one
 /// that [`nvm_list::read_list`] answers. A line costs what it holds. `NoMemory` is answered where a growth was refused.
-pub fn wrong_lines(
-    alloc: Global,
-    text: &[u8],
-    size: BlockSize,
-) -> Result<Vec<WrongLine>, NoMemory>
+pub fn wrong_lines(alloc: Global, text: &[u8], size: BlockSize) -> Result<Vec<WrongLine>, NoMemory>
     ensures lines { IfOk result (λ wrong. wrong.items ≡ spec.wrong_lines size text.now) }
     ensures none { (cs : List Listed) → commands size text.now ≡ Ok cs → IfOk result (λ wrong. wrong.items ≡ []) }
     ensures first { (fault : ListFault) → commands size text.now ≡ Err fault → IfOk result (λ wrong. spec.BeginWith fault wrong.items) }
@@ -27,11 +23,7 @@ pub fn wrong_lines(
 }
 
 /// The wrong lines, line by line.
-fn wrong_from(
-    alloc: Global,
-    text: &[u8],
-    size: BlockSize,
-) -> Result<Vec<WrongLine>, NoMemory>
+fn wrong_from(alloc: Global, text: &[u8], size: BlockSize) -> Result<Vec<WrongLine>, NoMemory>
     ensures { IfOk result (λ wrong. wrong.items ≡ spec.wrong_lines size text.now) }
 {
     let mut wrong = Vec::new(alloc);
@@ -52,12 +44,7 @@ fn wrong_from(
 }
 
 /// What a line says behind so many commands.
-fn said_on(
-    alloc: Global,
-    text: &[u8],
-    before: usize,
-    size: BlockSize,
-) -> Result<SaidLine, NoMemory>
+fn said_on(alloc: Global, text: &[u8], before: usize, size: BlockSize) -> Result<SaidLine, NoMemory>
     ensures { IfOk result (λ said. said ≡ spec.said_on size (before + 1) (words text.now)) }
 {
     let words = without_comment(text);

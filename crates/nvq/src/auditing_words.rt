@@ -7,14 +7,9 @@ use std::alloc::Global;
 #[derive(Drop)]
 pub enum AuditAsked {
     /// The verdict, or the first fault.
-    First {
-        telling: Telling,
-        record: String,
-    },
+    First { telling: Telling, record: String },
     /// The verdict, or the first fault of each unit that has one.
-    All {
-        record: String,
-    },
+    All { record: String },
 }
 
 /// What the words say, or `None` where the path is missing.

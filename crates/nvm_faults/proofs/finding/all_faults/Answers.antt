@@ -1,4 +1,4 @@
-use Rattle.std.proofs.Common.{◌≡◌, List, inl, inr, rules, subst}
+use Rattle.std.proofs.Common.{List, inl, inr, rules, subst}
 use Rattle.nvm_audit.specs.declared.audit_fault.AuditFault.{AuditFault}
 use Rattle.nvm_faults.specs.AllFaults.{IsFirstOf}
 use Rattle.nvm_faults.proofs.finding.all_faults.Goals as goal

@@ -1,12 +1,11 @@
-use Rattle.std.proofs.Common.{◌≡◌, ◌<◌, ◌++◌, ◌∷◌, [], List, Option, Some, None, Bool, true, false, ap, get_or, length, refl, subst, sym, ◌∙◌, arith}
+use Rattle.std.proofs.Common.{◌≡◌, ◌<◌, List, Some, None, Bool, true, false, ap, get_or, length, subst, sym, ◌∙◌, arith}
 use Rattle.nvm_geometry.specs.Boundaries.{units_of}
 use Rattle.nvm_audit.specs.Recordable.{IsRecordable}
 use Rattle.nvm_audit.specs.RecordView.{RecordView}
-use Rattle.nvm_audit.specs.declared.audit_fault.AuditFault.{AuditFault}
 use Rattle.nvm_audit.proofs.Groups.{get_or_same}
 use Rattle.nvm_faults.specs.AllFaults.{IsFoundInUnit}
 use Rattle.nvm_faults.proofs.Naming.{long_named, none_named}
-use Rattle.nvm_faults.proofs.UnitByUnit.{AreFaultsBefore, all_here, fault_here, none_here}
+use Rattle.nvm_faults.proofs.UnitByUnit.{all_here, fault_here, none_here}
 use Rattle.nvm_faults.proofs.unit_faults.faults_of_units.Goals as goal
 use Rattle.nvm_faults.proofs.unit_faults.faults_of_units.Goals.{in-Some+in_ok-push-in-Some, in-None}
 

@@ -1,7 +1,6 @@
-use Rattle.std.proofs.Common.{◌≡◌, List, [], Result, Ok, Err, ◌∙◌, sym, subst}
+use Rattle.std.proofs.Common.{◌≡◌, List, [], Result, ◌∙◌, sym, subst}
 use Rattle.std.proofs.lemmas.Result.{IfOk-weaker}
 use Rattle.nvm_record.specs.declared.command.Command.{Command}
-use Rattle.nvm_list.specs.Lists.{commands}
 use Rattle.nvm_list.specs.Words.{text_lines}
 use Rattle.nvm_list.specs.declared.fault.ListFault.{ListFault}
 use Rattle.nvm_wrong_lines.specs.WrongLines as spec
