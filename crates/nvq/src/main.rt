@@ -22,6 +22,7 @@ mod fault;
 mod files;
 mod generating;
 mod generating_words;
+mod list_failure;
 mod namespace_words;
 mod read_list;
 mod running;
@@ -36,9 +37,10 @@ use crate::certifying::run_certify;
 use crate::conversion::{file_of, list_of};
 use crate::drawing::run_draw;
 use crate::explaining::run_explain;
-use crate::failure::{Failure, of_file, of_list};
+use crate::failure::{Failure, of_file};
 use crate::files::{bytes_of, check_output, write_bytes};
 use crate::generating::run_generate;
+use crate::list_failure::of_commands;
 use crate::read_list::split_list;
 use crate::running::run_lists;
 use crate::tracing::run_trace;
@@ -141,7 +143,10 @@ fn run_assemble<R: AllocGlobal + Files + Input + Print + Eprint>(
     let split = split_list(rt.alloc(), list, &text)?;
     match file_of(rt.alloc(), &split.commands, size) {
         Ok(file) => write_bytes(rt, out, &file, progress),
-        Err(fault) => Err(of_list(rt.alloc(), fault, list, &text)),
+        Err(fault) => {
+            let commands = &split.commands;
+            Err(of_commands(rt.alloc(), fault, list, &text, commands, size))
+        }
     }
 }
 
