@@ -19,6 +19,7 @@ from devices import devices
 from drawn import pictures
 from drawn_arguments import drawn_arguments
 from explained import explained
+from faulty import faulty
 from forged import forged, spoiled
 from generated import lists_generated
 from hints import FOLDER, IS_OUTPUT, MISSING, NO_SPACE, no_host_file, the_line, told
@@ -43,6 +44,7 @@ from words import (
     versions,
     words_of_nvmu,
 )
+from wrong_lines import wrong_lists
 
 # Stands for a text that isn't empty: clap words its own.
 SOME = object()
@@ -230,7 +232,7 @@ def lists(run):
         assembled(text, out=file_of(asked))
     for expected, texts in REFUSED_LINES.items():
         for text in texts:
-            err = told(f"nvq: line 4: {expected}", the_line(text))
+            err = told(f"nvq: line 4: {expected}", the_line(text, f"line 5: {NAME}"))
             assembled(f"# a list\n\nread 0 1\n \t{text}\r\nwalk\n", status=1, err=err)
     run.keep("listed", LISTED)
     run.expect(["nvq", "assemble", "listed", "listed.nvq"])
@@ -389,9 +391,9 @@ def words_of_unit_bench(run):
         run.expect(["unit_bench", "run", "0", "1", name], 1, err="unit_bench: no host file\n")
 
 
-TABLES = [lists, words_of_nvq, listings, lists_run, lists_expected, lists_generated, explained, pictures, outs_of_nvq, words_of_nvmu, files_of_nvmu, files_that_stop, several_workers]
+TABLES = [lists, wrong_lists, words_of_nvq, listings, lists_run, lists_expected, lists_generated, explained, pictures, outs_of_nvq, words_of_nvmu, files_of_nvmu, files_that_stop, several_workers]
 TABLES += [versions, standard_input, files_of_another_kind, outs_that_are_read]
-TABLES += [traces, words_of_certify, records_of_certify, arguments, drawn_arguments, devices, outs_of_nvmu, shown_nowhere, progress, runs, rows, forged, spoiled, two_owners, words_of_unit_bench]
+TABLES += [traces, words_of_certify, records_of_certify, arguments, drawn_arguments, devices, outs_of_nvmu, shown_nowhere, progress, runs, rows, forged, spoiled, faulty, two_owners, words_of_unit_bench]
 
 
 def tried():

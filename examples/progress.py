@@ -74,7 +74,7 @@ def progress(run):
     run.hold("the line is gone in the end", (ends, told[-1]), ([], ""))
     run.hold("the lines of the run", run.kept("lines").count(b"\n"), JOBS + 1)
     # On one terminal the lines stand as in a file.
-    for words in (RUN, ["nvmu", "audit", "record"], ["nvq", "audit", "record"], ["nvq", "explain", "record"], ["nvq", "list", "long.nvq"]):
+    for words in (RUN, ["nvmu", "audit", "record"], ["nvq", "audit", "record"], ["nvq", "audit", "--all", "record"], ["nvq", "explain", "record"], ["nvq", "list", "long.nvq"]):
         program = path_of(words[0])
         alone = subprocess.run([program, *words[1:]], capture_output=True, cwd=run.folder, stdin=subprocess.DEVNULL)
         run.hold(f"{words} says nothing on standard error elsewhere", alone.stderr, b"")

@@ -255,3 +255,5 @@ def units(run):
         run.keep("spoiled", bytes(file))
         for how in ({}, {"preexec_fn": one_core}):
             run.expect(["nvmu", "audit", "spoiled"], 2, out=f"unlawful EntryWrong job {unit} unit {unit} place 0\n", **how)
+    both = "".join(f"unlawful EntryWrong job {unit} unit {unit} place 0\n" for unit in (9, 4000))
+    run.expect(["nvq", "audit", "--all", "spoiled"], 2, out=f"{both}faults 2\n")

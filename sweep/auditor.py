@@ -1,4 +1,4 @@
-"""The audit of a record: what is looked for, in its order, and the line that tells the verdict."""
+"""The audit of a record: what is looked for, in its order, and the line that tells the verdict, or a line for each unit in which something is wrong."""
 
 from collections import Counter, defaultdict
 
@@ -125,14 +125,33 @@ class Audit:
 
     def all_units(self):
         """Every unit, with what each worker did there, in its order."""
+        at = self.parts_by_unit()
+        for unit in range(len(self.units)):
+            self.one_unit(unit, at[unit])
+
+    def parts_by_unit(self):
         at = defaultdict(list)
         for worker, jobs in enumerate(self.record.done):
             for done in jobs:
                 for place, (unit, _, _) in enumerate(done.parts):
                     at[unit].append((worker, done, place))
+        return at
+
+    def one_unit(self, unit, there):
+        self.points(unit, there, self.entries(unit, there))
+
+    def faults(self):
+        """The line of the first fault of each unit that has one; or the one line of a record that is lawful, or in which a job is wrong by itself."""
+        line, at = self.verdict(), self.parts_by_unit()
+        if line.startswith("lawful") or " unit - " in line:
+            return [line]
+        lines = []
         for unit in range(len(self.units)):
-            states = self.entries(unit, at[unit])
-            self.points(unit, at[unit], states)
+            try:
+                self.one_unit(unit, at[unit])
+            except Unlawful as fault:
+                lines.append(str(fault))
+        return lines
 
     def part_in(self, job, unit):
         return next((part for part in self.parts[job] if part[0] == unit), None)
@@ -205,6 +224,13 @@ class Audit:
 def verdict(record):
     """The line that is printed of a record, without its end."""
     return Audit(record).verdict()
+
+
+def all_faults(record):
+    """All that is printed of the first faults of all units, or of a lawful record."""
+    faults = Audit(record).faults()
+    count = [] if faults[0].startswith("lawful") else [f"faults {len(faults)}"]
+    return "".join(f"{line}\n" for line in [*faults, *count])
 
 
 def lines(record):

@@ -31,8 +31,9 @@ def told(line, hint=""):
     return f"{line}\n  {hint}\n" if hint else f"{line}\n"
 
 
-def the_line(text):
-    return f"the line is: {text[:100]}"
+def the_line(text, *others):
+    """What is said of a wrong line, and of other wrong ones of a list."""
+    return "\n  ".join([f"the line is: {text[:100]}", *others])
 
 
 def many_hosts(count):

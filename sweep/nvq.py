@@ -150,7 +150,7 @@ def runs(folder):
     file, list_ = kept("host.nvq", host), kept("host.list", listing(host, 512).encode())
     large_file, large_list = kept("large.nvq", large), kept("large.list", listing(large, 4096).encode())
     plain_list = kept("plain.list", b"# a comment\r\n\n" + listing(plain, 512).encode())
-    wrong = kept("wrong.list", b"read 0 1\n\nwrite 0 1 511*41\n")
+    wrong, several = kept("wrong.list", b"read 0 1\n\nwrite 0 1 511*41\n"), kept("several.list", b"walk\nwalk\nread 0 1\n")
     cut, empty, small = kept("cut.nvq", host[:700]), kept("empty.nvq", b""), kept("small.nvq", file_of([write(0, 0x41)]))
     many = kept("many.nvq", b"NVQ1" + file_of([unknown(0, 1)])[4:] * 65_536 + b"0")
     expecting, unexpected = kept("expecting.list", EXPECTING.encode()), kept("unexpected.list", b"read 0 1 expect 2\n")
@@ -217,6 +217,7 @@ def runs(folder):
         ran("lists that are run", [plain, file_of([read(0, 2), dataset((0, 1))])]),
         ran("a list that is run and a record before", [plain], **{Recording.name: b"old"}),
         Run("what lists expect", "nvq", ["run", "--nsze", "32", "--workers", "1", "--check", expecting], 2, out=UNMET, units=4),
+        not_ran("wrong lines of a run", f"{several}: line 1: {NO_COMMAND}", several, hint=the_line("walk", f"line 2: {NO_COMMAND}")),
         not_ran("a wrong expectation", f"{unexpected}: line 1: expected a status after expect, as in 2/85", unexpected, hint=the_line("read 0 1 expect 2")),
         ran("no commands that are run", [file_of([])], err="nvq: the lists have no command\n"),
         not_ran("a wrong line of a run", f"{wrong}: line 3: expected data of 512 bytes and not of 511", plain_list, wrong, hint=the_line("write 0 1 511*41")),

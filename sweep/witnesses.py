@@ -4,7 +4,7 @@ import os
 import subprocess
 import tempfile
 
-from auditor import verdict
+from auditor import all_faults, verdict
 from cases import Run
 from hints import MISSING, the_line, told
 from host_files import compare, file_of, pair, read, write, zeroes
@@ -118,6 +118,8 @@ def judged(kept):
     return [
         done("an audit by nvq", ["audit", record], verdict(RECORD) + "\n"),
         done("an audit of a wrong record by nvq", ["audit", kept("wrong.nvr", bytes(unlawful))], verdict(parsed(bytes(unlawful))) + "\n", 2),
+        done("all faults of a record by nvq", ["audit", "--all", record], all_faults(RECORD)),
+        done("all faults of a wrong record by nvq", ["audit", "--all", kept("faulty.nvr", bytes(unlawful))], all_faults(parsed(bytes(unlawful))), 2),
         done("an object of an audit by nvq", ["audit", "--json", record], '{"verdict":"lawful","jobs":5,"units":%d,"changes":3,"refused":0}\n' % UNITS),
         done("a witness by nvq", ["witness", trace, record], f"explained jobs 5 units {UNITS} steps 6 excused 0 preparations 0\n"),
         done("a wrong trace by nvq", ["witness", wrong, record], "unexplained ReplyDiffers job 1 unit - place -\n", 2),

@@ -1,13 +1,18 @@
 -- What an audit tells of the record of a file, what a witness tells of the files of a trace and a record, and why nothing is told. What
 -- stands in a file no definition can say, so its bytes are some.
-use Rattle.std.specs.Prelude.{◌≡◌, ◌⊎◌, ℕ, true, List, Result, codes, string_bytes}
+use Rattle.std.specs.Prelude.{◌≡◌, ◌⊎◌, ℕ, true, List, Result, Ok, codes, string_bytes}
 use Rattle.nvm_audit.specs.declared.audit_fault.AuditFault.{AuditFault}
 use Rattle.nvm_audit.specs.declared.verdict.Verdict.{Verdict}
+use Rattle.nvm_audit.specs.RecordView.{RecordView}
 use Rattle.nvm_engine.specs.Judged.{IsJudged}
 use Rattle.nvm_engine.specs.VerdictLine.{answer_line, answer_status}
 use Rattle.nvm_engine.specs.VerdictObject.{answer_object}
 use Rattle.nvm_engine.specs.WitnessLine.{witness_line, witness_status}
 use Rattle.nvm_engine.specs.Witnessed.{IsWitnessed}
+use Rattle.nvm_faults.specs.AllFaults.{AreFaults}
+use Rattle.nvm_faults.specs.FaultsText.{faults_text, faults_status}
+use Rattle.nvm_faults.specs.declared.faults.Faults.{Faults}
+use Rattle.nvm_file.specs.Reading.{record_at}
 use Rattle.nvm_front.specs.Standard.{names_input}
 use Rattle.nvm_front.specs.declared.judging_words.Telling.{Telling}
 use Rattle.nvm_front.specs.declared.judging_words.Telling.TheVariants.{Lines, Object}
@@ -37,6 +42,20 @@ pub record IsAuditedFile (telling : Telling) (told : AuditedRecord) : Type 0 whe
 -- It is the status of an audit of a file's record, of which this is printed.
 abbrev pub IsStatusOfAudit : Telling → ℕ → Type 0
 IsStatusOfAudit telling status = (told : AuditedRecord) × IsAuditedFile telling told × (status ≡ told.status)
+
+-- The text and the status are those of all that is wrong in a file's record, or of its verdict.
+pub record AreFaultsOfFile (told : AuditedRecord) : Type 0 where
+  pub file : List ℕ
+  pub run : RecordView
+  pub holds : record_at file ≡ Ok run
+  pub faults : Faults
+  pub found : AreFaults run faults
+  pub text : told.text.items ≡ faults_text faults
+  pub status : told.status ≡ faults_status faults
+
+-- It is the status of all that is wrong in a file's record, of which this is printed.
+abbrev pub IsStatusOfFaults : ℕ → Type 0
+IsStatusOfFaults status = (told : AuditedRecord) × AreFaultsOfFile told × (status ≡ told.status)
 
 -- The record couldn't be read, or else it is its first fault, or else the text couldn't be written.
 abbrev pub IsAuditingFault : List ℕ → Fault → Type 0

@@ -1,13 +1,15 @@
-//! `nvq audit` and `nvq witness`: whether a record is lawful, and whether it explains a trace. Each prints one line.
+//! `nvq audit` and `nvq witness`: whether a record is lawful, and whether it explains a trace. Each prints one line, but for
+//! `nvq audit --all`, which prints one for each unit in which something is wrong.
 ghost use Rattle.std.specs.Prelude.{◌≡◌, ◌⊎◌, IfOk, IfErr};
 ghost use Rattle.nvm_engine.specs.VerdictLine.{answer_line};
-ghost use Rattle.nvq.specs.Audited.{AreWitnessedFiles, answer_told, IsAuditedFile, IsAuditingFault, IsStatusOfAudit, IsStatusOfWitness, IsUnwitnessed, IsWitnessingFault};
+ghost use Rattle.nvq.specs.Audited.{AreFaultsOfFile, AreWitnessedFiles, answer_told, IsAuditedFile, IsAuditingFault, IsStatusOfAudit, IsStatusOfFaults, IsStatusOfWitness, IsUnwitnessed, IsWitnessingFault};
 ghost use Rattle.nvq.specs.Fault.{IsFaultOfRecordAt};
 ghost use Rattle.nvq.specs.Files.{IsReadFault};
 
 use crate::failure::Failure;
 use crate::files::{check_apart, read_as_record, read_as_trace, write_bytes};
 use nvm_engine::{Judged, judge_watched, witness_record};
+use nvm_faults::all_faults;
 use nvm_front::{Progress, STANDARD, Telling};
 use nvm_record::NoMemory;
 use nvm_trace::Judging;
@@ -58,6 +60,36 @@ fn audited<R: AllocGlobal + Files + Input + Eprint + Threads + Sync>(
     let judged = judge_watched(rt, rt.alloc(), &run, progress)?;
     let text = told(rt.alloc(), telling, &judged)?;
     let status = judged.status();
+    Ok(AuditedRecord { text, status })
+}
+
+/// Audits the record at a path, prints the verdict or all that is wrong in it, and gives the exit status.
+pub fn run_audit_all<R: AllocGlobal + Files + Input + Print + Eprint + Threads + Sync>(
+    rt: &R,
+    record: &str,
+    progress: &Progress<'_, R>,
+) -> Result<u8, Failure>
+    ensures status { IfOk result IsStatusOfFaults }
+    ensures fault { IfErr result (λ failure. IsAuditingFault «record».now failure.fault) }
+{
+    let AuditedRecord { text, status } = all_audited(rt, record, progress)?;
+    write_bytes(rt, STANDARD, &text, progress)?;
+    Ok(status)
+}
+
+/// All that is wrong in the record at a path, or its verdict.
+fn all_audited<R: AllocGlobal + Files + Input + Eprint + Threads + Sync>(
+    rt: &R,
+    record: &str,
+    progress: &Progress<'_, R>,
+) -> Result<AuditedRecord, Failure>
+    ensures audited { IfOk result AreFaultsOfFile }
+    ensures fault { IfErr result (λ failure. IsReadFault «record».now failure.fault ⊎ IsFaultOfRecordAt «record».now failure.fault) }
+{
+    let run = read_as_record(rt, record, progress)?;
+    let faults = all_faults(rt, rt.alloc(), &run, progress)?;
+    let text = faults.text(rt.alloc())?.into_bytes();
+    let status = faults.status();
     Ok(AuditedRecord { text, status })
 }
 

@@ -16,13 +16,13 @@ pub fn plain(fault: Fault) -> Failure
     Failure { fault, hint: None }
 }
 
-/// The failure of a list that was read from a path. What helps is what the file is instead, or else the line.
+/// The failure of a list that was read from a path, which has a wrong expectation. What helps is what the file is instead, or else the
+/// line.
 pub fn of_list(alloc: Global, fault: Fault, path: &str, list: &[u8]) -> Failure
     ensures { result.fault ≡ fault }
 {
     let hint = match fault {
-        Fault::Line { line, .. } | Fault::ListLine { line, .. } | Fault::Expectation { line, .. } =>
-            wrong_line(alloc, path, list, line),
+        Fault::Expectation { line, .. } => wrong_line(alloc, path, list, line),
         _ => Ok(None),
     };
     Failure::hinted(fault, hint)
@@ -125,7 +125,7 @@ fn too_many(alloc: Global, count: usize) -> Result<Option<String>, AllocError> {
 }
 
 /// The front of a list's line, from the first that is no blank. Lines count from 1. `None` where it isn't plain text.
-fn line_of(alloc: Global, list: &[u8], number: u64) -> Result<Option<String>, AllocError> {
+pub fn line_of(alloc: Global, list: &[u8], number: u64) -> Result<Option<String>, AllocError> {
     let mut lines = list.split(|byte| *byte == b'\n');
     let Some(line) = lines.nth(number.saturating_sub(1) as usize) else {
         return Ok(None);

@@ -8,6 +8,7 @@ ghost use Rattle.nvq.specs.Files.{IsAssemblingFault};
 
 mod argument_drawing;
 mod auditing;
+mod auditing_words;
 mod certifying;
 mod certifying_words;
 mod checked;
@@ -21,6 +22,7 @@ mod fault;
 mod files;
 mod generating;
 mod generating_words;
+mod list_failure;
 mod namespace_words;
 mod read_list;
 mod running;
@@ -29,14 +31,16 @@ mod tracing;
 mod words;
 
 use crate::argument_drawing::run_draw_argument;
-use crate::auditing::{run_audit, run_witness};
+use crate::auditing::{run_audit, run_audit_all, run_witness};
+use crate::auditing_words::AuditAsked;
 use crate::certifying::run_certify;
 use crate::conversion::{file_of, list_of};
 use crate::drawing::run_draw;
 use crate::explaining::run_explain;
-use crate::failure::{Failure, of_file, of_list};
+use crate::failure::{Failure, of_file};
 use crate::files::{bytes_of, check_output, write_bytes};
 use crate::generating::run_generate;
+use crate::list_failure::of_commands;
 use crate::read_list::split_list;
 use crate::running::run_lists;
 use crate::tracing::run_trace;
@@ -98,8 +102,11 @@ fn run<R: AllocGlobal + Files + Input + Print + Eprint + Threads + Wait + Sync>(
         Asked::List { size, file } => run_list(rt, size, file, progress)?,
         Asked::Run(words) => return run_lists(rt, &words, progress),
         Asked::Generate(words) => run_generate(rt, &words, progress)?,
-        Asked::Audit(words) => {
-            return run_audit(rt, words.telling, words.record.as_str(), progress);
+        Asked::Audit(AuditAsked::First { telling, record }) => {
+            return run_audit(rt, telling, record.as_str(), progress);
+        }
+        Asked::Audit(AuditAsked::All { record }) => {
+            return run_audit_all(rt, record.as_str(), progress);
         }
         Asked::Witness(words) => {
             let (trace, record) = (words.trace.as_str(), words.record.as_str());
@@ -136,7 +143,10 @@ fn run_assemble<R: AllocGlobal + Files + Input + Print + Eprint>(
     let split = split_list(rt.alloc(), list, &text)?;
     match file_of(rt.alloc(), &split.commands, size) {
         Ok(file) => write_bytes(rt, out, &file, progress),
-        Err(fault) => Err(of_list(rt.alloc(), fault, list, &text)),
+        Err(fault) => {
+            let commands = &split.commands;
+            Err(of_commands(rt.alloc(), fault, list, &text, commands, size))
+        }
     }
 }
 

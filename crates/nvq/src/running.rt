@@ -12,9 +12,10 @@ ghost use Rattle.nvq.specs.Ran.{AreFilesOf, IsFileOf, IsToldFault, fault_of_run}
 ghost use Rattle.nvq.specs.RunFaults.{FitNames, IsKeepingFault, IsLineFault, IsListsFault, IsNamesFault, IsSettingsOf};
 
 use crate::checked::{Checked, checked_of, status_of};
-use crate::failure::{Failure, of_list, of_run, plain};
+use crate::failure::{Failure, of_run, plain};
 use crate::fault::Fault;
 use crate::files::{check_no_lines, check_output, keep, unmade};
+use crate::list_failure::of_commands;
 use crate::namespace_words::NamespaceWords;
 use crate::read_list::{ReadList, read_lists, texts_of};
 use crate::running_words::RunWords;
@@ -149,7 +150,9 @@ fn files_of(alloc: Global, size: BlockSize, lists: &[ReadList<'_>]) -> Result<Ve
     for list in lists {
         match host_file(alloc, list.path, &list.text, size) {
             Ok(file) => files.push(file)?,
-            Err(fault) => return Err(of_list(alloc, fault, list.path, &list.text)),
+            Err(fault) => {
+                return Err(of_commands(alloc, fault, list.path, &list.text, &list.text, size));
+            }
         }
     }
     Ok(files)

@@ -1,0 +1,3 @@
+pub mod FirstOfAll
+pub mod Naming
+pub mod UnitByUnit

@@ -1,0 +1,2 @@
+-- Which units parts name.
+pub mod Named

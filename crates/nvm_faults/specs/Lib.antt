@@ -1,0 +1,3 @@
+pub mod AllFaults
+pub mod FaultsText
+pub mod Inside

@@ -1,0 +1,83 @@
+//! The failure of a list that has lines which are no commands.
+ghost use Rattle.std.specs.Prelude.{◌≡◌};
+
+use crate::failure::{Failure, line_of};
+use crate::fault::Fault;
+use nvm_front::no_list;
+use nvm_record::BlockSize;
+use nvm_wrong_lines::{WrongLine, wrong_lines};
+use std::alloc::{AllocError, Global};
+
+/// So many wrong lines are told behind the first at most.
+const TOLD: usize = 20;
+
+/// The failure of a list that was read from a path, whose commands are those of a list without expectations. What helps is what the file is
+/// instead, or else the line, and the other lines that are no commands.
+pub fn of_commands(
+    alloc: Global,
+    fault: Fault,
+    path: &str,
+    list: &[u8],
+    commands: &[u8],
+    size: BlockSize,
+) -> Failure
+    ensures { result.fault ≡ fault }
+{
+    let hint = match fault {
+        Fault::Line { line, .. } | Fault::ListLine { line, .. } => {
+            wrong_commands(alloc, path, list, line, commands, size)
+        }
+        _ => Ok(None),
+    };
+    Failure::hinted(fault, hint)
+}
+
+/// What helps where a line is no command: what the file is instead, or else the line and the wrong ones behind it.
+fn wrong_commands(
+    alloc: Global,
+    path: &str,
+    list: &[u8],
+    line: u64,
+    commands: &[u8],
+    size: BlockSize,
+) -> Result<Option<String>, AllocError> {
+    if let Some(told) = no_list(alloc, path, list)? {
+        return Ok(Some(told));
+    }
+    let first = line_of(alloc, list, line)?;
+    let wrong = wrong_lines(alloc, commands, size)?;
+    with_others(alloc, first, &wrong)
+}
+
+/// What is said of the first wrong line, and on further lines what was expected in each of the others, or how many more there are.
+fn with_others(
+    alloc: Global,
+    first: Option<String>,
+    wrong: &[WrongLine],
+) -> Result<Option<String>, AllocError> {
+    let mut lines = Vec::new(alloc);
+    if let Some(first) = first {
+        lines.push(first)?;
+    }
+    for WrongLine { line, expected } in wrong.iter().skip(1).take(TOLD) {
+        lines.push(format!(in alloc; "line {line}: {expected}")?)?;
+    }
+    if wrong.len() > TOLD + 1 {
+        let more = wrong.len() - TOLD - 1;
+        lines.push(format!(in alloc; "and {more} lines more")?)?;
+    }
+    joined(alloc, &lines)
+}
+
+/// The lines, each but the first behind a line feed and two spaces; `None` where there are none.
+fn joined(alloc: Global, lines: &[String]) -> Result<Option<String>, AllocError> {
+    if lines.is_empty() {
+        return Ok(None);
+    }
+    let mut text = String::new(alloc);
+    for (number, line) in lines.iter().enumerate() {
+        let between = if number == 0 { "" } else { "\n  " };
+        write!(text, "{between}{line}")?;
+    }
+    Ok(Some(text))
+}
