@@ -22,6 +22,7 @@ mod files;
 mod generating;
 mod generating_words;
 mod namespace_words;
+mod objects;
 mod read_list;
 mod running;
 mod running_words;

@@ -16,6 +16,7 @@ use crate::failure::{Failure, of_list, of_run, plain};
 use crate::fault::Fault;
 use crate::files::{check_no_lines, check_output, keep, unmade};
 use crate::namespace_words::NamespaceWords;
+use crate::objects::objects_of;
 use crate::read_list::{ReadList, read_lists, texts_of};
 use crate::running_words::RunWords;
 use nvm_engine::{Fault as RunFault, Settings, Shown, Workers, execute_watched};
@@ -34,9 +35,9 @@ const IDLE: &str = "nvq: the lists have no command";
 /// What is said where they have commands, and no expectation that could be checked.
 const UNCHECKED: &str = "nvq: the lists have no expectation";
 
-/// Does the commands of the lists, keeps the record where that is asked for, and writes the lines to standard output. After a
-/// fault before the first line nothing is written. The room of standard output is taken first, so that no memory is wanted for
-/// the lines once the record stands.
+/// Does the commands of the lists, keeps the record where that is asked for, and writes the lines to standard output, or the objects
+/// where these are asked for. After a fault before the first line nothing is written. The room of standard output is taken first, so
+/// that no memory is wanted for the lines once the record stands.
 ///
 /// The exit status is 0, or 2 if the expectations of the lists are checked and one isn't met.
 pub fn run_lists<R: AllocGlobal + Files + Input + Print + Eprint + Threads + Wait + Sync>(
@@ -55,11 +56,12 @@ pub fn run_lists<R: AllocGlobal + Files + Input + Print + Eprint + Threads + Wai
     let settings = settings_of(rt, words);
     let shown = shown_of(rt, &settings, files.as_slice(), progress)?;
     let checked = checked_of(rt.alloc(), words.check, &shown, lists.as_slice())?;
+    let objects = objects_of(rt, words.telling, &shown, progress)?;
     if let Some(path) = &words.record {
         keep(rt, path.as_str(), shown.record(), progress)?;
     }
     progress.clear();
-    match print(output, &shown, &mut texts, &checked) {
+    match print(output, &shown, &mut texts, &objects, &checked) {
         Ok(()) => {
             tell_if_idle(rt, &shown, &checked);
             Ok(status_of(&checked))
@@ -275,14 +277,18 @@ fn told(fault: RunFault) -> Fault
     }
 }
 
-/// Writes the lines, and what is said of expectations.
+/// Writes the lines, or the objects where these are told, and what is said of expectations.
 fn print<R: Files + Print + Eprint>(
     mut output: Output<'_, R>,
     shown: &Shown,
     lists: &mut [&[u8]],
+    objects: &Option<String>,
     checked: &Option<Checked>,
 ) -> Result<(), FileFault> {
-    shown.write_long_text(&mut output, lists)?;
+    match objects {
+        Some(objects) => output.write_all(objects.as_bytes())?,
+        None => shown.write_long_text(&mut output, lists)?,
+    }
     if let Some(checked) = checked {
         output.write_all(checked.text.as_bytes())?;
     }

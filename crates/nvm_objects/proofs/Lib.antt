@@ -1,0 +1,3 @@
+pub mod LawfulDone
+pub mod Noting
+pub mod Walking
