@@ -9,5 +9,5 @@ pub mod Generated
 pub mod Listed
 pub mod Ran
 pub mod RunFaults
-pub mod RunObjects
+pub mod ToldRun
 pub mod Words

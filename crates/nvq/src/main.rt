@@ -22,10 +22,10 @@ mod files;
 mod generating;
 mod generating_words;
 mod namespace_words;
-mod objects;
 mod read_list;
 mod running;
 mod running_words;
+mod told_run;
 mod tracing;
 mod words;
 
