@@ -92,7 +92,8 @@ def faults(run):
     run.hold("an expectation", len(run.output([*words("expecting"), "--json"]).splitlines()), 2)
     run.keep("wrong", "read 0 1\nread 0 1 expect\n")
     err = told("nvq: wrong: line 2: expected a status after expect, as in 2/85", the_line("read 0 1 expect"))
-    run.expect([*words("it", "wrong", record="old"), "--json"], 1, err=err)
+    run.keep("old", b"old")
+    run.expect([*words("it", "wrong", record="old"), "--json"], 1, err=err, files={"old": b"old"})
     run.expect([*words("it", record="-"), "--json"], 1, err="nvq: the record can't go to standard output\n")
     with open("/dev/full", "wb") as full:
         found = run.status_of([*words("it", record="kept"), "--json"], stdout=full)
