@@ -101,6 +101,7 @@ ANSWERS = {
         "a": "assemble audit",
         "help ru": "run",
         "run --nsz": "--nsze",
+        "run --js": "--json",
         "run ": "",
         "run --record ": "",
         "run --record out/a.nvr --re": "--record",

@@ -26,6 +26,7 @@ from hints import FOLDER, IS_OUTPUT, MISSING, NO_SPACE, no_host_file, the_line, 
 from host_files import Asked, compare, dataset, file_of, read, uncorrectable, unknown, write, zeroes
 from lists_expected import lists_expected
 from lists_run import lists_run
+from objects_run import objects_run
 from listings import listings
 from outs import outs_of_nvmu, outs_of_nvq, outs_that_are_read, shown_nowhere
 from progress import progress
@@ -207,6 +208,12 @@ class Programs:
         self.passed, self.failed = self.passed + right, self.failed + (not right)
         if not right:
             print(f"{words} ended with {[it if isinstance(it, int) else it[:300] for it in found]}")
+
+    def output(self, words):
+        """What a run prints that ends without a fault."""
+        done = subprocess.run([self.path_of(words[0]), *words[1:]], stdin=subprocess.DEVNULL, capture_output=True, cwd=self.folder, timeout=60)
+        self.hold(f"how {words} ends", done.returncode, 0)
+        return done.stdout.decode()
 
     def status_of(self, words, stdin=subprocess.DEVNULL, **how):
         """The status of a run, and what it says on standard error."""
@@ -391,7 +398,7 @@ def words_of_unit_bench(run):
         run.expect(["unit_bench", "run", "0", "1", name], 1, err="unit_bench: no host file\n")
 
 
-TABLES = [lists, wrong_lists, words_of_nvq, listings, lists_run, lists_expected, lists_generated, explained, pictures, outs_of_nvq, words_of_nvmu, files_of_nvmu, files_that_stop, several_workers]
+TABLES = [lists, wrong_lists, words_of_nvq, listings, lists_run, lists_expected, objects_run, lists_generated, explained, pictures, outs_of_nvq, words_of_nvmu, files_of_nvmu, files_that_stop, several_workers]
 TABLES += [versions, standard_input, files_of_another_kind, outs_that_are_read]
 TABLES += [traces, words_of_certify, records_of_certify, arguments, drawn_arguments, devices, outs_of_nvmu, shown_nowhere, progress, runs, rows, forged, spoiled, faulty, two_owners, words_of_unit_bench]
 

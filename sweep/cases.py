@@ -12,6 +12,7 @@ from dataclasses import dataclass, field
 from auditor import text, verdict
 from beside import beside
 from model import Model
+from record_objects import record_objects
 from recorded import jobs_of, recorded, wants_of
 from records import RecordFault, record_of, spelled
 
@@ -37,18 +38,24 @@ class End:
 
 class Recording:
     """What a run of these host files, host 1's first, may write and print: a lawful record, and its text, or the text beside the
-    lists that they were made of."""
+    lists that they were made of, or the record's objects."""
 
     name = "record"
 
-    def __init__(self, namespace, files, workers=1, lists=None):
+    def __init__(self, namespace, files, workers=1, lists=None, objects=False):
         self.model = Model(namespace, files)
-        self.lists = lists
+        self.lists, self.objects = lists, objects
         self.namespace, self.files, self.workers = namespace, files, workers
         self.jobs = jobs_of(files, namespace.block)
 
     def units(self):
         return len(self.namespace.units())
+
+    def told(self, record, shown):
+        """What is printed of a record of which this is the text."""
+        if self.objects:
+            return record_objects(record)
+        return shown if self.lists is None else beside(shown, self.lists)
 
     def wants(self, end):
         """In how many jobs memory was wanted. Where the run can't end so, it raises ValueError."""
@@ -64,8 +71,8 @@ class Recording:
         if not line.startswith("lawful "):
             raise ValueError(f"the record is {line}")
         shown = text(record)
-        if end.out != (shown if self.lists is None else beside(shown, self.lists)):
-            raise ValueError("what is shown isn't the text of the record")
+        if end.out != self.told(record, shown):
+            raise ValueError("what is told isn't the text or the objects of the record")
         wants = wants_of(record)
         if self.workers == 1 and end.files[self.name] != spelled(recorded(self.namespace, self.files, wants)):
             raise ValueError("one worker leaves another record")

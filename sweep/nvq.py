@@ -131,13 +131,14 @@ def runs(folder):
     def in_large(word):
         return [word, "--block", "4096"]
 
-    def ran(name, hosts, err=None, **more):
-        """A run of the lists of these host files by one worker, in units of eight blocks."""
+    def ran(name, hosts, *told, err=None, **more):
+        """A run of the lists of these host files by one worker, in units of eight blocks. Told as objects its record is audited twice."""
         space = Namespace(nsze=32, nabsn=7, nacwu=7, limit=3)
         lists = [f"# {name}\n\n {listing(file, 512)}" for file in hosts]
         paths = [kept(f"{name}-{host}".replace(" ", "-"), it.encode()) for host, it in enumerate(lists, 1)]
-        given = ["run", "--nsze", "32", "--limit", "3", "--workers", "1", "--record", Recording.name, *paths]
-        return Run(name, "nvq", given, err=err, before=more, model=Recording(space, hosts, lists=lists))
+        given = ["run", "--nsze", "32", "--limit", "3", "--workers", "1", "--record", Recording.name, *told, *paths]
+        model = Recording(space, hosts, lists=lists, objects="--json" in told)
+        return Run(name, "nvq", given, err=err, before=more, model=model, rounds=1 + model.objects)
 
     def not_ran(name, line, *given, hint="", **more):
         return Run(name, "nvq", ["run", "--nsze", "32", "--workers", "1", *given], 1, err=told(f"nvq: {line}", hint), **more)
@@ -216,6 +217,7 @@ def runs(folder):
         fault("numbers of no namespace to generate for", "geometry: Size", "generate", "--nsze", "0", "out", hint=GEOMETRY["Size"]),
         ran("lists that are run", [plain, file_of([read(0, 2), dataset((0, 1))])]),
         ran("a list that is run and a record before", [plain], **{Recording.name: b"old"}),
+        ran("lists that are run and told as objects", [plain, file_of([read(0, 2), dataset((0, 1))])], "--json"),
         Run("what lists expect", "nvq", ["run", "--nsze", "32", "--workers", "1", "--check", expecting], 2, out=UNMET, units=4),
         not_ran("wrong lines of a run", f"{several}: line 1: {NO_COMMAND}", several, hint=the_line("walk", f"line 2: {NO_COMMAND}")),
         not_ran("a wrong expectation", f"{unexpected}: line 1: expected a status after expect, as in 2/85", unexpected, hint=the_line("read 0 1 expect 2")),

@@ -8,7 +8,7 @@ _nvq() {
     fi
     case ${COMP_WORDS[1]} in
     run)
-        options="--nsze --block --nabsn --nabo --nawun --nacwu --workers --limit --record --check -h --help"
+        options="--nsze --block --nabsn --nabo --nawun --nacwu --workers --limit --record --check --json -h --help"
         valued="--nsze --block --nabsn --nabo --nawun --nacwu --workers --limit --record"
         ;;
     generate)

@@ -9,4 +9,5 @@ pub mod Generated
 pub mod Listed
 pub mod Ran
 pub mod RunFaults
+pub mod ToldRun
 pub mod Words

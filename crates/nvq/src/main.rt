@@ -27,6 +27,7 @@ mod namespace_words;
 mod read_list;
 mod running;
 mod running_words;
+mod told_run;
 mod tracing;
 mod words;
 

@@ -9,6 +9,7 @@ ghost use Rattle.nvq.specs.declared.fault.Fault.TheVariants.{NoMemory};
 ghost use Rattle.nvq.specs.Expecting.{IsStatusOfRun};
 ghost use Rattle.nvq.specs.Files.{IsWriteFault};
 ghost use Rattle.nvq.specs.Ran.{AreFilesOf, IsFileOf, IsToldFault, fault_of_run};
+ghost use Rattle.nvq.specs.ToldRun.{IsToldRun};
 ghost use Rattle.nvq.specs.RunFaults.{FitNames, IsKeepingFault, IsLineFault, IsListsFault, IsNamesFault, IsSettingsOf};
 
 use crate::checked::{Checked, checked_of, status_of};
@@ -19,8 +20,9 @@ use crate::list_failure::of_commands;
 use crate::namespace_words::NamespaceWords;
 use crate::read_list::{ReadList, read_lists, texts_of};
 use crate::running_words::RunWords;
+use crate::told_run::ToldRun;
 use nvm_engine::{Fault as RunFault, Settings, Shown, Workers, execute_watched};
-use nvm_front::{FileFault, Output, Progress, STANDARD, is_input};
+use nvm_front::{FileFault, Output, Progress, STANDARD, Telling, is_input};
 use nvm_list::{ListFault, assemble};
 use nvm_record::{BlockSize, Payload};
 use std::alloc::{AllocError, Global};
@@ -35,9 +37,9 @@ const IDLE: &str = "nvq: the lists have no command";
 /// What is said where they have commands, and no expectation that could be checked.
 const UNCHECKED: &str = "nvq: the lists have no expectation";
 
-/// Does the commands of the lists, keeps the record where that is asked for, and writes the lines to standard output. After a
-/// fault before the first line nothing is written. The room of standard output is taken first, so that no memory is wanted for
-/// the lines once the record stands.
+/// Does the commands of the lists, keeps the record where that is asked for, and writes the lines to standard output, or the objects
+/// where these are asked for. After a fault before the first line nothing is written. The room of standard output is taken first, so
+/// that no memory is wanted for the lines once the record stands.
 ///
 /// The exit status is 0, or 2 if the expectations of the lists are checked and one isn't met.
 pub fn run_lists<R: AllocGlobal + Files + Input + Print + Eprint + Threads + Wait + Sync>(
@@ -54,15 +56,15 @@ pub fn run_lists<R: AllocGlobal + Files + Input + Print + Eprint + Threads + Wai
     let mut texts = texts_of(rt.alloc(), lists.as_slice())?;
     let files = files_of(rt.alloc(), words.namespace.size, lists.as_slice())?;
     let settings = settings_of(rt, words);
-    let shown = shown_of(rt, &settings, files.as_slice(), progress)?;
-    let checked = checked_of(rt.alloc(), words.check, &shown, lists.as_slice())?;
+    let told = told_of(rt, words.telling, &settings, files.as_slice(), progress)?;
+    let checked = checked_of(rt.alloc(), words.check, &told.shown, lists.as_slice())?;
     if let Some(path) = &words.record {
-        keep(rt, path.as_str(), shown.record(), progress)?;
+        keep(rt, path.as_str(), told.shown.record(), progress)?;
     }
     progress.clear();
-    match print(output, &shown, &mut texts, &checked) {
+    match print(output, &told, &mut texts, &checked) {
         Ok(()) => {
-            tell_if_idle(rt, &shown, &checked);
+            tell_if_idle(rt, &told.shown, &checked);
             Ok(status_of(&checked))
         }
         Err(fault) => Err(unmade(rt.alloc(), STANDARD, fault)),
@@ -218,6 +220,23 @@ fn processors<R: Threads>(rt: &R) -> Workers {
     }
 }
 
+/// Does the commands of the host files of lists, and makes the objects where these are told.
+fn told_of<R: AllocGlobal + Eprint + Threads + Wait + Sync>(
+    rt: &R,
+    telling: Telling,
+    settings: &Settings,
+    files: &[Payload],
+    progress: &Progress<'_, R>,
+) -> Result<ToldRun, Failure>
+    requires { (texts : List (List ℕ)) × AreFilesOf settings.now.block texts files.now }
+    ensures told { IfOk result (IsToldRun telling settings.now files.now) }
+    ensures fault { IfErr result (λ failure. (first : FaultOfRun) × IsFirstRunFault settings.now files.now first
+        × (failure.fault ≡ fault_of_run first)) }
+{
+    let shown = shown_of(rt, settings, files, progress)?;
+    Ok(ToldRun::of(rt, telling, shown, progress)?)
+}
+
 /// Does the commands of the host files of lists, and says what helps where that can't be.
 fn shown_of<R: AllocGlobal + Eprint + Threads + Wait + Sync>(
     rt: &R,
@@ -278,14 +297,17 @@ fn told(fault: RunFault) -> Fault
     }
 }
 
-/// Writes the lines, and what is said of expectations.
+/// Writes the lines, or the objects where these are told, and what is said of expectations.
 fn print<R: Files + Print + Eprint>(
     mut output: Output<'_, R>,
-    shown: &Shown,
+    told: &ToldRun,
     lists: &mut [&[u8]],
     checked: &Option<Checked>,
 ) -> Result<(), FileFault> {
-    shown.write_long_text(&mut output, lists)?;
+    match &told.objects {
+        Some(objects) => output.write_all(objects.as_bytes())?,
+        None => told.shown.write_long_text(&mut output, lists)?,
+    }
     if let Some(checked) = checked {
         output.write_all(checked.text.as_bytes())?;
     }

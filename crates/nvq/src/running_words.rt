@@ -4,9 +4,9 @@ ghost use Rattle.std.specs.Prelude.{◌≤◌, IfOk, IfSome, length};
 use crate::namespace_words::{NamespaceWords, read_namespace, with_default, with_namespace};
 use clap::{Arg, ArgAction, ArgMatches, Command, Error};
 use nvm_engine::Workers;
-use nvm_front::{WordFault, number_given, number_option, owned};
+use nvm_front::{Telling, WordFault, number_given, number_option, owned, telling_of};
 use nvm_store::Limit;
-use std::alloc::Global;
+use std::alloc::{AllocError, Global};
 
 /// What the words of `nvq run` say: what the namespace is like, the numbers of the run, and the names of files.
 #[derive(Drop)]
@@ -19,6 +19,8 @@ pub struct RunWords {
     pub record: Option<String>,
     /// Whether what the lists expect is checked.
     pub check: bool,
+    /// Whether the run is told as lines, or as objects of JSON.
+    pub telling: Telling,
     /// The lists, host 1's first, at least one.
     pub lists: Vec<String>,
 }
@@ -55,6 +57,7 @@ pub fn read_run(alloc: Global, words: &ArgMatches<'_>) -> Result<Option<RunWords
         limit,
         record,
         check: words.get_flag("check"),
+        telling: telling_of(words),
         lists,
     }))
 }
@@ -71,6 +74,7 @@ pub fn run_command<'a>(alloc: Global) -> Result<Command<'a>, Error> {
         command
             .arg(record(alloc))?
             .arg(check(alloc))?
+            .arg(json(alloc)?)?
             .arg(lists(alloc))?,
     )
 }
@@ -99,6 +103,16 @@ fn check<'a>(alloc: Global) -> Arg<'a> {
         .long("check")
         .action(ArgAction::SetTrue)
         .help("Checks what the lists expect, and ends with status 2 where that isn't met")
+}
+
+fn json<'a>(alloc: Global) -> Result<Arg<'a>, AllocError> {
+    Arg::new(alloc, "json")
+        .long("json")
+        .action(ArgAction::SetTrue)
+        .help(
+            "Prints an object of JSON for each command and for the verdict, one a line, for programs",
+        )
+        .conflicts_with("check")
 }
 
 fn lists<'a>(alloc: Global) -> Arg<'a> {

@@ -1,0 +1,4 @@
+pub mod LawfulDone
+pub mod Noting
+pub mod OneText
+pub mod Walking

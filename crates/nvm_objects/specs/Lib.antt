@@ -1,0 +1,4 @@
+pub mod CommandObject
+pub mod DoneJobs
+pub mod Objects
+pub mod Inside

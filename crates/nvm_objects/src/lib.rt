@@ -1,0 +1,12 @@
+//! The answers of a run as objects of JSON, for programs.
+//!
+//! [`record_objects`] makes a text of a run's record: an object for each command, one a line, in the order in which the lines of the
+//! run's text stand. [`laws`] say that a lawful record has one such text.
+#![tactic(auto)]
+
+mod command_object;
+mod done_jobs;
+pub mod laws;
+mod objects;
+
+pub use objects::record_objects;
