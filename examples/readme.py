@@ -126,12 +126,24 @@ def tried():
         for it in wrong:
             print(it)
         passed, failed = passed + right, failed + len(wrong)
-    edits = len(glob.glob(os.path.join(TOP, "crates", "*", "must-fail", "*.edit")))
-    with open(os.path.join(TOP, "README.md")) as page:
-        told = f"has {edits} deliberate errors" in page.read()
-    if not told:
-        print(f"README.md: there are {edits} edits that the prover must refuse")
+    told = edits_are_counted()
     return passed + told, failed + (not told)
+
+
+def edits_are_counted():
+    """Whether README.md says how many edits there are, and how many of them the gate tries."""
+    edits = len(glob.glob(os.path.join(TOP, "crates", "*", "must-fail", "*.edit")))
+    others, in_gate = glob.glob(os.path.join(TOP, "edits", "*", "*.edit")), 0
+    for path in others:
+        with open(path) as edit:
+            in_gate += edit.readline() == "gate: yes\n"
+    with open(os.path.join(TOP, "README.md")) as page:
+        text = page.read()
+    counted = (f"has {edits} deliberate errors", f"`edits/` {len(others)}, such", f"the {edits}, and {in_gate} of the others")
+    if not all(it in text for it in counted):
+        print(f"README.md: there are {edits} edits in must-fail and {len(others)} in edits/, of which the gate tries {in_gate}")
+        return False
+    return True
 
 
 if __name__ == "__main__":
