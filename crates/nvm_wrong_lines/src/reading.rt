@@ -28,7 +28,7 @@ fn wrong_from(alloc: Global, text: &[u8], size: BlockSize) -> Result<Vec<WrongLi
 {
     let mut wrong = Vec::new(alloc);
     let mut before = 0;
-    let mut line = 0;
+    let mut line: u64 = 0;
     let mut rest = Some(text);
     while let Some(bytes) = rest {
         let (text, after) = cut(bytes, b'\n');
