@@ -28,7 +28,7 @@ _nvq() {
         valued="--block"
         ;;
     audit)
-        options="--json -h --help"
+        options="--json --all -h --help"
         valued=""
         ;;
     witness)
