@@ -3,7 +3,7 @@ ghost use Rattle.std.specs.Prelude.{◌≡◌, IfOk, true};
 ghost use Rattle.nvm_space.specs.Ports.{IsPortOf};
 
 use nvm_geometry::Geometry;
-use nvm_space::{Port, Space, SpaceFault};
+use nvm_space::{Port, Space};
 use nvm_store::Limit;
 use std::alloc::Global;
 use std::test::Fail;
@@ -29,7 +29,9 @@ pub fn two_ports(alloc: Global) -> Result<(Space, Port, Port), Fail>
     ensures of { IfOk result (λ s. IsPortOf s.0 s.1 × IsPortOf s.0 s.2) }
     ensures versions { IfOk result (λ s. s.0.versions ≡ true) }
 {
-    let (space, mut ports) = Space::new(alloc, geometry()?, 2, limit()?)?;
+    let Ok((space, mut ports)) = Space::new(alloc, geometry()?, 2, limit()?) else {
+        return Err(Fail::new("there was no memory"));
+    };
     let Some(second) = ports.pop() else {
         return Err(Fail::new("there is no second port"));
     };

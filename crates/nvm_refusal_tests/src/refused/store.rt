@@ -1,6 +1,5 @@
 //! What is made of the blocks of a unit. The unit that is lent keeps its own.
-ghost use Rattle.std.specs.Prelude.{IfOk};
-ghost use Rattle.nvm_store.specs.Contents.{LiesAt};
+ghost use Rattle.std.specs.Prelude.{IfOk, OnOk};
 ghost use Rattle.nvm_store.specs.History.{IsLawfulHistory};
 ghost use Rattle.nvm_store.specs.Place.{place_at};
 
@@ -9,7 +8,7 @@ use crate::unit::write_of;
 use nvm_record::{BlockSize, NoMemory, Payload, ReadData, Status};
 use nvm_store::laws::{acts_and_looks, lawful_with_one_more};
 use nvm_store::{
-    Answer, Entry, History, Look, UnitBlocks, answer, apply, judge, judge_look, replay,
+    ActRef, Answer, Entry, History, Look, UnitBlocks, answer, apply, judge, judge_look, replay,
 };
 use std::alloc::Global;
 use std::test::Fail;
@@ -48,10 +47,12 @@ fn apply_makes_no_unit(rt: HostRuntime) -> Result<(), Fail> {
     Ok(())
 }
 
+/// A block that another unit shares isn't changed in place, so that takes memory.
 #[test]
 fn change_leaves_the_unit(rt: HostRuntime) -> Result<(), Fail> {
     let alloc = rt.alloc();
     let mut unit = UnitBlocks::zeroed(alloc, 0, 8, SIZE)?;
+    let shared = unit.share()?;
     let data = Payload::copy_of(alloc, &[0x41; BLOCK])?;
     let write = write_of(data.lend());
     if !unit.covers(write) || !judge(&unit, write).is_success() {
@@ -59,30 +60,41 @@ fn change_leaves_the_unit(rt: HostRuntime) -> Result<(), Fail> {
     }
     let changed = unit.change(alloc, write);
     let byte = if changed.is_ok() { 0x41 } else { 0 };
-    assert!(rt; has(&unit, byte));
+    assert!(rt; has(&unit, byte) && has(&shared, 0));
     assert_eq!(rt; changed, Ok(()));
     Ok(())
 }
 
-/// A history of one Write, of a block of 41h.
-fn one_write(alloc: Global) -> Result<History, Fail>
-    ensures { IfOk result (λ history. IsLawfulHistory (place_at 0 8 512) history.items) }
+/// Adds the act to a history of the unit, if it succeeds after the others.
+fn push(alloc: Global, size: BlockSize, history: &mut History, act: ActRef<'_>) -> Result<(), Fail>
+    requires { IsLawfulHistory (place_at 0 8 size) history.old.items }
+    ensures { OnOk result (IsLawfulHistory (place_at 0 8 size) history.new.items) }
 {
     lawful_with_one_more();
     acts_and_looks();
-    let mut history = Vec::with_capacity(alloc, 1)?;
-    let unit = replay(alloc, 0, 8, SIZE, &history)?;
-    let data = Payload::copy_of(alloc, &[0x41; BLOCK])?;
-    let write = write_of(data.lend());
-    if !unit.covers(write) || !judge(&unit, write).is_success() {
-        return Err(Fail::new("the unit doesn't take the Write"));
+    let unit = replay(alloc, 0, 8, size, history)?;
+    if !unit.covers(act) {
+        return Err(Fail::new("the unit doesn't cover the act"));
     }
-    let act = write.to_act(alloc)?;
+    if !judge(&unit, act).is_success() {
+        return Err(Fail::new("the act fails"));
+    }
+    let act = act.to_act(alloc)?;
     history.push(Entry {
         pass: 0,
         job: 0,
         act,
     })?;
+    Ok(())
+}
+
+/// The history of a Write of a block of 41h.
+fn one_write(alloc: Global) -> Result<History, Fail>
+    ensures { IfOk result (λ history. IsLawfulHistory (place_at 0 8 512) history.items) }
+{
+    let data = Payload::copy_of(alloc, &[0x41; BLOCK])?;
+    let mut history = Vec::new(alloc);
+    push(alloc, SIZE, &mut history, write_of(data.lend()))?;
     Ok(history)
 }
 

@@ -28,5 +28,5 @@ popped space ports middle rest first second all last before =
 
 pub returns-clause-of : goal.returns-clause-of
 returns-clause-of c =
-    popped c.in-Ok-new.space _ _ _ c.in-Some-pop.first c.in-Some.second c.in-Ok-new.ensures.all c.in-Some.ensures.items
+    popped c.in-Ok.space _ _ _ c.in-Some-pop.first c.in-Some.second c.in-Ok.ensures.all c.in-Some.ensures.items
     c.in-Some-pop.ensures.items

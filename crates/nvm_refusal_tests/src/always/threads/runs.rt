@@ -1,4 +1,5 @@
 //! A run of two jobs, whose record is audited.
+ghost use Rattle.std.specs.Prelude.{IfOk};
 ghost use Rattle.nvm_audit.specs.declared.version.Version.TheVariants.{Two};
 ghost use Rattle.nvm_audit.specs.Recordable.{HoldsBody};
 
@@ -6,13 +7,21 @@ use crate::job::{pair_of, single};
 use crate::namespace::{BLOCK, geometry, limit};
 use nvm_audit::{Record, Verdict, audit};
 use nvm_plan::{Job, fits};
-use nvm_record::{Op, Payload};
+use nvm_record::{NoMemory, Op, Payload};
 use nvm_run::{RunFault, run};
 use nvm_unit::Open;
 use std::alloc::Global;
 use std::sync::Wait;
 use std::test::Fail;
 use std::thread::Threads;
+
+/// Host 2's Write of 4 blocks of 42h, over two units.
+fn write_of_four(alloc: Global) -> Result<Job, NoMemory>
+    ensures { IfOk result (λ job. HoldsBody Two job.body) }
+{
+    let data = Payload::new(alloc, vec![in alloc; 0x42; 4 * BLOCK]?)?;
+    Ok(single(2, Op::Write, 6, 3, data))
+}
 
 /// The record of the run of these two jobs by two workers.
 fn run_two<R: Threads + Wait + Sync>(
@@ -50,9 +59,8 @@ fn audited(
 #[test]
 fn a_run_gives_a_lawful_record_or_none(rt: HostRuntime) -> Result<(), Fail> {
     let alloc = rt.alloc();
-    let data = Payload::new(alloc, vec![in alloc; 0x42; 4 * BLOCK]?)?;
-    let write = single(2, Op::Write, 6, 3, data);
     let pair = pair_of(alloc, 0, 0x55)?;
+    let write = write_of_four(alloc)?;
     let told = audited(&rt, alloc, run_two(&rt, alloc, pair, write)?)?;
     let verdict = Verdict {
         jobs: 2,
