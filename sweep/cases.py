@@ -1,7 +1,8 @@
 """What is run, and what must stand at its end.
 
 A case has `whole`, which looks at a run with nothing refused, and `refused`, which looks at one with
-growths refused: it says in a word how that ended. Both raise ValueError where it is no right end.
+growths refused: it says in a word how that ended. Both raise ValueError where it is no right end. And it has `amiss`,
+which looks at the words of all its runs.
 """
 
 import os
@@ -22,6 +23,8 @@ GIVEN_FOR_MEMORY = re.compile(r'"(nvmu|nvq|unit_bench): no memory"|(Err|Some)\((
 
 # How a run is called that had the memory for its commands, and none for a thread.
 WITHOUT_A_THREAD = "without a thread"
+# How a test ended that was left by `?`, or in which an assertion showed that a call wanted memory, or neither.
+LEFT, CALL_REFUSED, PASSED = "no memory", "by the call", "passed"
 
 
 @dataclass
@@ -160,6 +163,12 @@ class Run:
             raise ValueError(f"{wants} commands want memory, where {refusals} growths were refused")
         return "with 0/06" if wants else without
 
+    def amiss(self, ends):
+        """What is wrong of the ends of all runs together, which are counted by their words, or None."""
+        if ends[WITHOUT_A_THREAD] <= self.thread_growths():
+            return None
+        return f"{ends[WITHOUT_A_THREAD]} runs had no memory for a thread, of which there are {self.thread_growths()}"
+
 
 @dataclass
 class Test:
@@ -190,15 +199,53 @@ class Test:
         return end.status == 0 and end.out.endswith("test result: ok\n") and not end.err
 
     def refused(self, end, whole, refusals):
+        ended = self.ended(end)
+        return ended if ended == PASSED else LEFT
+
+    def ended(self, end):
+        """How it ended in a word: it passed, it was left by `?` for want of memory, or an assertion shows that a call wanted it."""
         if self.is_passed(end):
-            return "passed"
+            return PASSED
         error = re.match(r"error: .*\b(AllocError|AllocFailed|NoMemory|OutOfMemory)\b.*\n.*\n\Z", end.err)
         if error and end.status == 101:
-            return "no memory"
+            return LEFT
         if end.status == 101 and re.match(r'(error: ")?there was no memory"?\n', end.err):
-            return "no memory"
+            return LEFT
         sides = re.search(r"^ *left: (.*)\n *right: (.*)$", end.err, re.M)
         if sides and end.status == -signal.SIGABRT:
             if GIVEN_FOR_MEMORY.fullmatch(sides[1]):
-                return "no memory"
+                return CALL_REFUSED
         raise ValueError("the test fails by something else than want of memory")
+
+    def amiss(self, ends):
+        """What is wrong of the ends of all runs together, which are counted by their words, or None."""
+        return None
+
+
+@dataclass
+class RefusalTest(Test):
+    """A test of nvm_refusal_tests, by whose end one can tell whether a call owned up to a refusal.
+
+    It makes its own things first, and leaves by `?` where there is no memory for one. Then it makes its call, and an assertion shows
+    what that gave. So it can't pass where a growth was refused, unless the call answered success in place of want of memory: that is wrong.
+    Only in the module `always` it may pass, since the call can do without what it asked for, as an audit without a thread. At least
+    one refusal has to come to the call.
+
+    In the module `no_memory` the calls take no memory. Then each growth is one for the test's own things, and it has to be left by `?`
+    wherever one is refused: neither may it pass, nor may a call want memory."""
+
+    def is_in(self, module):
+        return module in self.name.split("::")
+
+    def refused(self, end, whole, refusals):
+        ended = self.ended(end)
+        if ended == PASSED and not self.is_in("always"):
+            raise ValueError("the test passes, though a growth was refused")
+        if ended == CALL_REFUSED and self.is_in("no_memory"):
+            raise ValueError("a call takes memory")
+        return ended
+
+    def amiss(self, ends):
+        if not self.is_in("no_memory") and not ends[CALL_REFUSED]:
+            return "no refusal came to the call"
+        return None

@@ -1,0 +1,2 @@
+//! Calls that may succeed though a growth of theirs is refused: they do without a thread then.
+mod threads;
