@@ -33,7 +33,6 @@ mod words;
 
 use crate::argument_drawing::run_draw_argument;
 use crate::auditing::{run_audit, run_audit_all, run_witness};
-use crate::auditing_words::AuditAsked;
 use crate::certifying::run_certify;
 use crate::conversion::{file_of, list_of};
 use crate::drawing::run_draw;
@@ -103,12 +102,10 @@ fn run<R: AllocGlobal + Files + Input + Print + Eprint + Threads + Wait + Sync>(
         Asked::List { size, file } => run_list(rt, size, file, progress)?,
         Asked::Run(words) => return run_lists(rt, &words, progress),
         Asked::Generate(words) => run_generate(rt, &words, progress)?,
-        Asked::Audit(AuditAsked::First { telling, record }) => {
-            return run_audit(rt, telling, record.as_str(), progress);
+        Asked::Audit(words) => {
+            return run_audit(rt, words.telling, words.record.as_str(), progress);
         }
-        Asked::Audit(AuditAsked::All { record }) => {
-            return run_audit_all(rt, record.as_str(), progress);
-        }
+        Asked::AuditAll(words) => return run_audit_all(rt, words.record.as_str(), progress),
         Asked::Witness(words) => {
             let (trace, record) = (words.trace.as_str(), words.record.as_str());
             return run_witness(rt, words.judging, trace, record, progress);

@@ -1,7 +1,7 @@
 ghost use Rattle.std.specs.Prelude.{IfOk, IfSome};
 ghost use Rattle.nvq.specs.Words.{IsAsked};
 
-use crate::auditing_words::{AuditAsked, auditing_command, read_audit_asked};
+use crate::auditing_words::auditing_command;
 use crate::certifying_words::{CertifyWords, certify_command, read_certify};
 use crate::drawing_words::{DrawWords, draw_command, read_draw};
 use crate::explaining_words::{ExplainWords, explain_command, read_explain};
@@ -9,8 +9,8 @@ use crate::generating_words::{GenerateWords, generate_command, read_generate};
 use crate::running_words::{RunWords, read_run, run_command};
 use clap::{Arg, ArgMatches, Command, Error};
 use nvm_front::{
-    VERSION, WitnessWords, WordFault, missing, number_option, read_witness, size_given,
-    witness_command,
+    AuditWords, VERSION, WitnessWords, WordFault, missing, number_option, read_audit, read_witness,
+    size_given, witness_command,
 };
 use nvm_record::BlockSize;
 use std::alloc::Global;
@@ -38,8 +38,10 @@ pub enum Asked {
     Run(RunWords),
     /// `nvq generate`: write the lists of a load.
     Generate(GenerateWords),
-    /// `nvq audit`: say whether a record is lawful, or what is wrong in it.
-    Audit(AuditAsked),
+    /// `nvq audit`: say whether a record is lawful.
+    Audit(AuditWords),
+    /// `nvq audit --all`: say whether it is, or all that is wrong in it.
+    AuditAll(AuditWords),
     /// `nvq witness`: say whether a record explains a trace.
     Witness(WitnessWords),
     /// `nvq certify`: say whether a record explains a trace, or why none does.
@@ -174,9 +176,13 @@ fn draw_asked(alloc: Global, words: &ArgMatches<'_>) -> Result<Option<Asked>, Wo
 fn audit_asked(alloc: Global, words: &ArgMatches<'_>) -> Result<Option<Asked>, WordFault>
     ensures { IfOk result (λ asked. IfSome asked IsAsked) }
 {
-    match read_audit_asked(alloc, words)? {
-        Some(audit) => Ok(Some(Asked::Audit(audit))),
-        None => Ok(None),
+    let Some(audit) = read_audit(alloc, words)? else {
+        return Ok(None);
+    };
+    if words.get_flag("all") {
+        Ok(Some(Asked::AuditAll(audit)))
+    } else {
+        Ok(Some(Asked::Audit(audit)))
     }
 }
 

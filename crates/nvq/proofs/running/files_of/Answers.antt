@@ -49,7 +49,7 @@ returns-in-Err-clause-fault c =
           let there : IsLineFault size (get_or paths place []) (get_or texts place []) fault =
           subst (λ (path : List ℕ). IsLineFault size path (get_or texts place []) fault) (sym path_is)
           (subst (λ (text : List ℕ). IsLineFault size it.path.now text fault) (sym text_is) here) in
-          inl (subst (λ (f : Fault). IsListsFault size paths texts f) (sym c.of_list.ensures)
+          inl (subst (λ (f : Fault). IsListsFault size paths texts f) (sym c.of_commands.ensures)
           (first_fault size place paths texts c.loop-list.files.items fault paths_low texts_low c.loop-list.invariant there))
-      | inr none ↦ inr (c.of_list.ensures ∙ none)
+      | inr none ↦ inr (c.of_commands.ensures ∙ none)
     ]
