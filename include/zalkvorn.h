@@ -64,7 +64,7 @@ enum zk_code {
     ZK_BAD_PORTS = 6,     /* There are no ports, or more than ZK_MOST_PORTS. */
     ZK_BAD_LIMIT = 7,     /* The limit is above ZK_MOST_CHANGES. */
     ZK_BAD_LENGTH = 8,    /* Entries, data or completions of another length than the command calls for. */
-    ZK_NO_PAIR = 9,       /* Two entries that are not a fused pair. */
+    ZK_NO_PAIR = 9,       /* Two entries of which the first hasn't FUSE 01b, the second hasn't 10b, or an opcode isn't served. */
     ZK_BUSY = 10,         /* A command is pending in the port. */
     ZK_IDLE = 11,         /* No command is pending in the port. */
     ZK_NEWER = 12,        /* Another port has changed the unit since this one has seen it. */
@@ -111,7 +111,7 @@ uint32_t zk_version(void);
  * of its past, so it can run for as long as you like.
  *
  * With a `limit` of 1 to ZK_MOST_CHANGES it is recorded: each port keeps each command that it did, with its data, what it read and
- * how it ended, for zk_record. Memory grows with each command. After ZK_MOST_JOBS of all ports together no more is kept, and
+ * how it ended, for zk_record. Memory grows with each command; a large limit reserves nothing. After ZK_MOST_JOBS of all ports together no more is kept, and
  * zk_record answers ZK_RECORD_FULL. Each atomic unit can be changed `limit` times; a command counts once in each unit that it
  * changes. A change beyond that ends with status 0/06, and the unit's blocks stay as they were.
  *
@@ -144,13 +144,15 @@ int zk_close(struct zk_port *port);
  * ZK_PENDING: the command stays in the port and nothing was written yet. The entries and data may be reused.
  * ZK_NOT_OPEN, ZK_BUSY, ZK_BAD_LENGTH, ZK_NO_PAIR, ZK_NO_MEMORY: nothing was done and nothing was written. The length of
  * the data is asked for before a command is checked, so apply the transfer limit of your controller first. An opcode that
- * is not served carries no data.
+ * is not served carries no data. Any two entries with FUSE 01b and 10b and served opcodes are a pair: what is wrong with it is in its
+ * statuses. The first of a pair by itself is a command with status 0/0a.
  * Threads: one call at a time on a port; ports of one namespace may be used at the same time. */
 int zk_submit(struct zk_port *port, const uint8_t *entries, size_t entries_length, uint8_t *data, size_t data_length,
               uint8_t *completions, size_t completions_length);
 
 /* Goes on with the command that is pending in the port. The buffers are as in zk_submit; those of a Read need at
- * least the room of its blocks, and any other command's data is not looked at.
+ * least the room of its blocks, and any other command's data is not looked at. A thread that has nothing else to do calls
+ * sched_yield() before it polls again: the port that holds the unit may not be running.
  * ZK_DONE and ZK_PENDING as in zk_submit. ZK_NOT_OPEN, ZK_IDLE, ZK_BAD_LENGTH: nothing was done, and a pending command
  * is still pending.
  * Threads: as zk_submit. */
@@ -232,7 +234,7 @@ int zk_refute(const uint8_t *trace, size_t trace_length, const uint8_t *argument
  * `nvq draw` read it.
  * ZK_DONE: the file stands in the front of `bytes`, and `*length` is how long it is.
  * ZK_SHORT_ROOM: the room is shorter than the file. `*length` is how long that is, and nothing else is written. So a first call with a
- * `room` of 0 asks for the length.
+ * `room` of 0 asks for the length; it takes as much time and memory as the call that gives the record.
  * ZK_NOT_OPEN, ZK_NO_RECORD, ZK_BUSY, ZK_RECORD_FULL: so it is with one of the ports. ZK_OTHER_PORTS: a port is missing, comes twice, stands
  * at another's place, or is of another namespace. ZK_NO_MEMORY: malloc refused. ZK_UNLAWFUL: what was gathered is no lawful record, which
  * no run should come to. After each of these nothing is written, nothing is lost, and it can be called again.
