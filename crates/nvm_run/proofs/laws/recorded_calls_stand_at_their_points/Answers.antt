@@ -1,4 +1,4 @@
-use Rattle.std.proofs.Common.{◌≡◌, ◌⊎◌, ℕ, List, true, ap, ◌∙◌, sym, subst, inl, inr, take}
+use Rattle.std.proofs.Common.{◌≡◌, ◌⊎◌, ℕ, List, true, ap, ◌∙◌, sym, inl, inr, take}
 use Rattle.nvm_record.specs.Lists.{IsAt}
 use Rattle.nvm_plan.specs.declared.part.PartResult.{PartResult}
 use Rattle.nvm_plan.specs.declared.part.PartResult.TheVariants.{Failed, Looked}
@@ -9,7 +9,8 @@ use Rattle.nvm_audit.specs.LawfulRecord.{IsLawfulRecord}
 use Rattle.nvm_audit.specs.RecordedCalls.{IsCallOfPart}
 use Rattle.nvm_audit.specs.RecordedPart.{RecordedPart, parts_in_unit}
 use Rattle.nvm_audit.specs.RecordView.{RecordView}
-use Rattle.nvm_audit.proofs.RecordRuns.{is_call, KeepsLooks, HasPart, CoversParts, ShapesByPlan}
+use Rattle.nvm_audit.proofs.OneActs.{KeepsLooks, HasPart, ShapesByPlan}
+use Rattle.nvm_audit.proofs.RecordRuns.{is_call, CoversParts}
 use Rattle.nvm_audit.proofs.RecordRuns as records
 use Rattle.nvm_run.proofs.laws.recorded_calls_stand_at_their_points.Goals as goal
 
