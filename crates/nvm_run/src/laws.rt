@@ -1,15 +1,26 @@
 //! Laws of the definitions alone.
-ghost use Rattle.std.specs.Prelude.{ℕ, ◌<◌, List, length};
+ghost use Rattle.std.specs.Prelude.{ℕ, ◌≡◌, ◌⊎◌, ◌<◌, List, length, take};
+ghost use Rattle.nvm_record.specs.Lists.{IsAt};
+ghost use Rattle.nvm_store.specs.Call.{Call};
+ghost use Rattle.nvm_store.specs.HistoryEntry.{HistoryEntry};
+ghost use Rattle.nvm_store.specs.PlacedRun.{HasItsAnswer, answers};
+ghost use Rattle.nvm_store.specs.Point.{point};
+ghost use Rattle.nvm_plan.specs.declared.part.PartResult.TheVariants.{Failed, Looked};
 ghost use Rattle.nvm_space.specs.Ports.{PortState};
-ghost use Rattle.nvm_space.specs.Shuffle.{AreLawfulHistories};
+ghost use Rattle.nvm_space.specs.Shuffle.{AreLawfulHistories, IsShuffle, StandsAtItsPoint, entries_of_unit};
 ghost use Rattle.nvm_space.specs.Spaces.{SpaceName};
 ghost use Rattle.nvm_audit.specs.LawfulRecord.{IsLawfulRecord};
+ghost use Rattle.nvm_audit.specs.RecordedCalls.{IsCallOfPart};
+ghost use Rattle.nvm_audit.specs.RecordedPart.{RecordedPart, parts_in_unit};
 ghost use Rattle.nvm_audit.specs.RecordView.{RecordView};
 ghost use Rattle.nvm_run.specs.Claims.{ClaimState, IsClaims, opening_claims, Draws, IsReached, HaveEnded, AreDoneOnce};
 ghost use Rattle.nvm_run.specs.Gathered.{IsGathered};
 
 use crate::shown::{done_reads_are_whole, parts_show_what_was_done};
+use nvm_geometry::laws::parts_keep_their_kind;
+use nvm_plan::laws::{parts_of_jobs, shapes_by_plan};
 use nvm_record::laws::success_is_told_alike;
+use nvm_space::laws::calls_keep_their_answers;
 use nvm_store::laws::act_succeeds_unless_failed_pair;
 use nvm_unit::laws::{
     beginnings_of_beginnings_begin, changes_mark_their_points, changes_rest_on_their_points,
@@ -52,3 +63,25 @@ pub fn gathered_records_are_lawful()
 pub fn lawful_records_have_lawful_histories()
     ensures { (r : RecordView) → IsLawfulRecord r → AreLawfulHistories r.namespace r.units }
 {}
+
+/// Each part of a lawful record that looked, or whose pair failed, is a call that stands at its point after any entries of which
+/// those of its unit are its history up to that point. So in each order of all units' entries that keeps the order of each unit it has
+/// the answer that is recorded of it, at each place that has just the unit's entries of its point before it.
+pub fn recorded_calls_stand_at_their_points()
+    ensures stands { (r : RecordView) (unit k : ℕ) (history before : List HistoryEntry) (p : RecordedPart)
+        → IsLawfulRecord r → IsAt r.units unit history → IsAt (parts_in_unit unit r.done) k p
+        → (p.part.result ≡ Looked) ⊎ (p.part.result ≡ Failed)
+        → entries_of_unit r.namespace unit before ≡ take p.part.point history
+        → (call : Call) × IsCallOfPart r.namespace r.jobs p call × StandsAtItsPoint r.namespace r.units before call }
+    ensures answer { (r : RecordView) (unit k n : ℕ) (history all : List HistoryEntry) (p : RecordedPart)
+        → IsLawfulRecord r → IsShuffle r.namespace r.units all → IsAt r.units unit history
+        → IsAt (parts_in_unit unit r.done) k p → (p.part.result ≡ Looked) ⊎ (p.part.result ≡ Failed)
+        → entries_of_unit r.namespace unit (take n all) ≡ take p.part.point history
+        → (call : Call) × IsCallOfPart r.namespace r.jobs p call
+        × HasItsAnswer (answers call) (point r.namespace.block_size all n) }
+{
+    parts_keep_their_kind();
+    parts_of_jobs();
+    shapes_by_plan();
+    calls_keep_their_answers();
+}
