@@ -1,0 +1,2 @@
+-- What only the crate's own functions cite.
+pub mod Noted
