@@ -1,7 +1,6 @@
 -- A lawful record has one done job of each job.
 use Rattle.std.proofs.Common.{◌≡◌, nat_eq, cond, ℕ, zero, suc, ◌+◌, ◌<◌, ◌≤◌, List, [], ◌∷◌, Bool, true, false, length, take, get_or, refl, sym, ap, ◌∙◌, subst, inl, inr, arith}
 use Rattle.std.proofs.lemmas.Bool.{cases_lt, eq-eqb, eqb-true}
-use Rattle.std.proofs.lemmas.List.Elements.{All-get}
 use Rattle.std.proofs.lemmas.List.Sums.{sum_by-cons, sum_by-take-le}
 use Rattle.std.specs.List.{count_by, sum_by}
 use Rattle.nvm_record.specs.Lists.{IsAt}
@@ -65,7 +64,7 @@ module _ (number : ℕ) where
   one_of : (d : RecordedJob) → d.job ≡ number → 0 < one d
   unfolding one
   one_of d is =
-      let same : cond (nat_eq d.job number) 1 0 ≡ 1 = ap (λ (b : Bool). cond b 1 0) (eq-eqb d.job number is) in
+      let same : ◌≡◌ {A = ℕ} (cond (nat_eq d.job number) 1 0) 1 = ap (λ (b : Bool). cond b 1 0) (eq-eqb d.job number is) in
       omega (arith, same)
 
   of_one : (d : RecordedJob) → 0 < one d → d.job ≡ number
@@ -75,7 +74,7 @@ module _ (number : ℕ) where
       by : (b : Bool) → nat_eq d.job number ≡ b → d.job ≡ number
       by true e = eqb-true d.job number e
       by false e =
-          let none : cond (nat_eq d.job number) 1 0 ≡ 0 = ap (λ (b : Bool). cond b 1 0) e in
+          let none : ◌≡◌ {A = ℕ} (cond (nat_eq d.job number) 1 0) 0 = ap (λ (b : Bool). cond b 1 0) e in
           absurd (omega (arith, none, counts))
 
   -- A job that was done was done by some worker.
