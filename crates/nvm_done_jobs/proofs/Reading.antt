@@ -15,6 +15,20 @@ pub read_place : (done : List (List RecordedJob)) (places : List DonePlace) (num
 read_place done places number read d noted is =
     subst (λ (it : DonePlace). IsDonePlace done number it) (sym (is ∙ read_is places number noted.there d noted.noted)) noted.is
 
+pub placed_done : (done : List (List RecordedJob)) (places : List DonePlace) (number : ℕ) → IsNoted done places number
+    → (its : RecordedJob) × IsDoneJob done number its
+placed_done done places number noted = (
+  noted.is.its,
+  record {
+    number_is = noted.is.number_is;
+    worker = noted.there.worker;
+    work = noted.is.work;
+    place = noted.there.place;
+    by = noted.is.by;
+    there = noted.is.there;
+  },
+)
+
 -- of any lists that are seen as those of done jobs
 module _ {V : Type 0} (items : V → List RecordedJob) (vs : List V) (number : ℕ) (it : DonePlace) (is : IsDonePlace (map items vs) number it) where
   pub worker_below : it.worker < length vs

@@ -1,4 +1,4 @@
-use Rattle.std.proofs.Common.{◌≡◌, ◌≤◌, length, string_bytes, refl, sym, ap, ◌∙◌, subst, arith}
+use Rattle.std.proofs.Common.{◌≡◌, ◌≤◌, ◌<◌, List, length, string_bytes, refl, ap, ◌∙◌, subst, arith}
 use Rattle.nvm_record.specs.Lists.{IsAt}
 use Rattle.nvm_plan.specs.declared.job.Job.{Job}
 use Rattle.nvm_audit.specs.RecordView.{RecordView}
@@ -17,10 +17,29 @@ job-its-requires-clause-number c =
     omega (arith, c.loop-number-test.true, jobs)
 
 pub push_objects-requires : goal.push_objects-requires
-push_objects-requires c = ?
+push_objects-requires c =
+    let number = c.loop-number.number in
+    let job = c.index-jobs-number.result in
+    let jobs = c.as_slice-jobs.ensures.value ∙ ap (λ (r : RecordView). r.jobs) c.run.view_is in
+    c.job-its.ensures.statuses job
+    (subst (λ (js : List Job). IsAt js number job) jobs
+    (stands_read c.as_slice-jobs.result.now number job c.loop-number-test.true c.index-jobs-number.is))
 
 pub loop-number-preserved : goal.loop-number-preserved
-loop-number-preserved c = ?
+loop-number-preserved c =
+    let r = c.args.run.now in
+    let number = c.loop-number.number in
+    let job = c.index-jobs-number.result in
+    let jobs = c.as_slice-jobs.ensures.value ∙ ap (λ (r : RecordView). r.jobs) c.run.view_is in
+    one_walked objects_made tt r.jobs r.done number job c.job-its.result.now tt tt (string_bytes c.loop-number.text) (string_bytes c.push_objects.new.text)
+    (subst (λ (js : List Job). IsAt js number job) jobs
+    (stands_read c.as_slice-jobs.result.now number job c.loop-number-test.true c.index-jobs-number.is))
+    c.job-its.ensures.its c.loop-number.invariant refl c.in_ok-push_objects.ensures
 
 pub returns : goal.returns
-returns c = ?
+returns c =
+    let r = c.args.run.now in
+    let jobs = ap length c.as_slice-jobs.ensures.value ∙ ap (λ (r : RecordView). length r.jobs) c.run.view_is in
+    let past : length r.jobs ≤ c.loop-number.number = omega (arith, c.loop-number-test.false, jobs) in
+    let (its, were, are) = all_walked objects_made tt r.jobs r.done c.loop-number.number tt (string_bytes c.loop-number.text) past c.loop-number.invariant in
+    record { its = its; done = were; are = are }

@@ -1,15 +1,12 @@
-use Rattle.std.proofs.Common.{◌≡◌, ◌<◌, ◌≤◌, ◌*◌, ℕ, List, Fits, w64, length, map, get_or, sym, ap, ◌∙◌, subst, arith}
+use Rattle.std.proofs.Common.{◌≡◌, ◌≤◌, ℕ, List, length, map, get_or, sym, ap, ◌∙◌, subst, arith}
 use Rattle.std.proofs.lemmas.List.{length-map}
 use Rattle.nvm_record.specs.Lists.{IsAt}
 use Rattle.nvm_audit.specs.RecordView.{RecordView}
 use Rattle.nvm_audit.specs.RecordedJob.{RecordedJob}
 use Rattle.nvm_audit.specs.Shown.{shown_by}
 use Rattle.nvm_audit.proofs.Standing.{below}
-use Rattle.nvm_plan.specs.Shape.{IsForEach}
-use Rattle.nvm_plan.specs.declared.job.Job.{Job}
 use Rattle.nvm_done_jobs.specs.DoneJobs.{IsDoneJob}
 use Rattle.nvm_done_jobs.specs.DonePlaces.{IsDonePlace, IsNoted}
-use Rattle.nvm_done_jobs.specs.declared.done_jobs.DonePlace.{DonePlace}
 use Rattle.nvm_done_jobs.proofs.LawfulDone.{has_statuses}
 use Rattle.nvm_done_jobs.proofs.Reading.{done_job, place_below, read_place, worker_below}
 use Rattle.nvm_done_jobs.proofs.done_jobs.DoneJobs.job.Goals as goal
