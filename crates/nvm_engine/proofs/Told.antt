@@ -1,5 +1,5 @@
 -- What was told of jobs, by their done jobs, and the lines that it makes, one job after the other.
-use Rattle.std.proofs.Common.{◌≡◌, ℕ, ◌+◌, List, [], ◌∷◌, refl, ap, ◌∙◌}
+use Rattle.std.proofs.Common.{◌≡◌, ℕ, ◌+◌, List, [], ◌∷◌, refl}
 use Rattle.nvm_plan.specs.Completions.{completions_of}
 use Rattle.nvm_plan.specs.declared.completions.Completions.{Completions}
 use Rattle.nvm_plan.specs.declared.job.Job.{Job}

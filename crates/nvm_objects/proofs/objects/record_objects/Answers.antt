@@ -1,4 +1,4 @@
-use Rattle.std.proofs.Common.{◌≡◌, ◌≤◌, ◌<◌, List, length, string_bytes, refl, ap, ◌∙◌, subst, arith}
+use Rattle.std.proofs.Common.{◌≤◌, List, length, string_bytes, refl, ap, ◌∙◌, subst, arith}
 use Rattle.nvm_record.specs.Lists.{IsAt}
 use Rattle.nvm_plan.specs.declared.job.Job.{Job}
 use Rattle.nvm_audit.specs.RecordView.{RecordView}
