@@ -1,12 +1,9 @@
 pub mod Reading
-pub mod Noting
-pub mod Telling
-pub mod LawfulDone
+pub mod Told
+pub mod Writing
 pub mod OneText
 pub mod Printing
-pub mod LongTelling
 pub mod NamesApart
 pub mod NumberDigits
 pub mod NamesOfOutcomes
-pub mod JobAtHand
 pub mod LastLine

@@ -1,143 +1,25 @@
 -- A lawful record has one text.
-use Rattle.std.proofs.Common.{◌≡◌, nat_eq, cond, ℕ, zero, suc, ◌+◌, ◌<◌, ◌≤◌, List, [], ◌∷◌, Bool, length, refl, sym, ap, ◌∙◌, subst, arith}
-use Rattle.std.proofs.lemmas.Bool.{eq-eqb}
-use Rattle.std.proofs.lemmas.List.Sums.{sum_by-cons}
-use Rattle.std.specs.List.{count_by}
-use mathlib.Core.Option.{some-injective, some-ne-none}
-use Rattle.nvm_record.specs.Lists.{IsAt}
-use Rattle.nvm_plan.specs.Completions.{completions_of}
+use Rattle.std.proofs.Common.{◌≡◌, ℕ, List, refl, sym, ap, ◌∙◌}
 use Rattle.nvm_plan.specs.declared.completions.Completions.{Completions}
-use Rattle.nvm_plan.specs.declared.job.Job.{Job}
-use Rattle.nvm_audit.specs.LawfulRecord.{times_done, IsLawfulRecord}
+use Rattle.nvm_audit.specs.LawfulRecord.{IsLawfulRecord}
 use Rattle.nvm_audit.specs.RecordedJob.{RecordedJob}
 use Rattle.nvm_audit.specs.RecordView.{RecordView}
+use Rattle.nvm_done_jobs.proofs.OneList.{all_done, all_done_once}
 use Rattle.nvm_engine.specs.Lines.{job_lines}
-use Rattle.nvm_engine.specs.RecordLines.{IsDoneJob, AreTold, IsTextOf}
-use Rattle.nvm_engine.proofs.LawfulDone.{by_worker, of_jobs}
-
-module _ (number : ℕ) where
-  one : RecordedJob → ℕ
-  one d = cond (nat_eq d.job number) 1 0
-
-  count : List RecordedJob → ℕ
-  count work = count_by (λ d. nat_eq d.job number) work
-
-  one_is : (d : RecordedJob) → d.job ≡ number → one d ≡ 1
-  unfolding one
-  one_is d is = ap (λ (b : Bool). cond b 1 0) (eq-eqb d.job number is)
-
-  count_more : (d : RecordedJob) (work : List RecordedJob) → count (d ∷ work) ≡ one d + count work
-  unfolding one count
-  count_more d work = sum_by-cons one d work
-
-  times_more : (work : List RecordedJob) (done : List (List RecordedJob)) → times_done number (work ∷ done) ≡ count work + times_done number done
-  unfolding count
-  times_more work done = sum_by-cons count work done
-
-  -- What stands there is counted.
-  counted : (work : List RecordedJob) (i : ℕ) (d : RecordedJob) → IsAt work i d → d.job ≡ number → 0 < count work
-  counted [] i d at is = absurd (some-ne-none d (sym at))
-  counted (y ∷ work) zero d at is =
-      let here : one y ≡ 1 = one_is y (ap (λ (x : RecordedJob). x.job) (some-injective y d at) ∙ is) in
-      omega (arith, count_more y work)
-  counted (y ∷ work) (suc i) d at is = let rest = counted work i d at is in omega (arith, count_more y work)
-
-  -- Where one is counted at most, one stands there at most.
-  same_in_work : (work : List RecordedJob) (i j : ℕ) (d e : RecordedJob) → count work ≤ 1 → IsAt work i d → IsAt work j e
-      → d.job ≡ number → e.job ≡ number → d ≡ e
-  same_in_work [] i j d e few at at' is is' = absurd (some-ne-none d (sym at))
-  same_in_work (y ∷ work) zero zero d e few at at' is is' = sym (some-injective y d at) ∙ some-injective y e at'
-  same_in_work (y ∷ work) zero (suc j) d e few at at' is is' =
-      let here : one y ≡ 1 = one_is y (ap (λ (x : RecordedJob). x.job) (some-injective y d at) ∙ is) in
-      let rest = counted work j e at' is' in
-      absurd (omega (arith, count_more y work))
-  same_in_work (y ∷ work) (suc i) zero d e few at at' is is' =
-      let here : one y ≡ 1 = one_is y (ap (λ (x : RecordedJob). x.job) (some-injective y e at') ∙ is') in
-      let rest = counted work i d at is in
-      absurd (omega (arith, count_more y work))
-  same_in_work (y ∷ work) (suc i) (suc j) d e few at at' is is' =
-      same_in_work work i j d e (omega (arith, count_more y work)) at at' is is'
-
-  counted_in : (done : List (List RecordedJob)) (w i : ℕ) (work : List RecordedJob) (d : RecordedJob) → IsAt done w work → IsAt work i d
-      → d.job ≡ number → 0 < times_done number done
-  counted_in [] w i work d by at is = absurd (some-ne-none work (sym by))
-  counted_in (x ∷ done) zero i work d by at is =
-      let here = counted x i d (subst (λ (l : List RecordedJob). IsAt l i d) (sym (some-injective x work by)) at) is in
-      omega (arith, times_more x done)
-  counted_in (x ∷ done) (suc w) i work d by at is = let rest = counted_in done w i work d by at is in omega (arith, times_more x done)
-
-  same_in_done : (done : List (List RecordedJob)) (w v i j : ℕ) (work other : List RecordedJob) (d e : RecordedJob)
-      → times_done number done ≤ 1 → IsAt done w work → IsAt work i d → IsAt done v other → IsAt other j e
-      → d.job ≡ number → e.job ≡ number → d ≡ e
-  same_in_done [] w v i j work other d e few by at by' at' is is' = absurd (some-ne-none work (sym by))
-  same_in_done (x ∷ done) zero zero i j work other d e few by at by' at' is is' =
-      same_in_work x i j d e (omega (arith, times_more x done))
-      (subst (λ (l : List RecordedJob). IsAt l i d) (sym (some-injective x work by)) at)
-      (subst (λ (l : List RecordedJob). IsAt l j e) (sym (some-injective x other by')) at') is is'
-  same_in_done (x ∷ done) zero (suc v) i j work other d e few by at by' at' is is' =
-      let here = counted x i d (subst (λ (l : List RecordedJob). IsAt l i d) (sym (some-injective x work by)) at) is in
-      let rest = counted_in done v j other e by' at' is' in
-      absurd (omega (arith, times_more x done))
-  same_in_done (x ∷ done) (suc w) zero i j work other d e few by at by' at' is is' =
-      let here = counted x j e (subst (λ (l : List RecordedJob). IsAt l j e) (sym (some-injective x other by')) at') is' in
-      let rest = counted_in done w i work d by at is in
-      absurd (omega (arith, times_more x done))
-  same_in_done (x ∷ done) (suc w) (suc v) i j work other d e few by at by' at' is is' =
-      same_in_done done w v i j work other d e (omega (arith, times_more x done)) by at by' at' is is'
-
--- what is told of each job is one thing
-module _ (done : List (List RecordedJob)) (same : (number : ℕ) (d e : RecordedJob) → IsDoneJob done number d → IsDoneJob done number e → d ≡ e) where
-  told_alone : (number : ℕ) (jobs : List Job) (told other : List Completions) → AreTold done number jobs told → AreTold done number jobs other
-      → told ≡ other
-  told_alone number [] [] [] a b = refl
-  told_alone number [] [] (y ∷ ys) a b = absurd b
-  told_alone number [] (x ∷ xs) other a b = absurd a
-  told_alone number (job ∷ jobs) [] other a b = absurd a
-  told_alone number (job ∷ jobs) (x ∷ xs) [] a b = absurd b
-  told_alone number (job ∷ jobs) (x ∷ xs) (y ∷ ys) a b =
-      let its : a.0.its ≡ b.0.its = same number a.0.its b.0.its a.0.is b.0.is in
-      let first : x ≡ y =
-      a.0.completions ∙ ap (λ (d : RecordedJob). completions_of job d.statuses d.payload) its ∙ sym b.0.completions in
-      let rest : xs ≡ ys = told_alone (number + 1) jobs xs ys a.1 b.1 in
-      cc
-
--- where each job was done there is what was told of it
-pub told_some : (done : List (List RecordedJob)) (number : ℕ) (jobs : List Job)
-    → ((k : ℕ) → k < length jobs → (d : RecordedJob) × IsDoneJob done (number + k) d)
-    → (told : List Completions) × AreTold done number jobs told
-told_some done number [] each = ([], tt)
-told_some done number (job ∷ jobs) each =
-    let zeroth : number + 0 ≡ number = omega arith in
-    let its = each 0 (omega arith) in
-    let rest =
-    told_some done (number + 1) jobs
-    (λ k lt.
-    let next : number + suc k ≡ number + 1 + k = omega arith in
-    let more = each (suc k) (omega arith) in
-    (more.0, subst (λ (n : ℕ). IsDoneJob done n more.0) next more.1)) in (
-      completions_of job its.0.statuses its.0.payload ∷ rest.0,
-      (record { its = its.0; is = subst (λ (n : ℕ). IsDoneJob done n its.0) zeroth its.1; completions = refl }, rest.1),
-    )
+use Rattle.nvm_engine.specs.RecordLines.{IsTextOf}
+use Rattle.nvm_engine.proofs.Printing.{text_of}
+use Rattle.nvm_engine.proofs.Told.{told_of, were_told}
 
 module _ (r : RecordView) (lawful : IsLawfulRecord r) where
-  same_done : (number : ℕ) (d e : RecordedJob) → IsDoneJob r.done number d → IsDoneJob r.done number e → d ≡ e
-  same_done number d e a b =
-      let low : number < length r.jobs =
-      subst (λ (n : ℕ). n < length r.jobs) a.number_is (of_jobs r lawful a.worker a.work a.place d a.by a.there) in
-      let once = lawful.once number low in
-      same_in_done number r.done a.worker b.worker a.place b.place a.work b.work d e (omega arith) a.by a.there b.by b.there a.number_is b.number_is
-
   pub text_alone : (text other : List ℕ) → IsTextOf r text → IsTextOf r other → text ≡ other
   text_alone text other a b =
-      a.lines ∙ ap (λ (told : List Completions). job_lines r.jobs told) (told_alone r.done same_done 0 r.jobs a.told b.told a.of b.of) ∙ sym b.lines
+      let (its, were, are) = were_told r.done 0 r.jobs a.told a.of in
+      let (again, also, same) = were_told r.done 0 r.jobs b.told b.of in
+      let told : a.told ≡ b.told =
+      are ∙ ap (λ (ds : List RecordedJob). told_of r.jobs ds) (all_done_once r lawful its again were also) ∙ sym same in
+      a.lines ∙ ap (λ (told : List Completions). job_lines r.jobs told) told ∙ sym b.lines
 
   pub text_some : (text : List ℕ) × IsTextOf r text
   text_some =
-      let told =
-      told_some r.done 0 r.jobs
-      (λ k lt.
-      let once = lawful.once k lt in
-      let same : k ≡ 0 + k = omega arith in
-      let its = by_worker k r.done (omega arith) in
-      (its.0, subst (λ (n : ℕ). IsDoneJob r.done n its.0) same its.1)) in
-      (job_lines r.jobs told.0, record { told = told.0; of = told.1; lines = refl })
+      let (its, were) = all_done r lawful in
+      (job_lines r.jobs (told_of r.jobs its), text_of r (job_lines r.jobs (told_of r.jobs its)) its were refl)

@@ -12,4 +12,3 @@ pub mod Shown
 pub mod Judged
 pub mod WitnessLine
 pub mod Witnessed
-pub mod Inside

@@ -1,22 +1,13 @@
 -- What is printed of a record: a line for each command, in the order of the jobs and not in that of the workers, each by what is
 -- recorded of the command's job.
 use Rattle.std.specs.Prelude.{◌≡◌, ℕ, ◌+◌, List, [], ◌∷◌}
-use Rattle.nvm_record.specs.Lists.{IsAt}
 use Rattle.nvm_plan.specs.Completions.{completions_of}
 use Rattle.nvm_plan.specs.declared.completions.Completions.{Completions}
 use Rattle.nvm_plan.specs.declared.job.Job.{Job}
 use Rattle.nvm_audit.specs.RecordedJob.{RecordedJob}
 use Rattle.nvm_audit.specs.RecordView.{RecordView}
+use Rattle.nvm_done_jobs.specs.DoneJobs.{IsDoneJob}
 use Rattle.nvm_engine.specs.Lines.{job_lines}
-
--- Some worker did the job of this number so. In a lawful record that is one done job, since each job is done once.
-pub record IsDoneJob (done : List (List RecordedJob)) (number : ℕ) (its : RecordedJob) : Type 0 where
-  pub number_is : its.job ≡ number
-  pub worker : ℕ
-  pub work : List RecordedJob
-  pub place : ℕ
-  pub by : IsAt done worker work
-  pub there : IsAt work place its
 
 -- This was told of the job of this number: its completions, by the statuses and the data that are recorded of it.
 pub record IsTold (done : List (List RecordedJob)) (number : ℕ) (job : Job) (told : Completions) : Type 0 where

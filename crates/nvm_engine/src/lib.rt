@@ -18,7 +18,6 @@ mod long_text;
 mod record_text;
 mod settings;
 mod shown;
-mod standing;
 mod status_names;
 mod verdict_line;
 mod verdict_object;

@@ -1,91 +1,60 @@
 //! What is printed of a record beside the command lists of its run.
-ghost use Rattle.std.specs.Prelude.{◌≡◌, ℕ, ◌<◌, List, OnErr, OnOk, length, map};
+ghost use Rattle.std.specs.Prelude.{◌≡◌, ℕ, List, OnErr, OnOk};
 ghost use Rattle.std.specs.Io.KnownBytes.{Appends};
 ghost use Rattle.nvm_write.specs.Handed.{TakesFront};
-ghost use Rattle.nvm_audit.specs.LawfulRecord.{IsLawfulRecord};
 ghost use Rattle.nvm_audit.specs.Verdict.{IsVerdict};
 ghost use Rattle.nvm_plan.specs.Completions.{completions_of};
 ghost use Rattle.nvm_plan.specs.Shape.{IsForEach};
-ghost use Rattle.nvm_engine.specs.Inside.Standings.{AreAllNoted, IsNoted, HaveStatuses};
+ghost use Rattle.nvm_done_jobs.specs.DonePlaces.{AreDonePlaces};
 ghost use Rattle.nvm_engine.specs.LongLines.{behind_body, lists_say, long_body};
 ghost use Rattle.nvm_engine.specs.LongText.{AreLongLinesOf, IsLongTextOf};
 
 use crate::long_line::{take_said, write_long_line};
-use crate::standing::{Standing, done_job};
 use crate::verdict_line::write_lawful;
-use nvm_audit::{DoneJob, Record, Verdict};
-use nvm_plan::laws::each_command_has_a_status;
+use nvm_audit::{Record, Verdict};
+use nvm_done_jobs::DoneJobs;
 use nvm_plan::{Body, Job};
 use nvm_record::{ReadData, Statuses};
 use std::io;
 use std::io::Write;
 
-/// Writes the text of a record beside the command lists of its run, and the line of its verdict. `found` says where the done job
-/// of each job stands.
+/// Writes the text of a record beside the command lists of its run, and the line of its verdict. `found` has the done job of each
+/// job.
 pub(crate) fn write_long_record<W: Write>(
     writer: &mut W,
     run: &Record,
-    found: &[Standing],
+    found: &DoneJobs,
     lists: &mut [&[u8]],
     verdict: Verdict,
 ) -> io::Result<()>
-    requires lawful { IsLawfulRecord run.now }
-    requires found { AreAllNoted run.now found.now }
+    requires found { AreDonePlaces run.now found.now }
     requires counted { IsVerdict run.now verdict }
     ensures whole { OnOk result ((text : List ℕ) × IsLongTextOf (lists_say lists.old) run.now text
         × Appends (W.contents writer.old) (W.contents writer.new) text) }
     ensures front { OnErr result ((text : List ℕ) × IsLongTextOf (lists_say lists.old) run.now text
         × TakesFront (W.contents writer.old) (W.contents writer.new) text) }
 {
-    write_long_jobs(writer, run, found, lists)?;
+    write_long_lines(writer, run, found, lists)?;
     write_lawful(writer, verdict)
 }
 
 /// Writes the lines of a record's commands, in the order of the jobs, and under each what its list says and the name of its
 /// status.
-fn write_long_jobs<W: Write>(
+fn write_long_lines<W: Write>(
     writer: &mut W,
     run: &Record,
-    found: &[Standing],
+    found: &DoneJobs,
     lists: &mut [&[u8]],
 ) -> io::Result<()>
-    requires lawful { IsLawfulRecord run.now }
-    requires found { AreAllNoted run.now found.now }
+    requires { AreDonePlaces run.now found.now }
     ensures whole { OnOk result ((text : List ℕ) × AreLongLinesOf (lists_say lists.old) run.now.jobs run.now.done text
         × Appends (W.contents writer.old) (W.contents writer.new) text) }
     ensures front { OnErr result ((text : List ℕ) × AreLongLinesOf (lists_say lists.old) run.now.jobs run.now.done text
         × TakesFront (W.contents writer.old) (W.contents writer.new) text) }
 {
-    each_command_has_a_status();
-    write_long_lines(
-        writer,
-        run.jobs.as_slice(),
-        run.done.as_slice(),
-        found,
-        lists,
-    )
-}
-
-/// Writes the lines of the jobs, in their order, each by the done job to which `found` points.
-fn write_long_lines<W: Write>(
-    writer: &mut W,
-    jobs: &[Job],
-    done: &[Vec<DoneJob>],
-    found: &[Standing],
-    lists: &mut [&[u8]],
-) -> io::Result<()>
-    requires found { (number : ℕ) → number < length jobs.now
-        → IsNoted (map (λ work. work.items) done.now) found.now number }
-    requires statuses { HaveStatuses jobs.now (map (λ work. work.items) done.now) }
-    ensures whole { OnOk result ((text : List ℕ)
-        × AreLongLinesOf (lists_say lists.old) jobs.now (map (λ work. work.items) done.now) text
-        × Appends (W.contents writer.old) (W.contents writer.new) text) }
-    ensures front { OnErr result ((text : List ℕ)
-        × AreLongLinesOf (lists_say lists.old) jobs.now (map (λ work. work.items) done.now) text
-        × TakesFront (W.contents writer.old) (W.contents writer.new) text) }
-{
+    let jobs = run.jobs.as_slice();
     for (number, job) in jobs.iter().enumerate() {
-        let its = done_job(done, found[number]);
+        let its = found.job(run, number);
         write_long_job(writer, job, its.statuses, &its.payload, lists)?;
     }
     Ok(())

@@ -3,7 +3,6 @@ ghost use Rattle.std.specs.Io.KnownBytes.{Appends};
 ghost use Rattle.nvm_write.specs.Handed.{TakesFront};
 ghost use Rattle.nvm_audit.specs.LawfulRecord.{IsLawfulRecord};
 ghost use Rattle.nvm_audit.specs.Recordable.{IsRecordable};
-ghost use Rattle.nvm_engine.specs.Inside.Standings.{AreAllNoted};
 ghost use Rattle.nvm_engine.specs.LongLines.{lists_say};
 ghost use Rattle.nvm_engine.specs.LongText.{IsLongTextOf};
 ghost use Rattle.nvm_engine.specs.Printed.{IsPrintedOf};
@@ -11,9 +10,9 @@ ghost use Rattle.nvm_engine.specs.Printed.{IsPrintedOf};
 use crate::judging::verdict_of;
 use crate::long_text::write_long_record;
 use crate::record_text::write_record_text;
-use crate::standing::{Standing, standings};
 use crate::verdict_line::write_lawful;
 use nvm_audit::{Record, Verdict, Watcher};
+use nvm_done_jobs::DoneJobs;
 use nvm_record::NoMemory;
 use std::alloc::Global;
 use std::io;
@@ -30,8 +29,7 @@ use std::thread::Threads;
 #[derive(Debug, Drop)]
 pub struct Shown {
     run: Record,
-    /// Where the done job of each job stands.
-    found: Vec<Standing>,
+    found: DoneJobs,
     verdict: Verdict,
 }
 
@@ -39,13 +37,13 @@ impl Model for Shown {
     ghost use Rattle.nvm_audit.specs.LawfulRecord.{IsLawfulRecord};
     ghost use Rattle.nvm_audit.specs.RecordView.{RecordView};
     ghost use Rattle.nvm_audit.specs.Verdict.{IsVerdict};
-    ghost use Rattle.nvm_engine.specs.Inside.Standings.{AreAllNoted};
+    ghost use Rattle.nvm_done_jobs.specs.DonePlaces.{AreDonePlaces};
 
     ghost Value = { RecordView };
 
     ghost view = { λ s. s.run };
 
-    ghost invariant = { λ s. IsLawfulRecord s.run × AreAllNoted s.run s.found.items × IsVerdict s.run s.verdict };
+    ghost invariant = { λ s. IsLawfulRecord s.run × AreDonePlaces s.run s.found × IsVerdict s.run s.verdict };
 }
 
 impl Shown {
@@ -61,7 +59,7 @@ impl Shown {
         ensures held { IfOk result (λ shown. IsRecordable shown) }
     {
         let verdict = verdict_of(rt, alloc, &run, watcher)?;
-        let found = found_in(alloc, &run)?;
+        let found = DoneJobs::of(alloc, &run)?;
         Ok(Shown {
             run,
             found,
@@ -86,7 +84,7 @@ impl Shown {
         ensures front { OnErr result ((text : List ℕ) × IsPrintedOf self.now text
             × TakesFront (W.contents writer.old) (W.contents writer.new) text) }
     {
-        write_record_text(writer, &self.run, self.found.as_slice())?;
+        write_record_text(writer, &self.run, &self.found)?;
         write_lawful(writer, self.verdict)
     }
 
@@ -103,19 +101,6 @@ impl Shown {
         ensures front { OnErr result ((text : List ℕ) × IsLongTextOf (lists_say lists.old) self.now text
             × TakesFront (W.contents writer.old) (W.contents writer.new) text) }
     {
-        let found = self.found.as_slice();
-        write_long_record(writer, &self.run, found, lists, self.verdict)
+        write_long_record(writer, &self.run, &self.found, lists, self.verdict)
     }
-}
-
-/// Where the done job of each job of the record stands.
-fn found_in(alloc: Global, run: &Record) -> Result<Vec<Standing>, NoMemory>
-    requires { IsLawfulRecord run.now }
-    ensures found { IfOk result (λ found. AreAllNoted run.now found.items) }
-    ensures held { IsRecordable run.now }
-{
-    let jobs = run.jobs.as_slice();
-    let done = run.done.as_slice();
-    let found = standings(alloc, jobs.len(), done)?;
-    Ok(found)
 }

@@ -1,4 +1,2 @@
 pub mod Lines
-pub mod LawfulEnds
-pub mod Noting
-pub mod Walking
+pub mod ChecksMade

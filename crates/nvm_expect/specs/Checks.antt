@@ -1,6 +1,6 @@
 -- The expectations of lists, each beside the status with which its command ended. One is met where the two are the same. The
 -- commands of a host's list are done in their order, so each takes the next expectation of that list.
-use Rattle.std.specs.Prelude.{◌≡◌, ℕ, ◌-◌, List, [], ◌∷◌, ◌++◌, drop, Option, Some, None}
+use Rattle.std.specs.Prelude.{◌≡◌, ℕ, ◌-◌, List, [], ◌∷◌, ◌++◌, drop, map, Option, Some, None}
 use lib.ListN.{get_or, set}
 use Rattle.nvm_record.specs.declared.command.Command.{Command}
 use Rattle.nvm_record.specs.declared.status.Status.{Status}
@@ -9,8 +9,9 @@ use Rattle.nvm_record.specs.declared.status.Statuses.TheVariants.{One, Two}
 use Rattle.nvm_plan.specs.declared.job.Body.{Body}
 use Rattle.nvm_plan.specs.declared.job.Body.TheVariants.{Single, Pair}
 use Rattle.nvm_plan.specs.declared.job.Job.{Job}
+use Rattle.nvm_audit.specs.RecordedJob.{RecordedJob}
 use Rattle.nvm_audit.specs.RecordView.{RecordView}
-use Rattle.nvm_expect.specs.Ended.{AllEndedWith}
+use Rattle.nvm_done_jobs.specs.DoneJobs.{AreDone}
 use Rattle.nvm_expect.specs.declared.check.Check.{Check}
 
 -- what each command of a list expects, of each list, host 1's first
@@ -56,6 +57,6 @@ checks_of lists (job ∷ jobs) (statuses ∷ ended) =
 
 -- These are the expectations of the lists, beside the statuses that the record has.
 pub record AreChecksOf (lists : Lists) (r : RecordView) (checks : List Check) : Type 0 where
-  pub statuses : List Statuses
-  pub ended : AllEndedWith r.done 0 r.jobs statuses
-  pub are : checks ≡ checks_of lists r.jobs statuses
+  pub its : List RecordedJob
+  pub done : AreDone r.done 0 r.jobs its
+  pub are : checks ≡ checks_of lists r.jobs (map (λ d. d.statuses) its)

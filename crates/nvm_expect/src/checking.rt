@@ -1,17 +1,13 @@
 //! The expectations of lists beside what a run did.
-ghost use Rattle.std.specs.Prelude.{◌≡◌, ◌++◌, ◌<◌, ℕ, List, IfOk, OnOk, length, map};
+ghost use Rattle.std.specs.Prelude.{◌≡◌, ◌++◌, IfOk, OnOk, map};
 ghost use Rattle.nvm_audit.specs.LawfulRecord.{IsLawfulRecord};
 ghost use Rattle.nvm_plan.specs.Shape.{IsForEach};
-ghost use Rattle.nvm_record.specs.declared.status.Statuses.{Statuses as Ended};
 ghost use Rattle.nvm_expect.specs.Checks as spec;
 ghost use Rattle.nvm_expect.specs.Checks.{AreChecksOf};
-ghost use Rattle.nvm_expect.specs.Ended.{AllEndedWith, EndedWith};
-ghost use Rattle.nvm_expect.specs.Inside.Noted.{AreOfJobs, HaveStatuses};
 
 use crate::check::Check;
-use crate::ended::statuses_by_job;
-use nvm_audit::{DoneJob, Record};
-use nvm_plan::laws::each_command_has_a_status;
+use nvm_audit::Record;
+use nvm_done_jobs::DoneJobs;
 use nvm_plan::{Body, Job};
 use nvm_record::{Command, NoMemory, Status, Statuses};
 use std::alloc::Global;
@@ -27,32 +23,12 @@ pub fn checks(
     requires { IsLawfulRecord run.now }
     ensures { IfOk result (λ checks. AreChecksOf (map (λ list. list.now) lists.old) run.now checks.items) }
 {
-    each_command_has_a_status();
-    checks_of_jobs(alloc, run.jobs.as_slice(), run.done.as_slice(), lists)
-}
-
-/// The expectations of the jobs' commands.
-fn checks_of_jobs(
-    alloc: Global,
-    jobs: &[Job],
-    done: &[Vec<DoneJob>],
-    lists: &mut [&[Option<Status>]],
-) -> Result<Vec<Check>, NoMemory>
-    requires done { (number : ℕ) → number < length jobs.now
-        → (statuses : Ended) × EndedWith (map (λ work. work.items) done.now) number statuses }
-    requires numbers { AreOfJobs (length jobs.now) (map (λ work. work.items) done.now) }
-    requires statuses { HaveStatuses jobs.now (map (λ work. work.items) done.now) }
-    ensures { IfOk result (λ checks. (ended : List Ended)
-        × AllEndedWith (map (λ work. work.items) done.now) 0 jobs.now ended
-        × (checks.items ≡ spec.checks_of (map (λ list. list.now) lists.old) jobs.now ended)) }
-{
-    let found = statuses_by_job(alloc, jobs.len(), done)?;
+    let found = DoneJobs::of(alloc, run)?;
     let mut checks = Vec::new(alloc);
+    let jobs = run.jobs.as_slice();
     for (number, job) in jobs.iter().enumerate() {
-        match found[number] {
-            Some(statuses) => check_job(&mut checks, job, statuses, lists)?,
-            None => unreachable!("each job was done"),
-        }
+        let its = found.job(run, number);
+        check_job(&mut checks, job, its.statuses, lists)?;
     }
     Ok(checks)
 }

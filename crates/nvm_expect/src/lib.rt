@@ -8,7 +8,6 @@
 
 mod check;
 mod checking;
-mod ended;
 mod expected;
 mod fault;
 mod line;

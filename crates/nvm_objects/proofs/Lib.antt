@@ -1,4 +1,2 @@
-pub mod LawfulDone
-pub mod Noting
+pub mod ObjectsMade
 pub mod OneText
-pub mod Walking

@@ -1,4 +1,2 @@
 pub mod CommandObject
-pub mod DoneJobs
 pub mod Objects
-pub mod Inside

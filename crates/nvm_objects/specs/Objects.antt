@@ -7,8 +7,8 @@ use Rattle.nvm_plan.specs.declared.job.Body.TheVariants.{Single, Pair}
 use Rattle.nvm_plan.specs.declared.job.Job.{Job}
 use Rattle.nvm_audit.specs.RecordedJob.{RecordedJob}
 use Rattle.nvm_audit.specs.RecordView.{RecordView}
+use Rattle.nvm_done_jobs.specs.DoneJobs.{AreDone}
 use Rattle.nvm_objects.specs.CommandObject.{command_object}
-use Rattle.nvm_objects.specs.DoneJobs.{AreDone}
 
 -- A command by itself has the job's data, and the commands of a pair have none. Statuses that aren't of the body's commands have no
 -- object; a lawful record has none of these.

@@ -5,7 +5,6 @@
 #![tactic(auto)]
 
 mod command_object;
-mod done_jobs;
 pub mod laws;
 mod objects;
 

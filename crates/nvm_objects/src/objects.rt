@@ -1,18 +1,14 @@
 //! The objects of a record.
-ghost use Rattle.std.specs.Prelude.{◌≡◌, ◌++◌, ◌<◌, ℕ, List, IfOk, OnOk, length, map, string_bytes};
+ghost use Rattle.std.specs.Prelude.{◌≡◌, ◌++◌, IfOk, OnOk, string_bytes};
 ghost use Rattle.nvm_audit.specs.LawfulRecord.{IsLawfulRecord};
-ghost use Rattle.nvm_audit.specs.RecordedJob.{RecordedJob};
 ghost use Rattle.nvm_plan.specs.Shape.{IsForEach};
 ghost use Rattle.nvm_objects.specs.CommandObject.{command_object};
-ghost use Rattle.nvm_objects.specs.DoneJobs.{AreDone, IsDoneJob};
-ghost use Rattle.nvm_objects.specs.Inside.Noted.{AreOfJobs, HaveStatuses};
 ghost use Rattle.nvm_objects.specs.Objects as spec;
 ghost use Rattle.nvm_objects.specs.Objects.{AreObjectsOf};
 
 use crate::command_object::CommandObject;
-use crate::done_jobs::done_by_job;
 use nvm_audit::{DoneJob, Record};
-use nvm_plan::laws::each_command_has_a_status;
+use nvm_done_jobs::DoneJobs;
 use nvm_plan::{Body, Job};
 use nvm_record::{Command, NoMemory, ReadData, Status, Statuses};
 use std::alloc::Global;
@@ -26,27 +22,12 @@ pub fn record_objects(alloc: Global, run: &Record) -> Result<String, NoMemory>
     requires { IsLawfulRecord run.now }
     ensures { IfOk result (λ text. AreObjectsOf run.now (string_bytes text)) }
 {
-    each_command_has_a_status();
-    objects_of_jobs(alloc, run.jobs.as_slice(), run.done.as_slice())
-}
-
-/// The objects of the jobs' commands.
-fn objects_of_jobs(alloc: Global, jobs: &[Job], done: &[Vec<DoneJob>]) -> Result<String, NoMemory>
-    requires done { (number : ℕ) → number < length jobs.now
-        → (its : RecordedJob) × IsDoneJob (map (λ work. work.items) done.now) number its }
-    requires numbers { AreOfJobs (length jobs.now) (map (λ work. work.items) done.now) }
-    requires statuses { HaveStatuses jobs.now (map (λ work. work.items) done.now) }
-    ensures { IfOk result (λ text. (its : List RecordedJob)
-        × AreDone (map (λ work. work.items) done.now) 0 jobs.now its
-        × (string_bytes text ≡ spec.objects_of jobs.now its)) }
-{
-    let found = done_by_job(alloc, jobs.len(), done)?;
+    let found = DoneJobs::of(alloc, run)?;
     let mut text = String::new(alloc);
+    let jobs = run.jobs.as_slice();
     for (number, job) in jobs.iter().enumerate() {
-        match found[number] {
-            Some(its) => push_objects(&mut text, job, its)?,
-            None => unreachable!("each job was done"),
-        }
+        let its = found.job(run, number);
+        push_objects(&mut text, job, its)?;
     }
     Ok(text)
 }

@@ -1,36 +1,56 @@
-use Rattle.std.proofs.Common.{◌≡◌, List, map, sym, subst, ap}
-use Rattle.std.proofs.lemmas.Result.{IfOk-weaker}
-use Rattle.nvm_audit.specs.LawfulRecord.{IsLawfulRecord}
-use Rattle.nvm_audit.specs.RecordedJob.{RecordedJob}
+use Rattle.std.proofs.Common.{◌≤◌, List, length, map, rules, sym, ap, ◌∙◌, subst, arith}
+use Rattle.nvm_record.specs.Lists.{IsAt}
+use Rattle.nvm_record.specs.declared.status.Statuses.{Statuses}
+use Rattle.nvm_plan.specs.Shape.{IsForEach}
+use Rattle.nvm_plan.specs.declared.job.Job.{Job}
 use Rattle.nvm_audit.specs.RecordView.{RecordView}
-use Rattle.nvm_audit.specs.Shown.{shown_by}
-use Rattle.nvm_expect.specs.Checks.{Lists, AreChecksOf}
-use Rattle.nvm_expect.proofs.LawfulEnds.{each_ended, have_statuses, of_jobs}
-use Rattle.nvm_expect.proofs.Walking.{of_record}
+use Rattle.nvm_audit.specs.RecordedJob.{RecordedJob}
+use Rattle.nvm_audit.proofs.Places.{stands_read}
+use Rattle.nvm_done_jobs.specs.DoneJobs.{IsDoneJob}
+use Rattle.nvm_done_jobs.proofs.Walking.{all_walked, none_walked, one_walked}
+use Rattle.nvm_expect.specs.Checks.{Lists}
+use Rattle.nvm_expect.proofs.ChecksMade.{checks_made}
 use Rattle.nvm_expect.proofs.checking.checks.Goals as goal
 
-pub checks_of_jobs-requires-clause-done : goal.checks_of_jobs-requires-clause-done
-checks_of_jobs-requires-clause-done c =
-    rw (c.as_slice.ensures.value, c.as_slice-2.ensures.value)
-    (each_ended (shown_by c.run.inside) (subst IsLawfulRecord (sym c.run.view_is) c.requires))
+pub loop-number-init : goal.loop-number-init
+loop-number-init c =
+    let r = c.args.run.now in
+    none_walked checks_made (map (λ list. list.now) c.args.lists.now) r.jobs r.done c.new-checks.result.items (search rules)
 
-pub checks_of_jobs-requires-clause-numbers : goal.checks_of_jobs-requires-clause-numbers
-checks_of_jobs-requires-clause-numbers c =
-    rw (c.as_slice.ensures.value, c.as_slice-2.ensures.value)
-    (of_jobs (shown_by c.run.inside) (subst IsLawfulRecord (sym c.run.view_is) c.requires))
+pub job-its-requires-clause-number : goal.job-its-requires-clause-number
+job-its-requires-clause-number c =
+    let jobs = ap length c.as_slice-jobs.ensures.value ∙ ap (λ (r : RecordView). length r.jobs) c.run.view_is in
+    omega (arith, c.loop-number-test.true, jobs)
 
-pub checks_of_jobs-requires-clause-statuses : goal.checks_of_jobs-requires-clause-statuses
-checks_of_jobs-requires-clause-statuses c =
-    rw (c.as_slice.ensures.value, c.as_slice-2.ensures.value)
-    (have_statuses (shown_by c.run.inside) (subst IsLawfulRecord (sym c.run.view_is) c.requires) c.each_command_has_a_status.ensures.shape)
+pub check_job-requires : goal.check_job-requires
+check_job-requires c =
+    let number = c.loop-number.number in
+    let job = c.index-jobs-number.result in
+    let jobs = c.as_slice-jobs.ensures.value ∙ ap (λ (r : RecordView). r.jobs) c.run.view_is in
+    subst (λ (statuses : Statuses). IsForEach job.body statuses) (sym (ap (λ (d : RecordedJob). d.statuses) c.its.view_is))
+    (c.job-its.ensures.statuses job
+    (subst (λ (js : List Job). IsAt js number job) jobs
+    (stands_read c.as_slice-jobs.result.now number job c.loop-number-test.true c.index-jobs-number.is)))
+
+pub loop-number-preserved : goal.loop-number-preserved
+loop-number-preserved c =
+    let r = c.args.run.now in
+    let lists : Lists = map (λ list. list.now) c.args.lists.now in
+    let number = c.loop-number.number in
+    let job = c.index-jobs-number.result in
+    let jobs = c.as_slice-jobs.ensures.value ∙ ap (λ (r : RecordView). r.jobs) c.run.view_is in
+    one_walked checks_made lists r.jobs r.done number job _ (map (λ list. list.now) c.loop-number.lists) _ c.loop-number.checks.items _
+    (subst (λ (js : List Job). IsAt js number job) jobs
+    (stands_read c.as_slice-jobs.result.now number job c.loop-number-test.true c.index-jobs-number.is))
+    (subst (λ (d : RecordedJob). IsDoneJob r.done number d) (sym c.its.view_is) c.job-its.ensures.its)
+    c.loop-number.invariant c.in_ok-check_job.ensures.left c.in_ok-check_job.ensures.checks
 
 pub returns : goal.returns
 returns c =
+    let r = c.args.run.now in
     let lists : Lists = map (λ list. list.now) c.args.lists.now in
-    let done : List (List RecordedJob) = map (λ work. work.items) c.as_slice-2.result.now in
-    let same : done ≡ (shown_by c.run.inside).done = ap (map (λ work. work.items)) c.as_slice-2.ensures.value in
-    IfOk-weaker c.checks_of_jobs.result _ _
-    (λ v h.
-    subst (λ (r : RecordView). AreChecksOf lists r v.items) c.run.view_is
-    (of_record (shown_by c.run.inside) lists c.as_slice.result.now done v.items c.as_slice.ensures.value same h))
-    c.checks_of_jobs.ensures
+    let left : Lists = map (λ list. list.now) c.loop-number.lists in
+    let jobs = ap length c.as_slice-jobs.ensures.value ∙ ap (λ (r : RecordView). length r.jobs) c.run.view_is in
+    let past : length r.jobs ≤ c.loop-number.number = omega (arith, c.loop-number-test.false, jobs) in
+    let (its, were, are) = all_walked checks_made lists r.jobs r.done c.loop-number.number left c.loop-number.checks.items past c.loop-number.invariant in
+    record { its = its; done = were; are = are }

@@ -1,35 +1,45 @@
-use Rattle.std.proofs.Common.{◌≡◌, List, map, string_bytes, sym, subst, ap}
-use Rattle.std.proofs.lemmas.Result.{IfOk-weaker}
-use Rattle.nvm_audit.specs.LawfulRecord.{IsLawfulRecord}
-use Rattle.nvm_audit.specs.RecordedJob.{RecordedJob}
+use Rattle.std.proofs.Common.{◌≤◌, List, length, string_bytes, refl, ap, ◌∙◌, subst, arith}
+use Rattle.nvm_record.specs.Lists.{IsAt}
+use Rattle.nvm_plan.specs.declared.job.Job.{Job}
 use Rattle.nvm_audit.specs.RecordView.{RecordView}
-use Rattle.nvm_audit.specs.Shown.{shown_by}
-use Rattle.nvm_objects.specs.Objects.{AreObjectsOf}
-use Rattle.nvm_objects.proofs.LawfulDone.{each_done, have_statuses, of_jobs}
-use Rattle.nvm_objects.proofs.Walking.{of_record}
+use Rattle.nvm_audit.proofs.Places.{stands_read}
+use Rattle.nvm_done_jobs.proofs.Walking.{all_walked, none_walked, one_walked}
+use Rattle.nvm_objects.proofs.ObjectsMade.{objects_made}
 use Rattle.nvm_objects.proofs.objects.record_objects.Goals as goal
 
-pub objects_of_jobs-requires-clause-done : goal.objects_of_jobs-requires-clause-done
-objects_of_jobs-requires-clause-done c =
-    rw (c.as_slice.ensures.value, c.as_slice-2.ensures.value)
-    (each_done (shown_by c.run.inside) (subst IsLawfulRecord (sym c.run.view_is) c.requires))
+pub loop-number-init : goal.loop-number-init
+loop-number-init c =
+    let r = c.args.run.now in none_walked objects_made tt r.jobs r.done (string_bytes c.new-text.result) c.new-text.ensures.bytes
 
-pub objects_of_jobs-requires-clause-numbers : goal.objects_of_jobs-requires-clause-numbers
-objects_of_jobs-requires-clause-numbers c =
-    rw (c.as_slice.ensures.value, c.as_slice-2.ensures.value)
-    (of_jobs (shown_by c.run.inside) (subst IsLawfulRecord (sym c.run.view_is) c.requires))
+pub job-its-requires-clause-number : goal.job-its-requires-clause-number
+job-its-requires-clause-number c =
+    let jobs = ap length c.as_slice-jobs.ensures.value ∙ ap (λ (r : RecordView). length r.jobs) c.run.view_is in
+    omega (arith, c.loop-number-test.true, jobs)
 
-pub objects_of_jobs-requires-clause-statuses : goal.objects_of_jobs-requires-clause-statuses
-objects_of_jobs-requires-clause-statuses c =
-    rw (c.as_slice.ensures.value, c.as_slice-2.ensures.value)
-    (have_statuses (shown_by c.run.inside) (subst IsLawfulRecord (sym c.run.view_is) c.requires) c.each_command_has_a_status.ensures.shape)
+pub push_objects-requires : goal.push_objects-requires
+push_objects-requires c =
+    let number = c.loop-number.number in
+    let job = c.index-jobs-number.result in
+    let jobs = c.as_slice-jobs.ensures.value ∙ ap (λ (r : RecordView). r.jobs) c.run.view_is in
+    c.job-its.ensures.statuses job
+    (subst (λ (js : List Job). IsAt js number job) jobs
+    (stands_read c.as_slice-jobs.result.now number job c.loop-number-test.true c.index-jobs-number.is))
+
+pub loop-number-preserved : goal.loop-number-preserved
+loop-number-preserved c =
+    let r = c.args.run.now in
+    let number = c.loop-number.number in
+    let job = c.index-jobs-number.result in
+    let jobs = c.as_slice-jobs.ensures.value ∙ ap (λ (r : RecordView). r.jobs) c.run.view_is in
+    one_walked objects_made tt r.jobs r.done number job c.job-its.result.now tt tt (string_bytes c.loop-number.text) (string_bytes c.push_objects.new.text)
+    (subst (λ (js : List Job). IsAt js number job) jobs
+    (stands_read c.as_slice-jobs.result.now number job c.loop-number-test.true c.index-jobs-number.is))
+    c.job-its.ensures.its c.loop-number.invariant refl c.in_ok-push_objects.ensures
 
 pub returns : goal.returns
 returns c =
-    let done : List (List RecordedJob) = map (λ work. work.items) c.as_slice-2.result.now in
-    let same : done ≡ (shown_by c.run.inside).done = ap (map (λ work. work.items)) c.as_slice-2.ensures.value in
-    IfOk-weaker c.objects_of_jobs.result _ _
-    (λ text h.
-    subst (λ (r : RecordView). AreObjectsOf r (string_bytes text)) c.run.view_is
-    (of_record (shown_by c.run.inside) c.as_slice.result.now done (string_bytes text) c.as_slice.ensures.value same h))
-    c.objects_of_jobs.ensures
+    let r = c.args.run.now in
+    let jobs = ap length c.as_slice-jobs.ensures.value ∙ ap (λ (r : RecordView). length r.jobs) c.run.view_is in
+    let past : length r.jobs ≤ c.loop-number.number = omega (arith, c.loop-number-test.false, jobs) in
+    let (its, were, are) = all_walked objects_made tt r.jobs r.done c.loop-number.number tt (string_bytes c.loop-number.text) past c.loop-number.invariant in
+    record { its = its; done = were; are = are }

@@ -1,0 +1,5 @@
+pub mod Noting
+pub mod Reading
+pub mod LawfulDone
+pub mod OneList
+pub mod Walking

@@ -1,0 +1,3 @@
+pub mod DoneJobs
+pub mod DonePlaces
+pub mod Inside

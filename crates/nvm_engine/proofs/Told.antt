@@ -1,0 +1,56 @@
+-- What was told of jobs, by their done jobs, and the lines that it makes, one job after the other.
+use Rattle.std.proofs.Common.{◌≡◌, ℕ, ◌+◌, List, [], ◌∷◌, refl}
+use Rattle.nvm_plan.specs.Completions.{completions_of}
+use Rattle.nvm_plan.specs.declared.completions.Completions.{Completions}
+use Rattle.nvm_plan.specs.declared.job.Job.{Job}
+use Rattle.nvm_audit.specs.RecordedJob.{RecordedJob}
+use Rattle.nvm_done_jobs.specs.DoneJobs.{AreDone}
+use Rattle.nvm_done_jobs.proofs.Walking.{Making}
+use Rattle.nvm_engine.specs.Lines.{body_lines, job_lines}
+use Rattle.nvm_engine.specs.LongLines.{behind_body, long_body, long_lines}
+use Rattle.nvm_engine.specs.RecordLines.{AreTold}
+
+abbrev pub told_of : List Job → List RecordedJob → List Completions
+told_of [] its = []
+told_of (job ∷ jobs) [] = []
+told_of (job ∷ jobs) (d ∷ its) = completions_of job d.statuses d.payload ∷ told_of jobs its
+
+module _ (done : List (List RecordedJob)) where
+  pub are_told : (number : ℕ) (jobs : List Job) (its : List RecordedJob) → AreDone done number jobs its
+      → AreTold done number jobs (told_of jobs its)
+  are_told number [] [] were = tt
+  are_told number [] (d ∷ its) were = absurd were
+  are_told number (job ∷ jobs) [] were = absurd were
+  are_told number (job ∷ jobs) (d ∷ its) were =
+      (record { its = d; is = were.0; completions = refl }, are_told (number + 1) jobs its were.1)
+
+  -- What was told of jobs was told of their done jobs.
+  pub were_told : (number : ℕ) (jobs : List Job) (told : List Completions) → AreTold done number jobs told
+      → (its : List RecordedJob) × AreDone done number jobs its × (told ≡ told_of jobs its)
+  were_told number [] [] were = ([], tt, refl)
+  were_told number [] (x ∷ told) were = absurd were
+  were_told number (job ∷ jobs) [] were = absurd were
+  were_told number (job ∷ jobs) (x ∷ told) were =
+      let (its, after, are) = were_told (number + 1) jobs told were.1 in
+      let first : x ≡ completions_of job were.0.its.statuses were.0.its.payload = were.0.completions in
+      let rest : told ≡ told_of jobs its = are in
+      (were.0.its ∷ its, (were.0.is, after), cc)
+
+abbrev pub lines_made : Making (Unit {0}) ℕ
+lines_made = record {
+  made = λ s job d. body_lines job.body (completions_of job d.statuses d.payload);
+  left = λ s job. s;
+  all = λ s jobs its. job_lines jobs (told_of jobs its);
+  none = λ s. refl;
+  more = λ s job jobs d its. refl;
+}
+
+-- beside what the lists say
+abbrev pub long_lines_made : Making (List (List (List ℕ))) ℕ
+long_lines_made = record {
+  made = λ lists job d. long_body lists job.host job.body (completions_of job d.statuses d.payload);
+  left = λ lists job. behind_body lists job.host job.body;
+  all = λ lists jobs its. long_lines lists jobs (told_of jobs its);
+  none = λ lists. refl;
+  more = λ lists job jobs d its. refl;
+}

@@ -1,2 +1,0 @@
--- What is said of private functions alone.
-pub mod Standings
