@@ -1,11 +1,11 @@
-//! A pass that tries a change while another has the unit.
+//! A pass that tries or polls a change, or polls a comparison, while another has the unit.
 ghost use Rattle.nvm_unit.specs.Passes.{IsPassOf};
 
 use crate::namespace::BLOCK;
 use crate::unit::{two_passes, write_of};
-use nvm_record::Payload;
-use nvm_store::ActRef;
-use nvm_unit::{Busy, Changed, Gate, Open, Pass, Unit};
+use nvm_record::{Payload, Status, Statuses};
+use nvm_store::{ActRef, Look};
+use nvm_unit::{Busy, Changed, Gate, ObserveFault, Observed, Open, Pass, Unit};
 use std::alloc::Global;
 use std::sync::Wait;
 use std::sync::atomic::{AtomicU64, Ordering};
@@ -68,28 +68,47 @@ fn hold(
     Some(unit.change(rt, alloc, pass, 5, pair, gate))
 }
 
-/// What is told of one try to write block 0 while the unit is held. Then it is released.
+/// What a pass is told of a Write of block 0 that it tries, of one that it polls, and of a comparison that it polls.
+#[derive(Debug, PartialEq, Eq, Drop)]
+struct Told {
+    tried: Result<Changed, Busy>,
+    changed: Option<Changed>,
+    observed: Option<Result<Observed, ObserveFault>>,
+}
+
+/// What is told while the unit is held. Then it is released.
 fn try_meanwhile(
     alloc: Global,
     unit: &Unit,
     pass: &mut Pass,
     data: &Payload,
     gate: &Holding,
-) -> Option<Result<Changed, Busy>>
+) -> Option<Told>
     requires { IsPassOf unit.now pass.old }
     ensures { IsPassOf unit.now pass.new }
 {
     let act = write_of(data.lend());
+    let look = Look::Compare {
+        first: 0,
+        blocks: 1,
+        payload: data.as_slice(),
+    };
     // For want of memory for a thread, the other begins only after this one.
-    if !gate.waits_for(1) || !unit.covers(act) {
+    if !gate.waits_for(1) || !unit.covers(act) || !unit.covers_look(look) {
         return None;
     }
     let tried = unit.try_change(alloc, pass, 6, act, &Open);
+    let changed = unit.poll_change(alloc, pass, 6, act, &Open);
+    let observed = unit.poll_observe(alloc, pass, look, &Open);
     gate.state.store(2, Ordering::SeqCst);
-    Some(tried)
+    Some(Told {
+        tried,
+        changed,
+        observed,
+    })
 }
 
-/// What the second pass is told while the first holds the unit on another thread.
+/// What the first pass is told that holds the unit, and meanwhile the second on another thread.
 fn tried<R: Threads + Wait + Sync>(
     rt: &R,
     alloc: Global,
@@ -97,29 +116,39 @@ fn tried<R: Threads + Wait + Sync>(
     first: &mut Pass,
     second: &mut Pass,
     data: &Payload,
-) -> Option<Result<Changed, Busy>>
+) -> (Option<Changed>, Option<Told>)
     requires first { IsPassOf unit.now first.old }
     requires second { IsPassOf unit.now second.old }
 {
     let gate = Holding {
         state: AtomicU64::new(0),
     };
-    let (_held, told) = join(
+    join(
         rt,
         || hold(rt, alloc, unit, first, data, &gate),
         || try_meanwhile(alloc, unit, second, data, &gate),
-    );
-    told
+    )
 }
 
 #[test]
-fn a_try_is_busy(rt: HostRuntime) -> Result<(), Fail> {
+fn a_try_is_busy_and_polls_wait(rt: HostRuntime) -> Result<(), Fail> {
     let alloc = rt.alloc();
     let (unit, mut first, mut second) = two_passes(alloc)?;
     let ones = Payload::copy_of(alloc, &[1; BLOCK])?;
-    let Some(told) = tried(&rt, alloc, &unit, &mut first, &mut second, &ones) else {
+    let (held, told) = tried(&rt, alloc, &unit, &mut first, &mut second, &ones);
+    let Some(told) = told else {
         return Err(Fail::new("there was no memory"));
     };
-    assert_eq!(rt; told, Err(Busy { word: 1 }));
+    let busy = Told {
+        tried: Err(Busy { word: 1 }),
+        changed: None,
+        observed: None,
+    };
+    assert_eq!(rt; told, busy);
+    let statuses = Statuses::Two(
+        Status::COMPARE_FAILURE,
+        Status::ABORTED_DUE_TO_FAILED_FUSED_COMMAND,
+    );
+    assert_eq!(rt; held, Some(Changed::Failed { point: 0, statuses }));
     Ok(())
 }
