@@ -10,48 +10,50 @@ use std::alloc::Global;
 use std::sync::Wait;
 use std::sync::atomic::{AtomicU64, Ordering};
 use std::test::Fail;
-use std::thread::{Threads, join, yield_now};
+use std::thread::{Threads, join, sleep};
+use std::time::{Clock, Duration};
 
-/// Each thread waits so many turns for the other at most.
-const MOST_TURNS: u32 = 1_000_000;
+/// Each thread waits so many times a millisecond for the other at most.
+const MOST_WAITS: u32 = 2_000;
 
 /// Keeps the unit until it is released.
 #[derive(Drop)]
-struct Holding {
-    /// 1 once the unit is held, 2 once it is to be released.
-    state: AtomicU64,
+struct Holding<'a, C: Clock> {
+    clock: &'a C,
+    /// 1 once the unit is held.
+    held: AtomicU64,
+    /// 1 once it is to be released.
+    released: AtomicU64,
 }
 
-impl Holding {
-    /// Gives whether the state was this one at last.
-    fn waits_for(&self, state: u64) -> bool {
-        for _turn in 0..MOST_TURNS {
-            if self.state.load(Ordering::SeqCst) == state {
-                return true;
-            }
-            yield_now();
+/// Gives whether the flag was set at last.
+fn is_set(clock: &impl Clock, flag: &AtomicU64) -> bool {
+    for _wait in 0..MOST_WAITS {
+        if flag.load(Ordering::SeqCst) == 1 {
+            return true;
         }
-        false
+        sleep(clock, Duration::from_millis(1));
     }
+    false
 }
 
-impl Gate for Holding {
+impl<'a, C: Clock> Gate for Holding<'a, C> {
     fn before_put(&self, _unit: u16, _job: u32) {
-        self.state.store(1, Ordering::SeqCst);
-        self.waits_for(2);
+        self.held.store(1, Ordering::SeqCst);
+        is_set(self.clock, &self.released);
     }
 
     fn after_job(&self, _job: u32) {}
 }
 
 /// Holds the unit by a pair that fails, which takes no memory.
-fn hold(
-    rt: &impl Wait,
+fn hold<R: Wait, C: Clock>(
+    rt: &R,
     alloc: Global,
     unit: &Unit,
     pass: &mut Pass,
     data: &Payload,
-    gate: &Holding,
+    gate: &Holding<'_, C>,
 ) -> Option<Changed>
     requires { IsPassOf unit.now pass.old }
     ensures { IsPassOf unit.now pass.new }
@@ -68,29 +70,30 @@ fn hold(
     Some(unit.change(rt, alloc, pass, 5, pair, gate))
 }
 
-/// What is told of one try to write block 0 while the unit is held. Then it is released.
-fn try_meanwhile(
+/// What is told of one try to write block 0 while the unit is held. It is released in any case.
+fn try_meanwhile<C: Clock>(
     alloc: Global,
     unit: &Unit,
     pass: &mut Pass,
     data: &Payload,
-    gate: &Holding,
+    gate: &Holding<'_, C>,
 ) -> Option<Result<Changed, Busy>>
     requires { IsPassOf unit.now pass.old }
     ensures { IsPassOf unit.now pass.new }
 {
     let act = write_of(data.lend());
     // For want of memory for a thread, the other begins only after this one.
-    if !gate.waits_for(1) || !unit.covers(act) {
-        return None;
-    }
-    let tried = unit.try_change(alloc, pass, 6, act, &Open);
-    gate.state.store(2, Ordering::SeqCst);
-    Some(tried)
+    let told = if is_set(gate.clock, &gate.held) && unit.covers(act) {
+        Some(unit.try_change(alloc, pass, 6, act, &Open))
+    } else {
+        None
+    };
+    gate.released.store(1, Ordering::SeqCst);
+    told
 }
 
 /// What the second pass is told while the first holds the unit on another thread.
-fn tried<R: Threads + Wait + Sync>(
+fn tried<R: Threads + Wait + Clock + Sync>(
     rt: &R,
     alloc: Global,
     unit: &Unit,
@@ -102,7 +105,9 @@ fn tried<R: Threads + Wait + Sync>(
     requires second { IsPassOf unit.now second.old }
 {
     let gate = Holding {
-        state: AtomicU64::new(0),
+        clock: rt,
+        held: AtomicU64::new(0),
+        released: AtomicU64::new(0),
     };
     let (_held, told) = join(
         rt,
