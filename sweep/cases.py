@@ -224,7 +224,7 @@ class Test:
 
 @dataclass
 class RefusalTest(Test):
-    """A test of nvm_refusal_tests, by whose end one can tell whether a call owned up to a refusal.
+    """A test of nvm_refusal_tests, or of a module `refusals` elsewhere, by whose end one can tell whether a call owned up to a refusal.
 
     It makes its own things first, and leaves by `?` where there is no memory for one. Then it makes its call, and an assertion shows
     what that gave. So it can't pass where a growth was refused, unless the call answered success in place of want of memory: that is wrong.

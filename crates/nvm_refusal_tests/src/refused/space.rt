@@ -94,12 +94,16 @@ fn a_pair_that_finds_other_bytes_has_no_part(rt: HostRuntime) -> Result<(), Fail
 
 /// How the job of one command ended, unless it was for want of memory.
 fn told(done: JobDone) -> Result<Result<Status, NoMemory>, Fail> {
-    let Completions::One(completion) = done.completions else {
-        return Err(Fail::new("the job is one command"));
-    };
-    match completion.status {
-        WANT => Ok(Err(AllocError)),
-        status => Ok(Ok(status)),
+    let JobDone {
+        completions,
+        parts: _,
+    } = done;
+    match completions {
+        Completions::One(completion) => match completion.status {
+            WANT => Ok(Err(AllocError)),
+            status => Ok(Ok(status)),
+        },
+        Completions::Two(_, _) => Err(Fail::new("the job is one command")),
     }
 }
 

@@ -10,48 +10,50 @@ use std::alloc::Global;
 use std::sync::Wait;
 use std::sync::atomic::{AtomicU64, Ordering};
 use std::test::Fail;
-use std::thread::{Threads, join, yield_now};
+use std::thread::{Threads, join, sleep};
+use std::time::{Clock, Duration};
 
-/// Each thread waits so many turns for the other at most.
-const MOST_TURNS: u32 = 1_000_000;
+/// Each thread waits so many times a millisecond for the other at most.
+const MOST_WAITS: u32 = 2_000;
 
 /// Keeps the unit until it is released.
 #[derive(Drop)]
-struct Holding {
-    /// 1 once the unit is held, 2 once it is to be released.
-    state: AtomicU64,
+struct Holding<'a, C: Clock> {
+    clock: &'a C,
+    /// 1 once the unit is held.
+    held: AtomicU64,
+    /// 1 once it is to be released.
+    released: AtomicU64,
 }
 
-impl Holding {
-    /// Gives whether the state was this one at last.
-    fn waits_for(&self, state: u64) -> bool {
-        for _turn in 0..MOST_TURNS {
-            if self.state.load(Ordering::SeqCst) == state {
-                return true;
-            }
-            yield_now();
+/// Gives whether the flag was set at last.
+fn is_set(clock: &impl Clock, flag: &AtomicU64) -> bool {
+    for _wait in 0..MOST_WAITS {
+        if flag.load(Ordering::SeqCst) == 1 {
+            return true;
         }
-        false
+        sleep(clock, Duration::from_millis(1));
     }
+    false
 }
 
-impl Gate for Holding {
+impl<'a, C: Clock> Gate for Holding<'a, C> {
     fn before_put(&self, _unit: u16, _job: u32) {
-        self.state.store(1, Ordering::SeqCst);
-        self.waits_for(2);
+        self.held.store(1, Ordering::SeqCst);
+        is_set(self.clock, &self.released);
     }
 
     fn after_job(&self, _job: u32) {}
 }
 
 /// Holds the unit by a pair that fails, which takes no memory.
-fn hold(
-    rt: &impl Wait,
+fn hold<R: Wait, C: Clock>(
+    rt: &R,
     alloc: Global,
     unit: &Unit,
     pass: &mut Pass,
     data: &Payload,
-    gate: &Holding,
+    gate: &Holding<'_, C>,
 ) -> Option<Changed>
     requires { IsPassOf unit.now pass.old }
     ensures { IsPassOf unit.now pass.new }
@@ -76,14 +78,8 @@ struct Told {
     observed: Option<Result<Observed, ObserveFault>>,
 }
 
-/// What is told while the unit is held. Then it is released.
-fn try_meanwhile(
-    alloc: Global,
-    unit: &Unit,
-    pass: &mut Pass,
-    data: &Payload,
-    gate: &Holding,
-) -> Option<Told>
+/// What is told while the unit is held.
+fn told_meanwhile(alloc: Global, unit: &Unit, pass: &mut Pass, data: &Payload) -> Option<Told>
     requires { IsPassOf unit.now pass.old }
     ensures { IsPassOf unit.now pass.new }
 {
@@ -93,14 +89,12 @@ fn try_meanwhile(
         blocks: 1,
         payload: data.as_slice(),
     };
-    // For want of memory for a thread, the other begins only after this one.
-    if !gate.waits_for(1) || !unit.covers(act) || !unit.covers_look(look) {
+    if !unit.covers(act) || !unit.covers_look(look) {
         return None;
     }
     let tried = unit.try_change(alloc, pass, 6, act, &Open);
     let changed = unit.poll_change(alloc, pass, 6, act, &Open);
     let observed = unit.poll_observe(alloc, pass, look, &Open);
-    gate.state.store(2, Ordering::SeqCst);
     Some(Told {
         tried,
         changed,
@@ -108,8 +102,29 @@ fn try_meanwhile(
     })
 }
 
+/// Waits until the unit is held, and gives what is told then. It is released in any case.
+fn try_meanwhile<C: Clock>(
+    alloc: Global,
+    unit: &Unit,
+    pass: &mut Pass,
+    data: &Payload,
+    gate: &Holding<'_, C>,
+) -> Option<Told>
+    requires { IsPassOf unit.now pass.old }
+    ensures { IsPassOf unit.now pass.new }
+{
+    // For want of memory for a thread, the other begins only after this one.
+    let told = if is_set(gate.clock, &gate.held) {
+        told_meanwhile(alloc, unit, pass, data)
+    } else {
+        None
+    };
+    gate.released.store(1, Ordering::SeqCst);
+    told
+}
+
 /// What the first pass is told that holds the unit, and meanwhile the second on another thread.
-fn tried<R: Threads + Wait + Sync>(
+fn tried<R: Threads + Wait + Clock + Sync>(
     rt: &R,
     alloc: Global,
     unit: &Unit,
@@ -121,7 +136,9 @@ fn tried<R: Threads + Wait + Sync>(
     requires second { IsPassOf unit.now second.old }
 {
     let gate = Holding {
-        state: AtomicU64::new(0),
+        clock: rt,
+        held: AtomicU64::new(0),
+        released: AtomicU64::new(0),
     };
     join(
         rt,
