@@ -186,7 +186,7 @@ def runs(folder):
         done("a record is listed", ["list", record], record_listing(of_hosts)),
         done("a record of the first version is listed", [*in_large("list"), first], record_listing(of_nobody)),
         done("a record on standard input is listed", ["list", "-"], record_listing(of_hosts), input=record),
-        done("a record of 65,537 jobs is listed", ["list", crowd], record_listing(of_crowd), every=10),
+        done("a record of 65,537 jobs is listed", ["list", crowd], record_listing(of_crowd), every=4),
         done("a record is explained", ["explain", record], lawful_explanation(of_hosts), units=len(of_hosts.units)),
         done("a record of no jobs is explained", ["explain", "-"], lawful_explanation(of_nobody), input=first, units=len(of_nobody.units)),
         done("a spoiled record is explained", ["explain", wrong_data], WRONG_DATA, units=4),

@@ -94,7 +94,11 @@ fn a_pair_that_finds_other_bytes_has_no_part(rt: HostRuntime) -> Result<(), Fail
 
 /// How the job of one command ended, unless it was for want of memory.
 fn told(done: JobDone) -> Result<Result<Status, NoMemory>, Fail> {
-    let Completions::One(completion) = done.completions else {
+    let JobDone {
+        completions,
+        parts: _,
+    } = done;
+    let Completions::One(completion) = completions else {
         return Err(Fail::new("the job is one command"));
     };
     match completion.status {
