@@ -102,6 +102,7 @@ class Run:
     # It ends in a fault that comes after its commands, and shows nothing of them; or help is looked for in vain, which memory can be refused.
     hides_wants: bool = False
     input: str = None  # the path of its standard input
+    every: int = 1  # only each of so many growths is refused, where a run takes long
     row = 5  # this many growths, one after the other, are refused in a further run
 
     def has_threads(self):
@@ -183,6 +184,7 @@ class Test:
     name: str
     words: list
     input = row = None
+    every = 1
     before = {}
 
     def has_threads(self):

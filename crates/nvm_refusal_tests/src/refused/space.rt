@@ -98,12 +98,12 @@ fn told(done: JobDone) -> Result<Result<Status, NoMemory>, Fail> {
         completions,
         parts: _,
     } = done;
-    match completions {
-        Completions::One(completion) => match completion.status {
-            WANT => Ok(Err(AllocError)),
-            status => Ok(Ok(status)),
-        },
-        Completions::Two(_, _) => Err(Fail::new("the job is one command")),
+    let Completions::One(completion) = completions else {
+        return Err(Fail::new("the job is one command"));
+    };
+    match completion.status {
+        WANT => Ok(Err(AllocError)),
+        status => Ok(Ok(status)),
     }
 }
 
