@@ -2,7 +2,7 @@
 
 from dataclasses import replace
 
-from forged import OTHER, SPACE, TWO, WRITTEN, one, seen
+from forged import MOST, OTHER, SPACE, TWO, WRITTEN, little_memory, one, seen
 from hints import MISSING, the_line, told
 from host_files import compare, dataset, file_of, pair, read, unknown, write, zeroes
 from recorded import jobs_of, recorded
@@ -239,6 +239,10 @@ def faults_of_files(run):
         told_by_nvq = fault.replace("ended before at", "ended before it began at")
         for words in ("list cut.nvt", "witness cut.nvt two.nvr"):
             run.expect(["nvq", *words.split()], 1, err=f"nvq: cut.nvt: {told_by_nvq}\n")
+    # A count of 4,194,304 jobs in a file that ends behind it.
+    run.keep("cut.nvt", whole[:34] + MOST.to_bytes(4, "little"))
+    run.expect(["nvmu", "witness", "cut.nvt", "two.nvr"], 1, err="nvmu: trace: truncated at 38\n", preexec_fn=little_memory)
+    run.expect(["nvq", "list", "cut.nvt"], 1, err="nvq: cut.nvt: truncated at 38\n", preexec_fn=little_memory)
     run.keep("whole.nvt", whole)
     run.keep("bad.nvr", b"NVR2")
     run.expect(["nvmu", "witness", "whole.nvt", "bad.nvr"], 1, err="nvmu: record: truncated at 4\n")

@@ -102,6 +102,7 @@ class Run:
     # It ends in a fault that comes after its commands, and shows nothing of them; or help is looked for in vain, which memory can be refused.
     hides_wants: bool = False
     input: str = None  # the path of its standard input
+    every: int = 1  # only each of so many growths is refused, where a run takes long
     row = 5  # this many growths, one after the other, are refused in a further run
 
     def has_threads(self):
@@ -183,6 +184,7 @@ class Test:
     name: str
     words: list
     input = row = None
+    every = 1
     before = {}
 
     def has_threads(self):
@@ -224,7 +226,7 @@ class Test:
 
 @dataclass
 class RefusalTest(Test):
-    """A test of nvm_refusal_tests, by whose end one can tell whether a call owned up to a refusal.
+    """A test of nvm_refusal_tests, or of a module `refusals` elsewhere, by whose end one can tell whether a call owned up to a refusal.
 
     It makes its own things first, and leaves by `?` where there is no memory for one. Then it makes its call, and an assertion shows
     what that gave. So it can't pass where a growth was refused, unless the call answered success in place of want of memory: that is wrong.

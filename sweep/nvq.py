@@ -158,6 +158,9 @@ def runs(folder):
     missing = os.path.join(folder, "missing")
     of_hosts = recorded(Namespace(nabsn=7, limit=2), [host, file_of([read(6, 4)]), plain])
     of_nobody = replace(recorded(Namespace(), [file_of([])], workers=3), version=1)
+    of_one = recorded(Namespace(), [file_of([unknown(0, 1)])])
+    of_crowd = replace(of_one, jobs=of_one.jobs * 65_537)
+    crowd = kept("crowd", spelled(of_crowd))
     spelled_record = spelled(of_hosts)
     record, first = kept("record", spelled_record), kept("first", spelled(of_nobody))
     of_one_unit = spoiled(spelled(recorded(Namespace(nabsn=7), [plain])))
@@ -183,6 +186,7 @@ def runs(folder):
         done("a record is listed", ["list", record], record_listing(of_hosts)),
         done("a record of the first version is listed", [*in_large("list"), first], record_listing(of_nobody)),
         done("a record on standard input is listed", ["list", "-"], record_listing(of_hosts), input=record),
+        done("a record of 65,537 jobs is listed", ["list", crowd], record_listing(of_crowd), every=4),
         done("a record is explained", ["explain", record], lawful_explanation(of_hosts), units=len(of_hosts.units)),
         done("a record of no jobs is explained", ["explain", "-"], lawful_explanation(of_nobody), input=first, units=len(of_nobody.units)),
         done("a spoiled record is explained", ["explain", wrong_data], WRONG_DATA, units=4),

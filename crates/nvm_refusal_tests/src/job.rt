@@ -9,7 +9,7 @@ use crate::namespace::BLOCK;
 use nvm_plan::{Body, Completions, Job, PartResult, fits};
 use nvm_record::{Command, Fuse, NoMemory, Op, Payload, Status};
 use nvm_space::{JobDone, Port, Space};
-use nvm_unit::Open;
+use nvm_unit::{Kept, Open};
 use std::alloc::Global;
 use std::sync::Wait;
 use std::test::Fail;
@@ -54,11 +54,11 @@ pub fn command(fuse: Fuse, op: Op, slba: u64, nlb: u16, payload: Payload) -> Com
 }
 
 /// What is told of the job, as job 5.
-pub fn done(
+pub fn done<K: Kept>(
     rt: &impl Wait,
     alloc: Global,
-    space: &Space,
-    port: &mut Port,
+    space: &Space<K>,
+    port: &mut Port<K>,
     job: &Job,
 ) -> Result<JobDone, Fail>
     requires { IsPortOf space.now port.old }

@@ -5,6 +5,7 @@ ghost use Rattle.nvm_space.specs.Ports.{IsPortOf};
 use nvm_geometry::Geometry;
 use nvm_space::{Port, Space};
 use nvm_store::Limit;
+use nvm_unit::Count;
 use std::alloc::Global;
 use std::test::Fail;
 
@@ -39,4 +40,17 @@ pub fn two_ports(alloc: Global) -> Result<(Space, Port, Port), Fail>
         return Err(Fail::new("there is no first port"));
     };
     Ok((space, first, second))
+}
+
+/// A new space that keeps no histories and has no limit, and its one port.
+pub fn unrecorded(alloc: Global) -> Result<(Space<Count>, Port<Count>), Fail>
+    ensures of { IfOk result (λ s. IsPortOf s.0 s.1) }
+{
+    let Ok((space, mut ports)) = Space::unrecorded(alloc, geometry()?, 1, None, false) else {
+        return Err(Fail::new("there was no memory"));
+    };
+    let Some(port) = ports.pop() else {
+        return Err(Fail::new("there is no port"));
+    };
+    Ok((space, port))
 }

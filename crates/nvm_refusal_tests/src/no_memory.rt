@@ -3,4 +3,5 @@
 mod plan;
 mod space;
 mod store;
+mod threads;
 mod unit;

@@ -5,7 +5,7 @@ ghost use Rattle.nvm_unit.specs.Passes.{IsPassOf};
 
 use crate::namespace::{BLOCK, limit};
 use nvm_record::{BlockSize, Payload, PayloadRef, Status};
-use nvm_store::{ActRef, Answer, Look, Place};
+use nvm_store::{ActRef, Answer, Limit, Look, Place};
 use nvm_unit::{Changed, Observed, Open, Pass, Unit};
 use std::alloc::Global;
 use std::sync::Wait;
@@ -22,7 +22,17 @@ pub fn two_passes(alloc: Global) -> Result<(Unit, Pass, Pass), Fail>
     ensures of { IfOk result (λ u. IsPassOf u.0 u.1 × IsPassOf u.0 u.2) }
     ensures versions { IfOk result (λ u. u.0.versions ≡ true) }
 {
-    let (unit, passes) = Unit::new(alloc, 3, PLACE, 2, limit()?)?;
+    two_passes_up_to(alloc, limit()?)
+}
+
+/// A new unit of so many changes, and its two passes.
+pub fn two_passes_up_to(alloc: Global, limit: Limit) -> Result<(Unit, Pass, Pass), Fail>
+    ensures of { IfOk result (λ u. IsPassOf u.0 u.1 × IsPassOf u.0 u.2) }
+    ensures count { IfOk result (λ u. u.0.bounds.passes ≡ 2) }
+    ensures numbers { IfOk result (λ u. (u.1.view.number ≡ 0) × (u.2.view.number ≡ 1)) }
+    ensures versions { IfOk result (λ u. u.0.versions ≡ true) }
+{
+    let (unit, passes) = Unit::new(alloc, 3, PLACE, 2, limit)?;
     dealt(unit, passes)
 }
 
@@ -32,6 +42,7 @@ fn dealt(unit: Unit, passes: Vec<Pass>) -> Result<(Unit, Pass, Pass), Fail>
     requires passes { passes.items ≡ new_passes unit }
     ensures same { IfOk result (λ u. u.0 ≡ unit) }
     ensures of { IfOk result (λ u. IsPassOf u.0 u.1 × IsPassOf u.0 u.2) }
+    ensures numbers { IfOk result (λ u. (u.1.view.number ≡ 0) × (u.2.view.number ≡ 1)) }
 {
     let mut passes = passes;
     let Some(second) = passes.pop() else {
@@ -61,7 +72,8 @@ pub fn write(
     byte: u8,
 ) -> Result<(), Fail>
     requires { IsPassOf unit.now pass.old }
-    ensures { IsPassOf unit.now pass.new }
+    ensures of { IsPassOf unit.now pass.new }
+    ensures number { pass.new.view.number ≡ pass.old.view.number }
 {
     let payload = Payload::copy_of(alloc, &[byte; BLOCK])?;
     let act = write_of(payload.lend());

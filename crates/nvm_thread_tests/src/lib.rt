@@ -1,4 +1,4 @@
-//! Tests of `nvm_run` and `nvm_engine`, which reach them by what they make public.
+//! Tests of `nvm_run`, of `nvm_engine` and of threads that audit, which reach them by what they make public.
 #![tactic(auto)]
 
 #[cfg(test)]

@@ -3,9 +3,9 @@ ghost use Rattle.std.specs.Prelude.{◌≡◌, true};
 ghost use Rattle.nvm_unit.specs.Passes.{IsPassOf};
 
 use crate::namespace::BLOCK;
-use crate::unit::{compared, equal_at, two_passes, write};
+use crate::unit::{compared, equal_at, two_passes, two_passes_up_to, write};
 use nvm_record::{Payload, Status, Statuses};
-use nvm_store::{ActRef, Look};
+use nvm_store::{ActRef, Limit, Look};
 use nvm_unit::{Busy, Changed, LookFault, Observed, Open, Pass, Unit};
 use std::alloc::Global;
 use std::test::Fail;
@@ -69,7 +69,8 @@ fn try_pair(
     data: &Payload,
 ) -> Option<Result<Changed, Busy>>
     requires { IsPassOf unit.now pass.old }
-    ensures { IsPassOf unit.now pass.new }
+    ensures of { IsPassOf unit.now pass.new }
+    ensures number { pass.new.view.number ≡ pass.old.view.number }
 {
     let pair = ActRef::Pair {
         first: 0,
@@ -96,5 +97,30 @@ fn a_pair_fails_at_once(rt: HostRuntime) -> Result<(), Fail> {
     let failed = Changed::Failed { point: 0, statuses };
     let tried = try_pair(alloc, &unit, &mut first, &ones);
     assert_eq!(rt; tried, Some(Ok(failed)));
+    Ok(())
+}
+
+/// How many entries are kept of the unit, which has just these passes. Only the list of these takes memory.
+fn closed(alloc: Global, unit: Unit, first: Pass, second: Pass) -> Result<usize, Fail>
+    requires of { IsPassOf unit first × IsPassOf unit second }
+    requires count { unit.bounds.passes ≡ 2 }
+    requires numbers { (first.view.number ≡ 0) × (second.view.number ≡ 1) }
+{
+    let mut passes = Vec::with_capacity(alloc, 2)?;
+    passes.push(first)?;
+    passes.push(second)?;
+    Ok(unit.close(passes).len())
+}
+
+#[test]
+fn a_unit_is_full_and_is_closed(rt: HostRuntime) -> Result<(), Fail> {
+    let alloc = rt.alloc();
+    let limit = Limit::new(1).ok_or("there is no such limit")?;
+    let (unit, mut first, mut second) = two_passes_up_to(alloc, limit)?;
+    write(&rt, alloc, &unit, &mut first, 1)?;
+    let ones = Payload::copy_of(alloc, &[1; BLOCK])?;
+    let tried = try_pair(alloc, &unit, &mut second, &ones);
+    assert_eq!(rt; tried, Some(Ok(Changed::Full { point: 1 })));
+    assert_eq!(rt; closed(alloc, unit, first, second)?, 1);
     Ok(())
 }

@@ -1,9 +1,9 @@
-//! A space that is made or closed, and pairs on its first block. A space that is there stays as it is.
-use crate::job::{PairEnd, done, holds, pair_end, pair_of};
-use crate::namespace::{geometry, limit, two_ports};
-use nvm_plan::PartResult;
-use nvm_record::{NoMemory, Status};
-use nvm_space::{Port, Space, SpaceFault};
+//! A space that is made or closed, pairs on its first block, and a Read over two units. A space that is there stays as it is.
+use crate::job::{PairEnd, done, holds, pair_end, pair_of, single};
+use crate::namespace::{geometry, limit, two_ports, unrecorded};
+use nvm_plan::{Completions, PartResult};
+use nvm_record::{NoMemory, Op, Payload, Status};
+use nvm_space::{JobDone, Port, Space, SpaceFault};
 use nvm_store::History;
 use std::alloc::AllocError;
 use std::test::Fail;
@@ -89,5 +89,35 @@ fn a_pair_that_finds_other_bytes_has_no_part(rt: HostRuntime) -> Result<(), Fail
     assert!(rt; holds(&rt, alloc, &space, &mut second, 0)?);
     let failed = (Status::COMPARE_FAILURE, ABORTED, Some(PartResult::Failed));
     assert_eq!(rt; end, Ok(failed));
+    Ok(())
+}
+
+/// How the job of one command ended, unless it was for want of memory.
+fn told(done: JobDone) -> Result<Result<Status, NoMemory>, Fail> {
+    let JobDone {
+        completions,
+        parts: _,
+    } = done;
+    let Completions::One(completion) = completions else {
+        return Err(Fail::new("the job is one command"));
+    };
+    match completion.status {
+        WANT => Ok(Err(AllocError)),
+        status => Ok(Ok(status)),
+    }
+}
+
+/// Room for the data is all that the Read asks for, and it does so before its parts: no list of them is kept, and the first finds
+/// a block without data.
+#[test]
+fn a_read_of_two_units_has_no_room(rt: HostRuntime) -> Result<(), Fail> {
+    let alloc = rt.alloc();
+    let (space, mut port) = unrecorded(alloc)?;
+    let mark = single(1, Op::WriteUncorrectable, 7, 0, Payload::empty());
+    let marked = told(done(&rt, alloc, &space, &mut port, &mark)?)??;
+    let read = single(1, Op::Read, 6, 3, Payload::empty());
+    let end = told(done(&rt, alloc, &space, &mut port, &read)?)?;
+    assert_eq!(rt; marked, DONE);
+    assert_eq!(rt; end, Ok(Status::UNRECOVERED_READ_ERROR));
     Ok(())
 }

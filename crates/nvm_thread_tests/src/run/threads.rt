@@ -1,4 +1,5 @@
 //! What workers do on threads of their own.
+mod audits;
 mod counter;
 mod runs;
 mod together;

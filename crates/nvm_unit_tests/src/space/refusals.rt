@@ -1,14 +1,15 @@
-//! What stands where a job over two units is refused a growth of memory. `sweep/run` refuses each growth in turn.
+//! What stands where a job over two units is refused a growth of memory. `sweep/run` refuses each growth in turn, and takes no success for an
+//! answer then.
 ghost use Rattle.nvm_space.specs.Ports.{IsPortOf};
 
 use super::polls::single;
 use super::reads::{Read, read};
 use super::two_ports;
 use nvm_plan::{Completions, Job, PartResult, fits};
-use nvm_record::{Completion, Op, Payload, ReadData, Status};
+use nvm_record::{Completion, NoMemory, Op, Payload, ReadData, Status};
 use nvm_space::{JobDone, Port, ReadNow, Space};
 use nvm_unit::Open;
-use std::alloc::Global;
+use std::alloc::{AllocError, Global};
 use std::sync::Wait;
 use std::test::Fail;
 
@@ -40,6 +41,14 @@ fn told(
     Ok((results, completion))
 }
 
+/// The status, unless it is that of want of memory.
+fn ended(status: Status) -> Result<Status, NoMemory> {
+    match status {
+        Status::INTERNAL_ERROR => Err(AllocError),
+        other => Ok(other),
+    }
+}
+
 /// What a Read of a unit finds behind so many Writes of blocks of 42h there.
 fn found(writes: u64) -> Result<Read, ReadNow> {
     let byte = if writes == 0 { 0 } else { 0x42 };
@@ -69,6 +78,7 @@ fn a_refused_write_has_a_front_of_its_parts(rt: HostRuntime) -> Result<(), Fail>
     space.meet(&rt, &mut first, &mut second);
     assert_eq!(rt; read(alloc, &space, &mut second, 6, 2)?, found(below));
     assert_eq!(rt; read(alloc, &space, &mut second, 8, 2)?, found(above));
+    assert_eq!(rt; ended(status), Ok(ok));
     Ok(())
 }
 
@@ -81,17 +91,20 @@ fn a_refused_read_has_no_data(rt: HostRuntime) -> Result<(), Fail> {
     let (results, completion) = told(&rt, alloc, &space, &mut first, &job)?;
     let ok = Status::SUCCESSFUL_COMPLETION;
     let data = completion.payload;
-    match results.as_slice() {
+    let status = match results.as_slice() {
         [PartResult::Looked, PartResult::Looked] => {
-            assert_eq!(rt; completion.status, ok);
             assert_eq!(rt; data, Some(ReadData::new(vec![in alloc; 0; 4 * 512]?)));
+            ok
         }
         [PartResult::Looked, PartResult::NoMemory] | [PartResult::NoMemory] | [] => {
-            assert_eq!(rt; (completion.status, data), (Status::INTERNAL_ERROR, None));
+            assert_eq!(rt; data, None);
+            Status::INTERNAL_ERROR
         }
         _ => return Err(Fail::new("the parts ended otherwise")),
-    }
+    };
+    assert_eq!(rt; completion.status, status);
     assert_eq!(rt; read(alloc, &space, &mut second, 6, 2)?, found(0));
     assert_eq!(rt; read(alloc, &space, &mut second, 8, 2)?, found(0));
+    assert_eq!(rt; ended(status), Ok(ok));
     Ok(())
 }

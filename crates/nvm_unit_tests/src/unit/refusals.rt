@@ -1,12 +1,13 @@
-//! What stands where a growth of memory is refused, and what is answered all the same. `sweep/run` refuses each growth in turn.
+//! What stands where a growth of memory is refused, and what is answered all the same. `sweep/run` refuses each growth in turn, and takes no
+//! success for an answer then.
 ghost use Rattle.std.specs.Prelude.{◌≡◌};
 ghost use Rattle.nvm_unit.specs.Passes.{IsPassOf};
 
 use super::{BLOCK, two_passes};
-use nvm_record::{Payload, PayloadRef, Status, Statuses};
+use nvm_record::{NoMemory, Payload, PayloadRef, Status, Statuses};
 use nvm_store::{ActRef, Answer, Look};
 use nvm_unit::{Changed, Observed, Open, Pass, Unit};
-use std::alloc::Global;
+use std::alloc::{AllocError, Global};
 use std::sync::Wait;
 use std::test::Fail;
 
@@ -25,6 +26,14 @@ fn told(
         return Err(Fail::new("the unit doesn't cover the act"));
     }
     Ok(unit.change(rt, alloc, pass, 5, act, &Open))
+}
+
+/// What the act ended as, unless it was for want of memory.
+fn ended(changed: Changed) -> Result<Changed, NoMemory> {
+    match changed {
+        Changed::NoMemory { .. } => Err(AllocError),
+        other => Ok(other),
+    }
 }
 
 /// What is told of a comparison of the first block with this byte.
@@ -84,17 +93,13 @@ fn a_refused_change_leaves_the_block(rt: HostRuntime) -> Result<(), Fail> {
     };
     for act in [write, pair(zeroes.lend(), data.lend())] {
         let (unit, mut first, mut second) = two_passes(alloc, 2)?;
-        let changed = told(&rt, alloc, &unit, &mut first, act)?;
-        let (point, byte) = if changed == (Changed::NoMemory { point: 0 }) {
-            (0, 0)
-        } else {
-            assert_eq!(rt; changed, Changed::Done { point: 0 });
-            (1, 0x41)
-        };
+        let changed = ended(told(&rt, alloc, &unit, &mut first, act)?);
+        let (point, byte) = if changed.is_ok() { (1, 0x41) } else { (0, 0) };
         let found = compared(&rt, alloc, &unit, &mut second, byte)?;
         assert_eq!(rt; found, equal_at(point));
         let entries = unit.history(&rt, alloc, &mut second)?.len();
         assert_eq!(rt; entries, point as usize);
+        assert_eq!(rt; changed, Ok(Changed::Done { point: 0 }));
     }
     Ok(())
 }
@@ -117,11 +122,8 @@ fn failed_pairs_and_acts_at_the_limit_are_answered(rt: HostRuntime) -> Result<()
     let failed = told(&rt, alloc, &unit, &mut first, failing)?;
     assert_eq!(rt; failed, Changed::Failed { point: 0, statuses });
     assert_eq!(rt; compared(&rt, alloc, &unit, &mut second, 0)?, equal_at(0));
-    let done = told(&rt, alloc, &unit, &mut first, zeroes)?;
-    if done == (Changed::NoMemory { point: 0 }) {
-        return Err(Fail::new("there was no memory"));
-    }
-    assert_eq!(rt; done, Changed::Done { point: 0 });
+    let done = ended(told(&rt, alloc, &unit, &mut first, zeroes)?);
+    assert_eq!(rt; done, Ok(Changed::Done { point: 0 }));
     let full = told(&rt, alloc, &unit, &mut second, zeroes)?;
     assert_eq!(rt; full, Changed::Full { point: 1 });
     let failed = told(&rt, alloc, &unit, &mut second, failing)?;

@@ -11,6 +11,7 @@ use nvm_record::{Fuse, Op, Payload, ReadData, Status, Statuses};
 use nvm_store::Limit;
 use nvm_trace::{
     Ending, Explained, Judging, Reads, Start, Trace, TracedJob, WitnessFault, witness,
+    witness_alone,
 };
 use std::alloc::Global;
 use std::sync::Wait;
@@ -300,6 +301,10 @@ fn torn_write_is_a_fault_only_strictly(rt: HostRuntime) -> Result<(), Fail> {
     };
     assert_eq!(rt;
         witness(&rt, alloc, Judging::Standard, &trace, &record),
+        Ok(explained)
+    );
+    assert_eq!(rt;
+        witness_alone(alloc, Judging::Standard, &trace, &record),
         Ok(explained)
     );
     assert_eq!(rt;

@@ -4,7 +4,8 @@ use super::super::{Fitting, ended_with, pair, single, successes};
 use nvm_record::{Op, Payload, Status, Statuses};
 use nvm_run::{RunFault, run};
 use nvm_store::Limit;
-use nvm_unit::Open;
+use nvm_unit::{Gate, Open};
+use std::sync::atomic::{AtomicU64, Ordering};
 use std::test::Fail;
 
 /// Each of 64 hosts writes its own block a hundred times.
@@ -90,6 +91,50 @@ fn one_worker_does_all_in_order(rt: HostRuntime) -> Result<(), Fail> {
         assert_eq!(rt; done.job, number);
     }
     assert_eq!(rt; verdict_of(&rt, alloc, &record)?, lawful(20, 4, 13, 0));
+    Ok(())
+}
+
+/// Notes what it is told of jobs 0 to 3: a decimal digit for each call, the last call's at the end.
+#[derive(Drop)]
+struct Noting {
+    calls: AtomicU64,
+}
+
+impl Noting {
+    fn note(&self, call: u64) {
+        let calls = self.calls.load(Ordering::SeqCst);
+        let noted = calls.wrapping_mul(10).wrapping_add(call);
+        self.calls.store(noted, Ordering::SeqCst);
+    }
+}
+
+impl Gate for Noting {
+    /// Notes an odd digit: 1 is job 0's.
+    fn before_put(&self, _unit: u16, job: u32) {
+        self.note(u64::from(job) * 2 + 1);
+    }
+
+    /// Notes an even digit: 2 is job 0's.
+    fn after_job(&self, job: u32) {
+        self.note(u64::from(job) * 2 + 2);
+    }
+}
+
+/// The gate is told that a job is done when it is, and not before.
+#[test]
+fn the_gate_is_told_of_a_job_once_it_is_done(rt: HostRuntime) -> Result<(), Fail> {
+    let alloc = rt.alloc();
+    let mut jobs = Fitting::new(alloc)?;
+    for host in 1..3u8 {
+        let data = Payload::copy_of(alloc, &[host; 512])?;
+        jobs = jobs.with(single(u16::from(host), Op::Write, 0, data))?;
+    }
+    let gate = Noting {
+        calls: AtomicU64::new(0),
+    };
+    let record = jobs.record(&rt, alloc, 1, 2, &gate)?;
+    assert_eq!(rt; successes(&record), 2);
+    assert_eq!(rt; gate.calls.load(Ordering::SeqCst), 1234);
     Ok(())
 }
 
