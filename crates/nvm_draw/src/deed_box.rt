@@ -74,6 +74,7 @@ fn push_words(text: &mut String, is_wrong: bool, entry: &Entry) -> Result<(), No
 }
 
 /// Appends the LBAs of an entry, if they have room in its box.
+#[tactic(auto, unfolding(crate::specs::EntryBoxes::lbas_text))]
 fn push_lbas(text: &mut String, act: &Act) -> Result<(), NoMemory>
     ensures { OnOk result (string_bytes text.new ≡ string_bytes text.old ++ spec.lbas_text (operation_of act.now)) }
 {
@@ -85,7 +86,8 @@ fn push_lbas(text: &mut String, act: &Act) -> Result<(), NoMemory>
         text.truncate(start);
         return Ok(());
     }
-    text.push_str("</text>")
+    text.push_str("</text>")?;
+    Ok(())
 }
 
 /// The blocks that an act is on, as `<first LBA>+<number of blocks>`, or a Deallocate's ranges, joined by commas.
