@@ -9,12 +9,13 @@ from auditor import verdict
 from forged import FORGED, SPACE, TWO
 from hints import MISSING, no_record, told
 from host_files import compare, dataset, file_of, pair, read, uncorrectable, write, zeroes
-from record_listing import lines
+from record_listing import lines, spans
 from recorded import recorded
 from records import DONE, FAILED, FULL, KIND_DEALLOCATE, KIND_PAIR, KIND_UNCORRECTABLE, KIND_WRITE, KIND_ZEROES, LOOKED, NO_MEMORY, spelled
 
 MOST = 64
 TITLED = 16
+ROOM = 8
 DEEDS = {KIND_WRITE: "W", KIND_ZEROES: "Z", KIND_UNCORRECTABLE: "U", KIND_PAIR: "P", KIND_DEALLOCATE: "D"}
 LETTERS = {DONE: "!", FAILED: "F", NO_MEMORY: "M", FULL: "L"}
 LOOKS = {2: "R", 5: "C"}
@@ -50,13 +51,15 @@ class Drawn:
         return bool(self.fault) and self.fault[1] == job and self.fault[2] in (None, (unit, place))
 
     def boxes(self, unit):
-        """Of each box its column, worker, letter, job, whether it is ringed, and the line of its title."""
+        """Of each box its column, worker, letter, job, LBAs that have room, whether it is ringed, and the line of its title."""
         for place, it in enumerate(self.record.units[unit][self.place : self.place + MOST], self.place):
             line = next(line for line in self.listed if line.startswith(f"unit {unit} place {place} "))
-            yield place - self.place, it.worker, DEEDS[it.kind], str(it.job), self.is_wrong(unit, place, it.job), [line]
+            lbas = spans(it.ranges if it.kind == KIND_DEALLOCATE else [(it.first, it.blocks)])
+            shown = lbas if len(lbas) <= ROOM else None
+            yield place - self.place, it.worker, DEEDS[it.kind], str(it.job), shown, self.is_wrong(unit, place, it.job), [line]
 
     def stacks(self, unit):
-        """The same of each mark, without a job; more than three of a point are two and their number."""
+        """The same of each mark, without a job and LBAs; more than three of a point are two and their number."""
         at = defaultdict(list)
         for worker, job, _unit, point, result in self.marks[unit]:
             if self.place <= point <= self.place + MOST:
@@ -97,7 +100,7 @@ class Drawn:
             yield f"places 0 to {self.place - 1}"
         if any(len(self.record.units[unit]) > self.end or any(mark[3] > self.end for mark in self.marks[unit]) for unit in rows):
             yield f"places from {self.place + MOST} on"
-        if spot and not any(it[4] for unit in rows for it in self.boxes(unit)) and not any(it[3] for unit in rows for it in self.stacks(unit)):
+        if spot and not any(it[5] for unit in rows for it in self.boxes(unit)) and not any(it[3] for unit in rows for it in self.stacks(unit)):
             yield "where the fault is"
 
 
@@ -143,7 +146,7 @@ def seen_row(row):
         if "box" in classes(it):
             words = texts(it)
             worker = worker_of(it) if str(worker_of(it)) == words["by"] else None
-            boxes.append((column_of(at(it)[0], 26), worker, words["deed"], words["job"], is_ringed(it), title(it)))
+            boxes.append((column_of(at(it)[0], 26), worker, words["deed"], words["job"], words.get("lbas"), is_ringed(it), title(it)))
         elif "mark" in classes(it):
             marks.append((column_of(at(it)[0], 4), worker_of(it), texts(it)[""], is_ringed(it), title(it)))
     words = texts(row)
@@ -191,8 +194,9 @@ def many(count):
 
 def pictures(run):
     asked = [write(6, 0x41, 0x41, 0x42), *pair(compare(6, 0x41), write(6, 0x43)), *pair(compare(6, 0x41), write(6, 0x44))]
-    asked += [read(5, 4), zeroes(31, 1), uncorrectable(24, 2), compare(0, 0), dataset((7, 2), (0, 1)), *[read(0, 1)] * 120]
+    asked += [read(5, 4), zeroes(31, 1), uncorrectable(24, 2), compare(0, 0), dataset((7, 2), (0, 1)), dataset((0, 1), (2, 1), (4, 1)), *[read(0, 1)] * 120]
     drawn(run, "all deeds", recorded(SPACE, [file_of(asked)]))
+    drawn(run, "LBAs of eight characters and of nine", recorded(replace(SPACE, nsze=65536, nabsn=127), [file_of([zeroes(65408, 99), zeroes(65408, 100)])]))
     drawn(run, "a full unit", recorded(replace(SPACE, limit=1), [file_of([write(0, 1), write(0, 2)])]))
     drawn(run, "no memory", recorded(SPACE, [file_of([write(0, 1), write(0, 2)])], {1: 0}))
     drawn(run, "64 workers", recorded(SPACE, [file_of([])], workers=64))

@@ -1,3 +1,4 @@
 pub mod Chains
+pub mod Room
 pub mod ByNumber
 pub mod UsedUnits

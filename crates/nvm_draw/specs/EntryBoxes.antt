@@ -1,7 +1,8 @@
 -- How the entries of a unit are drawn: each as a box in the colour of its worker, in the order of their places.
-use Rattle.std.specs.Prelude.{ℕ, ◌+◌, ◌*◌, List, [], ◌∷◌, ◌++◌, Bool, true, false, Option, codes, decimal}
-use Rattle.nvm_record.specs.Step.{Deed, writes, zeroes, uncorrectable, reads, compares, pairs, deallocates}
+use Rattle.std.specs.Prelude.{ℕ, ◌+◌, ◌*◌, nat_le, if◌then◌else◌, List, [], ◌∷◌, ◌++◌, length, Bool, true, false, Option, codes, decimal}
+use Rattle.nvm_record.specs.Step.{Deed, Operation, writes, zeroes, uncorrectable, reads, compares, pairs, deallocates}
 use Rattle.nvm_store.specs.HistoryEntry.{HistoryEntry}
+use Rattle.nvm_list.specs.Listing.{ranges_text}
 use Rattle.nvm_report.specs.EntryLines.{entry_line}
 use Rattle.nvm_draw.specs.declared.wrong.Wrong.{Wrong}
 use Rattle.nvm_draw.specs.Colour.{colour_text}
@@ -21,13 +22,37 @@ abbrev pub box_ring : Bool → List ℕ
 box_ring true = codes "<rect class='ring' x='-3' y='-3' width='46' height='50' rx='6'/>"
 box_ring false = []
 
--- The box itself, with the letter of the deed, the worker's number and the job's, and a ring where the entry is wrong.
+-- the first of blocks, and how many they are
+abbrev pub blocks_text : ℕ → ℕ → List ℕ
+blocks_text first blocks = decimal first ++ (codes "+" ++ decimal blocks)
+
+-- on which blocks something was done, and of a Deallocate its ranges
+abbrev pub deed_lbas : ℕ → ℕ → Deed → List ℕ
+deed_lbas first blocks (writes payload) = blocks_text first blocks
+deed_lbas first blocks zeroes = blocks_text first blocks
+deed_lbas first blocks uncorrectable = blocks_text first blocks
+deed_lbas first blocks reads = blocks_text first blocks
+deed_lbas first blocks (compares payload) = blocks_text first blocks
+deed_lbas first blocks (pairs compare write) = blocks_text first blocks
+deed_lbas first blocks (deallocates ranges) = ranges_text ranges
+
+abbrev pub lbas_of : Operation → List ℕ
+lbas_of op = deed_lbas op.first op.blocks op.deed
+
+-- A box has room for eight characters. What is longer stands in the title alone.
+abbrev pub where_room : List ℕ → List ℕ
+where_room lbas = if nat_le (length lbas) 8 then codes "<text class='lbas' x='20' y='40'>" ++ (lbas ++ codes "</text>") else []
+
+unfoldable pub lbas_text : Operation → List ℕ
+lbas_text op = where_room (lbas_of op)
+
+-- The box itself, with the letter of the deed, the worker's number, the job's and the LBAs, and a ring where the entry is wrong.
 unfoldable pub words_text : Bool → HistoryEntry → List ℕ
 words_text is_wrong e =
-    codes "</title><rect width='40' height='44' rx='4'/><text class='deed' x='6' y='18'>" ++ (deed_letter e.operation.deed
+    (codes "</title><rect width='40' height='44' rx='4'/><text class='deed' x='6' y='18'>" ++ (deed_letter e.operation.deed
     ++ (codes "</text><text class='by' x='35' y='15'>" ++ (decimal e.pass
-    ++ (codes "</text><text class='job' x='20' y='36'>" ++ (decimal e.job
-    ++ (codes "</text>" ++ (box_ring is_wrong ++ codes "</g>\n")))))))
+    ++ (codes "</text><text class='job' x='20' y='30'>" ++ (decimal e.job ++ codes "</text>"))))))
+    ++ (lbas_text e.operation ++ (box_ring is_wrong ++ codes "</g>\n"))
 
 -- The box of an entry in a column, the first of which has the place `from`. Its title is the entry's line in a listing.
 unfoldable pub box_text : Option Wrong → ℕ → ℕ → ℕ → HistoryEntry → List ℕ

@@ -24,6 +24,7 @@ style_text =
     ∷ codes ".box .deed{text-anchor:start;font-size:15px;font-weight:bold}\n"
     ∷ codes ".box .by{text-anchor:end;font-size:9px}\n"
     ∷ codes ".box .job{font-size:9px}\n"
+    ∷ codes ".box .lbas{font-size:8px}\n"
     ∷ codes ".mark text{font-weight:bold}\n"
     ∷ codes ".others rect{fill:#fff;stroke:#777}\n"
     ∷ codes ".others text{font-size:8px}\n"

@@ -6,7 +6,7 @@ use Rattle.nvm_draw.specs.Sizes.{top}
 unfoldable pub letters_text : List ℕ
 letters_text =
     codes "<text x='16' y='92'>Boxes are a unit's entries, in order: W write, Z zeroes, U uncorrectable, P pair, D deallocate;"
-    ++ (codes " with the worker above, the job below.</text>\n"
+    ++ (codes " with worker above, job and LBA+blocks below.</text>\n"
     ++ (codes "<text x='16' y='108'>Marks before them rest on that point: R read, C compare, F failed pair, M no memory,"
     ++ codes " L at the limit, ! without its entry, +n more.</text>\n"))
 

@@ -1,13 +1,19 @@
-ghost use Rattle.std.specs.Prelude.{◌≡◌, ◌≤◌, ◌++◌, OnOk, length, string_bytes};
+ghost use Rattle.std.specs.Prelude.{◌≡◌, ◌≤◌, ◌++◌, OnOk, Some, length, string_bytes};
 ghost use Rattle.nvm_store.specs.Act.{operation_of};
 ghost use Rattle.nvm_draw.specs.EntryBoxes as spec;
 
 use crate::colour::Colour;
 use crate::size::{GAP, LEFT, STEP};
 use crate::wrong::{Wrong, is_wrong};
+use nvm_list::RangesText;
 use nvm_record::NoMemory;
 use nvm_report::push_entry;
 use nvm_store::{Act, Entry};
+use std::fmt;
+use std::fmt::{Display, Formatter};
+
+/// A box has room for so many characters of LBAs.
+const ROOM: usize = 8;
 
 /// Appends the boxes of a unit's entries, of which the first is at place `from`.
 pub(crate) fn push_boxes(
@@ -50,7 +56,7 @@ fn push_box(
     Ok(())
 }
 
-/// Appends the box itself: its letter, its worker and its job, and a ring where the entry is wrong.
+/// Appends the box itself: its letter, its worker, its job and its LBAs, and a ring where the entry is wrong.
 fn push_words(text: &mut String, is_wrong: bool, entry: &Entry) -> Result<(), NoMemory>
     ensures { OnOk result (string_bytes text.new ≡ string_bytes text.old ++ spec.words_text is_wrong entry.now) }
 {
@@ -60,8 +66,46 @@ fn push_words(text: &mut String, is_wrong: bool, entry: &Entry) -> Result<(), No
     let ring = box_ring(is_wrong);
     write!(
         text,
-        "</title><rect width='40' height='44' rx='4'/><text class='deed' x='6' y='18'>{letter}</text><text class='by' x='35' y='15'>{worker}</text><text class='job' x='20' y='36'>{job}</text>{ring}</g>\n"
-    )
+        "</title><rect width='40' height='44' rx='4'/><text class='deed' x='6' y='18'>{letter}</text><text class='by' x='35' y='15'>{worker}</text><text class='job' x='20' y='30'>{job}</text>"
+    )?;
+    push_lbas(text, &entry.act)?;
+    write!(text, "{ring}</g>\n")?;
+    Ok(())
+}
+
+/// Appends the LBAs of an entry, if they have room in its box.
+#[tactic(auto, unfolding(crate::specs::EntryBoxes::lbas_text))]
+fn push_lbas(text: &mut String, act: &Act) -> Result<(), NoMemory>
+    ensures { OnOk result (string_bytes text.new ≡ string_bytes text.old ++ spec.lbas_text (operation_of act.now)) }
+{
+    let start = text.len();
+    text.push_str("<text class='lbas' x='20' y='40'>")?;
+    let inside = text.len();
+    write!(text, "{}", LbasText(act))?;
+    if text.len() - inside > ROOM {
+        text.truncate(start);
+        return Ok(());
+    }
+    text.push_str("</text>")?;
+    Ok(())
+}
+
+/// The blocks that an act is on, as `<first LBA>+<number of blocks>`, or a Deallocate's ranges, joined by commas.
+#[derive(Clone, Copy)]
+struct LbasText<'a>(&'a Act);
+
+impl Display for LbasText<'_> {
+    ghost output = { λ text. Some (spec.lbas_of (operation_of text.0.now)) };
+
+    fn fmt<W: fmt::Write>(&self, f: &mut Formatter<W>) -> fmt::Result {
+        match self.0 {
+            Act::Write { first, blocks, .. }
+            | Act::Zeroes { first, blocks }
+            | Act::Uncorrectable { first, blocks }
+            | Act::Pair { first, blocks, .. } => write!(f, "{first}+{blocks}"),
+            Act::Deallocate { ranges, .. } => write!(f, "{}", RangesText(ranges.as_slice())),
+        }
+    }
 }
 
 /// The letter for what an entry is.

@@ -22,6 +22,7 @@ text{font-family:DejaVu Sans Mono,Consolas,monospace;font-size:11px;fill:#333}
 .box .deed{text-anchor:start;font-size:15px;font-weight:bold}
 .box .by{text-anchor:end;font-size:9px}
 .box .job{font-size:9px}
+.box .lbas{font-size:8px}
 .mark text{font-weight:bold}
 .others rect{fill:#fff;stroke:#777}
 .others text{font-size:8px}

@@ -9,7 +9,7 @@ use nvm_record::NoMemory;
 
 /// What the letters stand for.
 const LETTERS: &str =
-    "<text x='16' y='92'>Boxes are a unit's entries, in order: W write, Z zeroes, U uncorrectable, P pair, D deallocate; with the worker above, the job below.</text>
+    "<text x='16' y='92'>Boxes are a unit's entries, in order: W write, Z zeroes, U uncorrectable, P pair, D deallocate; with worker above, job and LBA+blocks below.</text>
 <text x='16' y='108'>Marks before them rest on that point: R read, C compare, F failed pair, M no memory, L at the limit, ! without its entry, +n more.</text>
 ";
 
