@@ -1,3 +1,5 @@
+ghost use Rattle.std.specs.Prelude.{◌≡◌, IfOk, IfSome};
+
 use crate::contradiction::least_contradiction;
 use crate::history::History;
 use crate::surroundings::{anywhere, near};
@@ -119,7 +121,9 @@ pub fn argument_for(
     alloc: Global,
     steps: &UnitSteps,
     around: Option<usize>,
-) -> Result<Option<Argument>, NoMemory> {
+) -> Result<Option<Argument>, NoMemory>
+    ensures unit { IfOk result (λ found. IfSome found (λ argument. argument.unit ≡ «steps».now.unit)) }
+{
     let history = History::new(alloc, steps)?;
     match facts_against(alloc, &history, around)? {
         Some(facts) => Ok(Some(Argument {

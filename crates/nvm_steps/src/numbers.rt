@@ -1,8 +1,12 @@
+ghost use Rattle.std.specs.Prelude.{◌≡◌, min};
+
 use nvm_record::NoMemory;
 use std::alloc::Global;
 
 /// A number as one of 32 bits. What is counted here are steps and blocks of a trace, of which there are fewer.
-pub fn to_u32(number: usize) -> u32 {
+pub fn to_u32(number: usize) -> u32
+    ensures { result ≡ min number u32.MAX }
+{
     number.min(u32::MAX as usize) as u32
 }
 

@@ -1,3 +1,5 @@
+ghost use Rattle.std.specs.Prelude.{◌≤◌, ◌↔◌, IsTrue};
+
 use std::ops::Range;
 
 /// A block, and a value that a step found or puts there.
@@ -21,7 +23,9 @@ impl Span {
     }
 
     /// Whether there are none.
-    pub fn is_empty(self) -> bool {
+    pub fn is_empty(self) -> bool
+        ensures { IsTrue result ↔ self.to ≤ self.from }
+    {
         self.from >= self.to
     }
 }
