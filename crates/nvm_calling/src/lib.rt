@@ -1,10 +1,9 @@
 //! Callers of the libraries, one module a library: what a maker writes who links it. The page `CALLING.md` of each library
-//! shows its module here, to the byte.
+//! shows its module here, to the byte. That of `nvm_certify` is in `nvm_trace_tests`, so that the tests here needn't wait for it.
 #![tactic(auto)]
 
 pub mod argument;
 pub mod audit;
-pub mod certify;
 pub mod file;
 pub mod generate;
 pub mod geometry;

@@ -1,10 +1,8 @@
 //! Where looks that were set aside have a place in the order of a unit's other steps.
-use crate::numbers::{Numbers, to_u32};
-use crate::ordering::Order;
-use crate::steps::{Reply, UnitStep, UnitSteps, leading};
-use crate::values::{MARK, ZERO};
 use nvm_geometry::Piece;
+use nvm_linearize::Order;
 use nvm_record::{NoMemory, Op};
+use nvm_steps::{MARK, Numbers, Reply, UnitStep, UnitSteps, ZERO, leading, to_u32};
 use nvm_trace::Owner;
 use std::alloc::Global;
 

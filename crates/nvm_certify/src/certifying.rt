@@ -1,19 +1,19 @@
 ghost use Rattle.std.specs.Prelude.{IfOk, IfSome};
 ghost use Rattle.nvm_certify.specs.Certified.{IsCertified};
 
-use crate::arguing::argument_for;
 use crate::certification::{Certification, Reached};
 use crate::finding::{UnitOrder, UnitOrdering, orderings_of_units};
-use crate::ordering::Stuck;
 use crate::placing::Placing;
 use crate::record_bytes::RecordDraft;
-use crate::steps::{Failing, UnitSteps};
 use crate::workers::workers_of;
 use nvm_audit::Record;
+use nvm_derive::argument_for;
 use nvm_file::{RecordFault, read_record};
 use nvm_geometry::Geometry;
+use nvm_linearize::Stuck;
 use nvm_record::{NoMemory, Payload};
 use nvm_refute::{Argument, RefuteFault, refute};
+use nvm_steps::{Failing, UnitSteps};
 use nvm_trace::{Judging, Owner, Start, Trace, WitnessFault, traced_pieces, witness};
 use std::alloc::{AllocError, Global};
 use std::thread::Threads;
@@ -132,7 +132,11 @@ fn contradiction_in(
 fn first_stuck(found: &Vec<UnitOrdering<'_>>) -> Option<Reached> {
     for ordering in found {
         if let UnitOrdering::Stuck(_, stuck) = ordering {
-            return Some(stuck.reached);
+            return Some(Reached {
+                unit: stuck.unit,
+                placed: stuck.placed,
+                steps: stuck.steps,
+            });
         }
     }
     None

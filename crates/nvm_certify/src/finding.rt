@@ -1,9 +1,9 @@
 use crate::aside::{LookPlace, places_of_looks};
-use crate::ordering::{Order, Ordering, Stuck, order_of};
-use crate::steps::{Failing, UnitPieces, UnitSteps, pieces_of_units, steps_of_unit};
-use crate::values::Values;
+use crate::ordering::order_of;
 use nvm_geometry::Geometry;
+use nvm_linearize::{Order, Ordering, Stuck};
 use nvm_record::NoMemory;
+use nvm_steps::{Failing, UnitPieces, UnitSteps, Values, pieces_of_units, steps_of_unit};
 use nvm_trace::{Owner, Start, Trace};
 use rayon::prelude::*;
 use std::alloc::Global;

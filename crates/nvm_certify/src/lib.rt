@@ -5,26 +5,14 @@
 //! proved, and where neither was found it says so.
 #![tactic(auto)]
 
-mod arguing;
 mod aside;
-mod beginning;
-mod board;
 mod bytes;
 mod certification;
 mod certifying;
-mod data;
 mod finding;
-mod hash;
-mod line;
-mod moments;
-mod numbers;
 mod ordering;
 mod placing;
 mod record_bytes;
-mod search;
-mod steps;
-mod times;
-mod values;
 mod workers;
 
 pub use certification::{Certification, Reached};

@@ -1,8 +1,8 @@
 //! Looks that were set aside, put into the orders of their units.
 use crate::aside::LookPlace;
 use crate::finding::{OrderedStep, UnitOrder, UnitOrdering};
-use crate::numbers::to_u32;
 use nvm_record::NoMemory;
+use nvm_steps::to_u32;
 use std::alloc::Global;
 
 /// That a look comes into a unit's order. Such are ordered as they stand there.

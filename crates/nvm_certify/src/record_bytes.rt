@@ -5,10 +5,10 @@ mod work;
 
 use crate::bytes::{put_u16, put_u32, put_u64};
 use crate::finding::UnitOrder;
-use crate::numbers::{Numbers, to_u32};
 use crate::record_bytes::shares::Shares;
 use nvm_geometry::Geometry;
 use nvm_record::NoMemory;
+use nvm_steps::{Numbers, to_u32};
 use nvm_trace::Owner;
 use std::alloc::Global;
 

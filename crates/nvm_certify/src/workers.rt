@@ -1,6 +1,6 @@
 use crate::finding::UnitOrder;
-use crate::numbers::{Numbers, to_u32};
 use nvm_record::NoMemory;
+use nvm_steps::{Numbers, to_u32};
 use std::alloc::Global;
 
 /// A record has at most so many workers.

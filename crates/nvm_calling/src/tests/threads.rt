@@ -1,6 +1,5 @@
 //! What several threads do.
 mod audit;
-mod certify;
 mod refute;
 mod run;
 mod saying;

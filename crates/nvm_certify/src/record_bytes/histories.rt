@@ -1,14 +1,12 @@
 //! The histories of a record's units.
 use crate::bytes::{put_u16, put_u32, put_u64};
-use crate::data::data_on;
 use crate::finding::{OrderedStep, UnitOrder};
-use crate::numbers::to_u32;
 use crate::record_bytes::RecordDraft;
 use crate::record_bytes::jobs::ranges_on;
 use crate::record_bytes::shares::{DONE, result_of};
-use crate::steps::{lbas_in, leading};
 use nvm_plan::Body;
 use nvm_record::{NoMemory, Op};
+use nvm_steps::{data_on, lbas_in, leading, to_u32};
 
 /// A record's file has this number for the change that a Write makes.
 const WRITE: u8 = 1;

@@ -1,13 +1,12 @@
 //! The jobs of a record.
 use crate::bytes::put_u16;
-use crate::data::data_on;
 use crate::record_bytes::RecordDraft;
-use crate::steps::lbas_in;
 use nvm_geometry::Piece;
 use nvm_plan::Body;
 use nvm_record::{
     Command, Fuse, LbaRange, NoMemory, Op, Payload, push_spelling, range_count, ranges_data,
 };
+use nvm_steps::{data_on, lbas_in};
 use nvm_trace::{Cut, Owner};
 use std::alloc::Global;
 

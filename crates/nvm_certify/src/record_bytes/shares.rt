@@ -1,7 +1,7 @@
 use crate::finding::{OrderedStep, UnitOrder};
-use crate::numbers::{Numbers, to_u32};
 use nvm_plan::Body;
 use nvm_record::NoMemory;
+use nvm_steps::{Numbers, to_u32};
 use nvm_trace::Owner;
 use std::alloc::Global;
 

@@ -1,11 +1,10 @@
 //! What a record's workers did.
 use crate::bytes::{put_u16, put_u32};
-use crate::data::block_at;
-use crate::numbers::to_u32;
 use crate::record_bytes::RecordDraft;
 use crate::record_bytes::shares::DONE;
 use nvm_plan::{Body, Plan, job_part_count, plan};
 use nvm_record::{NoMemory, Status, Statuses};
+use nvm_steps::{block_at, to_u32};
 use nvm_trace::{Cut, Owner};
 
 impl<'m, 't> RecordDraft<'m, 't> {

@@ -1,4 +1,5 @@
 //! The search runs in several threads.
+mod calling;
 mod contradictions;
 mod explanations;
 

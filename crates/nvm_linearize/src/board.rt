@@ -1,0 +1,314 @@
+mod guesses;
+mod turns;
+mod versions;
+
+use crate::board::turns::VersionTurns;
+use crate::board::versions::Versions;
+use crate::times::Zone;
+pub use guesses::Guess;
+use nvm_record::NoMemory;
+use nvm_steps::{Cell, Numbers, Reply, Span, UnitStep, UnitSteps};
+use nvm_trace::Start;
+use std::alloc::Global;
+
+/// What a unit's blocks hold while its steps are put in order, and who still needs what.
+#[derive(Debug, Drop)]
+pub struct Board {
+    pub versions: Versions,
+    turns: VersionTurns,
+    /// The version that each block has now.
+    now: Numbers,
+    /// Of each version, how many steps that aren't in order yet found it.
+    readers: Numbers,
+    /// Of each version, how many steps that aren't in order yet may put it where something else is.
+    writers: Numbers,
+    /// Of each version, how many steps that may be in order and aren't would have to find it.
+    hopes: Numbers,
+    /// Of each block, how many failed looks at it aren't in order yet.
+    watched: Numbers,
+    /// The versions that were put over, the last one at the end.
+    over: Vec<u32>,
+    /// What the blocks hold at first, where that isn't zero bytes.
+    pub first: Vec<Cell>,
+}
+
+impl Board {
+    /// The board before any step, with a guess of what blocks held of which nothing was known.
+    pub fn new(
+        alloc: Global,
+        unit: &UnitSteps,
+        start: Start,
+        guess: Guess,
+    ) -> Result<Board, NoMemory> {
+        let versions = Versions::new(alloc, unit)?;
+        let count = versions.count() as usize;
+        let blocks = versions.block_count() as usize;
+        let mut board = Board {
+            turns: VersionTurns::new(alloc, &versions, &[])?,
+            now: Numbers::new(alloc, 0, 0)?,
+            readers: Numbers::new(alloc, count, 0)?,
+            writers: Numbers::new(alloc, count, 0)?,
+            hopes: Numbers::new(alloc, count, 0)?,
+            watched: Numbers::new(alloc, blocks, 0)?,
+            over: Vec::new(alloc),
+            first: Vec::new(alloc),
+            versions,
+        };
+        for block in 0..board.versions.block_count() {
+            board.now.push(board.versions.zeroes_of(block))?;
+        }
+        board.count_uses(unit);
+        match start {
+            Start::Zeroes => {}
+            Start::Unknown => board.guess_first(alloc, unit, guess)?,
+        }
+        Ok(board)
+    }
+
+    /// Counts who found and who may put each version, and who failed at each block.
+    fn count_uses(&mut self, unit: &UnitSteps) {
+        for step in &unit.steps {
+            self.expect(step);
+            for place in step.put.places() {
+                if !self.finds(step, place) {
+                    self.writers.increment(self.versions.of_cell(place));
+                }
+            }
+        }
+    }
+
+    /// Whether the block has the version now.
+    pub fn is_first(&self, version: u32) -> bool {
+        self.now.at(self.versions.block_of(version)) == version
+    }
+
+    /// Whether the block has the version now and no step puts it there again.
+    pub fn is_only_first(&self, version: u32) -> bool {
+        self.is_first(version) && self.writers.at(version) == 0
+    }
+
+    /// Takes the zones of versions, by block and then by `low`. Those of what is there now don't count.
+    pub fn set_zones(&mut self, alloc: Global, zones: &[Zone]) -> Result<(), NoMemory> {
+        let mut later = Vec::with_capacity(alloc, zones.len())?;
+        for zone in zones {
+            if !self.is_first(zone.version) {
+                later.push(*zone)?;
+            }
+        }
+        self.turns = VersionTurns::new(alloc, &self.versions, &later)?;
+        Ok(())
+    }
+
+    /// Whether no version of one of its blocks has to be put before what the step puts.
+    pub fn is_in_turn(&self, step: &UnitStep) -> bool {
+        for place in step.put.places() {
+            let block = self.versions.block_of_cell(place);
+            let version = self.versions.of_cell(place);
+            if !self.turns.is_next(block, version, step.began) {
+                return false;
+            }
+        }
+        true
+    }
+
+    /// Whether the step puts into a cell's block just what it finds there, as a pair may.
+    pub fn finds(&self, step: &UnitStep, place: u32) -> bool {
+        let found = step
+            .found
+            .from
+            .saturating_add(place.saturating_sub(step.put.from));
+        found < step.found.to && self.versions.of_cell(found) == self.versions.of_cell(place)
+    }
+
+    /// Counts what the step has to find.
+    fn expect(&mut self, step: &UnitStep) {
+        for place in step.found.places() {
+            match step.reply {
+                Reply::Done => self.readers.increment(self.versions.of_cell(place)),
+                Reply::Open => self.hopes.increment(self.versions.of_cell(place)),
+                Reply::Marked | Reply::Differs => {
+                    self.watched.increment(self.versions.block_of_cell(place));
+                }
+            }
+        }
+    }
+
+    /// Counts no more what the step had to find.
+    fn settle(&mut self, step: &UnitStep) {
+        for place in step.found.places() {
+            match step.reply {
+                Reply::Done => self.readers.decrement(self.versions.of_cell(place)),
+                Reply::Open => self.hopes.decrement(self.versions.of_cell(place)),
+                Reply::Marked | Reply::Differs => {
+                    self.watched.decrement(self.versions.block_of_cell(place));
+                }
+            }
+        }
+    }
+
+    /// Whether the step has to find something that is nowhere and that no step puts.
+    pub fn lacks(&self, step: &UnitStep) -> bool {
+        if step.reply != Reply::Done {
+            return false;
+        }
+        for place in step.found.places() {
+            if !self.is_now(place) && self.writers.at(self.versions.of_cell(place)) == 0 {
+                return true;
+            }
+        }
+        false
+    }
+
+    /// The version that a cell's block has now.
+    fn now_at(&self, place: u32) -> u32 {
+        self.now.at(self.versions.block_of_cell(place))
+    }
+
+    /// Whether the block of a cell has the cell's value now.
+    fn is_now(&self, place: u32) -> bool {
+        self.now_at(place) == self.versions.of_cell(place)
+    }
+
+    /// Whether all of a span's cells have their values now.
+    fn all_now(&self, span: Span) -> bool {
+        for place in span.places() {
+            if !self.is_now(place) {
+                return false;
+            }
+        }
+        true
+    }
+
+    /// Whether one of a span's blocks is marked now.
+    fn any_marked(&self, span: Span) -> bool {
+        for place in span.places() {
+            if self.versions.is_mark(self.now_at(place)) {
+                return true;
+            }
+        }
+        false
+    }
+
+    /// Whether the step's reply is right now.
+    pub fn holds(&self, step: &UnitStep) -> bool {
+        match step.reply {
+            Reply::Done | Reply::Open => self.all_now(step.found),
+            Reply::Marked => self.any_marked(step.found),
+            Reply::Differs => !self.any_marked(step.found) && !self.all_now(step.found),
+        }
+    }
+
+    /// Whether the step puts something over a version that another step still has to find, and none can put again.
+    pub fn loses(&self, step: &UnitStep) -> bool {
+        let mut own = step.found.from;
+        for place in step.put.places() {
+            let now = self.now_at(place);
+            let is_own = step.reply == Reply::Done
+                && own < step.found.to
+                && self.versions.of_cell(own) == now;
+            own = own.saturating_add(1);
+            if self.versions.of_cell(place) != now
+                && self.readers.at(now) > u32::from(is_own)
+                && self.writers.at(now) == 0
+            {
+                return true;
+            }
+        }
+        false
+    }
+
+    /// Whether a step has to find the version, or would have to if it is in order.
+    fn is_looked_for(&self, version: u32) -> bool {
+        self.readers.at(version) > 0 || self.hopes.at(version) > 0
+    }
+
+    /// Whether a failed look at the block of a cell isn't in order yet.
+    fn is_watched(&self, place: u32) -> bool {
+        self.watched.at(self.versions.block_of_cell(place)) > 0
+    }
+
+    /// Whether no step looks for what the step puts, or what it puts that over, and none failed at its blocks.
+    pub fn is_quiet(&self, step: &UnitStep) -> bool {
+        for place in step.put.places() {
+            if self.is_looked_for(self.versions.of_cell(place))
+                || self.is_looked_for(self.now_at(place))
+                || self.is_watched(place)
+            {
+                return false;
+            }
+        }
+        true
+    }
+
+    /// Whether a step looks for the value of a cell in its block, or failed there.
+    fn is_awaited(&self, place: u32) -> bool {
+        self.is_looked_for(self.versions.of_cell(place)) || self.is_watched(place)
+    }
+
+    /// Whether the step puts something that isn't there now and that another looks for, or at whose block another failed.
+    pub fn is_wanted(&self, step: &UnitStep) -> bool {
+        for place in step.put.places() {
+            if !self.is_now(place) && self.is_awaited(place) {
+                return true;
+            }
+        }
+        false
+    }
+
+    /// Whether the step is wanted, now or after others.
+    pub fn may_be_wanted(&self, step: &UnitStep) -> bool {
+        for place in step.put.places() {
+            if self.is_awaited(place) {
+                return true;
+            }
+        }
+        false
+    }
+
+    /// Whether the step puts something that this reader has to find, and that isn't there now.
+    pub fn serves(&self, step: &UnitStep, reader: &UnitStep) -> bool {
+        for place in step.put.places() {
+            if self.is_now(place) {
+                continue;
+            }
+            for found in reader.found.places() {
+                if self.versions.of_cell(found) == self.versions.of_cell(place) {
+                    return true;
+                }
+            }
+        }
+        false
+    }
+
+    /// Does the step.
+    pub fn do_step(&mut self, step: &UnitStep) -> Result<(), NoMemory> {
+        self.settle(step);
+        for place in step.put.places() {
+            let block = self.versions.block_of_cell(place);
+            let version = self.versions.of_cell(place);
+            self.over.push(self.now.at(block))?;
+            self.now.put(block, version);
+            if !self.finds(step, place) {
+                self.writers.decrement(version);
+            }
+            self.turns.take(version);
+        }
+        Ok(())
+    }
+
+    /// Takes the step back that was done last.
+    pub fn undo_step(&mut self, step: &UnitStep) {
+        for place in step.put.places().rev() {
+            let Some(before) = self.over.pop() else {
+                continue;
+            };
+            let version = self.versions.of_cell(place);
+            self.turns.put_back(version);
+            self.now.put(self.versions.block_of_cell(place), before);
+            if !self.finds(step, place) {
+                self.writers.increment(version);
+            }
+        }
+        self.expect(step);
+    }
+}
