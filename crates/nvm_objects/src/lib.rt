@@ -9,4 +9,5 @@ mod done_jobs;
 pub mod laws;
 mod objects;
 
+pub use command_object::DataValue;
 pub use objects::record_objects;
