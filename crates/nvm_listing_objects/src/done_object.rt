@@ -44,12 +44,7 @@ fn push_done(text: &mut String, worker: u64, done: &DoneJob) -> Result<(), NoMem
 
 /// Appends what stands before the parts.
 #[tactic(auto, unfolding(crate::specs::DoneObject::done_start))]
-fn push_start(
-    text: &mut String,
-    worker: u64,
-    job: u32,
-    statuses: Statuses,
-) -> Result<(), NoMemory>
+fn push_start(text: &mut String, worker: u64, job: u32, statuses: Statuses) -> Result<(), NoMemory>
     ensures { OnOk result (string_bytes text.new ≡ string_bytes text.old ++ spec.done_start worker job statuses) }
 {
     let statuses = StatusStrings(statuses);
