@@ -10,23 +10,27 @@ use Rattle.nvm_list.specs.Listing.{ranges_text}
 abbrev pub blocks_members : List ℕ → ℕ → ℕ → List ℕ
 blocks_members name first blocks = name ++ (decimal first ++ (codes ",\"blocks\":" ++ decimal blocks))
 
--- data as the longest runs of equal bytes, behind its name
-abbrev pub data_member : List ℕ → List ℕ → List ℕ
-data_member name bytes = name ++ (runs_text (runs bytes) ++ codes "\"")
+-- data as the longest runs of equal bytes
+abbrev pub data_member : List ℕ → List ℕ
+data_member bytes = codes ",\"data\":\"" ++ (runs_text (runs bytes) ++ codes "\"")
+
+-- the data to compare with, and that to write
+unfoldable pub pair_members : List ℕ → List ℕ → List ℕ
+pair_members compare write =
+    codes ",\"compare\":\"" ++ (runs_text (runs compare) ++ (codes "\",\"write\":\"" ++ (runs_text (runs write) ++ codes "\"")))
 
 -- What was done, on which blocks, with which data: of a pair the data to compare with stands before that to write. A
 -- Deallocate is on its ranges. A history has no Read and no Compare.
 abbrev pub deed_members : ℕ → ℕ → Deed → List ℕ
 deed_members first blocks (writes payload) =
-    blocks_members (codes "\"deed\":\"write\",\"lba\":") first blocks ++ data_member (codes ",\"data\":\"") payload
+    blocks_members (codes "\"deed\":\"write\",\"lba\":") first blocks ++ data_member payload
 deed_members first blocks zeroes = blocks_members (codes "\"deed\":\"zeroes\",\"lba\":") first blocks
 deed_members first blocks uncorrectable = blocks_members (codes "\"deed\":\"uncorrectable\",\"lba\":") first blocks
 deed_members first blocks reads = blocks_members (codes "\"deed\":\"read\",\"lba\":") first blocks
 deed_members first blocks (compares payload) =
-    blocks_members (codes "\"deed\":\"compare\",\"lba\":") first blocks ++ data_member (codes ",\"data\":\"") payload
+    blocks_members (codes "\"deed\":\"compare\",\"lba\":") first blocks ++ data_member payload
 deed_members first blocks (pairs compare write) =
-    blocks_members (codes "\"deed\":\"pair\",\"lba\":") first blocks
-    ++ (data_member (codes ",\"compare\":\"") compare ++ data_member (codes ",\"write\":\"") write)
+    blocks_members (codes "\"deed\":\"pair\",\"lba\":") first blocks ++ pair_members compare write
 deed_members first blocks (deallocates ranges) = codes "\"deed\":\"deallocate\",\"ranges\":\"" ++ (ranges_text ranges ++ codes "\"")
 
 unfoldable pub operation_members : Operation → List ℕ
