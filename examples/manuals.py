@@ -105,6 +105,7 @@ ANSWERS = {
         "run ": "",
         "run --record ": "",
         "run --record out/a.nvr --re": "--record",
+        "list --js": "--json",
         "draw --json": "",
     },
 }

@@ -27,6 +27,7 @@ from host_files import Asked, compare, dataset, file_of, read, uncorrectable, un
 from lists_expected import lists_expected
 from lists_run import lists_run
 from objects_run import objects_run
+from listed_objects import listed_objects
 from listings import listings
 from outs import outs_of_nvmu, outs_of_nvq, outs_that_are_read, shown_nowhere
 from progress import progress
@@ -398,7 +399,7 @@ def words_of_unit_bench(run):
         run.expect(["unit_bench", "run", "0", "1", name], 1, err="unit_bench: no host file\n")
 
 
-TABLES = [lists, wrong_lists, words_of_nvq, listings, lists_run, lists_expected, objects_run, lists_generated, explained, pictures, outs_of_nvq, words_of_nvmu, files_of_nvmu, files_that_stop, several_workers]
+TABLES = [lists, wrong_lists, words_of_nvq, listings, listed_objects, lists_run, lists_expected, objects_run, lists_generated, explained, pictures, outs_of_nvq, words_of_nvmu, files_of_nvmu, files_that_stop, several_workers]
 TABLES += [versions, standard_input, files_of_another_kind, outs_that_are_read]
 TABLES += [traces, words_of_certify, records_of_certify, arguments, drawn_arguments, devices, outs_of_nvmu, shown_nowhere, progress, runs, rows, forged, spoiled, faulty, two_owners, words_of_unit_bench]
 

@@ -6,14 +6,17 @@ import re
 import subprocess
 from dataclasses import replace
 
+from auditor import verdict
 from audits import spoiled
 from cases import Recording, Run
 from hints import FOLDER, GEOMETRY, IS_LIST, MISSING, VERSIONS, no_host_file, no_list, other_block, the_line, told
 from host_files import compare, dataset, file_of, pair, read, uncorrectable, unknown, write, zeroes
+from listing_objects import listing_objects
 from loads import Load, generated
 from model import COMPARE, DATASET, WRITE, Namespace, commands
 from record_explaining import lawful_explanation
 from record_listing import record_listing
+from record_objects import spelled_object, verdict_object
 from recorded import recorded
 from records import spelled
 from witnesses import certified, contradictions, explained, judged, of_text
@@ -118,6 +121,9 @@ def runs(folder):
     def done(name, given, out="", **more):
         return Run(name, "nvq", given, out=out, **more)
 
+    def objects(record):
+        return listing_objects(record) + spelled_object(verdict_object(verdict(record)))
+
     def drawn(name, *words):
         units = len(of_hosts.namespace.units())
         return done(name, ["draw", *words, "out.svg"], files={"out.svg": picture(words)}, units=units)
@@ -187,6 +193,9 @@ def runs(folder):
         done("a record of the first version is listed", [*in_large("list"), first], record_listing(of_nobody)),
         done("a record on standard input is listed", ["list", "-"], record_listing(of_hosts), input=record),
         done("a record of 65,537 jobs is listed", ["list", crowd], record_listing(of_crowd), every=4),
+        done("a record is listed as objects", ["list", "--json", record], objects(of_hosts), units=len(of_hosts.units)),
+        done("a record of no jobs is listed as objects", ["list", "--json", "-"], objects(of_nobody), input=first, units=len(of_nobody.units)),
+        fault("a cut record to list as objects", f"{cut_record}: truncated at {len(spelled_record) - 1}", "list", "--json", cut_record),
         done("a record is explained", ["explain", record], lawful_explanation(of_hosts), units=len(of_hosts.units)),
         done("a record of no jobs is explained", ["explain", "-"], lawful_explanation(of_nobody), input=first, units=len(of_nobody.units)),
         done("a spoiled record is explained", ["explain", wrong_data], WRONG_DATA, units=4),

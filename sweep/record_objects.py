@@ -11,11 +11,15 @@ def spelled_object(told):
     return json.dumps(told, separators=(",", ":")) + "\n"
 
 
+def words_of(command):
+    """The words of a command, without its identifier."""
+    return asked(command) + ("" if command.nsid == 1 else f" nsid={command.nsid}")
+
+
 def command_object(host, command, line):
     """What is told of a command, whose line is this one."""
     _, _, _, status, *data = line.split()
-    words = asked(command) + ("" if command.nsid == 1 else f" nsid={command.nsid}")
-    return {"host": host, "cid": command.cid, "command": words, "status": status, "data": data[0] if data else None}
+    return {"host": host, "cid": command.cid, "command": words_of(command), "status": status, "data": data[0] if data else None}
 
 
 def verdict_object(line):

@@ -24,7 +24,7 @@ _nvq() {
         valued=""
         ;;
     list)
-        options="--block -h --help"
+        options="--block --json -h --help"
         valued="--block"
         ;;
     audit)

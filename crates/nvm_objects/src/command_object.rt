@@ -37,9 +37,9 @@ impl Display for CommandObject<'_> {
     }
 }
 
-/// The data as runs, or `null` where there is none.
+/// The data of a Read as a string of JSON, in the longest runs of equal bytes, or `null` where there is none.
 #[derive(Clone, Copy)]
-struct DataValue<'a>(&'a Option<ReadData>);
+pub struct DataValue<'a>(pub &'a Option<ReadData>);
 
 impl Display for DataValue<'_> {
     ghost output = { λ value. Some (spec.data_value value.0.now) };

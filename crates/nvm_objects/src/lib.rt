@@ -8,4 +8,5 @@ mod command_object;
 pub mod laws;
 mod objects;
 
+pub use command_object::DataValue;
 pub use objects::record_objects;

@@ -1,14 +1,19 @@
 -- What is listed of a file, and what is answered in place of it: a file that begins with `NVR` is a record, one that begins with
 -- `NVT` is a trace, any other is a host file.
-use Rattle.std.specs.Prelude.{◌≡◌, ℕ, Bool, true, false, String, List, take, codes, Ok}
+use Rattle.std.specs.Prelude.{◌≡◌, ℕ, Bool, true, false, String, List, ◌++◌, take, codes, Result, Ok}
 use Rattle.std.specs.Global.{Global}
 use Rattle.std.specs.Str.{bytes_eq}
 use Rattle.nvm_record.specs.HostFile.{IsHostFile}
 use Rattle.nvm_record.specs.declared.command.Command.{Command}
 use Rattle.nvm_audit.specs.RecordView.{RecordView}
+use Rattle.nvm_audit.specs.declared.audit_fault.AuditFault.{AuditFault}
+use Rattle.nvm_audit.specs.declared.verdict.Verdict.{Verdict}
+use Rattle.nvm_engine.specs.Judged.{IsJudgedAs}
+use Rattle.nvm_engine.specs.VerdictObject.{answer_object}
 use Rattle.nvm_file.specs.Reading.{record_at}
 use Rattle.nvm_file.specs.TraceFile.{IsTraceFile}
 use Rattle.nvm_list.specs.Listing.{listing}
+use Rattle.nvm_listing_objects.specs.ListingObjects.{listing_objects}
 use Rattle.nvm_report.specs.RecordListing.{record_listing}
 use Rattle.nvm_trace.specs.TraceView.{TraceView}
 use Rattle.nvm_trace_text.specs.Listing.{text_of}
@@ -50,3 +55,13 @@ IsListFaultAs false false path size file e = IsFaultOfFile path size file e
 
 abbrev pub IsListFault : String Global → ℕ → List ℕ → Fault → Type 0
 IsListFault path size file e = IsListFaultAs (begins_as_record file) (begins_as_trace file) path size file e
+
+-- The text is the objects of the record that a file holds, and behind them that of what an audit answers of it. What stands in the file
+-- no definition can say, so its bytes are some.
+pub record AreObjectsOfFile (text : List ℕ) : Type 0 where
+  pub file : List ℕ
+  pub run : RecordView
+  pub holds : record_at file ≡ Ok run
+  pub answer : Result Verdict AuditFault
+  pub judged : IsJudgedAs run answer
+  pub whole : text ≡ listing_objects run ++ answer_object answer

@@ -23,6 +23,7 @@ mod files;
 mod generating;
 mod generating_words;
 mod list_failure;
+mod listing;
 mod namespace_words;
 mod read_list;
 mod running;
@@ -41,6 +42,7 @@ use crate::failure::{Failure, of_file};
 use crate::files::{bytes_of, check_output, write_bytes};
 use crate::generating::run_generate;
 use crate::list_failure::of_commands;
+use crate::listing::run_list_objects;
 use crate::read_list::split_list;
 use crate::running::run_lists;
 use crate::tracing::run_trace;
@@ -100,6 +102,7 @@ fn run<R: AllocGlobal + Files + Input + Print + Eprint + Threads + Wait + Sync>(
         }
         Asked::Trace { text, out } => run_trace(rt, text.as_str(), out.as_str(), progress)?,
         Asked::List { size, file } => run_list(rt, size, file, progress)?,
+        Asked::ListObjects(record) => run_list_objects(rt, record.as_str(), progress)?,
         Asked::Run(words) => return run_lists(rt, &words, progress),
         Asked::Generate(words) => run_generate(rt, &words, progress)?,
         Asked::Audit(words) => {

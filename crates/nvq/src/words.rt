@@ -7,7 +7,7 @@ use crate::drawing_words::{DrawWords, draw_command, read_draw};
 use crate::explaining_words::{ExplainWords, explain_command, read_explain};
 use crate::generating_words::{GenerateWords, generate_command, read_generate};
 use crate::running_words::{RunWords, read_run, run_command};
-use clap::{Arg, ArgMatches, Command, Error};
+use clap::{Arg, ArgAction, ArgMatches, Command, Error};
 use nvm_front::{
     AuditWords, VERSION, WitnessWords, WordFault, missing, number_option, read_audit, read_witness,
     size_given, witness_command,
@@ -34,6 +34,8 @@ pub enum Asked {
         size: BlockSize,
         file: String,
     },
+    /// `nvq list --json`: list the record at a path as objects.
+    ListObjects(String),
     /// `nvq run`: do the commands of lists, host 1's first.
     Run(RunWords),
     /// `nvq generate`: write the lists of a load.
@@ -119,7 +121,11 @@ fn list_asked(alloc: Global, words: &ArgMatches<'_>) -> Result<Option<Asked>, Wo
         return Ok(None);
     };
     let file = String::from_str(alloc, file)?;
-    Ok(Some(Asked::List { size, file }))
+    if words.get_flag("json") {
+        Ok(Some(Asked::ListObjects(file)))
+    } else {
+        Ok(Some(Asked::List { size, file }))
+    }
 }
 
 /// What `nvq run` is asked, or `None` where a value is missing.
@@ -274,13 +280,17 @@ fn list_command<'a>(alloc: Global) -> Result<Command<'a>, Error> {
     let command = Command::new(alloc, "list").about(
         "Lists the commands of a host file, a record, or a trace",
     );
+    let json = Arg::new(alloc, "json")
+        .long("json")
+        .action(ArgAction::SetTrue)
+        .help("Prints a record as objects of JSON, one a line, for programs");
     let file = file(
         alloc,
         "file",
         "FILE",
         "The host file, record or trace, or - for standard input",
     );
-    Ok(command.arg(block(alloc))?.arg(file)?)
+    Ok(command.arg(block(alloc))?.arg(json)?.arg(file)?)
 }
 
 /// The option that says how large a block is.

@@ -1,0 +1,5 @@
+pub mod HeadObject
+pub mod JobObject
+pub mod EntryObject
+pub mod DoneObject
+pub mod ListingObjects
