@@ -318,7 +318,7 @@ NO_TRACES = [
     (text_of(TRACE).encode(), "bad name", "it is text: nvq trace it TRACE makes a trace of its lines"),
     (b"NVT1", "truncated at 4", ""),
     (spelled(TRACE) + b"0", f"trailing at {len(spelled(TRACE))}", ""),
-    (spelled(TRACE)[:32] + b"\2" + spelled(TRACE)[33:], "bad value at 32", ""),
+    (spelled(TRACE)[:32] + b"\2" + spelled(TRACE)[33:], "bad value at 32", "it is what was known of the blocks before"),
 ]
 
 

@@ -205,7 +205,7 @@ def runs(folder):
         fault("too many commands", f"{many}: too many commands", "list", many, hides_wants=True),
         fault("a cut record", f"{cut_record}: truncated at {len(spelled_record) - 1}", "list", cut_record),
         fault("a byte more than a record", f"{more}: trailing at {len(spelled_record)}", "list", more),
-        fault("no workers", f"{no_workers}: bad value at 28", "list", no_workers),
+        fault("no workers", f"{no_workers}: bad value at 28", "list", no_workers, hint="it is the number of workers"),
         fault("a record of a later version", f"{later}: unknown version", "list", later, hint=VERSIONS),
         fault("a missing file", f"cannot read {missing}", "list", missing, hint=MISSING),
         *of_text(kept),
