@@ -88,6 +88,8 @@ impl<R: Files + Print + Eprint> Output<'_, R> {
 }
 
 impl<R: Files + Print + Eprint> Write for Output<'_, R> {
+    // A piece that the buffer has room for costs a copy.
+    #[inline(always)]
     fn write(&mut self, bytes: &[u8]) -> io::Result<usize> {
         self.writer.write(bytes)
     }

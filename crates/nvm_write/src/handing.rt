@@ -10,7 +10,26 @@ use std::io::{Error, ErrorKind, Write};
 ///
 /// Where the writer fails, its error is answered, or `WriteZero` where it takes no more bytes. It has taken a front of the bytes
 /// then, and nothing else.
+///
+/// Where the first call takes all of them, as a buffer with room does, it costs no more than that call.
+#[inline(always)]
 pub fn hand<W: Write>(writer: &mut W, bytes: &[u8]) -> io::Result<()>
+    ensures whole { OnOk result (Appends (W.contents writer.old) (W.contents writer.new) bytes.now) }
+    ensures front { OnErr result (TakesFront (W.contents writer.old) (W.contents writer.new) bytes.now) }
+{
+    match writer.write(bytes) {
+        Ok(count) if count == bytes.len() => Ok(()),
+        Ok(0) => Err(taken_none()),
+        Ok(count) => hand_rest(writer, &bytes[count..]),
+        Err(error) if error.kind() == ErrorKind::Interrupted => hand_rest(writer, bytes),
+        Err(error) => Err(error),
+    }
+}
+
+/// Writes all of the bytes, call by call.
+#[cold]
+#[inline(never)]
+fn hand_rest<W: Write>(writer: &mut W, bytes: &[u8]) -> io::Result<()>
     ensures whole { OnOk result (Appends (W.contents writer.old) (W.contents writer.new) bytes.now) }
     ensures front { OnErr result (TakesFront (W.contents writer.old) (W.contents writer.new) bytes.now) }
 {
