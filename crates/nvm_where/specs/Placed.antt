@@ -3,16 +3,16 @@ use Rattle.std.specs.Prelude.{◌≡◌, ℕ, ◌-◌, ◌<◌, ◌≤◌, ◌==
 use Rattle.nvm_geometry.specs.Boundaries.{units_of}
 use Rattle.nvm_geometry.specs.Faults.{HasNoFault}
 use Rattle.nvm_geometry.specs.Namespace.{Namespace, namespace_of}
-use Rattle.nvm_where.specs.Lengths.{fact_length, job_length, traced_length}
+use Rattle.nvm_where.specs.Lengths.{fact_length, job_length}
 use Rattle.nvm_where.specs.Numbers.{number}
 use Rattle.nvm_where.specs.Rows.{begins_of, IsFound, IsFoundInRows, length_in, piece_begins, row_begins}
 use Rattle.nvm_where.specs.declared.found.Found.TheVariants.{Here}
-use Rattle.nvm_where.specs.declared.found.FoundInGroup.TheVariants.{Count, Piece as InRow}
+use Rattle.nvm_where.specs.declared.found.FoundInRows.TheVariants.{Count, Piece as InRow}
 use Rattle.nvm_where.specs.declared.layout.Layout.{Layout}
 use Rattle.nvm_where.specs.declared.place.Piece.{Piece}
 use Rattle.nvm_where.specs.declared.place.Piece.TheVariants.{Head, Job, History, Entry, Work, DoneJob, Fact}
 use Rattle.nvm_where.specs.declared.place.Place.{Place}
-use Rattle.nvm_where.specs.declared.row.Row.TheVariants.{Traced, Entries, Done, Facts}
+use Rattle.nvm_where.specs.declared.row.Row.TheVariants.{Traced, Entries, Done}
 
 -- the numbers of the namespace, as a file's head has them
 abbrev pub namespace_in : List ℕ → Namespace

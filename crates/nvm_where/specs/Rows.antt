@@ -1,13 +1,13 @@
 -- Where pieces begin: the first at an offset, and each other one where the one before it ends.
 use Rattle.std.specs.Prelude.{◌≡◌, ℕ, zero, suc, ◌+◌, ◌<◌, ◌≤◌, List, [], ◌∷◌, ◌++◌, drop, length, slice_index_or}
 use Rattle.nvm_where.specs.Numbers.{number}
-use Rattle.nvm_where.specs.Lengths.{done_length, entry_length, fact_length, job_length, traced_length}
+use Rattle.nvm_where.specs.Lengths.{done_length, entry_length, fact_length, traced_length}
 use Rattle.nvm_where.specs.declared.found.Found.{Found}
 use Rattle.nvm_where.specs.declared.found.Found.TheVariants.{Here, Behind}
 use Rattle.nvm_where.specs.declared.found.FoundJob.{FoundJob}
 use Rattle.nvm_where.specs.declared.found.FoundJob.TheVariants as job
-use Rattle.nvm_where.specs.declared.found.FoundInGroup.{FoundInGroup}
-use Rattle.nvm_where.specs.declared.found.FoundInGroup.TheVariants as group
+use Rattle.nvm_where.specs.declared.found.FoundInRows.{FoundInRows}
+use Rattle.nvm_where.specs.declared.found.FoundInRows.TheVariants as among
 use Rattle.nvm_where.specs.declared.layout.Layout.{Layout}
 use Rattle.nvm_where.specs.declared.row.Row.{Row}
 use Rattle.nvm_where.specs.declared.row.Row.TheVariants as row
@@ -59,10 +59,10 @@ pub record LiesInCount (long : List ℕ → ℕ) (bytes : List ℕ) (first numbe
   pub before : at < row_begins long bytes first number + 4
 
 -- What is found in so many rows: the number of a row's pieces, a piece of a row, or that the last row ends at most there.
-abbrev pub IsFoundInRows : (List ℕ → ℕ) → List ℕ → ℕ → ℕ → ℕ → FoundInGroup → Type 0
-IsFoundInRows long bytes first rows at (group.Count n begins) =
+abbrev pub IsFoundInRows : (List ℕ → ℕ) → List ℕ → ℕ → ℕ → ℕ → FoundInRows → Type 0
+IsFoundInRows long bytes first rows at (among.Count n begins) =
     (n < rows) × (begins ≡ row_begins long bytes first n) × LiesInCount long bytes first n at
-IsFoundInRows long bytes first rows at (group.Piece n piece begins) =
+IsFoundInRows long bytes first rows at (among.Piece n piece begins) =
     (n < rows)
     × IsFound long bytes (row_begins long bytes first n + 4) (number 4 (drop (row_begins long bytes first n) bytes)) at (Here piece begins)
-IsFoundInRows long bytes first rows at (group.Behind end) = (end ≡ row_begins long bytes first rows) × (end ≤ at)
+IsFoundInRows long bytes first rows at (among.Behind end) = (end ≡ row_begins long bytes first rows) × (end ≤ at)

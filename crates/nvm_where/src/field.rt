@@ -43,9 +43,17 @@ pub(crate) fn field_of_job(layout: &Layout, job: &[u8], into: usize) -> &'static
     } else if into < 3 {
         "the kind"
     } else if into < 67 {
-        if is_pair { "the first command" } else { "the command" }
+        if is_pair {
+            "the first command"
+        } else {
+            "the command"
+        }
     } else if into < second {
-        if is_pair { "the data of the first command" } else { "the data" }
+        if is_pair {
+            "the data of the first command"
+        } else {
+            "the data"
+        }
     } else if into < second + 64 {
         "the second command"
     } else {
@@ -72,10 +80,18 @@ pub(crate) fn field_of_traced_job(layout: &Layout, job: &[u8], into: usize) -> &
 }
 
 /// A field of an entry of a unit's history.
-pub(crate) fn field_of_entry(alloc: Global, entry: &[u8], into: usize) -> Result<String, AllocError> {
+pub(crate) fn field_of_entry(
+    alloc: Global,
+    entry: &[u8],
+    into: usize,
+) -> Result<String, AllocError> {
     if u8_at(entry, 6) == DEALLOCATE && into >= 9 {
         let range = (into - 9) / 12;
-        let name = if (into - 9) % 12 < 8 { "first LBA" } else { "number of blocks" };
+        let name = if (into - 9) % 12 < 8 {
+            "first LBA"
+        } else {
+            "number of blocks"
+        };
         return format!(in alloc; "the {name} of range {range}");
     }
     let name = if into < 2 {
@@ -97,7 +113,12 @@ pub(crate) fn field_of_entry(alloc: Global, entry: &[u8], into: usize) -> Result
 }
 
 /// A field of what was done of a job, which begins with the bytes of `job` among the jobs.
-pub(crate) fn field_of_done(alloc: Global, job: &[u8], done: &[u8], into: usize) -> Result<String, AllocError> {
+pub(crate) fn field_of_done(
+    alloc: Global,
+    job: &[u8],
+    done: &[u8],
+    into: usize,
+) -> Result<String, AllocError> {
     let statuses = 6 + 7 * u16_at(done, 4) as usize;
     if into >= 6 && into < statuses {
         let part = (into - 6) / 7;

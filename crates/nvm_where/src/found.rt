@@ -9,9 +9,12 @@ pub(crate) enum Found {
 
 /// What is found in rows that each begin with the number of their pieces.
 #[derive(Drop)]
-pub(crate) enum FoundInGroup {
+pub(crate) enum FoundInRows {
     /// The offset lies in the number of the pieces of this row, which begins there.
-    Count { row: u64, begins: usize },
+    Count {
+        row: u64,
+        begins: usize,
+    },
     /// It lies in this piece of this row, which begins there.
     Piece {
         row: u64,
@@ -19,7 +22,9 @@ pub(crate) enum FoundInGroup {
         begins: usize,
     },
     /// The last row ends there, at most at the offset.
-    Behind { end: usize },
+    Behind {
+        end: usize,
+    },
 }
 
 /// What is found among the jobs of a record.

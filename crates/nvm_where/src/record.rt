@@ -1,7 +1,7 @@
 ghost use Rattle.std.specs.Prelude.{◌≤◌, IfOk};
 ghost use Rattle.nvm_where.specs.Placed.{IsPlacedAmongWorkers, IsPlacedBehindJobs, IsPlacedInRecord};
 
-use crate::found::{FoundInGroup, FoundJob};
+use crate::found::{FoundInRows, FoundJob};
 use crate::layout::{Layout, layout_of_record};
 use crate::place::{Piece, Place};
 use crate::row::{Row, find_in_rows};
@@ -19,7 +19,10 @@ pub fn place_in_record(alloc: Global, bytes: &[u8], at: u64) -> Result<Option<Pl
     let layout = layout_of_record(bytes);
     let at = at as usize;
     if at < layout.first {
-        return Ok(Some(Place { piece: Piece::Head, begins: 0 }));
+        return Ok(Some(Place {
+            piece: Piece::Head,
+            begins: 0,
+        }));
     }
     match find_job(alloc, bytes, &layout, at)? {
         FoundJob::Here { number, begins } => Ok(Some(Place {
@@ -31,37 +34,63 @@ pub fn place_in_record(alloc: Global, bytes: &[u8], at: u64) -> Result<Option<Pl
 }
 
 /// The same, where the jobs end at `end`.
-fn place_behind_jobs(bytes: &[u8], layout: &Layout, starts: &[usize], end: usize, at: usize) -> Option<Place>
+fn place_behind_jobs(
+    bytes: &[u8],
+    layout: &Layout,
+    starts: &[usize],
+    end: usize,
+    at: usize,
+) -> Option<Place>
     requires { end ≤ at }
     ensures { IsPlacedBehindJobs layout.now bytes.now starts.now end at result }
 {
     match find_in_rows(Row::Entries, bytes, layout, starts, end, layout.units, at) {
-        FoundInGroup::Count { row, begins } => Some(Place {
+        FoundInRows::Count { row, begins } => Some(Place {
             piece: Piece::History { unit: row },
             begins: begins as u64,
         }),
-        FoundInGroup::Piece { row, number, begins } => Some(Place {
-            piece: Piece::Entry { unit: row, place: number },
+        FoundInRows::Piece {
+            row,
+            number,
+            begins,
+        } => Some(Place {
+            piece: Piece::Entry {
+                unit: row,
+                place: number,
+            },
             begins: begins as u64,
         }),
-        FoundInGroup::Behind { end } => place_among_workers(bytes, layout, starts, end, at),
+        FoundInRows::Behind { end } => place_among_workers(bytes, layout, starts, end, at),
     }
 }
 
 /// The same, where the histories end at `end`.
-fn place_among_workers(bytes: &[u8], layout: &Layout, starts: &[usize], end: usize, at: usize) -> Option<Place>
+fn place_among_workers(
+    bytes: &[u8],
+    layout: &Layout,
+    starts: &[usize],
+    end: usize,
+    at: usize,
+) -> Option<Place>
     requires { end ≤ at }
     ensures { IsPlacedAmongWorkers layout.now bytes.now starts.now end at result }
 {
     match find_in_rows(Row::Done, bytes, layout, starts, end, layout.workers, at) {
-        FoundInGroup::Count { row, begins } => Some(Place {
+        FoundInRows::Count { row, begins } => Some(Place {
             piece: Piece::Work { worker: row },
             begins: begins as u64,
         }),
-        FoundInGroup::Piece { row, number, begins } => Some(Place {
-            piece: Piece::DoneJob { worker: row, number },
+        FoundInRows::Piece {
+            row,
+            number,
+            begins,
+        } => Some(Place {
+            piece: Piece::DoneJob {
+                worker: row,
+                number,
+            },
             begins: begins as u64,
         }),
-        FoundInGroup::Behind { .. } => None,
+        FoundInRows::Behind { .. } => None,
     }
 }

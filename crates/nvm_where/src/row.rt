@@ -2,7 +2,7 @@
 ghost use Rattle.std.specs.Prelude.{◌≡◌, ◌<◌, ◌≤◌, ◌^◌, length};
 ghost use Rattle.nvm_where.specs.Rows.{IsFound, IsFoundInRows, length_in};
 
-use crate::found::{Found, FoundInGroup};
+use crate::found::{Found, FoundInRows};
 use crate::layout::Layout;
 use crate::lengths::{done_length, entry_length, fact_length, traced_length};
 use crate::numbers::{behind, u32_at};
@@ -74,23 +74,30 @@ pub(crate) fn find_in_rows(
     first: usize,
     rows: u16,
     at: usize,
-) -> FoundInGroup
+) -> FoundInRows
     requires first { first ≤ at }
     ensures { IsFoundInRows (length_in row bytes.now layout.now starts.now) bytes.now first rows at result }
 {
     let mut begins = first;
     for number in 0..rows {
         if at - begins < 4 {
-            return FoundInGroup::Count { row: number as u64, begins };
+            return FoundInRows::Count {
+                row: number as u64,
+                begins,
+            };
         }
         let count = u32_at(bytes, begins) as u64;
         match find(row, bytes, layout, starts, begins + 4, count, at) {
             Found::Here {
                 number: piece,
                 begins,
-            } => return FoundInGroup::Piece { row: number as u64, number: piece, begins },
+            } => return FoundInRows::Piece {
+                row: number as u64,
+                number: piece,
+                begins,
+            },
             Found::Behind { end } => begins = end,
         }
     }
-    FoundInGroup::Behind { end: begins }
+    FoundInRows::Behind { end: begins }
 }

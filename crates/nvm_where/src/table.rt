@@ -26,10 +26,16 @@ pub(crate) fn find_job(
     for number in 0..layout.jobs {
         let length = job_length(layout, behind(bytes, begins));
         if length > at - begins {
-            return Ok(FoundJob::Here { number: number as u64, begins });
+            return Ok(FoundJob::Here {
+                number: number as u64,
+                begins,
+            });
         }
         starts.push(begins)?;
         begins += length;
     }
-    Ok(FoundJob::Behind { end: begins, starts })
+    Ok(FoundJob::Behind {
+        end: begins,
+        starts,
+    })
 }

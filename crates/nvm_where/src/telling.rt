@@ -38,7 +38,12 @@ fn told_in_record(alloc: Global, bytes: &[u8], at: u64) -> Result<Option<String>
 }
 
 /// The field at an offset of a piece of a record.
-fn told_of_record(alloc: Global, bytes: &[u8], place: Place, at: usize) -> Result<String, NoMemory> {
+fn told_of_record(
+    alloc: Global,
+    bytes: &[u8],
+    place: Place,
+    at: usize,
+) -> Result<String, NoMemory> {
     let layout = layout_of_record(bytes);
     let begins = place.begins as usize;
     let piece = behind(bytes, begins);
@@ -77,7 +82,12 @@ fn start_of_job(bytes: &[u8], layout: &Layout, number: u32) -> usize {
 fn told_in_trace(alloc: Global, bytes: &[u8], at: u64) -> Result<Option<String>, NoMemory> {
     let layout = layout_of_trace(bytes);
     match place_in_trace(bytes, at) {
-        Some(Place { piece: Piece::Job { number }, begins }) => {
+        Some(
+            Place {
+                piece: Piece::Job { number },
+                begins,
+            },
+        ) => {
             let begins = begins as usize;
             let into = (at as usize).saturating_sub(begins);
             let field = field_of_traced_job(&layout, behind(bytes, begins), into);
@@ -90,9 +100,12 @@ fn told_in_trace(alloc: Global, bytes: &[u8], at: u64) -> Result<Option<String>,
 
 fn told_in_argument(alloc: Global, bytes: &[u8], at: u64) -> Result<Option<String>, NoMemory> {
     match place_in_argument(bytes, at) {
-        Some(Place { piece: Piece::Fact { number }, .. }) => {
-            Ok(Some(format!(in alloc; "the kind of fact {number}")?))
-        }
+        Some(
+            Place {
+                piece: Piece::Fact { number },
+                ..
+            },
+        ) => { Ok(Some(format!(in alloc; "the kind of fact {number}")?)) }
         _ => Ok(None),
     }
 }

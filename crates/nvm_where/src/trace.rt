@@ -17,9 +17,20 @@ pub fn place_in_trace(bytes: &[u8], at: u64) -> Option<Place>
     let layout = layout_of_trace(bytes);
     let at = at as usize;
     if at < layout.first {
-        return Some(Place { piece: Piece::Head, begins: 0 });
+        return Some(Place {
+            piece: Piece::Head,
+            begins: 0,
+        });
     }
-    match find(Row::Traced, bytes, &layout, &[], layout.first, layout.jobs as u64, at) {
+    match find(
+        Row::Traced,
+        bytes,
+        &layout,
+        &[],
+        layout.first,
+        layout.jobs as u64,
+        at,
+    ) {
         Found::Here { number, begins } => Some(Place {
             piece: Piece::Job { number },
             begins: begins as u64,
@@ -34,10 +45,21 @@ pub fn place_in_argument(bytes: &[u8], at: u64) -> Option<Place>
 {
     let at = at as usize;
     if at < FIRST_FACT {
-        return Some(Place { piece: Piece::Head, begins: 0 });
+        return Some(Place {
+            piece: Piece::Head,
+            begins: 0,
+        });
     }
     let layout = layout_of_trace(bytes);
-    match find(Row::Facts, bytes, &layout, &[], FIRST_FACT, u64_at(bytes, 6), at) {
+    match find(
+        Row::Facts,
+        bytes,
+        &layout,
+        &[],
+        FIRST_FACT,
+        u64_at(bytes, 6),
+        at,
+    ) {
         Found::Here { number, begins } => Some(Place {
             piece: Piece::Fact { number },
             begins: begins as u64,

@@ -78,7 +78,12 @@ fn read_as_argument<R: Files + AllocGlobal + Input + Eprint>(
 }
 
 /// The failure of a file that should be an argument and has these bytes. What helps is how an argument begins, or which field is wrong.
-fn unread(alloc: Global, path: &str, bytes: &[u8], fault: ArgumentFault) -> Result<Failure, AllocError> {
+fn unread(
+    alloc: Global,
+    path: &str,
+    bytes: &[u8],
+    fault: ArgumentFault,
+) -> Result<Failure, AllocError> {
     let named = String::from_str(alloc, path)?;
     let fault = match fault {
         ArgumentFault::BadName => {

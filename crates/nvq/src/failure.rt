@@ -48,9 +48,9 @@ pub fn of_file(alloc: Global, fault: Fault, path: &str, file: &Payload, size: Bl
     let hint = match fault {
         Fault::BadName { .. } => no_host_file(alloc, path, file.as_slice()).map(Some),
         Fault::UnknownVersion { .. } => versions(alloc),
-        Fault::BadValue { at, .. } | Fault::BeganAtZero { at, .. } | Fault::EndedBefore { at, .. } => {
-            field_told(alloc, file.as_slice(), at)
-        }
+        Fault::BadValue { at, .. }
+        | Fault::BeganAtZero { at, .. }
+        | Fault::EndedBefore { at, .. } => { field_told(alloc, file.as_slice(), at) }
         Fault::Truncated { .. } | Fault::TooMany { .. } => other_block(alloc, file, size.bytes()),
         _ => Ok(None),
     };
@@ -76,9 +76,9 @@ pub fn of_trace(alloc: Global, fault: Fault, path: &str, file: &[u8]) -> Failure
 {
     let hint = match fault {
         Fault::BadName { .. } => no_trace(alloc, path, file).map(Some),
-        Fault::BadValue { at, .. } | Fault::BeganAtZero { at, .. } | Fault::EndedBefore { at, .. } => {
-            field_told(alloc, file, at)
-        }
+        Fault::BadValue { at, .. }
+        | Fault::BeganAtZero { at, .. }
+        | Fault::EndedBefore { at, .. } => { field_told(alloc, file, at) }
         _ => Ok(None),
     };
     Failure::hinted(fault, hint)

@@ -7,5 +7,5 @@ abbrev pub invariant-loop-number : goal.invariant-loop-number
 invariant-loop-number l = record {
   begins : l.begins ≡ piece_begins (job_length l.layout) l.bytes l.layout.first l.number;
   before : l.begins ≤ l.at;
-  starts : l.starts.items ≡ begins_of (job_length l.layout) l.bytes l.layout.first l.number
+  starts : l.starts.items ≡ begins_of (job_length l.layout) l.bytes l.layout.first l.number;
 }
