@@ -2,7 +2,7 @@
 ghost use Rattle.std.specs.Prelude.{◌≡◌, ◌++◌, None, Some, MatchOption, OnOk, slice_get, string_bytes};
 ghost use Rattle.nvm_plan.specs.LentPart.{part_operation_of};
 ghost use Rattle.nvm_record.specs.Step.{Operation};
-ghost use Rattle.nvm_store.specs.ActRef.{lent_operation_of};
+ghost use Rattle.nvm_store.specs.Act.{operation_of};
 ghost use Rattle.nvm_explain.specs.IfAny.{if_any};
 ghost use Rattle.nvm_explain.specs.Written as spec;
 
@@ -11,7 +11,7 @@ use crate::looked_up::job_of;
 use nvm_audit::Record;
 use nvm_plan::{LentPart, job_part_in};
 use nvm_record::{BlockSize, NoMemory};
-use nvm_store::{ActRef, Entry, Look};
+use nvm_store::{Act, ActRef, Entry, Look};
 
 /// Appends the first byte that the entry writes otherwise than the part of its job in the unit, if there is such a job, where both write as many
 /// blocks from one LBA.
@@ -29,7 +29,7 @@ pub(crate) fn push_written(
         return Ok(());
     };
     match job_part_in(&run.geometry, job, unit) {
-        Some(part) => push_apart(text, run.geometry.block_size(), entry.act.as_ref(), &part),
+        Some(part) => push_apart(text, run.geometry.block_size(), &entry.act, &part),
         None => Ok(()),
     }
 }
@@ -38,11 +38,11 @@ pub(crate) fn push_written(
 fn push_apart(
     text: &mut String,
     size: BlockSize,
-    act: ActRef<'_>,
+    act: &Act,
     part: &LentPart<'_>,
 ) -> Result<(), NoMemory>
     ensures { OnOk result (string_bytes text.new ≡ string_bytes text.old
-        ++ spec.apart_line size (lent_operation_of act) (part_operation_of part.now)) }
+        ++ spec.apart_line size (operation_of act.now) (part_operation_of part.now)) }
 {
     let Some((first, bytes)) = written_by(act) else {
         return Ok(());
@@ -60,16 +60,16 @@ fn push_apart(
 }
 
 /// The first LBA of an act, and the data that it writes, if it writes any.
-fn written_by(act: ActRef<'_>) -> Option<(u64, &[u8])>
-    ensures { MatchOption result (spec.data_written (lent_operation_of act).deed ≡ None)
-        (λ w. ((lent_operation_of act).first ≡ w.0) × (spec.data_written (lent_operation_of act).deed ≡ Some w.1.now)) }
+fn written_by(act: &Act) -> Option<(u64, &[u8])>
+    ensures { MatchOption result (spec.data_written (operation_of act.now).deed ≡ None)
+        (λ w. ((operation_of act.now).first ≡ w.0) × (spec.data_written (operation_of act.now).deed ≡ Some w.1.now)) }
 {
     match act {
-        ActRef::Write { first, payload, .. } => Some((first, payload.as_slice())),
-        ActRef::Pair { first, write, .. } => Some((first, write.as_slice())),
-        ActRef::Zeroes { .. } => None,
-        ActRef::Uncorrectable { .. } => None,
-        ActRef::Deallocate { .. } => None,
+        Act::Write { first, payload, .. } => Some((*first, payload.as_slice())),
+        Act::Pair { first, write, .. } => Some((*first, write.as_slice())),
+        Act::Zeroes { .. } => None,
+        Act::Uncorrectable { .. } => None,
+        Act::Deallocate { .. } => None,
     }
 }
 
@@ -79,7 +79,11 @@ fn sent_by<'a>(part: &LentPart<'a>) -> Option<(u64, &'a [u8])>
         (λ w. ((part_operation_of part.now).first ≡ w.0) × (spec.data_written (part_operation_of part.now).deed ≡ Some w.1.now)) }
 {
     match *part {
-        LentPart::Act(act) => written_by(act),
+        LentPart::Act(ActRef::Write { first, payload, .. }) => Some((first, payload.as_slice())),
+        LentPart::Act(ActRef::Pair { first, write, .. }) => Some((first, write.as_slice())),
+        LentPart::Act(ActRef::Zeroes { .. }) => None,
+        LentPart::Act(ActRef::Uncorrectable { .. }) => None,
+        LentPart::Act(ActRef::Deallocate { .. }) => None,
         LentPart::Look(Look::Read { .. }) => None,
         LentPart::Look(Look::Compare { .. }) => None,
     }
