@@ -83,6 +83,7 @@ WRONG_ENTRY = f"""unlawful EntryWrong job 0 unit 0 place 0
 EntryWrong: the entry isn't its job's part in the unit, or it doesn't succeed after the entries before it.
 {JOB_0}recorded: unit 0 place 0 worker 0 job 0 write 0 1 511*41,1*01
 the job's part: write 0 1 512*41
+first difference: LBA 0 byte 511 recorded 01 sent 41
 the step gives: status 0/00
 unit 0 first 0 blocks 8 entries 1 limit 100
 unit 0 place 0 worker 0 job 0 write 0 1 511*41,1*01
