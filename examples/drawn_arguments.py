@@ -110,6 +110,11 @@ def words_of_drawing(run):
     run.expect(["nvq", "draw", "--argument", "pair.nvt", "pair.nvt", "-"], 1, err=told("nvq: pair.nvt: bad name", f"pair.nvt {NO_ARGUMENT}"))
     run.keep("cut.nva", PAIR[:-1])
     run.expect(["nvq", "draw", "--argument", "cut.nva", "pair.nvt", "-"], 1, err="nvq: cut.nva: truncated at 36\n")
+    # The first fact is a `First` of 17 bytes.
+    for fact, at in ((0, 14), (1, 31)):
+        run.keep("bad.nva", PAIR[:at] + b"\x07" + PAIR[at + 1 :])
+        err = told(f"nvq: bad.nva: bad value at {at}", f"it is the kind of fact {fact}")
+        run.expect(["nvq", "draw", "--argument", "bad.nva", "pair.nvt", "-"], 1, err=err)
     for out, why in (("pair.nvt", "it is the trace"), ("pair.nva", "it is the argument")):
         err = told(f"nvq: cannot write {out}", why)
         run.expect(["nvq", "draw", "--argument", "pair.nva", "pair.nvt", out], 1, err=err, files={"pair.nva": PAIR})

@@ -82,7 +82,7 @@ EXPLAINED = [
         "EntryWrong: the entry isn't its job's part in the unit, or it doesn't succeed after the entries before it.\n"
         f"job 0 host 1 cid 1 nsid 1 write 0 1 512*41\n{DONE_0}"
         "recorded: unit 0 place 1 worker 0 job 0 write 0 1 1*43,511*41\nthe job's part: write 0 1 512*41\n"
-        f"the step gives: status 0/00\n{UNIT}{FIRST}unit 0 place 1 worker 0 job 0 write 0 1 1*43,511*41\n",
+        f"first difference: LBA 0 byte 0 recorded 43 sent 41\nthe step gives: status 0/00\n{UNIT}{FIRST}unit 0 place 1 worker 0 job 0 write 0 1 1*43,511*41\n",
     ),
     (
         changes(replace(ENTRIES[0], worker=0), ENTRIES[1]),

@@ -95,7 +95,8 @@ def listed(run, file, lines=None):
     try:
         record = record_of(file)
     except RecordFault as fault:
-        run.expect(words, 1, err=hinted(f"nvq: faulty: {fault}", of_record(f"nvmu: record: {fault}", "faulty", file)))
+        hint = f"it is {fault.field}" if fault.field else of_record(f"nvmu: record: {fault}", "faulty", file)
+        run.expect(words, 1, err=hinted(f"nvq: faulty: {fault}", hint))
         return
     text, first = all_faults(record), verdict(record)
     if lines is not None:

@@ -161,16 +161,22 @@ BAD_VALUES = [
 
 def audited(run, file, told=None, **how):
     """Holds the audit of a file by either program to the model, and to the line that was worked out by hand."""
+    field = None
     try:
         line, status = verdict(record_of(file)), 0
     except RecordFault as fault:
-        line, status = f"nvmu: record: {fault}", 1
+        line, status, field = f"nvmu: record: {fault}", 1, fault.field
     if told is not None:
         run.hold("the model of a record", line, told)
     status = 2 if line.startswith("unlawful") else status
     run.keep("forged", file)
-    out, err = ("", hinted(line, of_record(line, "forged", file))) if status == 1 else (f"{line}\n", "")
-    for words, said in ((["nvmu", "audit", "forged"], err), (["nvq", "audit", "forged"], err.replace("nvmu: record:", "nvq: forged:"))):
+    out, err, named = f"{line}\n", "", ""
+    if status == 1:
+        hint = of_record(line, "forged", file)
+        out, err = "", hinted(line, hint)
+        # nvq names the field, too.
+        named = hinted(line.replace("nvmu: record:", "nvq: forged:"), f"it is {field}" if field else hint)
+    for words, said in ((["nvmu", "audit", "forged"], err), (["nvq", "audit", "forged"], named)):
         run.expect(words, status, out=out, err=said, files={"forged": file}, **how)
         if told is not None:
             run.expect([*words, "--json"], status, out=object_of(out), err=said, **how)

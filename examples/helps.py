@@ -21,8 +21,12 @@ COMMAND = re.compile(r"^  ([a-z]+) ", re.MULTILINE)
 HELD = {"help": "what the program prints", "man": "what is derived from docs/help", "completion": "what is derived from docs/help"}
 
 
+def program(name):
+    return os.path.join(TOP, "crates", name, "out", name)
+
+
 def printed(name, *words):
-    done = subprocess.run([os.path.join(TOP, "crates", name, "out", name), *words, "--help"], stdout=subprocess.PIPE, text=True, check=True)
+    done = subprocess.run([program(name), *words, "--help"], stdout=subprocess.PIPE, text=True, check=True)
     return done.stdout
 
 
@@ -45,7 +49,7 @@ def kept(path):
 
 
 def held():
-    """How many files are as they must be, with how many completions by them, and how many aren't."""
+    """How many files are as they must be, with how many completions by them and examples in them, and how many aren't."""
     due = {**dict(pages()), **dict(manuals.derived(kept))}
     wrong = [path for path, text in due.items() if kept(path) != text]
     found = {os.path.relpath(it, DOCS) for folder in HELD for it in glob.glob(os.path.join(DOCS, folder, "*"))}
@@ -53,7 +57,8 @@ def held():
     for path in wrong:
         print(f"docs/{path} isn't {HELD[os.path.dirname(path)]}; examples/helps.py --write writes it")
     answered, unanswered = manuals.completed(os.path.join(DOCS, "completion"))
-    return len(due) - len(wrong) + answered, len(wrong) + unanswered
+    done, undone = manuals.examples_done(program)
+    return len(due) - len(wrong) + answered + done, len(wrong) + unanswered + undone
 
 
 def write(files):

@@ -163,5 +163,6 @@ def faults_of_records(run):
     ):
         run.keep("wrong", given)
         for path in ("wrong", "-"):
-            hint = {"bad name": no_host_file(path, given), "unknown version": VERSIONS}.get(fault, "")
+            hints = {"bad name": no_host_file(path, given), "unknown version": VERSIONS, "bad value at 28": "it is the number of workers"}
+            hint = hints.get(fault, "")
             run.expect(["nvq", "list", path], 1, given=given, err=hinted(f"nvq: {path}: {fault}", hint))

@@ -1,12 +1,14 @@
 """Derives the manual pages of nvq and nvmu, and what completes their words in bash, from their help: examples/helps.py writes and holds both.
 
-Help doesn't tell the statuses with which a program ends. A page has them from here, after the table in docs/FORMATS.md.
+Help doesn't tell the statuses with which a program ends. A page has them from here, after the table in docs/FORMATS.md. The examples of a page
+stand here, too, and the built programs do each of them.
 """
 
 import os
 import re
 import shutil
 import subprocess
+import tempfile
 import textwrap
 from dataclasses import dataclass
 
@@ -54,6 +56,60 @@ EXITS = {
         ("certify: it isn't known whether a record explains the trace.",),
     ),
 }
+# What the examples read, as their user wrote it.
+HEAD = "trace nsze 32 block 512 nabsn 7 nabo 0 nawun 7 nacwu 7 first 0 start zeroes reads whole\n10 20 1 1 write 0 1 41 = 0/00\n"
+WRITTEN = {
+    "own.list": "write 0 1 41\nread 0 1\n",
+    "own.txt": HEAD + "30 40 1 2 read 0 1 = 0/00 512*41\n",
+    "wrong.txt": HEAD + "30 40 1 2 read 0 1 = 0/00 512*00\n",
+}
+# The examples of a page: what each is for, and its commands.
+EXAMPLES = {
+    "nvq": (
+        ("Do the commands of a list in their order, and keep a record of that:", ["nvq run --workers 1 --record own.nvr own.list"]),
+        (
+            "Say whether the record is lawful, what is wrong with it or in it, and draw it:",
+            ["nvq audit own.nvr", "nvq explain own.nvr", "nvq draw own.nvr own.svg"],
+        ),
+        (
+            "Say whether a record explains what the hosts of a device saw, and keep that:",
+            ["nvq trace own.txt own.nvt", "nvq certify --record found.nvr own.nvt"],
+        ),
+        (
+            "Keep the argument that nothing explains it, and draw that:",
+            [
+                "nvq trace wrong.txt wrong.nvt",
+                "nvq certify --argument wrong.nva wrong.nvt",
+                "nvq draw --argument wrong.nva wrong.nvt wrong.svg",
+            ],
+        ),
+        (
+            "Write lists for two hosts by a seed, and do them with eight workers:",
+            ["nvq generate --seed 7 1.list 2.list", "nvq run --nsze 32 --workers 8 1.list 2.list"],
+        ),
+    ),
+    "nvmu": (
+        (
+            "Make a host file of a list, do its commands, and keep a record of that:",
+            [
+                "nvq assemble own.list own.nvq",
+                "nvmu run --nsze 32 --block 512 --nabsn 7 --nabo 0 --nawun 7 --nacwu 7 --workers 1 --limit 100 --record own.nvr own.nvq",
+            ],
+        ),
+        ("Say whether the record is lawful, by an object of JSON:", ["nvmu audit --json own.nvr"]),
+        ("Say whether the record explains what the hosts saw:", ["nvq trace own.txt own.nvt", "nvmu witness own.nvt own.nvr"]),
+        (
+            "Judge an argument that no record explains it:",
+            [
+                "nvq trace wrong.txt wrong.nvt",
+                "nvq certify --argument wrong.nva wrong.nvt",
+                "nvmu refute wrong.nvt wrong.nva",
+            ],
+        ),
+    ),
+}
+# The statuses with which commands of the examples end, where these aren't 0.
+ENDS = {"nvq certify --argument wrong.nva wrong.nvt": 2}
 FORMATS = "docs/FORMATS.md has the files, the lines that are printed, and the faults."
 # Where an item begins; what is said of it goes on further to the right.
 BEGINS = re.compile(r" {2}\S| {6}--")
@@ -191,6 +247,11 @@ def synopsis(name, commands):
     return [*found, ".YS"]
 
 
+def example(text, calls):
+    """An example, with each of its commands on a line."""
+    return [".PP", *paragraph(text), ".PP", ".EX", *map(roff, calls), ".EE"]
+
+
 def manual(name, whole, commands):
     """The manual page of a program."""
     lines = [r'.\" Derived from docs/help by examples/manuals.py; examples/helps.py --derive writes it.', f'.TH {name.upper()} 1 "" Zalkvorn']
@@ -207,6 +268,7 @@ def manual(name, whole, commands):
     for status, (first, *others) in enumerate(EXITS[name]):
         lines += [".TP", str(status), *paragraph(first)]
         lines += [line for text in others for line in (".br", *paragraph(text))]
+    lines += [".SH EXAMPLES", *(line for text, calls in EXAMPLES[name] for line in example(text, calls))]
     lines += [".SH SEE ALSO", *(f".BR {it} (1)" for it in PROGRAMS if it != name), ".PP", *paragraph(FORMATS)]
     return "".join(f"{line}\n" for line in lines)
 
@@ -260,3 +322,21 @@ def completed(folder):
     for told in wrong:
         print(f"it isn't so that {told}")
     return len(tried) - len(wrong), len(wrong)
+
+
+def examples_done(program):
+    """How many commands of the pages' examples end as they must, and how many don't. `program` gives the path of a built one by its name."""
+    tried, wrong = 0, 0
+    for examples in EXAMPLES.values():
+        with tempfile.TemporaryDirectory(prefix="manuals-") as folder:
+            for path, text in WRITTEN.items():
+                with open(os.path.join(folder, path), "w") as file:
+                    file.write(text)
+            for call in (it for _, calls in examples for it in calls):
+                name, *words = call.split()
+                done = subprocess.run([program(name), *words], cwd=folder, stdout=subprocess.DEVNULL, stderr=subprocess.PIPE, text=True)
+                tried += 1
+                if done.returncode != ENDS.get(call, 0):
+                    wrong += 1
+                    print(f"{call} ended with status {done.returncode}: {done.stderr}")
+    return tried - wrong, wrong

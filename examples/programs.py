@@ -315,11 +315,11 @@ NO_TRACES = [
     (b"", "bad name", "it is empty, and a trace begins with NVT1"),
     (b"NVT2", "bad name", "it is no trace, which begins with NVT1"),
     (file_of([]), "bad name", "it is a host file: nvmu run does its commands and writes a record"),
-    (b"NVR2", "bad name", "it is a record: the trace comes first, and then the record"),
+    (b"NVR2", "bad name", "it is a record: nvq audit it judges it; the trace comes first, and then the record"),
     (text_of(TRACE).encode(), "bad name", "it is text: nvq trace it TRACE makes a trace of its lines"),
     (b"NVT1", "truncated at 4", ""),
     (spelled(TRACE) + b"0", f"trailing at {len(spelled(TRACE))}", ""),
-    (spelled(TRACE)[:32] + b"\2" + spelled(TRACE)[33:], "bad value at 32", ""),
+    (spelled(TRACE)[:32] + b"\2" + spelled(TRACE)[33:], "bad value at 32", "it is what was known of the blocks before"),
 ]
 
 

@@ -218,27 +218,27 @@ def faults_of_files(run):
     run.keep("cut.nvt", whole + b"\0")
     run.expect(["nvmu", "witness", "cut.nvt", "two.nvr"], 1, err=f"nvmu: trace: trailing at {len(whole)}\n")
     run.expect(["nvq", "list", "cut.nvt"], 1, err=f"nvq: cut.nvt: trailing at {len(whole)}\n")
-    for offset, value, fault in (
+    for offset, value, fault, field in (
         # NABO above NABSN, and what none of the three flags can be: what was known, what Reads are held to, and a job's kind.
-        (18, 9, "bad value at 4"),
-        (32, 2, "bad value at 32"),
-        (33, 2, "bad value at 33"),
-        (40, 2, "bad value at 40"),
+        (18, 9, "bad value at 4", "the numbers of the namespace"),
+        (32, 2, "bad value at 32", "what was known of the blocks before"),
+        (33, 2, "bad value at 33", "what Reads and Compares are held to"),
+        (40, 2, "bad value at 40", "the kind of job 0"),
         # A host above 64, and an unnamed bit of an entry.
-        (38, 65, "bad value at 38"),
-        (41 + 8, 1, "bad value at 41"),
+        (38, 65, "bad value at 38", "the host of job 0"),
+        (41 + 8, 1, "bad value at 41", "the command of job 0"),
         # The first job began at 10 and ended at 15: at 0, and after its end.
-        (41 + 64 + 512, 0, "began at zero at 617"),
-        (41 + 64 + 512, 99, "ended before at 625"),
-        (41 + 64 + 512 + 8, 9, "ended before at 625"),
+        (41 + 64 + 512, 0, "began at zero at 617", "the beginning of job 0"),
+        (41 + 64 + 512, 99, "ended before at 625", "the end of job 0"),
+        (41 + 64 + 512 + 8, 9, "ended before at 625", "the end of job 0"),
         # Data of what isn't a Read.
-        (41 + 64 + 512 + 18, 1, "bad value at 635"),
+        (41 + 64 + 512 + 18, 1, "bad value at 635", "the flag of the data of job 0"),
     ):
         run.keep("cut.nvt", whole[:offset] + bytes([value]) + whole[offset + 1 :])
         run.expect(["nvmu", "witness", "cut.nvt", "two.nvr"], 1, err=f"nvmu: trace: {fault}\n")
         told_by_nvq = fault.replace("ended before at", "ended before it began at")
         for words in ("list cut.nvt", "witness cut.nvt two.nvr"):
-            run.expect(["nvq", *words.split()], 1, err=f"nvq: cut.nvt: {told_by_nvq}\n")
+            run.expect(["nvq", *words.split()], 1, err=told(f"nvq: cut.nvt: {told_by_nvq}", f"it is {field}"))
     # A count of 4,194,304 jobs in a file that ends behind it.
     run.keep("cut.nvt", whole[:34] + MOST.to_bytes(4, "little"))
     run.expect(["nvmu", "witness", "cut.nvt", "two.nvr"], 1, err="nvmu: trace: truncated at 38\n", preexec_fn=little_memory)

@@ -7,6 +7,12 @@ import json
 
 EXPLAINED = ("jobs", "units", "steps", "excused", "preparations")
 REACHED = ("unit", "placed", "steps")
+# What stands below the first line of a verdict that is unknown.
+UNSHOWN = "each unit has an order, but the record that was made of them doesn't show this as its host saw it"
+WHY = {
+    "no order": "neither an order of all its steps nor an argument that there is none was found: a higher --effort may find one",
+    "no record": "each unit has an order, but no record was made of them",
+}
 # The names that each fact has behind its rule, in their order.
 FACTS = {
     "time": ("before", "after", "ended", "began"),
@@ -87,8 +93,8 @@ def text_of(printed):
         why = told.pop("why")
         if "piece" in told:
             named(told, "piece")
-            return f"unknown {piece(told['piece'])}\n" if why == "no record" else why
-        return f"unknown{numbers(told, {'no order': REACHED, 'no record': ()}[why])}\n"
+            return f"unknown {piece(told['piece'])}\n{UNSHOWN}\n" if why == "no record" else why
+        return f"unknown{numbers(told, {'no order': REACHED, 'no record': ()}[why])}\n{WHY[why]}\n"
     unit, commands, facts, itself = named(told, "unit", "commands", "facts", "itself")
     lines = [f"{verdict} unit {unit} commands {len(commands)}", *map(command, commands), *map(fact, facts)]
     if itself is not None:

@@ -36,7 +36,7 @@ def wrong_lists(run):
     run.keep("other", "read 0 0\n")
     run.expect(["nvq", "run", "right", "wrong", "other"], 1, err=told(f"nvq: wrong: line 1: {NAME}", the_line("walk", f"line 2: {NAME}")))
     for more in (0, 1, 2, 100_000):
-        others = [f"line {line}: {NAME}" for line in range(2, MOST + 2)] + ([f"and {more} lines more"] if more else [])
+        others = [f"line {line}: {NAME}" for line in range(2, MOST + 2)] + ([f"and {more} line{'s' * (more > 1)} more"] if more else [])
         run.keep("wrong", "walk\n" * (1 + MOST + more))
         run.expect(["nvq", "assemble", "wrong", "out"], 1, err=told(f"nvq: line 1: {NAME}", the_line("walk", *others)))
     # No more than 65,536 commands are taken, whatever stands between them.

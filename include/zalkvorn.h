@@ -60,7 +60,8 @@ enum zk_code {
     ZK_NOT_OPEN = 2,      /* The port is not open. */
     ZK_IS_OPEN = 3,       /* One of the ports is open. */
     ZK_NO_MEMORY = 4,     /* malloc refused before anything was done. */
-    ZK_BAD_NAMESPACE = 5, /* There is no namespace of these numbers. */
+    ZK_BAD_NAMESPACE = 5, /* There is no namespace of these numbers: nsze is not 1 to 65,536; block_size is neither 512 nor 4,096; nabsn is 0
+                           * and nabo is not; nabsn is not 0, and nabo, nawun or nacwu is above it; or there are more than 4,096 atomic units. */
     ZK_BAD_PORTS = 6,     /* There are no ports, or more than ZK_MOST_PORTS. */
     ZK_BAD_LIMIT = 7,     /* The limit is above ZK_MOST_CHANGES. */
     ZK_BAD_LENGTH = 8,    /* Entries, data or completions of another length than the command calls for. */
@@ -381,6 +382,68 @@ static inline const char *zk_status_name(uint8_t type, uint8_t code)
         return "Compare Failure";
     default:
         return "Unknown status";
+    }
+}
+
+/* The name of what a call answered, as it stands in zk_code: for 5 "ZK_BAD_NAMESPACE". "unknown code" where no call answers that. Any thread, any
+ * time. */
+static inline const char *zk_code_name(int code)
+{
+    switch (code) {
+    case ZK_DONE:
+        return "ZK_DONE";
+    case ZK_PENDING:
+        return "ZK_PENDING";
+    case ZK_NOT_OPEN:
+        return "ZK_NOT_OPEN";
+    case ZK_IS_OPEN:
+        return "ZK_IS_OPEN";
+    case ZK_NO_MEMORY:
+        return "ZK_NO_MEMORY";
+    case ZK_BAD_NAMESPACE:
+        return "ZK_BAD_NAMESPACE";
+    case ZK_BAD_PORTS:
+        return "ZK_BAD_PORTS";
+    case ZK_BAD_LIMIT:
+        return "ZK_BAD_LIMIT";
+    case ZK_BAD_LENGTH:
+        return "ZK_BAD_LENGTH";
+    case ZK_NO_PAIR:
+        return "ZK_NO_PAIR";
+    case ZK_BUSY:
+        return "ZK_BUSY";
+    case ZK_IDLE:
+        return "ZK_IDLE";
+    case ZK_NEWER:
+        return "ZK_NEWER";
+    case ZK_OUT_OF_RANGE:
+        return "ZK_OUT_OF_RANGE";
+    case ZK_CROSSES:
+        return "ZK_CROSSES";
+    case ZK_NO_VERSIONS:
+        return "ZK_NO_VERSIONS";
+    case ZK_UNLAWFUL:
+        return "ZK_UNLAWFUL";
+    case ZK_BAD_RECORD:
+        return "ZK_BAD_RECORD";
+    case ZK_SHORT_ROOM:
+        return "ZK_SHORT_ROOM";
+    case ZK_OTHER_PORTS:
+        return "ZK_OTHER_PORTS";
+    case ZK_NO_RECORD:
+        return "ZK_NO_RECORD";
+    case ZK_RECORD_FULL:
+        return "ZK_RECORD_FULL";
+    case ZK_UNEXPLAINED:
+        return "ZK_UNEXPLAINED";
+    case ZK_UNREFUTED:
+        return "ZK_UNREFUTED";
+    case ZK_BAD_TRACE:
+        return "ZK_BAD_TRACE";
+    case ZK_BAD_ARGUMENT:
+        return "ZK_BAD_ARGUMENT";
+    default:
+        return "unknown code";
     }
 }
 

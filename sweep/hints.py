@@ -70,7 +70,7 @@ def no_record(path, content):
     if content[:4] == b"NVQ1":
         return f"{name} is a host file: nvmu run does its commands and writes a record"
     if content[:3] == b"NVT":
-        return f"{name} is a trace: nvmu witness {path} REC judges it by a record"
+        return f"{name} is a trace: nvmu witness {path} REC judges it by a record, nvq certify {path} without one"
     if is_text(content):
         return f"{name} is text, which no record is: nvmu run and nvq run write records"
     return f"{name} is no record, which begins with NVR1 or NVR2"

@@ -86,6 +86,7 @@ WRONG_ENTRY = f"""unlawful EntryWrong job 0 unit 0 place 0
 EntryWrong: the entry isn't its job's part in the unit, or it doesn't succeed after the entries before it.
 {JOB_0}recorded: unit 0 place 0 worker 0 job 0 write 0 1 511*41,1*01
 the job's part: write 0 1 512*41
+first difference: LBA 0 byte 511 recorded 01 sent 41
 the step gives: status 0/00
 unit 0 first 0 blocks 8 entries 1 limit 100
 unit 0 place 0 worker 0 job 0 write 0 1 511*41,1*01
@@ -218,7 +219,7 @@ def runs(folder):
         fault("too many commands", f"{many}: too many commands", "list", many, hides_wants=True),
         fault("a cut record", f"{cut_record}: truncated at {len(spelled_record) - 1}", "list", cut_record),
         fault("a byte more than a record", f"{more}: trailing at {len(spelled_record)}", "list", more),
-        fault("no workers", f"{no_workers}: bad value at 28", "list", no_workers),
+        fault("no workers", f"{no_workers}: bad value at 28", "list", no_workers, hint="it is the number of workers"),
         fault("a record of a later version", f"{later}: unknown version", "list", later, hint=VERSIONS),
         fault("a missing file", f"cannot read {missing}", "list", missing, hint=MISSING),
         *of_text(kept),

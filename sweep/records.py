@@ -19,10 +19,11 @@ GEOMETRY = ("nabsn", "nabo", "nawun", "nacwu")
 
 
 class RecordFault(Exception):
-    """The first fault of a file, as the program tells it."""
+    """The first fault of a file, as the program tells it, and the field whose value isn't allowed."""
 
-    def __init__(self, told, at=None):
+    def __init__(self, told, at=None, field=None):
         super().__init__(told if at is None else f"{told} at {at}")
+        self.field = field
 
 
 @dataclass(frozen=True)
@@ -130,6 +131,7 @@ class Reader:
     workers: int = 0
     jobs: list = field(default_factory=list)
     at: int = 4
+    piece: str = ""  # what is read, as in "job 3"
 
     def bytes(self, length):
         """A field of so many bytes."""
@@ -138,46 +140,61 @@ class Reader:
         self.at += length
         return self.file[self.at - length : self.at]
 
-    def number(self, length, least=0, most=None):
+    def refuse(self, at, called):
+        """The field there, which is called so, has a value that isn't allowed."""
+        raise RecordFault("bad value", at, f"the {called} of {self.piece}" if self.piece else f"the {called}")
+
+    def number(self, length, least=0, most=None, called=""):
         """A field that holds a number, from the least to the most that are allowed."""
         at, number = self.at, int.from_bytes(self.bytes(length), "little")
         if number < least or most is not None and number > most:
-            raise RecordFault("bad value", at)
+            self.refuse(at, called)
         return number
 
     def record(self):
         numbers = [self.number(length) for length in (8, 4, 2, 2, 2, 2)]
         if not makes_namespace(*numbers):
-            raise RecordFault("bad value", 4)
-        limit = self.number(2) + 1 if self.version == 1 else self.number(4, 1, MOST_LIMIT[2])
+            self.refuse(4, "numbers of the namespace")
+        limit = self.number(2) + 1 if self.version == 1 else self.number(4, 1, MOST_LIMIT[2], "limit")
         self.namespace = Namespace(*numbers, limit)
-        self.workers = self.number(2, 1, 64)
-        for _ in range(self.number(4, 0, MOST_JOBS)):
+        self.workers = self.number(2, 1, 64, "number of workers")
+        for number in range(self.number(4, 0, MOST_JOBS, "number of jobs")):
+            self.piece = f"job {number}"
             self.jobs.append(self.job())
-        units = tuple(tuple(self.entry(*unit) for _ in range(self.number(4, 0, limit))) for unit in self.namespace.units())
-        done = tuple(tuple(self.done() for _ in range(self.number(4, 0, MOST_JOBS))) for _ in range(self.workers))
+        units = tuple(self.history(limit, unit, *place) for unit, place in enumerate(self.namespace.units()))
+        done = tuple(self.work(worker) for worker in range(self.workers))
         if self.at < len(self.file):
             raise RecordFault("trailing", self.at)
         return Record(self.version, self.namespace, self.workers, tuple(self.jobs), units, done)
 
     def job(self):
-        host, kind = self.number(2, 1, 64), self.number(1, 0, 1)
+        host, kind = self.number(2, 1, 64, "host"), self.number(1, 0, 1, "kind")
         places = (FIRST, SECOND) if kind else (None,)
         return Job(host, tuple(self.command(place) for place in places))
 
+    def history(self, limit, unit, begin, length):
+        self.piece = f"unit {unit}"
+        count = self.number(4, 0, limit, "number of entries")
+        return tuple(self.entry(f"entry {place} of unit {unit}", begin, length) for place in range(count))
+
+    def work(self, worker):
+        self.piece = f"worker {worker}"
+        count = self.number(4, 0, MOST_JOBS, "number of done jobs")
+        return tuple(self.done(f"done job {place} of worker {worker}") for place in range(count))
+
     def command(self, place):
         """A command; `place` is the FUSE bits that it must have in a pair, or None."""
-        at, entry = self.at, self.bytes(64)
+        at, entry, called = self.at, self.bytes(64), {FIRST: "first command", SECOND: "second command"}.get(place, "command")
         opcode, fuse, cid, nsid, slba, nlb = struct.unpack("<BBHI32xQH14x", entry)
         has_ranges = opcode == DATASET and self.version == 2
         named = slba & (0xFF | 1 << 34) if has_ranges else slba
         if entry != struct.pack("<BBHI32xQH14x", opcode, fuse & 3, cid, nsid, named, 0 if has_ranges else nlb):
-            raise RecordFault("bad value", at)
+            self.refuse(at, called)
         command = Command(opcode, fuse, cid, nsid, 0 if has_ranges else slba, nlb + 1, ())
         if place is not None and (fuse != place or not (command.is_known() or has_ranges)):
-            raise RecordFault("bad value", at)
+            self.refuse(at, called)
         if has_ranges:
-            return Command(opcode, fuse, cid, nsid, 0, 1, (), self.ranges((slba & 0xFF) + 1), bool(slba >> 34))
+            return Command(opcode, fuse, cid, nsid, 0, 1, (), self.ranges((slba & 0xFF) + 1, "data" if place is None else f"data of the {called}"), bool(slba >> 34))
         if opcode not in (WRITE, COMPARE):
             return command
         block = self.namespace.block
@@ -185,44 +202,48 @@ class Reader:
         blocks = tuple(data[begin : begin + block] for begin in range(0, len(data), block))
         return Command(opcode, fuse, cid, nsid, slba, nlb + 1, blocks)
 
-    def ranges(self, count):
+    def ranges(self, count, called):
         at, data = self.at, self.bytes(16 * count)
         read = [struct.unpack_from("<IIQ", data, 16 * place) for place in range(count)]
         if any(attributes for attributes, _, _ in read):
-            raise RecordFault("bad value", at)
+            self.refuse(at, called)
         return tuple((first, blocks) for _, blocks, first in read)
 
-    def range_in(self, begin, length):
+    def range_in(self, begin, length, called="number of blocks"):
         """A first LBA, and a number of blocks, which all lie in the unit."""
-        first, at, blocks = self.number(8), self.at, self.number(4, 1)
+        first, at, blocks = self.number(8), self.at, self.number(4, 1, called=called)
         if first < begin or first + blocks > begin + length:
-            raise RecordFault("bad value", at)
+            self.refuse(at, called)
         return first, blocks
 
-    def entry(self, begin, length):
+    def entry(self, piece, begin, length):
         """An entry of the unit that begins there and has so many blocks."""
-        worker = self.number(2, 0, self.workers - 1)
-        job = self.number(4, 0, len(self.jobs) - 1)
-        kind = self.number(1, 1, KIND_PAIR if self.version == 1 else KIND_DEALLOCATE)
+        self.piece = piece
+        worker = self.number(2, 0, self.workers - 1, "pass")
+        job = self.number(4, 0, len(self.jobs) - 1, "job")
+        kind = self.number(1, 1, KIND_PAIR if self.version == 1 else KIND_DEALLOCATE, "kind")
         if kind == KIND_DEALLOCATE:
-            count = self.number(2, 1, 256)
-            return Entry(worker, job, kind, ranges=tuple(self.range_in(begin, length) for _ in range(count)))
+            count = self.number(2, 1, 256, "number of ranges")
+            ranges = tuple(self.range_in(begin, length, f"number of blocks of range {place}") for place in range(count))
+            return Entry(worker, job, kind, ranges=ranges)
         first, blocks = self.range_in(begin, length)
         runs = {KIND_WRITE: 1, KIND_PAIR: 2}.get(kind, 0)
         return Entry(worker, job, kind, first, blocks, self.bytes(runs * blocks * self.namespace.block))
 
-    def done(self):
-        job = self.number(4, 0, len(self.jobs) - 1)
-        parts = tuple(self.part() for _ in range(self.number(2, 0, len(self.namespace.units()))))
+    def done(self, piece):
+        self.piece = piece
+        job = self.number(4, 0, len(self.jobs) - 1, "job")
+        parts = tuple(self.part(place) for place in range(self.number(2, 0, len(self.namespace.units()), "number of parts")))
         body = self.jobs[job].body
         statuses = tuple((self.number(1), self.number(1)) for _ in body)
         has_data = len(body) == 1 and body[0].opcode == READ and refusal(self.namespace, body) is None
-        if not self.number(1, 0, int(has_data)):
+        if not self.number(1, 0, int(has_data), "flag of the data"):
             return Done(job, parts, statuses)
         return Done(job, parts, statuses, self.bytes(body[0].blocks * self.namespace.block))
 
-    def part(self):
-        return self.number(2, 0, len(self.namespace.units()) - 1), self.number(4), self.number(1, DONE, FULL)
+    def part(self, place):
+        unit = self.number(2, 0, len(self.namespace.units()) - 1, f"unit of part {place}")
+        return unit, self.number(4), self.number(1, DONE, FULL, f"result of part {place}")
 
 
 def record_of(file):

@@ -24,19 +24,22 @@ explained_line e =
     ++ (codes " excused " ++ (decimal e.excused
     ++ (codes " preparations " ++ (decimal e.preparations ++ codes "\n")))))))))
 
--- how far a search came in which unit
+-- how far a search came in which unit, and on a second line what that means
 unfoldable pub reached_line : Reached → List ℕ
 reached_line r =
-    codes "unknown unit " ++ (decimal r.unit ++ (codes " placed " ++ (decimal r.placed ++ (codes " steps " ++ (decimal r.steps ++ codes "\n")))))
+    codes "unknown unit " ++ (decimal r.unit ++ (codes " placed " ++ (decimal r.placed ++ (codes " steps " ++ (decimal r.steps
+    ++ codes "\nneither an order of all its steps nor an argument that there is none was found: a higher --effort may find one\n")))))
 
--- of which piece the record that was made shows something other than was seen
+-- of which piece the record that was made shows something other than was seen, and on a second line what that means
 unfoldable pub piece_line : PieceName → List ℕ
-piece_line name = codes "unknown " ++ (name_text name ++ codes "\n")
+piece_line name =
+    codes "unknown " ++ (name_text name
+    ++ codes "\neach unit has an order, but the record that was made of them doesn't show this as its host saw it\n")
 
 abbrev pub unknown_line : Judging → TraceView → Option Reached → Option ℕ → List ℕ
 unknown_line judging t (Some r) piece = reached_line r
 unknown_line judging t None (Some piece) = piece_line (name_at (names judging t) piece)
-unknown_line judging t None None = codes "unknown\n"
+unknown_line judging t None None = codes "unknown\neach unit has an order, but no record was made of them\n"
 
 -- the piece is of the job of this number
 abbrev pub is_of : List PieceName → ℕ → ℕ → Bool

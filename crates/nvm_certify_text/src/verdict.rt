@@ -14,8 +14,8 @@ use std::alloc::Global;
 
 /// The text of a verdict on a trace, each line with its line feed. It begins with `explained`, `contradiction` or `unknown`.
 ///
-/// An explained trace has one line, with the numbers of an explained trace. An unknown one has one, with how far the search came in a unit,
-/// or with the piece of a command that the record which was found doesn't show as it was seen, or with neither.
+/// An explained trace has one line, with the numbers of an explained trace. An unknown one has two: one with how far the search came in a unit,
+/// or with the piece of a command that the record which was found doesn't show as it was seen, or with neither; and one that says so in words.
 /// A contradiction has the number of the unit and how many commands the argument is about; then these commands, by rising number, each
 /// as the trace's text has it; then the argument's facts, in its order; and at last, unless the last fact is of nobody, that the piece
 /// which that fact puts first stands before itself. It does where the last fact closes the loop: the argument is told, and not judged.
@@ -69,7 +69,7 @@ fn explained_text(alloc: Global, explained: Explained) -> Result<String, NoMemor
     )
 }
 
-/// The line of a trace of which nothing is known.
+/// The lines of a trace of which nothing is known.
 fn unknown_text(
     alloc: Global,
     judging: Judging,
@@ -85,11 +85,13 @@ fn unknown_text(
             let names = names(alloc, judging, trace)?;
             piece_text(alloc, name_at(&names, piece))
         }
-        (None, None) => format!(in alloc; "unknown\n"),
+        (None, None) => format!(in alloc;
+            "unknown\neach unit has an order, but no record was made of them\n"
+        ),
     }
 }
 
-/// The line that says how far the search came in a unit.
+/// The lines that say how far the search came in a unit.
 #[tactic(auto, unfolding(crate::specs::Verdict::reached_line))]
 fn reached_text(alloc: Global, reached: Reached) -> Result<String, NoMemory>
     ensures { IfOk result (λ line. string_bytes line ≡ spec.reached_line reached) }
@@ -99,15 +101,19 @@ fn reached_text(alloc: Global, reached: Reached) -> Result<String, NoMemory>
         placed,
         steps,
     } = reached;
-    format!(in alloc; "unknown unit {unit} placed {placed} steps {steps}\n")
+    format!(in alloc;
+        "unknown unit {unit} placed {placed} steps {steps}\nneither an order of all its steps nor an argument that there is none was found: a higher --effort may find one\n"
+    )
 }
 
-/// The line that says which piece the record doesn't show as it was seen.
+/// The lines that say which piece the record doesn't show as it was seen.
 #[tactic(auto, unfolding(crate::specs::Verdict::piece_line))]
 fn piece_text(alloc: Global, name: PieceName) -> Result<String, NoMemory>
     ensures { IfOk result (λ line. string_bytes line ≡ spec.piece_line name) }
 {
-    format!(in alloc; "unknown {name}\n")
+    format!(in alloc;
+        "unknown {name}\neach unit has an order, but the record that was made of them doesn't show this as its host saw it\n"
+    )
 }
 
 /// The lines of a contradicted trace.

@@ -1,4 +1,5 @@
--- What is said of an entry: how it is recorded, the part that its job has in the unit, and what the step gives it at its place.
+-- What is said of an entry: how it is recorded, the part that its job has in the unit, the first byte that it writes otherwise, and what the step
+-- gives it at its place.
 use Rattle.std.specs.Prelude.{ℕ, if◌then◌else◌, List, [], ◌++◌, Option, Some, None, codes, slice_get, take}
 use Rattle.nvm_record.specs.declared.status.Statuses.TheVariants.{One}
 use Rattle.nvm_record.specs.Medium.{Medium}
@@ -16,6 +17,7 @@ use Rattle.nvm_explain.specs.Comparison.{comparison_story}
 use Rattle.nvm_explain.specs.IfAny.{if_any}
 use Rattle.nvm_explain.specs.Outcome.{given_line}
 use Rattle.nvm_explain.specs.Reached.{is_reached}
+use Rattle.nvm_explain.specs.Written.{written_line}
 
 -- what a part does, if there is one
 abbrev pub part_text : Option Operation → List ℕ
@@ -37,9 +39,10 @@ abbrev pub entry_lines : RecordView → ℕ → Spot → List HistoryEntry → H
 entry_lines r number spot history entry =
     codes "recorded: " ++ (entry_line spot.unit spot.place entry
     ++ (if_any (slice_get r.jobs number) (own_line r.namespace spot.unit)
+    ++ (if_any (slice_get r.jobs number) (written_line r.namespace spot.unit entry.operation)
     ++ (if is_reached r.namespace.block_size history spot.place
     then given_on r.namespace.block_size spot.unit (take spot.place history) entry.operation (point r.namespace.block_size history spot.place)
-    else [])))
+    else []))))
 
 -- what is said of the entry at this place of the unit, if there is one
 abbrev pub entry_story : RecordView → ℕ → Spot → List ℕ

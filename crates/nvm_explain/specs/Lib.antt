@@ -13,6 +13,7 @@ pub mod ShapeStory
 pub mod Surroundings
 pub mod Doing
 pub mod PartStory
+pub mod Written
 pub mod EntryStory
 pub mod BackStory
 pub mod Story

@@ -67,7 +67,7 @@ pub(crate) fn push_difference(
 
 /// Appends in which block the byte is and at which offset there, what it is, and what the other is.
 #[tactic(auto, unfolding(crate::specs::Difference::byte_line))]
-fn push_byte(
+pub(crate) fn push_byte(
     text: &mut String,
     words: &str,
     others: &str,

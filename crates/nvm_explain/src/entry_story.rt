@@ -8,6 +8,7 @@ use crate::comparison::push_comparison;
 use crate::given::{OutcomeText, given_on, push_operation};
 use crate::looked_up::{entries_of, job_of};
 use crate::unit_at::{UnitAt, unit_at};
+use crate::written::push_written;
 use nvm_audit::{Record, Spot};
 use nvm_plan::{LentPart, job_part_in};
 use nvm_record::{NoMemory, Status, Statuses};
@@ -15,8 +16,8 @@ use nvm_report::push_entry;
 use nvm_store::Entry;
 use std::alloc::Global;
 
-/// Appends an entry as it is recorded, the part that its job has in the unit, and what the step gives the entry at its place, if each
-/// entry before succeeds.
+/// Appends an entry as it is recorded, the part that its job has in the unit, the first byte that the entry writes otherwise, and what the step
+/// gives the entry at its place, if each entry before succeeds.
 pub(crate) fn push_entry_story(
     text: &mut String,
     alloc: Global,
@@ -36,6 +37,7 @@ pub(crate) fn push_entry_story(
     text.push_str("recorded: ")?;
     push_entry(text, u64::from(unit), u64::from(place), entry)?;
     push_own_part(text, alloc, run, number, unit)?;
+    push_written(text, run, number, unit, entry)?;
     match unit_at(alloc, &run.geometry, unit, history, place)? {
         Some(at) => push_given(text, alloc, &at, entry),
         None => Ok(()),

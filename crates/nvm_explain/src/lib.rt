@@ -27,6 +27,7 @@ mod spot_text;
 mod summary;
 mod unit_at;
 mod unit_counts;
+mod written;
 
 pub use explaining::explain;
 pub use job_story::push_job;

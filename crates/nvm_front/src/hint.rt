@@ -42,7 +42,9 @@ pub fn no_host_file(alloc: Global, path: &str, bytes: &[u8]) -> Result<String, A
             )
         }
         Content::Trace => {
-            format!(in alloc; "{name} is a trace: nvmu witness {path} REC judges it by a record")
+            format!(in alloc;
+                "{name} is a trace: nvmu witness {path} REC judges it by a record, nvq certify {path} without one"
+            )
         }
         Content::HostFile | Content::Unknown => {
             format!(in alloc; "{name} is no host file, which begins with NVQ1")
@@ -68,7 +70,9 @@ pub fn no_record(alloc: Global, path: &str, bytes: &[u8]) -> Result<String, Allo
             )
         }
         Content::Trace => {
-            format!(in alloc; "{name} is a trace: nvmu witness {path} REC judges it by a record")
+            format!(in alloc;
+                "{name} is a trace: nvmu witness {path} REC judges it by a record, nvq certify {path} without one"
+            )
         }
         Content::Record | Content::Unknown => {
             format!(in alloc; "{name} is no record, which begins with NVR1 or NVR2")
@@ -90,7 +94,9 @@ pub fn no_trace(alloc: Global, path: &str, bytes: &[u8]) -> Result<String, Alloc
             )
         }
         Content::Record => {
-            format!(in alloc; "{name} is a record: the trace comes first, and then the record")
+            format!(in alloc;
+                "{name} is a record: nvq audit {path} judges it; the trace comes first, and then the record"
+            )
         }
         Content::Trace | Content::Unknown => {
             format!(in alloc; "{name} is no trace, which begins with NVT1")

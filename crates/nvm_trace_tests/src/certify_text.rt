@@ -241,11 +241,32 @@ fn what_is_unknown_says_how_far(rt: HostRuntime) -> Result<(), Fail> {
             alloc,
             Some(reached),
             None,
-            "unknown unit 3 placed 17 steps 20\n"
+            "unknown unit 3 placed 17 steps 20\nneither an order of all its steps nor an argument that there is none was found: a higher --effort may find one\n"
         )?
     );
-    assert!(rt; is_unknown(alloc, None, Some(4), "unknown job 1 block 2\n")?);
-    assert!(rt; is_unknown(alloc, None, Some(7), "unknown job 3\n")?);
-    assert!(rt; is_unknown(alloc, None, None, "unknown\n")?);
+    assert!(rt;
+        is_unknown(
+            alloc,
+            None,
+            Some(4),
+            "unknown job 1 block 2\neach unit has an order, but the record that was made of them doesn't show this as its host saw it\n"
+        )?
+    );
+    assert!(rt;
+        is_unknown(
+            alloc,
+            None,
+            Some(7),
+            "unknown job 3\neach unit has an order, but the record that was made of them doesn't show this as its host saw it\n"
+        )?
+    );
+    assert!(rt;
+        is_unknown(
+            alloc,
+            None,
+            None,
+            "unknown\neach unit has an order, but no record was made of them\n"
+        )?
+    );
     Ok(())
 }

@@ -11,6 +11,7 @@ use nvm_front::{Progress, STANDARD};
 use nvm_refute::{Argument, RefuteFault, refute};
 use nvm_timeline::draw_contradiction;
 use nvm_trace::{Judging, Trace};
+use nvm_where::field_told;
 use std::alloc::{AllocError, Global};
 use std::rt::Files;
 
@@ -72,12 +73,17 @@ fn read_as_argument<R: Files + AllocGlobal + Input + Eprint>(
     let bytes = bytes_of(rt, path, progress)?;
     match read_argument(rt.alloc(), &bytes) {
         Ok(argument) => Ok(argument),
-        Err(fault) => Err(unread(rt.alloc(), path, fault)?),
+        Err(fault) => Err(unread(rt.alloc(), path, &bytes, fault)?),
     }
 }
 
-/// The failure of a file that should be an argument. What helps is how an argument begins.
-fn unread(alloc: Global, path: &str, fault: ArgumentFault) -> Result<Failure, AllocError> {
+/// The failure of a file that should be an argument and has these bytes. What helps is how an argument begins, or which field is wrong.
+fn unread(
+    alloc: Global,
+    path: &str,
+    bytes: &[u8],
+    fault: ArgumentFault,
+) -> Result<Failure, AllocError> {
     let named = String::from_str(alloc, path)?;
     let fault = match fault {
         ArgumentFault::BadName => {
@@ -86,7 +92,10 @@ fn unread(alloc: Global, path: &str, fault: ArgumentFault) -> Result<Failure, Al
         }
         ArgumentFault::Truncated { at } => Fault::Truncated { path: named, at },
         ArgumentFault::Trailing { at } => Fault::Trailing { path: named, at },
-        ArgumentFault::BadValue { at } => Fault::BadValue { path: named, at },
+        ArgumentFault::BadValue { at } => {
+            let hint = field_told(alloc, bytes, at);
+            return Ok(Failure::hinted(Fault::BadValue { path: named, at }, hint));
+        }
         ArgumentFault::NoMemory => Fault::NoMemory,
     };
     Ok(plain(fault))

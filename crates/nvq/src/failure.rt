@@ -4,6 +4,7 @@ ghost use Rattle.nvq.specs.Drawn.{IsNoUnit};
 use crate::fault::Fault;
 use nvm_front::{VERSIONS, no_host_file, no_list, no_namespace, no_record, no_trace, other_block};
 use nvm_record::{BlockSize, Payload};
+use nvm_where::field_told;
 use std::alloc::{AllocError, Global};
 
 /// Why the program writes nothing, and what helps.
@@ -47,6 +48,9 @@ pub fn of_file(alloc: Global, fault: Fault, path: &str, file: &Payload, size: Bl
     let hint = match fault {
         Fault::BadName { .. } => no_host_file(alloc, path, file.as_slice()).map(Some),
         Fault::UnknownVersion { .. } => versions(alloc),
+        Fault::BadValue { at, .. }
+        | Fault::BeganAtZero { at, .. }
+        | Fault::EndedBefore { at, .. } => { field_told(alloc, file.as_slice(), at) }
         Fault::Truncated { .. } | Fault::TooMany { .. } => other_block(alloc, file, size.bytes()),
         _ => Ok(None),
     };
@@ -60,6 +64,7 @@ pub fn of_record(alloc: Global, fault: Fault, path: &str, file: &[u8]) -> Failur
     let hint = match fault {
         Fault::BadName { .. } => no_record(alloc, path, file).map(Some),
         Fault::UnknownVersion { .. } => versions(alloc),
+        Fault::BadValue { at, .. } => field_told(alloc, file, at),
         _ => Ok(None),
     };
     Failure::hinted(fault, hint)
@@ -71,6 +76,9 @@ pub fn of_trace(alloc: Global, fault: Fault, path: &str, file: &[u8]) -> Failure
 {
     let hint = match fault {
         Fault::BadName { .. } => no_trace(alloc, path, file).map(Some),
+        Fault::BadValue { at, .. }
+        | Fault::BeganAtZero { at, .. }
+        | Fault::EndedBefore { at, .. } => { field_told(alloc, file, at) }
         _ => Ok(None),
     };
     Failure::hinted(fault, hint)

@@ -64,7 +64,8 @@ fn with_others(
     }
     if wrong.len() > TOLD + 1 {
         let more = wrong.len() - TOLD - 1;
-        lines.push(format!(in alloc; "and {more} lines more")?)?;
+        let noun = if more == 1 { "line" } else { "lines" };
+        lines.push(format!(in alloc; "and {more} {noun} more")?)?;
     }
     joined(alloc, &lines)
 }

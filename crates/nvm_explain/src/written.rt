@@ -1,0 +1,90 @@
+//! What is said of an entry that writes other data than its job.
+ghost use Rattle.std.specs.Prelude.{◌≡◌, ◌++◌, None, Some, MatchOption, OnOk, slice_get, string_bytes};
+ghost use Rattle.nvm_plan.specs.LentPart.{part_operation_of};
+ghost use Rattle.nvm_record.specs.Step.{Operation};
+ghost use Rattle.nvm_store.specs.Act.{operation_of};
+ghost use Rattle.nvm_explain.specs.IfAny.{if_any};
+ghost use Rattle.nvm_explain.specs.Written as spec;
+
+use crate::difference::{difference_of, push_byte};
+use crate::looked_up::job_of;
+use nvm_audit::Record;
+use nvm_plan::{LentPart, job_part_in};
+use nvm_record::{BlockSize, NoMemory};
+use nvm_store::{Act, ActRef, Entry, Look};
+
+/// Appends the first byte that the entry writes otherwise than the part of its job in the unit, if there is such a job, where both write as many
+/// blocks from one LBA.
+pub(crate) fn push_written(
+    text: &mut String,
+    run: &Record,
+    number: u32,
+    unit: u16,
+    entry: &Entry,
+) -> Result<(), NoMemory>
+    ensures { OnOk result (string_bytes text.new ≡ string_bytes text.old
+        ++ if_any (slice_get run.now.jobs number) (spec.written_line run.now.namespace unit entry.now.operation)) }
+{
+    let Some(job) = job_of(run, number) else {
+        return Ok(());
+    };
+    match job_part_in(&run.geometry, job, unit) {
+        Some(part) => push_apart(text, run.geometry.block_size(), &entry.act, &part),
+        None => Ok(()),
+    }
+}
+
+/// Appends the first byte that an act writes otherwise than a part.
+fn push_apart(
+    text: &mut String,
+    size: BlockSize,
+    act: &Act,
+    part: &LentPart<'_>,
+) -> Result<(), NoMemory>
+    ensures { OnOk result (string_bytes text.new ≡ string_bytes text.old
+        ++ spec.apart_line size (operation_of act.now) (part_operation_of part.now)) }
+{
+    let Some((first, bytes)) = written_by(act) else {
+        return Ok(());
+    };
+    let Some((other, sent)) = sent_by(part) else {
+        return Ok(());
+    };
+    if first != other {
+        return Ok(());
+    }
+    match difference_of(first, size, bytes, sent) {
+        Some(found) => push_byte(text, " recorded ", " sent ", found),
+        None => Ok(()),
+    }
+}
+
+/// The first LBA of an act, and the data that it writes, if it writes any.
+fn written_by(act: &Act) -> Option<(u64, &[u8])>
+    ensures { MatchOption result (spec.data_written (operation_of act.now).deed ≡ None)
+        (λ w. ((operation_of act.now).first ≡ w.0) × (spec.data_written (operation_of act.now).deed ≡ Some w.1.now)) }
+{
+    match act {
+        Act::Write { first, payload, .. } => Some((*first, payload.as_slice())),
+        Act::Pair { first, write, .. } => Some((*first, write.as_slice())),
+        Act::Zeroes { .. } => None,
+        Act::Uncorrectable { .. } => None,
+        Act::Deallocate { .. } => None,
+    }
+}
+
+/// The same of a part.
+fn sent_by<'a>(part: &LentPart<'a>) -> Option<(u64, &'a [u8])>
+    ensures { MatchOption result (spec.data_written (part_operation_of part.now).deed ≡ None)
+        (λ w. ((part_operation_of part.now).first ≡ w.0) × (spec.data_written (part_operation_of part.now).deed ≡ Some w.1.now)) }
+{
+    match *part {
+        LentPart::Act(ActRef::Write { first, payload, .. }) => Some((first, payload.as_slice())),
+        LentPart::Act(ActRef::Pair { first, write, .. }) => Some((first, write.as_slice())),
+        LentPart::Act(ActRef::Zeroes { .. }) => None,
+        LentPart::Act(ActRef::Uncorrectable { .. }) => None,
+        LentPart::Act(ActRef::Deallocate { .. }) => None,
+        LentPart::Look(Look::Read { .. }) => None,
+        LentPart::Look(Look::Compare { .. }) => None,
+    }
+}
