@@ -83,3 +83,11 @@ IsFaultOfRecord path file e = ((f : RecordFault) × (record_at file ≡ Err f) �
 -- The same of the file at a path whose bytes are these.
 abbrev pub IsFaultOfRecordAt : List ℕ → Fault → Type 0
 IsFaultOfRecordAt path e = (shown : String Global) × (string_bytes shown ≡ path) × ((file : List ℕ) × IsFaultOfRecord shown file e)
+
+-- Want of memory, or else the first fault of the record in the file at this path, which has these bytes.
+abbrev pub IsFaultOfRecordIn : List ℕ → List ℕ → Fault → Type 0
+IsFaultOfRecordIn path file e = (e ≡ NoMemory) ⊎ ((shown : String Global) × (string_bytes shown ≡ path) × IsFaultOfRecord shown file e)
+
+-- The same of a trace.
+abbrev pub IsFaultOfTraceIn : List ℕ → List ℕ → Fault → Type 0
+IsFaultOfTraceIn path file e = (e ≡ NoMemory) ⊎ ((shown : String Global) × (string_bytes shown ≡ path) × IsFaultOfTrace shown file e)
