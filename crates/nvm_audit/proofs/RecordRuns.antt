@@ -62,7 +62,7 @@ KeepsOrder =
     → steps_by pass run ≡ own
 
 -- a part that ended so rests on its point without an entry there
-abbrev is_call : PartResult → Bool
+abbrev pub is_call : PartResult → Bool
 is_call Done = false
 is_call Failed = true
 is_call Looked = true
@@ -252,10 +252,10 @@ ends looks ns limit history whole p Full is right can = absurd (cc is)
 
 module _ (looks : KeepsLooks) (has_part : HasPart) (covers : CoversParts) (shapes : ShapesByPlan) (r : RecordView)
     (lawful : IsLawfulRecord r) (unit : ℕ) (history : List HistoryEntry) (there : IsAt r.units unit history) where
-  abbrev parts : List RecordedPart
+  abbrev pub parts : List RecordedPart
   parts = parts_in_unit unit r.done
 
-  its : IsLawfulUnit r.namespace r.limit r.jobs unit history parts
+  pub its : IsLawfulUnit r.namespace r.limit r.jobs unit history parts
   its = lawful.units unit history there
 
   -- It is a part of its job's operation.
@@ -271,12 +271,12 @@ module _ (looks : KeepsLooks) (has_part : HasPart) (covers : CoversParts) (shape
       part_of_shape r.namespace rests.whole p.done.parts p.done.statuses p.done.payload shape from.part.0 p.part from.part.1
 
   -- what is known of a part that is a call
-  record IsGood (p : RecordedPart) : Type 0 where
-    call : Call
-    of : IsCallOfPart r.namespace r.jobs p call
-    on : IsCallOn its.place history call
+  pub record IsGood (p : RecordedPart) : Type 0 where
+    pub call : Call
+    pub of : IsCallOfPart r.namespace r.jobs p call
+    pub on : IsCallOn its.place history call
 
-  good : (k : ℕ) (p : RecordedPart) → IsAt parts k p → is_call p.part.result ≡ true → IsGood p
+  pub good : (k : ℕ) (p : RecordedPart) → IsAt parts k p → is_call p.part.result ≡ true → IsGood p
   good k p at is =
       let rests = its.rests k p at in
       let n = p.part.point in
