@@ -1,11 +1,10 @@
 -- Which argument is drawn, what its picture is, and why none is drawn. What stands in a file no definition can say, so what a command draws
 -- is drawn of some bytes.
-use Rattle.std.specs.Prelude.{◌≡◌, ◌⊎◌, ℕ, String, List, Ok, Err, string_bytes}
+use Rattle.std.specs.Prelude.{◌≡◌, ◌⊎◌, ℕ, String, List, Err, string_bytes}
 use Rattle.std.specs.Global.{Global}
 use Rattle.nvm_argument.specs.ArgumentFile.{IsArgumentFile}
 use Rattle.nvm_argument.specs.Reading.{argument_at}
 use Rattle.nvm_argument.specs.declared.argument_fault.ArgumentFault.{ArgumentFault}
-use Rattle.nvm_argument.specs.declared.argument_fault.ArgumentFault.TheVariants as of_argument
 use Rattle.nvm_file.specs.TraceFile.{IsTraceFile}
 use Rattle.nvm_refute.specs.Refutation.{IsRefutation}
 use Rattle.nvm_refute.specs.declared.fact.Fact.{Fact}
@@ -13,18 +12,10 @@ use Rattle.nvm_timeline.specs.Picture.{picture_of}
 use Rattle.nvm_trace.specs.TraceView.{TraceView}
 use Rattle.nvm_trace.specs.declared.judging.Judging.{Judging}
 use Rattle.nvq.specs.Audited.{IsInputTwice}
-use Rattle.nvq.specs.Fault.{IsFaultOfTraceIn}
+use Rattle.nvq.specs.Fault.{IsFaultOfTraceIn, fault_of_argument}
 use Rattle.nvq.specs.Files.{IsReadFault, IsWriteFault}
 use Rattle.nvq.specs.declared.fault.Fault.{Fault}
-use Rattle.nvq.specs.declared.fault.Fault.TheVariants.{BadName, Truncated, Trailing, BadValue, FactWrong, NothingRefuted, NoMemory}
-
--- an argument's fault has its path
-abbrev pub fault_of_argument : String Global → ArgumentFault → Fault
-fault_of_argument path of_argument.BadName = BadName path
-fault_of_argument path (of_argument.Truncated at) = Truncated path at
-fault_of_argument path (of_argument.Trailing at) = Trailing path at
-fault_of_argument path (of_argument.BadValue at) = BadValue path at
-fault_of_argument path of_argument.NoMemory = NoMemory
+use Rattle.nvq.specs.declared.fault.Fault.TheVariants.{FactWrong, NothingRefuted, NoMemory}
 
 -- Want of memory, or else this fault of the argument in the file at this path.
 abbrev pub IsToldOfArgument : List ℕ → ArgumentFault → Fault → Type 0

@@ -100,25 +100,18 @@ fn argument_in(alloc: Global, path: &str, file: &[u8]) -> Result<Argument, Failu
     }
 }
 
-/// The failure of a file that should be an argument, or want of memory. What helps is how an argument begins.
+/// The failure of a file that should be an argument, or want of memory for its path. What helps is how an argument begins.
 fn unread(alloc: Global, path: &str, fault: ArgumentFault) -> Failure
     ensures { IsToldOfArgument path.now fault result.fault }
 {
-    let named = match String::from_str(alloc, path) {
-        Ok(named) => named,
-        Err(error) => return Failure::from(error),
+    let hint = match fault {
+        ArgumentFault::BadName => no_argument(alloc, path),
+        _ => Ok(None),
     };
-    let fault = match fault {
-        ArgumentFault::BadName => {
-            let hint = no_argument(alloc, path);
-            return Failure::hinted(Fault::BadName { path: named }, hint);
-        }
-        ArgumentFault::Truncated { at } => Fault::Truncated { path: named, at },
-        ArgumentFault::Trailing { at } => Fault::Trailing { path: named, at },
-        ArgumentFault::BadValue { at } => Fault::BadValue { path: named, at },
-        ArgumentFault::NoMemory => Fault::NoMemory,
-    };
-    plain(fault)
+    match String::from_str(alloc, path) {
+        Ok(path) => Failure::hinted(Fault::of_argument(path, fault), hint),
+        Err(error) => Failure::from(error),
+    }
 }
 
 /// What helps where a file that was read from a path isn't an argument.

@@ -1,7 +1,9 @@
 //! `nvq explain`: what is wrong with a record, or what there is in a lawful one; and why a record explains a trace or doesn't.
-ghost use Rattle.std.specs.Prelude.{IfOk, IfErr, string_bytes};
+ghost use Rattle.std.specs.Prelude.{◌⊎◌, ℕ, List, IfOk, IfErr, string_bytes};
+ghost use Rattle.nvq.specs.Audited.{IsUnwitnessed};
 ghost use Rattle.nvq.specs.Explained.{IsExplainingFault, IsExplanationOfFile, IsOfExplained, IsStoryFault, IsStoryOfFiles, IsTold, IsUntold};
-ghost use Rattle.nvq.specs.Fault.{IsFaultOfRecordIn};
+ghost use Rattle.nvq.specs.Fault.{IsFaultOfRecordAt, IsFaultOfRecordIn};
+ghost use Rattle.nvq.specs.Files.{IsReadFault};
 
 use crate::explaining_words::ExplainWords;
 use crate::failure::Failure;
@@ -37,23 +39,43 @@ fn told<R: AllocGlobal + Files + Input + Eprint + Threads + Sync>(
     ensures fault { IfErr result (λ failure. IsUntold words.now failure.fault) }
 {
     match words {
-        ExplainWords::Record { record } => {
-            let path = record.as_str();
-            let held = Payload::new(rt.alloc(), bytes_of(rt, path, progress)?)?;
-            explained_of(rt, path, &held, progress)
-        }
+        ExplainWords::Record { record } => record_explained(rt, record.as_str(), progress),
         ExplainWords::Trace {
             judging,
             trace,
             record,
-        } => {
-            let (trace, record) = (trace.as_str(), record.as_str());
-            check_apart(trace, record)?;
-            let seen = Payload::new(rt.alloc(), bytes_of(rt, trace, progress)?)?;
-            let held = Payload::new(rt.alloc(), bytes_of(rt, record, progress)?)?;
-            story_of(rt, *judging, trace, &seen, record, &held)
-        }
+        } => trace_explained(rt, *judging, trace.as_str(), record.as_str(), progress),
     }
+}
+
+/// What is told of the record at a path.
+fn record_explained<R: AllocGlobal + Files + Input + Eprint + Threads + Sync>(
+    rt: &R,
+    path: &str,
+    progress: &Progress<'_, R>,
+) -> Result<String, Failure>
+    ensures text { IfOk result (λ text. (file : List ℕ) × IsExplanationOfFile file (string_bytes text)) }
+    ensures fault { IfErr result (λ failure. IsReadFault path.now failure.fault ⊎ IsFaultOfRecordAt path.now failure.fault) }
+{
+    let held = Payload::new(rt.alloc(), bytes_of(rt, path, progress)?)?;
+    explained_of(rt, path, &held, progress)
+}
+
+/// What is told of the trace at a path, judged by the record at another. The two can't both be standard input.
+fn trace_explained<R: AllocGlobal + Files + Input + Eprint + Threads + Sync>(
+    rt: &R,
+    judging: Judging,
+    trace: &str,
+    record: &str,
+    progress: &Progress<'_, R>,
+) -> Result<String, Failure>
+    ensures story { IfOk result (λ text. (seen : List ℕ) × (held : List ℕ) × IsStoryOfFiles judging seen held (string_bytes text)) }
+    ensures fault { IfErr result (λ failure. IsUnwitnessed trace.now «record».now failure.fault) }
+{
+    check_apart(trace, record)?;
+    let seen = Payload::new(rt.alloc(), bytes_of(rt, trace, progress)?)?;
+    let held = Payload::new(rt.alloc(), bytes_of(rt, record, progress)?)?;
+    story_of(rt, judging, trace, &seen, record, &held)
 }
 
 /// What is told of the record in the bytes of a file that was read from a path, or the file's fault.
