@@ -6,9 +6,11 @@ use Rattle.nvm_argument.specs.declared.argument_fault.ArgumentFault.TheVariants.
 use Rattle.nvq.specs.Audited.{IsUnwitnessed}
 use Rattle.nvq.specs.Drawn.{IsPictureFault, IsDrawingFault}
 use Rattle.nvq.specs.DrawnArgument.{IsFaultOfArgumentIn, IsToldOfArgument}
-use Rattle.nvq.specs.Explained.{IsStoryFault}
+use Rattle.nvq.specs.Explained.{IsExplainingFault, IsStoryFault, IsUntold}
 use Rattle.nvq.specs.Fault.{IsFaultOfRecordAt, IsFaultOfRecordIn, IsFaultOfTraceAt, IsFaultOfTraceIn, fault_of_argument}
 use Rattle.nvq.specs.Files.{IsReadFault}
+use Rattle.nvq.specs.declared.explaining_words.ExplainWords.{ExplainWords}
+use Rattle.nvq.specs.declared.explaining_words.ExplainWords.TheVariants.{Record, Trace}
 use Rattle.nvq.specs.declared.fault.Fault.{Fault}
 
 pub record_fault : (path file : List ℕ) (fault : Fault) → IsFaultOfRecordIn path file fault
@@ -24,6 +26,10 @@ trace_fault path file fault (inr (shown, at, of)) = inr (shown, at, (file, of))
 pub story_fault : (trace seen run held : List ℕ) (fault : Fault) → IsStoryFault trace seen run held fault → IsUnwitnessed trace run fault
 story_fault trace seen run held fault (inl is) = inr (inl (trace_fault trace seen fault is))
 story_fault trace seen run held fault (inr is) = inr (inr (record_fault run held fault is.1))
+
+pub untold : (words : ExplainWords) (fault : Fault) → IsUntold words fault → IsExplainingFault words fault
+untold (Record path) fault is = inl is
+untold (Trace judging trace path) fault is = inl is
 
 pub picture_fault : (unit : Option ℕ) (path file out : List ℕ) (fault : Fault) → IsPictureFault unit path file fault
     → IsDrawingFault unit path out fault
