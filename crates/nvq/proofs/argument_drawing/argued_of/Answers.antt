@@ -14,10 +14,11 @@ returns-in_err-check_refuted-clause-fault c =
     let p = err_from_is_err_and c.from_residual-in_err-check_refuted.result c.from_residual-in_err-check_refuted.ensures.1 in
     let argument = c.in_ok-argument.argument in
     rw (p.1, p.2)
-    (inr (inr
-    ((c.in_ok-trace.trace, c.in_ok-trace.ensures.trace),
-    (argument.unit, argument.facts.items, c.in_ok-argument.ensures.argument),
-    c.in_err-check_refuted.ensures.fault)))
+    (inr (inr (
+      (c.in_ok-trace.trace, c.in_ok-trace.ensures.trace),
+      (argument.unit, argument.facts.items, c.in_ok-argument.ensures.argument),
+      c.in_err-check_refuted.ensures.fault,
+    )))
 
 pub returns-clause-picture : goal.returns-clause-picture
 returns-clause-picture c = record {
