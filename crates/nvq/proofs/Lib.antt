@@ -1,3 +1,4 @@
 pub mod Generated
+pub mod Held
 pub mod HostFiles
 pub mod Reading

@@ -1,14 +1,13 @@
--- Which record or argument is drawn, and why no record is. What stands in a file no definition can say, so its bytes are some.
+-- Which record is drawn, what its picture is, and why none is drawn. What stands in a file no definition can say, so what a command draws
+-- is drawn of some bytes.
 use Rattle.std.specs.Prelude.{◌≡◌, ◌⊎◌, ◌<◌, ◌≤◌, ℕ, List, Option, Some, None, Ok, IfSome, string_bytes}
 use Rattle.nvm_geometry.specs.Boundaries.{units_of}
 use Rattle.nvm_geometry.specs.Namespace.{Namespace}
 use Rattle.nvm_audit.specs.RecordView.{RecordView}
+use Rattle.nvm_draw.specs.Picture.{IsPicture}
+use Rattle.nvm_draw.specs.declared.window.Window.{Window}
 use Rattle.nvm_file.specs.Reading.{record_at}
-use Rattle.nvm_refute.specs.Refutation.{IsRefutation}
-use Rattle.nvm_refute.specs.declared.fact.Fact.{Fact}
-use Rattle.nvm_trace.specs.declared.judging.Judging.{Judging}
-use Rattle.nvm_trace.specs.TraceView.{TraceView}
-use Rattle.nvq.specs.Fault.{IsFaultOfRecordAt}
+use Rattle.nvq.specs.Fault.{IsFaultOfRecordAt, IsFaultOfRecordIn}
 use Rattle.nvq.specs.Files.{IsReadFault, IsWriteFault}
 use Rattle.nvq.specs.declared.fault.Fault.{Fault}
 use Rattle.nvq.specs.declared.fault.Fault.TheVariants.{NoMemory, NoUnit}
@@ -24,10 +23,22 @@ abbrev pub IsFaultOfUnit : Option ℕ → List ℕ → Namespace → Fault → T
 IsFaultOfUnit None path ns fault = ⊥
 IsFaultOfUnit (Some unit) path ns fault = (units_of ns ≤ unit) × IsNoUnit unit path fault
 
--- A file has a record, of which the unit is one, if one is named.
-abbrev pub IsOfDrawnFile : Option ℕ → Type 0
-IsOfDrawnFile unit =
-    (file : List ℕ) × (run : RecordView) × (record_at file ≡ Ok run) × IfSome unit (λ number. number < units_of run.namespace)
+-- The picture draws the window of the record that the file holds, of which the unit is one, if one is named.
+pub record IsPictureOfFile (window : Window) (file picture : List ℕ) : Type 0 where
+  pub run : RecordView
+  pub holds : record_at file ≡ Ok run
+  pub there : IfSome window.unit (λ number. number < units_of run.namespace)
+  pub drawn : IsPicture run window picture
+
+-- A file has a record, of which the window is drawn.
+abbrev pub IsOfDrawnFile : Window → Type 0
+IsOfDrawnFile window = (file : List ℕ) × (picture : List ℕ) × IsPictureOfFile window file picture
+
+-- It is the fault of the record in these bytes, or else, where they hold one, the unit that is named isn't one of it.
+abbrev pub IsPictureFault : Option ℕ → List ℕ → List ℕ → Fault → Type 0
+IsPictureFault unit path file fault =
+    IsFaultOfRecordIn path file fault
+    ⊎ ((run : RecordView) × (record_at file ≡ Ok run) × IsFaultOfUnit unit path run.namespace fault)
 
 -- A file has a record, and the unit that is named isn't one of it.
 abbrev pub IsUnitFault : Option ℕ → List ℕ → Fault → Type 0
@@ -39,7 +50,3 @@ IsUnitFault unit path fault =
 abbrev pub IsDrawingFault : Option ℕ → List ℕ → List ℕ → Fault → Type 0
 IsDrawingFault unit path out fault =
     (IsReadFault path fault ⊎ IsFaultOfRecordAt path fault) ⊎ (IsUnitFault unit path fault ⊎ IsWriteFault out fault)
-
--- The facts refute a trace.
-abbrev pub IsOfRefutation : Judging → Type 0
-IsOfRefutation judging = (t : TraceView) × (unit : ℕ) × (facts : List Fact) × IsRefutation judging t unit facts

@@ -13,6 +13,8 @@ use Rattle.nvm_file.specs.declared.record_fault.RecordFault.TheVariants as of_re
 use Rattle.nvm_file.specs.TraceReading.{trace_at}
 use Rattle.nvm_file.specs.declared.trace_file_fault.TraceFileFault.{TraceFileFault}
 use Rattle.nvm_file.specs.declared.trace_file_fault.TraceFileFault.TheVariants as of_trace
+use Rattle.nvm_argument.specs.declared.argument_fault.ArgumentFault.{ArgumentFault}
+use Rattle.nvm_argument.specs.declared.argument_fault.ArgumentFault.TheVariants as of_argument
 use Rattle.nvm_trace_text.specs.Texts.{IsTextFault}
 use Rattle.nvm_trace_text.specs.declared.fault.TextFault.{TextFault}
 use Rattle.nvm_trace_text.specs.declared.fault.TextFault.TheVariants as of_text
@@ -50,6 +52,14 @@ fault_of_trace path (of_trace.BeganAtZero at) = BeganAtZero path at
 fault_of_trace path (of_trace.EndedBefore at) = EndedBefore path at
 fault_of_trace path of_trace.NoMemory = NoMemory
 
+-- an argument's fault has its path
+abbrev pub fault_of_argument : String Global → ArgumentFault → Fault
+fault_of_argument path of_argument.BadName = BadName path
+fault_of_argument path (of_argument.Truncated at) = Truncated path at
+fault_of_argument path (of_argument.Trailing at) = Trailing path at
+fault_of_argument path (of_argument.BadValue at) = BadValue path at
+fault_of_argument path of_argument.NoMemory = NoMemory
+
 -- the fault of a trace's text has its line, if it has one
 abbrev pub fault_of_text : TextFault → Fault
 fault_of_text (of_text.Line line expected) = TraceLine line expected
@@ -83,3 +93,11 @@ IsFaultOfRecord path file e = ((f : RecordFault) × (record_at file ≡ Err f) �
 -- The same of the file at a path whose bytes are these.
 abbrev pub IsFaultOfRecordAt : List ℕ → Fault → Type 0
 IsFaultOfRecordAt path e = (shown : String Global) × (string_bytes shown ≡ path) × ((file : List ℕ) × IsFaultOfRecord shown file e)
+
+-- Want of memory, or else the first fault of the record in the file at this path, which has these bytes.
+abbrev pub IsFaultOfRecordIn : List ℕ → List ℕ → Fault → Type 0
+IsFaultOfRecordIn path file e = (e ≡ NoMemory) ⊎ ((shown : String Global) × (string_bytes shown ≡ path) × IsFaultOfRecord shown file e)
+
+-- The same of a trace.
+abbrev pub IsFaultOfTraceIn : List ℕ → List ℕ → Fault → Type 0
+IsFaultOfTraceIn path file e = (e ≡ NoMemory) ⊎ ((shown : String Global) × (string_bytes shown ≡ path) × IsFaultOfTrace shown file e)

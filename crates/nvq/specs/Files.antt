@@ -1,9 +1,11 @@
 -- Why a file wasn't read, or not written.
-use Rattle.std.specs.Prelude.{◌≡◌, ◌⊎◌, ℕ, List, string_bytes}
+use Rattle.std.specs.Prelude.{◌≡◌, ◌⊎◌, ℕ, String, List, codes, string_bytes}
+use Rattle.std.specs.Global.{Global}
 use Rattle.std.specs.List.{Contains}
 use Rattle.nvm_expect.specs.Expectations.{without_expectations}
 use Rattle.nvq.specs.Expecting.{IsExpectationFault}
 use Rattle.nvq.specs.Fault.{IsFaultOfList, IsFaultOfText}
+use Rattle.nvq.specs.Listed.{IsListFault, Lists}
 use Rattle.nvq.specs.declared.fault.Fault.{Fault}
 use Rattle.nvq.specs.declared.fault.Fault.TheVariants.{CannotRead, CannotWrite, NoMemory}
 
@@ -43,3 +45,15 @@ IsAssemblingFault size list out fault =
 abbrev pub IsTracingFault : List ℕ → List ℕ → Fault → Type 0
 IsTracingFault text out fault =
     IsReadFault text fault ⊎ (((bytes : List ℕ) × IsFaultOfText bytes fault) ⊎ IsWriteFault out fault)
+
+-- A file is listed: a record, or else a trace, or else a host file.
+abbrev pub IsOfListedFile : ℕ → Type 0
+IsOfListedFile size = (file : List ℕ) × (text : List ℕ) × Lists size file text
+
+-- It is the fault of the file at this path, as what it begins as.
+abbrev pub IsListedFault : ℕ → List ℕ → Fault → Type 0
+IsListedFault size path fault = (shown : String Global) × (string_bytes shown ≡ path) × ((file : List ℕ) × IsListFault shown size file fault)
+
+-- The file at this path couldn't be read, or else it is its first fault, or else the text couldn't be written.
+abbrev pub IsListingFault : ℕ → List ℕ → Fault → Type 0
+IsListingFault size path fault = IsReadFault path fault ⊎ (IsListedFault size path fault ⊎ IsWriteFault (codes "-") fault)

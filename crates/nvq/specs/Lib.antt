@@ -1,6 +1,7 @@
 pub mod Audited
 pub mod Certified
 pub mod Drawn
+pub mod DrawnArgument
 pub mod Explained
 pub mod Fault
 pub mod Expecting

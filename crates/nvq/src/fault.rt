@@ -1,7 +1,8 @@
 ghost use Rattle.std.specs.Prelude.{◌≡◌};
 ghost use Rattle.nvq.specs.declared.fault.Fault.TheVariants.{NoMemory};
-ghost use Rattle.nvq.specs.Fault.{fault_of_list, fault_of_file, fault_of_record, fault_of_text, fault_of_trace};
+ghost use Rattle.nvq.specs.Fault.{fault_of_argument, fault_of_list, fault_of_file, fault_of_record, fault_of_text, fault_of_trace};
 
+use nvm_argument::ArgumentFault;
 use nvm_expect::Expected as Unexpected;
 use nvm_file::{RecordFault, TraceFileFault};
 use nvm_geometry::GeometryFault;
@@ -174,6 +175,19 @@ impl Fault {
             TraceFileFault::BeganAtZero { at } => Fault::BeganAtZero { path, at },
             TraceFileFault::EndedBefore { at } => Fault::EndedBefore { path, at },
             TraceFileFault::NoMemory => Fault::NoMemory,
+        }
+    }
+
+    /// The fault of an argument's file.
+    pub fn of_argument(path: String, fault: ArgumentFault) -> Fault
+        ensures { result ≡ fault_of_argument path fault }
+    {
+        match fault {
+            ArgumentFault::BadName => Fault::BadName { path },
+            ArgumentFault::Truncated { at } => Fault::Truncated { path, at },
+            ArgumentFault::Trailing { at } => Fault::Trailing { path, at },
+            ArgumentFault::BadValue { at } => Fault::BadValue { path, at },
+            ArgumentFault::NoMemory => Fault::NoMemory,
         }
     }
 }

@@ -2,7 +2,7 @@ ghost use Rattle.std.specs.Prelude.{◌≡◌, ◌⊎◌, ℕ, List, Ok, IfOk, I
 ghost use Rattle.nvm_file.specs.Reading.{record_at};
 ghost use Rattle.nvm_file.specs.TraceFile.{IsTraceFile};
 ghost use Rattle.nvq.specs.Audited.{IsInputTwice};
-ghost use Rattle.nvq.specs.Fault.{IsFaultOfRecordAt, IsFaultOfTraceAt};
+ghost use Rattle.nvq.specs.Fault.{IsFaultOfRecordAt, IsFaultOfRecordIn, IsFaultOfTraceAt, IsFaultOfTraceIn};
 ghost use Rattle.nvq.specs.Files.{IsReadFault, IsWriteFault};
 
 use crate::conversion::{record_of, trace_of};
@@ -43,10 +43,18 @@ pub fn read_as_record<R: Files + AllocGlobal + Input + Eprint>(
     ensures fault { IfErr result (λ failure. IsReadFault path.now failure.fault ⊎ IsFaultOfRecordAt path.now failure.fault) }
 {
     let bytes = Payload::new(rt.alloc(), bytes_of(rt, path, progress)?)?;
-    let named = String::from_str(rt.alloc(), path)?;
-    match record_of(rt.alloc(), named, &bytes) {
+    record_in(rt.alloc(), path, &bytes)
+}
+
+/// The record in the bytes of a file that was read from a path, or the file's fault and what helps.
+pub fn record_in(alloc: Global, path: &str, file: &Payload) -> Result<Record, Failure>
+    ensures run { IfOk result (λ run. record_at file.now ≡ Ok run) }
+    ensures fault { IfErr result (λ failure. IsFaultOfRecordIn path.now file.now failure.fault) }
+{
+    let named = String::from_str(alloc, path)?;
+    match record_of(alloc, named, file) {
         Ok(run) => Ok(run),
-        Err(fault) => Err(of_record(rt.alloc(), fault, path, bytes.as_slice())),
+        Err(fault) => Err(of_record(alloc, fault, path, file.as_slice())),
     }
 }
 
@@ -60,10 +68,18 @@ pub fn read_as_trace<R: Files + AllocGlobal + Input + Eprint>(
     ensures fault { IfErr result (λ failure. IsReadFault path.now failure.fault ⊎ IsFaultOfTraceAt path.now failure.fault) }
 {
     let bytes = Payload::new(rt.alloc(), bytes_of(rt, path, progress)?)?;
-    let named = String::from_str(rt.alloc(), path)?;
-    match trace_of(rt.alloc(), named, &bytes) {
+    trace_in(rt.alloc(), path, &bytes)
+}
+
+/// The trace in the bytes of a file that was read from a path, or the file's fault and what helps.
+pub fn trace_in(alloc: Global, path: &str, file: &Payload) -> Result<Trace, Failure>
+    ensures trace { IfOk result (IsTraceFile file.now) }
+    ensures fault { IfErr result (λ failure. IsFaultOfTraceIn path.now file.now failure.fault) }
+{
+    let named = String::from_str(alloc, path)?;
+    match trace_of(alloc, named, file) {
         Ok(trace) => Ok(trace),
-        Err(fault) => Err(of_trace(rt.alloc(), fault, path, bytes.as_slice())),
+        Err(fault) => Err(of_trace(alloc, fault, path, file.as_slice())),
     }
 }
 

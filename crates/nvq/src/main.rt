@@ -3,8 +3,8 @@
 //! trace, too.
 #![tactic(auto)]
 
-ghost use Rattle.std.specs.Prelude.{IfErr};
-ghost use Rattle.nvq.specs.Files.{IsAssemblingFault};
+ghost use Rattle.std.specs.Prelude.{IfErr, IfOk, string_bytes};
+ghost use Rattle.nvq.specs.Files.{IsAssemblingFault, IsListingFault, IsOfListedFile};
 
 mod argument_drawing;
 mod auditing;
@@ -157,7 +157,10 @@ fn run_list<R: AllocGlobal + Files + Input + Print + Eprint>(
     size: BlockSize,
     file: String,
     progress: &Progress<'_, R>,
-) -> Result<(), Failure> {
+) -> Result<(), Failure>
+    ensures listed { IfOk result (λ _. IsOfListedFile size) }
+    ensures fault { IfErr result (λ failure. IsListingFault size (string_bytes file) failure.fault) }
+{
     let bytes = Payload::new(rt.alloc(), bytes_of(rt, file.as_str(), progress)?)?;
     let path = String::from_str(rt.alloc(), file.as_str())?;
     match list_of(rt.alloc(), path, &bytes, size) {

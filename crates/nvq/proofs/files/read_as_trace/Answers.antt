@@ -1,11 +1,12 @@
-use Rattle.std.proofs.Common.{◌≡◌, ◌⊎◌, ℕ, List, inr, sym, subst}
-use Rattle.nvq.specs.Fault.{IsFaultOfTrace}
-use Rattle.nvq.specs.declared.fault.Fault.{Fault}
+use Rattle.std.proofs.lemmas.Result.{IfErr-weaker, IfOk-weaker}
+use Rattle.nvq.proofs.Held.{trace_fault}
 use Rattle.nvq.proofs.files.read_as_trace.Goals as goal
+
+pub returns-clause-trace : goal.returns-clause-trace
+returns-clause-trace g c =
+    IfOk-weaker c.trace_in.result _ _ (λ trace is. (c.in_ok-bytes.bytes, is)) c.trace_in.ensures.trace
 
 pub returns-clause-fault : goal.returns-clause-fault
 returns-clause-fault g c =
-    let named = c.in_ok-named.named in
-    let file : List ℕ = c.in_ok-bytes.bytes in
-    let is = subst (λ (fault : Fault). IsFaultOfTrace named file fault) (sym c.of_trace.ensures) c.in-Err.ensures.fault in
-    inr (named, c.in_ok-named.ensures.ok, (file, is))
+    IfErr-weaker c.trace_in.result _ _ (λ failure is. trace_fault c.args.path.now c.in_ok-bytes.bytes failure.fault is)
+    c.trace_in.ensures.fault
