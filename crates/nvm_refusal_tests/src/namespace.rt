@@ -44,7 +44,7 @@ pub fn two_ports(alloc: Global) -> Result<(Space, Port, Port), Fail>
 
 /// A new space that keeps no histories and has no limit, and its one port.
 pub fn unrecorded(alloc: Global) -> Result<(Space<Count>, Port<Count>), Fail>
-    ensures of { IfOk result (λ s. IsPortOf s.0 s.1) }
+    ensures { IfOk result (λ s. IsPortOf s.0 s.1) }
 {
     let Ok((space, mut ports)) = Space::unrecorded(alloc, geometry()?, 1, None, false) else {
         return Err(Fail::new("there was no memory"));

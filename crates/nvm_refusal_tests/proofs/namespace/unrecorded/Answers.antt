@@ -1,4 +1,4 @@
-use Rattle.std.proofs.Common.{◌≡◌, ℕ, zero, suc, List, [], ◌∷◌, ◌++◌, length, refl, sym, subst}
+use Rattle.std.proofs.Common.{◌≡◌, List, [], ◌∷◌, ◌++◌, length, refl, sym, subst}
 use Rattle.nvm_record.specs.Lists.{IsAt}
 use Rattle.nvm_space.specs.Ports.{PortState, IsPortOf, AreAllPortsOf}
 use Rattle.nvm_space.specs.Spaces.{SpaceName}
@@ -16,5 +16,5 @@ popped space ports rest port all last =
     subst (λ (xs : List PortState). IsAt xs (length rest) port) (sym last) (at_last rest port) in
     (all.each (length rest) port one).0
 
-pub returns-clause-of : goal.returns-clause-of
-returns-clause-of c = popped c.in-Ok.space _ _ c.in-Some.port c.in-Ok.ensures.all c.in-Some.ensures.items
+pub returns : goal.returns
+returns c = popped c.in-Ok.space _ _ c.in-Some.port c.in-Ok.ensures.all c.in-Some.ensures.items
