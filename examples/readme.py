@@ -1,4 +1,4 @@
-"""Runs each command that README.md and docs/ show, with the programs as they were built, and holds what it prints to the text.
+"""Runs each command that README.md, docs/ and clients/README.md show, with the programs as they were built, and holds what it prints to the text.
 
 A block of indented lines is one of commands where its first line begins with a word of COMMANDS; what the next block of indented
 lines shows is what they must print, unless that is one of commands too. A block that begins with a program's name and a colon is
@@ -15,7 +15,7 @@ import tempfile
 
 TOP = os.path.dirname(os.path.dirname(os.path.realpath(__file__)))
 FAULTS = ("nvq: ", "nvmu: ")
-COMMANDS = ("./", "crates/", "examples/", "edits/", "bench/", "sweep/", "mkdir ", "printf ", "cat > ", "sed -i ", "cp ", "(cd ", "rt ", "git ", "nvq ", "nvmu ")
+COMMANDS = ("./", "crates/", "examples/", "edits/", "bench/", "sweep/", "mkdir ", "printf ", "cat > ", "sed -i ", "cp ", "(cd ", "rt ", "git ", "nvq ", "nvmu ", "gcc ", "clients/", "apt-get ", "nbdkit ")
 # What isn't run as it stands, and what is run in its place: a word of itself, or nothing.
 APART = {
     "./test": None,  # the gate, which calls this
@@ -24,6 +24,10 @@ APART = {
     "bench/": "--help",  # these take minutes
     "edits/try": "--help",
     "rt try": None,  # using.py does what that page says
+    "gcc ": None,  # the library for C isn't built here; clients/check compiles and links all that these do
+    "clients/": None,  # clients/check runs these, and clients/check-nbd and clients/check-soak take long or want packages
+    "apt-get ": None,  # clients/check-nbd says what it lacks
+    "nbdkit ": None,  # clients/check-nbd runs it
 }
 
 
@@ -108,6 +112,7 @@ def held(page, folder):
 
 def pages():
     yield "README.md"
+    yield "clients/README.md"
     for folder in ("docs", "bench/figures"):
         for name in sorted(os.listdir(os.path.join(TOP, folder))):
             if name.endswith(".md"):
