@@ -106,9 +106,9 @@ fn argument_in(alloc: Global, path: &str, file: &[u8]) -> Result<Argument, Failu
 fn unread(alloc: Global, path: &str, file: &[u8], fault: ArgumentFault) -> Failure
     ensures { IsToldOfArgument path.now fault result.fault }
 {
-    let hint = match fault {
+    let hint = match &fault {
         ArgumentFault::BadName => no_argument(alloc, path),
-        ArgumentFault::BadValue { at } => field_told(alloc, file, at),
+        ArgumentFault::BadValue { at } => field_told(alloc, file, *at),
         _ => Ok(None),
     };
     match String::from_str(alloc, path) {
