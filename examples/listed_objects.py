@@ -175,7 +175,7 @@ def faults(run):
     ):
         run.keep("wrong", given)
         for path in ("wrong", "-"):
-            hint = {"bad name": no_record(path, given), "unknown version": VERSIONS}.get(fault, "")
+            hint = {"bad name": no_record(path, given), "unknown version": VERSIONS, "bad value at 28": "it is the number of workers"}.get(fault, "")
             run.expect(["nvq", "list", "--json", path], 1, given=given, err=told(f"nvq: {path}: {fault}", hint))
     run.expect(["nvq", "list", "--json", "missing"], 1, err=told("nvq: cannot read missing", MISSING))
     run.expect(["nvq", "list", "--json", "."], 1, err=told("nvq: cannot read .", FOLDER))
