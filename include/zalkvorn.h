@@ -127,7 +127,8 @@ uint32_t zk_version(void);
 int zk_open(struct zk_port *ports, size_t count, const struct zk_namespace *ns, uint32_t limit, bool versions);
 
 /* Closes the port, and forgets a pending command, whose parts that were done stay done. The namespace is freed with
- * its last port. ZK_DONE or ZK_NOT_OPEN: a second close does nothing.
+ * its last port, and takes no port later: to end a queue, poll until ZK_DONE and keep the port for the next one.
+ * ZK_DONE or ZK_NOT_OPEN: a second close does nothing.
  * Threads: nobody else uses this port; other ports of the namespace may be in use. */
 int zk_close(struct zk_port *port);
 
@@ -153,7 +154,8 @@ int zk_submit(struct zk_port *port, const uint8_t *entries, size_t entries_lengt
 
 /* Goes on with the command that is pending in the port. The buffers are as in zk_submit; those of a Read need at
  * least the room of its blocks, and any other command's data is not looked at. A thread that has nothing else to do calls
- * sched_yield() before it polls again: the port that holds the unit may not be running.
+ * sched_yield() before it polls again: the port that holds the unit may not be running. It isn't promised that a pending
+ * command ever ends: others may have its unit at each poll.
  * ZK_DONE and ZK_PENDING as in zk_submit. ZK_NOT_OPEN, ZK_IDLE, ZK_BAD_LENGTH: nothing was done, and a pending command
  * is still pending.
  * Threads: as zk_submit. */
