@@ -32,7 +32,7 @@ def programs():
     before, *pieces = re.split(r"^(```rust\n.*?^```)$", text, flags=re.DOTALL | re.MULTILINE)
     for shown, behind in zip(pieces[::2], pieces[1::2]):
         (program,) = blocks_of(shown, "rust")
-        made, _, told = re.split(r"^(    rt try|`rt try` prints)$", behind, maxsplit=1, flags=re.MULTILINE)
+        made, _, told = re.split(r"^(    rt try)$", behind, maxsplit=1, flags=re.MULTILINE)
         commands = re.findall(r"^    (printf .*)$", before + made, re.MULTILINE)
         lines = re.findall(r"^    (\d.*)$", told, re.MULTILINE)
         yield commands, program, "".join(f"{line}\n" for line in lines)
