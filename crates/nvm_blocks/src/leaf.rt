@@ -1,4 +1,4 @@
-ghost use Rattle.std.specs.Prelude.{◌≡◌, IfOk, replicate};
+ghost use Rattle.std.specs.Prelude.{◌≡◌, ◌<◌, IfOk, length, replicate, slice_set};
 ghost use Rattle.std.specs.Arc.{arc_value};
 ghost use Rattle.nvm_blocks.specs.Rewrite.{zero_block};
 
@@ -36,6 +36,14 @@ impl Leaf {
         }
         Ok(Arc::new(alloc, Leaf { kept })?)
     }
+
+    /// Puts a block at place `at`.
+    fn put(&mut self, at: usize, block: StoredBlock)
+        requires { at < length self.old }
+        ensures { self.new ≡ slice_set self.old at block }
+    {
+        self.kept[at] = block;
+    }
 }
 
 impl Tree for Leaf {
@@ -46,7 +54,7 @@ impl Tree for Leaf {
     }
 
     fn set(&mut self, _alloc: Global, at: usize, block: StoredBlock) -> Result<(), NoMemory> {
-        self.kept[at] = block;
+        self.put(at, block);
         Ok(())
     }
 
@@ -59,8 +67,19 @@ impl Tree for Leaf {
         least: usize,
         source: &Source,
     ) -> Result<usize, NoMemory> {
-        let (other, count) = self.filled(alloc, at, from, to, least, source)?;
-        *self = other;
+        if source.has_data() {
+            let (other, count) = self.filled(alloc, at, from, to, least, source)?;
+            *self = other;
+            return Ok(count);
+        }
+        // Nothing of this can be refused, so the leaf changes in place.
+        let count = (self.kept.len() - at).min(to - from);
+        if count < least {
+            return Ok(0);
+        }
+        for place in at..at + count {
+            self.put(place, source.plain_block());
+        }
         Ok(count)
     }
 

@@ -1,5 +1,5 @@
-ghost use Rattle.std.specs.Prelude.{◌≡◌, ◌+◌, IfOk};
-ghost use Rattle.nvm_blocks.specs.Inside.Source.{source_block, HasBlocks};
+ghost use Rattle.std.specs.Prelude.{◌≡◌, ◌+◌, ℕ, IfOk, false};
+ghost use Rattle.nvm_blocks.specs.Inside.Source.{source_block, has_data, HasBlocks};
 
 use crate::stored_block::StoredBlock;
 use nvm_record::{NoMemory, Payload};
@@ -14,6 +14,25 @@ pub enum Source {
 }
 
 impl Source {
+    /// Whether its blocks share data, so that making one of them may be refused.
+    pub fn has_data(&self) -> bool
+        ensures { result ≡ has_data self.now }
+    {
+        matches!(self, Source::Data { .. })
+    }
+
+    /// The block for each place of the range, of a source without data.
+    pub fn plain_block(&self) -> StoredBlock
+        requires { has_data self.now ≡ false }
+        ensures { (i : ℕ) → result ≡ source_block self.now i }
+    {
+        match self {
+            Source::Data { .. } => unreachable!("it has no data"),
+            Source::Zeroes { size } => StoredBlock::zero(*size),
+            Source::Marks => StoredBlock::marked(),
+        }
+    }
+
     /// The block for place `i` of the range. It takes no memory.
     pub fn block(&self, i: usize) -> Result<StoredBlock, NoMemory>
         requires { HasBlocks self.now (i + 1) }
@@ -27,8 +46,7 @@ impl Source {
                 let part = payload.part(from, from + *size)?;
                 Ok(StoredBlock::of_data(part))
             }
-            Source::Zeroes { size } => Ok(StoredBlock::zero(*size)),
-            Source::Marks => Ok(StoredBlock::marked()),
+            Source::Zeroes { .. } | Source::Marks => Ok(self.plain_block()),
         }
     }
 }

@@ -146,10 +146,7 @@ impl UnitBlocks {
                 first,
                 blocks,
                 ranges,
-            } => {
-                *self = self.deallocated(alloc, first, blocks, ranges.as_slice())?;
-                Ok(())
-            }
+            } => self.deallocate(alloc, first, blocks, ranges.as_slice()),
         }
     }
 
@@ -199,6 +196,35 @@ impl UnitBlocks {
         let at = (first - self.first) as usize;
         steps_are_local();
         self.blocks.mark(alloc, at, blocks as usize)
+    }
+
+    /// Those of the `blocks` LBAs from `first` that are in one of the ranges become zero bytes. One run of them is
+    /// cleared as a Write Zeroes is. Several are cleared in a share, which takes the unit's place where nothing was
+    /// refused.
+    fn deallocate(
+        &mut self,
+        alloc: Global,
+        first: u64,
+        blocks: u32,
+        ranges: &[u8],
+    ) -> Result<(), NoMemory>
+        requires { IsWithin (place_of self.old) first blocks }
+        ensures step { OnOk result ((m : Medium) → Holds self.old m → Holds self.new
+            (medium_after self.old.size (deallocate_operation first blocks (ranges_of ranges.now)) m)) }
+        ensures place { StaysInPlace self.old self.new }
+        ensures err { OnErr result (self.new ≡ self.old) }
+    {
+        cut_ranges_lie_within();
+        let Some(run) = lowest_cut(first, blocks, ranges) else {
+            return Ok(());
+        };
+        let past = run.first + u64::from(run.blocks);
+        let left = blocks - (past - first) as u32;
+        if lowest_cut(past, left, ranges).is_none() {
+            return self.zero(alloc, run.first, run.blocks);
+        }
+        *self = self.deallocated(alloc, first, blocks, ranges)?;
+        Ok(())
     }
 
     /// A unit that shares the blocks, of which those that are among the `blocks` LBAs from `first` and in one

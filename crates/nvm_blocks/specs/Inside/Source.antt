@@ -1,5 +1,5 @@
 -- The new blocks that a source gives.
-use Rattle.std.specs.Prelude.{◌≡◌, ◌⊎◌, ℕ, ◌+◌, ◌*◌, ◌<◌, ◌≤◌, List, length}
+use Rattle.std.specs.Prelude.{◌≡◌, ◌⊎◌, ℕ, ◌+◌, ◌*◌, ◌<◌, ◌≤◌, Bool, true, false, List, length}
 use Rattle.nvm_record.specs.declared.block.Block.{Block}
 use Rattle.nvm_record.specs.declared.block.Block.TheVariants.{Uncorrectable}
 use Rattle.nvm_record.specs.Step.{block_at}
@@ -12,6 +12,12 @@ abbrev pub source_block : Source → ℕ → Block
 source_block (Data size payload) i = block_at size payload i
 source_block (Zeroes size) i = zero_block size
 source_block Marks i = Uncorrectable
+
+-- whether they are parts of data
+abbrev pub has_data : Source → Bool
+has_data (Data size payload) = true
+has_data (Zeroes size) = false
+has_data Marks = false
 
 -- There are at least so many.
 abbrev pub HasBlocks : Source → ℕ → Type 0
