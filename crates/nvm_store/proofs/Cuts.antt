@@ -113,6 +113,10 @@ abbrev pub swept : ℕ → List LbaRange → ℕ → ℕ → Medium → Medium
 swept size rs first from m lba =
     cond ((leb first lba && ltb lba from) && ranges_have rs lba) (Bytes (replicate size 0)) (m lba)
 
+-- Nothing is swept where the sweep begins.
+pub swept_none : (size : ℕ) (rs : List LbaRange) (first : ℕ) (m : Medium) (lba : ℕ) → swept size rs first first m lba ≡ m lba
+swept_none size rs first m lba = grind (arith, nat_tests)
+
 -- With zeroes on the lowest range of what is left, the medium is swept to its end.
 pub swept_more : CutsHave → (size first from left : ℕ) (rs : List LbaRange) (r : LbaRange) (m : Medium) (lba : ℕ) → first ≤ from
     → IsLowest from left (cut_ranges from left rs) (cut_ranges from left rs) r

@@ -215,6 +215,8 @@ impl UnitBlocks {
         ensures err { OnErr result (self.new ≡ self.old) }
     {
         cut_ranges_lie_within();
+        // The unit's LBAs fit, so each of them does.
+        let _first = self.first;
         let Some(run) = lowest_cut(first, blocks, ranges) else {
             return Ok(());
         };

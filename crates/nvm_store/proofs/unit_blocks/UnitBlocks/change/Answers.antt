@@ -21,3 +21,6 @@ returns-in_ok-payload-in-Pair-clause-step c =
     (pair_is_write c.args.self.now.size pair.first pair.blocks (lent_bytes pair.compare) (lent_bytes pair.write) m lba success
     ∙ rw c.in_ok-payload-in-Pair.ensures at (step m held i block at)))
     c.write-in-Pair.ensures.step
+
+pub returns-in-Deallocate-clause-step : goal.returns-in-Deallocate-clause-step
+returns-in-Deallocate-clause-step c = on_ok_weaker c.deallocate.result (λ step m held. rw c.in-Deallocate.is (rw c.as_slice.ensures at (step m held))) c.deallocate.ensures.step
