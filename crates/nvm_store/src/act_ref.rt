@@ -73,8 +73,9 @@ impl<'a> ActRef<'a> {
     /// The same act, which shares the data. It takes no memory, and is refused only where 2^63 - 1 payloads
     /// share the data already.
     ///
-    /// A Deallocate has its ranges copied, just what lies of them among its LBAs: their room is reserved
-    /// once, at its exact length.
+    /// A Deallocate has just what lies of its ranges among its LBAs. Where these are some ranges in a row, and none
+    /// is cut, they are shared as other data is. Else they are copied, and their room is reserved once, at its
+    /// exact length.
     pub fn to_act(self, alloc: Global) -> Result<Act, NoMemory>
         ensures { IfOk result (λ act. operation_of act ≡ lent_operation_of self.entry) }
     {
@@ -113,7 +114,7 @@ impl<'a> ActRef<'a> {
                 blocks,
                 ranges,
             } => {
-                let ranges = cut_ranges::cut_data(alloc, first, blocks, ranges.as_slice())?;
+                let ranges = cut_ranges::left_data(alloc, first, blocks, ranges)?;
                 Ok(Act::Deallocate {
                     first,
                     blocks,

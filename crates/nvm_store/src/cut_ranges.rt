@@ -1,9 +1,10 @@
 ghost use Rattle.std.specs.Prelude.{◌≡◌, ◌⊎◌, ◌↔◌, ℕ, ◌+◌, ◌<◌, ◌≤◌, ◌∷◌, [], drop, IfNone, IfOk, IfSome, IsTrue, false, true};
+ghost use Rattle.nvm_record.specs.PayloadRef.{lent_bytes};
 ghost use Rattle.nvm_record.specs.Ranges as data_ranges;
-ghost use Rattle.nvm_record.specs.Ranges.{cut_ranges, ranges_of, data_of_ranges, range_has, ranges_have, AreRangesWithin};
+ghost use Rattle.nvm_record.specs.Ranges.{cut_ranges, ranges_of, range_has, ranges_have, AreRangesWithin};
 
 use nvm_record::laws::{cut_ranges_lie_within, ranges_are_read_back};
-use nvm_record::{LbaRange, NoMemory, Payload, RANGE_BYTES, range_count};
+use nvm_record::{LbaRange, NoMemory, Payload, PayloadRef, RANGE_BYTES, range_count};
 use std::alloc::Global;
 use std::marker::Model;
 
@@ -146,10 +147,36 @@ pub fn are_same(one: &[u8], other: &[u8]) -> bool
     true
 }
 
+/// The data of what is left. Where that is some of the ranges in a row, and none of them is cut, it shares their bytes and
+/// takes no memory; else it has a payload of its own.
+pub fn left_data(
+    alloc: Global,
+    first: u64,
+    blocks: u32,
+    ranges: PayloadRef<'_>,
+) -> Result<Payload, NoMemory>
+    ensures { IfOk result
+        (λ p. ranges_of p ≡ cut_ranges first blocks (ranges_of (lent_bytes ranges))) }
+{
+    let bytes = ranges.as_slice();
+    let Some((place, range)) = next_cut(first, blocks, bytes, 0) else {
+        return Ok(Payload::empty());
+    };
+    if range == LbaRange::at(bytes, place) {
+        let count = CutRanges::new(first, blocks, bytes).count();
+        if count <= range_count(bytes) - place {
+            let row = ranges.part(place * RANGE_BYTES, (place + count) * RANGE_BYTES);
+            if are_left(first, blocks, bytes, row.as_slice()) {
+                return row.share();
+            }
+        }
+    }
+    cut_data(alloc, first, blocks, bytes)
+}
+
 /// The data of what is left, in a payload of its own, whose room is reserved once, at its exact length.
-pub fn cut_data(alloc: Global, first: u64, blocks: u32, ranges: &[u8]) -> Result<Payload, NoMemory>
-    ensures bytes { IfOk result (λ p. p ≡ data_of_ranges (cut_ranges first blocks (ranges_of ranges.now))) }
-    ensures again { IfOk result (λ p. ranges_of p ≡ cut_ranges first blocks (ranges_of ranges.now)) }
+fn cut_data(alloc: Global, first: u64, blocks: u32, ranges: &[u8]) -> Result<Payload, NoMemory>
+    ensures { IfOk result (λ p. ranges_of p ≡ cut_ranges first blocks (ranges_of ranges.now)) }
 {
     cut_ranges_lie_within();
     ranges_are_read_back();

@@ -55,6 +55,20 @@ impl<'a> PayloadRef<'a> {
         self.to - self.from
     }
 
+    /// The bytes from place `from` up to place `to`, lent.
+    #[tactic(auto, unfolding(crate::specs::PayloadRef::lent_bytes))]
+    pub fn part(self, from: usize, to: usize) -> PayloadRef<'a>
+        requires ordered { from ≤ to }
+        requires within { to ≤ length (lent_bytes self) }
+        ensures { lent_bytes result ≡ slice_range (lent_bytes self.entry) from to }
+    {
+        PayloadRef {
+            whole: self.whole,
+            from: self.from + from,
+            to: self.from + to,
+        }
+    }
+
     /// The bytes, shared. It takes no memory, and is refused only where 2^63 - 1 payloads share them
     /// already.
     #[tactic(auto, unfolding(crate::specs::PayloadRef::lent_bytes))]
