@@ -156,8 +156,10 @@ pub fn left_data(
     ranges: PayloadRef<'_>,
 ) -> Result<Payload, NoMemory>
     ensures { IfOk result
-        (λ p. ranges_of p ≡ cut_ranges first blocks (ranges_of (lent_bytes ranges))) }
+        (λ p. ranges_of p ≡ cut_ranges first blocks (ranges_of (lent_bytes ranges.entry))) }
 {
+    cut_ranges_lie_within();
+    ranges_are_read_back();
     let bytes = ranges.as_slice();
     let Some((place, range)) = next_cut(first, blocks, bytes, 0) else {
         return Ok(Payload::empty());

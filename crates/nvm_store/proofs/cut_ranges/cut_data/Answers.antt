@@ -20,8 +20,8 @@ loop-range-preserved c =
       fit = All-push FitsItsBytes seen x c.loop-range.invariant.fit c.bytes.ensures.fits;
     }
 
-pub returns-clause-again : goal.returns-clause-again
-returns-clause-again c =
+pub returns : goal.returns
+returns c =
     let rs = ranges_of c.args.ranges.now in
     let seen = c.loop-range.yielded in
     let end : c.loop-range.range-iterator ≡ [] = search rules in
