@@ -20,7 +20,7 @@ ghost use Rattle.nvm_audit.specs.Resting.{HasRightData};
 use crate::done_part::DonePart;
 use nvm_geometry::Geometry;
 use nvm_geometry::laws::{parts_keep_their_kind, parts_lie_in_their_units};
-use nvm_plan::{Body, Job, LentPart, Part, PartResult, job_part_in};
+use nvm_plan::{Body, Job, LentPart, Part, PartResult, job_part_there};
 use nvm_record::{Status, Statuses};
 use nvm_store::{Limit, Look, UnitBlocks, judge, judge_look};
 
@@ -189,8 +189,6 @@ pub(crate) fn judge_part(
         → IsFound result (EndsRight limit (part_in geometry.now op p.now.part.unit) m p.now p.now.part.result)
         (HasRightData geometry.now op m p.now) }
 {
-    match job_part_in(geometry, job, p.part.unit) {
-        Some(part) => judge_lent(geometry, limit, job, p, blocks, &part),
-        None => unreachable!("the job has a part in the unit"),
-    }
+    let part = job_part_there(geometry, job, p.part.unit);
+    judge_lent(geometry, limit, job, p, blocks, &part)
 }

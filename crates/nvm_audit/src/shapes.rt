@@ -22,7 +22,7 @@ use crate::occurrences::Occurrence;
 use crate::record::Record;
 use nvm_geometry::Geometry;
 use nvm_plan::laws::{parts_of_jobs, ready_jobs, shapes_by_plan};
-use nvm_plan::{Body, Job, JobUnits, Part, PartResult, Plan, job_units, plan};
+use nvm_plan::{Body, Job, JobUnits, Part, PartResult, Plan, plan, ready_job_units};
 use nvm_record::{Op, Status, Statuses};
 
 /// What a job's parts do.
@@ -199,7 +199,7 @@ fn ends_without_parts(geometry: &Geometry, job: &Job, told: Statuses) -> bool
 {
     parts_of_jobs();
     let kind = kind_of(&job.body);
-    let mut units = job_units(geometry, job);
+    let mut units = ready_job_units(geometry, job);
     match units.next() {
         Some(_) => told == kind.unstarted(),
         None => told == kind.success(),
@@ -217,7 +217,7 @@ fn ends_at_last(geometry: &Geometry, job: &Job, parts: &[Part], told: Statuses) 
     parts_of_jobs();
     let kind = kind_of(&job.body);
     let before = parts.len() - 1;
-    let mut units = job_units(geometry, job);
+    let mut units = ready_job_units(geometry, job);
     if !are_first(&mut units, parts) {
         return false;
     }

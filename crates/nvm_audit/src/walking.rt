@@ -89,6 +89,7 @@ fn entry_fault(
         u.geometry,
         &u.jobs[entry.job as usize],
         u.unit,
+        is_claimed,
         entry,
         blocks,
     ) {

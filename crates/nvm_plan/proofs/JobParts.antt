@@ -1,5 +1,5 @@
 -- A job's part in a unit is that of its operation, and lies in the unit.
-use Rattle.std.proofs.Common.{◌≡◌, ◌↔◌, ℕ, ◌+◌, ◌*◌, ◌<◌, ◌≤◌, Bool, true, false, if◌then◌else◌, List, [], Option, Some, None, MatchOption, IfSome, IsTrue, refl, sym, ap, subst, ◌∙◌, arith}
+use Rattle.std.proofs.Common.{◌≡◌, ◌↔◌, ℕ, ◌+◌, ◌*◌, ◌<◌, ◌≤◌, Bool, true, false, if◌then◌else◌, List, [], Option, Some, None, MatchOption, IfSome, IsSome, IsTrue, refl, sym, ap, subst, ◌∙◌, arith}
 use Rattle.std.specs.List.{Contains}
 use Rattle.std.proofs.lemmas.Option.{same_Some, none-some}
 use Rattle.nvm_record.specs.declared.command.Command.{Command}
@@ -165,6 +165,18 @@ pub has_part : (ns : Namespace) (job : Job) (unit : ℕ) (part : Operation) → 
     → HasPart ns (refusal_of ns job) (job_operation_of ns job) unit part
 has_part ns job unit part h = part_known ns (refusal_of ns job) (job_operation_of ns job) unit part h
 
+-- the part, where there is one
+pub some_part : (o : Option Operation) → IsSome o → (part : Operation) × (o ≡ Some part)
+some_part None some = absurd (cc some)
+some_part (Some part) some = (part, refl)
+
+-- What is known of a job that has a part in the unit.
+pub part_is_known : (ns : Namespace) (job : Job) (unit : ℕ) → IsSome (job_part_in ns job unit)
+    → (part : Operation) × (job_part_in ns job unit ≡ Some part) × HasPart ns (refusal_of ns job) (job_operation_of ns job) unit part
+part_is_known ns job unit there =
+    let its = some_part (job_part_in ns job unit) there in
+    (its.0, its.1, has_part ns job unit its.0 its.1)
+
 -- the operation of a job that isn't refused
 served_is : (refused : Option Statuses) (stands : Option Operation) → refused ≡ None → unless_refused refused stands ≡ stands
 served_is refused stands e = rw e refl
@@ -219,3 +231,9 @@ pub lent_covered : (ns : Namespace) (job : Job) (unit : ℕ) (same : Option Oper
     → IfSome lent (λ part. (place : Place) → IsUnitPlace ns unit place → IsCovered place (part_operation_of part))
 lent_covered ns job unit same None all is h = tt
 lent_covered ns job unit same (Some part) all is h = all (part_operation_of part) (is ∙ h)
+
+-- What is lent of a part that is there lies there, too.
+pub there_covered : (ns : Namespace) (job : Job) (unit : ℕ) (lent : Operation)
+    → ((place : Place) (part : Operation) → job_part_in ns job unit ≡ Some part → IsUnitPlace ns unit place → IsCovered place part)
+    → job_part_in ns job unit ≡ Some lent → (place : Place) → IsUnitPlace ns unit place → IsCovered place lent
+there_covered ns job unit lent all is place lies = all place lent is lies

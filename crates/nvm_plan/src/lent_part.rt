@@ -1,9 +1,10 @@
-ghost use Rattle.std.specs.Prelude.{◌≡◌, ◌+◌, ◌-◌, ◌*◌, ◌≤◌, length, IfSome, IsTrue, MatchOption, None, Some, false};
+ghost use Rattle.std.specs.Prelude.{◌≡◌, ◌+◌, ◌-◌, ◌*◌, ◌<◌, ◌≤◌, length, IfSome, IsSome, IsTrue, MatchOption, None, Some, false};
 ghost use Rattle.nvm_record.specs.Entry.{IsWhole};
 ghost use Rattle.nvm_record.specs.Op.{carries_ranges};
 ghost use Rattle.nvm_record.specs.PayloadRef.{lent_bytes};
 ghost use Rattle.nvm_record.specs.Ranges.{ranges_of};
 ghost use Rattle.nvm_record.specs.Step.{Operation};
+ghost use Rattle.nvm_geometry.specs.Boundaries.{units_of};
 ghost use Rattle.nvm_geometry.specs.Deallocation.{deallocation, EndInNamespace};
 ghost use Rattle.nvm_geometry.specs.Parts.{data_part, part_in, piece_in};
 ghost use Rattle.nvm_store.specs.declared.place.Place.{Place as UnitPlace};
@@ -21,7 +22,7 @@ use crate::checks::plan;
 use crate::decision::Plan;
 use crate::job::{Body, Job};
 use crate::laws::{parts_of_jobs, ready_jobs};
-use crate::reach::deallocated;
+use crate::reach::{Reach, deallocated, reach_of};
 use nvm_geometry::{Geometry, Piece, laws};
 use nvm_record::{BlockSize, Command, Op, PayloadRef};
 use nvm_store::{ActRef, Look};
@@ -53,6 +54,27 @@ pub fn job_part_in<'a>(geometry: &Geometry, job: &'a Job, unit: u16) -> Option<L
     match plan(geometry, job) {
         Plan::Refused(_) => None,
         Plan::Ready => body_part(*geometry, &job.body, unit),
+    }
+}
+
+/// What [`job_part_in`] gives in a unit in which the job is known to have a part. It makes no plan, takes no memory, and a
+/// constant number of steps whatever the job is.
+pub fn job_part_there<'a>(geometry: &Geometry, job: &'a Job, unit: u16) -> LentPart<'a>
+    requires fits { FitsNamespace geometry.now job.now }
+    requires there { IsSome (spec.job_part_in geometry.now job.now unit) }
+    ensures part { spec.job_part_in geometry.now job.now unit ≡ Some (part_operation_of result) }
+    ensures covered { (place : UnitPlace) → IsUnitPlace geometry.now unit place
+        → IsCovered place (part_operation_of result) }
+{
+    laws::units_met_are_those_reached();
+    ready_jobs();
+    parts_of_jobs();
+    match reach_of(&job.body) {
+        Reach::Ranges(ranges) => deallocate_in(*geometry, ranges, unit),
+        Reach::Range { .. } => match body_part(*geometry, &job.body, unit) {
+            Some(part) => part,
+            None => unreachable!("the job has a part in this unit"),
+        },
     }
 }
 
@@ -88,16 +110,25 @@ fn ranges_part<'a>(geometry: Geometry, ranges: PayloadRef<'a>, unit: u16) -> Opt
         (λ part. part_of_ready geometry (Some (deallocation geometry (ranges_of (lent_bytes ranges.entry)))) unit
         ≡ Some (part_operation_of part)) }
 {
-    laws::each_unit_has_one_place();
     if geometry.next_met(ranges.as_slice(), unit)? != unit {
         return None;
     }
+    Some(deallocate_in(geometry, ranges, unit))
+}
+
+/// The part of a Deallocate of these ranges in a unit that they meet.
+fn deallocate_in<'a>(geometry: Geometry, ranges: PayloadRef<'a>, unit: u16) -> LentPart<'a>
+    requires { unit < units_of geometry }
+    ensures { part_operation_of result
+        ≡ part_in geometry (deallocation geometry (ranges_of (lent_bytes ranges.entry))) unit }
+{
+    laws::each_unit_has_one_place();
     let (first, blocks) = geometry.unit_range(unit);
-    Some(LentPart::Act(ActRef::Deallocate {
+    LentPart::Act(ActRef::Deallocate {
         first,
         blocks,
         ranges,
-    }))
+    })
 }
 
 /// The part of a command by itself, at a piece of its range.

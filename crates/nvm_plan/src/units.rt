@@ -53,25 +53,34 @@ impl<'a> Model for JobUnits<'a> {
 pub fn job_units<'a>(geometry: &Geometry, job: &'a Job) -> JobUnits<'a>
     ensures { result ≡ spec.job_units geometry.now job.now }
 {
-    laws::pieces_stand_in_line();
-    laws::whole_ranges_are_reached();
-    laws::ranges_meet_their_units();
-    ready_jobs();
     parts_of_jobs();
     match plan(geometry, job) {
         Plan::Refused(_) => JobUnits {
             left: Left::Nothing,
         },
-        Plan::Ready => match reach_of(&job.body) {
-            Reach::Range { first, blocks } => JobUnits {
-                left: Left::Pieces(geometry.parts(first, blocks)),
-            },
-            Reach::Ranges(ranges) => JobUnits {
-                left: Left::Ranges {
-                    geometry: *geometry,
-                    ranges: ranges.as_slice(),
-                    from: 0,
-                },
+        Plan::Ready => ready_job_units(geometry, job),
+    }
+}
+
+/// What [`job_units`] gives, where no check applies to the job. It makes no plan.
+pub fn ready_job_units<'a>(geometry: &Geometry, job: &'a Job) -> JobUnits<'a>
+    requires { refusal_of geometry.now job.now ≡ None }
+    ensures { result ≡ spec.job_units geometry.now job.now }
+{
+    laws::pieces_stand_in_line();
+    laws::whole_ranges_are_reached();
+    laws::ranges_meet_their_units();
+    ready_jobs();
+    parts_of_jobs();
+    match reach_of(&job.body) {
+        Reach::Range { first, blocks } => JobUnits {
+            left: Left::Pieces(geometry.parts(first, blocks)),
+        },
+        Reach::Ranges(ranges) => JobUnits {
+            left: Left::Ranges {
+                geometry: *geometry,
+                ranges: ranges.as_slice(),
+                from: 0,
             },
         },
     }
@@ -83,15 +92,25 @@ pub fn job_part_count(geometry: &Geometry, job: &Job) -> u16
     ensures value { result ≡ length (spec.job_units geometry.now job.now) }
     ensures valid { result ≤ units_of geometry.now }
 {
-    laws::whole_ranges_are_reached();
-    ready_jobs();
     parts_of_jobs();
     match plan(geometry, job) {
         Plan::Refused(_) => 0,
-        Plan::Ready => match reach_of(&job.body) {
-            Reach::Range { first, blocks } => geometry.piece_count(first, blocks),
-            Reach::Ranges(ranges) => geometry.met_count(ranges.as_slice()),
-        },
+        Plan::Ready => ready_part_count(geometry, job),
+    }
+}
+
+/// What [`job_part_count`] gives, where no check applies to the job. It makes no plan.
+pub fn ready_part_count(geometry: &Geometry, job: &Job) -> u16
+    requires { refusal_of geometry.now job.now ≡ None }
+    ensures value { result ≡ length (spec.job_units geometry.now job.now) }
+    ensures valid { result ≤ units_of geometry.now }
+{
+    laws::whole_ranges_are_reached();
+    ready_jobs();
+    parts_of_jobs();
+    match reach_of(&job.body) {
+        Reach::Range { first, blocks } => geometry.piece_count(first, blocks),
+        Reach::Ranges(ranges) => geometry.met_count(ranges.as_slice()),
     }
 }
 

@@ -1,5 +1,5 @@
 -- The next part of a job that is under way, and what is known of the pass that does it.
-use Rattle.std.proofs.Common.{◌≡◌, ℕ, Bool, ◌+◌, ◌<◌, List, map, Option, Some, None, refl, sym, ◌∙◌, subst, inr}
+use Rattle.std.proofs.Common.{◌≡◌, ℕ, Bool, ◌+◌, ◌<◌, List, map, Option, Some, None, IsSome, refl, sym, ◌∙◌, subst, inr}
 use Rattle.std.specs.Prelude.{IfNone, MatchOption}
 use Rattle.std.specs.List.{Contains}
 use Rattle.nvm_record.specs.Step.{Operation}
@@ -45,12 +45,12 @@ next_known ns lists job w start now units inside under =
 pub next_there : (ns : Namespace) (lists : Bool) (job : Job) (w : UnderWay) (start now : List PassView)
     → ((op : Operation) (unit : ℕ) → refusal_of ns job ≡ None → job_operation_of ns job ≡ Some op → Contains (units_met ns op) unit
     → job_part_in ns job unit ≡ Some (part_in ns op unit))
-    → IsUnderWay ns lists job w start now → job_part_in ns job w.unit ≡ None → ⊥
-next_there ns lists job w start now part under none =
+    → IsUnderWay ns lists job w start now → IsSome (job_part_in ns job w.unit)
+next_there ns lists job w start now part under =
     let there = part under.op w.unit under.free under.is_op
     (is_among (units_told (map (λ (did : PartDone). did.reply) under.have.parts)) (units_met ns under.op) w.unit
     (job_units_from ns job (w.unit + 1)) under.have.done.units) in
-    let bad = sym none ∙ there in cc bad
+    subst (λ (o : Option Operation). IsSome o) (sym there) refl
 
 -- what is known of a job that is done, and of one that is pending
 pub when_done : (ns : Namespace) (lists : Bool) (number : ℕ) (job : Job) (start now : List PassView) (progress : Progress) (done : JobDone)

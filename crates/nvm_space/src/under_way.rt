@@ -28,7 +28,8 @@ use nvm_plan::laws::{
     outcomes_by_plan, parts_of_jobs, ready_jobs,
 };
 use nvm_plan::{
-    Body, Job, LentPart, Part, PartResult, Plan, job_part_count, job_part_in, next_job_unit, plan,
+    Body, Job, LentPart, Part, PartResult, Plan, job_part_there, next_job_unit, plan,
+    ready_part_count,
 };
 use nvm_record::{NoMemory, Op};
 use std::alloc::Global;
@@ -98,7 +99,7 @@ pub(crate) fn begin(
         return Progress::Done(JobDone::of_success(job, Vec::new(alloc), Vec::new(alloc)));
     };
     let count = if lists {
-        job_part_count(geometry, job)
+        ready_part_count(geometry, job)
     } else {
         0
     };
@@ -129,10 +130,7 @@ impl JobUnderWay {
             → IsCovered place (part_operation_of result.1) }
     {
         parts_of_jobs();
-        let Some(part) = job_part_in(geometry, job, self.unit) else {
-            unreachable!("the job has a part in this unit")
-        };
-        (self.unit, part)
+        (self.unit, job_part_there(geometry, job, self.unit))
     }
 
     /// What the reply to its next part makes of it.

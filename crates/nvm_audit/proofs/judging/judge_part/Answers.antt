@@ -8,5 +8,5 @@ pub judge_lent-requires-clause-covers : goal.judge_lent-requires-clause-covers
 judge_lent-requires-clause-covers c =
     let place = place_of c.args.blocks.now in
     let same = ap (λ (p : RecordedPart). p.part.unit) c.p.view_is in
-    c.in-Some.ensures.covered place
+    c.job_part_there-part.ensures.covered place
     (subst (λ (unit : ℕ). IsUnitPlace c.args.geometry.now unit place) (sym same) c.requires.lies)

@@ -8,7 +8,7 @@ returns-then-not-are_first c = λ op is.
     let units = c.parts_of_jobs.ensures.units c.args.geometry.now c.args.job.now op c.requires.ready is in (
       λ e. absurd (true≢false (sym e)),
       λ e.
-          let yes = (c.are_first.ensures.left e.left (e.units ∙ sym (c.job_units-units.ensures ∙ units))).0 in
+          let yes = (c.are_first.ensures.left e.left (e.units ∙ sym (c.ready_job_units-units.ensures ∙ units))).0 in
           absurd (true≢false (sym yes ∙ c.if-not-are_first.true)),
     )
 
@@ -46,7 +46,7 @@ returns-then-not-is_success c = λ op is.
     let units = c.parts_of_jobs.ensures.units c.args.geometry.now c.args.job.now op c.requires.ready is in (
       λ e.
           ends c.args.geometry.now op c.args.parts.now c.args.told (length c.args.parts.now - 1) _ (omega (arith, long))
-          c.are_first.new.units (c.are_first.ensures.first c.if-not-are_first.false ∙ c.job_units-units.ensures ∙ units)
+          c.are_first.new.units (c.are_first.ensures.first c.if-not-are_first.false ∙ c.ready_job_units-units.ensures ∙ units)
           ((c.results_fit.ensures op.deed kind).0 c.if-not-results_fit.false)
           (c.all_go_on.ensures.0 c.if-not-all_go_on.false)
           ((c.may_show.ensures op.deed kind).0 c.if-not-may_show.false)
@@ -61,13 +61,13 @@ returns-else-not-is_success c = λ op is.
     let units = c.parts_of_jobs.ensures.units c.args.geometry.now c.args.job.now op c.requires.ready is in (
       λ e.
           ends c.args.geometry.now op c.args.parts.now c.args.told (length c.args.parts.now - 1) _ (omega (arith, long))
-          c.are_first.new.units (c.are_first.ensures.first c.if-not-are_first.false ∙ c.job_units-units.ensures ∙ units)
+          c.are_first.new.units (c.are_first.ensures.first c.if-not-are_first.false ∙ c.ready_job_units-units.ensures ∙ units)
           ((c.results_fit.ensures op.deed kind).0 c.if-not-results_fit.false)
           (c.all_go_on.ensures.0 c.if-not-all_go_on.false)
           ((c.may_show.ensures op.deed kind).0 c.if-not-may_show.false)
           (λ success. (none_yielded _ _ _ c.next.ensures.steps c.is_none.result c.is_none.ensures).0 e),
       λ e.
-          let left = (c.are_first.ensures.left e.left (e.units ∙ sym (c.job_units-units.ensures ∙ units))).1 in
+          let left = (c.are_first.ensures.left e.left (e.units ∙ sym (c.ready_job_units-units.ensures ∙ units))).1 in
           let whole = e.whole (c.is_success.ensures.0 c.if-not-is_success.false) in
           (none_yielded _ _ _ c.next.ensures.steps c.is_none.result c.is_none.ensures).1 (sym left ∙ whole),
     )

@@ -1,6 +1,8 @@
-use Rattle.std.proofs.Common.{◌≡◌, ◌<◌, ℕ, length, refl, sym, ap, subst, ◌∙◌, rules, arith}
+use Rattle.std.proofs.Common.{◌≡◌, ◌<◌, ℕ, length, IsSome, refl, sym, ap, subst, ◌∙◌, rules, arith}
 use mathlib.Core.Bool.{true≢false}
 use Rattle.nvm_record.specs.Lists.{IsAt}
+use Rattle.nvm_plan.specs.JobPart.{job_part_in}
+use Rattle.nvm_plan.specs.declared.job.Job.{Job}
 use Rattle.nvm_store.specs.HistoryEntry.{HistoryEntry}
 use Rattle.nvm_store.specs.Point.{point}
 use Rattle.nvm_audit.specs.Inside.Audited.{view_of_shown}
@@ -31,6 +33,18 @@ its c =
 
 pub entry_is_right-requires-clause-fits : goal.entry_is_right-requires-clause-fits
 entry_is_right-requires-clause-fits c = c.requires.known.fits c.index-entry.result.now.job c.index.result.now (its c)
+
+pub entry_is_right-requires-clause-there : goal.entry_is_right-requires-clause-there
+entry_is_right-requires-clause-there c = λ claimed.
+    let u = view_of_shown c.args.u.now in
+    let mine = c.index-entry.result.now in
+    let job = c.index.result.now in
+    let stands = stands_read u.history c.args.place mine c.requires.there c.index-entry.ensures in
+    let by = (c.requires.claimed mine stands).0 claimed in
+    let part = c.requires.known.parts by.0 by.1 by.2 in
+    let same = one_there u.jobs by.1.done.job part.job job part.its (subst (λ (n : ℕ). IsAt u.jobs n job) by.3.job (its c)) in
+    subst (λ (n : ℕ). IsSome (job_part_in u.namespace job n)) part.unit
+    (subst (λ (j : Job). IsSome (job_part_in u.namespace j by.1.part.unit)) same part.there)
 
 pub returns-then-not-entry_is_right : goal.returns-then-not-entry_is_right
 returns-then-not-entry_is_right c = λ entry at.

@@ -1,6 +1,5 @@
 use Rattle.std.proofs.Common.{◌≡◌, ℕ, List, sym, subst}
 use Rattle.nvm_record.specs.Ranges.{ranges_of}
-use Rattle.nvm_record.specs.Step.{Operation}
 use Rattle.nvm_geometry.specs.Deallocation.{deallocation}
 use Rattle.nvm_plan.specs.Inside.Reach.{IsReachOf}
 use Rattle.nvm_plan.specs.declared.reach.Reach.{Reach}

@@ -88,7 +88,7 @@ returns c = λ views.
         have = not_begun ns c.args.lists c.args.number job op.0 views (c.in-Some.unit ∷ job_units_from ns job (c.in-Some.unit + 1)) c.in-Ok.parts.items c.in-Ok-room.bytes.items begun c.in-Ok.ensures.items c.in-Ok-room.ensures;
         waited = inl refl;
         room = λ on. elim c.if-lists.branch [
-          | then-lists w ↦ omega (arith, empty, counted, c.in-Ok.ensures.capacity, c.from.ensures, w.count-is, w.job_part_count-count.ensures.value)
+          | then-lists w ↦ omega (arith, empty, counted, c.in-Ok.ensures.capacity, c.from.ensures, w.count-is, w.ready_part_count-count.ensures.value)
           | else-lists w ↦ absurd (let bad = sym w.if-lists.false ∙ on in cc bad)
         ];
       },
