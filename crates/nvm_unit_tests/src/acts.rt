@@ -1,15 +1,13 @@
 //! One act of each kind, as a unit's history has it.
-use nvm_plan::{Body, Job};
-use nvm_record::{Command, Fuse, LbaRange, Op, Payload, ranges_data};
+use nvm_record::{LbaRange, NoMemory, Payload, ranges_data};
 use nvm_store::{Act, Entry, History};
 use std::alloc::Global;
-use std::test::Fail;
 
 const BLOCK: usize = 512;
 
 /// A Write of a block of 41h, a Write Zeroes, a Write Uncorrectable, a pair that finds zeroes, and a Deallocate of two blocks: in the unit of
 /// LBAs 0 to 7, where each succeeds after those before it.
-pub fn each_kind(alloc: Global) -> Result<Vec<Act>, Fail> {
+pub fn each_kind(alloc: Global) -> Result<Vec<Act>, NoMemory> {
     let range = LbaRange {
         first: 3,
         blocks: 2,
@@ -44,7 +42,7 @@ pub fn each_kind(alloc: Global) -> Result<Vec<Act>, Fail> {
 }
 
 /// The history that has just these acts, each by the first pass as job 5.
-pub fn history_of(alloc: Global, acts: Vec<Act>) -> Result<History, Fail> {
+pub fn history_of(alloc: Global, acts: Vec<Act>) -> Result<History, NoMemory> {
     let mut history = Vec::with_capacity(alloc, acts.len())?;
     for act in acts {
         history.push(Entry {
@@ -54,45 +52,4 @@ pub fn history_of(alloc: Global, acts: Vec<Act>) -> Result<History, Fail> {
         })?;
     }
     Ok(history)
-}
-
-/// The job of host 1 that an act on one block is done for, or one on all blocks of its ranges.
-pub fn job_of(act: Act) -> Job {
-    let (op, first, payload) = match act {
-        Act::Write { first, payload, .. } => (Op::Write, first, payload),
-        Act::Zeroes { first, .. } => (Op::WriteZeroes, first, Payload::empty()),
-        Act::Uncorrectable { first, .. } => (Op::WriteUncorrectable, first, Payload::empty()),
-        Act::Deallocate { ranges, .. } => (Op::Dataset { deallocate: true }, 0, ranges),
-        Act::Pair {
-            first,
-            compare,
-            write,
-            ..
-        } => {
-            return Job {
-                host: 1,
-                body: Body::Pair(
-                    command(Fuse::First, Op::Compare, first, compare),
-                    command(Fuse::Second, Op::Write, first, write),
-                ),
-            };
-        }
-    };
-    Job {
-        host: 1,
-        body: Body::Single(command(Fuse::Normal, op, first, payload)),
-    }
-}
-
-/// A command on one block.
-fn command(fuse: Fuse, op: Op, slba: u64, payload: Payload) -> Command {
-    Command {
-        cid: 7,
-        nsid: 1,
-        fuse,
-        op,
-        slba,
-        nlb: 0,
-        payload,
-    }
 }

@@ -1,11 +1,10 @@
-//! Tests of `nvm_unit` and `nvm_space`, which reach them by what they make public.
+//! Tests of `nvm_unit`, which reach it by what it makes public. What the tests of `nvm_space` need of them too is public here.
 #![tactic(auto)]
 
-#[cfg(test)]
 mod acts;
-#[cfg(test)]
 mod holding;
 #[cfg(test)]
-mod space;
-#[cfg(test)]
 mod unit;
+
+pub use acts::{each_kind, history_of};
+pub use holding::Holding;

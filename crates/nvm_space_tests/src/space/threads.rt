@@ -6,13 +6,14 @@ ghost use Rattle.nvm_space.specs.Progress.{IsProgress};
 ghost use Rattle.nvm_unit.specs.Ends.{views_of};
 ghost use Rattle.nvm_unit.specs.declared.views.PassView.{PassView};
 
-use super::polls::{poll_once, told, zeroes};
+use super::jobs::zeroes;
+use super::polls::{poll_once, told};
 use super::two_ports;
-use crate::holding::Holding;
 use nvm_plan::{Job, PartResult, fits};
 use nvm_record::Status;
 use nvm_space::{JobDone, Port, Progress, Space};
 use nvm_unit::Open;
+use nvm_unit_tests::Holding;
 use std::alloc::Global;
 use std::sync::Wait;
 use std::test::Fail;

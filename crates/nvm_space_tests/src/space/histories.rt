@@ -1,12 +1,13 @@
 //! What a copy of a unit's history has.
 ghost use Rattle.nvm_space.specs.Ports.{IsPortOf};
 
+use super::jobs::job_of;
 use super::two_ports;
-use crate::acts::{each_kind, history_of, job_of};
 use nvm_plan::{Completions, Job, fits};
 use nvm_record::Status;
 use nvm_space::{JobDone, Port, Space};
 use nvm_unit::Open;
+use nvm_unit_tests::{each_kind, history_of};
 use std::alloc::Global;
 use std::sync::Wait;
 use std::test::Fail;

@@ -4,7 +4,7 @@ use Rattle.nvm_unit.specs.Ends.{views_of}
 use Rattle.nvm_unit.specs.declared.views.PassView.{PassView}
 use Rattle.nvm_space.specs.Progress.{IsProgress}
 use Rattle.nvm_space.specs.declared.under_way.Progress.{Progress}
-use Rattle.nvm_unit_tests.proofs.space.threads.poll_again.Goals as goal
+use Rattle.nvm_space_tests.proofs.space.threads.poll_again.Goals as goal
 
 pub poll_job-requires-clause-under_way : goal.poll_job-requires-clause-under_way
 poll_job-requires-clause-under_way c =

@@ -1,5 +1,6 @@
 //! A space that keeps no histories.
-use super::polls::{Told, told, zeroes};
+use super::jobs::zeroes;
+use super::polls::{Told, told};
 use nvm_geometry::Geometry;
 use nvm_plan::{PartResult, fits};
 use nvm_record::Status;

@@ -1,5 +1,5 @@
 use Rattle.std.proofs.Common.{◌<◌, length, arith}
-use Rattle.nvm_unit_tests.proofs.space.unrecorded.zeroed.Goals as goal
+use Rattle.nvm_space_tests.proofs.space.unrecorded.zeroed.Goals as goal
 
 pub run_job-done-requires-clause-of : goal.run_job-done-requires-clause-of
 run_job-done-requires-clause-of g c =

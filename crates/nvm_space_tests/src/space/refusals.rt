@@ -2,7 +2,7 @@
 //! answer then.
 ghost use Rattle.nvm_space.specs.Ports.{IsPortOf};
 
-use super::polls::single;
+use super::jobs::single;
 use super::reads::{Read, read};
 use super::two_ports;
 use nvm_plan::{Completions, Job, PartResult, fits};

@@ -2,9 +2,10 @@
 ghost use Rattle.std.specs.Prelude.{◌≡◌, ◌<◌, true};
 ghost use Rattle.nvm_space.specs.Ports.{IsPortOf};
 
+use super::jobs::single;
 use super::two_ports;
-use nvm_plan::{Body, Completions, Job, fits};
-use nvm_record::{Command, Fuse, Op, Payload, Status};
+use nvm_plan::{Completions, fits};
+use nvm_record::{Op, Payload, Status};
 use nvm_space::{JobDone, Port, ReadNow, Space};
 use nvm_unit::Open;
 use std::alloc::Global;
@@ -73,19 +74,7 @@ fn run(
     requires of { IsPortOf space.now port.old }
     ensures of { IsPortOf space.now port.new }
 {
-    let command = Command {
-        cid: 7,
-        nsid: 1,
-        fuse: Fuse::Normal,
-        op,
-        slba: lba,
-        nlb: 0,
-        payload,
-    };
-    let job = Job {
-        host: 1,
-        body: Body::Single(command),
-    };
+    let job = single(op, lba, 0, payload);
     if !fits(&space.geometry(), &job) {
         return Err("the job doesn't fit");
     }

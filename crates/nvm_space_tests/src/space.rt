@@ -1,5 +1,6 @@
 //! A space of LBAs 0 to 31 with blocks of 512 bytes, in 4 units of 8 LBAs each, and two ports.
 mod histories;
+mod jobs;
 mod polls;
 mod reads;
 mod refusals;

@@ -4,9 +4,10 @@ ghost use Rattle.nvm_space.specs.Ports.{IsPortOf};
 ghost use Rattle.nvm_space.specs.Progress.{IsProgress};
 ghost use Rattle.nvm_unit.specs.Ends.{views_of};
 
+use super::jobs::{single, zeroes};
 use super::two_ports;
-use nvm_plan::{Body, Completions, Job, PartResult, fits};
-use nvm_record::{Command, Fuse, Op, Payload, ReadData, Status};
+use nvm_plan::{Completions, Job, PartResult, fits};
+use nvm_record::{Op, Payload, ReadData, Status};
 use nvm_space::{JobDone, Port, Progress, Space};
 use nvm_unit::Open;
 use std::alloc::Global;
@@ -14,28 +15,6 @@ use std::test::Fail;
 
 /// What is told of a job: its status, and unit, point and result of each part.
 pub(super) type Told = (Status, Vec<(u16, u32, PartResult)>);
-
-/// A Write Zeroes of host 1.
-pub(super) fn zeroes(slba: u64, nlb: u16) -> Job {
-    single(Op::WriteZeroes, slba, nlb, Payload::empty())
-}
-
-/// A command of host 1 that is a job.
-pub(super) fn single(op: Op, slba: u64, nlb: u16, payload: Payload) -> Job {
-    let command = Command {
-        cid: 7,
-        nsid: 1,
-        fuse: Fuse::Normal,
-        op,
-        slba,
-        nlb,
-        payload,
-    };
-    Job {
-        host: 1,
-        body: Body::Single(command),
-    }
-}
 
 /// What is told of a job for which there must be memory.
 pub(super) fn told(alloc: Global, done: JobDone) -> Result<Told, Fail> {
