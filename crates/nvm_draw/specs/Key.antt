@@ -5,9 +5,9 @@ use Rattle.nvm_draw.specs.Sizes.{top}
 
 unfoldable pub letters_text : List ℕ
 letters_text =
-    codes "<text x='16' y='92'>Boxes are a unit's entries, in order: W write, Z zeroes, U uncorrectable, P pair, D deallocate;"
+    codes "<text x='16' y='108'>Boxes are a unit's entries, in order: W write, Z zeroes, U uncorrectable, P pair, D deallocate;"
     ++ (codes " with worker above, job and LBA+blocks below.</text>\n"
-    ++ (codes "<text x='16' y='108'>Marks before them rest on that point: R read, C compare, F failed pair, M no memory,"
+    ++ (codes "<text x='16' y='124'>Marks before them rest on that point: R read, C compare, F failed pair, M no memory,"
     ++ codes " L at the limit, ! without its entry, +n more.</text>\n"))
 
 -- eight names stand in a line
@@ -15,7 +15,7 @@ unfoldable pub worker_text : ℕ → List ℕ
 worker_text worker =
     codes "<g class='worker" ++ (colour_text worker
     ++ (codes "' transform='translate(" ++ (decimal (16 + 104 * (worker % 8))
-    ++ (codes "," ++ (decimal (122 + 22 * (worker / 8))
+    ++ (codes "," ++ (decimal (138 + 22 * (worker / 8))
     ++ (codes ")'><rect width='16' height='16' rx='3'/><text class='name' x='22' y='12'>worker " ++ (decimal worker
     ++ codes "</text></g>\n")))))))
 

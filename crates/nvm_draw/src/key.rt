@@ -9,8 +9,8 @@ use nvm_record::NoMemory;
 
 /// What the letters stand for.
 const LETTERS: &str =
-    "<text x='16' y='92'>Boxes are a unit's entries, in order: W write, Z zeroes, U uncorrectable, P pair, D deallocate; with worker above, job and LBA+blocks below.</text>
-<text x='16' y='108'>Marks before them rest on that point: R read, C compare, F failed pair, M no memory, L at the limit, ! without its entry, +n more.</text>
+    "<text x='16' y='108'>Boxes are a unit's entries, in order: W write, Z zeroes, U uncorrectable, P pair, D deallocate; with worker above, job and LBA+blocks below.</text>
+<text x='16' y='124'>Marks before them rest on that point: R read, C compare, F failed pair, M no memory, L at the limit, ! without its entry, +n more.</text>
 ";
 
 /// Appends what the letters and the colours stand for, and the numbers of the places, above the boxes.
@@ -43,7 +43,7 @@ fn push_worker(text: &mut String, worker: u16) -> Result<(), NoMemory>
     let colour = Colour(worker);
     let place = worker as u64;
     let x = 16 + 104 * (place % 8);
-    let y = 122 + 22 * (place / 8);
+    let y = 138 + 22 * (place / 8);
     write!(
         text,
         "<g class='worker{colour}' transform='translate({x},{y})'><rect width='16' height='16' rx='3'/><text class='name' x='22' y='12'>worker {worker}</text></g>\n"
