@@ -37,6 +37,7 @@ style_text =
     ∷ codes ".s5 rect{stroke:#c00;stroke-dasharray:6 2}.s6 rect{stroke:#c00;stroke-dasharray:2 2}.s7 rect{stroke:#888;stroke-width:3}\n"
     ∷ codes ".worker .name{fill:#333}\n"
     ∷ codes "g .ring{fill:none;stroke:#e00000;stroke-width:4;stroke-dasharray:none}\n"
+    ∷ codes "g .change{fill:none;stroke:#8a00d4;stroke-width:4;stroke-dasharray:7 4}\n"
     ∷ codes "</style>\n"
     ∷ [])
 

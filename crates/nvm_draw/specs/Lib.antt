@@ -5,6 +5,8 @@ pub mod Letters
 pub mod Entries
 pub mod Marks
 pub mod Sheet
+pub mod LastChange
+pub mod Rings
 pub mod EntryBoxes
 pub mod MarkBoxes
 pub mod Rows

@@ -35,6 +35,7 @@ text{font-family:DejaVu Sans Mono,Consolas,monospace;font-size:11px;fill:#333}
 .s5 rect{stroke:#c00;stroke-dasharray:6 2}.s6 rect{stroke:#c00;stroke-dasharray:2 2}.s7 rect{stroke:#888;stroke-width:3}
 .worker .name{fill:#333}
 g .ring{fill:none;stroke:#e00000;stroke-width:4;stroke-dasharray:none}
+g .change{fill:none;stroke:#8a00d4;stroke-width:4;stroke-dasharray:7 4}
 </style>
 ";
 

@@ -2,7 +2,8 @@
 //!
 //! [`draw_record`] draws a record as plain SVG. Units are rows, and their entries boxes from left to right in the colour of their
 //! worker. What rests on a point without an entry (reads, compares, pairs that failed) stands as a mark before the entry of that
-//! place. The first fault that an audit finds is ringed.
+//! place. What is of the first fault that an audit finds is ringed, and so is the last change before it of a block that it reads or
+//! compares.
 #![tactic(auto)]
 
 mod caption;
@@ -10,11 +11,13 @@ mod colour;
 mod deed_box;
 mod frame;
 mod key;
+mod last_change;
 mod layout;
 mod mark;
 mod mark_box;
 mod picture;
 mod putting;
+mod rings;
 mod row;
 mod sheet;
 mod size;

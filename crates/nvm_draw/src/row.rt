@@ -4,10 +4,11 @@ ghost use Rattle.nvm_draw.specs.Rows as spec;
 use crate::deed_box::push_boxes;
 use crate::layout::entries_of;
 use crate::mark_box::push_stacks;
+use crate::rings::Rings;
 use crate::sheet::{Row, Sheet};
 use crate::size::{LEFT, ROW, row_width, top};
 use crate::window::drawn_entries;
-use crate::wrong::{Wrong, is_wrong_unit};
+use crate::wrong::is_wrong_unit;
 use nvm_audit::Record;
 use nvm_record::NoMemory;
 
@@ -15,14 +16,14 @@ use nvm_record::NoMemory;
 pub(crate) fn push_rows(
     text: &mut String,
     run: &Record,
-    wrong: Option<Wrong>,
+    rings: Rings,
     sheet: &Sheet,
 ) -> Result<(), NoMemory>
     ensures { OnOk result (string_bytes text.new ≡ string_bytes text.old
-        ++ spec.rows_text run.now wrong sheet.now.from sheet.now.columns 0 sheet.now.rows.items) }
+        ++ spec.rows_text run.now rings sheet.now.from sheet.now.columns 0 sheet.now.rows.items) }
 {
     for (place, row) in sheet.rows.iter().enumerate() {
-        push_row(text, run, wrong, sheet, place as u64, row)?;
+        push_row(text, run, rings, sheet, place as u64, row)?;
     }
     Ok(())
 }
@@ -31,24 +32,24 @@ pub(crate) fn push_rows(
 fn push_row(
     text: &mut String,
     run: &Record,
-    wrong: Option<Wrong>,
+    rings: Rings,
     sheet: &Sheet,
     place: u64,
     row: &Row,
 ) -> Result<(), NoMemory>
     requires { place ≤ 64 }
     ensures { OnOk result (string_bytes text.new
-        ≡ string_bytes text.old ++ spec.row_text run.now wrong sheet.now.from sheet.now.columns place row.now) }
+        ≡ string_bytes text.old ++ spec.row_text run.now rings sheet.now.from sheet.now.columns place row.now) }
 {
     let from = sheet.from;
     let entries = entries_of(run, row.unit);
     let hidden = (entries.len() as u64).saturating_sub(from as u64 + 64);
     let width = row_width(sheet.columns);
-    let class = row_class(is_wrong_unit(wrong, row.unit));
+    let class = row_class(is_wrong_unit(rings.wrong, row.unit));
     let y = top(run.workers) + ROW * place;
     push_head(text, class, y, width, row)?;
-    push_boxes(text, wrong, row.unit, from, drawn_entries(entries, from))?;
-    push_stacks(text, &run.jobs, wrong, &row.stacks)?;
+    push_boxes(text, rings, row.unit, from, drawn_entries(entries, from))?;
+    push_stacks(text, &run.jobs, rings.wrong, &row.stacks)?;
     push_end(text, hidden, LEFT + width)?;
     Ok(())
 }

@@ -1,4 +1,4 @@
-use Rattle.std.proofs.Common.{◌≡◌, ◌++◌, ◌∙◌, ap, length, append_assoc}
+use Rattle.std.proofs.Common.{◌≡◌, ◌∙◌, ap}
 use Rattle.nvm_audit.specs.RecordView.{RecordView}
 use Rattle.nvm_draw.specs.Rows.{row_text}
 use Rattle.nvm_draw.proofs.Chains.{four}

@@ -5,5 +5,5 @@ use Rattle.nvm_draw.proofs.row.push_rows.Given as goal
 -- the text so far and the rows that are left are the whole text
 abbrev pub invariant-loop-place : goal.invariant-loop-place
 invariant-loop-place l =
-    string_bytes l.text ++ rows_text l.run l.wrong l.sheet.from l.sheet.columns l.place (drop l.place l.sheet.rows.items)
-    ≡ string_bytes l.fn.text ++ rows_text l.run l.wrong l.sheet.from l.sheet.columns 0 l.sheet.rows.items
+    string_bytes l.text ++ rows_text l.run l.rings l.sheet.from l.sheet.columns l.place (drop l.place l.sheet.rows.items)
+    ≡ string_bytes l.fn.text ++ rows_text l.run l.rings l.sheet.from l.sheet.columns 0 l.sheet.rows.items
