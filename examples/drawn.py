@@ -228,7 +228,7 @@ def spoiled(asked, space=SPACE):
     """The record of this, and of a Read of 4 blocks from LBA 1 that is told other data."""
     record = recorded(space, [file_of([*asked, read(1, 4)])])
     *others, last = record.done[0]
-    return replace(record, done=((*others, replace(last, data=b"\x5a" * 2048)),))
+    return replace(record, done=((*others, replace(last, statuses=((0, 0),), data=b"\x5a" * 2048)),))
 
 
 def last_changes(run):
