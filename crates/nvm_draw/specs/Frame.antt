@@ -20,6 +20,7 @@ style_text =
     ∷ codes ".wrong .band{fill:#ffe3e0}\n"
     ∷ codes ".wrong .unit{fill:#c00000}\n"
     ∷ codes ".time{stroke:#b8b8b8;stroke-width:2}\n"
+    ∷ codes ".join{stroke:#555}\n"
     ∷ codes ".box text,.mark text{text-anchor:middle;font-size:10px}\n"
     ∷ codes ".box .deed{text-anchor:start;font-size:15px;font-weight:bold}\n"
     ∷ codes ".box .by{text-anchor:end;font-size:9px}\n"

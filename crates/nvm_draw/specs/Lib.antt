@@ -9,6 +9,7 @@ pub mod LastChange
 pub mod Rings
 pub mod EntryBoxes
 pub mod MarkBoxes
+pub mod Joins
 pub mod Rows
 pub mod Frame
 pub mod Key

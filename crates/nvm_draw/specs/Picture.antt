@@ -1,5 +1,5 @@
 -- What the picture of a record is.
-use Rattle.std.specs.Prelude.{◌≡◌, ℕ, List, ◌++◌, length, Option, None, Result, Ok, Err, codes}
+use Rattle.std.specs.Prelude.{◌≡◌, ℕ, List, [], ◌++◌, length, Option, None, Result, Ok, Err, codes}
 use Rattle.nvm_audit.specs.declared.audit_fault.AuditFault.{AuditFault}
 use Rattle.nvm_audit.specs.declared.verdict.Verdict.{Verdict}
 use Rattle.nvm_audit.specs.LawfulRecord.{IsLawfulRecord}
@@ -34,7 +34,7 @@ picture_text r answer sheet =
     frame_text (width sheet.columns) (height r.workers (length sheet.rows.items))
     ++ (caption_text r answer sheet
     ++ (key_text r.workers (last_change r (wrong_in answer)) sheet.from sheet.columns
-    ++ (rows_text r (rings_of r (wrong_in answer)) sheet.from sheet.columns 0 sheet.rows.items ++ codes "</svg>\n")))
+    ++ (rows_text r (rings_of r (wrong_in answer)) sheet.from sheet.columns 0 [] sheet.rows.items ++ codes "</svg>\n")))
 
 -- It tells what an audit answers of the record, and draws the units of the window.
 pub record IsPicture (r : RecordView) (window : Window) (text : List ℕ) : Type 0 where

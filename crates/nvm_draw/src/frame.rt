@@ -18,6 +18,7 @@ text{font-family:DejaVu Sans Mono,Consolas,monospace;font-size:11px;fill:#333}
 .wrong .band{fill:#ffe3e0}
 .wrong .unit{fill:#c00000}
 .time{stroke:#b8b8b8;stroke-width:2}
+.join{stroke:#555}
 .box text,.mark text{text-anchor:middle;font-size:10px}
 .box .deed{text-anchor:start;font-size:15px;font-weight:bold}
 .box .by{text-anchor:end;font-size:9px}

@@ -9,13 +9,14 @@ use nvm_record::NoMemory;
 use std::fmt;
 use std::fmt::{Display, Formatter};
 
-/// What the letters stand for.
+/// What the letters and the lines stand for.
 const LETTERS: &str =
     "<text x='16' y='108'>Boxes are a unit's entries, in order: W write, Z zeroes, U uncorrectable, P pair, D deallocate; with worker above, job and LBA+blocks below.</text>
 <text x='16' y='124'>Marks before them rest on that point: R read, C compare, F failed pair, M no memory, L at the limit, ! without its entry, +n more.</text>
+<text x='16' y='140'>Lines lead from a box to the first box of the same job in the row below.</text>
 ";
 
-/// Appends what the letters, the rings and the colours stand for, and the numbers of the places, above the boxes.
+/// Appends what the letters, the lines, the rings and the colours stand for, and the numbers of the places, above the boxes.
 #[tactic(auto, unfolding(crate::specs::Key::key_text))]
 pub(crate) fn push_key(
     text: &mut String,
@@ -41,7 +42,7 @@ fn push_rings(text: &mut String, change: Option<Spot>) -> Result<(), NoMemory>
     let spot = SpotText(change);
     write!(
         text,
-        "<text x='16' y='140'>Rings: red, what is of the fault; violet and dashed, the last change before it of a block that it reads or compares: {spot}.</text>\n"
+        "<text x='16' y='156'>Rings: red, what is of the fault; violet and dashed, the last change before it of a block that it reads or compares: {spot}.</text>\n"
     )
 }
 
@@ -78,7 +79,7 @@ fn push_worker(text: &mut String, worker: u16) -> Result<(), NoMemory>
     let colour = Colour(worker);
     let place = worker as u64;
     let x = 16 + 104 * (place % 8);
-    let y = 154 + 22 * (place / 8);
+    let y = 170 + 22 * (place / 8);
     write!(
         text,
         "<g class='worker{colour}' transform='translate({x},{y})'><rect width='16' height='16' rx='3'/><text class='name' x='22' y='12'>worker {worker}</text></g>\n"
