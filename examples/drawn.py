@@ -100,10 +100,15 @@ class Drawn:
                 yield point - self.place, None, count, "ring" if any(it[3] for it in others) else None, told + more
 
     def rows(self):
+        """Of each row its unit, whether the fault is in it, the columns of each line to the row above, its boxes, its marks and what is behind them."""
+        above = []
         for unit in self.used[:MOST]:
             more = len(self.record.units[unit]) - self.place - MOST
             is_wrong = bool(self.fault and self.fault[2] and self.fault[2][0] == unit)
-            yield unit, is_wrong, list(self.boxes(unit)), list(self.stacks(unit)), f"+{more}" if more > 0 else None
+            boxes = list(self.boxes(unit))
+            joins = [(box[0], next(it[0] for it in boxes if it[3] == box[3])) for box in above if any(it[3] == box[3] for it in boxes)]
+            yield unit, is_wrong, joins, boxes, list(self.stacks(unit)), f"+{more}" if more > 0 else None
+            above = boxes
 
     def caption(self):
         if not self.fault:
@@ -172,16 +177,18 @@ def column_of(x, margin):
 
 def seen_row(row):
     """What a row shows, as `Drawn.rows` tells it."""
-    boxes, marks = [], []
+    joins, boxes, marks = [], [], []
     for it in row:
-        if "box" in classes(it):
+        if "join" in classes(it):
+            joins.append(tuple(column_of(int(x), 46) for x in re.fullmatch(r"M(\d+) -12L(\d+) 0", it.get("d")).groups()))
+        elif "box" in classes(it):
             words = texts(it)
             worker = worker_of(it) if str(worker_of(it)) == words["by"] else None
             boxes.append((column_of(at(it)[0], 26), worker, words["deed"], words["job"], words.get("lbas"), ring_of(it), title(it)))
         elif "mark" in classes(it):
             marks.append((column_of(at(it)[0], 4), worker_of(it), texts(it)[""], ring_of(it), title(it)))
     words = texts(row)
-    return int(words["unit"][5:]), "wrong" in classes(row), boxes, marks, words.get("more")
+    return int(words["unit"][5:]), "wrong" in classes(row), joins, boxes, marks, words.get("more")
 
 
 def shown(picture):
@@ -202,7 +209,7 @@ def shown(picture):
 def wanted(drawn):
     record, rows = drawn.record, list(drawn.rows())
     workers = [(worker, f"worker {worker}") for worker in range(record.workers)]
-    columns = max([0, *(len(boxes) for _, _, boxes, _, _ in rows), *(it[0] for row in rows for it in row[3])])
+    columns = max([0, *(len(row[3]) for row in rows), *(it[0] for row in rows for it in row[4])])
     places = list(range(drawn.place, drawn.place + min(columns, MOST)))
     lbas = [record.namespace.units()[unit][0] for unit, *_ in rows]
     return drawn.caption(), drawn.namespace(), [drawn.rings()], list(drawn.cut()), workers, places, True, lbas, rows
@@ -229,6 +236,17 @@ def spoiled(asked, space=SPACE):
     record = recorded(space, [file_of([*asked, read(1, 4)])])
     *others, last = record.done[0]
     return replace(record, done=((*others, replace(last, statuses=((0, 0),), data=b"\x5a" * 2048)),))
+
+
+def joined(run):
+    """Writes and Deallocates of several units, which other changes stand before."""
+    asked = [write(6, *range(12)), write(15, 1), zeroes(4, 24), dataset((31, 1), (0, 1), (20, 2)), write(8, 2), uncorrectable(7, 2)]
+    record = recorded(SPACE, [file_of(asked)])
+    drawn(run, "jobs of several units", record)
+    drawn(run, "jobs of several units, from place 1 on", record, from_=1)
+    first, second, *others = record.units
+    twice = (*first, first[0], replace(first[1], job=2)), (*second, second[0], second[0])
+    drawn(run, "jobs with several entries in a unit", replace(record, units=(*twice, *others)))
 
 
 def last_changes(run):
@@ -275,6 +293,7 @@ def pictures(run):
         drawn(run, f"a fault at place {place}, not drawn", spoiled, from_=0, unit=2)
         drawn(run, f"a fault at place {place}, of its unit the first places", spoiled, from_=0, unit=0)
     last_changes(run)
+    joined(run)
     words_of_draw(run)
 
 
