@@ -9,6 +9,7 @@ from auditor import verdict
 from forged import FORGED, SPACE, TWO
 from hints import MISSING, no_record, told
 from host_files import compare, dataset, file_of, pair, read, uncorrectable, write, zeroes
+from model import parts, refusal
 from record_listing import lines, spans
 from recorded import recorded
 from records import DONE, FAILED, FULL, KIND_DEALLOCATE, KIND_PAIR, KIND_UNCORRECTABLE, KIND_WRITE, KIND_ZEROES, LOOKED, NO_MEMORY, spelled
@@ -19,6 +20,8 @@ ROOM = 8
 DEEDS = {KIND_WRITE: "W", KIND_ZEROES: "Z", KIND_UNCORRECTABLE: "U", KIND_PAIR: "P", KIND_DEALLOCATE: "D"}
 LETTERS = {DONE: "!", FAILED: "F", NO_MEMORY: "M", FULL: "L"}
 LOOKS = {2: "R", 5: "C"}
+RINGS = ("ring", "change")
+CHANGE = "last change before the fault of a block that it reads or compares"
 
 
 class Drawn:
@@ -41,6 +44,7 @@ class Drawn:
                 for part in done.parts:
                     if not self.is_shown(worker, done.job, *part):
                         self.marks[part[0]].append((worker, done.job, *part))
+        self.change = self.last_change()
         self.used = [at for at, entries in enumerate(record.units) if at >= self.first and (entries or self.marks[at])]
 
     def is_shown(self, worker, job, unit, point, result):
@@ -50,13 +54,30 @@ class Drawn:
     def is_wrong(self, unit, place, job):
         return bool(self.fault) and self.fault[1] == job and self.fault[2] in (None, (unit, place))
 
+    def last_change(self):
+        """The unit and the place of the last entry that changed, before the fault, a block that its job reads or compares there."""
+        _, job, spot = self.fault or (None, 0, None)
+        body = self.record.jobs[job].body if spot and job < len(self.record.jobs) else []
+        if not body or refusal(self.record.namespace, body) or (len(body) == 1 and body[0].opcode not in LOOKS):
+            return None
+        looked = [range(first, first + blocks) for unit, first, blocks in parts(self.record.namespace, body[0]) if unit == spot[0]]
+        met = [
+            place
+            for place, it in enumerate(self.record.units[spot[0]][: spot[1]])
+            for first, blocks in (it.ranges if it.kind == KIND_DEALLOCATE else [(it.first, it.blocks)])
+            if any(first <= lba < first + blocks for lbas in looked for lba in lbas)
+        ]
+        return (spot[0], met[-1]) if met else None
+
     def boxes(self, unit):
-        """Of each box its column, worker, letter, job, LBAs that have room, whether it is ringed, and the line of its title."""
+        """Of each box its column, worker, letter, job, LBAs that have room, its ring, and the lines of its title."""
         for place, it in enumerate(self.record.units[unit][self.place : self.place + MOST], self.place):
             line = next(line for line in self.listed if line.startswith(f"unit {unit} place {place} "))
             lbas = spans(it.ranges if it.kind == KIND_DEALLOCATE else [(it.first, it.blocks)])
             shown = lbas if len(lbas) <= ROOM else None
-            yield place - self.place, it.worker, DEEDS[it.kind], str(it.job), shown, self.is_wrong(unit, place, it.job), [line]
+            is_change = self.change == (unit, place)
+            ring = "ring" if self.is_wrong(unit, place, it.job) else "change" if is_change else None
+            yield place - self.place, it.worker, DEEDS[it.kind], str(it.job), shown, ring, [line, *([CHANGE] if is_change else [])]
 
     def stacks(self, unit):
         """The same of each mark, without a job and LBAs; more than three of a point are two and their number."""
@@ -67,7 +88,8 @@ class Drawn:
                 letter = (LOOKS.get(body[0].opcode, "?") if len(body) == 1 else "?") if result == LOOKED else LETTERS[result]
                 start = f"worker {worker} job {job} unit {unit} point {point} "
                 line = next(line for line in self.listed if line.startswith(start))
-                at[point].append((point - self.place, worker, letter, self.is_wrong(unit, point, job), [line]))
+                ring = "ring" if self.is_wrong(unit, point, job) else None
+                at[point].append((point - self.place, worker, letter, ring, [line]))
         for point in sorted(at):
             marks, others = (at[point], []) if len(at[point]) <= 3 else (at[point][:2], at[point][2:])
             yield from marks
@@ -75,19 +97,33 @@ class Drawn:
                 count = f"+{len(others)}" if len(others) <= 99 else ">99"
                 more = [f"and {len(others) - TITLED} more"] if len(others) > TITLED else []
                 told = [line for it in others[:TITLED] for line in it[4]]
-                yield point - self.place, None, count, any(it[3] for it in others), told + more
+                yield point - self.place, None, count, "ring" if any(it[3] for it in others) else None, told + more
 
     def rows(self):
+        """Of each row its unit, whether the fault is in it, the columns of each line to the row above, its boxes, its marks and what is behind them."""
+        above = []
         for unit in self.used[:MOST]:
             more = len(self.record.units[unit]) - self.place - MOST
             is_wrong = bool(self.fault and self.fault[2] and self.fault[2][0] == unit)
-            yield unit, is_wrong, list(self.boxes(unit)), list(self.stacks(unit)), f"+{more}" if more > 0 else None
+            boxes = list(self.boxes(unit))
+            joins = [(box[0], next(it[0] for it in boxes if it[3] == box[3])) for box in above if any(it[3] == box[3] for it in boxes)]
+            yield unit, is_wrong, joins, boxes, list(self.stacks(unit)), f"+{more}" if more > 0 else None
+            above = boxes
 
     def caption(self):
         if not self.fault:
             return re.sub(r"lawful jobs (\d+) units (\d+) changes (\d+) refused (\d+)", r"lawful: jobs \1, units \2, changes \3, refused \4", self.line)
         name, job, spot = self.fault
         return f"unlawful: {name}, job {job}{', unit %d, place %d' % spot if spot else ''}: "
+
+    def namespace(self):
+        space = self.record.namespace
+        units = f"units of {space.nabsn + 1} blocks" if space.nabsn else "no boundaries"
+        return f"Namespace: blocks {space.nsze} of {space.block} bytes, {units}" + (f" from LBA {space.nabo} on" if space.nabo else "")
+
+    def rings(self):
+        where = "unit %d place %d" % self.change if self.change else "none"
+        return f"Rings: red, what is of the fault; violet and dashed, the {CHANGE.replace('the fault', 'it')}: {where}."
 
     def cut(self):
         rows, spot = self.used[:MOST], self.fault and self.fault[2]
@@ -100,7 +136,7 @@ class Drawn:
             yield f"places 0 to {self.place - 1}"
         if any(len(self.record.units[unit]) > self.end or any(mark[3] > self.end for mark in self.marks[unit]) for unit in rows):
             yield f"places from {self.place + MOST} on"
-        if spot and not any(it[5] for unit in rows for it in self.boxes(unit)) and not any(it[3] for unit in rows for it in self.stacks(unit)):
+        if spot and not any(it[5] == "ring" for unit in rows for it in self.boxes(unit)) and not any(it[3] for unit in rows for it in self.stacks(unit)):
             yield "where the fault is"
 
 
@@ -126,8 +162,8 @@ def worker_of(element):
     return found and int(found[1]) + 8 * int(found[2])
 
 
-def is_ringed(element):
-    return any("ring" in classes(it) for it in element)
+def ring_of(element):
+    return next((word for it in element for word in classes(it) if word in RINGS), None)
 
 
 def title(element):
@@ -141,20 +177,22 @@ def column_of(x, margin):
 
 def seen_row(row):
     """What a row shows, as `Drawn.rows` tells it."""
-    boxes, marks = [], []
+    joins, boxes, marks = [], [], []
     for it in row:
-        if "box" in classes(it):
+        if "join" in classes(it):
+            joins.append(tuple(column_of(int(x), 46) for x in re.fullmatch(r"M(\d+) -12L(\d+) 0", it.get("d")).groups()))
+        elif "box" in classes(it):
             words = texts(it)
             worker = worker_of(it) if str(worker_of(it)) == words["by"] else None
-            boxes.append((column_of(at(it)[0], 26), worker, words["deed"], words["job"], words.get("lbas"), is_ringed(it), title(it)))
+            boxes.append((column_of(at(it)[0], 26), worker, words["deed"], words["job"], words.get("lbas"), ring_of(it), title(it)))
         elif "mark" in classes(it):
-            marks.append((column_of(at(it)[0], 4), worker_of(it), texts(it)[""], is_ringed(it), title(it)))
+            marks.append((column_of(at(it)[0], 4), worker_of(it), texts(it)[""], ring_of(it), title(it)))
     words = texts(row)
-    return int(words["unit"][5:]), "wrong" in classes(row), boxes, marks, words.get("more")
+    return int(words["unit"][5:]), "wrong" in classes(row), joins, boxes, marks, words.get("more")
 
 
 def shown(picture):
-    """What a picture shows: its size, its captions, its workers, its places and its rows."""
+    """What a picture shows: its captions, its key, its workers, its places and its rows."""
     root = ElementTree.fromstring(picture)
     words = texts(root)
     groups = [it for it in root if tag(it) == "g"]
@@ -164,16 +202,17 @@ def shown(picture):
     apart = all(at(it)[1] - at(rows[0])[1] == 56 * place for place, it in enumerate(rows))
     lbas = [int(texts(it)["lba"][4:]) for it in rows]
     told = words.get("lawful") or words.get("unlawful")
-    return told, words["cut"][len("Not drawn: ") :].split("; "), workers, places, apart, lbas, [seen_row(it) for it in rows]
+    rings = [it.text for it in root if tag(it) == "text" and it.text.startswith("Rings: ")]
+    return told, words["namespace"], rings, words["cut"][len("Not drawn: ") :].split("; "), workers, places, apart, lbas, [seen_row(it) for it in rows]
 
 
 def wanted(drawn):
     record, rows = drawn.record, list(drawn.rows())
     workers = [(worker, f"worker {worker}") for worker in range(record.workers)]
-    columns = max([0, *(len(boxes) for _, _, boxes, _, _ in rows), *(it[0] for row in rows for it in row[3])])
+    columns = max([0, *(len(row[3]) for row in rows), *(it[0] for row in rows for it in row[4])])
     places = list(range(drawn.place, drawn.place + min(columns, MOST)))
     lbas = [record.namespace.units()[unit][0] for unit, *_ in rows]
-    return drawn.caption(), list(drawn.cut()), workers, places, True, lbas, rows
+    return drawn.caption(), drawn.namespace(), [drawn.rings()], list(drawn.cut()), workers, places, True, lbas, rows
 
 
 def drawn(run, name, record, **window):
@@ -190,6 +229,36 @@ def many(count):
     """The record of so many Writes into each of 70 units, with a Read behind each."""
     asked = [it for turn in range(count) for unit in range(70) for it in (write(unit * 8, turn % 256), read(unit * 8, 1))]
     return recorded(replace(SPACE, nsze=1024, limit=1000), [file_of(asked)])
+
+
+def spoiled(asked, space=SPACE):
+    """The record of this, and of a Read of 4 blocks from LBA 1 that is told other data."""
+    record = recorded(space, [file_of([*asked, read(1, 4)])])
+    *others, last = record.done[0]
+    return replace(record, done=((*others, replace(last, statuses=((0, 0),), data=b"\x5a" * 2048)),))
+
+
+def joined(run):
+    """Writes and Deallocates of several units, which other changes stand before."""
+    asked = [write(6, *range(12)), write(15, 1), zeroes(4, 24), dataset((31, 1), (0, 1), (20, 2)), write(8, 2), uncorrectable(7, 2)]
+    record = recorded(SPACE, [file_of(asked)])
+    drawn(run, "jobs of several units", record)
+    drawn(run, "jobs of several units, from place 1 on", record, from_=1)
+    first, second, *others = record.units
+    twice = (*first, first[0], replace(first[1], job=2)), (*second, second[0], second[0])
+    drawn(run, "jobs with several entries in a unit", replace(record, units=(*twice, *others)))
+
+
+def last_changes(run):
+    """The last change before a fault, of each kind, and beside what changed no block of it."""
+    others = [write(0, 0x44), write(5, 0x45), uncorrectable(0, 1), zeroes(5, 3), dataset((0, 1), (5, 2))]
+    drawn(run, "no change before a fault", spoiled(others))
+    for name, asked in (("a Write", write(4, 0x41, 0x42)), ("zeroes", zeroes(0, 2)), ("a mark", uncorrectable(2, 1)), ("a Deallocate", dataset((7, 1), (3, 1)))):
+        drawn(run, f"{name} before a fault", spoiled([write(2, 0x43), asked, *others]))
+    drawn(run, "a pair before a fault", spoiled([write(2, 0x43), *pair(compare(1, 0), write(1, 0x44)), *others]))
+    drawn(run, "a last change that isn't drawn", spoiled([write(2, 0x43), *[write(0, turn) for turn in range(80)]]))
+    drawn(run, "a fault without boundaries", spoiled([write(2, 0x43), *others], replace(SPACE, nabsn=0)))
+    drawn(run, "a fault where units begin at LBA 3", spoiled([write(2, 0x43), write(3, 0x43), *others], replace(SPACE, nabo=3)))
 
 
 def pictures(run):
@@ -223,6 +292,8 @@ def pictures(run):
         drawn(run, f"a fault at place {place}", spoiled)
         drawn(run, f"a fault at place {place}, not drawn", spoiled, from_=0, unit=2)
         drawn(run, f"a fault at place {place}, of its unit the first places", spoiled, from_=0, unit=0)
+    last_changes(run)
+    joined(run)
     words_of_draw(run)
 
 

@@ -1,5 +1,6 @@
--- What stands above the rows: what the record is of, what an audit answered, and what isn't drawn.
+-- What stands above the rows: what the record is of, its namespace, what an audit answered, and what isn't drawn.
 use Rattle.std.specs.Prelude.{ℕ, zero, suc, ◌+◌, ◌-◌, min, List, [], ◌++◌, length, Bool, true, false, Option, Some, None, Result, Ok, Err, codes, decimal}
+use Rattle.nvm_geometry.specs.Namespace.{Namespace}
 use Rattle.nvm_audit.specs.declared.audit_fault.AuditFault.{AuditFault}
 use Rattle.nvm_audit.specs.declared.audit_fault.AuditFault.TheVariants.{JobMissing, JobTwice, EntryUnclaimed, EntryWrong, PointPast, PointBack, StatusWrong, DataWrong, NoMemory}
 use Rattle.nvm_audit.specs.declared.audit_fault.Spot.{Spot}
@@ -18,10 +19,27 @@ title_text r =
     ++ (codes ", units " ++ (decimal (length r.units)
     ++ (codes ", limit " ++ (decimal r.limit ++ codes "</text>\n")))))))
 
+-- from which LBA on units are whole, if they aren't from the first on
+abbrev pub offset_text : ℕ → List ℕ
+offset_text zero = []
+offset_text (suc nabo) = codes " from LBA " ++ (decimal (suc nabo) ++ codes " on")
+
+-- how many blocks there are from one boundary to the next, if there are boundaries
+abbrev pub boundaries_text : ℕ → ℕ → List ℕ
+boundaries_text zero nabo = codes ", no boundaries"
+boundaries_text (suc nabsn) nabo = codes ", units of " ++ (decimal (suc nabsn + 1) ++ (codes " blocks" ++ offset_text nabo))
+
+-- how many blocks the namespace has, of how many bytes, and where its units begin
+unfoldable pub namespace_text : Namespace → List ℕ
+namespace_text ns =
+    codes "<text class='namespace' x='16' y='46'>Namespace: blocks " ++ (decimal ns.nsze
+    ++ (codes " of " ++ (decimal ns.block_size
+    ++ (codes " bytes" ++ (boundaries_text ns.nabsn ns.nabo ++ codes "</text>\n")))))
+
 -- the numbers of a lawful record
 unfoldable pub lawful_text : Verdict → List ℕ
 lawful_text v =
-    codes "<text class='lawful' x='16' y='52'>lawful: jobs " ++ (decimal v.jobs
+    codes "<text class='lawful' x='16' y='68'>lawful: jobs " ++ (decimal v.jobs
     ++ (codes ", units " ++ (decimal v.units
     ++ (codes ", changes " ++ (decimal v.changes
     ++ (codes ", refused " ++ (decimal v.refused ++ codes "</text>\n")))))))
@@ -50,7 +68,7 @@ wrong_text (Some wrong) = job_text wrong.job wrong.spot
 -- the name of a fault, where it is, and what it means
 unfoldable pub unlawful_text : AuditFault → List ℕ
 unlawful_text fault =
-    codes "<text class='unlawful' x='16' y='52'>unlawful: " ++ (name_of fault
+    codes "<text class='unlawful' x='16' y='68'>unlawful: " ++ (name_of fault
     ++ (wrong_text (wrong_of fault) ++ (meaning fault ++ codes "</text>\n")))
 
 abbrev pub answer_text : Result Verdict AuditFault → List ℕ
@@ -79,11 +97,11 @@ hidden_fault true = codes "; where the fault is"
 -- what isn't drawn of the units of a record, which are so many
 unfoldable pub cut_text : ℕ → Sheet → List ℕ
 cut_text units sheet =
-    codes "<text class='cut' x='16' y='72'>Not drawn: units without entries and marks"
+    codes "<text class='cut' x='16' y='88'>Not drawn: units without entries and marks"
     ++ (before_text (codes "; units 0 to ") (min units sheet.first)
     ++ (units_after sheet.next units
     ++ (before_text (codes "; places 0 to ") sheet.from
     ++ (places_after sheet.has_more sheet.from ++ (hidden_fault sheet.hides_fault ++ codes "</text>\n")))))
 
 unfoldable pub caption_text : RecordView → Result Verdict AuditFault → Sheet → List ℕ
-caption_text r answer sheet = title_text r ++ (answer_text answer ++ cut_text (length r.units) sheet)
+caption_text r answer sheet = title_text r ++ (namespace_text r.namespace ++ (answer_text answer ++ cut_text (length r.units) sheet))

@@ -20,6 +20,7 @@ style_text =
     ∷ codes ".wrong .band{fill:#ffe3e0}\n"
     ∷ codes ".wrong .unit{fill:#c00000}\n"
     ∷ codes ".time{stroke:#b8b8b8;stroke-width:2}\n"
+    ∷ codes ".join{stroke:#555}\n"
     ∷ codes ".box text,.mark text{text-anchor:middle;font-size:10px}\n"
     ∷ codes ".box .deed{text-anchor:start;font-size:15px;font-weight:bold}\n"
     ∷ codes ".box .by{text-anchor:end;font-size:9px}\n"
@@ -37,6 +38,7 @@ style_text =
     ∷ codes ".s5 rect{stroke:#c00;stroke-dasharray:6 2}.s6 rect{stroke:#c00;stroke-dasharray:2 2}.s7 rect{stroke:#888;stroke-width:3}\n"
     ∷ codes ".worker .name{fill:#333}\n"
     ∷ codes "g .ring{fill:none;stroke:#e00000;stroke-width:4;stroke-dasharray:none}\n"
+    ∷ codes "g .change{fill:none;stroke:#8a00d4;stroke-width:4;stroke-dasharray:7 4}\n"
     ∷ codes "</style>\n"
     ∷ [])
 

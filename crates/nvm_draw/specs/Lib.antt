@@ -5,8 +5,11 @@ pub mod Letters
 pub mod Entries
 pub mod Marks
 pub mod Sheet
+pub mod LastChange
+pub mod Rings
 pub mod EntryBoxes
 pub mod MarkBoxes
+pub mod Joins
 pub mod Rows
 pub mod Frame
 pub mod Key

@@ -1,5 +1,5 @@
 -- What the picture of a record is.
-use Rattle.std.specs.Prelude.{◌≡◌, ℕ, List, ◌++◌, length, Option, None, Result, Ok, Err, codes}
+use Rattle.std.specs.Prelude.{◌≡◌, ℕ, List, [], ◌++◌, length, Option, None, Result, Ok, Err, codes}
 use Rattle.nvm_audit.specs.declared.audit_fault.AuditFault.{AuditFault}
 use Rattle.nvm_audit.specs.declared.verdict.Verdict.{Verdict}
 use Rattle.nvm_audit.specs.LawfulRecord.{IsLawfulRecord}
@@ -12,6 +12,8 @@ use Rattle.nvm_draw.specs.declared.wrong.Wrong.{Wrong}
 use Rattle.nvm_draw.specs.Caption.{caption_text}
 use Rattle.nvm_draw.specs.Frame.{frame_text}
 use Rattle.nvm_draw.specs.Key.{key_text}
+use Rattle.nvm_draw.specs.LastChange.{last_change}
+use Rattle.nvm_draw.specs.Rings.{rings_of}
 use Rattle.nvm_draw.specs.Rows.{rows_text}
 use Rattle.nvm_draw.specs.Sheet.{IsSheet}
 use Rattle.nvm_draw.specs.Sizes.{height, width}
@@ -31,8 +33,8 @@ unfoldable pub picture_text : RecordView → Result Verdict AuditFault → Sheet
 picture_text r answer sheet =
     frame_text (width sheet.columns) (height r.workers (length sheet.rows.items))
     ++ (caption_text r answer sheet
-    ++ (key_text r.workers sheet.from sheet.columns
-    ++ (rows_text r (wrong_in answer) sheet.from sheet.columns 0 sheet.rows.items ++ codes "</svg>\n")))
+    ++ (key_text r.workers (last_change r (wrong_in answer)) sheet.from sheet.columns
+    ++ (rows_text r (rings_of r (wrong_in answer)) sheet.from sheet.columns 0 [] sheet.rows.items ++ codes "</svg>\n")))
 
 -- It tells what an audit answers of the record, and draws the units of the window.
 pub record IsPicture (r : RecordView) (window : Window) (text : List ℕ) : Type 0 where

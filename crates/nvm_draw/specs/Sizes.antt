@@ -10,7 +10,7 @@ width columns = if nat_lt (120 + row_width columns + 80) 1000 then 1000 else 120
 
 -- where the first row begins, below the names of the workers, of which eight stand in a line
 abbrev pub top : ℕ → ℕ
-top workers = 162 + 22 * ((workers + 7) / 8)
+top workers = 210 + 22 * ((workers + 7) / 8)
 
 abbrev pub height : ℕ → ℕ → ℕ
 height workers rows = top workers + 56 * rows + 8

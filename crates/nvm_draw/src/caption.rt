@@ -4,11 +4,12 @@ ghost use Rattle.nvm_draw.specs.Caption as spec;
 use crate::sheet::Sheet;
 use crate::wrong::Wrong;
 use nvm_audit::{AuditFault, Record, Spot, Verdict};
+use nvm_geometry::Geometry;
 use nvm_record::NoMemory;
 use std::fmt;
 use std::fmt::{Display, Formatter};
 
-/// Appends the lines at the top: what the record is of, what an audit answered, and what isn't drawn.
+/// Appends the lines at the top: what the record is of, its namespace, what an audit answered, and what isn't drawn.
 #[tactic(auto, unfolding(crate::specs::Caption::caption_text))]
 pub(crate) fn push_caption(
     text: &mut String,
@@ -19,6 +20,7 @@ pub(crate) fn push_caption(
     ensures { OnOk result (string_bytes text.new ≡ string_bytes text.old ++ spec.caption_text run.now answer.now sheet.now) }
 {
     push_title(text, run)?;
+    push_namespace(text, run.geometry)?;
     push_answer(text, answer)?;
     push_cut(text, run.units.len() as u64, sheet)?;
     Ok(())
@@ -39,6 +41,40 @@ fn push_title(text: &mut String, run: &Record) -> Result<(), NoMemory>
     )
 }
 
+/// Appends how many blocks the namespace has, of how many bytes, and where its units begin.
+#[tactic(auto, unfolding(crate::specs::Caption::namespace_text))]
+fn push_namespace(text: &mut String, geometry: Geometry) -> Result<(), NoMemory>
+    ensures { OnOk result (string_bytes text.new ≡ string_bytes text.old ++ spec.namespace_text geometry) }
+{
+    let blocks = geometry.nsze();
+    let size = geometry.block_size().bytes();
+    let boundaries = BoundariesText(geometry.nabsn(), geometry.nabo());
+    write!(
+        text,
+        "<text class='namespace' x='16' y='46'>Namespace: blocks {blocks} of {size} bytes{boundaries}</text>\n"
+    )
+}
+
+/// How many blocks a unit has by NABSN, zeroes-based, and by NABO the LBA at which the first whole one begins, if that isn't 0.
+#[derive(Clone, Copy)]
+struct BoundariesText(u16, u16);
+
+impl Display for BoundariesText {
+    ghost output = { λ text. Some (spec.boundaries_text text.0 text.1) };
+
+    fn fmt<W: fmt::Write>(&self, f: &mut Formatter<W>) -> fmt::Result {
+        let BoundariesText(nabsn, nabo) = *self;
+        if nabsn == 0 {
+            return f.write_str(", no boundaries");
+        }
+        write!(f, ", units of {} blocks", nabsn as u32 + 1)?;
+        if nabo == 0 {
+            return Ok(());
+        }
+        write!(f, " from LBA {nabo} on")
+    }
+}
+
 /// Appends the verdict of a lawful record, or the first fault of another.
 #[tactic(auto, unfolding(crate::specs::Caption::lawful_text, crate::specs::Caption::unlawful_text))]
 fn push_answer(text: &mut String, answer: &Result<Verdict, AuditFault>) -> Result<(), NoMemory>
@@ -54,7 +90,7 @@ fn push_answer(text: &mut String, answer: &Result<Verdict, AuditFault>) -> Resul
             } = *verdict;
             write!(
                 text,
-                "<text class='lawful' x='16' y='52'>lawful: jobs {jobs}, units {units}, changes {changes}, refused {refused}</text>\n"
+                "<text class='lawful' x='16' y='68'>lawful: jobs {jobs}, units {units}, changes {changes}, refused {refused}</text>\n"
             )
         }
         Err(fault) => {
@@ -63,7 +99,7 @@ fn push_answer(text: &mut String, answer: &Result<Verdict, AuditFault>) -> Resul
             let meaning = meaning(*fault);
             write!(
                 text,
-                "<text class='unlawful' x='16' y='52'>unlawful: {name}{place}{meaning}</text>\n"
+                "<text class='unlawful' x='16' y='68'>unlawful: {name}{place}{meaning}</text>\n"
             )
         }
     }
@@ -117,7 +153,7 @@ fn push_cut(text: &mut String, units: u64, sheet: &Sheet) -> Result<(), NoMemory
     let fault = hidden_fault(sheet.hides_fault);
     write!(
         text,
-        "<text class='cut' x='16' y='72'>Not drawn: units without entries and marks{units_before}{units_after}{places_before}{places_after}{fault}</text>\n"
+        "<text class='cut' x='16' y='88'>Not drawn: units without entries and marks{units_before}{units_after}{places_before}{places_after}{fault}</text>\n"
     )
 }
 

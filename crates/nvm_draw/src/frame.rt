@@ -18,6 +18,7 @@ text{font-family:DejaVu Sans Mono,Consolas,monospace;font-size:11px;fill:#333}
 .wrong .band{fill:#ffe3e0}
 .wrong .unit{fill:#c00000}
 .time{stroke:#b8b8b8;stroke-width:2}
+.join{stroke:#555}
 .box text,.mark text{text-anchor:middle;font-size:10px}
 .box .deed{text-anchor:start;font-size:15px;font-weight:bold}
 .box .by{text-anchor:end;font-size:9px}
@@ -35,6 +36,7 @@ text{font-family:DejaVu Sans Mono,Consolas,monospace;font-size:11px;fill:#333}
 .s5 rect{stroke:#c00;stroke-dasharray:6 2}.s6 rect{stroke:#c00;stroke-dasharray:2 2}.s7 rect{stroke:#888;stroke-width:3}
 .worker .name{fill:#333}
 g .ring{fill:none;stroke:#e00000;stroke-width:4;stroke-dasharray:none}
+g .change{fill:none;stroke:#8a00d4;stroke-width:4;stroke-dasharray:7 4}
 </style>
 ";
 

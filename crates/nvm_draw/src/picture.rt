@@ -6,6 +6,7 @@ use crate::caption::push_caption;
 use crate::frame::push_frame;
 use crate::key::push_key;
 use crate::layout::sheet_of;
+use crate::rings::Rings;
 use crate::row::push_rows;
 use crate::sheet::Sheet;
 use crate::size::{height, width};
@@ -20,8 +21,9 @@ use std::thread::Threads;
 ///
 /// Each unit is a row, with its number and its first LBA. Its entries are boxes in the order of their places, each in the colour of
 /// its worker, with a letter for what was done, the worker's number and the job's. What left no entry (reads, compares, failed
-/// pairs, refused changes) is a mark before the entry at its point. Boxes and marks have the lines of a listing as their titles. What
-/// is of the fault has a red ring. Units without entries and marks aren't drawn, nor is what lies outside of the window, which the
+/// pairs, refused changes) is a mark before the entry at its point. Lines join the boxes of one job in
+/// rows that are next to each other. Boxes and marks have the lines of a listing as their titles. What
+/// is of the fault has a red ring, and the last change before it of a block that it reads or compares a violet one. Units without entries and marks aren't drawn, nor is what lies outside of the window, which the
 /// picture says. The record may be unlawful. The watcher is told how far the audit is.
 ///
 /// `NoMemory` is answered where a growth was refused.
@@ -66,14 +68,15 @@ fn push_picture(
 ) -> Result<(), NoMemory>
     ensures { OnOk result (string_bytes text.new ≡ string_bytes text.old ++ spec.picture_text run.now answer.now sheet.now) }
 {
+    let rings = Rings::of(run, wrong_in(answer));
     push_frame(
         text,
         width(sheet.columns),
         height(run.workers, sheet.rows.len()),
     )?;
     push_caption(text, run, answer, sheet)?;
-    push_key(text, run, sheet)?;
-    push_rows(text, run, wrong_in(answer), sheet)?;
+    push_key(text, run, rings.change, sheet)?;
+    push_rows(text, run, rings, sheet)?;
     text.push_str("</svg>\n")?;
     Ok(())
 }

@@ -1,54 +1,63 @@
-ghost use Rattle.std.specs.Prelude.{◌≡◌, ◌≤◌, ◌++◌, OnOk, string_bytes};
+ghost use Rattle.std.specs.Prelude.{◌≡◌, ◌≤◌, [], ◌++◌, OnOk, length, string_bytes};
 ghost use Rattle.nvm_draw.specs.Rows as spec;
 
 use crate::deed_box::push_boxes;
+use crate::join::push_joins;
 use crate::layout::entries_of;
 use crate::mark_box::push_stacks;
+use crate::rings::Rings;
 use crate::sheet::{Row, Sheet};
 use crate::size::{LEFT, ROW, row_width, top};
 use crate::window::drawn_entries;
-use crate::wrong::{Wrong, is_wrong_unit};
+use crate::wrong::is_wrong_unit;
 use nvm_audit::Record;
 use nvm_record::NoMemory;
+use nvm_store::Entry;
 
 /// Appends the rows, from the top of the picture down.
 pub(crate) fn push_rows(
     text: &mut String,
     run: &Record,
-    wrong: Option<Wrong>,
+    rings: Rings,
     sheet: &Sheet,
 ) -> Result<(), NoMemory>
     ensures { OnOk result (string_bytes text.new ≡ string_bytes text.old
-        ++ spec.rows_text run.now wrong sheet.now.from sheet.now.columns 0 sheet.now.rows.items) }
+        ++ spec.rows_text run.now rings sheet.now.from sheet.now.columns 0 [] sheet.now.rows.items) }
 {
+    let mut above: &[Entry] = &[];
     for (place, row) in sheet.rows.iter().enumerate() {
-        push_row(text, run, wrong, sheet, place as u64, row)?;
+        push_row(text, run, rings, sheet, place as u64, above, row)?;
+        above = drawn_entries(entries_of(run, row.unit), sheet.from);
     }
     Ok(())
 }
 
-/// Appends the row at a place.
+/// Appends the row at a place, below one of these entries.
 fn push_row(
     text: &mut String,
     run: &Record,
-    wrong: Option<Wrong>,
+    rings: Rings,
     sheet: &Sheet,
     place: u64,
+    above: &[Entry],
     row: &Row,
 ) -> Result<(), NoMemory>
-    requires { place ≤ 64 }
+    requires place { place ≤ 64 }
+    requires above { length above.now ≤ 64 }
     ensures { OnOk result (string_bytes text.new
-        ≡ string_bytes text.old ++ spec.row_text run.now wrong sheet.now.from sheet.now.columns place row.now) }
+        ≡ string_bytes text.old ++ spec.row_text run.now rings sheet.now.from sheet.now.columns place above.now row.now) }
 {
     let from = sheet.from;
     let entries = entries_of(run, row.unit);
+    let drawn = drawn_entries(entries, from);
     let hidden = (entries.len() as u64).saturating_sub(from as u64 + 64);
     let width = row_width(sheet.columns);
-    let class = row_class(is_wrong_unit(wrong, row.unit));
+    let class = row_class(is_wrong_unit(rings.wrong, row.unit));
     let y = top(run.workers) + ROW * place;
     push_head(text, class, y, width, row)?;
-    push_boxes(text, wrong, row.unit, from, drawn_entries(entries, from))?;
-    push_stacks(text, &run.jobs, wrong, &row.stacks)?;
+    push_joins(text, above, drawn)?;
+    push_boxes(text, rings, row.unit, from, drawn)?;
+    push_stacks(text, &run.jobs, rings.wrong, &row.stacks)?;
     push_end(text, hidden, LEFT + width)?;
     Ok(())
 }

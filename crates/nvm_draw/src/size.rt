@@ -43,7 +43,7 @@ pub(crate) fn width(columns: u8) -> u64
 pub(crate) fn top(workers: u16) -> u64
     ensures { result ≡ spec.top workers }
 {
-    162 + 22 * ((u64::from(workers) + 7) / 8)
+    210 + 22 * ((u64::from(workers) + 7) / 8)
 }
 
 /// The height of a picture of so many workers and rows.

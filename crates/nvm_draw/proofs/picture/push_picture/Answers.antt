@@ -11,10 +11,12 @@ returns c =
     let r = c.args.run.now in
     let sheet = c.args.sheet.now in
     let high : c.height.result ≡ sizes.height r.workers (length sheet.rows.items) = cc (ap (λ (x : RecordView). x.workers) c.run.view_is) in
+    let key = rw c.of-rings.ensures at c.in_ok-push_key.ensures in
+    let rows = rw c.of-rings.ensures at c.in_ok-push_rows.ensures in
     rw (← high, ← c.width.ensures, ← c.wrong_in.ensures)
     (five _ _ _ _ _ _ _ _ _ _ _
     c.in_ok-push_frame.ensures
     c.in_ok-push_caption.ensures
-    c.in_ok-push_key.ensures
-    c.in_ok-push_rows.ensures
+    key
+    rows
     c.in_ok-push_str.ensures.bytes)

@@ -1,7 +1,7 @@
-use Rattle.std.proofs.Common.{◌≡◌, ◌++◌, ◌∙◌, ap, length, append_assoc}
+use Rattle.std.proofs.Common.{◌≡◌, ◌∙◌, ap}
 use Rattle.nvm_audit.specs.RecordView.{RecordView}
 use Rattle.nvm_draw.specs.Rows.{row_text}
-use Rattle.nvm_draw.proofs.Chains.{four}
+use Rattle.nvm_draw.proofs.Chains.{five}
 use Rattle.nvm_draw.proofs.row.push_row.Goals as goal
 
 pub returns : goal.returns
@@ -18,8 +18,13 @@ returns c =
       ← c.row_class-class.ensures,
       ← c.row_width-width.ensures,
       ← c.entries_of-entries.ensures,
-      ← c.drawn_entries.ensures.value,
+      ← c.drawn_entries-drawn.ensures.value,
       ← c.deref-2.ensures.value,
       ← c.saturating_sub-hidden.ensures,
     )
-    (four _ _ _ _ _ _ _ _ _ c.in_ok-push_head.ensures c.in_ok-push_boxes.ensures c.in_ok-push_stacks.ensures c.in_ok-push_end.ensures)
+    (five _ _ _ _ _ _ _ _ _ _ _
+    c.in_ok-push_head.ensures
+    c.in_ok-push_joins.ensures
+    c.in_ok-push_boxes.ensures
+    c.in_ok-push_stacks.ensures
+    c.in_ok-push_end.ensures)
