@@ -1,4 +1,4 @@
--- The program's faults for those of files; and the faults of a run, in the order in which they are looked for: the number of files,
+-- The engine's faults for those of files; and the faults of a run, in the order in which they are looked for: the number of files,
 -- the options, the files by their hosts' numbers.
 use Rattle.std.specs.Prelude.{◌≡◌, ◌⊎◌, ℕ, ◌+◌, ◌≤◌, ◌<◌, List, [], ◌∷◌, length}
 use Rattle.nvm_record.specs.HostFile.{IsHostFileFault, IsHostFile}
@@ -14,25 +14,19 @@ use Rattle.nvm_file.specs.declared.trace_file_fault.TraceFileFault.TheVariants a
 use Rattle.nvm_engine.specs.Settings.{IsNamespace, advertised}
 use Rattle.nvm_engine.specs.declared.settings.Settings.{Settings}
 use Rattle.nvm_engine.specs.declared.fault.Fault.{Fault}
-use Rattle.nvm_engine.specs.declared.fault.Fault.TheVariants.{Geometry, TooManyHosts, HostBadName, HostTruncated, HostTooMany, RecordBadName, RecordUnknownVersion, RecordTruncated, RecordTrailing, RecordBadValue, Trace, NoMemory}
+use Rattle.nvm_engine.specs.declared.fault.Fault.TheVariants.{Geometry, TooManyHosts, Host, Record, Trace, NoMemory}
 
--- the program's fault for one of a host's file
+-- the engine's fault for one of a host's file
 abbrev pub fault_of_host : ℕ → HostFault → Fault
-fault_of_host host of_file.BadName = HostBadName host
-fault_of_host host (of_file.Truncated at) = HostTruncated host at
-fault_of_host host of_file.TooMany = HostTooMany host
 fault_of_host host of_file.NoMemory = NoMemory
+fault_of_host host fault = Host host fault
 
--- the program's fault for one of a record's file
+-- the engine's fault for one of a record's file
 abbrev pub fault_of_record : RecordFault → Fault
-fault_of_record of_record.BadName = RecordBadName
-fault_of_record of_record.Version = RecordUnknownVersion
-fault_of_record (of_record.Truncated at) = RecordTruncated at
-fault_of_record (of_record.Trailing at) = RecordTrailing at
-fault_of_record (of_record.BadValue at) = RecordBadValue at
 fault_of_record of_record.NoMemory = NoMemory
+fault_of_record fault = Record fault
 
--- the program's fault for one of a trace's file
+-- the engine's fault for one of a trace's file
 abbrev pub fault_of_trace : TraceFileFault → Fault
 fault_of_trace of_trace.NoMemory = NoMemory
 fault_of_trace fault = Trace fault
@@ -44,9 +38,7 @@ IsGeometryFault s fault = ⊥
 
 -- The first fault of this host's file, where a block has `size` bytes.
 abbrev pub IsFileFault : ℕ → ℕ → List ℕ → Fault → Type 0
-IsFileFault size number file (HostBadName host) = (host ≡ number) × IsHostFileFault size file of_file.BadName
-IsFileFault size number file (HostTruncated host at) = (host ≡ number) × IsHostFileFault size file (of_file.Truncated at)
-IsFileFault size number file (HostTooMany host) = (host ≡ number) × IsHostFileFault size file of_file.TooMany
+IsFileFault size number file (Host host fault) = (host ≡ number) × IsHostFileFault size file fault
 IsFileFault size number file fault = ⊥
 
 -- The first fault of these files, the first of which is that of host `number`: it is one of a file before

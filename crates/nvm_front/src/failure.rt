@@ -65,10 +65,10 @@ impl<F: From<AllocFailed<T>>, T: Drop> From<AllocFailed<T>> for Failure<F> {
     }
 }
 
-/// Prints the fault's line on standard error, and what helps below it. Gives the exit status.
-pub fn failed<R: Eprint, F: fmt::Display + Drop>(rt: &R, failure: Failure<F>) -> u8
+/// Prints the fault's line on standard error, with the program's name before it, and what helps below it. Gives the exit status.
+pub fn failed<R: Eprint, F: fmt::Display + Drop>(rt: &R, program: &str, failure: Failure<F>) -> u8
     ensures { result ≡ 1 }
 {
-    let _ = rt.eprintln(failure);
+    let _ = eprintln!(rt; "{program}: {failure}");
     1
 }

@@ -1,17 +1,10 @@
 -- A job that a worker did as an object of JSON (own): its statuses, its parts, and a Read's data.
 use Rattle.std.specs.Prelude.{ℕ, ◌+◌, Bool, true, false, if◌then◌else◌, List, [], ◌∷◌, ◌++◌, Option, codes, decimal}
 use Rattle.nvm_record.specs.declared.status.Statuses.{Statuses}
-use Rattle.nvm_record.specs.declared.status.Statuses.TheVariants.{One, Two}
 use Rattle.nvm_plan.specs.declared.part.Part.{Part}
 use Rattle.nvm_audit.specs.RecordedJob.{RecordedJob}
-use Rattle.nvm_text.specs.Lines.{status_text}
 use Rattle.nvm_report.specs.DoneLines.{word_of}
-use Rattle.nvm_objects.specs.CommandObject.{data_value}
-
--- the status of each command
-abbrev pub status_strings : Statuses → List ℕ
-status_strings (One status) = codes "\"" ++ (status_text status ++ codes "\"")
-status_strings (Two first second) = codes "\"" ++ (status_text first ++ (codes "\",\"" ++ (status_text second ++ codes "\"")))
+use Rattle.nvm_objects.specs.Values.{data_value, status_strings}
 
 -- the part's unit, the point on which it rests, and how it ended, in the word of the record's listing
 unfoldable pub part_object : Part → List ℕ

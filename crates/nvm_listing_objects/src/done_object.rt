@@ -1,15 +1,12 @@
 //! A job that a worker did as an object of JSON.
-ghost use Rattle.std.specs.Prelude.{◌≡◌, ◌++◌, true, OnOk, Some, map, string_bytes};
+ghost use Rattle.std.specs.Prelude.{◌≡◌, ◌++◌, true, OnOk, map, string_bytes};
 ghost use Rattle.nvm_report.specs.DoneLines.{word_of};
 ghost use Rattle.nvm_listing_objects.specs.DoneObject as spec;
 
 use nvm_audit::DoneJob;
-use nvm_objects::DataValue;
+use nvm_objects::{DataValue, StatusStrings};
 use nvm_plan::{Part, PartResult};
 use nvm_record::{NoMemory, ReadData, Statuses};
-use nvm_text::StatusText;
-use std::fmt;
-use std::fmt::{Display, Formatter};
 
 /// Appends the objects of what workers did, of which the first has number 0.
 pub(crate) fn push_workers(text: &mut String, done: &[Vec<DoneJob>]) -> Result<(), NoMemory>
@@ -52,23 +49,6 @@ fn push_start(text: &mut String, worker: u64, job: u32, statuses: Statuses) -> R
         text,
         "{{\"worker\":{worker},\"job\":{job},\"statuses\":[{statuses}],\"parts\":["
     )
-}
-
-/// The status of each command.
-#[derive(Clone, Copy)]
-struct StatusStrings(Statuses);
-
-impl Display for StatusStrings {
-    ghost output = { λ strings. Some (spec.status_strings strings.0) };
-
-    fn fmt<W: fmt::Write>(&self, f: &mut Formatter<W>) -> fmt::Result {
-        match self.0 {
-            Statuses::One(status) => write!(f, "\"{}\"", StatusText(status)),
-            Statuses::Two(first, second) => {
-                write!(f, "\"{}\",\"{}\"", StatusText(first), StatusText(second))
-            }
-        }
-    }
 }
 
 /// Appends the objects of parts, with commas between them.

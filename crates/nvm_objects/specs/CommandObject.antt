@@ -1,16 +1,11 @@
 -- What is told to programs of a command: one object of JSON (RFC 8259) on a line (own). It has what the command's lines in the text of
 -- a run have, with a name for each thing. No string in it has a quote, a backslash or a control character, so none is escaped.
-use Rattle.std.specs.Prelude.{ℕ, List, ◌++◌, Option, Some, None, codes, decimal}
+use Rattle.std.specs.Prelude.{ℕ, List, ◌++◌, Option, codes, decimal}
 use Rattle.nvm_record.specs.declared.command.Command.{Command}
 use Rattle.nvm_record.specs.declared.status.Status.{Status}
-use Rattle.nvm_text.specs.Lines.{runs_text, status_text}
-use Rattle.nvm_text.specs.Runs.{runs}
+use Rattle.nvm_text.specs.Lines.{status_text}
 use Rattle.nvm_list.specs.Listing.{command_text}
-
--- the data as runs, if any was answered
-abbrev pub data_value : Option (List ℕ) → List ℕ
-data_value None = codes "null"
-data_value (Some bytes) = codes "\"" ++ (runs_text (runs bytes) ++ codes "\"")
+use Rattle.nvm_objects.specs.Values.{data_value}
 
 -- the host's number, the command identifier, the command's words as in a command list, the status, and the data
 unfoldable pub command_object : ℕ → Command → Status → Option (List ℕ) → List ℕ

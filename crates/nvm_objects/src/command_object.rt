@@ -2,9 +2,10 @@
 ghost use Rattle.std.specs.Prelude.{Some};
 ghost use Rattle.nvm_objects.specs.CommandObject as spec;
 
+use crate::values::DataValue;
 use nvm_list::CommandText;
 use nvm_record::{Command, ReadData, Status};
-use nvm_text::{RunsText, StatusText};
+use nvm_text::StatusText;
 use std::fmt;
 use std::fmt::{Display, Formatter};
 
@@ -34,20 +35,5 @@ impl Display for CommandObject<'_> {
             f,
             "{{\"host\":{host},\"cid\":{cid},\"command\":\"{words}\",\"status\":\"{status}\",\"data\":{data}}}\n"
         )
-    }
-}
-
-/// The data of a Read as a string of JSON, in the longest runs of equal bytes, or `null` where there is none.
-#[derive(Clone, Copy)]
-pub struct DataValue<'a>(pub &'a Option<ReadData>);
-
-impl Display for DataValue<'_> {
-    ghost output = { λ value. Some (spec.data_value value.0.now) };
-
-    fn fmt<W: fmt::Write>(&self, f: &mut Formatter<W>) -> fmt::Result {
-        match self.0 {
-            Some(bytes) => write!(f, "\"{}\"", RunsText(bytes.as_slice())),
-            None => f.write_str("null"),
-        }
     }
 }

@@ -4,9 +4,9 @@ ghost use Rattle.nvmu.specs.declared.fault.Fault.TheVariants.{Engine, Weigh};
 use crate::fault::Fault;
 use nvm_argument::{ArgumentFault, WeighFault};
 use nvm_engine::Fault as EngineFault;
-use nvm_file::TraceFileFault;
+use nvm_file::{RecordFault, TraceFileFault};
 use nvm_front::{STANDARD, VERSIONS, no_host_file, no_namespace, no_record, no_trace, other_block};
-use nvm_record::Payload;
+use nvm_record::{HostFault, Payload};
 use std::alloc::{AllocError, Global};
 
 /// Why the program answers nothing, and what helps.
@@ -79,7 +79,10 @@ fn hint_of_run(
             let count = files.len();
             Ok(Some(format!(in alloc; "there are {count} host files, and at most 64 can be")?))
         }
-        EngineFault::HostBadName { host } => match (of_host(paths, *host), of_host(files, *host)) {
+        EngineFault::Host {
+            host,
+            fault: HostFault::BadName,
+        } => match (of_host(paths, *host), of_host(files, *host)) {
             (Some(path), Some(file)) => Ok(Some(no_host_file(
                 alloc,
                 path.as_str(),
@@ -87,12 +90,10 @@ fn hint_of_run(
             )?)),
             _ => Ok(None),
         },
-        EngineFault::HostTruncated { host, .. } | EngineFault::HostTooMany { host } => {
-            match of_host(files, *host) {
-                Some(file) => other_block(alloc, file, block),
-                None => Ok(None),
-            }
-        }
+        EngineFault::Host { host, .. } => match of_host(files, *host) {
+            Some(file) => other_block(alloc, file, block),
+            None => Ok(None),
+        },
         _ => Ok(None),
     }
 }
@@ -105,8 +106,14 @@ fn hint_of_audit(
     bytes: &Payload,
 ) -> Result<Option<String>, AllocError> {
     match fault {
-        EngineFault::RecordBadName => Ok(Some(no_record(alloc, path, bytes.as_slice())?)),
-        EngineFault::RecordUnknownVersion => Ok(Some(String::from_str(alloc, VERSIONS)?)),
+        EngineFault::Record(RecordFault::BadName) => Ok(Some(no_record(
+            alloc,
+            path,
+            bytes.as_slice(),
+        )?)),
+        EngineFault::Record(RecordFault::Version) => {
+            Ok(Some(String::from_str(alloc, VERSIONS)?))
+        }
         _ => Ok(None),
     }
 }

@@ -6,23 +6,23 @@ use nvm_engine::Fault as EngineFault;
 use std::alloc::{AllocError, AllocFailed};
 use thiserror::Error;
 
-/// Why the program answers nothing. Each prints its one line, which goes to standard error.
+/// Why the program answers nothing. Each prints its one line, without the program's name.
 #[derive(Debug, Drop, Error)]
 pub enum Fault {
     /// A file couldn't be read.
-    #[error("nvmu: cannot read {path}")]
+    #[error("cannot read {path}")]
     CannotRead { path: String },
     /// The record couldn't be written.
-    #[error("nvmu: cannot write {path}")]
+    #[error("cannot write {path}")]
     CannotWrite { path: String },
     /// The options, a host file, a record or a trace isn't one, or memory was refused.
     #[error("{0}")]
     Engine(EngineFault),
     /// A trace or an argument isn't one, or memory was refused.
-    #[error("nvmu: {0}")]
+    #[error("{0}")]
     Weigh(WeighFault),
     /// Memory was asked for and refused, outside the engine and the weighing of an argument.
-    #[error("nvmu: no memory")]
+    #[error("no memory")]
     NoMemory,
 }
 

@@ -49,7 +49,7 @@ fn status_of<R: AllocGlobal + Env + Files + Input + Print + Eprint + Threads + W
     match asked(rt) {
         Ok(asked) => match Output::standard(rt) {
             Ok(output) => done(rt, &asked, output, progress),
-            Err(_) => failed(rt, Failure::from(AllocError)),
+            Err(_) => failed(rt, NAME, Failure::from(AllocError)),
         },
         Err(fault) => tell(rt, NAME, fault),
     }
@@ -76,7 +76,7 @@ fn done<R: AllocGlobal + Files + Input + Print + Eprint + Threads + Wait + Sync>
             let written = print(rt.alloc(), &answer, output);
             ended(rt, &answer, written)
         }
-        Err(failure) => failed(rt, failure),
+        Err(failure) => failed(rt, NAME, failure),
     }
 }
 
@@ -134,7 +134,7 @@ fn ended<R: Eprint>(rt: &R, answer: &Answer, written: Result<(), FileFault>) -> 
 {
     match written {
         Ok(()) => answer.status(),
-        Err(FileFault::NoMemory) => failed(rt, Failure::from(AllocError)),
+        Err(FileFault::NoMemory) => failed(rt, NAME, Failure::from(AllocError)),
         Err(FileFault::Refused(kind)) => {
             tell_unwritten(rt, NAME, kind);
             1

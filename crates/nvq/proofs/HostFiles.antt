@@ -2,7 +2,6 @@
 use Rattle.std.proofs.Common.{ℕ, zero, suc, ◌+◌, ◌<◌, List, [], ◌∷◌, ◌++◌, length, take, get_or, inl, inr, sym, subst, arith}
 use Rattle.nvm_record.specs.HostFile.{IsHostFile}
 use Rattle.nvm_record.specs.declared.command.Command.{Command}
-use Rattle.nvm_record.specs.declared.host_fault.HostFault.TheVariants as of_file
 use Rattle.nvm_record.proofs.OneReading.{no_list}
 use Rattle.nvm_engine.specs.Fault.{IsFileFault, IsFilesFault, IsGeometryFault, IsFirstRunFault}
 use Rattle.nvm_engine.specs.declared.fault.Fault.{Fault as FaultOfRun}
@@ -14,18 +13,10 @@ use Rattle.nvq.specs.declared.fault.Fault.{Fault}
 
 no_file_fault : (size number : ℕ) (file : List ℕ) (cs : List Command) (fault : FaultOfRun) → IsHostFile size file cs
     → IsFileFault size number file fault → ⊥
-no_file_fault size number file cs (of_run.HostBadName host) h k = no_list size file cs of_file.BadName h k.1
-no_file_fault size number file cs (of_run.HostTruncated host at) h k = no_list size file cs (of_file.Truncated at) h k.1
-no_file_fault size number file cs (of_run.HostTooMany host) h k = no_list size file cs of_file.TooMany h k.1
+no_file_fault size number file cs (of_run.Host host fault) h k = no_list size file cs fault h k.1
 no_file_fault size number file cs (of_run.Geometry fault) h k = k
 no_file_fault size number file cs of_run.TooManyHosts h k = k
-no_file_fault size number file cs (of_run.CannotRead path) h k = k
-no_file_fault size number file cs (of_run.CannotWrite path) h k = k
-no_file_fault size number file cs of_run.RecordBadName h k = k
-no_file_fault size number file cs of_run.RecordUnknownVersion h k = k
-no_file_fault size number file cs (of_run.RecordTruncated at) h k = k
-no_file_fault size number file cs (of_run.RecordTrailing at) h k = k
-no_file_fault size number file cs (of_run.RecordBadValue at) h k = k
+no_file_fault size number file cs (of_run.Record fault) h k = k
 no_file_fault size number file cs (of_run.Trace fault) h k = k
 no_file_fault size number file cs of_run.NoMemory h k = k
 
@@ -42,16 +33,8 @@ geometry_is_told : (s : Settings) (fault : FaultOfRun) → IsGeometryFault s fau
 geometry_is_told s (of_run.Geometry fault) k = tt
 geometry_is_told s of_run.TooManyHosts k = tt
 geometry_is_told s of_run.NoMemory k = tt
-geometry_is_told s (of_run.HostBadName host) k = k
-geometry_is_told s (of_run.HostTruncated host at) k = k
-geometry_is_told s (of_run.HostTooMany host) k = k
-geometry_is_told s (of_run.CannotRead path) k = k
-geometry_is_told s (of_run.CannotWrite path) k = k
-geometry_is_told s of_run.RecordBadName k = k
-geometry_is_told s of_run.RecordUnknownVersion k = k
-geometry_is_told s (of_run.RecordTruncated at) k = k
-geometry_is_told s (of_run.RecordTrailing at) k = k
-geometry_is_told s (of_run.RecordBadValue at) k = k
+geometry_is_told s (of_run.Host host fault) k = k
+geometry_is_told s (of_run.Record fault) k = k
 geometry_is_told s (of_run.Trace fault) k = k
 
 pub told_alone : (s : Settings) (texts files : List (List ℕ)) (fault : FaultOfRun) → AreFilesOf s.block texts files

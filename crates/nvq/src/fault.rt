@@ -12,127 +12,127 @@ use nvm_trace_text::{TextFault, TraceExpected};
 use std::alloc::{AllocError, AllocFailed};
 use thiserror::Error;
 
-/// Why the program writes nothing. Each prints its one line, which goes to standard error.
+/// Why the program writes nothing. Each prints its one line, without the program's name.
 #[derive(Debug, Drop, Error)]
 pub enum Fault {
     /// A file couldn't be read.
-    #[error("nvq: cannot read {path}")]
+    #[error("cannot read {path}")]
     CannotRead {
         path: String,
     },
     /// A file couldn't be written.
-    #[error("nvq: cannot write {path}")]
+    #[error("cannot write {path}")]
     CannotWrite {
         path: String,
     },
     /// A line of the list is no command. Lines count from 1.
-    #[error("nvq: line {line}: {expected}")]
+    #[error("line {line}: {expected}")]
     Line {
         line: u64,
         expected: Expected,
     },
     /// A line of the list at a path is no command. Lines count from 1.
-    #[error("nvq: {path}: line {line}: {expected}")]
+    #[error("{path}: line {line}: {expected}")]
     ListLine {
         path: String,
         line: u64,
         expected: Expected,
     },
     /// An expectation in the list at a path is wrong. Lines count from 1.
-    #[error("nvq: {path}: line {line}: {expected}")]
+    #[error("{path}: line {line}: {expected}")]
     Expectation {
         path: String,
         line: u64,
         expected: Unexpected,
     },
     /// A line of a trace's text is wrong. Lines count from 1.
-    #[error("nvq: line {line}: {expected}")]
+    #[error("line {line}: {expected}")]
     TraceLine {
         line: u64,
         expected: TraceExpected,
     },
     /// A trace's text has no line with words.
-    #[error("nvq: expected a trace's head")]
+    #[error("expected a trace's head")]
     NoHead,
     /// Standard input is more than one list of a run, or both a trace and its record.
-    #[error("nvq: standard input is named twice")]
+    #[error("standard input is named twice")]
     InputTwice,
     /// The record of a run, or one that explains a trace, would go to standard output, where the lines go.
-    #[error("nvq: the record can't go to standard output")]
+    #[error("the record can't go to standard output")]
     RecordAmongLines,
     /// The argument that nothing explains a trace would go to standard output.
-    #[error("nvq: the argument can't go to standard output")]
+    #[error("the argument can't go to standard output")]
     ArgumentAmongLines,
     /// The options describe no namespace.
-    #[error("nvq: geometry: {0}")]
+    #[error("geometry: {0}")]
     Geometry(GeometryFault),
     /// There are more than 64 lists.
-    #[error("nvq: too many hosts")]
+    #[error("too many hosts")]
     TooManyHosts,
     /// The file begins as none of those that are expected.
-    #[error("nvq: {path}: bad name")]
+    #[error("{path}: bad name")]
     BadName {
         path: String,
     },
     /// Something in the host file, the record or the trace isn't whole; it begins at offset `at`, in bytes.
-    #[error("nvq: {path}: truncated at {at}")]
+    #[error("{path}: truncated at {at}")]
     Truncated {
         path: String,
         at: u64,
     },
     /// The host file has bytes after 65,536 commands.
-    #[error("nvq: {path}: too many commands")]
+    #[error("{path}: too many commands")]
     TooMany {
         path: String,
     },
     /// The record is of a version that isn't known.
-    #[error("nvq: {path}: unknown version")]
+    #[error("{path}: unknown version")]
     UnknownVersion {
         path: String,
     },
     /// Bytes follow the record or the trace, from offset `at` on.
-    #[error("nvq: {path}: trailing at {at}")]
+    #[error("{path}: trailing at {at}")]
     Trailing {
         path: String,
         at: u64,
     },
     /// The field at offset `at` of the record or the trace has a value that isn't allowed.
-    #[error("nvq: {path}: bad value at {at}")]
+    #[error("{path}: bad value at {at}")]
     BadValue {
         path: String,
         at: u64,
     },
     /// A job of the trace began at 0; the time begins at offset `at`.
-    #[error("nvq: {path}: began at zero at {at}")]
+    #[error("{path}: began at zero at {at}")]
     BeganAtZero {
         path: String,
         at: u64,
     },
     /// A job of the trace ended before it began; the time of its end begins at offset `at`.
-    #[error("nvq: {path}: ended before it began at {at}")]
+    #[error("{path}: ended before it began at {at}")]
     EndedBefore {
         path: String,
         at: u64,
     },
     /// The namespace of the record doesn't have the unit of which the picture should begin.
-    #[error("nvq: {path}: no unit {unit}")]
+    #[error("{path}: no unit {unit}")]
     NoUnit {
         path: String,
         unit: u16,
     },
     /// The argument's fact of this number, counted from 0, isn't given by its rule and the facts before it. It is the first such.
-    #[error("nvq: {path}: unrefuted FactWrong fact {fact}")]
+    #[error("{path}: unrefuted FactWrong fact {fact}")]
     FactWrong {
         path: String,
         fact: usize,
     },
     /// The argument's facts don't contradict each other, or are about another trace.
-    #[error("nvq: {path}: unrefuted NothingRefuted")]
+    #[error("{path}: unrefuted NothingRefuted")]
     NothingRefuted {
         path: String,
     },
     /// Memory was asked for and refused.
-    #[error("nvq: no memory")]
+    #[error("no memory")]
     NoMemory,
 }
 

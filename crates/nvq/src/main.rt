@@ -75,7 +75,7 @@ fn status_of<R: AllocGlobal + Env + Files + Input + Print + Eprint + Threads + W
             progress.clear();
             match ended {
                 Ok(status) => status,
-                Err(failure) => failed(rt, failure),
+                Err(failure) => failed(rt, NAME, failure),
             }
         }
         Err(fault) => tell(rt, NAME, fault),

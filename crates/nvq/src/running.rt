@@ -283,17 +283,9 @@ fn told(fault: RunFault) -> Fault
         RunFault::Geometry(fault) => Fault::Geometry(fault),
         RunFault::TooManyHosts => Fault::TooManyHosts,
         RunFault::NoMemory => Fault::NoMemory,
-        RunFault::CannotRead { .. }
-        | RunFault::CannotWrite { .. }
-        | RunFault::HostBadName { .. }
-        | RunFault::HostTruncated { .. }
-        | RunFault::HostTooMany { .. }
-        | RunFault::RecordBadName
-        | RunFault::RecordUnknownVersion
-        | RunFault::RecordTruncated { .. }
-        | RunFault::RecordTrailing { .. }
-        | RunFault::RecordBadValue { .. }
-        | RunFault::Trace(_) => unreachable!("what is assembled is a host file"),
+        RunFault::Host { .. } | RunFault::Record(_) | RunFault::Trace(_) => {
+            unreachable!("what is assembled is a host file")
+        }
     }
 }
 
