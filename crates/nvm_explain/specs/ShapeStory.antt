@@ -38,9 +38,9 @@ abbrev pub due_unit : Option ℕ → List ℕ
 due_unit None = codes "none"
 due_unit (Some unit) = codes "one in unit " ++ decimal unit
 
--- which statuses are recorded, and which are due
-abbrev pub due_text : Statuses → Statuses → List ℕ
-due_text told due = codes "status " ++ (statuses_text told ++ (codes " is recorded, where " ++ (statuses_text due ++ codes " is due")))
+-- which statuses are recorded, and which are due, and why
+abbrev pub due_statuses : Statuses → Statuses → List ℕ → List ℕ
+due_statuses told due why = codes "status " ++ (statuses_text told ++ (codes " is recorded, where " ++ (statuses_text due ++ why)))
 
 -- what is wrong, and what is due
 unfoldable pub shape_line : ShapeFault → List ℕ
@@ -52,10 +52,10 @@ shape_line (ResultWrong unit result kind) =
 shape_line (PartBehind unit result) =
     codes "the part in unit " ++ (decimal unit
     ++ (codes " ended the job as " ++ (word_of result ++ codes ", and another is recorded behind it\n")))
-shape_line (StatusRefused told due) = due_text told due ++ codes "\n"
-shape_line (StatusUnstarted told due) = due_text told due ++ codes ": no part is recorded\n"
+shape_line (StatusRefused told due) = due_statuses told due (codes " is due\n")
+shape_line (StatusUnstarted told due) = due_statuses told due (codes " is due: no part is recorded\n")
 shape_line (StatusAfter told result due) =
-    due_text told due ++ (codes ": the last part is recorded as " ++ (word_of result ++ codes "\n"))
+    due_statuses told due (codes " is due: the last part is recorded as " ++ (word_of result ++ codes "\n"))
 shape_line (PartMissing unit) =
     codes "no part is recorded in unit " ++ (decimal unit ++ codes ", and each part before it succeeded\n")
 shape_line DataMissing = codes "no data is recorded, where that of the Read is due\n"

@@ -109,10 +109,11 @@ fn push_fault(text: &mut String, fault: ShapeFault) -> Result<(), NoMemory>
             text,
             "no part is recorded in unit {unit}, and each part before it succeeded\n"
         ),
-        ShapeFault::DataMissing => text.push_str(
-            "no data is recorded, where that of the Read is due\n",
+        ShapeFault::DataMissing => write!(
+            text,
+            "no data is recorded, where that of the Read is due\n"
         ),
-        ShapeFault::DataGiven => text.push_str("data is recorded, where none is due\n"),
+        ShapeFault::DataGiven => write!(text, "data is recorded, where none is due\n"),
     }
 }
 
