@@ -41,6 +41,20 @@ def with_compared(record, job, data):
     return replace(record, jobs=jobs, units=tuple(map(tuple, entries)))
 
 
+def pair_told(byte, recorded_statuses, given, bytes_told):
+    """The explanation of a record of a pair that compared one block of these bytes with zeroes and is recorded as failed, with these statuses."""
+    return (
+        "unlawful StatusWrong job 0 unit 0 place 0\n"
+        "StatusWrong: at its point the part doesn't end as it is recorded.\n"
+        f"job 0 host 1 cid 1 nsid 1 compare 0 1 512*{byte:02x} first\njob 0 host 1 cid 2 nsid 1 write 0 1 512*55 second\n"
+        f"worker 0 job 0 status {recorded_statuses}\nworker 0 job 0 unit 0 point 0 failed\n"
+        f"part: unit 0 point 0 pair 0 1 512*{byte:02x} 512*55\nrecorded: status {recorded_statuses}\nthe step gives: status {given}\n"
+        f"{bytes_told}unit 0 first 0 blocks 8 entries 0 limit 100\nunit 0 point 0 rests job 0\n"
+    )
+
+
+ENDS_OF_PAIRS = [(((2, 0x85), (0, 9)), "2/85 0/09"), (((2, 0x81), (0, 9)), "2/81 0/09"), (((0, 0), (0, 0)), "0/00 0/00")]
+
 # Two Writes of one block by two workers, and a Read of it: the record, what is wrong with it, and its explanation.
 EXPLAINED = [
     (
@@ -130,6 +144,20 @@ EXPLAINED = [
         "StatusWrong: at its point the part doesn't end as it is recorded.\n"
         "job 0 host 1 cid 1 nsid 1 compare 0 1 512*00\nworker 0 job 0 status 2/85\nworker 0 job 0 unit 0 point 0 looked\n"
         "part: unit 0 point 0 compare 0 1 512*00\nrecorded: status 2/85\nthe step gives: status 0/00\nfirst difference: none\n"
+        "unit 0 first 0 blocks 8 entries 0 limit 100\nunit 0 point 0 rests job 0\n",
+    ),
+    # A pair that is recorded as failed, once as different, once with a marked block, and once with success, where no byte differs; and a Compare.
+    *((pair_failed(0, *told_of), pair_told(0, words, "0/00 0/00", "first difference: none\n")) for told_of, words in ENDS_OF_PAIRS),
+    (
+        pair_failed(1, (2, 0x81), (0, 9)),
+        pair_told(1, "2/81 0/09", "2/85 0/09", "first difference: LBA 0 byte 0 compared 01 held 00\nlast change of LBA 0: none\n"),
+    ),
+    (
+        one([compare(0, 0)], Done(0, ((0, 0, LOOKED),), ((2, 0x81),))),
+        "unlawful StatusWrong job 0 unit 0 place 0\n"
+        "StatusWrong: at its point the part doesn't end as it is recorded.\n"
+        "job 0 host 1 cid 1 nsid 1 compare 0 1 512*00\nworker 0 job 0 status 2/81\nworker 0 job 0 unit 0 point 0 looked\n"
+        "part: unit 0 point 0 compare 0 1 512*00\nrecorded: status 2/81\nthe step gives: status 0/00\nfirst difference: none\n"
         "unit 0 first 0 blocks 8 entries 0 limit 100\nunit 0 point 0 rests job 0\n",
     ),
     (
@@ -243,6 +271,8 @@ def spoiled(record, dice):
         elif body[0].opcode == COMPARE and done.parts and done.statuses[0] in ((0, 0), (2, 0x85), (2, 0x81)):
             other = ((2, 0x85), (0, 9)) if done.statuses[0] == (0, 0) else ((0, 0), (0, 0))
             yield with_done(record, done.job, statuses=other[: len(body)])
+            if done.statuses[0] != (2, 0x81):
+                yield with_done(record, done.job, statuses=((2, 0x81), (0, 9))[: len(body)])
 
 
 # How these lines begin, of which each must occur.
