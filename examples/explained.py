@@ -14,8 +14,9 @@ from hints import MISSING, VERSIONS, no_record, told
 from host_files import compare, dataset, file_of, mixed, pair, read, write
 from model import COMPARE, READ
 from record_explaining import byte_lines, lawful_explanation
+from record_listing import lines as listed
 from recorded import recorded
-from records import DONE, LOOKED, Done, record_of, spelled
+from records import DONE, FAILED, FULL, LOOKED, NO_MEMORY, Done, record_of, spelled
 from stories import stories
 
 READ = "job 2 host 1 cid 2 nsid 1 read 0 1\n"
@@ -39,6 +40,20 @@ def with_compared(record, job, data):
     entries = [[replace(it, data=data + it.data[len(data) :]) if it.job == job else it for it in unit] for unit in record.units]
     return replace(record, jobs=jobs, units=tuple(map(tuple, entries)))
 
+
+def pair_told(byte, recorded_statuses, given, bytes_told):
+    """The explanation of a record of a pair that compared one block of these bytes with zeroes and is recorded as failed, with these statuses."""
+    return (
+        "unlawful StatusWrong job 0 unit 0 place 0\n"
+        "StatusWrong: at its point the part doesn't end as it is recorded.\n"
+        f"job 0 host 1 cid 1 nsid 1 compare 0 1 512*{byte:02x} first\njob 0 host 1 cid 2 nsid 1 write 0 1 512*55 second\n"
+        f"worker 0 job 0 status {recorded_statuses}\nworker 0 job 0 unit 0 point 0 failed\n"
+        f"part: unit 0 point 0 pair 0 1 512*{byte:02x} 512*55\nrecorded: status {recorded_statuses}\nthe step gives: status {given}\n"
+        f"{bytes_told}unit 0 first 0 blocks 8 entries 0 limit 100\nunit 0 point 0 rests job 0\n"
+    )
+
+
+ENDS_OF_PAIRS = [(((2, 0x85), (0, 9)), "2/85 0/09"), (((2, 0x81), (0, 9)), "2/81 0/09"), (((0, 0), (0, 0)), "0/00 0/00")]
 
 # Two Writes of one block by two workers, and a Read of it: the record, what is wrong with it, and its explanation.
 EXPLAINED = [
@@ -67,14 +82,15 @@ EXPLAINED = [
         "unlawful StatusWrong job 2 unit - place -\n"
         f"StatusWrong: no run of the job ends with these parts, these statuses and this data.\n{READ}"
         "worker 0 job 2 status 0/00\nworker 0 job 2 data 512*41\n"
-        "no check refuses the job, which has a part in each of the units: 0\n",
+        "no check refuses the job, which has a part in each of the units: 0\n"
+        "status 0/00 is recorded, where 0/06 is due: no part is recorded\n",
     ),
     (
         one([read(31, 2)], Done(0, (), ((0, 0),))),
         "unlawful StatusWrong job 0 unit - place -\n"
         "StatusWrong: no run of the job ends with these parts, these statuses and this data.\n"
         "job 0 host 1 cid 1 nsid 1 read 31 2\nworker 0 job 0 status 0/00\n"
-        "a check refuses the job: status 0/80\n",
+        "a check refuses the job: status 0/80\nstatus 0/00 is recorded, where 0/80 is due\n",
     ),
     (
         changes(ENTRIES[0], replace(ENTRIES[1], data=b"\x43" + ENTRIES[1].data[1:])),
@@ -130,6 +146,20 @@ EXPLAINED = [
         "part: unit 0 point 0 compare 0 1 512*00\nrecorded: status 2/85\nthe step gives: status 0/00\nfirst difference: none\n"
         "unit 0 first 0 blocks 8 entries 0 limit 100\nunit 0 point 0 rests job 0\n",
     ),
+    # A pair that is recorded as failed, once as different, once with a marked block, and once with success, where no byte differs; and a Compare.
+    *((pair_failed(0, *told_of), pair_told(0, words, "0/00 0/00", "first difference: none\n")) for told_of, words in ENDS_OF_PAIRS),
+    (
+        pair_failed(1, (2, 0x81), (0, 9)),
+        pair_told(1, "2/81 0/09", "2/85 0/09", "first difference: LBA 0 byte 0 compared 01 held 00\nlast change of LBA 0: none\n"),
+    ),
+    (
+        one([compare(0, 0)], Done(0, ((0, 0, LOOKED),), ((2, 0x81),))),
+        "unlawful StatusWrong job 0 unit 0 place 0\n"
+        "StatusWrong: at its point the part doesn't end as it is recorded.\n"
+        "job 0 host 1 cid 1 nsid 1 compare 0 1 512*00\nworker 0 job 0 status 2/81\nworker 0 job 0 unit 0 point 0 looked\n"
+        "part: unit 0 point 0 compare 0 1 512*00\nrecorded: status 2/81\nthe step gives: status 0/00\nfirst difference: none\n"
+        "unit 0 first 0 blocks 8 entries 0 limit 100\nunit 0 point 0 rests job 0\n",
+    ),
     (
         with_compared(recorded(SPACE, [file_of(PAIRED)]), 2, b"\x41" * 511 + b"\x42"),
         "unlawful EntryWrong job 2 unit 0 place 2\n"
@@ -149,6 +179,27 @@ EXPLAINED = [
         f"first difference: LBA 0 byte 0 recorded 42 given 41\nlast change of LBA 0: {SECOND}"
         f"{UNIT}{FIRST}{SECOND}unit 0 point 2 rests job 2\n",
     ),
+]
+
+# Writes and a Read that are recorded as no outcome can be: the commands, what is recorded of them, in which units they have a part, and what is told
+# to be wrong.
+WRITE_TWO = [write(7, 0x41, 0x41)]
+PAIR_OF_ONE = pair(compare(0, 0), write(0, 0x55))
+SHAPELESS = [
+    (WRITE_TWO, Done(0, ((0, 0, DONE),), ((0, 0),)), "0 1", "no part is recorded in unit 1, and each part before it succeeded"),
+    (WRITE_TWO, Done(0, ((1, 0, DONE), (0, 0, DONE)), ((0, 0),)), "0 1", "a part is recorded in unit 1, where one in unit 0 is due"),
+    (WRITE_TWO, Done(0, ((0, 0, DONE), (3, 0, DONE)), ((0, 0),)), "0 1", "a part is recorded in unit 3, where one in unit 1 is due"),
+    (WRITE_TWO, Done(0, ((0, 0, DONE), (1, 0, DONE), (2, 0, DONE)), ((0, 0),)), "0 1", "a part is recorded in unit 2, where none is due"),
+    (WRITE_TWO, Done(0, ((0, 0, FAILED), (1, 0, FULL)), ((0, 6),)), "0 1", "the part in unit 0 is recorded as failed, where it can be: done no-memory full"),
+    ([read(0, 1)], Done(0, ((0, 0, DONE),), ((0, 0),), bytes(512)), "0", "the part in unit 0 is recorded as done, where it can be: looked no-memory"),
+    (PAIR_OF_ONE, Done(0, ((0, 0, LOOKED),), ((0, 0), (0, 0))), "0", "the part in unit 0 is recorded as looked, where it can be: done failed no-memory full"),
+    (WRITE_TWO, Done(0, ((0, 0, FULL), (1, 0, DONE)), ((0, 0),)), "0 1", "the part in unit 0 ended the job as full, and another is recorded behind it"),
+    (WRITE_TWO, Done(0, ((0, 0, DONE), (1, 0, DONE)), ((0, 6),)), "0 1", "status 0/06 is recorded, where 0/00 is due: the last part is recorded as done"),
+    (PAIR_OF_ONE, Done(0, ((0, 0, NO_MEMORY),), ((0, 0), (0, 0))), "0", "status 0/00 0/00 is recorded, where 0/00 0/06 is due: the last part is recorded as no-memory"),
+    (PAIR_OF_ONE, Done(0, (), ((0, 6), (0, 6))), "0", "status 0/06 0/06 is recorded, where 0/06 0/09 is due: no part is recorded"),
+    ([dataset((0, 0))], Done(0, (), ((0, 6),)), "", "status 0/06 is recorded, where 0/00 is due: no part is recorded"),
+    ([read(0, 1)], Done(0, ((0, 0, LOOKED),), ((0, 0),)), "0", "no data is recorded, where that of the Read is due"),
+    ([read(0, 1)], Done(0, ((0, 0, LOOKED),), ((2, 0x81),), bytes(512)), "0", "data is recorded, where none is due"),
 ]
 
 # A pair, and a Read of two units whose last byte was recorded as 01.
@@ -183,6 +234,17 @@ unit 0 place 8 worker 0 job 9 write 0 1 512*08
 """
 
 
+NO_RUN = "unlawful StatusWrong job 0 unit - place -\nStatusWrong: no run of the job ends with these parts, these statuses and this data.\n"
+REFUSED_WITH_PART = one([read(31, 2)], Done(0, ((3, 0, LOOKED),), ((0, 0x80),)))
+
+
+def shapeless(record, units, wrong):
+    """The explanation of a record of one job that no check refuses, and whose outcome has no shape."""
+    own = "".join(f"{line}\n" for line in listed(record) if line.startswith(("job 0 ", "worker 0 job 0 ")))
+    words = "".join(f" {unit}" for unit in units.split())
+    return f"{NO_RUN}{own}no check refuses the job, which has a part in each of the units:{words}\n{wrong}\n"
+
+
 def with_data_of(record, job, data):
     """The record with other data of a job that the first worker did."""
     done = tuple(replace(it, data=data) if it.job == job else it for it in record.done[0])
@@ -209,6 +271,8 @@ def spoiled(record, dice):
         elif body[0].opcode == COMPARE and done.parts and done.statuses[0] in ((0, 0), (2, 0x85), (2, 0x81)):
             other = ((2, 0x85), (0, 9)) if done.statuses[0] == (0, 0) else ((0, 0), (0, 0))
             yield with_done(record, done.job, statuses=other[: len(body)])
+            if done.statuses[0] != (2, 0x81):
+                yield with_done(record, done.job, statuses=((2, 0x81), (0, 9))[: len(body)])
 
 
 # How these lines begin, of which each must occur.
@@ -240,6 +304,15 @@ def explained(run):
 
     for record, text in EXPLAINED:
         explains(spelled(record), text)
+    for asked, done, units, wrong in SHAPELESS:
+        run.keep("explained", spelled(one(asked, done)))
+        run.expect(["nvq", "explain", "explained"], out=shapeless(one(asked, done), units, wrong))
+    run.keep("explained", spelled(REFUSED_WITH_PART))
+    run.expect(
+        ["nvq", "explain", "explained"],
+        out=f"{NO_RUN}job 0 host 1 cid 1 nsid 1 read 31 2\nworker 0 job 0 status 0/80\nworker 0 job 0 unit 3 point 0 looked\n"
+        "a check refuses the job: status 0/80\na part is recorded in unit 3, where none is due\n",
+    )
     file = spelled(recorded(SPACE, [file_of(SPOILED_LIST)]))
     explains(file, lawful_explanation(record_of(file)))
     explains(file[:-1] + b"\x01", SPOILED_EXPLAINED)

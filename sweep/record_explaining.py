@@ -6,7 +6,7 @@ from collections import Counter
 from auditor import SUCCESS, parts_of, told, verdict
 from model import COMPARE, READ
 from record_listing import lines as listed
-from records import KIND_DEALLOCATE, KIND_PAIR, KIND_UNCORRECTABLE, KIND_ZEROES
+from records import FAILED, KIND_DEALLOCATE, KIND_PAIR, KIND_UNCORRECTABLE, KIND_ZEROES
 
 DIFFERENT = "2/85"
 
@@ -59,16 +59,18 @@ def held_before(record, unit, point):
 
 
 def recorded_bytes(record, fault, job, unit, place):
-    """Of the part at fault the first LBA, the bytes that were read or compared, if any were, and the status that it is recorded with."""
+    """Of the part at fault the first LBA, the bytes that were read or compared, if any were, the status that it is recorded with, and whether it is
+    recorded as failed."""
     if fault == "EntryWrong":
         entry = record.units[unit][place]
-        return entry.first, entry.data[: len(entry.data) // 2] if entry.kind == KIND_PAIR else None, SUCCESS
+        return entry.first, entry.data[: len(entry.data) // 2] if entry.kind == KIND_PAIR else None, SUCCESS, False
     done = next(it for work in record.done for it in work if it.job == job)
     body, is_last = record.jobs[job].body, done.parts[-1][0] == unit
     first, count = next(part[1:] for part in parts_of(record.namespace, body) if part[0] == unit)
     data = {READ: done.data, COMPARE: b"".join(body[0].data)}.get(body[0].opcode)
     at, size = (first - body[0].first) * record.namespace.block, count * record.namespace.block
-    return first, None if data is None else data[at : at + size], told(done.statuses)[0] if is_last else SUCCESS
+    status, result = told(done.statuses)[0] if is_last else SUCCESS, next(part[2] for part in done.parts if part[0] == unit)
+    return first, None if data is None else data[at : at + size], status, result == FAILED or status != SUCCESS
 
 
 def byte_lines(record):
@@ -78,7 +80,7 @@ def byte_lines(record):
     if not found:
         return []
     job, unit, place = map(int, found.groups()[1:])
-    first, data, status = recorded_bytes(record, found[1], job, unit, place)
+    first, data, status, is_failed = recorded_bytes(record, found[1], job, unit, place)
     if data is None:
         return []
     size, is_read = record.namespace.block, record.jobs[job].body[0].opcode == READ
@@ -87,8 +89,8 @@ def byte_lines(record):
     if None in blocks:
         return []
     at = next((at for at, (mine, other) in enumerate(zip(data, b"".join(blocks))) if mine != other), None)
-    if at is None or status != SUCCESS:
-        return ["first difference: none"] if at is None and status == DIFFERENT else []
+    if at is None or status == DIFFERENT:
+        return ["first difference: none"] if at is None and is_failed else []
     lba, (mine, other) = first + at // size, ("recorded", "given") if is_read else ("compared", "held")
     change = "none"
     if lba in last:

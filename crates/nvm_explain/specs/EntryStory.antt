@@ -7,6 +7,7 @@ use Rattle.nvm_record.specs.Status.{successful_completion}
 use Rattle.nvm_record.specs.Step.{Operation}
 use Rattle.nvm_geometry.specs.Namespace.{Namespace}
 use Rattle.nvm_plan.specs.declared.job.Job.{Job}
+use Rattle.nvm_plan.specs.declared.part.PartResult.TheVariants.{Done}
 use Rattle.nvm_plan.specs.JobPart.{job_part_in}
 use Rattle.nvm_store.specs.HistoryEntry.{HistoryEntry}
 use Rattle.nvm_store.specs.Point.{point}
@@ -32,7 +33,7 @@ own_line ns unit job = codes "the job's part:" ++ (part_text (job_part_in ns job
 -- equal, as there is the entry.
 abbrev pub given_on : ℕ → ℕ → List HistoryEntry → Operation → Medium → List ℕ
 given_on size unit before op m =
-    given_line op m ++ comparison_story size (One successful_completion) unit before op m
+    given_line op m ++ comparison_story size (One successful_completion) Done unit before op m
 
 -- what is said of this entry of the history, for which the job of this number, if there is one, is named
 abbrev pub entry_lines : RecordView → ℕ → Spot → List HistoryEntry → HistoryEntry → List ℕ

@@ -9,7 +9,6 @@ pub mod Outcome
 pub mod Reached
 pub mod UnitAt
 pub mod RecordedData
-pub mod ShapeStory
 pub mod Surroundings
 pub mod Doing
 pub mod PartStory
@@ -22,3 +21,6 @@ pub mod Ended
 pub mod Distinct
 pub mod Most
 pub mod Summary
+pub mod Kinds
+pub mod ShapeFault
+pub mod ShapeStory

@@ -44,7 +44,7 @@ abbrev pub part_on : ℕ → ℕ → DonePart → Option (List ℕ) → List His
 part_on size unit recorded payload before op m =
     what_line unit recorded.part.point op ++ (outcome_lines recorded.statuses payload (statuses_of op m) (data_of op m)
     ++ (if_any (read_difference op.first size payload (data_of op m)) (difference_lines (codes " recorded ") (codes " given ") unit before)
-    ++ comparison_story size recorded.statuses unit before op m))
+    ++ comparison_story size recorded.statuses recorded.part.result unit before op m))
 
 -- what is said of this part of a job in the unit of this history, where each entry before its point succeeds
 abbrev pub part_lines : Namespace → ℕ → Job → RecordedJob → DonePart → List HistoryEntry → Operation → List ℕ

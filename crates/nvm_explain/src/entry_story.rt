@@ -10,7 +10,7 @@ use crate::looked_up::{entries_of, job_of};
 use crate::unit_at::{UnitAt, unit_at};
 use crate::written::push_written;
 use nvm_audit::{Record, Spot};
-use nvm_plan::{LentPart, job_part_in};
+use nvm_plan::{LentPart, PartResult, job_part_in};
 use nvm_record::{NoMemory, Status, Statuses};
 use nvm_report::push_entry;
 use nvm_store::Entry;
@@ -61,7 +61,7 @@ fn push_given(
     let gives = OutcomeText(given.statuses, given.data());
     write!(text, "the step gives: status {gives}\n")?;
     let recorded = Statuses::One(Status::SUCCESSFUL_COMPLETION);
-    push_comparison(text, alloc, at, &act, recorded)
+    push_comparison(text, alloc, at, &act, recorded, PartResult::Done)
 }
 
 /// Appends the part that the job of this number has in the unit, if there is such a job.

@@ -71,7 +71,14 @@ fn push_part(
     let size = at.blocks.place().size;
     let found = read_difference(first_of(part), size, payload, &given);
     push_difference(text, " recorded ", " given ", at, found)?;
-    push_comparison(text, alloc, at, part, recorded.statuses)
+    push_comparison(
+        text,
+        alloc,
+        at,
+        part,
+        recorded.statuses,
+        recorded.part.result,
+    )
 }
 
 /// Appends in which unit and at which point the part is, and what it does.

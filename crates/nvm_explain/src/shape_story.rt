@@ -1,30 +1,142 @@
 ghost use Rattle.std.specs.Prelude.{◌≡◌, ◌++◌, OnOk, string_bytes};
-ghost use Rattle.nvm_explain.specs.ShapeStory.{shape_story};
+ghost use Rattle.nvm_plan.specs.Checks.{refusal_of};
+ghost use Rattle.nvm_report.specs.DoneLines.{word_of as words_of};
+ghost use Rattle.nvm_explain.specs.ShapeStory as spec;
 
+use crate::doing::done_of;
+use crate::kind::Kind;
 use crate::looked_up::job_of;
+use crate::shape_fault::{ShapeFault, shape_fault};
 use nvm_audit::Record;
-use nvm_plan::{Plan, job_units, plan};
+use nvm_geometry::Geometry;
+use nvm_plan::{Job, PartResult, Plan, job_units, plan};
 use nvm_record::NoMemory;
 use nvm_text::StatusesText;
 
-/// Appends with which statuses a check refuses the job, or in which units it has a part.
+/// Appends with which statuses a check refuses the job, or in which units it has a part, and what is first wrong with what was done
+/// of it.
 pub(crate) fn push_shape(text: &mut String, run: &Record, number: u32) -> Result<(), NoMemory>
-    ensures { OnOk result (string_bytes text.new ≡ string_bytes text.old ++ shape_story run.now number) }
+    ensures { OnOk result (string_bytes text.new ≡ string_bytes text.old ++ spec.shape_story run.now number) }
 {
     let Some(job) = job_of(run, number) else {
         return Ok(());
     };
-    match plan(&run.geometry, job) {
+    push_plan(text, &run.geometry, job)?;
+    let Some(done) = done_of(&run.done, number) else {
+        return Ok(());
+    };
+    match shape_fault(&run.geometry, job, done) {
+        Some(fault) => push_fault(text, fault),
+        None => Ok(()),
+    }
+}
+
+/// Appends with which statuses a check refuses the job, or in which units it has a part.
+fn push_plan(text: &mut String, geometry: &Geometry, job: &Job) -> Result<(), NoMemory>
+    ensures { OnOk result (string_bytes text.new
+        ≡ string_bytes text.old ++ spec.plan_line geometry.now job.now (refusal_of geometry.now job.now)) }
+{
+    match plan(geometry, job) {
         Plan::Refused(statuses) => {
             let statuses = StatusesText(statuses);
             write!(text, "a check refuses the job: status {statuses}\n")
         }
         Plan::Ready => {
             text.push_str("no check refuses the job, which has a part in each of the units:")?;
-            for unit in job_units(&run.geometry, job) {
+            for unit in job_units(geometry, job) {
                 write!(text, " {unit}")?;
             }
             text.push_str("\n")
         }
+    }
+}
+
+/// Appends what is wrong, and what is due.
+#[tactic(auto, unfolding(crate::specs::ShapeStory::shape_line))]
+fn push_fault(text: &mut String, fault: ShapeFault) -> Result<(), NoMemory>
+    ensures { OnOk result (string_bytes text.new ≡ string_bytes text.old ++ spec.shape_line fault) }
+{
+    match fault {
+        ShapeFault::UnitWrong {
+            unit,
+            due: Some(due),
+        } => write!(
+            text,
+            "a part is recorded in unit {unit}, where one in unit {due} is due\n"
+        ),
+        ShapeFault::UnitWrong { unit, due: None } => write!(
+            text,
+            "a part is recorded in unit {unit}, where none is due\n"
+        ),
+        ShapeFault::ResultWrong { unit, result, kind } => {
+            let ended = word_of(result);
+            let ends = ends_of(kind);
+            write!(
+                text,
+                "the part in unit {unit} is recorded as {ended}, where it can be: {ends}\n"
+            )
+        }
+        ShapeFault::PartBehind { unit, result } => {
+            let ended = word_of(result);
+            write!(
+                text,
+                "the part in unit {unit} ended the job as {ended}, and another is recorded behind it\n"
+            )
+        }
+        ShapeFault::StatusRefused { told, due } => {
+            let told = StatusesText(told);
+            let due = StatusesText(due);
+            write!(text, "status {told} is recorded, where {due} is due\n")
+        }
+        ShapeFault::StatusUnstarted { told, due } => {
+            let told = StatusesText(told);
+            let due = StatusesText(due);
+            write!(
+                text,
+                "status {told} is recorded, where {due} is due: no part is recorded\n"
+            )
+        }
+        ShapeFault::StatusAfter { told, result, due } => {
+            let told = StatusesText(told);
+            let due = StatusesText(due);
+            let ended = word_of(result);
+            write!(
+                text,
+                "status {told} is recorded, where {due} is due: the last part is recorded as {ended}\n"
+            )
+        }
+        ShapeFault::PartMissing { unit } => write!(
+            text,
+            "no part is recorded in unit {unit}, and each part before it succeeded\n"
+        ),
+        ShapeFault::DataMissing => write!(
+            text,
+            "no data is recorded, where that of the Read is due\n"
+        ),
+        ShapeFault::DataGiven => write!(text, "data is recorded, where none is due\n"),
+    }
+}
+
+/// The word for how a part ended.
+fn word_of(ended: PartResult) -> &'static str
+    ensures { result.now ≡ words_of ended }
+{
+    match ended {
+        PartResult::Done => "done",
+        PartResult::Failed => "failed",
+        PartResult::Looked => "looked",
+        PartResult::NoMemory => "no-memory",
+        PartResult::Full => "full",
+    }
+}
+
+/// The words for how a part of this kind can end.
+fn ends_of(kind: Kind) -> &'static str
+    ensures { result.now ≡ spec.ends_of kind }
+{
+    match kind {
+        Kind::Act => "done no-memory full",
+        Kind::Pair => "done failed no-memory full",
+        Kind::Look => "looked no-memory",
     }
 }

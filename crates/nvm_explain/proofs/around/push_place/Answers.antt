@@ -1,4 +1,4 @@
-use Rattle.std.proofs.Common.{◌≡◌, ap, rules, sym}
+use Rattle.std.proofs.Common.{rules}
 use Rattle.nvm_explain.specs.Surroundings.{place_line}
 use Rattle.nvm_explain.proofs.around.push_place.Goals as goal
 

@@ -1,4 +1,4 @@
-use Rattle.std.proofs.Common.{◌≡◌, ap, append-nil, rules}
+use Rattle.std.proofs.Common.{◌≡◌, ap, append-nil}
 use Rattle.nvm_audit.specs.RecordView.{RecordView}
 use Rattle.nvm_store.specs.HistoryEntry.{HistoryEntry}
 use Rattle.nvm_explain.proofs.written.push_written.Goals as goal
