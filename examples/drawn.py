@@ -100,7 +100,7 @@ class Drawn:
                 yield point - self.place, None, count, "ring" if any(it[3] for it in others) else None, told + more
 
     def rows(self):
-        """Of each row its unit, whether the fault is in it, the columns of each line to the row above, its boxes, its marks and what is behind them."""
+        """Of each row its unit, whether the fault is in it, the columns of each line to the row above, its boxes, its marks and the number after them."""
         above = []
         for unit in self.used[:MOST]:
             more = len(self.record.units[unit]) - self.place - MOST
@@ -231,15 +231,15 @@ def many(count):
     return recorded(replace(SPACE, nsze=1024, limit=1000), [file_of(asked)])
 
 
-def spoiled(asked, space=SPACE):
-    """The record of this, and of a Read of 4 blocks from LBA 1 that is told other data."""
+def misread(asked, space=SPACE):
+    """The record of these commands, and of a Read of 4 blocks from LBA 1 that is recorded with data that no block held."""
     record = recorded(space, [file_of([*asked, read(1, 4)])])
     *others, last = record.done[0]
     return replace(record, done=((*others, replace(last, statuses=((0, 0),), data=b"\x5a" * 2048)),))
 
 
 def joined(run):
-    """Writes and Deallocates of several units, which other changes stand before."""
+    """Jobs of several units, with other changes before them."""
     asked = [write(6, *range(12)), write(15, 1), zeroes(4, 24), dataset((31, 1), (0, 1), (20, 2)), write(8, 2), uncorrectable(7, 2)]
     record = recorded(SPACE, [file_of(asked)])
     drawn(run, "jobs of several units", record)
@@ -250,15 +250,15 @@ def joined(run):
 
 
 def last_changes(run):
-    """The last change before a fault, of each kind, and beside what changed no block of it."""
+    """The last change before a fault, of each kind, among changes of other blocks."""
     others = [write(0, 0x44), write(5, 0x45), uncorrectable(0, 1), zeroes(5, 3), dataset((0, 1), (5, 2))]
-    drawn(run, "no change before a fault", spoiled(others))
+    drawn(run, "no change before a fault", misread(others))
     for name, asked in (("a Write", write(4, 0x41, 0x42)), ("zeroes", zeroes(0, 2)), ("a mark", uncorrectable(2, 1)), ("a Deallocate", dataset((7, 1), (3, 1)))):
-        drawn(run, f"{name} before a fault", spoiled([write(2, 0x43), asked, *others]))
-    drawn(run, "a pair before a fault", spoiled([write(2, 0x43), *pair(compare(1, 0), write(1, 0x44)), *others]))
-    drawn(run, "a last change that isn't drawn", spoiled([write(2, 0x43), *[write(0, turn) for turn in range(80)]]))
-    drawn(run, "a fault without boundaries", spoiled([write(2, 0x43), *others], replace(SPACE, nabsn=0)))
-    drawn(run, "a fault where units begin at LBA 3", spoiled([write(2, 0x43), write(3, 0x43), *others], replace(SPACE, nabo=3)))
+        drawn(run, f"{name} before a fault", misread([write(2, 0x43), asked, *others]))
+    drawn(run, "a pair before a fault", misread([write(2, 0x43), *pair(compare(1, 0), write(1, 0x44)), *others]))
+    drawn(run, "a last change that isn't drawn", misread([write(2, 0x43), *[write(0, turn) for turn in range(80)]]))
+    drawn(run, "a fault without boundaries", misread([write(2, 0x43), *others], replace(SPACE, nabsn=0)))
+    drawn(run, "a fault where units begin at LBA 3", misread([write(2, 0x43), write(3, 0x43), *others], replace(SPACE, nabo=3)))
 
 
 def pictures(run):

@@ -146,7 +146,8 @@ EXPLAINED = [
         "part: unit 0 point 0 compare 0 1 512*00\nrecorded: status 2/85\nthe step gives: status 0/00\nfirst difference: none\n"
         "unit 0 first 0 blocks 8 entries 0 limit 100\nunit 0 point 0 rests job 0\n",
     ),
-    # A pair that is recorded as failed, once as different, once with a marked block, and once with success, where no byte differs; and a Compare.
+    # A pair that is recorded as failed, where no byte differs: once as different, once with a marked block, and once with success. Then one where a byte
+    # differs, with a marked block, and a Compare with a marked block where none differs.
     *((pair_failed(0, *told_of), pair_told(0, words, "0/00 0/00", "first difference: none\n")) for told_of, words in ENDS_OF_PAIRS),
     (
         pair_failed(1, (2, 0x81), (0, 9)),
@@ -181,8 +182,8 @@ EXPLAINED = [
     ),
 ]
 
-# Writes and a Read that are recorded as no outcome can be: the commands, what is recorded of them, in which units they have a part, and what is told
-# to be wrong.
+# Jobs that no check refuses and that are recorded as no outcome can be: the commands, what is recorded of them, in which units they have a part, and what is
+# said to be wrong.
 WRITE_TWO = [write(7, 0x41, 0x41)]
 PAIR_OF_ONE = pair(compare(0, 0), write(0, 0x55))
 SHAPELESS = [
