@@ -21,7 +21,7 @@ DEEDS = {KIND_WRITE: "W", KIND_ZEROES: "Z", KIND_UNCORRECTABLE: "U", KIND_PAIR: 
 LETTERS = {DONE: "!", FAILED: "F", NO_MEMORY: "M", FULL: "L"}
 LOOKS = {2: "R", 5: "C"}
 RINGS = ("ring", "change")
-CHANGE = "last change before the fault of a block that it reads or compares"
+CHANGE = "last change before the fault of a block that its job reads or compares"
 
 
 class Drawn:

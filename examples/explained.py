@@ -194,7 +194,7 @@ SHAPELESS = [
     (WRITE_TWO, Done(0, ((0, 0, FAILED), (1, 0, FULL)), ((0, 6),)), "0 1", "the part in unit 0 is recorded as failed, where it can be: done no-memory full"),
     ([read(0, 1)], Done(0, ((0, 0, DONE),), ((0, 0),), bytes(512)), "0", "the part in unit 0 is recorded as done, where it can be: looked no-memory"),
     (PAIR_OF_ONE, Done(0, ((0, 0, LOOKED),), ((0, 0), (0, 0))), "0", "the part in unit 0 is recorded as looked, where it can be: done failed no-memory full"),
-    (WRITE_TWO, Done(0, ((0, 0, FULL), (1, 0, DONE)), ((0, 0),)), "0 1", "the part in unit 0 ended the job as full, and another is recorded behind it"),
+    (WRITE_TWO, Done(0, ((0, 0, FULL), (1, 0, DONE)), ((0, 0),)), "0 1", "the part in unit 0 ended the job as full, and another is recorded after it"),
     (WRITE_TWO, Done(0, ((0, 0, DONE), (1, 0, DONE)), ((0, 6),)), "0 1", "status 0/06 is recorded, where 0/00 is due: the last part is recorded as done"),
     (PAIR_OF_ONE, Done(0, ((0, 0, NO_MEMORY),), ((0, 0), (0, 0))), "0", "status 0/00 0/00 is recorded, where 0/00 0/06 is due: the last part is recorded as no-memory"),
     (PAIR_OF_ONE, Done(0, (), ((0, 6), (0, 6))), "0", "status 0/06 0/06 is recorded, where 0/06 0/09 is due: no part is recorded"),

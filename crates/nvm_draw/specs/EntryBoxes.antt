@@ -27,7 +27,7 @@ box_ring false false = []
 
 -- what the title of the last change before the fault says beside its line
 abbrev pub change_line : Bool → List ℕ
-change_line true = codes "last change before the fault of a block that it reads or compares\n"
+change_line true = codes "last change before the fault of a block that its job reads or compares\n"
 change_line false = []
 
 -- the first of blocks, and how many they are

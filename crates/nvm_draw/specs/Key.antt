@@ -20,7 +20,7 @@ spot_text (Some spot) = codes "unit " ++ (decimal spot.unit ++ (codes " place " 
 -- what the rings stand for, and where the last change before the fault is
 unfoldable pub rings_text : Option Spot → List ℕ
 rings_text change =
-    codes "<text x='16' y='156'>Rings: red, what is of the fault; violet and dashed, the last change before it of a block that it reads or compares: "
+    codes "<text x='16' y='156'>Rings: red, what is of the fault; violet and dashed, the last change before it of a block that its job reads or compares: "
     ++ (spot_text change ++ codes ".</text>\n")
 
 -- eight names stand in a line

@@ -1,4 +1,4 @@
--- What has a ring in a picture: what is of the fault, and the last change before it of a block that it reads or compares.
+-- What has a ring in a picture: what is of the fault, and the last change before it of a block that its job reads or compares.
 use Rattle.std.specs.Prelude.{Option}
 use Rattle.nvm_audit.specs.RecordView.{RecordView}
 use Rattle.nvm_draw.specs.declared.rings.Rings.{Rings}

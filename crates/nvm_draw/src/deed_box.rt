@@ -141,7 +141,7 @@ fn change_line(is_change: bool) -> &'static str
     ensures { result.now ≡ spec.change_line is_change }
 {
     if is_change {
-        "last change before the fault of a block that it reads or compares\n"
+        "last change before the fault of a block that its job reads or compares\n"
     } else {
         ""
     }

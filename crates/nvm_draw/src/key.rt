@@ -42,7 +42,7 @@ fn push_rings(text: &mut String, change: Option<Spot>) -> Result<(), NoMemory>
     let spot = SpotText(change);
     write!(
         text,
-        "<text x='16' y='156'>Rings: red, what is of the fault; violet and dashed, the last change before it of a block that it reads or compares: {spot}.</text>\n"
+        "<text x='16' y='156'>Rings: red, what is of the fault; violet and dashed, the last change before it of a block that its job reads or compares: {spot}.</text>\n"
     )
 }
 

@@ -1,5 +1,6 @@
 -- What is first wrong with what is recorded of a job, where it hasn't the shape of an outcome: the first of the conditions of that
--- shape that doesn't hold, in their order.
+-- shape that doesn't hold, in their order. How many statuses there are after a part that failed or that looked isn't one of them here:
+-- no record's file can have that wrong.
 use Rattle.std.specs.Prelude.{ℕ, ◌==◌, ◌&&◌, if◌then◌else◌, List, [], ◌∷◌, length, Option, Some, None}
 use Rattle.std.specs.Option.{option_or}
 use Rattle.nvm_record.specs.declared.status.Statuses.{Statuses}

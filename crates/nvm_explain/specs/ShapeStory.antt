@@ -51,7 +51,7 @@ shape_line (ResultWrong unit result kind) =
     ++ (codes " is recorded as " ++ (word_of result ++ (codes ", where it can be: " ++ (ends_of kind ++ codes "\n")))))
 shape_line (PartBehind unit result) =
     codes "the part in unit " ++ (decimal unit
-    ++ (codes " ended the job as " ++ (word_of result ++ codes ", and another is recorded behind it\n")))
+    ++ (codes " ended the job as " ++ (word_of result ++ codes ", and another is recorded after it\n")))
 shape_line (StatusRefused told due) = due_statuses told due (codes " is due\n")
 shape_line (StatusUnstarted told due) = due_statuses told due (codes " is due: no part is recorded\n")
 shape_line (StatusAfter told result due) =

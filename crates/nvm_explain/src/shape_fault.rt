@@ -28,7 +28,7 @@ pub enum ShapeFault {
         result: PartResult,
         kind: Kind,
     },
-    /// A part behind which there can be none has another behind it.
+    /// A part after which there can be none has another after it.
     PartBehind {
         unit: u16,
         result: PartResult,
@@ -224,7 +224,7 @@ fn end_fault(
     None
 }
 
-/// Whether a part that ended so may have others behind it.
+/// Whether a part that ended so may have others after it.
 fn goes_on(ended: PartResult) -> bool
     ensures { result ≡ shape.goes_on ended }
 {

@@ -80,7 +80,7 @@ fn push_fault(text: &mut String, fault: ShapeFault) -> Result<(), NoMemory>
             let ended = word_of(result);
             write!(
                 text,
-                "the part in unit {unit} ended the job as {ended}, and another is recorded behind it\n"
+                "the part in unit {unit} ended the job as {ended}, and another is recorded after it\n"
             )
         }
         ShapeFault::StatusRefused { told, due } => {

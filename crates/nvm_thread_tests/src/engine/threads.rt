@@ -2,7 +2,7 @@
 mod hosts;
 
 use nvm_engine::{Fault, Judged, Settings, Shown, Workers, audit_bytes, execute};
-use nvm_file::write_record;
+use nvm_file::{RecordFault, write_record};
 use nvm_record::{Command, Fuse, Op, Payload, host_bytes};
 use nvm_store::Limit;
 use nvm_unit::{Gate, Open};
@@ -223,7 +223,7 @@ fn a_cut_record_is_truncated(rt: HostRuntime) -> Result<(), Fail> {
     let bytes = Payload::copy_of(alloc, b"NVR2")?;
     match audit_bytes(&rt, alloc, &bytes) {
         Err(Fault::NoMemory) => Err(Fail::new("there was no memory")),
-        Err(Fault::RecordTruncated { at: 4 }) => Ok(()),
+        Err(Fault::Record(RecordFault::Truncated { at: 4 })) => Ok(()),
         _ => Err(Fail::new("the record is truncated at 4")),
     }
 }
