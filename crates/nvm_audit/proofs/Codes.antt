@@ -1,15 +1,16 @@
--- What `==` of records computes is true exactly where they are equal.
-use Rattle.std.proofs.Common.{◌≡◌, ℕ, zero, suc, List, [], ◌∷◌, Decides, refl, sym, ap, ◌∙◌, nat_eq}
+-- Whether two done jobs are the same is decided, and whether two records are: by the numbers that spell the codes by which the logic
+-- tells such values apart.
+use Rattle.std.proofs.Common.{◌≡◌, ℕ, zero, suc, List, [], ◌∷◌, refl, sym, ap, ◌∙◌, nat_eq}
 use Rattle.std.proofs.lemmas.Bool.Decides.{Decides-eqb}
 use Rattle.std.proofs.lemmas.Slice.Eq.{slice_eq-Decides}
 use Rattle.std.specs.Cmp.Lexicographic.{pointwise}
 use native.Mathlib.Nat.{suc-ne-zero}
 use base.Stored.{Gv, gnil, gnum, gcons}
-use Rattle.nvm_audit.specs.Inside.Same.{spelled, done_job_numbers, record_numbers, same_done_job, same_record}
 use Rattle.nvm_audit.specs.contracts.done_job.DoneJob.{the_row as done_job}
 use Rattle.nvm_audit.specs.contracts.record.Record.{the_row as recorded}
 use Rattle.nvm_audit.specs.RecordedJob.{RecordedJob}
 use Rattle.nvm_audit.specs.RecordView.{RecordView}
+use Rattle.nvm_audit.proofs.Decided.{IsDecided, by_test, with_it}
 
 abbrev first_of : ℕ → List ℕ → ℕ
 first_of n [] = n
@@ -32,6 +33,12 @@ zero_is_two e = suc-ne-zero 1 (sym (ap (first_of 0) e))
 one_is_two : {xs ys : List ℕ} → (1 ∷ xs) ≡ (2 ∷ ys) → ⊥
 one_is_two e = suc-ne-zero 0 (ap pred (sym (ap (first_of 0) e)))
 
+-- the numbers of a code, before these
+abbrev spelled : Gv → List ℕ → List ℕ
+spelled gnil rest = 0 ∷ rest
+spelled (gnum n) rest = 1 ∷ n ∷ rest
+spelled (gcons a b) rest = 2 ∷ spelled a (spelled b rest)
+
 -- Codes that are spelled alike are one, and so is what follows them.
 one_code : (a b : Gv) (xs ys : List ℕ) → spelled a xs ≡ spelled b ys → (a ≡ b) × (xs ≡ ys)
 one_code gnil gnil xs ys e = (refl, ap rest_of e)
@@ -47,21 +54,18 @@ one_code (gcons a b) (gcons c d) xs ys e =
     let second = one_code b d xs ys first.1 in
     (ap (λ (x : Gv). gcons x b) first.0 ∙ ap (gcons c) second.0, second.1)
 
-lists : (xs ys : List ℕ) → Decides (pointwise nat_eq xs ys) (xs ≡ ys)
-lists xs ys = slice_eq-Decides Decides-eqb xs ys (pointwise nat_eq xs ys) refl
+same_numbers : (xs ys : List ℕ) → IsDecided (xs ≡ ys)
+same_numbers xs ys = by_test (pointwise nat_eq xs ys) (slice_eq-Decides Decides-eqb xs ys (pointwise nat_eq xs ys) refl)
 
-pub same_done_job_decides : (a b : RecordedJob) → Decides (same_done_job a b) (a ≡ b)
-unfolding done_job_numbers
-same_done_job_decides a b =
-    let numbers = lists (done_job_numbers a) (done_job_numbers b) in (
-      λ e. done_job.coded.inj a b (one_code (done_job.coded.code a) (done_job.coded.code b) [] [] (numbers.0 e)).0,
-      λ e. numbers.1 (ap done_job_numbers e),
-    )
+-- codes are one exactly where their numbers are
+same_codes : (a b : Gv) → IsDecided (a ≡ b)
+same_codes a b =
+    with_it (λ e. (one_code a b [] [] e).0) (ap (λ (code : Gv). spelled code [])) (same_numbers (spelled a []) (spelled b []))
 
-pub same_record_decides : (a b : RecordView) → Decides (same_record a b) (a ≡ b)
-unfolding record_numbers
-same_record_decides a b =
-    let numbers = lists (record_numbers a) (record_numbers b) in (
-      λ e. recorded.coded.inj a b (one_code (recorded.coded.code a) (recorded.coded.code b) [] [] (numbers.0 e)).0,
-      λ e. numbers.1 (ap record_numbers e),
-    )
+pub same_done_jobs : (a b : RecordedJob) → IsDecided (a ≡ b)
+same_done_jobs a b =
+    with_it (done_job.coded.inj a b) (ap done_job.coded.code) (same_codes (done_job.coded.code a) (done_job.coded.code b))
+
+pub same_records : (a b : RecordView) → IsDecided (a ≡ b)
+same_records a b =
+    with_it (recorded.coded.inj a b) (ap recorded.coded.code) (same_codes (recorded.coded.code a) (recorded.coded.code b))

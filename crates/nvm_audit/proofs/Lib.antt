@@ -1,4 +1,3 @@
-pub mod Codes
 pub mod Mapped
 pub mod Standing
 pub mod EachPasses
@@ -8,6 +7,7 @@ pub mod RecordChecksPass
 pub mod OneFirst
 pub mod FewDone
 pub mod Decided
+pub mod Codes
 pub mod SameData
 pub mod ShapeDecided
 pub mod ChecksDecided

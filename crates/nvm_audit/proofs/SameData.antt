@@ -9,11 +9,10 @@ use Rattle.nvm_plan.specs.declared.part.Part.{Part}
 use Rattle.nvm_plan.specs.declared.part.PartResult.{PartResult}
 use Rattle.nvm_plan.specs.declared.part.PartResult.TheVariants.{Done}
 use Rattle.nvm_store.specs.HistoryEntry.{HistoryEntry}
-use Rattle.nvm_audit.specs.Inside.Same.{same_done_job, same_record}
 use Rattle.nvm_audit.specs.RecordedJob.{RecordedJob}
 use Rattle.nvm_audit.specs.RecordView.{RecordView}
-use Rattle.nvm_audit.proofs.Codes.{same_done_job_decides, same_record_decides}
-use Rattle.nvm_audit.proofs.Decided.{IsDecided, by_test, with_it, both}
+use Rattle.nvm_audit.proofs.Codes.{same_done_jobs, same_records}
+use Rattle.nvm_audit.proofs.Decided.{IsDecided, with_it, both}
 
 abbrev with_statuses : Statuses → RecordedJob
 with_statuses told = record { job = 0; parts = []; statuses = told; payload = None }
@@ -37,17 +36,17 @@ first_result (part ∷ parts) = part.result
 pub statuses : (told other : Statuses) → IsDecided (told ≡ other)
 statuses told other =
     with_it (ap (λ (d : RecordedJob). d.statuses)) (ap with_statuses)
-    (by_test (same_done_job (with_statuses told) (with_statuses other)) (same_done_job_decides (with_statuses told) (with_statuses other)))
+    (same_done_jobs (with_statuses told) (with_statuses other))
 
 pub payloads : (read other : Option (List ℕ)) → IsDecided (read ≡ other)
 payloads read other =
     with_it (ap (λ (d : RecordedJob). d.payload)) (ap with_payload)
-    (by_test (same_done_job (with_payload read) (with_payload other)) (same_done_job_decides (with_payload read) (with_payload other)))
+    (same_done_jobs (with_payload read) (with_payload other))
 
 pub results : (result other : PartResult) → IsDecided (result ≡ other)
 results result other =
     with_it (ap (λ (d : RecordedJob). first_result d.parts)) (ap with_result)
-    (by_test (same_done_job (with_result result) (with_result other)) (same_done_job_decides (with_result result) (with_result other)))
+    (same_done_jobs (with_result result) (with_result other))
 
 abbrev first_status : Statuses → Status
 first_status (One s) = s
@@ -84,4 +83,4 @@ module _ (r : RecordView) where
   pub operations : (op other : Operation) → IsDecided (op ≡ other)
   operations op other =
       with_it (ap (λ (v : RecordView). first_operation op v.units)) (ap with_operation)
-      (by_test (same_record (with_operation op) (with_operation other)) (same_record_decides (with_operation op) (with_operation other)))
+      (same_records (with_operation op) (with_operation other))

@@ -1,5 +1,3 @@
--- What `==` of records computes.
-pub mod Same
 -- What is found of a part at its point.
 pub mod Judging
 -- One unit while it is audited.

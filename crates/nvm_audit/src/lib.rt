@@ -21,7 +21,6 @@ pub mod laws;
 mod occurrences;
 mod record;
 mod record_audit;
-mod sameness;
 mod scanning;
 mod shapes;
 mod shown_unit;

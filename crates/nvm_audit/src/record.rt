@@ -1,13 +1,8 @@
-ghost use Rattle.std.specs.Prelude.{◌≡◌, ◌↔◌, IsTrue};
-ghost use Rattle.nvm_audit.specs.Inside.Same.{same_record};
-
 use crate::done_job::DoneJob;
-use crate::sameness::{same_done, same_jobs, same_units};
 use crate::version::Version;
 use nvm_geometry::Geometry;
 use nvm_plan::Job;
 use nvm_store::{History, Limit};
-use std::cmp::{Eq, PartialEq};
 use std::marker::Model;
 
 /// A record has at most so many jobs, and each of its workers did at most so many.
@@ -50,44 +45,4 @@ impl Model for Record {
     ghost view = { shown_by };
 
     ghost invariant = { IsRecordableAs };
-}
-
-/// Two are equal where all that they hold is, the version too.
-impl PartialEq for Record {
-    ghost use Rattle.std.specs.Cmp.{partial_equiv_from_equiv};
-    ghost use Rattle.std.specs.Cmp.Lexicographic.{on_texts_equal};
-    ghost use Rattle.nvm_audit.specs.Inside.Same.{record_numbers};
-
-    ghost eq = { same_record };
-
-    ghost laws = { partial_equiv_from_equiv (on_texts_equal record_numbers) };
-
-    fn eq(&self, other: &Record) -> bool
-        ensures value { result ≡ same_record self.now other.now }
-        ensures same { IsTrue result ↔ (self.now ≡ other.now) }
-    {
-        self.holds_the_same(other)
-    }
-}
-
-impl Eq for Record {
-    ghost use Rattle.std.specs.Cmp.Lexicographic.{on_texts_equal};
-    ghost use Rattle.nvm_audit.specs.Inside.Same.{record_numbers};
-
-    ghost laws = { on_texts_equal record_numbers };
-}
-
-impl Record {
-    /// Whether all that it holds is what the other holds.
-    fn holds_the_same(&self, other: &Record) -> bool
-        ensures { IsTrue result ↔ (self.now ≡ other.now) }
-    {
-        self.version == other.version
-            && self.geometry == other.geometry
-            && self.limit == other.limit
-            && self.workers == other.workers
-            && same_jobs(&self.jobs, &other.jobs)
-            && same_units(&self.units, &other.units)
-            && same_done(&self.done, &other.done)
-    }
 }

@@ -62,7 +62,8 @@ pub fn job_units<'a>(geometry: &Geometry, job: &'a Job) -> JobUnits<'a>
     }
 }
 
-/// What [`job_units`] gives, where no check applies to the job. It makes no plan.
+/// The units in which a job has a part, in their order, where no check applies to the job: what [`job_units`] gives. It makes no plan, and
+/// takes no memory.
 pub fn ready_job_units<'a>(geometry: &Geometry, job: &'a Job) -> JobUnits<'a>
     requires { refusal_of geometry.now job.now ≡ None }
     ensures { result ≡ spec.job_units geometry.now job.now }
@@ -99,7 +100,8 @@ pub fn job_part_count(geometry: &Geometry, job: &Job) -> u16
     }
 }
 
-/// What [`job_part_count`] gives, where no check applies to the job. It makes no plan.
+/// In how many units a job has a part, where no check applies to the job: what [`job_part_count`] gives. It makes no plan, takes no memory,
+/// and costs as many steps.
 pub fn ready_part_count(geometry: &Geometry, job: &Job) -> u16
     requires { refusal_of geometry.now job.now ≡ None }
     ensures value { result ≡ length (spec.job_units geometry.now job.now) }

@@ -111,8 +111,9 @@ impl UnitBlocks {
 
     /// Makes the act's step, at the cost of its own blocks and of their ways in the tree, whatever else the
     /// unit holds. A Deallocate clears each block once, and costs a walk over the ranges for each run of
-    /// blocks that it clears. One block is changed in place where no other unit shares it. Where memory is
-    /// refused, the unit is as it was.
+    /// blocks that it clears. Where no other unit shares them, these are changed in place: one block that is
+    /// written, and blocks of one leaf that are zeroed, marked, or cleared as the only run of a Deallocate.
+    /// Where memory is refused, the unit is as it was.
     pub fn change(&mut self, alloc: Global, act: ActRef<'_>) -> Result<(), NoMemory>
         requires covered { Covers self.old (lent_operation_of act) }
         requires success { Succeeds self.old (lent_operation_of act) }

@@ -55,7 +55,7 @@ impl<'a> PayloadRef<'a> {
         self.to - self.from
     }
 
-    /// The bytes from place `from` up to place `to`, lent.
+    /// The bytes from place `from` up to place `to`, which is left out, lent. It takes no memory.
     #[tactic(auto, unfolding(crate::specs::PayloadRef::lent_bytes))]
     pub fn part(self, from: usize, to: usize) -> PayloadRef<'a>
         requires ordered { from ≤ to }
@@ -87,7 +87,7 @@ impl Payload {
         self.lend_part(0, self.len())
     }
 
-    /// The bytes from place `from` up to place `to`, lent.
+    /// The bytes from place `from` up to place `to`, which is left out, lent. It takes no memory.
     #[tactic(auto, unfolding(crate::specs::PayloadRef::lent_bytes))]
     pub fn lend_part(&self, from: usize, to: usize) -> PayloadRef<'_>
         requires ordered { from ≤ to }

@@ -1,5 +1,0 @@
-use Rattle.std.proofs.Common.{◌≡◌, take, map}
-use Rattle.nvm_audit.proofs.sameness.same_done.Given as goal
-
-abbrev pub invariant-loop-i : goal.invariant-loop-i
-invariant-loop-i l = take l.i (map (λ h. h.items) l.done.items) ≡ take l.i (map (λ h. h.items) l.others.items)
