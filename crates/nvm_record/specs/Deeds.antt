@@ -5,47 +5,28 @@ use Rattle.nvm_record.specs.declared.status.Statuses.{Statuses}
 use Rattle.nvm_record.specs.declared.status.Statuses.TheVariants.{One, Two}
 use Rattle.nvm_record.specs.Status.{successful_completion}
 use Rattle.nvm_record.specs.Medium.{Medium}
-use Rattle.nvm_record.specs.Step.{Deed, Operation, writes, zeroes, uncorrectable, reads, compares, pairs, deallocates, compares_equal, range_of}
+use Rattle.nvm_record.specs.Step.{Deed, Operation, reads, compares, pairs, deallocates, compares_equal, range_of}
 
 -- a Read: where it succeeds, it is answered data
 abbrev pub is_read : Deed → Bool
-is_read (writes payload) = false
-is_read zeroes = false
-is_read uncorrectable = false
 is_read reads = true
-is_read (compares payload) = false
-is_read (pairs payload new) = false
-is_read (deallocates ranges) = false
+is_read _ = false
 
 -- a Read, or a Compare by itself: it changes nothing
 abbrev pub is_look : Deed → Bool
-is_look (writes payload) = false
-is_look zeroes = false
-is_look uncorrectable = false
 is_look reads = true
 is_look (compares payload) = true
-is_look (pairs payload new) = false
-is_look (deallocates ranges) = false
+is_look _ = false
 
 -- a fused Compare and Write
 abbrev pub is_pair : Deed → Bool
-is_pair (writes payload) = false
-is_pair zeroes = false
-is_pair uncorrectable = false
-is_pair reads = false
-is_pair (compares payload) = false
 is_pair (pairs payload new) = true
-is_pair (deallocates ranges) = false
+is_pair _ = false
 
 -- a Deallocate: it has to do with the LBAs of its ranges alone
 abbrev pub is_deallocate : Deed → Bool
-is_deallocate (writes payload) = false
-is_deallocate zeroes = false
-is_deallocate uncorrectable = false
-is_deallocate reads = false
-is_deallocate (compares payload) = false
-is_deallocate (pairs payload new) = false
 is_deallocate (deallocates ranges) = true
+is_deallocate _ = false
 
 abbrev pub IsLook : Deed → Type 0
 IsLook deed = IsTrue (is_look deed)
@@ -75,13 +56,8 @@ success_of deed = for_deed deed (One successful_completion) (Two successful_comp
 
 -- The deed is a pair, and its comparison with these blocks doesn't hold.
 abbrev pub FailsOn : List Block → Deed → Type 0
-FailsOn blocks (writes payload) = ⊥
-FailsOn blocks zeroes = ⊥
-FailsOn blocks uncorrectable = ⊥
-FailsOn blocks reads = ⊥
-FailsOn blocks (compares payload) = ⊥
 FailsOn blocks (pairs payload new) = compares_equal blocks payload ≡ false
-FailsOn blocks (deallocates ranges) = ⊥
+FailsOn blocks _ = ⊥
 
 -- The operation is a pair, and its comparison doesn't hold on the medium.
 abbrev pub IsFailedPair : Operation → Medium → Type 0
