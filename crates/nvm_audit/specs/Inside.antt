@@ -6,8 +6,6 @@ pub mod Audited
 pub mod Claims
 -- The parts of a unit while they are looked at.
 pub mod Scanned
--- The kinds of deeds.
-pub mod Kinds
 -- What a search through checks finds.
 pub mod Search
 -- How often each job was done.

@@ -5,12 +5,12 @@ ghost use Rattle.nvm_record.specs.Step.{Deed, Operation};
 ghost use Rattle.nvm_geometry.specs.Namespace.{Namespace};
 ghost use Rattle.nvm_plan.specs.Checks.{refusal_of};
 ghost use Rattle.nvm_plan.specs.JobPart as spec;
+ghost use Rattle.nvm_plan.specs.Kinds.{kind_of};
 ghost use Rattle.nvm_plan.specs.Operation.{job_operation_of, operation_of_body};
 ghost use Rattle.nvm_plan.specs.Outcome as outcome;
 ghost use Rattle.nvm_plan.specs.Reply as reply;
 ghost use Rattle.nvm_plan.specs.Shape as shape;
 ghost use Rattle.nvm_plan.specs.Shape.{EndsAtLast, HasEnding, HasOutcomeShape, MayShow};
-ghost use Rattle.nvm_audit.specs.Inside.Kinds.{IsOfKind};
 ghost use Rattle.nvm_audit.specs.Inside.Occurrences.{AreCounted, HasShapeOnce};
 ghost use Rattle.nvm_audit.specs.Inside.Search.{IsFound};
 ghost use Rattle.nvm_audit.specs.LawfulRecord.{times_done};
@@ -22,102 +22,18 @@ use crate::occurrences::Occurrence;
 use crate::record::Record;
 use nvm_geometry::Geometry;
 use nvm_plan::laws::{parts_of_jobs, ready_jobs, shapes_by_plan};
-use nvm_plan::{Body, Job, JobUnits, Part, PartResult, Plan, plan, ready_job_units};
-use nvm_record::{Op, Status, Statuses};
+use nvm_plan::{Body, Job, JobUnits, Kind, Part, PartResult, Plan, is_read, plan, ready_job_units};
+use nvm_record::Statuses;
 
-/// What a job's parts do.
-#[derive(Clone, Copy, Debug, PartialEq, Eq)]
-pub(crate) enum Kind {
-    /// They change blocks.
-    Act,
-    /// The one part compares, and then changes blocks.
-    Pair,
-    /// They change nothing.
-    Look,
-}
-
-impl Kind {
-    /// Whether a part of the kind may end so.
-    fn can_have(self, ended: PartResult) -> bool
-        ensures { (deed : Deed) → IsOfKind self deed → result ≡ reply.can_have deed ended }
-    {
-        match ended {
-            PartResult::Done | PartResult::Full => self != Kind::Look,
-            PartResult::Failed => self == Kind::Pair,
-            PartResult::Looked => self == Kind::Look,
-            PartResult::NoMemory => true,
-        }
-    }
-
-    /// What is told where all parts succeeded.
-    fn success(self) -> Statuses
-        ensures { (deed : Deed) → IsOfKind self deed → result ≡ deeds.success_of deed }
-    {
-        if self == Kind::Pair {
-            Statuses::Two(Status::SUCCESSFUL_COMPLETION, Status::SUCCESSFUL_COMPLETION)
-        } else {
-            Statuses::One(Status::SUCCESSFUL_COMPLETION)
-        }
-    }
-
-    /// What is told where memory was refused to a part, or its unit's history was full.
-    fn stop(self) -> Statuses
-        ensures { (deed : Deed) → IsOfKind self deed → result ≡ reply.stop_of deed }
-    {
-        if self == Kind::Pair {
-            Statuses::Two(Status::SUCCESSFUL_COMPLETION, Status::INTERNAL_ERROR)
-        } else {
-            Statuses::One(Status::INTERNAL_ERROR)
-        }
-    }
-
-    /// What is told where memory was refused before the first part.
-    fn unstarted(self) -> Statuses
-        ensures { (deed : Deed) → IsOfKind self deed → result ≡ outcome.unstarted_of deed }
-    {
-        if self == Kind::Pair {
-            Statuses::Two(
-                Status::INTERNAL_ERROR,
-                Status::ABORTED_DUE_TO_FAILED_FUSED_COMMAND,
-            )
-        } else {
-            Statuses::One(Status::INTERNAL_ERROR)
-        }
-    }
-
-    /// Whether the job's statuses may be these where its last part ended so.
-    fn may_show(self, ended: PartResult, told: Statuses) -> bool
-        ensures { (deed : Deed) → IsOfKind self deed → IsTrue result ↔ MayShow deed ended told }
-    {
-        match ended {
-            PartResult::Done => told == self.success(),
-            PartResult::Failed => has_two(told),
-            PartResult::Looked => !has_two(told),
-            PartResult::NoMemory | PartResult::Full => told == self.stop(),
-        }
-    }
-}
-
-/// What the parts of a job do that stands for an operation.
-fn kind_of(body: &Body) -> Kind
-    ensures { (ns : Namespace) (op : Operation) → operation_of_body ns body.now ≡ Some op → IsOfKind result op.deed }
+/// Whether the statuses of a job of this kind may be these where its last part ended so.
+fn may_show(kind: Kind, ended: PartResult, told: Statuses) -> bool
+    ensures { (deed : Deed) → kind_of deed ≡ kind → IsTrue result ↔ MayShow deed ended told }
 {
-    match body {
-        Body::Single(command) => match command.op {
-            Op::Read | Op::Compare => Kind::Look,
-            _ => Kind::Act,
-        },
-        Body::Pair(_, _) => Kind::Pair,
-    }
-}
-
-/// Whether the job is a Read, where it stands for an operation.
-fn is_read(body: &Body) -> bool
-    ensures { (ns : Namespace) (op : Operation) → operation_of_body ns body.now ≡ Some op → result ≡ deeds.is_read op.deed }
-{
-    match body {
-        Body::Single(command) => command.op == Op::Read,
-        Body::Pair(_, _) => false,
+    match ended {
+        PartResult::Done => told == kind.success(),
+        PartResult::Failed => has_two(told),
+        PartResult::Looked => !has_two(told),
+        PartResult::NoMemory | PartResult::Full => told == kind.stop(),
     }
 }
 
@@ -168,7 +84,7 @@ fn are_first(units: &mut JobUnits<'_>, parts: &[Part]) -> bool
 
 /// Whether each of the parts may have ended as it did.
 fn results_fit(kind: Kind, parts: &[Part]) -> bool
-    ensures { (deed : Deed) → IsOfKind kind deed
+    ensures { (deed : Deed) → kind_of deed ≡ kind
         → IsTrue result ↔ AllByRecursion (λ part. IsTrue (reply.can_have deed part.result)) parts.now }
 {
     for part in parts {
@@ -198,7 +114,7 @@ fn ends_without_parts(geometry: &Geometry, job: &Job, told: Statuses) -> bool
         → IsTrue result ↔ HasEnding geometry.now op [] told }
 {
     parts_of_jobs();
-    let kind = kind_of(&job.body);
+    let kind = Kind::of(&job.body);
     let mut units = ready_job_units(geometry, job);
     match units.next() {
         Some(_) => told == kind.unstarted(),
@@ -215,7 +131,7 @@ fn ends_at_last(geometry: &Geometry, job: &Job, parts: &[Part], told: Statuses) 
         → IsTrue result ↔ EndsAtLast geometry.now op parts.now told }
 {
     parts_of_jobs();
-    let kind = kind_of(&job.body);
+    let kind = Kind::of(&job.body);
     let before = parts.len() - 1;
     let mut units = ready_job_units(geometry, job);
     if !are_first(&mut units, parts) {
@@ -227,7 +143,7 @@ fn ends_at_last(geometry: &Geometry, job: &Job, parts: &[Part], told: Statuses) 
     if !all_go_on(&parts[..before]) {
         return false;
     }
-    if !kind.may_show(parts[before].result, told) {
+    if !may_show(kind, parts[before].result, told) {
         return false;
     }
     !told.is_success() || units.next().is_none()

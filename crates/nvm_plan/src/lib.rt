@@ -3,8 +3,9 @@
 //!
 //! [`jobs`] pairs the hosts' commands and puts them in order, [`plan`] is the table of checks, and [`fits`]
 //! tests what a job must be before it. [`job_units`] are the units in which a job has a part, [`job_part_in`] is its
-//! act or look in one of them, and [`Completions`] are what its host is told. Where it is known that no check applies, [`ready_job_units`],
-//! [`ready_part_count`], [`next_job_unit`] and [`job_part_there`] do without another plan. What a job does to the medium and what
+//! act or look in one of them, [`Kind`] says what its parts do and how they can end, and [`Completions`] are what its host is
+//! told. Where it is known that no check applies, [`ready_job_units`], [`ready_part_count`], [`next_job_unit`] and [`job_part_there`] do
+//! without another plan. What a job does to the medium and what
 //! its outcome is stands in specs alone; [`laws`] and [`job_laws`] have what holds of these.
 #![tactic(auto)]
 
@@ -15,6 +16,7 @@ mod fit;
 mod job;
 pub mod job_laws;
 mod job_list;
+mod kind;
 pub mod laws;
 mod lent_part;
 mod pairing;
@@ -30,6 +32,7 @@ pub use decision::Plan;
 pub use fit::{MOST_HOSTS, fits};
 pub use job::{Body, Job};
 pub use job_list::jobs;
+pub use kind::{Kind, is_read};
 pub use lent_part::{LentPart, job_part_in, job_part_there};
 pub use part::{Part, PartResult};
 pub use place::unit_place;

@@ -1,4 +1,4 @@
-use Rattle.std.proofs.Common.{◌≡◌, List, ap, sym, subst, Ok, Err, Result, IfOk, ◌∙◌, ℕ, set}
+use Rattle.std.proofs.Common.{◌≡◌, List, ap, sym, subst, Ok, Err, Result, IfOk, ◌∙◌, ℕ, set, rules}
 use Rattle.nvm_record.specs.Lists.{IsAt}
 use Rattle.nvm_store.specs.HistoryEntry.{HistoryEntry}
 use Rattle.nvm_unit.specs.Passes.{PassState}
@@ -24,29 +24,23 @@ history-requires g c =
     of_unit c.args.self.now.namespace c.args.self.now.units c.self.inside.units.items c.port.inside.number c.args.unit c.from-place.result c.port.inside.passes.items c.index.result.now c.index_mut.result.now
     laid.count units all c.requires.known c.from-place.ensures c.index.ensures c.index_mut.ensures.value
 
-pub returns-clause-of : goal.returns-clause-of
-returns-clause-of g c =
+pub returns : goal.returns
+returns g c =
     let laid = subst IsLaidOut c.self.view_is c.self.invariant in
     let units = ap (λ (s : SpaceName). s.units) c.self.view_is in
     let all = subst (λ (p : PortState). ArePassesOfAll c.args.self.now.units p.number p.passes) (sym c.port.view_is) c.requires.of in
-    still_all c.args.self.now.namespace c.args.self.now.units c.self.inside.units.items c.port.inside.number c.args.unit c.from-place.result c.port.inside.passes.items c.index.result.now c.index_mut.result.now
-    laid.count units all c.requires.known c.from-place.ensures c.index.ensures c.index_mut.ensures.value
-    c.history.new.pass c.history.ensures.of c.history.ensures.number
-
-pub returns-clause-up : goal.returns-clause-up
-returns-clause-up g c =
-    let laid = subst IsLaidOut c.self.view_is c.self.invariant in
-    let units = ap (λ (s : SpaceName). s.units) c.self.view_is in
-    let all = subst (λ (p : PortState). ArePassesOfAll c.args.self.now.units p.number p.passes) (sym c.port.view_is) c.requires.of in
-    becomes c.args.self.now.namespace c.args.self.now.units c.self.inside.units.items c.port.inside.number c.args.unit c.from-place.result c.port.inside.passes.items c.index.result.now c.index_mut.result.now
-    laid.count units all c.requires.known c.from-place.ensures c.index.ensures c.index_mut.ensures.value
-    IsBroughtUp c.args.port.now.passes c.history.new.pass (ap (λ (p : PortState). p.passes) c.port.view_is) c.history.ensures.up c.history.ensures.proper
-
-pub returns-clause-seen : goal.returns-clause-seen
-returns-clause-seen g c =
-    let laid = subst IsLaidOut c.self.view_is c.self.invariant in
-    let units = ap (λ (s : SpaceName). s.units) c.self.view_is in
-    let all = subst (λ (p : PortState). ArePassesOfAll c.args.self.now.units p.number p.passes) (sym c.port.view_is) c.requires.of in
-    seen_so (λ v. v.items) c.history.result c.history.new.pass (views_of (set c.port.inside.passes.items c.from-place.result c.history.new.pass)) c.args.unit (after_there c.args.self.now.namespace c.args.self.now.units c.self.inside.units.items c.port.inside.number c.args.unit c.from-place.result c.port.inside.passes.items c.index.result.now c.index_mut.result.now
-    laid.count units all c.requires.known c.from-place.ensures c.index.ensures c.index_mut.ensures.value
-    c.history.new.pass) c.history.ensures.seen
+    record {
+      of =
+          still_all c.args.self.now.namespace c.args.self.now.units c.self.inside.units.items c.port.inside.number c.args.unit c.from-place.result c.port.inside.passes.items c.index.result.now c.index_mut.result.now
+          laid.count units all c.requires.known c.from-place.ensures c.index.ensures c.index_mut.ensures.value
+          c.history.new.pass c.history.ensures.of c.history.ensures.number;
+      number = search rules;
+      up =
+          becomes c.args.self.now.namespace c.args.self.now.units c.self.inside.units.items c.port.inside.number c.args.unit c.from-place.result c.port.inside.passes.items c.index.result.now c.index_mut.result.now
+          laid.count units all c.requires.known c.from-place.ensures c.index.ensures c.index_mut.ensures.value
+          IsBroughtUp c.args.port.now.passes c.history.new.pass (ap (λ (p : PortState). p.passes) c.port.view_is) c.history.ensures.up c.history.ensures.proper;
+      seen =
+          seen_so (λ v. v.items) c.history.result c.history.new.pass (views_of (set c.port.inside.passes.items c.from-place.result c.history.new.pass)) c.args.unit (after_there c.args.self.now.namespace c.args.self.now.units c.self.inside.units.items c.port.inside.number c.args.unit c.from-place.result c.port.inside.passes.items c.index.result.now c.index_mut.result.now
+          laid.count units all c.requires.known c.from-place.ensures c.index.ensures c.index_mut.ensures.value
+          c.history.new.pass) c.history.ensures.seen;
+    }

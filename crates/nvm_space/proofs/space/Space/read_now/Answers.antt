@@ -1,4 +1,4 @@
-use Rattle.std.proofs.Common.{◌≡◌, ℕ, ◌+◌, ◌-◌, ◌<◌, ◌≤◌, Err, Result, set, refl, ap, sym, subst, ◌∙◌}
+use Rattle.std.proofs.Common.{◌≡◌, ℕ, ◌+◌, ◌-◌, ◌<◌, ◌≤◌, Err, Result, set, refl, ap, sym, subst, ◌∙◌, rules}
 use Rattle.nvm_geometry.specs.Boundaries.{unit_number, units_of}
 use Rattle.nvm_geometry.specs.Limits.{LiesInUnit}
 use Rattle.nvm_geometry.specs.Namespace.{Namespace}
@@ -14,19 +14,8 @@ use Rattle.nvm_space.proofs.AtUnits.{unit_of_space, pass_of_unit, port_of_space,
 use Rattle.nvm_space.proofs.space.Space.read_now.Goals as goal
 use Rattle.nvm_space.proofs.space.Space.read_now.Goals.{in-Ok, in-Err-Newer, in-Err-NoMemory}
 
-pub look-requires-clause-of : goal.look-requires-clause-of
-look-requires-clause-of g c =
-    let ns = c.args.self.now.namespace in
-    let unit = unit_number ns c.args.slba in
-    let geo : c.self.inside.geometry ≡ ns = ap (λ (s : SpaceName). s.namespace) c.self.view_is in
-    let found : c.unit_of.result ≡ unit = c.unit_of.ensures.value ∙ ap (λ (x : Namespace). unit_number x c.args.slba) geo in
-    let known : unit < units_of ns = subst (λ (x : Namespace). unit_number x c.args.slba < units_of x) geo (subst (λ (k : ℕ). k < units_of c.self.inside.geometry) c.unit_of.ensures.value c.unit_of.ensures.valid) in
-    let same : c.from-place.result ≡ unit = c.from-place.ensures ∙ found in
-    pass_of_unit c.args.self.now c.self.inside.units.items c.args.port.now (record { number = c.port.inside.number; passes = c.port.inside.passes.items }) unit c.from-place.result c.index.result.now c.index_mut.result.now
-    (subst IsLaidOut c.self.view_is c.self.invariant) (ap (λ (s : SpaceName). s.units) c.self.view_is) c.port.view_is c.requires.of known same c.index.ensures c.index_mut.ensures.value
-
-pub look-requires-clause-covered : goal.look-requires-clause-covered
-look-requires-clause-covered g c =
+pub look-requires : goal.look-requires
+look-requires g c =
     let ns = c.args.self.now.namespace in
     let unit = unit_number ns c.args.slba in
     let geo : c.self.inside.geometry ≡ ns = ap (λ (s : SpaceName). s.namespace) c.self.view_is in
@@ -38,33 +27,16 @@ look-requires-clause-covered g c =
     let its = unit_of_space c.args.self.now c.self.inside.units.items c.args.port.now (record { number = c.port.inside.number; passes = c.port.inside.passes.items }) unit c.from-place.result c.index.result.now c.index_mut.result.now
     (subst IsLaidOut c.self.view_is c.self.invariant) (ap (λ (s : SpaceName). s.units) c.self.view_is) c.port.view_is c.requires.of known same c.index.ensures c.index_mut.ensures.value in
     let last = sym (c.sharing_is_one_number.ensures.number ns c.args.slba (c.args.slba + c.args.blocks - 1) one) ∙ sym same in
-    read_is_covered ns c.from-place.result c.index.result.now.bounds.place c.args.slba c.args.blocks its.place c.requires.some inside (sym same) last
+    record {
+      of =
+          pass_of_unit c.args.self.now c.self.inside.units.items c.args.port.now (record { number = c.port.inside.number; passes = c.port.inside.passes.items }) unit c.from-place.result c.index.result.now c.index_mut.result.now
+          (subst IsLaidOut c.self.view_is c.self.invariant) (ap (λ (s : SpaceName). s.units) c.self.view_is) c.port.view_is c.requires.of known same c.index.ensures c.index_mut.ensures.value;
+      covered = read_is_covered ns c.from-place.result c.index.result.now.bounds.place c.args.slba c.args.blocks its.place c.requires.some inside (sym same) last;
+      versions = its.versions ∙ c.requires.versions;
+    }
 
-pub look-requires-clause-versions : goal.look-requires-clause-versions
-look-requires-clause-versions g c =
-    let ns = c.args.self.now.namespace in
-    let unit = unit_number ns c.args.slba in
-    let geo : c.self.inside.geometry ≡ ns = ap (λ (s : SpaceName). s.namespace) c.self.view_is in
-    let found : c.unit_of.result ≡ unit = c.unit_of.ensures.value ∙ ap (λ (x : Namespace). unit_number x c.args.slba) geo in
-    let known : unit < units_of ns = subst (λ (x : Namespace). unit_number x c.args.slba < units_of x) geo (subst (λ (k : ℕ). k < units_of c.self.inside.geometry) c.unit_of.ensures.value c.unit_of.ensures.valid) in
-    let same : c.from-place.result ≡ unit = c.from-place.ensures ∙ found in
-    let its = unit_of_space c.args.self.now c.self.inside.units.items c.args.port.now (record { number = c.port.inside.number; passes = c.port.inside.passes.items }) unit c.from-place.result c.index.result.now c.index_mut.result.now
-    (subst IsLaidOut c.self.view_is c.self.invariant) (ap (λ (s : SpaceName). s.units) c.self.view_is) c.port.view_is c.requires.of known same c.index.ensures c.index_mut.ensures.value in
-    its.versions ∙ c.requires.versions
-
-pub returns-clause-of : goal.returns-clause-of
-returns-clause-of g c =
-    let ns = c.args.self.now.namespace in
-    let unit = unit_number ns c.args.slba in
-    let geo : c.self.inside.geometry ≡ ns = ap (λ (s : SpaceName). s.namespace) c.self.view_is in
-    let found : c.unit_of.result ≡ unit = c.unit_of.ensures.value ∙ ap (λ (x : Namespace). unit_number x c.args.slba) geo in
-    let known : unit < units_of ns = subst (λ (x : Namespace). unit_number x c.args.slba < units_of x) geo (subst (λ (k : ℕ). k < units_of c.self.inside.geometry) c.unit_of.ensures.value c.unit_of.ensures.valid) in
-    let same : c.from-place.result ≡ unit = c.from-place.ensures ∙ found in
-    port_of_space c.args.self.now c.self.inside.units.items c.args.port.now (record { number = c.port.inside.number; passes = c.port.inside.passes.items }) unit c.from-place.result c.index.result.now c.index_mut.result.now
-    (subst IsLaidOut c.self.view_is c.self.invariant) (ap (λ (s : SpaceName). s.units) c.self.view_is) c.port.view_is c.requires.of known same c.index.ensures c.index_mut.ensures.value c.look.new.pass c.look.ensures.of c.look.ensures.number
-
-pub returns-clause-read : goal.returns-clause-read
-returns-clause-read g c =
+pub returns : goal.returns
+returns g c =
     let ns = c.args.self.now.namespace in
     let unit = unit_number ns c.args.slba in
     let geo : c.self.inside.geometry ≡ ns = ap (λ (s : SpaceName). s.namespace) c.self.view_is in
@@ -81,11 +53,18 @@ returns-clause-read g c =
           (subst IsLaidOut c.self.view_is c.self.invariant) (ap (λ (s : SpaceName). s.units) c.self.view_is) c.port.view_is c.requires.of known same c.index.ensures c.index_mut.ensures.value
           (read_operation c.args.slba c.args.blocks) c.look.result c.look.new.pass c.look.ensures.looked c.look.ensures.proper c.look.ensures.keeps;
     } in
-    elim c.match-look.branch [
-      | in-Ok w ↦ subst (λ (told : Result ReadAnswer ReadNow). ReadsNow ns c.args.slba c.args.blocks told c.args.port.now new) (sym w.result-is)
-          (w.in-Ok.observed, w.of.ensures, subst (λ (answer : Result Observed LookFault). LooksAtRange ns c.args.slba c.args.blocks answer c.args.port.now new) w.in-Ok.is looks)
-      | in-Err-Newer w ↦ subst (λ (told : Result ReadAnswer ReadNow). ReadsNow ns c.args.slba c.args.blocks told c.args.port.now new) (sym w.result-is)
-          (subst (λ (answer : Result Observed LookFault). LooksAtRange ns c.args.slba c.args.blocks answer c.args.port.now new) (w.in-Err-Newer.is ∙ ap Err w.in-Err-Newer.field-0-is) looks)
-      | in-Err-NoMemory w ↦ subst (λ (told : Result ReadAnswer ReadNow). ReadsNow ns c.args.slba c.args.blocks told c.args.port.now new) (sym w.result-is)
-          (subst (λ (answer : Result Observed LookFault). LooksAtRange ns c.args.slba c.args.blocks answer c.args.port.now new) (w.in-Err-NoMemory.is ∙ ap Err w.in-Err-NoMemory.field-0-is) looks)
-    ]
+    record {
+      of =
+          port_of_space c.args.self.now c.self.inside.units.items c.args.port.now (record { number = c.port.inside.number; passes = c.port.inside.passes.items }) unit c.from-place.result c.index.result.now c.index_mut.result.now
+          (subst IsLaidOut c.self.view_is c.self.invariant) (ap (λ (s : SpaceName). s.units) c.self.view_is) c.port.view_is c.requires.of known same c.index.ensures c.index_mut.ensures.value c.look.new.pass c.look.ensures.of c.look.ensures.number;
+      number = search rules;
+      read =
+          elim c.match-look.branch [
+            | in-Ok w ↦ subst (λ (told : Result ReadAnswer ReadNow). ReadsNow ns c.args.slba c.args.blocks told c.args.port.now new) (sym w.result-is)
+                (w.in-Ok.observed, w.of.ensures, subst (λ (answer : Result Observed LookFault). LooksAtRange ns c.args.slba c.args.blocks answer c.args.port.now new) w.in-Ok.is looks)
+            | in-Err-Newer w ↦ subst (λ (told : Result ReadAnswer ReadNow). ReadsNow ns c.args.slba c.args.blocks told c.args.port.now new) (sym w.result-is)
+                (subst (λ (answer : Result Observed LookFault). LooksAtRange ns c.args.slba c.args.blocks answer c.args.port.now new) (w.in-Err-Newer.is ∙ ap Err w.in-Err-Newer.field-0-is) looks)
+            | in-Err-NoMemory w ↦ subst (λ (told : Result ReadAnswer ReadNow). ReadsNow ns c.args.slba c.args.blocks told c.args.port.now new) (sym w.result-is)
+                (subst (λ (answer : Result Observed LookFault). LooksAtRange ns c.args.slba c.args.blocks answer c.args.port.now new) (w.in-Err-NoMemory.is ∙ ap Err w.in-Err-NoMemory.field-0-is) looks)
+          ];
+    }

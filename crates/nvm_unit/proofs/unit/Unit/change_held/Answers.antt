@@ -29,8 +29,8 @@ release-requires-clause-ready g c =
     let covered = subst (λ (b : Bounds). IsCovered b.place op) (sym has.bounds) c.requires.covered in
     change_ready c.args.self.now c.args.book book' m has c.args.job op c.attempt-changed.result done (c.acts_and_looks.ensures.acts c.args.act) covered
 
-pub returns-clause-of : goal.returns-clause-of
-returns-clause-of g c =
+pub returns : goal.returns
+returns g c =
     let op = lent_operation_of c.args.act in
     let book' = c.attempt-changed.new.book in
     let m = c.args.parts.now.token.seat.me in
@@ -41,33 +41,12 @@ returns-clause-of g c =
     let law : FollowsLawfully = λ place history entry lawful follows. (c.lawful_with_one_more.ensures place history entry).1 (lawful, follows) in
     let ends = change_ends c.args.self.now c.args.book book' m has c.args.job op c.attempt-changed.result done (c.acts_and_looks.ensures.acts c.args.act) covered law c.release.new.token.seat.me c.release.ensures.back c.release.ensures.more in
     record {
-      table = c.release.ensures.at ∙ c.requires.at;
-      bounds = ap (λ (p : PassView). p.bounds) (ap seated ends.2.0) ∙ ends.3;
-      kept = λ keeps. sym (ap (λ (unit : UnitName). unit.versions) c.self.view_is) ∙ c.snapshot.ensures.kept keeps;
+      of =
+          record {
+            table = c.release.ensures.at ∙ c.requires.at;
+            bounds = ap (λ (p : PassView). p.bounds) (ap seated ends.2.0) ∙ ends.3;
+            kept = λ keeps. sym (ap (λ (unit : UnitName). unit.versions) c.self.view_is) ∙ c.snapshot.ensures.kept keeps;
+          };
+      whole = whole _ ends.0 ends.2.0 (c.requires.numbered ∙ sym ends.4) (subst (IsSnapshotOf c.snapshot.result) ends.2.2 c.snapshot.ensures.shown) ends.2.1;
+      made = subst (λ (q : PassView). Makes c.attempt-changed.result (seated m) c.args.job op q) (sym (ap seated ends.2.0)) ends.1;
     }
-
-pub returns-clause-whole : goal.returns-clause-whole
-returns-clause-whole g c =
-    let op = lent_operation_of c.args.act in
-    let book' = c.attempt-changed.new.book in
-    let m = c.args.parts.now.token.seat.me in
-    let has = c.requires.has in
-    let bounds = ap bounds_of c.self.view_is ∙ sym has.bounds in
-    let done = attempted c.attempt-changed.result c.self.inside.bounds.limit c.args.parts.now.number c.args.job op c.args.book book' (seated m) (ap limit_of bounds) c.requires.numbered c.attempt-changed.ensures in
-    let covered = subst (λ (b : Bounds). IsCovered b.place op) (sym has.bounds) c.requires.covered in
-    let law : FollowsLawfully = λ place history entry lawful follows. (c.lawful_with_one_more.ensures place history entry).1 (lawful, follows) in
-    let ends = change_ends c.args.self.now c.args.book book' m has c.args.job op c.attempt-changed.result done (c.acts_and_looks.ensures.acts c.args.act) covered law c.release.new.token.seat.me c.release.ensures.back c.release.ensures.more in
-    whole _ ends.0 ends.2.0 (c.requires.numbered ∙ sym ends.4) (subst (IsSnapshotOf c.snapshot.result) ends.2.2 c.snapshot.ensures.shown) ends.2.1
-
-pub returns-clause-made : goal.returns-clause-made
-returns-clause-made g c =
-    let op = lent_operation_of c.args.act in
-    let book' = c.attempt-changed.new.book in
-    let m = c.args.parts.now.token.seat.me in
-    let has = c.requires.has in
-    let bounds = ap bounds_of c.self.view_is ∙ sym has.bounds in
-    let done = attempted c.attempt-changed.result c.self.inside.bounds.limit c.args.parts.now.number c.args.job op c.args.book book' (seated m) (ap limit_of bounds) c.requires.numbered c.attempt-changed.ensures in
-    let covered = subst (λ (b : Bounds). IsCovered b.place op) (sym has.bounds) c.requires.covered in
-    let law : FollowsLawfully = λ place history entry lawful follows. (c.lawful_with_one_more.ensures place history entry).1 (lawful, follows) in
-    let ends = change_ends c.args.self.now c.args.book book' m has c.args.job op c.attempt-changed.result done (c.acts_and_looks.ensures.acts c.args.act) covered law c.release.new.token.seat.me c.release.ensures.back c.release.ensures.more in
-    subst (λ (q : PassView). Makes c.attempt-changed.result (seated m) c.args.job op q) (sym (ap seated ends.2.0)) ends.1
