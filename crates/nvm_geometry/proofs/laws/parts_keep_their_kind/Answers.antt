@@ -28,10 +28,10 @@ pub returns-clause-look : goal.returns-clause-look
 returns-clause-look c ns op unit = (in_unit ns op unit).0
 
 pub returns-clause-read : goal.returns-clause-read
-returns-clause-read c ns op unit = (in_unit ns op unit).1.0
+returns-clause-read c ns op unit = (in_unit ns op unit).1
 
 pub returns-clause-pair : goal.returns-clause-pair
-returns-clause-pair c ns op unit = (in_unit ns op unit).1.1.0
+returns-clause-pair c ns op unit = (in_unit ns op unit).2
 
 pub returns-clause-deallocate : goal.returns-clause-deallocate
-returns-clause-deallocate c ns op unit = (in_unit ns op unit).1.1.1
+returns-clause-deallocate c ns op unit = (in_unit ns op unit).3
