@@ -36,7 +36,7 @@ zero_test (x ∷ xs) b some first is =
       λ zeroes. is' ∙ tells.1 (ap (drop 1) zeroes ∙ shift_of_zeroes n ∙ ap (take n) (sym zeroes)),
     )
 
--- what is behind bytes with which data may begin
+-- what is after bytes with which data may begin
 pub stripped : {X : Type 0} (now : X → List ℕ) (o : Option X) (own payload : List ℕ)
     → MatchOption o (bytes_eq (take (length own) payload) own ≡ false)
     (λ x. (bytes_eq (take (length own) payload) own ≡ true) × (now x ≡ drop (length own) payload) × (length (now x) + length own ≡ length payload))

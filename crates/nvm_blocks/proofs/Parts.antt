@@ -39,7 +39,7 @@ pub spans-replicate : (n span : ℕ) (part : List Block) → length part ≡ spa
 spans-replicate zero span part len = tt
 spans-replicate (suc n) span part len = (len, spans-replicate n span part len)
 
--- a place of the k-th part and what is behind it
+-- a place of the k-th part and what is after it
 pub drop-joined_parts : (span : ℕ) (parts : List (List Block)) (k r at : ℕ) → AreOfSpan span parts → k < length parts → r < span
     → at ≡ k * span + r → drop at (joined_parts parts) ≡ drop r (get_or parts k []) ++ joined_parts (drop (suc k) parts)
 drop-joined_parts span [] k r at spans lt rt e = absurd (omega arith)

@@ -20,7 +20,7 @@ front_of_stretch all count from n stretch is few within =
     (ap (take n) kept ∙ take-take n m (drop from all) (omega arith)
     ∙ sym (ap (take n) (sym is.is) ∙ take-take n (length stretch) (drop from all) few))
 
--- A range is its stretch and what is behind it.
+-- A range is its stretch and what is after it.
 pub next_stretch : (blocks stretch : List Block) (from left n : ℕ) → stretch_of from n blocks ≡ stretch → n ≤ left
     → stretch_of from left blocks ≡ stretch ++ stretch_of (from + n) (left - n) blocks
 next_stretch blocks stretch from left n is le =

@@ -31,7 +31,7 @@ module _ {A : Type 0} where
   get_or_at_place (y ∷ ys) zero x d e = some-injective y x e
   get_or_at_place (y ∷ ys) (suc i) x d e = get_or_at_place ys i x d e
 
-  -- What stands in two lists, one behind the other, stands in one of them.
+  -- What is in two lists, one after the other, is in one of them.
   pub at_append : (xs ys : List A) (i : ℕ) (y : A) → IsAt (xs ++ ys) i y
       → IsAt xs i y ⊎ ((k : ℕ) × (i ≡ length xs + k) × IsAt ys k y)
   at_append [] ys i y e = inr (i, omega arith, e)
@@ -67,7 +67,7 @@ module _ {A : Type 0} where
   at_take (suc n) (x ∷ xs) zero y e lt = e
   at_take (suc n) (x ∷ xs) (suc i) y e lt = at_take n xs i y e (omega arith)
 
--- One more block is put behind those that are already new.
+-- One more block is put after those that are already new.
 pub rewritten_more : (at i place : ℕ) (news : ℕ → Block) (old mid new : List Block) → IsRewritten at i news old mid → place ≡ at + i
     → place < length old → new ≡ set mid place (news i) → IsRewritten at (i + 1) news old new
 rewritten_more at i place news old mid new so_far here below put = record {
@@ -95,7 +95,7 @@ rewritten_more at i place news old mid new so_far here below put = record {
 pub rewritten_none : (at : ℕ) (news : ℕ → Block) (old : List Block) → IsRewritten at 0 news old old
 rewritten_none at news old = record { len = refl; rewritten = λ j lt. absurd (omega arith); others = λ j block out is. is }
 
--- Some more blocks are put behind those that are already new.
+-- Some more blocks are put after those that are already new.
 pub rewritten_on : (at i n place : ℕ) (news : ℕ → Block) (old mid new : List Block) → IsRewritten at i news old mid → place ≡ at + i
     → IsRewritten place n (λ j. news (i + j)) mid new → IsRewritten at (i + n) news old new
 rewritten_on at i n place news old mid new so_far here put = record {
@@ -135,7 +135,7 @@ rewritten_front at n count news old new within enough put =
           at_take count new j block (put.others j block out back.0) back.1;
     }
 
--- So are they with others before them, and with others behind them.
+-- So are they with others before them, and with others after them.
 others_behind_one : (at n : ℕ) (news : ℕ → Block) (x : Block) (old new : List Block) → IsRewritten at n news old new → (j : ℕ) (block : Block)
     → (j < suc at) ⊎ (suc at + n ≤ j) → IsAt (x ∷ old) j block → IsAt (x ∷ new) j block
 others_behind_one at n news x old new put zero block out is = is

@@ -10,7 +10,7 @@ pub record IsRewritten (at count : ℕ) (news : ℕ → Block) (old new : List B
   pub rewritten : (i : ℕ) → i < count → IsAt new (at + i) (news i)
   pub others : (i : ℕ) (block : Block) → (i < at) ⊎ (at + count ≤ i) → IsAt old i block → IsAt new i block
 
--- a block of so many zero bytes
+-- a block of `size` zero bytes
 abbrev pub zero_block : ℕ → Block
 zero_block size = Bytes (replicate size 0)
 

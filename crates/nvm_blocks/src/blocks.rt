@@ -18,7 +18,7 @@ use std::marker::Model;
 
 /// The blocks of one unit, which contracts see as their list.
 ///
-/// They stand in a tree of nodes that copies share. A change works in place where nobody shares a node
+/// They are in a tree of nodes that copies share. A change works in place where nobody shares a node
 /// on the way to its block, and copies the way where somebody does, so a copy of all blocks costs one
 /// count and stays as it is. After an `Err` all blocks are as they were.
 #[derive(Drop)]
@@ -47,7 +47,7 @@ impl Debug for Blocks {
 }
 
 impl Blocks {
-    /// So many blocks of `size` zero bytes. They share one leaf, so they take the memory of one path of the
+    /// `count` blocks of `size` zero bytes. They share one leaf, so they take the memory of one path of the
     /// tree.
     pub fn zeroed(alloc: Global, count: usize, size: usize) -> Result<Blocks, NoMemory>
         ensures { IfOk result (λ blocks. blocks ≡ replicate count (zero_block size)) }
@@ -137,8 +137,8 @@ impl Blocks {
         false
     }
 
-    /// Whether the bytes of the `count` blocks from place `at`, one block after the other, are just the
-    /// data. It takes no memory, and looks at nothing behind the first block that differs. A marked block
+    /// Whether the bytes of the `count` blocks from place `at`, one block after the other, are exactly the
+    /// data. It takes no memory, and looks at nothing past the first block that differs. A marked block
     /// has no bytes.
     pub fn is_equal(&self, at: usize, count: usize, payload: &[u8]) -> bool
         requires { at + count ≤ length self.now }
@@ -181,7 +181,7 @@ impl Blocks {
         Ok(())
     }
 
-    /// The stored blocks from place `from`, as far as they stand in one leaf, and at most `most`.
+    /// The stored blocks from place `from`, as far as they are in one leaf, and at most `most`.
     fn stretch(&self, from: usize, most: usize) -> &[StoredBlock]
         requires some { 0 < most }
         requires range { from + most ≤ length self.now }
@@ -204,7 +204,7 @@ impl Blocks {
     }
 
     /// Puts the source's blocks from place `from` up to place `to` at the places from `at` on, as far as
-    /// these stand in one leaf, and answers how many. Where fewer than `least` do, it answers 0 and does
+    /// these are in one leaf, and answers how many. Where fewer than `least` do, it answers 0 and does
     /// nothing.
     fn fill_stretch(
         &mut self,

@@ -30,7 +30,7 @@ impl<T: Tree> Model for Fork<T> {
 }
 
 impl<T: Tree> Fork<T> {
-    /// A fork of so many children, all of them this one node, which has `span` blocks.
+    /// A fork of `count` children, all of them this one node, which has `span` blocks.
     pub fn of(
         alloc: Global,
         node: Arc<T>,

@@ -26,7 +26,7 @@ impl Model for Leaf {
 }
 
 impl Leaf {
-    /// So many blocks of `size` zero bytes.
+    /// `count` blocks of `size` zero bytes.
     pub fn zeroed(alloc: Global, count: usize, size: usize) -> Result<Arc<Leaf>, NoMemory>
         ensures { IfOk result (λ l. arc_value l ≡ replicate count (zero_block size)) }
     {

@@ -93,7 +93,7 @@ impl Levels {
     }
 
     /// Puts the source's blocks from place `from` up to place `to` at the places from `at` on, as far as
-    /// these stand in one leaf, and answers how many. Where fewer than `least` do, it answers 0 and
+    /// these are in one leaf, and answers how many. Where fewer than `least` do, it answers 0 and
     /// does nothing. Where memory is refused, all blocks are as they were.
     pub fn fill(
         &mut self,

@@ -73,7 +73,7 @@ impl StoredBlock {
         }
     }
 
-    /// The data behind the block's bytes, or `None` where it doesn't begin with them. A marked block has
+    /// The data after the block's bytes, or `None` where it doesn't begin with them. A marked block has
     /// no bytes.
     pub fn behind<'a>(&self, payload: &'a [u8]) -> Option<&'a [u8]>
         ensures { MatchOption result
@@ -104,7 +104,7 @@ impl StoredBlock {
     }
 }
 
-/// The data behind so many zero bytes, or `None` where it doesn't begin with them.
+/// The data after `size` zero bytes, or `None` where it doesn't begin with them.
 fn behind_zeroes(size: usize, payload: &[u8]) -> Option<&[u8]>
     ensures { MatchOption result
         ((rest : List ℕ) → replicate size 0 ++ rest ≡ payload.now → ⊥)

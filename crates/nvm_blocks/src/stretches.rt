@@ -26,7 +26,7 @@ pub fn push_bytes(blocks: &[StoredBlock], bytes: &mut Vec<u8>) -> Result<(), NoM
     Ok(())
 }
 
-/// The data behind the bytes of the blocks, or `None` where it doesn't begin with them.
+/// The data after the bytes of the blocks, or `None` where it doesn't begin with them.
 pub fn behind<'a>(blocks: &[StoredBlock], payload: &'a [u8]) -> Option<&'a [u8]>
     ensures { MatchOption result
         ((rest : List ℕ) → medium.joined blocks.now ++ rest ≡ payload.now → ⊥)

@@ -28,7 +28,7 @@ pub trait Tree: Drop {
         ensures err { OnErr result (blocks self.new ≡ blocks self.old) };
 
     /// Puts the source's blocks from place `from` up to place `to` at the places from `at` on, as far as
-    /// these stand in one leaf, and answers how many. Where fewer than `least` do, it answers 0 and does
+    /// these are in one leaf, and answers how many. Where fewer than `least` do, it answers 0 and does
     /// nothing. Nodes that somebody shares are copied first. Where memory is refused, all blocks are as they
     /// were.
     fn fill(

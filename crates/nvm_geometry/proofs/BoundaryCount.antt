@@ -1,5 +1,5 @@
 -- The count of boundaries, which is defined LBA by LBA, against products: where boundaries are
--- s = NABSN + 1 LBAs apart and the LBA 0 stands `shift` LBAs behind one, the unit c holds the LBAs
+-- s = NABSN + 1 LBAs apart and the LBA 0 is `shift` LBAs past one, the unit c holds the LBAs
 -- from c * s - shift up to (c + 1) * s - shift.
 use Rattle.std.proofs.Common.{◌≡◌, inl, inr, ℕ, zero, suc, ◌+◌, ◌*◌, ◌/◌, ◌<◌, ◌≤◌, true, false, eqb, refl, sym, ◌∙◌, arith}
 use Rattle.std.proofs.lemmas.Bool.{and_parts, and_from, or_cases, or_left, or_right, eqb-true, eq-eqb, ltb-true, lt-ltb, cases_Bool, false≢true, cases_lt, cases_eq}
@@ -45,7 +45,7 @@ is_boundary_complete nabsn nabo lba k some above form =
     let below : k ≤ lba = omega (arith, le-mul_of_pos_right {m = nabsn + 1} k (omega arith)) in
     and_from _ _ (lt-ltb _ _ some) (and_from _ _ (lt-ltb _ _ above) (has_form_complete nabsn nabo lba lba k below form))
 
--- how far the LBA 0 stands behind the boundary before it, or where one would be
+-- how far the LBA 0 is past the boundary before it, or where one would be
 pub record IsShift (nabsn nabo shift : ℕ) : Type 0 where
   pub none : nabo ≡ 0 → shift ≡ 0
   pub rest : 0 < nabo → nabo + shift ≡ nabsn + 1
@@ -75,7 +75,7 @@ multiple_is_boundary nabsn nabo shift lba q s some above form =
       | inr p ↦ is_boundary_complete nabsn nabo lba (q + 1) some above (omega (arith, form, s.none (omega arith)))
     ]
 
--- where the LBA stands among the multiples of the distance
+-- where the LBA is among the multiples of the distance
 pub record IsPlaced (nabsn shift lba count : ℕ) : Type 0 where
   pub low : count * (nabsn + 1) ≤ lba + shift
   pub high : lba + shift < (count + 1) * (nabsn + 1)

@@ -192,7 +192,7 @@ inside_lbas ns op unit lba low high =
           ])
     ]
 
--- the part has just the LBAs of the range that lie in the unit
+-- the part has exactly the LBAs of the range that lie in the unit
 pub part_lbas : (ns : Namespace) (op : Operation) (unit lba : ℕ)
     → is_in_range (part_in ns op unit) lba ≡ (is_in_range op lba && (unit_number ns lba == unit))
 part_lbas ns op unit lba =

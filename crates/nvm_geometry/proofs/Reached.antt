@@ -17,7 +17,7 @@ use Rattle.nvm_geometry.proofs.UnitOrder.{unit_below}
 use Rattle.nvm_geometry.proofs.Counting.{count_agree, passing_counted, counted_passes}
 use Rattle.nvm_geometry.proofs.Places.{place_in, part_lbas}
 
--- the bounds that the test for the range tells
+-- the bounds that the test for the range gives
 pub range_bounds : (op : Operation) (lba : ℕ) → is_in_range op lba ≡ true
     → (op.first ≤ lba) × (lba < op.first + op.blocks)
 range_bounds op lba inside =
@@ -157,7 +157,7 @@ lba_reached op some within =
     and_from _ _ (le-leb op.first found.0 found.2) (lt-ltb found.0 (op.first + op.blocks) found.3) in
     (found.0, and_from (is_about op.deed found.0) (is_in_range op found.0) found.1 inside)
 
--- Cut ranges have just those of their LBAs that are among the blocks.
+-- Cut ranges have exactly those of their LBAs that are among the blocks.
 abbrev pub CutsHave : Type 0
 CutsHave = (first blocks : ℕ) (rs : List LbaRange) (lba : ℕ)
     → ranges_have (cut_ranges first blocks rs) lba
@@ -193,7 +193,7 @@ part_about have size first skipped blocks (deallocates ranges) lba =
     let inside = nat_le (first + skipped) lba && nat_lt lba (first + skipped + blocks) in
     ap (λ b. b && inside) (have (first + skipped) blocks ranges lba) ∙ and_twice inside (ranges_have ranges lba)
 
--- the part reaches just the LBAs in the unit that the operation reaches
+-- the part reaches exactly the LBAs in the unit that the operation reaches
 pub part_reaches : (have : CutsHave) (ns : Namespace) (op : Operation) (unit lba : ℕ)
     → reaches (part_in ns op unit) lba ≡ (reaches op lba && (unit_number ns lba == unit))
 part_reaches have ns op unit lba =

@@ -46,7 +46,7 @@ count_without_boundary nabo (suc lba) =
 pub count_none : (nabsn nabo lba : ℕ) → nabsn ≡ 0 → boundary_count nabsn nabo lba ≡ 0
 count_none nabsn nabo lba none = rw none (count_without_boundary nabo lba)
 
--- the LBAs from which on a unit, or a higher one, stands
+-- the LBAs from which on there is a unit, or a higher one
 pub count_reaches : (nabsn nabo shift unit lba : ℕ) → IsShift nabsn nabo shift → 0 < nabsn
     → (unit ≤ boundary_count nabsn nabo lba) ↔ (unit * (nabsn + 1) ≤ lba + shift)
 count_reaches nabsn nabo shift unit lba s some =
@@ -56,7 +56,7 @@ count_reaches nabsn nabo shift unit lba s some =
           omega (arith, lt_of_mul-lt-mul_right (nabsn + 1) {m = unit} {n = boundary_count nabsn nabo lba + 1} below)),
     )
 
--- the first LBA at which the count is at least `unit` has just that count
+-- the first LBA at which the count is at least `unit` has exactly that count
 pub count_first : (nabsn nabo unit first : ℕ) → ((lba : ℕ) → (first ≤ lba) ↔ (unit ≤ boundary_count nabsn nabo lba))
     → boundary_count nabsn nabo first ≡ unit
 count_first nabsn nabo unit zero reaches = omega (arith, (reaches 0).0 (omega arith), count_zero nabsn nabo)

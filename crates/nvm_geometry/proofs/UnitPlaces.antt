@@ -183,7 +183,7 @@ unit_is_met ns op unit inside = (
       (omega (arith, reached_known ns op unit inside some))),
 )
 
--- data of so many blocks has that of each part
+-- data of `n` blocks has that of each part
 data_part_length : (size n skipped blocks : ℕ) (payload : List ℕ) → length payload ≡ n * size → skipped + blocks ≤ n
     → length (data_part size skipped blocks payload) ≡ blocks * size
 data_part_length size n skipped blocks payload long few =

@@ -8,11 +8,11 @@ use Rattle.nvm_geometry.specs.Boundaries.{units_of}
 use Rattle.nvm_geometry.specs.declared.geometry_fault.GeometryFault.{GeometryFault}
 use Rattle.nvm_geometry.specs.declared.geometry_fault.GeometryFault.TheVariants.{Size, BlockSize, OffsetWithoutBoundary, OffsetAboveBoundary, WriteUnitAboveBoundary, PairUnitAboveBoundary, TooManyUnits}
 
--- a namespace has at most so many LBAs
+-- the most LBAs of a namespace
 abbrev pub most_blocks : ℕ
 most_blocks = 65536
 
--- a namespace has at most so many units
+-- the most units of a namespace
 abbrev pub most_units : ℕ
 most_units = 4096
 

@@ -37,7 +37,7 @@ pieces_of ns first blocks = map (piece_in ns first blocks) (units_of_range ns fi
 abbrev pub data_part : ℕ → ℕ → ℕ → List ℕ → List ℕ
 data_part size skipped blocks payload = take (blocks * size) (drop (skipped * size) payload)
 
--- The deed on just the `blocks` LBAs after the first `skipped` of those from `first`: with the data of just these, and
+-- The deed on exactly the `blocks` LBAs after the first `skipped` of those from `first`: with the data of exactly these, and
 -- with its ranges cut to them.
 abbrev pub deed_part : ℕ → ℕ → ℕ → ℕ → Deed → Deed
 deed_part size first skipped blocks (writes payload) = writes (data_part size skipped blocks payload)
@@ -62,8 +62,8 @@ meets ns op unit = nat_lt 0 (reached_in ns op unit)
 abbrev pub units_met : Namespace → Operation → List ℕ
 units_met ns op = units_where ns (λ unit. meets ns op unit)
 
--- The part of an operation in a unit: the operation on just those LBAs of its range that lie there,
--- with the data of just these, or its ranges cut to these.
+-- The part of an operation in a unit: the operation on exactly those LBAs of its range that lie there,
+-- with the data of exactly these, or its ranges cut to these.
 abbrev pub part_in : Namespace → Operation → ℕ → Operation
 part_in ns op unit =
     record {

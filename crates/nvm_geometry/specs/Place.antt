@@ -4,7 +4,7 @@ use Rattle.std.specs.Prelude.{◌≡◌, ℕ, ◌+◌, ◌<◌, ◌≤◌}
 use Rattle.nvm_geometry.specs.Namespace.{Namespace}
 use Rattle.nvm_geometry.specs.Boundaries.{unit_number}
 
--- The unit is just the `blocks` LBAs from `first`, and has a block.
+-- The unit is exactly the `blocks` LBAs from `first`, and has a block.
 pub record IsPlaceOf (ns : Namespace) (unit first blocks : ℕ) : Type 0 where
   pub some : 0 < blocks
   pub inside : first + blocks ≤ ns.nsze

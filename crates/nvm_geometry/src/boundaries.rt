@@ -1,7 +1,7 @@
 ghost use Rattle.std.specs.Prelude.{◌≡◌, ◌≢◌, ◌↔◌, ℕ, ◌+◌, ◌<◌, ◌≤◌, ◌^◌};
 ghost use Rattle.nvm_geometry.specs.Boundaries.{boundary_count};
 
-/// How many LBAs the LBA 0 stands behind the boundary before it, or behind where that would be.
+/// How many LBAs the LBA 0 is past the boundary before it, or past where that would be.
 fn shift(nabsn: u16, nabo: u16) -> u64
     requires { nabo ≤ nabsn }
     ensures none { nabo ≡ 0 → result ≡ 0 }

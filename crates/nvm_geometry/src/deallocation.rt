@@ -25,7 +25,7 @@ impl Geometry {
     /// The lowest unit from `from` on that a Deallocate of these ranges meets, which is the lowest in which one of them
     /// has a block: `None` where there is none.
     ///
-    /// The ranges are the data of a Dataset Management. They may overlap and stand in any order, and a range without a
+    /// The ranges are the data of a Dataset Management. They may overlap and be in any order, and a range without a
     /// block meets no unit. It takes a constant number of steps for each range, however many units there are.
     pub fn next_met(self, ranges: &[u8], from: u16) -> Option<u16>
         requires { EndInNamespace self (ranges_of ranges.now) }

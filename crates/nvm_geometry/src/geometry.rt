@@ -13,10 +13,10 @@ use crate::geometry_fault::GeometryFault;
 use nvm_record::BlockSize;
 use std::marker::Model;
 
-/// A namespace has at most so many LBAs.
+/// The most LBAs of a namespace.
 pub const MOST_BLOCKS: u64 = 65_536;
 
-/// A namespace has at most so many units.
+/// The most units of a namespace.
 pub const MOST_UNITS: u64 = 4096;
 
 /// What a namespace advertises of its size and of its atomic units (NVM Command Set Specification,

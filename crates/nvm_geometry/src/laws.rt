@@ -46,7 +46,7 @@ pub fn sharing_is_one_number()
     ensures shares { (ns : Namespace) (a b : ℕ) → unit_number ns a ≡ unit_number ns b → SharesUnit ns a b }
 {}
 
-/// The pieces of a range stand in line: the first begins where the range does, each other one where the
+/// The pieces of a range are in line: the first begins where the range does, each other one where the
 /// one before it ends, and the last ends where the range does. None is empty, and there is one for each
 /// unit that the range meets, inside that unit.
 pub fn pieces_stand_in_line()
@@ -68,7 +68,7 @@ pub fn each_unit_has_one_place()
         → IsPlaceOf ns unit start count → (first ≡ start) × (blocks ≡ count) }
 {}
 
-/// An operation in the namespace meets just the units with an LBA that it reaches: none where it reaches none, one at
+/// An operation in the namespace meets exactly the units with an LBA that it reaches: none where it reaches none, one at
 /// least where its range has a block and its ranges, where its deed has any, are some among its blocks, and no more
 /// units than there are. So it leaves each block of a unit that it doesn't meet.
 pub fn units_met_are_those_reached()
@@ -109,7 +109,7 @@ pub fn the_lowest_unit_is_met_first()
         → units_met_from ns op from ≡ [] }
 {}
 
-/// A Deallocate of ranges in the namespace meets just the units in which one of them has an LBA. From unit 0 on these
+/// A Deallocate of ranges in the namespace meets exactly the units in which one of them has an LBA. From unit 0 on these
 /// are all that it meets.
 pub fn ranges_meet_their_units()
     ensures met { (ns : Namespace) (ranges : List Range) (unit : ℕ) → EndInNamespace ns ranges
@@ -136,7 +136,7 @@ pub fn parts_lie_in_their_units()
     laws::cut_ranges_lie_within();
 }
 
-/// The part of an operation in a unit has just those LBAs of its range that lie in the unit, and reaches just those of
+/// The part of an operation in a unit has exactly those LBAs of its range that lie in the unit, and reaches exactly those of
 /// them that the operation reaches. The block of data at each of its LBAs is the operation's.
 pub fn part_has_its_blocks()
     ensures lbas { (ns : Namespace) (op : Operation) (unit lba : ℕ)

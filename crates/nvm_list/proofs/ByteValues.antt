@@ -7,7 +7,7 @@ use Rattle.nvm_record.specs.Lists.{IsAt}
 abbrev pub AreBytes : List ℕ → Type 0
 AreBytes bytes = AllByRecursion (λ b. b < 256) bytes
 
--- as each byte is read, so it stands
+-- a byte at a place is below 256, where each byte that is read is
 pub byte_at : (bytes : List ℕ) → ((i : ℕ) → get_or bytes i 0 < 256) → (i byte : ℕ) → IsAt bytes i byte → byte < 256
 byte_at [] h i byte at = absurd (some-ne-none byte (sym at))
 byte_at (b ∷ bytes) h zero byte at = let same : b ≡ byte = some-injective b byte at in let here : b < 256 = h 0 in omega arith

@@ -200,7 +200,7 @@ operands_plain_by false size c rest h k hs = k
 
 -- ---- the line
 
--- the words of a listed line behind its name
+-- the words of a listed line after its name
 abbrev pub words_behind : ℕ → Command → List (List ℕ)
 words_behind place c = operand_words c ++ option_words place c
 

@@ -8,7 +8,7 @@ use Rattle.nvm_list.specs.declared.expected.Expected.{Expected}
 use Rattle.nvm_list.specs.declared.fault.ListFault.{ListFault}
 use Rattle.nvm_list.specs.declared.fault.ListFault.TheVariants.{Line}
 
--- where the first line that is refused stands, with the commands before it
+-- where the first line that is refused is, with the commands before it
 record IsStopped (size line place : ℕ) (texts : List (List ℕ)) (fault : ListFault) (before : List (List ℕ)) (here : List ℕ) (behind : List (List ℕ)) (cs : List Command) (n m : ℕ) : Type 0 where
   parts : texts ≡ before ++ here ∷ behind
   line_is : n ≡ line + length before

@@ -6,7 +6,7 @@ use Rattle.nvm_list.specs.Words.{words}
 use Rattle.nvm_list.specs.Lists.{on_line, in_front, followed_by, commands_from}
 use Rattle.nvm_list.specs.declared.fault.ListFault.{ListFault}
 
--- commands behind those that were read before
+-- commands after those that were read before
 abbrev pub behind : List Command → Result (List Command) ListFault → Result (List Command) ListFault
 behind front (Err fault) = Err fault
 behind front (Ok cs) = Ok (front ++ cs)
@@ -19,7 +19,7 @@ regroup : (front : List Command) (c : Command) (read : Result (List Command) Lis
 regroup front c (Err fault) = refl
 regroup front c (Ok cs) = ap (λ (ds : List Command). Ok ds) (sym (append_assoc front (c ∷ []) cs))
 
--- what stands in the lines that are left, behind the commands so far
+-- what is in the lines that are left, after the commands so far
 abbrev pub left : ℕ → ℕ → List Command → List (List ℕ) → Result (List Command) ListFault
 left size line front texts = behind front (commands_from size line (length front + 1) texts)
 

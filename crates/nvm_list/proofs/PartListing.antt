@@ -11,7 +11,7 @@ use Rattle.nvm_list.specs.Commas.{with_part, read_each, read_parts, behind_comma
 
 -- ---- a part that a byte cuts in two
 
--- the first of a byte stands behind what has none of it
+-- the first of a byte is after what has none of it
 place_at : (byte : ℕ) (xs ys : List ℕ) → All (λ b. is byte b ≡ false) xs → position_or_len (is byte) (xs ++ byte ∷ ys) ≡ length xs
 place_at byte xs ys h =
     position_or_len_is (is byte) (xs ++ byte ∷ ys) (length xs) 0 (omega (arith, length-append {A = ℕ}))

@@ -3,7 +3,7 @@ use Rattle.std.proofs.Common.{◌≡◌, ℕ, List, [], ◌∷◌, ◌++◌, Opt
 use Rattle.std.proofs.lemmas.List.{append-nil}
 use Rattle.nvm_list.specs.Commas.{with_part, read_each}
 
--- parts behind those that were read before
+-- parts after those that were read before
 abbrev pub behind : {A : Type 0} → List A → Option (List A) → Option (List A)
 behind front None = None
 behind front (Some parts) = Some (front ++ parts)

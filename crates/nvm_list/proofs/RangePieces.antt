@@ -6,7 +6,7 @@ use Rattle.nvm_list.specs.Commas.{behind_commas, joined}
 use Rattle.nvm_list.specs.Listing.{range_text, ranges_text}
 
 module _ (payload : List ℕ) where
-  -- the texts of so many ranges of the data from a place on
+  -- the texts of `count` ranges of the data from a place on
   abbrev texts : ℕ → ℕ → List (List ℕ)
   texts place count = map range_text (map (range_at payload) (range_with_len place count))
 

@@ -1,4 +1,4 @@
--- Commands that are read have just the data that they call for, and proper opcodes; and they aren't many.
+-- Commands that are read have exactly the data that they call for, and proper opcodes; and they aren't many.
 use Rattle.std.proofs.Common.{◌≡◌, ℕ, suc, ◌+◌, ◌*◌, ◌≤◌, ◌==◌, ◌&&◌, nat_lt, nat_le, Bool, true, false, if◌then◌else◌, List, [], ◌∷◌, length, take, drop, codes, Option, Some, None, Result, Ok, Err, IfOk, Vec, Global, All, refl, sym, ap, ◌∙◌, arith}
 use Rattle.std.specs.Str.{bytes_eq, all_ascii_digits}
 use Rattle.std.specs.List.{slice_split, before_first, after_first, count_by, AllByRecursion}
@@ -116,7 +116,7 @@ range_fits text =
     range_fits_by (number 18446744073709551615 (before_first (is 43) text)) (number 4294967295 (after_first (is 43) text))
     (number_low 18446744073709551615 (before_first (is 43) text)) (number_low 4294967295 (after_first (is 43) text))
 
--- so many ranges, and each fits
+-- `count` ranges, and each fits
 record AreFitting (count : ℕ) (rs : List LbaRange) : Type 0 where
   long : length rs ≡ count
   each : AllByRecursion FitsItsBytes rs

@@ -59,7 +59,7 @@ speaks text texts word ws some = rw (something_said text word ws some) refl
 
 -- ---- all lines
 
--- what is said at place k of these lines, of which the first is line `line` and its command stands at place `place`
+-- what is said at place k of these lines, of which the first is line `line` and its command is at place `place`
 record IsSaidAmong (size line place : ℕ) (texts : List (List ℕ)) (cs : List Command) (k : ℕ) (c : Command) : Type 0 where
   before : List (List ℕ)
   here : List ℕ

@@ -1,4 +1,4 @@
--- Words behind spaces, one list after another.
+-- Words after spaces, one list after another.
 use Rattle.std.proofs.Common.{◌≡◌, List, ℕ, [], ◌∷◌, ◌++◌, codes, refl, sym, ap, ◌∙◌, append_assoc}
 use Rattle.nvm_record.specs.declared.command.Command.{Command}
 use Rattle.nvm_text.specs.Lines.{name_of}

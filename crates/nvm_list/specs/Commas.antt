@@ -18,7 +18,7 @@ read_each read (text ∷ texts) = with_part (read text) (read_each read texts)
 abbrev pub read_parts : {A : Type 0} → (List ℕ → Option A) → List ℕ → Option (List A)
 read_parts read word = read_each read (slice_split (is 44) word)
 
--- texts, each behind a comma
+-- texts, each after a comma
 abbrev pub behind_commas : List (List ℕ) → List ℕ
 behind_commas [] = []
 behind_commas (text ∷ texts) = codes "," ++ (text ++ behind_commas texts)

@@ -6,7 +6,7 @@ use Rattle.nvm_list.specs.Lists.{on_line, commands_from, commands}
 use Rattle.nvm_list.specs.declared.expected.Expected.{Expected}
 use Rattle.nvm_list.specs.declared.fault.ListFault.TheVariants.{Line}
 
--- The lines before this one are read as these commands, and this one isn't read behind them.
+-- The lines before this one are read as these commands, and this one isn't read after them.
 pub record IsRefusedBehind (size : ℕ) (text : List ℕ) (line : ℕ) (expected : Expected) (before : List (List ℕ)) (here : List ℕ) (behind : List (List ℕ)) (cs : List Command) : Type 0 where
   pub parts : text_lines text ≡ before ++ here ∷ behind
   pub number : line ≡ 1 + length before

@@ -29,14 +29,14 @@ nlb_of (Some (suc nlb)) = Ok nlb
 abbrev pub nlb : List ℕ → Result ℕ Expected
 nlb word = nlb_of (number 65536 word)
 
--- the data of `n + 1` blocks, and the words behind it
+-- the data of `n + 1` blocks, and the words after it
 abbrev pub carried : ℕ → Op → ℕ → List (List ℕ) → Result (List ℕ × List (List ℕ)) Expected
 carried size op n words =
     if carries_blocks op
     then (payload ((n + 1) * size) (first words) >>= λ bytes. Ok (bytes, others words))
     else Ok ([], words)
 
--- an LBA, a number of blocks and data where the operation carries some, and the words behind them
+-- an LBA, a number of blocks and data where the operation carries some, and the words after them
 abbrev pub on_blocks : ℕ → Op → List (List ℕ) → Result (Operands × List (List ℕ)) Expected
 on_blocks size op words = do
   slba ← lba (first words)
@@ -44,13 +44,13 @@ on_blocks size op words = do
   bytes ← carried size op n (others (others words))
   Ok (record { slba = slba; nlb = n; payload = bytes.0 }, bytes.1)
 
--- ranges, and the words behind them
+-- ranges, and the words after them
 abbrev pub on_ranges : List (List ℕ) → Result (Operands × List (List ℕ)) Expected
 on_ranges words = do
   rs ← ranges (first words)
   Ok (record { slba = 0; nlb = 0; payload = data_of_ranges rs }, others words)
 
--- what a command of this operation is on, and the words behind that
+-- what a command of this operation is on, and the words after that
 abbrev pub operands : ℕ → Op → List (List ℕ) → Result (Operands × List (List ℕ)) Expected
 operands size op words = if carries_ranges op then on_ranges words else on_blocks size op words
 

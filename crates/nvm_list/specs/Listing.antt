@@ -60,7 +60,7 @@ nsid_words nsid = if nsid == 1 then [] else (codes "nsid=" ++ decimal nsid) ∷ 
 abbrev pub option_words : ℕ → Command → List (List ℕ)
 option_words place c = deallocate_words c.op ++ (fuse_words c.fuse ++ (cid_words place c.cid ++ nsid_words c.nsid))
 
--- words, each behind a space
+-- words, each after a space
 abbrev pub behind_spaces : List (List ℕ) → List ℕ
 behind_spaces [] = []
 behind_spaces (word ∷ words) = codes " " ++ (word ++ behind_spaces words)

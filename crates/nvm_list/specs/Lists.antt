@@ -26,14 +26,14 @@ abbrev pub in_front : Command → Result (List Command) ListFault → Result (Li
 in_front c (Err fault) = Err fault
 in_front c (Ok cs) = Ok (c ∷ cs)
 
--- What a line has, and then what those behind it have, of which the first stands at the given place. The
+-- What a line has, and then what those after it have, of which the first is at the given place. The
 -- first line that is no command is the fault.
 abbrev pub followed_by : Result (Option Command) ListFault → ℕ → (ℕ → Result (List Command) ListFault) → Result (List Command) ListFault
 followed_by (Err fault) place behind = Err fault
 followed_by (Ok None) place behind = behind place
 followed_by (Ok (Some c)) place behind = in_front c (behind (place + 1))
 
--- the commands of lines, of which the first is line `line` and its command stands at place `place`
+-- the commands of lines, of which the first is line `line` and its command is at place `place`
 abbrev pub commands_from : ℕ → ℕ → ℕ → List (List ℕ) → Result (List Command) ListFault
 commands_from size line place [] = Ok []
 commands_from size line place (text ∷ texts) =

@@ -3,7 +3,7 @@ use Rattle.std.specs.Prelude.{ℕ, ◌+◌, ◌-◌, ◌*◌, nat_lt, nat_le, if
 use Rattle.std.specs.Char.{is_ascii_digit}
 use Rattle.std.specs.Str.{all_ascii_digits}
 
--- the number that digits write behind those of n
+-- the number that digits write after those of n
 abbrev pub value_after : ℕ → List ℕ → ℕ
 value_after n [] = n
 value_after n (digit ∷ digits) = value_after (n * 10 + (digit - 48)) digits

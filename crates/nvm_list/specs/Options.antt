@@ -1,4 +1,4 @@
--- The words behind a command: its place in a fused operation, its identifier, its namespace, and whether ranges are
+-- The words after a command: its place in a fused operation, its identifier, its namespace, and whether ranges are
 -- deallocated.
 use Rattle.std.specs.Prelude.{ℕ, Bool, true, false, if◌then◌else◌, List, [], ◌∷◌, take, drop, codes, Option, Some, None, Result, Ok, Err}
 use Rattle.std.specs.Str.{bytes_eq}
@@ -51,7 +51,7 @@ abbrev pub with_range_option : Options → List ℕ → Result Options Expected
 with_range_option o word =
     if bytes_eq word (codes "deallocate") then with_deallocate o else Err expecting.RangeOptionName
 
--- the options with one more, which a word says behind a command that is on ranges, or on blocks
+-- the options with one more, which a word says after a command that is on ranges, or on blocks
 abbrev pub with_option : Bool → Options → List ℕ → Result Options Expected
 with_option ranges o word =
     if bytes_eq word (codes "first") then with_fuse o First else

@@ -4,12 +4,12 @@ use Rattle.std.specs.List.{slice_split}
 use Rattle.std.specs.Borrow.{Bor}
 use Rattle.nvm_list.specs.Words.{is_blank}
 
--- the parts that are left: none behind the last
+-- the parts that are left: none after the last
 abbrev pub parts_left : (ℕ → Bool) → Option (Bor (List ℕ)) → List (List ℕ)
 parts_left ends None = []
 parts_left ends (Some rest) = slice_split ends rest.now
 
--- how many bytes are left, with the end behind them
+-- how many bytes are left, with the end after them
 abbrev pub bytes_left : Option (Bor (List ℕ)) → ℕ
 bytes_left None = 0
 bytes_left (Some rest) = length rest.now + 1

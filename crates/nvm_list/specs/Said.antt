@@ -1,4 +1,4 @@
--- What a line of a list says, as it stands there: what is before its comment, without the blanks round it.
+-- What a line of a list says, as it is written there: what is before its comment, without the blanks round it.
 use Rattle.std.specs.Prelude.{ℕ, if◌then◌else◌, List, [], ◌∷◌, map, reverse}
 use Rattle.std.specs.List.{before_first, filter}
 use Rattle.nvm_list.specs.Words.{is, is_blank, is_word, text_lines}

@@ -2,7 +2,7 @@
 use Rattle.std.specs.Prelude.{ℕ, ◌==◌, ◌||◌, nat_lt, Bool, List, [], ◌∷◌, length}
 use Rattle.std.specs.List.{slice_split, before_first, filter}
 
--- it is just this byte
+-- it is exactly this byte
 abbrev pub is : ℕ → ℕ → Bool
 is byte b = b == byte
 
@@ -13,11 +13,11 @@ is_blank b = (b == 32 || b == 9) || b == 13
 abbrev pub is_word : List ℕ → Bool
 is_word word = nat_lt 0 (length word)
 
--- what stands between line feeds
+-- what is between line feeds
 abbrev pub text_lines : List ℕ → List (List ℕ)
 text_lines text = slice_split (is 10) text
 
--- what stands between blanks
+-- what is between blanks
 abbrev pub words_in : List ℕ → List (List ℕ)
 words_in bytes = filter is_word (slice_split is_blank bytes)
 

@@ -24,7 +24,7 @@ pub fn payload(alloc: Global, word: &[u8], wanted: u64) -> Result<Payload, LineF
     }
 }
 
-/// So many times the same byte.
+/// The same byte, `wanted` times.
 fn filled(alloc: Global, wanted: u64, byte: u8) -> Result<Payload, NoMemory>
     ensures { IfOk result (λ p. p ≡ replicate wanted byte) }
 {
@@ -77,7 +77,7 @@ fn total(runs: &[Run]) -> u128
     total
 }
 
-/// The bytes of runs that have so many.
+/// The bytes of runs, which are `bytes` in all.
 fn written(alloc: Global, runs: &[Run], bytes: u64) -> Result<Payload, NoMemory>
     requires { spec.total runs.now ≡ bytes }
     ensures { IfOk result (λ p. p ≡ written_out runs.now) }

@@ -1,6 +1,6 @@
 use thiserror::Error;
 
-/// What was expected in a line at the first place where something else stands.
+/// What was expected in a line at the first place where there is something else.
 #[derive(Clone, Copy, Debug, PartialEq, Eq, Error)]
 pub enum Expected {
     /// The first word names no operation, or an opcode that has a name of its own.
@@ -32,19 +32,19 @@ pub enum Expected {
         /// How many ranges there are.
         found: u64,
     },
-    /// A word behind a command on blocks is no option of it.
+    /// A word after a command on blocks is no option of it.
     #[error("expected first, second, reserved, cid= or nsid=")]
     OptionName,
-    /// A word behind a command on ranges is no option of it.
+    /// A word after a command on ranges is no option of it.
     #[error("expected deallocate, first, second, reserved, cid= or nsid=")]
     RangeOptionName,
-    /// An option stands twice, or two of `first`, `second` and `reserved` stand in one line.
+    /// An option is given twice, or two of `first`, `second` and `reserved` are in one line.
     #[error("expected each option at most once, and at most one of first, second and reserved")]
     OptionOnce,
-    /// What is behind `cid=` isn't a number that a command identifier can be.
+    /// What is after `cid=` isn't a number that a command identifier can be.
     #[error("expected a number from 0 to 65535 behind cid=")]
     Cid,
-    /// What is behind `nsid=` isn't a number that a namespace identifier can be.
+    /// What is after `nsid=` isn't a number that a namespace identifier can be.
     #[error("expected a number from 0 to 4294967295 behind nsid=")]
     Nsid,
     /// The list has 65,536 commands before this one.

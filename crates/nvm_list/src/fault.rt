@@ -17,7 +17,7 @@ pub enum ListFault {
     NoMemory,
 }
 
-/// Why words give no command, or none of what stands in one.
+/// Why words give no command, or none of what is in one.
 #[derive(Clone, Copy)]
 pub enum LineFault {
     /// Something else was expected.

@@ -17,7 +17,7 @@ pub fn cut(bytes: &[u8], end: u8) -> (&[u8], Option<&[u8]>)
     }
 }
 
-/// Where the first such byte stands, or the number of bytes where there is none.
+/// Where the first such byte is, or the number of bytes where there is none.
 pub fn place_of(bytes: &[u8], byte: u8) -> usize
     ensures place { result ≡ position_or_len (is byte) bytes.now }
     ensures within { result ≤ length bytes.now }
@@ -36,7 +36,7 @@ pub fn without_comment(line: &[u8]) -> &[u8]
     &line[..place_of(line, b'#')]
 }
 
-/// The first word, which is empty where there is none, and what stands after it.
+/// The first word, which is empty where there is none, and what comes after it.
 pub fn first_word(bytes: &[u8]) -> (&[u8], &[u8])
     ensures word { result.0.now ≡ first (words_in bytes.now) }
     ensures others { words_in result.1.now ≡ others (words_in bytes.now) }
@@ -62,7 +62,7 @@ fn without_blanks(bytes: &[u8]) -> &[u8]
     &bytes[start..]
 }
 
-/// How many bytes stand before the first blank.
+/// How many bytes come before the first blank.
 fn word_length(text: &[u8]) -> usize
     ensures place { result ≡ position_or_len spec.is_blank text.now }
     ensures within { result ≤ length text.now }

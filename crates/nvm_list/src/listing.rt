@@ -22,7 +22,7 @@ use std::alloc::Global;
 
 /// Reads a host file and lists its commands.
 ///
-/// The list is read as just these commands, so it is assembled into the same file where that has every
+/// The list is read as exactly these commands, so it is assembled into the same file where that has every
 /// unnamed bit 0. A fault is that of the file.
 pub fn list_file(alloc: Global, bytes: &Payload, size: BlockSize) -> Result<String, HostFault>
     ensures text { IfOk result (λ text. (cs : List Listed) × IsHostFile size bytes.now cs
@@ -40,7 +40,7 @@ pub fn list_file(alloc: Global, bytes: &Payload, size: BlockSize) -> Result<Stri
 
 /// The commands as a list, a line each, with the options that it can't do without.
 ///
-/// It is read as just these commands, where each has just the data that it calls for and a proper opcode,
+/// It is read as exactly these commands, where each has exactly the data that it calls for and a proper opcode,
 /// and there are 65,536 of them at most.
 pub fn list(alloc: Global, commands: &[Command]) -> Result<String, NoMemory>
     ensures text { IfOk result (λ text. string_bytes text ≡ listing commands.now) }

@@ -23,7 +23,7 @@ use std::alloc::Global;
 /// refused before it.
 pub fn assemble(alloc: Global, text: &[u8], size: BlockSize) -> Result<Vec<u8>, ListFault>
     ensures file { IfOk result (λ file. assembled size text.now ≡ Ok file.items) }
-    // The file is read as just the commands of the list.
+    // The file is read as exactly the commands of the list.
     ensures commands { IfOk result (λ file. (cs : List Listed)
         × (spec.commands size text.now ≡ Ok cs) × IsHostFile size file.items cs) }
     ensures fault { IfErr result (λ e. (spec.commands size text.now ≡ Err e) ⊎ (e ≡ NoMemory)) }
@@ -38,7 +38,7 @@ pub fn assemble(alloc: Global, text: &[u8], size: BlockSize) -> Result<Vec<u8>, 
 /// refused before it.
 pub fn read_list(alloc: Global, text: &[u8], size: BlockSize) -> Result<Vec<Command>, ListFault>
     ensures commands { IfOk result (λ v. spec.commands size text.now ≡ Ok v.items) }
-    // Each command has just the data that it calls for and a proper opcode, and they aren't too many.
+    // Each command has exactly the data that it calls for and a proper opcode, and they aren't too many.
     ensures whole { IfOk result (λ v. All (IsWhole size) v.items) }
     ensures few { IfOk result (λ v. length v.items ≤ most_commands) }
     ensures fault { IfErr result (λ e. (spec.commands size text.now ≡ Err e) ⊎ (e ≡ NoMemory)) }
@@ -80,7 +80,7 @@ fn commands_of(alloc: Global, text: &[u8], size: BlockSize) -> Result<Vec<Comman
     Ok(commands)
 }
 
-/// The command of a line, or `None` where the line has no words, behind so many commands.
+/// The command of a line, or `None` where the line has no words, after `before` commands.
 fn command_on(
     alloc: Global,
     text: &[u8],
@@ -105,7 +105,7 @@ fn command_on(
     }
 }
 
-/// The command that words say behind so many commands.
+/// The command that words say after `before` commands.
 fn command_at(
     alloc: Global,
     words: &[u8],

@@ -23,7 +23,7 @@ pub struct Operands {
     pub payload: Payload,
 }
 
-/// What a command that asks for `op` is on, and what stands after it.
+/// What a command that asks for `op` is on, and what comes after it.
 pub fn read_operands(
     alloc: Global,
     words: &[u8],
@@ -40,7 +40,7 @@ pub fn read_operands(
     }
 }
 
-/// The ranges that the first word says, and what stands after it.
+/// The ranges that the first word says, and what comes after it.
 fn on_ranges(alloc: Global, words: &[u8]) -> Result<(Operands, &[u8]), LineFault>
     ensures { Gives (λ x. (x.0, words_in x.1.now)) result (spec.on_ranges (words_in words.now)) }
 {
@@ -56,7 +56,7 @@ fn on_ranges(alloc: Global, words: &[u8]) -> Result<(Operands, &[u8]), LineFault
 }
 
 /// The blocks that two words say, with the data that the next says where the operation carries some, and
-/// what stands after them.
+/// what comes after them.
 fn on_blocks(
     alloc: Global,
     words: &[u8],
@@ -94,7 +94,7 @@ fn nlb(word: &[u8]) -> Result<u16, Expected>
     }
 }
 
-/// The data that the first word says where the operation carries some, and what stands after it.
+/// The data that the first word says where the operation carries some, and what comes after it.
 fn carried(
     alloc: Global,
     words: &[u8],

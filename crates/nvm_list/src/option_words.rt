@@ -28,7 +28,7 @@ impl Model for Options {
     ghost inverse = { λ o. record { fuse = o.fuse; cid = o.cid; nsid = o.nsid; deallocate = o.deallocate } };
 }
 
-/// The options that the words say behind a command that is on ranges, or on blocks.
+/// The options that the words say after a command that is on ranges, or on blocks.
 pub fn read_options(words: &[u8], ranges: bool) -> Result<Options, Expected>
     ensures { result ≡ spec.options ranges (words_in words.now) }
 {

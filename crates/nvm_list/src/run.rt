@@ -5,7 +5,7 @@ use crate::line_cut::place_of;
 use crate::number_word::{hex_byte, number};
 use std::marker::Model;
 
-/// So many times the same byte.
+/// The same byte, `count` times.
 #[derive(Clone, Copy)]
 pub struct Run {
     count: u64,

@@ -1,4 +1,4 @@
-//! What the lines of a list say, as it stands there.
+//! What the lines of a list say, as it is written there.
 ghost use Rattle.std.specs.Prelude.{◌≡◌, ◌≤◌, length};
 ghost use Rattle.nvm_list.specs.Words.{first, others};
 ghost use Rattle.nvm_list.specs.Said as spec;
@@ -6,7 +6,7 @@ ghost use Rattle.nvm_list.specs.Rest.{bytes_left};
 
 use crate::line_cut::{cut, is_blank, without_comment};
 
-/// What the next line of a list that has words says, and what stands behind that line. A line says what stands before its
+/// What the next line of a list that has words says, and what comes after that line. A line says what comes before its
 /// comment, without the blanks round it. Where no line has words, both are empty.
 ///
 /// It looks no further than that line's end, so a list is gone through line by line in one pass.

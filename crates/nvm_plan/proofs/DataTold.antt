@@ -1,4 +1,4 @@
--- Data is told of a Read by itself that succeeds.
+-- Data is reported for a Read by itself that succeeds.
 use Rattle.std.proofs.Common.{◌≡◌, ℕ, List, false, Option, Some, None, MatchOption, IsTrue, IsSome, refl, ap}
 use Rattle.std.specs.Option.{IsSomeAnd}
 use Rattle.nvm_record.specs.Deeds.{is_read, is_pair}
@@ -15,7 +15,7 @@ use Rattle.nvm_plan.specs.Reply.{IsOneStatus}
 use Rattle.nvm_plan.specs.Shape.{HasShapeOf, HasShapeOfRefusal, HasOutcomeShape}
 use Rattle.nvm_plan.proofs.Arity.{one_ending}
 
--- of a Read of the operation this was told
+-- this was reported for a Read of the operation
 abbrev IsOfRead : Option Operation → Statuses → Type 0
 IsOfRead stands told = (op : Operation) × (stands ≡ Some op) × IsTrue (is_read op.deed) × (told ≡ One successful_completion)
 

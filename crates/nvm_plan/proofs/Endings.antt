@@ -1,4 +1,4 @@
--- What a part may tell, against what a record may show of a job that ended with it.
+-- What a part may report, against what a record may show of a job that ended with it.
 use Rattle.std.proofs.Common.{◌≡◌, ◌↔◌, ℕ, List, true, false, Option, None, IsTrue, IsSome, rules}
 use Rattle.nvm_record.specs.declared.status.Statuses.{Statuses}
 use Rattle.nvm_record.specs.Status.{IsSuccess}
@@ -16,7 +16,7 @@ unstarted_fails deed h = search rules
 pub success_goes_on : (deed : Deed) (result : PartResult) (told : Statuses) → MayTell deed result told → IsSuccess told → IsTrue (goes_on result)
 success_goes_on deed result told may h = search rules
 
--- what a part tells, a record may show
+-- what a part reports, a record may show
 pub told_shown : (deed : Deed) (result : PartResult) (told : Statuses) → MayTell deed result told → MayShow deed result told
 told_shown deed result told may = search rules
 

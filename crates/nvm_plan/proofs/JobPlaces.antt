@@ -1,4 +1,4 @@
--- Where a job stands, and whose commands it has.
+-- Where a job is, and whose commands it has.
 use Rattle.std.proofs.Common.{◌≡◌, inl, inr, ℕ, zero, suc, ◌+◌, ◌-◌, ◌<◌, List, [], ◌∷◌, length, get_or, take, refl, ap, sym, ◌∙◌, subst, arith}
 use mathlib.Core.Option.{some}
 use Rattle.std.specs.List.{All, Contains, flat_map}
@@ -15,7 +15,7 @@ use Rattle.nvm_plan.proofs.OnePairing.{one_pairing_alone}
 use Rattle.nvm_plan.proofs.TurnOrder.{before_not_after}
 use Rattle.nvm_plan.proofs.OneOrder.{bodies_this, bodies_other}
 
--- where the host's job of the number stands
+-- where the host's job of the number is
 pub record HasPlace (h number : ℕ) (body : Body) (jobs : List Job) : Type 0 where
   pub place : ℕ
   pub stands : IsJobOf h number jobs place
@@ -52,7 +52,7 @@ place_of h body (j ∷ js) number is =
         let p = later n is in
         one_further h n (suc n) body j js p (ap length (bodies_this h j (take p.place js) mine) ∙ ap suc p.stands.before)
 
--- each of a host's jobs stands somewhere
+-- each of a host's jobs is found somewhere
 pub stands_somewhere : (hosts : List (List Command)) (jobs : List Job) (place : ℕ) (commands : List Command) (bodies : List Body) (number : ℕ) (body : Body)
     → IsJobList hosts jobs → IsAt hosts place commands → IsPairing commands bodies → IsAt bodies number body
     → (there : ℕ) × IsJobOf (place + 1) number jobs there × IsAt jobs there (record { host = place + 1; body = body })

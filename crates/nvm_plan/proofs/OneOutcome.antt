@@ -21,7 +21,7 @@ some_last : (before : List Reply) (last : Reply) → before ++ last ∷ [] ≡ [
 some_last [] last h = cc
 some_last (r ∷ rs) last h = cc
 
--- The host is told the same.
+-- The same is reported to the host.
 abbrev pub IsSame : Statuses → Option (List ℕ) → Statuses → Option (List ℕ) → Type 0
 IsSame told read other also = (told ≡ other) × (read ≡ also)
 

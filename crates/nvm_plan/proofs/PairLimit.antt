@@ -1,4 +1,4 @@
--- The last check of a pair applies just where the pair's limit isn't kept.
+-- The last check of a pair applies exactly where the pair's limit isn't kept.
 use Rattle.std.proofs.Common.{◌≡◌, ℕ, ◌+◌, ◌-◌, ◌↔◌, Bool, true, false, not, IsTrue, refl, sym, inl, inr}
 use Rattle.std.proofs.lemmas.Bool.{cases_Bool, not-false, or_parts, or_from, not_from_true, ltb-false, le-ltb, eqb-true, eq-eqb}
 use Rattle.nvm_geometry.specs.Namespace.{Namespace}

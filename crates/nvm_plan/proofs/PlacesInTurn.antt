@@ -38,7 +38,7 @@ number_is h k jobs p j =
     let here : get_or (hosts_of jobs) p 0 ≡ h = at_value (hosts_of jobs) p h 0 j.there in
     (at_within (hosts_of jobs) p h j.there, here, rw here (sym (bodies_before h jobs p) ∙ j.before))
 
--- jobs in turn stand in the order of their numbers and hosts
+-- jobs in turn are in the order of their numbers and hosts
 pub order_of_turns : (jobs : List Job) → IsInTurn (hosts_of jobs)
     → (h k i l p q : ℕ) → IsJobOf h k jobs p → IsJobOf i l jobs q → (p < q) ↔ StandsBefore k h l i
 order_of_turns jobs turn h k i l p q a b =

@@ -1,4 +1,4 @@
--- What a host is told of a job: a completion for each of its commands.
+-- What is reported to a host about a job: a completion for each of its commands.
 use Rattle.std.specs.Prelude.{ℕ, List, Option, None}
 use Rattle.nvm_record.specs.declared.command.Command.{Command}
 use Rattle.nvm_record.specs.declared.completion.Completion.{Completion}
@@ -11,11 +11,11 @@ use Rattle.nvm_plan.specs.declared.job.Body.{Body}
 use Rattle.nvm_plan.specs.declared.job.Body.TheVariants.{Single, Pair}
 use Rattle.nvm_plan.specs.declared.job.Job.{Job}
 
--- what the host is told of its command
+-- what is reported to the host about its command
 abbrev pub completion : ℕ → Command → Status → Option (List ℕ) → Completion
 completion host c status payload = record { host = host; cid = c.cid; status = status; payload = payload }
 
--- the status of the first command, and of the second; what stands there where there is one status alone, is never asked for
+-- the status of the first command, and of the second; what is there where there is one status alone, is never asked for
 abbrev pub first_status : Statuses → Status
 first_status (One s) = s
 first_status (Two s t) = s

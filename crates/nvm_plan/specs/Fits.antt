@@ -11,7 +11,7 @@ use Rattle.nvm_plan.specs.Profile.{IsFusedPair}
 abbrev pub most_hosts : ℕ
 most_hosts = 64
 
--- Each command has just the data that it calls for and a proper opcode, or is a Dataset Management as an unknown opcode, and
+-- Each command has exactly the data that it calls for and a proper opcode, or is a Dataset Management as an unknown opcode, and
 -- two of them are a pair.
 abbrev pub IsWholeBody : ℕ → Body → Type 0
 IsWholeBody size (Single c) = IsWhole size c ⊎ IsUnknownDataset c

@@ -33,7 +33,7 @@ pub record IsPairing (commands : List Command) (bodies : List Body) : Type 0 whe
 abbrev pub bodies_of : ℕ → List Job → List Body
 bodies_of host jobs = map (λ job. job.body) (filter (λ job. job.host == host) jobs)
 
--- At this place of the list stands the host's job of this number, counted from 0.
+-- At this place of the list is the host's job of this number, counted from 0.
 pub record IsJobOf (host number : ℕ) (jobs : List Job) (place : ℕ) : Type 0 where
   pub there : IsAt (map (λ job. job.host) jobs) place host
   pub before : length (bodies_of host (take place jobs)) ≡ number

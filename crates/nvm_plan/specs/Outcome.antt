@@ -1,5 +1,5 @@
 -- The outcome of a job: the replies to its parts, one for each unit in which a part was done, and what
--- its host is told after them. That parts stop at the first without success, and what is told for want of
+-- is reported to its host after them. That parts stop at the first without success, and what is reported for want of
 -- memory or at a full history, are this project's own. Which status a comparison or a Read has rests on the
 -- medium, and isn't said here.
 use Rattle.std.specs.Prelude.{◌≡◌, ◌≢◌, ◌⊎◌, ℕ, if◌then◌else◌, List, [], ◌∷◌, ◌++◌, map, Option, Some, None, MatchOption, IsSomeAnd, unwrap_or}
@@ -28,7 +28,7 @@ data_told replies = flat_map (λ reply. unwrap_or reply.payload []) replies
 abbrev pub answered : Deed → List ℕ → Option (List ℕ)
 answered deed bytes = if is_read deed then Some bytes else None
 
--- what is told where memory was refused before the first part
+-- what is reported where memory was refused before the first part
 abbrev pub unstarted_of : Deed → Statuses
 unstarted_of deed = for_deed deed (One internal_error) (Two internal_error aborted_due_to_failed_fused_command)
 

@@ -1,4 +1,4 @@
--- What a unit tells of the part of an operation that it did.
+-- What a unit reports about the part of an operation that it did.
 use Rattle.std.specs.Prelude.{◌≡◌, ◌⊎◌, ◌↔◌, ℕ, List, Bool, true, not, Option, None, IsTrue, IsSome}
 use Rattle.nvm_record.specs.declared.status.Status.{Status}
 use Rattle.nvm_record.specs.declared.status.Statuses.{Statuses}
@@ -13,7 +13,7 @@ use Rattle.nvm_plan.specs.declared.part.Part.{Part}
 use Rattle.nvm_plan.specs.declared.part.PartResult.{PartResult}
 use Rattle.nvm_plan.specs.declared.part.PartResult.TheVariants.{Done, Failed, Looked, NoMemory, Full}
 
--- a part that was done, what its host would be told of it alone, and the data that a Read's part read
+-- a part that was done, what would be reported to its host about it alone, and the data that a Read's part read
 pub record Reply : Type 0 where
   pub part : Part
   pub statuses : Statuses
@@ -27,7 +27,7 @@ can_have deed Looked = is_look deed
 can_have deed NoMemory = true
 can_have deed Full = not (is_look deed)
 
--- What is told of a stop: memory was refused in a unit, or its history is full. A pair's comparison came
+-- What is reported about a stop: memory was refused in a unit, or its history is full. A pair's comparison came
 -- before that, and held.
 abbrev pub stop_of : Deed → Statuses
 stop_of deed = for_deed deed (One internal_error) (Two successful_completion internal_error)
@@ -59,7 +59,7 @@ abbrev pub IsOfLook : Deed → Statuses → Type 0
 IsOfLook deed (One s) = CanEndLook deed s
 IsOfLook deed (Two s t) = ⊥
 
--- What may be told of a part that ended so. Which of the statuses of a failed comparison and of a look it is,
+-- What may be reported about a part that ended so. Which of the statuses of a failed comparison and of a look it is,
 -- rests on the medium.
 abbrev pub MayTell : Deed → PartResult → Statuses → Type 0
 MayTell deed Done told = told ≡ success_of deed
@@ -68,7 +68,7 @@ MayTell deed Looked told = IsOfLook deed told
 MayTell deed NoMemory told = told ≡ stop_of deed
 MayTell deed Full told = told ≡ stop_of deed
 
--- It was a Read by itself, and succeeded: data is told just of this.
+-- It was a Read by itself, and succeeded: data is reported for this alone.
 abbrev pub GivesData : Deed → Statuses → Type 0
 GivesData deed told = IsTrue (is_read deed) × IsSuccess told
 
@@ -83,7 +83,7 @@ pub record IsSuccessfulReply (deed : Deed) (r : Reply) : Type 0 where
   pub reply : IsReplyTo deed r
   pub success : IsSuccess r.statuses
 
--- the reply of a part that rests on this medium: what the step tells of the operation's part in its unit
+-- the reply of a part that rests on this medium: what the step reports about the operation's part in its unit
 abbrev pub reply_on : Namespace → Operation → Medium → Part → Reply
 reply_on ns op m part =
     record { part = part; statuses = statuses_of (part_in ns op part.unit) m; payload = data_of (part_in ns op part.unit) m }

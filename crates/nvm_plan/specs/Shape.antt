@@ -1,5 +1,5 @@
 -- What a record of a job shows of its outcome: the parts, the statuses, and whether there is data. It
--- doesn't show what each unit told, so that is judged elsewhere, the statuses of a failed comparison too.
+-- doesn't show what each unit reported, so that is judged elsewhere, the statuses of a failed comparison too.
 use Rattle.std.specs.Prelude.{◌≡◌, ◌≢◌, ◌⊎◌, ◌↔◌, ℕ, List, [], ◌∷◌, ◌++◌, map, Bool, true, false, Option, None, IsTrue, IsSome, MatchOption, IsSomeAnd}
 use Rattle.std.specs.List.{AllByRecursion}
 use Rattle.nvm_record.specs.declared.status.Statuses.{Statuses}

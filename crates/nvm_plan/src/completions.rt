@@ -4,7 +4,7 @@ ghost use Rattle.nvm_plan.specs.Completions as spec;
 use crate::job::{Body, Job};
 use nvm_record::{Command, Completion, ReadData, Status, Statuses};
 
-/// What a host is told of a job: a completion for each of its commands.
+/// What is reported to a host about a job: a completion for each of its commands.
 #[derive(Debug, PartialEq, Eq, Drop)]
 pub enum Completions {
     /// The completion of a command by itself.
@@ -36,7 +36,7 @@ impl Completions {
     }
 }
 
-/// What the host is told of its command.
+/// What is reported to the host about its command.
 fn completion(host: u16, command: &Command, status: Status, payload: Option<ReadData>) -> Completion
     ensures { result ≡ spec.completion host command.now status payload }
 {

@@ -9,7 +9,7 @@ use nvm_geometry::Geometry;
 pub const MOST_HOSTS: u16 = 64;
 
 /// Whether the job can be done and recorded on a namespace of this geometry: its host is 1 to 64,
-/// each command has just the data that it calls for in the geometry's blocks and holds no opcode as
+/// each command has exactly the data that it calls for in the geometry's blocks and holds no opcode as
 /// `Other` that has a name, and a pair is a first and a second of the profile. A Dataset Management as an
 /// unknown opcode without data is taken too, since it was one once: [`plan`](crate::plan) refuses it. It takes no
 /// memory.

@@ -34,7 +34,7 @@ pub fn no_more_jobs_than_commands()
         → All (λ commands. length commands ≤ most) hosts → IsJobList hosts jobs → length jobs ≤ length hosts * most }
 {}
 
-/// Each job of each host stands in the list, at one place.
+/// Each job of each host is in the list, at one place.
 pub fn each_job_stands_once()
     ensures somewhere { (hosts : List (List Command)) (jobs : List Job) (place : ℕ) (commands : List Command)
         (bodies : List Body) (number : ℕ) (body : Body)
@@ -55,7 +55,7 @@ pub fn jobs_are_of_their_hosts()
         → All (λ job. All (IsWhole size) (commands_of job.body)) jobs }
 {}
 
-/// Where there are at most 64 hosts, and their commands have just the data that they call for and proper opcodes,
+/// Where there are at most 64 hosts, and their commands have exactly the data that they call for and proper opcodes,
 /// as those that `read_host` reads have, each job fits.
 pub fn jobs_fit()
     ensures { (ns : Namespace) (hosts : List (List Command)) (jobs : List Job) → length hosts ≤ most_hosts

@@ -32,7 +32,7 @@ ghost use Rattle.nvm_plan.specs.Shape.{HasShapeOf, HasShapeOfRefusal, HasOutcome
 
 use nvm_geometry::laws;
 
-/// The last check of a pair applies just where a pair of the range isn't within the advertised limits.
+/// The last check of a pair applies exactly where a pair of the range isn't within the advertised limits.
 pub fn pair_limit_is_the_last_check()
     ensures kept { (ns : Namespace) (slba blocks : ℕ) → IsWithinPairLimit ns slba blocks
         → exceeds_pair_limit ns slba blocks ≡ false }
@@ -43,7 +43,7 @@ pub fn pair_limit_is_the_last_check()
 }
 
 /// The jobs to which no check applies are those that are ready, and each stands for an operation in the
-/// namespace. One on a range has a block, so it has a part; that of a pair has just one. The ranges of a Deallocate
+/// namespace. One on a range has a block, so it has a part; that of a pair has exactly one. The ranges of a Deallocate
 /// lie in the namespace, which is its operation's range.
 #[tactic(auto, unfolding(crate::specs::Checks::refusal_of))]
 pub fn ready_jobs()
@@ -69,7 +69,7 @@ pub fn ready_jobs()
     laws::one_unit_is_one_part();
 }
 
-/// The operation of a job that fits has just the data of its blocks.
+/// The operation of a job that fits has exactly the data of its blocks.
 pub fn jobs_that_fit_have_their_data()
     ensures { (ns : Namespace) (job : Job) (op : Operation) → FitsNamespace ns job
         → refusal_of ns job ≡ None → job_operation_of ns job ≡ Some op
@@ -78,10 +78,10 @@ pub fn jobs_that_fit_have_their_data()
     ready_jobs();
 }
 
-/// A job has a part in just the units that its operation meets, all of them units of the namespace, and that part is
+/// A job has a part in exactly the units that its operation meets, all of them units of the namespace, and that part is
 /// its operation's. Those of a Deallocate are the units in which one of its ranges has an LBA, however many ranges have
 /// one there. A job that a check refuses has no part. The part of a job that fits lies in its unit, has a block, and
-/// has just its data, or its ranges lie there.
+/// has exactly its data, or its ranges lie there.
 pub fn parts_of_jobs()
     ensures part { (ns : Namespace) (job : Job) (op : Operation) (unit : ℕ) → refusal_of ns job ≡ None
         → job_operation_of ns job ≡ Some op → Contains (units_met ns op) unit
@@ -130,7 +130,7 @@ pub fn shapes_by_plan()
         → HasOutcomeShape ns job parts told read ↔ HasShapeOfRefusal refusal parts told read }
 {}
 
-/// What the step tells of a part is a reply to it, and so is what is told where memory was refused or the
+/// What the step reports about a part is a reply to it, and so is what is reported where memory was refused or the
 /// unit was full.
 pub fn answers_of_the_step_are_replies()
     ensures looked { (ns : Namespace) (op : Operation) (m : Medium) (part : Part) → IsLook op.deed
@@ -164,7 +164,7 @@ pub fn outcomes_are_made_part_by_part()
         → IsOutcomeOf ns op [] (unstarted_of op.deed) None }
 {}
 
-/// The replies to a job's parts fix what its host is told.
+/// The replies to a job's parts fix what is reported to its host.
 pub fn replies_fix_the_outcome()
     ensures statuses { (ns : Namespace) (job : Job) (replies : List Reply) (told other : Statuses)
         (read also : Option (List ℕ))
@@ -181,7 +181,7 @@ pub fn outcomes_have_their_shape()
         → HasOutcomeShape ns job (map (λ reply. reply.part) replies) told read }
 {}
 
-/// Data is told of a Read by itself that succeeds, and of no other job: it comes with the one status 0/00.
+/// Data is reported for a Read by itself that succeeds, and for no other job: it comes with the one status 0/00.
 pub fn data_comes_with_success()
     ensures outcome { (ns : Namespace) (job : Job) (replies : List Reply) (told : Statuses) (read : Option (List ℕ))
         → IsOutcome ns job replies told read → IsSome read

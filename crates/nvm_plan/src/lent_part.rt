@@ -37,7 +37,7 @@ pub enum LentPart<'a> {
     Look(Look<'a>),
 }
 
-/// A job's part in a unit: what is done there, on just those of its blocks that lie in the unit and with just
+/// A job's part in a unit: what is done there, on exactly those of its blocks that lie in the unit and with exactly
 /// their data. It is `None` where a check refuses the job, where none of its blocks lies in the unit, and where
 /// no unit has that number. It takes no memory and a constant number of steps, and for a Dataset Management a walk
 /// over its ranges.
@@ -46,7 +46,7 @@ pub fn job_part_in<'a>(geometry: &Geometry, job: &'a Job, unit: u16) -> Option<L
     ensures part { MatchOption result (spec.job_part_in geometry.now job.now unit ≡ None)
         (λ part. spec.job_part_in geometry.now job.now unit ≡ Some (part_operation_of part)) }
 
-    // The part lies in the unit's place, has a block, and has just its data.
+    // The part lies in the unit's place, has a block, and has exactly its data.
     ensures covered { IfSome result (λ part. (place : UnitPlace) → IsUnitPlace geometry.now unit place
         → IsCovered place (part_operation_of part)) }
 {

@@ -3,10 +3,10 @@
 //!
 //! [`jobs`] pairs the hosts' commands and puts them in order, [`plan`] is the table of checks, and [`fits`]
 //! tests what a job must be before it. [`job_units`] are the units in which a job has a part, [`job_part_in`] is its
-//! act or look in one of them, [`Kind`] says what its parts do and how they can end, and [`Completions`] are what its host is
-//! told. Where it is known that no check applies, [`ready_job_units`], [`ready_part_count`], [`next_job_unit`] and [`job_part_there`] do
-//! without another plan. What a job does to the medium and what
-//! its outcome is stands in specs alone; [`laws`] and [`job_laws`] have what holds of these.
+//! act or look in one of them, [`Kind`] says what its parts do and how they can end, and [`Completions`] are what is reported
+//! to its host. Where it is known that no check applies, [`ready_job_units`], [`ready_part_count`], [`next_job_unit`]
+//! and [`job_part_there`] do without another plan. What a job does to the medium and what
+//! its outcome is, only specs say; [`laws`] and [`job_laws`] have what holds of these.
 #![tactic(auto)]
 
 mod checks;

@@ -1,4 +1,4 @@
--- What a step leaves and tells, by the kind of its deed.
+-- What a step leaves and reports, by the kind of its deed.
 use Rattle.std.proofs.Common.{◌≡◌, ◌⊎◌, ◌↔◌, ℕ, true, ◌-◌, List, Some, inl, inr, refl, ap, ◌∙◌}
 use Rattle.std.proofs.lemmas.Bool.{cases_Bool}
 use Rattle.std.proofs.lemmas.Slice.Eq.{bytes_eq-Decides}

@@ -5,7 +5,7 @@ use Rattle.nvm_record.specs.declared.block.Block.{Block}
 use Rattle.nvm_record.specs.Medium.{Medium, range}
 use Rattle.nvm_record.specs.Step.{Operation, block_after, is_about, is_in_range, reaches, range_of, statuses_of, data_of, data_on, statuses_on, medium_after, AgreeOn}
 
--- the bounds that the test for the range tells
+-- the bounds that the test for the range gives
 pub range_bounds : (op : Operation) (lba : ℕ) → is_in_range op lba ≡ true → (op.first ≤ lba) × (lba < op.first + op.blocks)
 range_bounds op lba inside =
     let parts = and_parts _ _ inside in

@@ -1,4 +1,4 @@
--- Commands that were read have just the data that they call for, and proper opcodes.
+-- Commands that were read have exactly the data that they call for, and proper opcodes.
 use Rattle.std.proofs.Common.{◌≡◌, ℕ, ◌+◌, ◌*◌, ◌<◌, ◌==◌, List, length, drop, slice_index, refl, sym, ap, ◌∙◌, subst, arith, Bool, true, false, if◌then◌else◌}
 use Rattle.byteorder.specs.Endian.{little_number}
 use Rattle.nvm_record.specs.Op.{op_of, deallocate_of, IsProperOp, carries_ranges}
@@ -60,7 +60,7 @@ with_ranges size WriteZeroes c found nr some slba nlb payload again e few = cc
 with_ranges size (Dataset deallocate) c found nr some slba nlb payload again e few = ranges c found nr slba nlb payload again e few
 with_ranges size (Other opcode) c found nr some slba nlb payload again e few = cc
 
--- what is read of an entry and of the data behind it
+-- what is read of an entry and of the data after it
 pub record IsRead (size : ℕ) (front found : List ℕ) (n : ℕ) (c : Command) : Type 0 where
   pub entry : IsEntryOf front c
   pub nr : n ≡ (if carries_ranges c.op then slice_index front 40 else 0)

@@ -5,7 +5,7 @@ use Rattle.byteorder.specs.Endian.{little_bytes}
 use Rattle.nvm_record.specs.declared.completion.Completion.{Completion}
 
 -- Command identifier in bits 15:0, phase tag 0 in bit 16, status code in bits 24:17, status code type in
--- bits 27:25; what stands above is 0.
+-- bits 27:25; what is above is 0.
 abbrev pub dword_3 : Completion → ℕ
 dword_3 c = c.cid + c.status.sc * 2 ^ 17 + c.status.sct * 2 ^ 25
 

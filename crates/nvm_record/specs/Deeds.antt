@@ -1,4 +1,4 @@
--- The kinds of deeds, what is told of success, and pairs that fail. Who asks for a kind, asks here.
+-- The kinds of deeds, what is reported on success, and pairs that fail. Who asks for a kind, asks here.
 use Rattle.std.specs.Prelude.{◌≡◌, List, Bool, true, false, not, IsTrue, if◌then◌else◌}
 use Rattle.nvm_record.specs.declared.block.Block.{Block}
 use Rattle.nvm_record.specs.declared.status.Statuses.{Statuses}
@@ -50,7 +50,7 @@ IsOnRange deed = IsTrue (not (is_deallocate deed))
 abbrev pub for_deed : Deed → Statuses → Statuses → Statuses
 for_deed deed one two = if is_pair deed then two else one
 
--- what is told of success
+-- what is reported on success
 abbrev pub success_of : Deed → Statuses
 success_of deed = for_deed deed (One successful_completion) (Two successful_completion successful_completion)
 

@@ -37,7 +37,7 @@ pub record HasRanges (c : Command) : Type 0 where
   pub few : range_count c.payload ≤ most_ranges
   pub plain : c.payload ≡ data_of_ranges (ranges_of c.payload)
 
--- The command has just the data that this operation calls for.
+-- The command has exactly the data that this operation calls for.
 abbrev pub HasDataOf : ℕ → Op → Command → Type 0
 HasDataOf size Write c = length c.payload ≡ (c.nlb + 1) * size
 HasDataOf size Read c = length c.payload ≡ 0
@@ -47,7 +47,7 @@ HasDataOf size WriteZeroes c = length c.payload ≡ 0
 HasDataOf size (Dataset deallocate) c = HasRanges c
 HasDataOf size (Other opcode) c = length c.payload ≡ 0
 
--- The command has just the data that it calls for, and its opcode can be read back.
+-- The command has exactly the data that it calls for, and its opcode can be read back.
 pub record IsWhole (size : ℕ) (c : Command) : Type 0 where
   pub payload : HasDataOf size c.op c
   pub op : IsProperOp c.op
@@ -102,7 +102,7 @@ entry_of c =
     (little_bytes 2 c.cid ++ (little_bytes 4 c.nsid ++ (replicate 32 0
     ++ (place_bytes c ++ (count_bytes c ++ replicate 14 0)))))
 
--- the entry, and the command's data behind it
+-- the entry, and the command's data after it
 abbrev pub spelling_of : Command → List ℕ
 spelling_of c = entry_of c ++ c.payload
 

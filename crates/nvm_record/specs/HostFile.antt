@@ -10,7 +10,7 @@ use Rattle.nvm_record.specs.declared.host_fault.HostFault.TheVariants.{BadName, 
 abbrev pub file_name : List ℕ
 file_name = 78 ∷ 86 ∷ 81 ∷ 49 ∷ []
 
--- a file has so many commands at most
+-- the most commands of a file
 abbrev pub most_commands : ℕ
 most_commands = 65536
 
@@ -30,7 +30,7 @@ abbrev pub file_of : List Command → List ℕ
 file_of cs = file_name ++ flat_map spelling_of cs
 
 -- Bytes are left, and either there is no whole entry among them, or there is one and the data that it
--- calls for isn't whole. What isn't whole begins `inside` bytes behind the front of what is left.
+-- calls for isn't whole. What isn't whole begins `inside` bytes past the front of what is left.
 abbrev pub IsCut : ℕ → List ℕ → ℕ → Type 0
 IsCut size rest inside =
     ((0 < length rest) × (length rest < 64) × (inside ≡ 0))

@@ -3,6 +3,6 @@ use Rattle.std.specs.Prelude.{◌≡◌, ℕ, List}
 use mathlib.Core.Option.{some}
 use lib.ListN.{get_elem?}
 
--- It stands at place i of the list, counted from 0.
+-- It is at place i of the list, counted from 0.
 abbrev pub IsAt : {A : Type 0} → List A → ℕ → A → Type 0
 IsAt xs i x = get_elem? xs i ≡ some x

@@ -11,7 +11,7 @@ Medium = ℕ → Block
 abbrev pub zero_medium : ℕ → Medium
 zero_medium size lba = Bytes (replicate size 0)
 
--- The block is marked, or has just so many bytes.
+-- The block is marked, or has exactly `size` bytes.
 abbrev pub IsOfSize : ℕ → Block → Type 0
 IsOfSize size (Bytes bytes) = length bytes ≡ size
 IsOfSize size Uncorrectable = Unit {0}

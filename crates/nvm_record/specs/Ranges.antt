@@ -29,7 +29,7 @@ pub record AreRangesWithin (first blocks : ℕ) (rs : List LbaRange) : Type 0 wh
   pub some : rs ≢ []
   pub each : All (λ r. (0 < r.blocks) × (first ≤ r.first) × (r.first + r.blocks ≤ first + blocks)) rs
 
--- a command has so many ranges at most
+-- the most ranges of a command
 abbrev pub most_ranges : ℕ
 most_ranges = 256
 

@@ -1,4 +1,4 @@
--- What a command does to a medium, LBA by LBA, and what its host is told: NVM Command Set
+-- What a command does to a medium, LBA by LBA, and what is reported to its host: NVM Command Set
 -- Specification, the commands Write, Read, Write Zeroes, Write Uncorrectable, Compare and Dataset Management; Base
 -- Specification, "Fused Operation". No unit, part or version occurs here. A block is marked where it is
 -- Uncorrectable. This project's own: zeroes clear a mark, deallocated blocks are zeroes, and a mark decides a comparison
@@ -33,7 +33,7 @@ pub record Operation : Type 0 where
   pub blocks : ℕ
   pub deed : Deed
 
--- The data of the deed, where it has any, is of so many bytes.
+-- The data of the deed, where it has any, is of `bytes` bytes.
 abbrev pub HasData : ℕ → Deed → Type 0
 HasData bytes (writes payload) = length payload ≡ bytes
 HasData bytes zeroes = Unit {0}
@@ -73,7 +73,7 @@ comparison blocks payload =
     if has_mark blocks then unrecovered_read_error else
     if compares_equal blocks payload then successful_completion else compare_failure
 
--- what the host is told, by the blocks of the range
+-- what is reported to the host, by the blocks of the range
 abbrev pub statuses_on : List Block → Deed → Statuses
 statuses_on blocks (writes payload) = One successful_completion
 statuses_on blocks zeroes = One successful_completion

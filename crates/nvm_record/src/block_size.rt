@@ -28,7 +28,7 @@ impl BlockSize {
     /// 4,096 bytes.
     pub const BYTES_4096: BlockSize = BlockSize { bytes: 4096 };
 
-    /// The size of so many bytes, or `None` where no block has that size.
+    /// The size of `bytes` bytes, or `None` where no block has that size.
     pub fn new(bytes: u32) -> Option<BlockSize>
         ensures { SomeIff result (IsBlockSize bytes) bytes }
     {

@@ -29,7 +29,7 @@ pub struct Command {
 }
 
 impl Command {
-    /// Whether the command has just the data that it calls for, in blocks of `size`, and a proper opcode. A
+    /// Whether the command has exactly the data that it calls for, in blocks of `size`, and a proper opcode. A
     /// Dataset Management has 1 to 256 ranges with context attributes of 0, and an LBA and an NLB of 0.
     pub fn is_whole(&self, size: BlockSize) -> bool
         ensures { IsTrue result ↔ IsWhole size self.now }

@@ -6,7 +6,7 @@ use crate::status::Status;
 use byteorder::{ByteOrder, LittleEndian};
 use std::alloc::AllocError;
 
-/// What a host is told of one of its commands.
+/// What is reported to a host about one of its commands.
 #[derive(Debug, PartialEq, Eq, Drop)]
 pub struct Completion {
     /// The number of the host, from 1.

@@ -9,7 +9,7 @@ use crate::lba_range::range_count;
 use crate::op::{Fuse, Op, has_deallocate};
 use byteorder::{ByteOrder, LittleEndian};
 
-/// A submission entry has so many bytes.
+/// The number of bytes of a submission entry.
 pub const ENTRY_BYTES: usize = 64;
 
 /// What a submission entry says of its command, which is all but the data.

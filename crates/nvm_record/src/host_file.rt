@@ -18,7 +18,7 @@ use std::alloc::Global;
 /// A host file begins with these bytes.
 const NAME: &[u8; 4] = b"NVQ1";
 
-/// A host file has so many commands at most.
+/// The most commands of a host file.
 pub const MOST_COMMANDS: usize = 65_536;
 
 /// Reads the commands of a host file, from its front: the four bytes `NVQ1`, then each command's
@@ -35,7 +35,7 @@ pub fn read_host(alloc: Global, bytes: &Payload, size: BlockSize) -> Result<Vec<
     // What is answered is what the file reads as.
     ensures commands { IfOk result (λ v. IsHostFile size bytes.now v.items) }
     ensures fault { IfErr result (IsAnsweredFault size bytes.now) }
-    // Each command has just the data that it calls for, and no `Other` has an opcode with a name.
+    // Each command has exactly the data that it calls for, and no `Other` has an opcode with a name.
     ensures whole { IfOk result (λ v. All (IsWhole size) v.items) }
 
     // A file reads as one thing alone, so nothing but want of memory is answered in its place.
@@ -70,7 +70,7 @@ fn commands_of(alloc: Global, bytes: &Payload, size: BlockSize) -> Result<Vec<Co
     Ok(commands)
 }
 
-/// Reads the command at the front of `rest`, which stands at `offset` of its file, and gives what
+/// Reads the command at the front of `rest`, which is at `offset` of its file, and gives what
 /// follows it.
 fn next_command(
     alloc: Global,
@@ -96,7 +96,7 @@ fn next_command(
 
 /// The bytes of the host file that holds the commands, every unnamed bit being 0.
 ///
-/// It is read as just these commands, where each is whole ([`Command::is_whole`]), and there are 65,536 of
+/// It is read as exactly these commands, where each is whole ([`Command::is_whole`]), and there are 65,536 of
 /// them at most.
 pub fn host_bytes(alloc: Global, commands: &[Command]) -> Result<Vec<u8>, NoMemory>
     ensures bytes { IfOk result (λ v. v.items ≡ file_of commands.now) }
@@ -111,7 +111,7 @@ pub fn host_bytes(alloc: Global, commands: &[Command]) -> Result<Vec<u8>, NoMemo
     Ok(bytes)
 }
 
-/// How many bytes the host file has. Where no memory can have so many, it is as much as can be asked for.
+/// How many bytes the host file has. Where no memory can have that many, it is as much as can be asked for.
 fn length_of(commands: &[Command]) -> usize {
     let mut length = NAME.len();
     for command in commands {

@@ -44,8 +44,8 @@ pub fn statuses_have_their_codes()
     ensures differs { named.COMPARE_FAILURE ≡ status.compare_failure }
 {}
 
-/// Media keep their block size. The medium of zero bytes has it, a step whose data has just its range's
-/// blocks keeps it, and what a Read answers has just so many bytes as its blocks.
+/// Media keep their block size. The medium of zero bytes has it, a step whose data has exactly its range's
+/// blocks keeps it, and what a Read answers has exactly as many bytes as its blocks.
 pub fn steps_keep_block_sizes()
     ensures begun { (size : ℕ) → HasBlockSize size (zero_medium size) }
     ensures step { (size : ℕ) (op : Operation) (m : Medium) → HasData (op.blocks * size) op.deed
@@ -76,7 +76,7 @@ pub fn looks_change_nothing()
         → medium_after size op m lba ≡ m lba }
 {}
 
-/// Success is told in one way: 0/00 for each command.
+/// Success is reported in one way: 0/00 for each command.
 pub fn success_is_told_alike()
     ensures { (op : Operation) (m : Medium) → IsSuccess (statuses_of op m) → statuses_of op m ≡ success_of op.deed }
 {}
@@ -87,7 +87,7 @@ pub fn reading_is_comparing()
         → (data_on blocks reads ≡ Some bytes) ↔ (compares_equal blocks bytes ≡ true) }
 {}
 
-/// Data holds one range for each 16 bytes, each at its place. The data of ranges is read as just these, where their
+/// Data holds one range for each 16 bytes, each at its place. The data of ranges is read as exactly these, where their
 /// fields have 64 and 32 bits, as those have that are read of bytes.
 pub fn ranges_are_read_back()
     ensures again { (rs : List Range) → All FitsItsBytes rs → ranges_of (data_of_ranges rs) ≡ rs }

@@ -7,12 +7,12 @@ use crate::payload::Payload;
 use byteorder::{ByteOrder, LittleEndian};
 use std::alloc::Global;
 
-/// A range definition has so many bytes.
+/// The number of bytes of a range definition.
 pub const RANGE_BYTES: usize = 16;
-/// A command has so many ranges at most.
+/// The most ranges of a command.
 pub const MOST_RANGES: usize = 256;
 
-/// The length in logical blocks begins at this byte of a range definition. The context attributes stand before it.
+/// The length in logical blocks begins at this byte of a range definition. The context attributes come before it.
 const BLOCKS_AT: usize = 4;
 /// The starting LBA begins at this byte of a range definition.
 const FIRST_AT: usize = 8;

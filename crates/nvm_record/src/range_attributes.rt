@@ -7,7 +7,7 @@ use crate::lba_range::{LbaRange, RANGE_BYTES, range_count};
 use crate::payload::Payload;
 use std::alloc::Global;
 
-/// A copy of the ranges in which each context attribute is 0. Bytes behind the last whole range aren't
+/// A copy of the ranges in which each context attribute is 0. Bytes past the last whole range aren't
 /// copied.
 pub fn without_attributes(alloc: Global, payload: &[u8]) -> Result<Payload, NoMemory>
     ensures bytes { IfOk result (λ p. p ≡ data_of_ranges (ranges_of payload.now)) }

@@ -54,7 +54,7 @@ pub fn read_command(
     Ok((command, rest))
 }
 
-/// What a command keeps of its data, which stands from place `from` up to place `to`: all of it, but for the
+/// What a command keeps of its data, which goes from place `from` up to place `to`: all of it, but for the
 /// context attributes of ranges.
 fn kept(alloc: Global, op: Op, bytes: &Payload, from: usize, to: usize) -> Result<Payload, NoMemory>
     requires ordered { from ≤ to }

@@ -19,7 +19,7 @@ pub record AreLeft (n : ℕ) (given now : List PortState) : Type 0 where
   pub theirs : (w k : ℕ) (was port : PortState) (pass : PassState) → IsAt given w was → IsAt now w port
       → IsAt port.passes k pass → IsAt was.passes k pass
 
--- The first units are left, and those behind them ended with these histories, the last first.
+-- The first units are left, and those after them ended with these histories, the last first.
 pub record IsEnding {H : Type 0} (of : H → List HistoryEntry) (units : List UnitName) (ports : List PortState)
     (left : List UnitName) (now : List PortState) (ended : List H) : Type 0 where
   pub count : length left + length ended ≡ length units
@@ -163,7 +163,7 @@ at_reverse_back xs i x e =
     let same : get_or (reverse xs) i x ≡ get_or xs (length xs - 1 - i) x = get_or-reverse xs i x (omega arith) in
     (length xs - 1 - i, omega arith, at_index xs (length xs - 1 - i) x (omega arith) (sym (index_at (reverse xs) i x x e) ∙ same))
 
--- In the end all units ended, and their histories stand in their order.
+-- In the end all units ended, and their histories are in their order.
 pub all_ended : {H : Type 0} (of : H → List HistoryEntry) (units : List UnitName) (given : List PortState) (left : List UnitName) (now : List PortState) (ended after : List H)
     → IsEnding of units given left now ended → length left ≡ 0 → after ≡ reverse ended
     → (k : ℕ) (unit : UnitName) (history : H) → IsAt units k unit → IsAt after k history → EndsWhole k unit given (of history)

@@ -5,7 +5,7 @@ use lib.ListN.{get_elem?}
 use Rattle.nvm_record.specs.Lists.{IsAt}
 
 module _ {A : Type 0} where
-  -- One thing stands at a place.
+  -- One thing is at a place.
   pub at_one : (xs : List A) (i : ℕ) (x y : A) → IsAt xs i x → IsAt xs i y → x ≡ y
   at_one xs i x y e f = some-injective x y (sym e ∙ f)
 
@@ -61,7 +61,7 @@ module _ {A : Type 0} where
   at_last [] x = refl
   at_last (z ∷ zs) x = at_last zs x
 
-  -- What stands in a list with one thing more stands in it, or is that.
+  -- What is in a list with one thing more is in it, or is that.
   pub at_more : (xs : List A) (x : A) (i : ℕ) (y : A) → IsAt (xs ++ x ∷ []) i y → IsAt xs i y ⊎ ((i ≡ length xs) × (y ≡ x))
   at_more [] x zero y e = inr (refl, sym (some-injective x y e))
   at_more [] x (suc i) y e = absurd (some-ne-none y (sym e))
@@ -72,7 +72,7 @@ module _ {A : Type 0} where
         | inr last ↦ inr (ap suc last.0, last.1)
       ]
 
-  -- what is left from a place on begins with what stands there
+  -- what is left from a place on begins with what is there
   pub drop_here : (xs : List A) (i : ℕ) (x : A) (rest : List A) → drop i xs ≡ x ∷ rest → IsAt xs i x
   drop_here [] zero x rest e = absurd (cc e)
   drop_here [] (suc i) x rest e = absurd (cc e)

@@ -78,7 +78,7 @@ pub record IsStep (ns : Namespace) (number : ℕ) (job : Job) (op : Operation) (
   pub reply : IsReplyTo op.deed did.reply
   pub goes : IsSuccess statuses → more ≡ bytes ++ unwrap_or did.reply.payload []
 
--- what a unit told of the job's part there, with its data gathered
+-- what a unit reported about the job's part there, with its data gathered
 pub step_of : (ns : Namespace) (number : ℕ) (job : Job) (op part : Operation) (unit : ℕ) (now new : List PassView) (bytes more : List ℕ) (r : PartReply) (ended : Part) (statuses : Statuses)
     → BecomesAt unit (DoesPart (part_done number part (reply_told r))) now new → r.unit ≡ unit → job_part_in ns job unit ≡ Some part
     → ((p q : PassView) → DoesPart (part_done number part (reply_told r)) p q → IsReplyTo op.deed (reply_told r))
@@ -136,7 +136,7 @@ module _ (ns : Namespace) (lists : Bool) (number : ℕ) (job : Job) (op : Operat
         are_listed = is ∙ listed_more lists have.parts did listed part have.are_listed step.its_part;
       }
 
-  -- What is told of a part that doesn't succeed is told of the job.
+  -- What is reported about a part that doesn't succeed is reported about the job.
   pub stops_so : ((replies : List Reply) (r : Reply) (left : List ℕ) → AreDone ns op replies (r.part.unit ∷ left) → IsReplyTo op.deed r → (IsSuccess r.statuses → ⊥) → IsOutcomeOf ns op (replies ++ r ∷ []) r.statuses None)
       → ((replies : List Reply) (told : Statuses) (read : Option (List ℕ)) → IsOutcomeOf ns op replies told read → IsOutcome ns job replies told read)
       → (start now new : List PassView) (unit : ℕ) (left : List ℕ) (listed : List Part) (bytes more_bytes : List ℕ) (part : Part) (statuses : Statuses)
@@ -190,7 +190,7 @@ module _ (ns : Namespace) (lists : Bool) (number : ℕ) (job : Job) (op : Operat
         listed = ended.1 ∙ have.are_listed;
       }
 
--- What was told of the part of a job that isn't refused.
+-- What was reported about the part of a job that isn't refused.
 pub step_so : (ns : Namespace) (number : ℕ) (job : Job) (op part : Operation) (unit : ℕ) (now new : List PassView) (bytes more : List ℕ) (r : PartReply) (ended : Part) (statuses : Statuses)
     → is_look (part_in ns op unit).deed ≡ is_look op.deed → is_pair (part_in ns op unit).deed ≡ is_pair op.deed
     → ((m : Medium) (p : Part) → IsLook op.deed → p.result ≡ result.Looked → IsReplyTo op.deed (reply_on ns op m p))

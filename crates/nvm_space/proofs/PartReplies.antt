@@ -1,4 +1,4 @@
--- What a unit tells of a part is a reply to the job's part there.
+-- What a unit reports about a part is a reply to the job's part there.
 use Rattle.std.proofs.Common.{◌≡◌, inl, inr, ℕ, List, [], ◌++◌, Bool, not, IsTrue, Option, Some, None, IsSome, Ok, Err, Result, unwrap_or, if◌then◌else◌, length, refl, sym, ap, ◌∙◌, subst, append-nil}
 use Rattle.nvm_record.specs.declared.status.Statuses.{Statuses}
 use Rattle.nvm_record.specs.declared.status.Statuses.TheVariants.{One, Two}
@@ -73,7 +73,7 @@ module _ (ns : Namespace) (op part : Operation) (unit : ℕ) (is : part ≡ part
   look_replies (Err (observe_fault.NoMemory point)) entries m looks answer =
       same_reply op.deed (part_ended unit point result.NoMemory) _ _ _ _ same_stop refl (no_memory_replies (part_ended unit point result.NoMemory) refl)
 
-  -- What was told of the part is a reply to it.
+  -- What was reported about the part is a reply to it.
   pub part_replies : (job : ℕ) (reply : Reply) (p q : PassView) → reply.part.unit ≡ unit → DoesPart (let did : PartDone = record { job = job; operation = part; reply = reply } in did) p q
       → IsReplyTo op.deed reply
   part_replies job reply p q at (inl changes) =
@@ -91,7 +91,7 @@ module _ (ns : Namespace) (op part : Operation) (unit : ℕ) (is : part ≡ part
   stop_replies point =
       same_reply op.deed (part_ended unit point result.NoMemory) _ _ _ _ same_stop refl (no_memory_replies (part_ended unit point result.NoMemory) refl)
 
--- a change tells no data
+-- a change reports no data
 change_tells_none : (unit : ℕ) (deed : Deed) (changed : Changed) → IsSome (reply_of_change unit deed changed).payload → ⊥
 change_tells_none unit deed (Done point) some = cc some
 change_tells_none unit deed (Failed point statuses) some = cc some
@@ -114,7 +114,7 @@ found_no_memory job part reply p q some (inl changes) =
 found_no_memory job part reply p q some (inr looks) =
     inr (looks.0, Err (observe_fault.NoMemory reply.part.point), look_found_none looks.1 reply part p q some looks.3 looks.2, refl)
 
--- and that is told by one status
+-- and that is reported by one status
 pub told_one : (job : ℕ) (part : Operation) (reply : Reply) (p q : PassView) → IsSome reply.payload → DoesPart (let did : PartDone = record { job = job; operation = part; reply = reply } in did) p q
     → stop_of part.deed ≡ One internal_error
 told_one job part reply p q some (inl changes) =

@@ -34,7 +34,7 @@ module _ {A : Type 0} where
   at_from_all P (y ∷ ys) zero x all at = subst P (some-injective y x at) (All-head P y ys all)
   at_from_all P (y ∷ ys) (suc i) x all at = at_from_all P ys i x (All-tail P y ys all) at
 
-  -- What passes the test stands in the filtered list behind what passes before it.
+  -- What passes the test is in the filtered list after what passes before it.
   pub at_filter : (p : A → Bool) (xs : List A) (i : ℕ) (x : A) → IsAt xs i x → p x ≡ true
       → IsAt (filter p xs) (length (filter p (take i xs))) x
   at_filter p [] i x at passes = absurd (some-ne-none x (sym at))
@@ -158,7 +158,7 @@ lies_in_unit range ns unit place op is covered lba inside =
     let below : op.first + op.blocks ≤ place.first + place.blocks = covered.range.below in
     is.lbas.lies lba (omega arith) (omega arith)
 
--- The entry stands in its unit's history behind as many as are of the unit before it.
+-- The entry is in its unit's history after as many as are of the unit before it.
 pub place_of_entry : (ns : Namespace) (histories : List (List HistoryEntry)) (all history : List HistoryEntry) (i : ℕ)
     (entry : HistoryEntry) → IsShuffle ns histories all → IsAt all i entry
     → IsAt histories (unit_of_entry ns entry) history
@@ -223,7 +223,7 @@ abbrev is_entry : RunStep → Bool
 is_entry (changes entry) = true
 is_entry (answers call) = false
 
--- An entry of a run stands among its entries behind those before it.
+-- An entry of a run is among its entries after those before it.
 at_entries : (run : List RunStep) (i : ℕ) (entry : HistoryEntry) → IsAt run i (changes entry)
     → IsAt (entries_in run) (length (entries_in (take i run))) entry
 at_entries [] i entry at = absurd (some-ne-none (changes entry) (sym at))
@@ -253,7 +253,7 @@ module _ (range : RangeIsKnown) (outside : OutsideStays) (statuses : StatusesAgr
   of_unit entries within unit =
       replays_agree outside blocks ns size unit (zero_medium size) (zero_medium size) entries within (λ lba here. refl)
 
-  -- A call that stands at its point has there, on its range, the point's blocks.
+  -- A call that is at its point has there, on its range, the point's blocks.
   module _ (histories : List (List HistoryEntry)) (before : List HistoryEntry)
       (within : All (LiesInItsUnit ns) before) (call : Call) (stands : StandsAtItsPoint ns histories before call) where
     abbrev rests : Medium
@@ -341,7 +341,7 @@ module _ (range : RangeIsKnown) (outside : OutsideStays) (statuses : StatusesAgr
     pub shuffle_is_run : IsRunFrom size (zero_medium size) (map changes all)
     shuffle_is_run = run_of_entries size (zero_medium size) all entry_succeeds
 
-  -- A run of a shuffle's entries, with calls between them that each stand at their point.
+  -- A run of a shuffle's entries, with calls between them that are each at their point.
   module _ (looks : LooksLeave) (histories : List (List HistoryEntry)) (run : List RunStep)
       (lawful : AreLawfulHistories ns histories) (shuffle : IsShuffle ns histories (entries_in run))
       (stand : (i : ℕ) (call : Call) → IsAt run i (answers call)

@@ -1,4 +1,4 @@
--- A Read that a port has answered without a wait, or is told why it isn't (own).
+-- A Read that a port has answered without a wait, or is given the reason why it isn't (own).
 use Rattle.std.specs.Prelude.{◌≡◌, ℕ, ◌+◌, ◌<◌, ◌≤◌, List, map, Ok, Err, Result}
 use Rattle.nvm_record.specs.Lists.{IsAt}
 use Rattle.nvm_record.specs.Status.{successful_completion}
@@ -28,7 +28,7 @@ abbrev pub read_status : Answer → Status
 read_status (seen.Payload bytes) = successful_completion
 read_status (seen.Status status) = status
 
--- what is told of a look at a Read's blocks
+-- what is reported about a look at a Read's blocks
 abbrev pub read_answer : Observed → ReadAnswer
 read_answer observed =
     record { point = observed.point; status = read_status observed.answer; payload = read_by observed.answer }

@@ -27,14 +27,14 @@ pub record AreLawfulHistories (ns : Namespace) (histories : List (List HistoryEn
   pub each : (unit : ℕ) (history : List HistoryEntry) → IsAt histories unit history
       → (place : Place) × IsUnitPlace ns unit place × IsLawfulHistory place history
 
--- The list has just the entries of these histories, those of each unit in the order of its history.
+-- The list has exactly the entries of these histories, those of each unit in the order of its history.
 pub record IsShuffle (ns : Namespace) (histories : List (List HistoryEntry)) (all : List HistoryEntry) : Type 0 where
   pub each : (unit : ℕ) (history : List HistoryEntry) → IsAt histories unit history
       → entries_of_unit ns unit all ≡ history
   pub known : All (λ entry. unit_of_entry ns entry < length histories) all
 
--- After these entries the call stands at its point: it is a call on one unit's history, and the unit's own among the
--- entries are just the point's.
+-- After these entries the call is at its point: it is a call on one unit's history, and the unit's own among the
+-- entries are exactly the point's.
 pub record StandsAtItsPoint (ns : Namespace) (histories : List (List HistoryEntry)) (before : List HistoryEntry)
     (call : Call) : Type 0 where
   pub unit : ℕ

@@ -39,7 +39,7 @@ pub record IsLaidOut (s : SpaceName) : Type 0 where
 abbrev pub IsPortCount : ℕ → Type 0
 IsPortCount count = (0 < count) × (count ≤ 64)
 
--- why there is no space with so many ports
+-- why there is no space with `count` ports
 abbrev pub IsSpaceFault : ℕ → SpaceFault → Type 0
 IsSpaceFault count Ports = ¬ IsPortCount count
 IsSpaceFault count NoMemory = IsPortCount count

@@ -1,4 +1,4 @@
--- What a port does for a job: a step of its pass for each part, and what is told of them (own).
+-- What a port does for a job: a step of its pass for each part, and what is reported about them (own).
 use Rattle.std.specs.Prelude.{◌≡◌, ◌⊎◌, ℕ, Bool, if◌then◌else◌, List, [], ◌∷◌, map, Option, Some, None, Ok, Err, Result}
 use Rattle.std.specs.List.{AllByRecursion}
 use Rattle.nvm_record.specs.declared.status.Statuses.{Statuses}
@@ -28,7 +28,7 @@ use Rattle.nvm_space.specs.declared.job_done.JobDone.{JobDone}
 abbrev pub part_ended : ℕ → ℕ → PartResult → Part
 part_ended unit point ended = record { unit = unit; point = point; result = ended }
 
--- what is told of a change of the deed in the unit
+-- what is reported about a change of the deed in the unit
 abbrev pub reply_of_change : ℕ → Deed → Changed → Reply
 reply_of_change unit deed (Done point) =
     record { part = part_ended unit point result.Done; statuses = success_of deed; payload = None }
@@ -37,7 +37,7 @@ reply_of_change unit deed (Failed point statuses) =
 reply_of_change unit deed (NoMemory point) = reply_of_stop deed (part_ended unit point result.NoMemory)
 reply_of_change unit deed (Full point) = reply_of_stop deed (part_ended unit point result.Full)
 
--- what is told of a look of the deed in the unit
+-- what is reported about a look of the deed in the unit
 abbrev pub reply_of_look : ℕ → Deed → Result Observed ObserveFault → Reply
 reply_of_look unit deed (Ok observed) =
     record {
@@ -48,13 +48,13 @@ reply_of_look unit deed (Ok observed) =
 reply_of_look unit deed (Err (observe_fault.NoMemory point)) =
     reply_of_stop deed (part_ended unit point result.NoMemory)
 
--- a part that was done: the number of its job, what was done, and what was told of it
+-- a part that was done: the number of its job, what was done, and what was reported about it
 pub record PartDone : Type 0 where
   pub job : ℕ
   pub operation : Operation
   pub reply : Reply
 
--- The part is one change or one look of the pass, and that is what was told of it.
+-- The part is one change or one look of the pass, and that is what was reported about it.
 abbrev pub DoesPart : PartDone → PassView → PassView → Type 0
 DoesPart did p q =
     (IsAct did.operation.deed × (changed : Changed) × Makes changed p did.job did.operation q

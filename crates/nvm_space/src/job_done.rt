@@ -10,10 +10,10 @@ use nvm_plan::{Body, Completions, Job, Part};
 use nvm_record::{Op, ReadData, Status, Statuses};
 use std::alloc::Global;
 
-/// What is told of a job that was done.
+/// What is reported about a job that was done.
 #[derive(Debug, PartialEq, Eq, Drop)]
 pub struct JobDone {
-    /// What its host is told: one completion, or two of a fused pair.
+    /// What is reported to its host: one completion, or two of a fused pair.
     pub completions: Completions,
     /// The parts that were done, in the order of their units. Always empty in a space without a limit.
     pub parts: Vec<Part>,

@@ -34,8 +34,8 @@ use nvm_unit::laws::{
 };
 
 /// Units don't disturb one another. Each shuffle of the units' lawful histories is a run of the step on the
-/// whole namespace. An entry has the same statuses there as at its place in its unit's history. And after so
-/// many entries of a shuffle each LBA has the block that it has after so many of them as are of its unit; after
+/// whole namespace. An entry has the same statuses there as at its place in its unit's history. And after any
+/// number of entries of a shuffle each LBA has the block that it has after as many of them as are of its unit; after
 /// all of them, that which its unit ends with.
 pub fn shuffles_are_runs()
     ensures run { (ns : Namespace) (histories : List (List HistoryEntry)) (all : List HistoryEntry)
@@ -62,7 +62,7 @@ pub fn shuffles_are_runs()
     steps_are_local();
 }
 
-/// There is a shuffle: the histories one behind the other, in the order of the units.
+/// There is a shuffle: the histories one after the other, in the order of the units.
 pub fn there_is_a_shuffle()
     ensures { (ns : Namespace) (histories : List (List HistoryEntry)) → AreLawfulHistories ns histories
         → IsShuffle ns histories (flat_map (λ history. history) histories) }
@@ -77,7 +77,7 @@ pub fn units_end_with_lawful_histories()
         → AreLawfulHistories s.namespace histories }
 {}
 
-/// A call that rests on a point of a unit's history has its answer wherever a shuffle has just that point's
+/// A call that rests on a point of a unit's history has its answer wherever a shuffle has exactly that point's
 /// entries of the unit before it, and there is such a place for each point. So a shuffle with calls between
 /// its entries, each at such a place, is a run of the step on the whole namespace.
 pub fn calls_keep_their_answers()
@@ -102,7 +102,7 @@ pub fn calls_keep_their_answers()
 /// states that the units can reach; that the real one is among them is the rule of the units' table, and no call says it. The
 /// histories are lawful, so the laws above speak of them, and each entry is one of its pass's own. A change or a look whose pass has
 /// been seen there has its answer at a point of its unit's history: what the step gives, or that there was no memory or no room. The
-/// point isn't before what the pass had seen. The entry of a change that was done stands there.
+/// point isn't before what the pass had seen. The entry of a change that was done is there.
 pub fn answers_rest_on_the_histories_of_any_moment()
     ensures lawful { (s : SpaceName) (states : List UnitState) → IsLaidOut s → AreStatesOf s states
         → AreLawfulHistories s.namespace (histories_of states) }
@@ -128,7 +128,7 @@ pub fn answers_rest_on_the_histories_of_any_moment()
 }
 
 /// The ports of a space stay all its ports while calls change them in place. The port at a place is one of the space, and a port
-/// of the space with its number may stand there instead.
+/// of the space with its number may be there instead.
 pub fn ports_are_changed_in_place()
     ensures of { (s : SpaceName) (ports : List PortState) (w : ℕ) (port : PortState) → AreAllPortsOf s ports
         → w < length ports → port ≡ get_or ports w port → IsPortOf s port }

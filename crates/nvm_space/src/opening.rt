@@ -59,7 +59,7 @@ fn most_entries(limit: &Option<Limit>) -> u64
     }
 }
 
-/// The ports of a space that has no units yet, with room for so many passes each.
+/// The ports of a space that has no units yet, with room for `units` passes each.
 fn bare_ports<K: Kept>(alloc: Global, count: u16, units: u16) -> Result<Vec<Port<K>>, NoMemory>
     ensures { IfOk result (λ ports. AreDealt count [] ports.items) }
 {

@@ -10,7 +10,7 @@ use std::marker::Model;
 #[derive(Drop)]
 pub struct Port<K: Kept = History> {
     pub(crate) number: u16,
-    /// The pass of unit k stands at place k.
+    /// The pass of unit k is at place k.
     pub(crate) passes: Vec<Pass<K>>,
 }
 

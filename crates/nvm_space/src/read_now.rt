@@ -40,7 +40,7 @@ impl ReadAnswer {
     ghost use Rattle.std.specs.Prelude.{◌≡◌};
     ghost use Rattle.nvm_space.specs.ReadNow.{read_answer};
 
-    /// What a look saw, as what a host is told.
+    /// What a look saw, as it is reported to a host.
     pub(crate) fn of(observed: Observed) -> ReadAnswer
         ensures { result ≡ read_answer observed }
     {

@@ -1,4 +1,4 @@
-//! What a unit tells of a job's part.
+//! What a unit reports about a job's part.
 ghost use Rattle.std.specs.Prelude.{◌≡◌, ◌++◌, OnOk};
 ghost use Rattle.nvm_record.specs.Deeds.{success_of};
 ghost use Rattle.nvm_store.specs.ActRef.{lent_operation_of};
@@ -12,7 +12,7 @@ use nvm_record::{NoMemory, ReadData, Status, Statuses};
 use nvm_store::{ActRef, Answer, Look};
 use nvm_unit::{Changed, ObserveFault, Observed};
 
-/// The part, what its host would be told of it alone, and the data that a Read's part read.
+/// The part, what would be reported to its host about it alone, and the data that a Read's part read.
 #[derive(Debug, Drop)]
 pub struct PartReply {
     pub unit: u16,
@@ -24,7 +24,7 @@ pub struct PartReply {
 
 ghost use Rattle.nvm_space.specs.Inside.Parts.{IsGathered, reply_told};
 
-/// What is told of a change.
+/// What is reported about a change.
 pub(crate) fn reply_of_change(unit: u16, act: ActRef<'_>, changed: Changed) -> PartReply
     ensures { reply_told result ≡ spec.reply_of_change unit (lent_operation_of act.entry).deed changed }
 {
@@ -43,7 +43,7 @@ pub(crate) fn reply_of_change(unit: u16, act: ActRef<'_>, changed: Changed) -> P
     }
 }
 
-/// What is told of a look.
+/// What is reported about a look.
 pub(crate) fn reply_of_look(
     unit: u16,
     look: Look<'_>,
@@ -79,7 +79,7 @@ pub(crate) fn reply_of_look(
     }
 }
 
-/// What is told of an act that was done.
+/// What is reported about an act that was done.
 fn success(act: ActRef<'_>) -> Statuses
     ensures { result ≡ success_of (lent_operation_of act.entry).deed }
 {
@@ -91,7 +91,7 @@ fn success(act: ActRef<'_>) -> Statuses
     }
 }
 
-/// What is told of an act for which there was no memory or no room. A pair's comparison came before that, and
+/// What is reported about an act for which there was no memory or no room. A pair's comparison came before that, and
 /// held.
 fn stop(act: ActRef<'_>) -> Statuses
     ensures { result ≡ stop_of (lent_operation_of act.entry).deed }

@@ -30,7 +30,7 @@ use std::alloc::Global;
 use std::sync::Wait;
 
 impl<K: Kept> Space<K> {
-    /// Does a job by the port's passes, or refuses it, and says what its host is told. `number` is the job's number,
+    /// Does a job by the port's passes, or refuses it, and says what is reported to its host. `number` is the job's number,
     /// which the entries bear that it makes. Each part is one step of its unit; the parts are done in the order
     /// of the units, up to the first that doesn't succeed.
     ///
@@ -114,7 +114,7 @@ impl<K: Kept> Space<K> {
     }
 }
 
-/// Does a job, or refuses it, and says what its host is told. `number` is its number.
+/// Does a job, or refuses it, and says what is reported to its host. `number` is its number.
 fn do_job<R: Wait, G: Gate, K: Kept>(
     rt: &R,
     alloc: Global,

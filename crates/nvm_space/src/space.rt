@@ -25,7 +25,7 @@ use std::alloc::Global;
 use std::marker::Model;
 use std::sync::Wait;
 
-/// A space has at most so many ports.
+/// The most ports of a space.
 pub const MOST_PORTS: u16 = 64;
 
 /// A namespace as the atomic units that its boundaries make, which many threads read and change by their ports.
@@ -42,7 +42,7 @@ pub struct Space<K: Kept = History> {
     pub(crate) limit: Option<Limit>,
     /// Whether the ports' passes keep versions.
     pub(crate) versions: bool,
-    /// Unit k stands at place k.
+    /// Unit k is at place k.
     pub(crate) units: Vec<Unit<K>>,
 }
 
@@ -66,7 +66,7 @@ impl<K: Kept> Model for Space<K> {
 
 impl Space {
     /// A new space of this geometry, whose blocks are all zero bytes, and its ports, which are numbered from 0.
-    /// Each unit's history may have as many entries as the limit says. `Ports` says that there can't be so many
+    /// Each unit's history may have as many entries as the limit says. `Ports` says that there can't be that many
     /// ports; a refusal of memory leaves nothing. It costs a step for each unit and port.
     ///
     /// Each port keeps the version of each unit at the last point that it has seen there, for
@@ -219,7 +219,7 @@ impl<K: Kept> Space<K> {
         self.units[place].refresh(rt, &mut port.passes[place]);
     }
 
-    /// Brings both ports to one history in each unit, so that what either had seen stands in it. It waits for
+    /// Brings both ports to one history in each unit, so that what either had seen is in it. It waits for
     /// the units, one after the other, and takes no memory.
     pub fn meet<R: Wait>(&self, rt: &R, one: &mut Port<K>, other: &mut Port<K>)
         requires one { IsPortOf self.now one.old }

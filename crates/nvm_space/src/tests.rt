@@ -1,4 +1,4 @@
-//! Spaces of LBAs 0 to 31 with blocks of 512 bytes, in 4 units of 8 LBAs each, whose ports stand in a list.
+//! Spaces of LBAs 0 to 31 with blocks of 512 bytes, in 4 units of 8 LBAs each, whose ports are in a list.
 mod ground;
 mod jobs;
 mod openings;
@@ -91,7 +91,7 @@ fn data_of(done: &JobDone) -> &[u8] {
     }
 }
 
-/// Whether the job had just these parts, of which the unit is said, the point, and how it ended.
+/// Whether the job had exactly these parts, of which the unit is said, the point, and how it ended.
 fn has_parts(done: &JobDone, parts: &[(u16, u32, PartResult)]) -> bool {
     if done.parts.len() != parts.len() {
         return false;

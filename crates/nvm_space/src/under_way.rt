@@ -69,7 +69,7 @@ impl Model for JobUnderWay {
 /// How far a job is that is done without waiting.
 #[derive(Drop)]
 pub enum Progress {
-    /// It was done or refused, and this is what is told of it.
+    /// It was done or refused, and this is what is reported about it.
     Done(JobDone),
     /// The unit of its next part was not to be had, or none of its parts was tried yet.
     Pending(JobUnderWay),

@@ -1,4 +1,4 @@
--- What stands at a place of a list.
+-- What is at a place of a list.
 use Rattle.std.proofs.Common.{◌≡◌, ◌⊎◌, ℕ, zero, suc, ◌<◌, List, [], ◌∷◌, ◌++◌, length, get_or, refl, sym, arith, inl, inr}
 use mathlib.Core.Option.{some-injective, some-ne-none}
 use Rattle.nvm_record.specs.Lists.{IsAt}
@@ -15,7 +15,7 @@ module _ {A : Type 0} where
   get_or_at_place (y ∷ ys) zero x d e = some-injective y x e
   get_or_at_place (y ∷ ys) (suc i) x d e = get_or_at_place ys i x d e
 
-  -- What is read inside the list stands there.
+  -- What is read inside the list is there.
   pub at_read : (xs : List A) (i : ℕ) (d : A) → i < length xs → IsAt xs i (get_or xs i d)
   at_read [] i d lt = absurd (omega arith)
   at_read (y ∷ ys) zero d lt = refl
@@ -30,7 +30,7 @@ module _ {A : Type 0} where
   at_end [] ys x = refl
   at_end (y ∷ xs) ys x = at_end xs ys x
 
-  -- What stands in a list with one thing more is that thing at the end, or stands before it.
+  -- What is in a list with one thing more is that thing at the end, or is before it.
   pub at_push : (xs : List A) (y : A) (i : ℕ) (x : A) → IsAt (xs ++ y ∷ []) i x → IsAt xs i x ⊎ ((i ≡ length xs) × (x ≡ y))
   at_push [] y zero x e = inr (refl, sym (some-injective y x e))
   at_push [] y (suc i) x e = absurd (some-ne-none x (sym e))

@@ -16,7 +16,7 @@ StepsKeepSizes =
     (size : ℕ) (op : Operation) (m : Medium) → HasData (op.blocks * size) op.deed
     → HasBlockSize size m → HasBlockSize size (medium_after size op m)
 
--- Entries behind others keep the size of a medium.
+-- Entries after others keep the size of a medium.
 sized_from : StepsKeepSizes → (place : Place) (m : Medium) (before entries : List HistoryEntry)
     → IsLawfulHistory place (before ++ entries) → HasBlockSize place.size m → HasBlockSize place.size (replay_from place.size m entries)
 sized_from law place m before [] lawful sized = sized

@@ -46,7 +46,7 @@ pair_is_write size first blocks compare write m lba success =
     let holds : compares_equal (range m first blocks) compare ≡ true = holds_where_written (compares_equal (range m first blocks) compare) success.1 in
     grind (arith, holds)
 
--- What is told of a pair whose comparison doesn't hold.
+-- What is reported for a pair whose comparison doesn't hold.
 pub failed_pair_told : (blocks : List Block) (deed : Deed) → FailsOn blocks deed
     → (s : Status) × (statuses_on blocks deed ≡ Two s aborted_due_to_failed_fused_command) × (s ≢ successful_completion)
 failed_pair_told blocks (writes payload) fails = absurd fails

@@ -13,7 +13,7 @@ use Rattle.nvm_record.specs.Ranges.{range_has, ranges_have, cut_range, cut_range
 use Rattle.nvm_record.specs.Step.{medium_after}
 use Rattle.nvm_store.specs.Operation.{zeroes_operation, deallocate_operation}
 
--- From each place on, the ranges that the data holds are the one there, and those behind.
+-- From each place on, the ranges that the data holds are the one there, and those after it.
 pub ranges_from : (payload : List ℕ) (i : ℕ) → length (ranges_of payload) ≡ range_count payload
     → ((d : LbaRange) → i < range_count payload → get_or (ranges_of payload) i d ≡ range_at payload i) → i < range_count payload
     → drop i (ranges_of payload) ≡ range_at payload i ∷ drop (i + 1) (ranges_of payload)
@@ -22,7 +22,7 @@ ranges_from payload i count place below =
     let inside : i < length (ranges_of payload) = rw count below in
     drop_more (ranges_of payload) i d inside ∙ ap (λ (r : LbaRange). r ∷ drop (i + 1) (ranges_of payload)) (place d below)
 
--- A range of which a block is left stands first in what is left.
+-- A range of which a block is left is first in what is left.
 pub cut_kept : (first blocks : ℕ) (r : LbaRange) (rs : List LbaRange) → 0 < (cut_range first blocks r).blocks
     → cut_ranges first blocks (r ∷ rs) ≡ cut_range first blocks r ∷ cut_ranges first blocks rs
 cut_kept first blocks r rs some = grind (arith, nat_tests)
@@ -64,7 +64,7 @@ not_empty : (seen : List LbaRange) (x : LbaRange) (rest : List LbaRange) → see
 not_empty [] x rest e = cc
 not_empty (y ∷ seen) x rest e = cc
 
--- One that stands among them lies among the LBAs, and they have what it has.
+-- One that is among them lies among the LBAs, and they have what it has.
 module _ (first blocks : ℕ) (all seen : List LbaRange) (x : LbaRange) (rest : List LbaRange) (split : seen ++ x ∷ rest ≡ all)
     (within : all ≢ [] → AreRangesWithin first blocks all) where
   stands_among : IsAmong first blocks x

@@ -1,4 +1,4 @@
--- The steps of one pass stand in a placed run in the order in which it made them.
+-- The steps of one pass are in a placed run in the order in which it made them.
 use Rattle.std.proofs.Common.{◌≡◌, ℕ, zero, suc, ◌+◌, ◌-◌, ◌≤◌, List, [], ◌∷◌, ◌++◌, length, drop, All, true, false, eqb, refl, ap, subst, sym, ◌∙◌, append_assoc, arith, inl, inr}
 use Rattle.std.proofs.lemmas.Bool.{true≢false}
 use Rattle.std.proofs.lemmas.Bool.Decides.{eqb_tells}
@@ -39,7 +39,7 @@ fewer pass low high entries le =
     let is : low + (high - low) ≡ high = omega arith in
     rw is at (fewer_later pass low (high - low) entries)
 
--- What stands at a place is the first from there on.
+-- What is at a place is the first from there on.
 drop_from : (entries : List HistoryEntry) (n : ℕ) (entry : HistoryEntry) → IsAt entries n entry → drop n entries ≡ entry ∷ drop (suc n) entries
 drop_from [] n entry at = absurd (some-ne-none entry (sym at))
 drop_from (e ∷ es) zero entry at = ap (λ (x : HistoryEntry). x ∷ es) (some-injective e entry at)
@@ -78,7 +78,7 @@ first_call history low (changes entry ∷ own) call calls rise is =
     let rest : rise.0 + 1 ≤ call.point = first_call history (rise.0 + 1) own call calls rise.3 is in
     omega arith
 
--- Nor is the first call of a pass before the steps that it stands among.
+-- Nor is the first call of a pass before the steps that it is among.
 first_standing : (pass n : ℕ) (run : List RunStep) (call : Call) (calls : List Call) → StandAtPoints n run
     → calls_by pass (calls_in run) ≡ call ∷ calls → n ≤ call.point
 first_standing pass n [] call calls stand is = absurd (cc)
@@ -96,7 +96,7 @@ first_standing pass n (answers c ∷ steps) call calls stand is =
       | inr other ↦ first_standing pass n steps call calls stand.1 (rw other.0 at is)
     ]
 
--- Where a pass's entry stands at place n and is the first of its own, it is the first of its steps.
+-- Where a pass's entry is at place n and is the first of its own, it is the first of its steps.
 entry_first : (pass n low : ℕ) (history rest : List HistoryEntry) (entry : HistoryEntry) (own : List RunStep) → IsAt history n entry
     → drop (suc n) history ≡ rest → n ≤ low → StepsNeverGoBack history low own → AreBy pass (entries_in own)
     → entries_in own ≡ entry ∷ entries_of_pass pass rest
@@ -134,7 +134,7 @@ entry_first pass n low history rest entry (changes e ∷ own) at behind from ris
           absurd (omega (arith, some, less, same, long))
     ]
 
--- Where a pass's call stands behind n entries and is the first of its own, it is the first of its steps.
+-- Where a pass's call is after n entries and is the first of its own, it is the first of its steps.
 call_first : (n low : ℕ) (history : List HistoryEntry) (call : Call) (calls : List Call) (own : List RunStep) → n ≤ low → call.point ≡ n
     → StepsNeverGoBack history low own → calls_in own ≡ call ∷ calls
     → (after : List RunStep) × (own ≡ answers call ∷ after) × StepsNeverGoBack history n after
@@ -151,7 +151,7 @@ call_first n low history call calls (changes e ∷ own) from here rise is =
     let past : rise.0 + 1 ≤ call.point = first_call history (rise.0 + 1) own call calls rise.3 is in
     absurd (omega arith)
 
--- A pass's steps begin behind another pass's entry.
+-- A pass's steps begin after another pass's entry.
 past_other : (pass n low : ℕ) (history : List HistoryEntry) (entry : HistoryEntry) (own : List RunStep) → IsAt history n entry
     → eqb entry.pass pass ≡ false → n ≤ low → StepsNeverGoBack history low own → AreBy pass (entries_in own)
     → ((call : Call) (calls : List Call) → calls_in own ≡ call ∷ calls → suc n ≤ call.point)

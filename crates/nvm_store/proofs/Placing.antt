@@ -25,7 +25,7 @@ entries_alone : (calls : List Call) → entries_in (map answers calls) ≡ []
 entries_alone [] = refl
 entries_alone (call ∷ calls) = entries_alone calls
 
--- The calls at a point stand there.
+-- The calls at a point are there.
 at_point_stand : (n : ℕ) (calls : List Call) (steps : List RunStep) → StandAtPoints n steps
     → StandAtPoints n (map answers (calls_at n calls) ++ steps)
 at_point_stand n [] steps rest = rest

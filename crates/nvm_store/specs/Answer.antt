@@ -8,7 +8,7 @@ use Rattle.nvm_record.specs.Step.{Operation, statuses_of, data_of}
 use Rattle.nvm_store.specs.declared.look.answer.Answer.{Answer}
 use Rattle.nvm_store.specs.declared.look.answer.Answer.TheVariants.{Payload, Status}
 
--- the status that an answer tells: data comes with success
+-- the status that an answer reports: data comes with success
 abbrev pub told_by : Answer → Statuses
 told_by (Payload bytes) = One successful_completion
 told_by (Status status) = One status
@@ -22,7 +22,7 @@ read_by (Status status) = None
 abbrev pub IsAnswer : Operation → Medium → Answer → Type 0
 IsAnswer op m answer = (told_by answer ≡ statuses_of op m) × (read_by answer ≡ data_of op m)
 
--- The answer's data, where it has any, has so many bytes.
+-- The answer's data, where it has any, has `count` bytes.
 abbrev pub HasBytes : ℕ → Answer → Type 0
 HasBytes count (Payload bytes) = length bytes ≡ count
 HasBytes count (Status status) = Unit {0}

@@ -1,5 +1,5 @@
 -- A call that rests on a point of a unit's history without an entry there: a look, or a fused pair that fails (own). One
--- that was answered for want of memory, or at a full history, stands nowhere.
+-- that was answered for want of memory, or at a full history, is nowhere.
 use Rattle.std.specs.Prelude.{◌⊎◌, ℕ, List, Option}
 use Rattle.nvm_record.specs.Deeds.{IsLook, IsFailedPair}
 use Rattle.nvm_record.specs.Step.{Operation}
@@ -10,7 +10,7 @@ use Rattle.nvm_store.specs.Place.{IsCovered}
 use Rattle.nvm_store.specs.Point.{point, RestsOn}
 
 -- The numbers of the pass and of the job, the point of the unit's history that the answer rests on, what was done, and
--- what was told and read.
+-- what was answered and read.
 pub record Call : Type 0 where
   pub pass : ℕ
   pub job : ℕ

@@ -22,7 +22,7 @@ place_of u = place_at u.first (length u.blocks) u.size
 abbrev pub Holds : Contents → Medium → Type 0
 Holds u m = (i : ℕ) (block : Block) → IsAt u.blocks i block → m (u.first + i) ≡ block
 
--- The unit lies in just this place.
+-- The unit lies in exactly this place.
 abbrev pub LiesAt : Place → Contents → Type 0
 LiesAt place u = place_of u ≡ place
 
@@ -30,7 +30,7 @@ LiesAt place u = place_of u ≡ place
 abbrev pub StaysInPlace : Contents → Contents → Type 0
 StaysInPlace old new = LiesAt (place_of old) new
 
--- The operation's range has a block and lies in the unit, and its data has just the range's blocks.
+-- The operation's range has a block and lies in the unit, and its data has exactly the range's blocks.
 abbrev pub Covers : Contents → Operation → Type 0
 Covers u op = IsCovered (place_of u) op
 

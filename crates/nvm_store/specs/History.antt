@@ -18,13 +18,13 @@ replay_from size m (entry ∷ entries) = replay_from size (medium_after size ent
 abbrev pub replay_of : ℕ → List HistoryEntry → Medium
 replay_of size history = replay_from size (zero_medium size) history
 
--- The entry can stand after these: it is an act and no look, lies in the place, and succeeds on their replay.
+-- The entry can come after these: it is an act and no look, lies in the place, and succeeds on their replay.
 pub record CanFollow (place : Place) (before : List HistoryEntry) (entry : HistoryEntry) : Type 0 where
   pub act : IsAct entry.operation.deed
   pub covered : IsCovered place entry.operation
   pub succeeds : IsSuccess (statuses_of entry.operation (replay_of place.size before))
 
--- Each entry can stand after those before it, in the unit that lies there.
+-- Each entry can come after those before it, in the unit that lies there.
 abbrev pub IsLawfulHistory : Place → List HistoryEntry → Type 0
 IsLawfulHistory place history =
     (i : ℕ) (entry : HistoryEntry) → IsAt history i entry → CanFollow place (take i history) entry

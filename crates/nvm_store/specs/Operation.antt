@@ -26,7 +26,7 @@ abbrev pub pair_operation : ℕ → ℕ → List ℕ → List ℕ → Operation
 pair_operation first blocks compare write =
     record { first = first; blocks = blocks; deed = pairs compare write }
 
--- of just these ranges
+-- of exactly these ranges
 abbrev pub ranges_operation : ℕ → ℕ → List LbaRange → Operation
 ranges_operation first blocks ranges =
     record { first = first; blocks = blocks; deed = deallocates ranges }

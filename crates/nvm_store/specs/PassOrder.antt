@@ -24,8 +24,8 @@ pass_of_step (answers call) = call.pass
 abbrev pub steps_by : ℕ → List RunStep → List RunStep
 steps_by pass steps = filter (λ step. nat_eq (pass_of_step step) pass) steps
 
--- Steps that one pass made on a unit with this history, one after the other, never go back: an entry stands at its place,
--- a call at its point, none before `low`, and what follows an entry stands behind it.
+-- Steps that one pass made on a unit with this history, one after the other, never go back: an entry is at its place,
+-- a call at its point, none before `low`, and what follows an entry is after it.
 abbrev pub StepsNeverGoBack : List HistoryEntry → ℕ → List RunStep → Type 0
 StepsNeverGoBack history low [] = Unit {0}
 StepsNeverGoBack history low (changes entry ∷ steps) =

@@ -1,5 +1,5 @@
 -- The placed run of a unit: its entries in order, and each call between them at its point. And when a list of such steps
--- is a run of one medium: each has its answer where it stands (own).
+-- is a run of one medium: each has its answer where it is (own).
 use Rattle.std.specs.Prelude.{◌≡◌, ℕ, ◌+◌, nat_eq, List, [], ◌∷◌, ◌++◌, map, filter}
 use Rattle.nvm_record.specs.Medium.{Medium}
 use Rattle.nvm_record.specs.Status.{IsSuccess}
@@ -41,7 +41,7 @@ calls_in [] = []
 calls_in (changes entry ∷ steps) = calls_in steps
 calls_in (answers call ∷ steps) = call ∷ calls_in steps
 
--- Each call of the run has as many entries before it as its point says, where `n` stand before the run.
+-- Each call of the run has as many entries before it as its point says, where `n` come before the run.
 abbrev pub StandAtPoints : ℕ → List RunStep → Type 0
 StandAtPoints n [] = Unit {0}
 StandAtPoints n (changes entry ∷ steps) = StandAtPoints (n + 1) steps
@@ -51,7 +51,7 @@ StandAtPoints n (answers call ∷ steps) = (call.point ≡ n) × StandAtPoints n
 abbrev pub calls_by : ℕ → List Call → List Call
 calls_by pass calls = filter (λ call. nat_eq call.pass pass) calls
 
--- The run has just these entries, in order, and just these calls, those of each pass in order; and each call stands at
+-- The run has exactly these entries, in order, and exactly these calls, those of each pass in order; and each call is at
 -- its point: after entry `n - 1` and before entry n.
 pub record IsPlacedRun (history : List HistoryEntry) (calls : List Call) (run : List RunStep) : Type 0 where
   pub whole : entries_in run ≡ history
@@ -62,7 +62,7 @@ pub record IsPlacedRun (history : List HistoryEntry) (calls : List Call) (run : 
 abbrev pub calls_at : ℕ → List Call → List Call
 calls_at n calls = filter (λ call. nat_eq call.point n) calls
 
--- the entries, of which the first stands at place n, and the calls at the points from n on
+-- the entries, of which the first is at place n, and the calls at the points from n on
 abbrev pub placed_from : ℕ → List HistoryEntry → List Call → List RunStep
 placed_from n [] calls = map answers (calls_at n calls)
 placed_from n (entry ∷ entries) calls =

@@ -45,7 +45,7 @@ pub enum Act {
     },
     /// Those LBAs that are among the `blocks` from `first`, which are the unit's, and in one of the ranges
     /// become zero bytes, and lose their marks (NVM Command Set Specification, "Dataset Management
-    /// command"). The ranges have 16 bytes each, as they follow a Dataset Management's entry; bytes behind
+    /// command"). The ranges have 16 bytes each, as they follow a Dataset Management's entry; bytes past
     /// the last whole range aren't read.
     Deallocate {
         first: u64,
@@ -233,7 +233,7 @@ impl Act {
         }
     }
 
-    /// Whether it is the Deallocate of just these ranges.
+    /// Whether it is the Deallocate of exactly these ranges.
     fn has_these_ranges(&self, from: u64, count: u32, bytes: &[u8]) -> bool
         ensures { IsTrue result
             ↔ (ranges_operation from count (ranges_of bytes.now) ≡ operation_of self.now) }

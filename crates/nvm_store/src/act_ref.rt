@@ -34,7 +34,7 @@ pub enum ActRef<'a> {
         write: PayloadRef<'a>,
     },
     /// See [`Act::Deallocate`]. The ranges may be those of a whole command: what isn't among the LBAs falls
-    /// out. A range's end, and that of the LBAs, may lie behind 2^64.
+    /// out. A range's end, and that of the LBAs, may lie past 2^64.
     Deallocate {
         first: u64,
         blocks: u32,
@@ -73,7 +73,7 @@ impl<'a> ActRef<'a> {
     /// The same act, which shares the data. It takes no memory, and is refused only where 2^63 - 1 payloads
     /// share the data already.
     ///
-    /// A Deallocate has just what lies of its ranges among its LBAs. Where these are some ranges in a row, and none
+    /// A Deallocate has exactly what lies of its ranges among its LBAs. Where these are some ranges in a row, and none
     /// is cut, they are shared as other data is. Else they are copied, and their room is reserved once, at its
     /// exact length.
     pub fn to_act(self, alloc: Global) -> Result<Act, NoMemory>

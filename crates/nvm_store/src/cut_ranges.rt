@@ -116,7 +116,7 @@ fn lower(one: LbaRange, other: LbaRange) -> LbaRange
     }
 }
 
-/// Whether what is left of the ranges is just what is kept, range by range.
+/// Whether what is left of the ranges is exactly what is kept, range by range.
 pub fn are_left(first: u64, blocks: u32, ranges: &[u8], kept: &[u8]) -> bool
     ensures { IsTrue result ↔ (cut_ranges first blocks (ranges_of ranges.now) ≡ ranges_of kept.now) }
 {

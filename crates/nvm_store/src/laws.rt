@@ -74,7 +74,7 @@ pub fn lawful_replay_has_block_size()
     steps_keep_block_sizes();
 }
 
-/// Data that was read at a point of a lawful history has just the bytes of the range.
+/// Data that was read at a point of a lawful history has exactly the bytes of the range.
 pub fn data_at_point_has_its_length()
     ensures { (place : UnitPlace) (history : List HistoryEntry) (n : ℕ) (operation : Operation) (told : Told)
         (bytes : List ℕ) → IsLawfulHistory place history
@@ -157,7 +157,7 @@ pub fn placed_runs_are_runs()
     looks_change_nothing();
 }
 
-/// There is a placed run just where the points of each pass's calls never go back, and none is past the
+/// There is a placed run exactly where the points of each pass's calls never go back, and none is past the
 /// history's end. One of them is that in which the calls at one point keep the order of their list.
 pub fn there_is_a_placed_run()
     ensures placed { (history : List HistoryEntry) (calls : List Call)

@@ -23,7 +23,7 @@ impl Model for Limit {
 }
 
 impl Limit {
-    /// The limit of so many entries, or `None` where that isn't 1 to 4,194,304.
+    /// The limit of `entries` entries, or `None` where that isn't 1 to 4,194,304.
     pub fn new(entries: u32) -> Option<Limit>
         ensures { SomeIff result (IsLimit entries) entries }
     {

@@ -20,7 +20,7 @@ pub struct Place {
 }
 
 impl Place {
-    /// Whether the act's range has a block and lies here, its data, if it has any, has just the blocks of
+    /// Whether the act's range has a block and lies here, its data, if it has any, has exactly the blocks of
     /// the range, and of a Deallocate's ranges a block is left there. No LBA makes it wrap.
     pub fn covers(&self, act: ActRef<'_>) -> bool
         ensures { IsTrue result ↔ IsCovered self.now (lent_operation_of act.entry) }
@@ -55,7 +55,7 @@ impl Place {
         }
     }
 
-    /// Whether the look's range has a block and lies here, and its data, if it has any, has just the
+    /// Whether the look's range has a block and lies here, and its data, if it has any, has exactly the
     /// blocks of the range. No LBA makes it wrap.
     pub fn covers_look(&self, look: Look<'_>) -> bool
         ensures { IsTrue result ↔ IsCovered self.now (look_operation_of look.entry) }
@@ -80,7 +80,7 @@ impl Place {
             && u64::from(blocks) <= u64::from(self.blocks) - (first - self.first)
     }
 
-    /// Whether the data has just so many blocks.
+    /// Whether the data has exactly `blocks` blocks.
     fn is_data_of(&self, blocks: u32, payload: &[u8]) -> bool
         ensures { IsTrue result ↔ (length payload.now ≡ blocks * self.now.size) }
     {

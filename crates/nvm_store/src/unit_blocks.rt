@@ -92,7 +92,7 @@ impl UnitBlocks {
         }
     }
 
-    /// Whether the act's range has a block and lies in the unit, its data, if it has any, has just the
+    /// Whether the act's range has a block and lies in the unit, its data, if it has any, has exactly the
     /// blocks of the range, and of a Deallocate's ranges a block is left there. It takes no memory, and no
     /// LBA makes it wrap.
     pub fn covers(&self, act: ActRef<'_>) -> bool
@@ -101,7 +101,7 @@ impl UnitBlocks {
         self.place().covers(act)
     }
 
-    /// Whether the look's range has a block and lies in the unit, and its data, if it has any, has just the
+    /// Whether the look's range has a block and lies in the unit, and its data, if it has any, has exactly the
     /// blocks of the range. It takes no memory, and no LBA makes it wrap.
     pub fn covers_look(&self, look: Look<'_>) -> bool
         ensures { IsTrue result ↔ Covers self.now (look_operation_of look.entry) }
@@ -268,8 +268,8 @@ impl UnitBlocks {
         self.blocks.has_mark(at, blocks as usize)
     }
 
-    /// Whether the bytes of the `blocks` LBAs from `first` are just the data. It takes no memory, and looks
-    /// at nothing behind the first block that differs.
+    /// Whether the bytes of the `blocks` LBAs from `first` are exactly the data. It takes no memory, and looks
+    /// at nothing past the first block that differs.
     pub(crate) fn is_equal(&self, first: u64, blocks: u32, payload: &[u8]) -> bool
         requires { IsWithin (place_of self.now) first blocks }
         ensures { (m : Medium) → Holds self.now m

@@ -17,7 +17,7 @@ front_is_some : (r : Run) (b : ℕ) (rs : List Run) → (run_text r ++ codes ","
 front_is_some r b [] = after_comma r (run_of 1 b) []
 front_is_some r b (s ∷ rs) = some_runs r b (s.count + 1) s rs (nat_eq s.byte b)
 
--- A comma stands between the run and the others, where there are any.
+-- A comma comes between the run and the others, where there are any.
 pub run_and_rest : (r : Run) (rest : List ℕ)
     → (run_text r ++ comma_before rest) ++ runs_text (runs rest) ≡ runs_text (r ∷ runs rest)
 run_and_rest r [] = append-nil (run_text r ++ [])

@@ -1,7 +1,7 @@
 -- Bytes as runs of equal bytes.
 use Rattle.std.specs.Prelude.{◌≡◌, ◌≢◌, ◌==◌, ◌↔◌, ℕ, ◌+◌, ◌<◌, if◌then◌else◌, List, [], ◌∷◌, ◌++◌, replicate}
 
--- so many times the same byte
+-- the same byte, `count` times
 pub record Run : Type 0 where
   pub count : ℕ
   pub byte : ℕ

@@ -1,4 +1,4 @@
-//! What stands before the data of a line.
+//! What comes before the data of a line.
 ghost use Rattle.std.specs.Prelude.{◌≡◌, ◌+◌, ◌≤◌, ◌++◌, OnErr, OnOk, codes, length};
 ghost use Rattle.std.specs.Io.KnownBytes.{Appends};
 ghost use Rattle.nvm_write.specs.Handed.{TakesFront};
@@ -23,7 +23,7 @@ pub fn front_of(op: Op, host: u16, cid: u16, status: Status) -> Piece
     front
 }
 
-/// Puts the host's number and the command identifier in front, with a space behind each.
+/// Puts the host's number and the command identifier in front, with a space after each.
 fn put_identifiers(piece: &mut Piece, host: u16, cid: u16)
     requires { length piece.old + 42 ≤ 80 }
     ensures text { piece.new ≡ identifiers host cid ++ piece.old }

@@ -7,7 +7,7 @@
 //! [`OpName`], [`StatusText`], [`StatusesText`], [`RunsText`] and [`HexByte`] are displayed as the same texts, so that other crates
 //! write a line by one `write!`. [`append`] adds what is displayed to a text and leaves the text as it was where memory is refused.
 //!
-//! Texts that were written by hand stand in `examples/programs.py`, which holds the built programs to them.
+//! Texts that were written by hand are in `examples/programs.py`, which holds the built programs to them.
 #![tactic(auto)]
 
 mod appending;

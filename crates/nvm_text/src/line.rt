@@ -29,7 +29,7 @@ pub fn write_line<W: Write>(writer: &mut W, op: Op, completion: &Completion) -> 
     )
 }
 
-/// Writes the line of a command that asked for `op`, by what its host is told. It is that of the completion of these
+/// Writes the line of a command that asked for `op`, by what is reported to its host. It is that of the completion of these
 /// parts, of which the data is only lent.
 pub fn write_told<W: Write>(
     writer: &mut W,

@@ -5,7 +5,7 @@ use crate::digit::hex_digit;
 use itoa::write_digits;
 use std::marker::Model;
 
-/// So many bytes fit into a piece.
+/// The number of bytes that fit into a piece.
 const ROOM: usize = 80;
 
 /// A short text that is put together from its back, so that a writer is called once for it.

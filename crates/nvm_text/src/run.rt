@@ -12,7 +12,7 @@ use std::fmt::{Display, Formatter};
 use std::io::Write;
 use std::{fmt, io};
 
-/// Bytes are compared in chunks of so many.
+/// The number of bytes of the chunks in which bytes are compared.
 const CHUNK: usize = 64;
 
 /// Writes the longest runs of equal bytes, `<count>*<byte>` each, joined by commas. Nothing is

@@ -1,4 +1,4 @@
--- Entries, and those among which they stand.
+-- Entries, and those among which they are.
 use Rattle.std.proofs.Common.{◌≡◌, ◌⊎◌, ℕ, zero, suc, ◌+◌, ◌<◌, ◌==◌, if◌then◌else◌, Bool, true, false, List, [], ◌∷◌, ◌++◌, length, eq-eqb, append-nil, subst, refl, sym, ap, ◌∙◌, arith, inl, inr, Result}
 use Rattle.std.proofs.lemmas.Bool.{eqb-true}
 use mathlib.Core.Option.{some, some-injective, some-ne-none}
@@ -80,7 +80,7 @@ entry_stands pass history i k entry at =
     let place : one.0 ≡ k = let is : k ≡ 0 + one.0 = one.1 in omega arith in
     (subst (λ (n : ℕ). IsAt history n entry) place one.2, one.3)
 
--- Behind what the pass had seen stands nothing, where each entry is its own.
+-- Nothing comes after what the pass had seen, where each entry is its own.
 none_behind : (p : PassView) (history rest : List HistoryEntry) → p.bounds.passes ≡ 1 → p.number ≡ 0 → IsProperPass p → Finds (length history) p history
     → history ≡ p.seen ++ rest → rest ≡ []
 none_behind p history [] count number proper finds is = refl

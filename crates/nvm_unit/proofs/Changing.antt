@@ -40,7 +40,7 @@ bears_more count h entry bears lt k x at =
       | inr last ↦ subst (λ (y : HistoryEntry). y.pass < count) last lt
     ]
 
--- the history, or with the entry behind it
+-- the history, or with the entry after it
 abbrev grown : Bool → List HistoryEntry → HistoryEntry → List HistoryEntry
 grown done h entry = if done then h ++ entry ∷ [] else h
 

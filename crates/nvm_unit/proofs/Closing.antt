@@ -20,7 +20,7 @@ use Rattle.nvm_unit.proofs.Allowed.{history_of, fitting}
 use Rattle.nvm_unit.proofs.OnePass.{finds_of}
 use Rattle.nvm_unit.proofs.Lists.{at_one}
 
--- Something stands at each place below the length.
+-- Something is at each place below the length.
 at_some : (ps : List PassView) (i : ℕ) → i < length ps → (p : PassView) × IsAt ps i p
 at_some [] i lt = absurd (omega arith)
 at_some (p ∷ ps) zero lt = (p, refl)

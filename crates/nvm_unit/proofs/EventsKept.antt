@@ -38,7 +38,7 @@ newcomer_at b from (suc n) (suc i) lt =
     let m : suc from + i ≡ from + suc i = omega arith in
     subst (λ (k : ℕ). IsAt (newcomers_from b (suc from) n) i (newcomer b k)) m (newcomer_at b (suc from) n i (omega arith))
 
--- A pass of a new unit has seen and done nothing, and stands at its number.
+-- A pass of a new unit has seen and done nothing, and is at its number.
 new_pass : (b : Bounds) (j i : ℕ) (p : PassView) → StandsAt (opening_state b).groups j i p → (j ≡ 0) × (p ≡ newcomer b i) × (i < b.passes)
 new_pass b zero i p s =
     let at = newcomer_back b 0 b.passes i p (stands_one (opening_state b).groups 0 i (idle (newcomers b)) p refl s) in

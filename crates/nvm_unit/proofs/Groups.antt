@@ -1,4 +1,4 @@
--- Where passes stand in the groups, when a group steps, takes in another or is cut in two.
+-- Where passes are in the groups, when a group steps, takes in another or is cut in two.
 use Rattle.std.proofs.Common.{◌≡◌, ◌≢◌, ◌⊎◌, ℕ, zero, suc, ◌+◌, ◌-◌, ◌<◌, ◌≤◌, List, [], ◌∷◌, ◌++◌, length, map, take, drop, set, subst, refl, sym, ap, ◌∙◌, arith, inl, inr, eqb, eq-eqb, ne_eqb, if◌then◌else◌}
 use Rattle.std.proofs.Math.Dec.{ltb}
 use Rattle.std.proofs.lemmas.Bool.{lt-ltb, le-ltb}
@@ -20,7 +20,7 @@ use Rattle.nvm_unit.proofs.Lists.{at_one, at_below, at_map_back, at_append, at_a
 pub stands_one : (groups : List Group) (j i : ℕ) (g : Group) (p : PassView) → IsAt groups j g → StandsAt groups j i p → IsAt g.passes i p
 stands_one groups j i g p at s = subst (λ (x : Group). IsAt x.passes i p) (at_one groups j s.group g s.at at) s.inside
 
--- Where a pass stands after the group j became g', whose passes are f of what they were.
+-- Where a pass is after the group j became g', whose passes are f of what they were.
 pub moved_back : (groups : List Group) (j : ℕ) (g g' : Group) (f : PassView → PassView) → IsAt groups j g → g'.passes ≡ map f g.passes
     → (k i : ℕ) (q : PassView) → StandsAt (set groups j g') k i q
     → ((k ≡ j) × (p : PassView) × StandsAt groups j i p × (q ≡ f p)) ⊎ ((k ≢ j) × StandsAt groups k i q)
@@ -94,7 +94,7 @@ pub number_apart : (n : ℕ) (spot : ℕ → ℕ × ℕ) (groups : List Group) �
 number_apart n spot groups placed j i k m p q at_p at_q away same =
     away (ap (λ (x : ℕ × ℕ). x.0) (sym (placed.here k m q at_q) ∙ (ap spot same ∙ placed.here j i p at_p)))
 
--- Each pass stands somewhere before and after, and `moves` says where.
+-- Each pass is somewhere before and after, and `moves` says where.
 pub record AreRearranged (moves : ℕ × ℕ → ℕ × ℕ) (groups groups' : List Group) : Type 0 where
   pub back : (m i : ℕ) (q : PassView) → StandsAt groups' m i q → (k : ℕ) × (l : ℕ) × StandsAt groups k l q × (moves (k, l) ≡ (m, i))
   pub forth : (k l : ℕ) (p : PassView) → StandsAt groups k l p → StandsAt groups' (moves (k, l)).0 (moves (k, l)).1 p
@@ -116,7 +116,7 @@ placed_rearranged n spot moves groups groups' re placed =
           (old.0, re.forth (spot number).0 (spot number).1 old.0 old.1, old.2);
     }
 
--- What stands in a list of one.
+-- What is in a list of one.
 pub at_single : (p q : PassView) (i : ℕ) → IsAt (p ∷ []) i q → p ≡ q
 at_single p q zero e = some-injective p q e
 at_single p q (suc i) e = absurd (some-ne-none q (sym e))
@@ -129,7 +129,7 @@ at_last_zero : (x y : Group) (i : ℕ) → IsAt (x ∷ []) i y → i ≡ 0
 at_last_zero x y zero e = refl
 at_last_zero x y (suc i) e = absurd (some-ne-none y (sym e))
 
--- Where a pass stands after the group j, of so many passes, took in the group k.
+-- Where a pass is after the group j, of `count` passes, took in the group k.
 abbrev pub moves_joined : ℕ → ℕ → ℕ → ℕ × ℕ → ℕ × ℕ
 moves_joined j k count at = if eqb at.0 k then (j, count + at.1) else at
 
@@ -188,7 +188,7 @@ joined groups j k ps qs at_j at_k apart =
           subst (λ (x : ℕ × ℕ). StandsAt (set (set groups j both) k (idle [])) x.0 x.1 p) (sym (stays_in j k (length ps) a i not)) new);
     }
 
--- Where a pass stands after the group j kept its first passes, and the others became the group `end`.
+-- Where a pass is after the group j kept its first passes, and the others became the group `end`.
 abbrev pub moves_split : ℕ → ℕ → ℕ → ℕ × ℕ → ℕ × ℕ
 moves_split j first end at = if eqb at.0 j then (if ltb at.1 first then at else (end, at.1 - first)) else at
 

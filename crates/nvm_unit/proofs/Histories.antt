@@ -35,7 +35,7 @@ kept_if-append : (bears : Bool) (from : ℕ) (entry : HistoryEntry) (rest more :
 kept_if-append true from entry rest more = refl
 kept_if-append false from entry rest more = refl
 
--- The entries of two histories, one behind the other.
+-- The entries of two histories, one after the other.
 entries-append : (from pass : ℕ) (history more : List HistoryEntry)
     → entries_by_from from pass (history ++ more) ≡ entries_by_from from pass history ++ entries_by_from (from + length history) pass more
 entries-append from pass [] more = let n : from + 0 ≡ from = omega arith in rw n refl

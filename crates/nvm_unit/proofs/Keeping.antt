@@ -107,7 +107,7 @@ free : (holder : Option ℕ) (word : ℕ) (slot : Option (List HistoryEntry)) (h
 free None word slot history rests even = refl
 free (Some j) word slot history rests even = let h = rests.0 in absurd (omega arith)
 
--- So many passes stay.
+-- There are as many passes as before.
 map_filled : (f : PassView → PassView) (ps : List PassView) → 0 < length ps → 0 < length (map f ps)
 map_filled f ps filled = omega (arith, length-map ps f)
 

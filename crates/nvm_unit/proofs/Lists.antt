@@ -4,7 +4,7 @@ use mathlib.Core.Option.{some-injective, some-ne-none}
 use Rattle.nvm_record.specs.Lists.{IsAt}
 
 module _ {A : Type 0} where
-  -- One thing stands at a place.
+  -- One thing is at a place.
   pub at_one : (xs : List A) (i : ℕ) (x y : A) → IsAt xs i x → IsAt xs i y → x ≡ y
   at_one xs i x y e f = some-injective x y (sym e ∙ f)
 
@@ -18,7 +18,7 @@ module _ {A : Type 0} where
   at_map_back f (x ∷ xs) zero y e = (x, refl, sym (some-injective (f x) y e))
   at_map_back f (x ∷ xs) (suc i) y e = at_map_back f xs i y e
 
-  -- What stands in two lists, one behind the other, stands in one of them.
+  -- What is in two lists, one after the other, is in one of them.
   pub at_append : (xs ys : List A) (i : ℕ) (y : A) → IsAt (xs ++ ys) i y
       → IsAt xs i y ⊎ ((k : ℕ) × (i ≡ length xs + k) × IsAt ys k y)
   at_append [] ys i y e = inr (i, omega arith, e)

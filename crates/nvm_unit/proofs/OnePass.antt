@@ -1,4 +1,4 @@
--- One pass takes its unit, fails to, and gives it back: what the seat tells, said of the pass.
+-- One pass takes its unit, fails to, and gives it back: what the seat shows, said of the pass.
 use Rattle.std.proofs.Common.{◌≡◌, ◌⊎◌, ℕ, ◌+◌, ◌*◌, ◌/◌, ◌%◌, ◌^◌, ◌<◌, ◌≤◌, List, [], ◌∷◌, length, map, subst, refl, sym, ap, ◌∙◌, arith, inl, inr, Bool, false, None, Result, Ok, Err, IfOk, IfErr}
 use Rattle.nvm_store.specs.HistoryEntry.{HistoryEntry}
 use Rattle.nvm_unit.specs.declared.bounds.Bounds.{Bounds}

@@ -16,7 +16,7 @@ use Rattle.nvm_unit.specs.Passes.{UnitName, PassState, IsPassOf, IsHistoryOf, Fi
 abbrev pub IsPassCount : ℕ → Type 0
 IsPassCount count = (0 < count) × (count ≤ 64)
 
--- why there is no unit with so many passes
+-- why there is no unit with `count` passes
 abbrev pub IsUnitFault : ℕ → UnitFault → Type 0
 IsUnitFault count Passes = ¬ IsPassCount count
 IsUnitFault count NoMemory = IsPassCount count
@@ -34,7 +34,7 @@ pub record AreAllPassesOf (unit : UnitName) (passes : List PassState) : Type 0 w
   pub count : length passes ≡ unit.bounds.passes
   pub each : (i : ℕ) (pass : PassState) → IsAt passes i pass → IsPassOf unit pass × (pass.view.number ≡ i)
 
--- The unit's history at the end: lawful and within the limit, each entry by a pass, with just the passes' own
+-- The unit's history at the end: lawful and within the limit, each entry by a pass, with exactly the passes' own
 -- entries under their numbers. It begins with what each pass had seen, and is no shorter than anything that
 -- one had found: a pass's marks never fall, none is above its floor, and the floor isn't above the number of
 -- entries.

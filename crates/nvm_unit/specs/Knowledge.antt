@@ -8,7 +8,7 @@ use Rattle.nvm_unit.specs.Views.{entries_by}
 use Rattle.nvm_unit.specs.Machine.{UnitState, StandsAt, EachPass, IsSound}
 use Rattle.nvm_record.specs.Lists.{IsAt}
 
--- The passes have the numbers below `count`, each of them one pass. `spot` says where it stands: the
+-- The passes have the numbers below `count`, each of them one pass. `spot` says where it is: the
 -- group, and the place in it.
 pub record ArePlaced (count : ℕ) (spot : ℕ → ℕ × ℕ) (groups : List Group) : Type 0 where
   pub below : EachPass (λ p. p.number < count) groups

@@ -17,7 +17,7 @@ pub record UnitState : Type 0 where
   pub holder : Option ℕ
   pub groups : List Group
 
--- The pass stands at place i of the group j.
+-- The pass is at place i of the group j.
 pub record StandsAt (groups : List Group) (j i : ℕ) (p : PassView) : Type 0 where
   pub group : Group
   pub at : IsAt groups j group
@@ -61,7 +61,7 @@ pub record IsSound (b : Bounds) (s : UnitState) : Type 0 where
   pub hold : IsHeld b s
   pub marks : AreMarked s
 
--- a pass of each number from `from` on, so many of them
+-- as many passes as the second number says, numbered from `from` on
 abbrev pub newcomers_from : Bounds → ℕ → ℕ → List PassView
 newcomers_from b from zero = []
 newcomers_from b from (suc n) = newcomer b from ∷ newcomers_from b (suc from) n

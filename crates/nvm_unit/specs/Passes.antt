@@ -28,7 +28,7 @@ pub record IsPassOf (unit : UnitName) (pass : PassState) : Type 0 where
   pub bounds : pass.view.bounds ≡ unit.bounds
   pub kept : pass.keeps ≡ true → unit.versions ≡ true
 
--- Each entry bears the number of one of so many passes.
+-- Each entry bears the number of one of `count` passes.
 abbrev pub BearsNumbers : ℕ → List HistoryEntry → Type 0
 BearsNumbers count history = (k : ℕ) (entry : HistoryEntry) → IsAt history k entry → entry.pass < count
 
@@ -38,7 +38,7 @@ pub record IsHistoryOf (b : Bounds) (history : List HistoryEntry) : Type 0 where
   pub within : length history ≤ b.limit
   pub bears : BearsNumbers b.passes history
 
--- What holds of each pass: what it has seen is lawful, and has just its own entries under its number; its
+-- What holds of each pass: what it has seen is lawful, and has exactly its own entries under its number; its
 -- marks never fall, and none is above what its last step found.
 pub record IsProperPass (p : PassView) : Type 0 where
   pub seen : IsHistoryOf p.bounds p.seen

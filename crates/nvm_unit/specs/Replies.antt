@@ -43,7 +43,7 @@ point_of (Failed point statuses) = point
 point_of (NoMemory point) = point
 point_of (Full point) = point
 
--- What may be answered to a change, where a history of so many entries leads to this medium.
+-- What may be answered to a change, where a history of `entries` entries leads to this medium.
 abbrev pub AnswersChange : Changed → ℕ → ℕ → Operation → Medium → Type 0
 AnswersChange (Done point) entries limit op m =
     (point ≡ entries) × (entries < limit) × IsSuccess (statuses_of op m)

@@ -41,7 +41,7 @@ looked decides n p = record p { marks = marks_after decides n p.marks; floor = n
 abbrev pub shown : Bool → ℕ → List HistoryEntry → PassView → PassView
 shown decides n history p = record p { seen = history; marks = marks_after decides n p.marks; floor = n }
 
--- after the step that adds the entry behind the history
+-- after the step that adds the entry at the end of the history
 abbrev pub added : ℕ → List HistoryEntry → HistoryEntry → PassView → PassView
 added n history entry p =
     record p {

@@ -7,7 +7,7 @@ use nvm_store::ActRef;
 use std::alloc::Global;
 use std::marker::Model;
 
-/// The number of entries alone. The entries themselves are told to contracts, and kept nowhere.
+/// The number of entries alone. The entries themselves are reported to contracts, and kept nowhere.
 #[derive(Drop)]
 pub struct Count {
     entries: u64,

@@ -1,7 +1,7 @@
 use crate::kept::Kept;
 use crate::unit::Unit;
 
-/// What is told of the course of jobs. Each method returns, and waits for nothing.
+/// What is notified of the course of jobs. Each method returns, and waits for nothing.
 pub trait Gate {
     /// The unit of this number, which a change of the job holds, is about to be put back.
     fn before_put(&self, unit: u16, job: u32);
@@ -15,7 +15,7 @@ pub trait Gate {
     /// The job is done.
     fn after_job(&self, job: u32);
 
-    /// So many jobs are about to be done, which count from 0.
+    /// `_jobs` jobs are about to be done, which count from 0.
     fn before_jobs(&self, _jobs: u32) {}
 }
 

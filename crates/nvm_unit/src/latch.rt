@@ -16,7 +16,7 @@ use std::sync::Wait;
 use std::sync::atomic::{AtomicU64, Ordering};
 use std::{mem, thread};
 
-/// So many times a thread yields before it sleeps.
+/// How many times a thread yields before it sleeps.
 const YIELDS: u32 = 16;
 
 /// A unit's table, and how many threads sleep until it is put back.

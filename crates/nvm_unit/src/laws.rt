@@ -59,7 +59,7 @@ pub fn events_lead_to_sound_states()
 }
 
 /// What a change was answered rests on its point in each history that begins with what its pass had seen
-/// then. Where it was done, its entry stands there.
+/// then. Where it was done, its entry is there.
 pub fn changes_rest_on_their_points()
     ensures at { (changed : ChangeReply) (p q : View) (job : ℕ) (op : Operation) (history : List HistoryEntry)
         → Makes changed p job op q → Begins q.seen history
@@ -85,7 +85,7 @@ pub fn looks_rest_on_their_points()
 {}
 
 /// A change adds its point to its pass's marks: no less than anything that the pass had found or seen. The
-/// pass has then seen as many entries, and after `Done` its own behind them.
+/// pass has then seen as many entries, and after `Done` its own past them.
 pub fn changes_mark_their_points()
     ensures marked { (changed : ChangeReply) (p q : View) (job : ℕ) (op : Operation)
         → Makes changed p job op q → HasMarked (point_of changed) p q }
@@ -156,8 +156,8 @@ pub fn new_passes_are_all()
     ensures proper { (b : UnitBounds) (number : ℕ) → IsProperPass (newcomer b number) }
 {}
 
-/// Each entry of a history stands, with its place, among those of the pass whose number it bears; and what
-/// stands among a pass's entries stands at that place of the history and bears its number.
+/// Each entry of a history is, with its place, among those of the pass whose number it bears; and what
+/// is among a pass's entries is at that place of the history and bears its number.
 pub fn entries_are_their_passes_own()
     ensures among { (history : List HistoryEntry) (k : ℕ) (entry : HistoryEntry)
         → IsAt history k entry → (i : ℕ) × IsAt (entries_by entry.pass history) i (k, entry) }
@@ -165,7 +165,7 @@ pub fn entries_are_their_passes_own()
         → IsAt (entries_by number history) i (k, entry) → IsAt history k entry × (entry.pass ≡ number) }
 {}
 
-/// The pass of a unit that has one pass finds just what it had seen, so what it is answered, and what it has
+/// The pass of a unit that has one pass finds exactly what it had seen, so what it is answered, and what it has
 /// seen and done then, are those of what it had seen.
 pub fn a_pass_alone_has_seen_all()
     ensures seen { (p : View) (history : List HistoryEntry)

@@ -10,7 +10,7 @@
 //! [`Unit::poll_change`] and [`Unit::poll_observe`], which are called again until the unit was free.
 //!
 //! A unit has one word: twice the number of entries, and one more while a pass holds the unit. All steps on
-//! it stand in the module `steps`, and each keeps the rule that the unit's state is one to which the seven
+//! it are in the module `steps`, and each keeps the rule that the unit's state is one to which the seven
 //! kinds of events lead. That every list of such events leads to a sound state is a law of [`laws`].
 #![tactic(auto)]
 

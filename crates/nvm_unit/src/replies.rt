@@ -8,7 +8,7 @@ use std::alloc::AllocError;
 /// the answer rests. In all cases but `Done` the unit's history and blocks are unchanged.
 #[derive(Clone, Copy, Debug, PartialEq, Eq)]
 pub enum Changed {
-    /// The act was done. So many entries stand before its own.
+    /// The act was done. `point` entries come before its own.
     Done { point: u64 },
     /// The act is a pair whose comparison failed, with these statuses.
     Failed { point: u64, statuses: Statuses },

@@ -1,4 +1,4 @@
-//! The rule of a unit's table, and what its steps tell.
+//! The rule of a unit's table, and what its steps show.
 ghost use Rattle.std.specs.Prelude.{ℕ, ◌%◌, ◌&&◌, Bool, nat_eq, true, false};
 ghost use Rattle.nvm_unit.specs.Inside.Rule.{IsRuled, all_newcomers};
 ghost use Rattle.nvm_unit.specs.Inside.Plays.{looks, tries, puts, first_of, others_of, together};

@@ -67,7 +67,7 @@ pub fn take<K: Kept, D: Decides>(desk: &Desk<K>, token: &mut Token<K>, word: u64
         .compare_exchange::<Tries<D>>(&mut token.seat, 0, word, word + 1)
 }
 
-/// Puts the unit back, which then has so many entries: as many as before, or one more.
+/// Puts the unit back, which then has `entries` entries: as many as before, or one more.
 pub fn put<K: Kept, D: Decides>(desk: &Desk<K>, token: &mut Token<K>, entries: u64)
     requires at { token.old.seat.table_id ≡ desk.now.table.shared.table_id }
     requires few { entries < 2 ^ 63 }

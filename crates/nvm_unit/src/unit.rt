@@ -20,10 +20,10 @@ use nvm_store::{ActRef, History, Limit, Look, Place, UnitBlocks};
 use std::alloc::Global;
 use std::marker::Model;
 
-/// A unit has at most so many passes.
+/// The most passes of a unit.
 pub const MOST_PASSES: u16 = 64;
 
-/// The history of a unit that keeps no entry has at most so many: 2^62.
+/// The most entries in the history of a unit that keeps none: 2^62.
 pub const MOST_ENTRIES: u64 = 4_611_686_018_427_387_904;
 
 /// Blocks that many threads read and change, each change one atomic step.
@@ -33,7 +33,7 @@ pub const MOST_ENTRIES: u64 = 4_611_686_018_427_387_904;
 #[derive(Drop)]
 pub struct Unit<K: Kept = History> {
     pub(crate) latch: Latch<K>,
-    /// What the gate is told.
+    /// What is reported to the gate.
     pub(crate) number: u16,
     pub(crate) bounds: Bounds,
     /// Whether its passes keep versions.
@@ -58,7 +58,7 @@ impl<K: Kept> Model for Unit<K> {
 
 impl Unit {
     /// A new unit in this place, whose blocks are all zero bytes, and its passes, which are numbered from 0.
-    /// A gate is told the unit's number. `Passes` says that there can't be so many passes; a refusal of
+    /// The unit's number is reported to a gate. `Passes` says that there can't be that many passes; a refusal of
     /// memory leaves nothing.
     ///
     /// Each pass keeps the version of the blocks at the last point that it has seen, for
@@ -137,7 +137,8 @@ impl Unit<Count> {
 }
 
 impl<K: Kept> Unit<K> {
-    /// What [`open`](Unit::open) and [`unrecorded`](Unit::unrecorded) do, of a unit that keeps a `K` of its history, which may have so many entries.
+    /// What [`open`](Unit::open) and [`unrecorded`](Unit::unrecorded) do, of a unit that keeps a `K` of its history,
+    /// which may have at most `limit` entries.
     pub fn with_limit(
         alloc: Global,
         number: u16,
@@ -205,7 +206,7 @@ impl<K: Kept> Unit<K> {
         steps::close(desk, token)
     }
 
-    /// Whether the act's range has a block and lies in the unit, and its data has just the blocks of the
+    /// Whether the act's range has a block and lies in the unit, and its data has exactly the blocks of the
     /// range. It takes no memory.
     pub fn covers(&self, act: ActRef<'_>) -> bool
         ensures { IsTrue result ↔ IsCovered self.now.bounds.place (lent_operation_of act.entry) }
@@ -213,7 +214,7 @@ impl<K: Kept> Unit<K> {
         self.bounds.place.covers(act)
     }
 
-    /// Whether the look's range has a block and lies in the unit, and its data, if it has any, has just
+    /// Whether the look's range has a block and lies in the unit, and its data, if it has any, has exactly
     /// the blocks of the range. It takes no memory.
     pub fn covers_look(&self, look: Look<'_>) -> bool
         ensures { IsTrue result ↔ IsCovered self.now.bounds.place (look_operation_of look.entry) }

@@ -47,7 +47,7 @@ impl<K: Kept> Unit<K> {
         drop(old);
     }
 
-    /// Brings both passes to one history, so that what either had seen stands in it. It waits for the
+    /// Brings both passes to one history, so that what either had seen is in it. It waits for the
     /// unit, and takes no memory.
     pub fn meet<R: Wait>(&self, rt: &R, one: &mut Pass<K>, other: &mut Pass<K>)
         requires one { IsPassOf self.now one.old }

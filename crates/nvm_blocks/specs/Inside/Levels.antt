@@ -12,7 +12,7 @@ blocks_of (Two node) = arc_value node
 blocks_of (Three node) = arc_value node
 blocks_of (Four node) = arc_value node
 
--- All of them are this block, and there are at least so many.
+-- All of them are this block, and there are at least `count`.
 pub record AreAll (count : ℕ) (block : Block) (blocks : List Block) : Type 0 where
   pub all : ℕ
   pub enough : count ≤ all

@@ -19,7 +19,7 @@ has_data (Data size payload) = true
 has_data (Zeroes size) = false
 has_data Marks = false
 
--- There are at least so many.
+-- There are at least `count` blocks.
 abbrev pub HasBlocks : Source → ℕ → Type 0
 HasBlocks (Data size payload) count = count * size ≤ length payload
 HasBlocks (Zeroes size) count = Unit {0}

@@ -8,12 +8,12 @@ use Rattle.nvm_record.specs.declared.block.Block.{Block}
 abbrev pub parts_of : {X Z : Type 0} → (X → List Block) → List (Arc X Z) → List (List Block)
 parts_of blocks kids = map (λ kid. blocks (arc_value kid)) kids
 
--- the parts, one behind the other
+-- the parts, one after the other
 abbrev pub joined_parts : List (List Block) → List Block
 joined_parts [] = []
 joined_parts (part ∷ parts) = part ++ joined_parts parts
 
--- Each part has so many blocks.
+-- Each part has `span` blocks.
 abbrev pub AreOfSpan : ℕ → List (List Block) → Type 0
 AreOfSpan span [] = Unit {0}
 AreOfSpan span (part ∷ parts) = (length part ≡ span) × AreOfSpan span parts

@@ -11,11 +11,11 @@ abbrev pub space_of : Namespace → ℕ → Option ℕ → Bool → List UnitNam
 space_of ns ports limit versions units =
     record { namespace = ns; ports = ports; limit = most_entries limit; lists = is_some limit; versions = versions; units = units }
 
--- the port with this pass behind those that it has
+-- the port with this pass after those that it has
 abbrev pub with_one_more : PortState → PassState → PortState
 with_one_more port pass = record { number = port.number; passes = port.passes ++ pass ∷ [] }
 
--- So many ports have the new passes of these units.
+-- `n` ports have the new passes of these units.
 pub record AreDealt (n : ℕ) (units : List UnitName) (ports : List PortState) : Type 0 where
   pub count : length ports ≡ n
   pub each : (w : ℕ) (port : PortState) → IsAt ports w port → port ≡ new_port units w

@@ -1,4 +1,4 @@
--- The parts of a job, and what is told of them.
+-- The parts of a job, and what is reported about them.
 use Rattle.std.specs.Prelude.{◌≡◌, ◌⊎◌, ℕ, Bool, true, List, [], ◌++◌, length, Option, unwrap_or, IsSome}
 use Rattle.nvm_record.specs.Lists.{IsAt}
 use Rattle.nvm_record.specs.declared.status.Statuses.{Statuses}
@@ -26,14 +26,14 @@ pub record AreUnitsOf (ns : Namespace) (lists : Bool) (units : List UnitName) : 
   pub place : (k : ℕ) (unit : UnitName) → IsAt units k unit → IsUnitPlace ns k unit.bounds.place
   pub limit : lists ≡ true → (k : ℕ) (unit : UnitName) → IsAt units k unit → IsLimit unit.bounds.limit
 
--- what a unit told, as plain data
+-- what a unit reported, as plain data
 abbrev pub reply_told : PartReply → Reply
 reply_told r = record { part = part_ended r.unit r.point r.result; statuses = r.statuses; payload = r.payload }
 
 abbrev pub part_done : ℕ → Operation → Reply → PartDone
 part_done number op reply = record { job = number; operation = op; reply = reply }
 
--- what is told of a job that ended with these statuses, this data and these parts
+-- what is reported about a job that ended with these statuses, this data and these parts
 abbrev pub job_ended : Job → Statuses → Option (List ℕ) → List Part → JobDone → Type 0
 job_ended job told read parts done = (done.completions ≡ completions_of job told read) × (done.parts.items ≡ parts)
 

@@ -1,4 +1,4 @@
-//! What jobs do in the units, and what is told of them.
+//! What jobs do in the units, and what is reported about them.
 use super::ground::Ground;
 use super::{data_of, filled, has_parts, job, status_of};
 use crate::JobDone;
@@ -10,7 +10,7 @@ use std::alloc::Global;
 use std::sync::Wait;
 use std::test::Fail;
 
-/// A command of a port, and what is told of it.
+/// A command of a port, and what is reported about it.
 struct Row {
     port: usize,
     op: Op,
@@ -72,7 +72,7 @@ const ROWS: [Row; 7] = [
         status: Status::SUCCESSFUL_COMPLETION,
         parts: &[(1, 1, Done)],
     },
-    // Unit 1 is full now, and unit 2 comes behind it.
+    // Unit 1 is full now, and unit 2 comes after it.
     Row {
         port: 0,
         op: Op::Write,
@@ -116,7 +116,7 @@ fn done(rt: &impl Wait, alloc: Global, ground: &mut Ground, row: &Row) -> Result
     ground.run(rt, alloc, row.port, 5, &job)
 }
 
-/// Whether what was told is what the row says.
+/// Whether what was reported is what the row says.
 fn is_as_said(alloc: Global, row: &Row, done: &JobDone) -> Result<bool, Fail> {
     if status_of(done) != Some(row.status) || !has_parts(done, row.parts) {
         return Ok(false);
@@ -128,7 +128,7 @@ fn is_as_said(alloc: Global, row: &Row, done: &JobDone) -> Result<bool, Fail> {
     Ok(data_of(done) == read.as_slice())
 }
 
-/// Whether the row's command is told what the row says.
+/// Whether what is reported about the row's command is what the row says.
 fn is_told(rt: &impl Wait, alloc: Global, ground: &mut Ground, row: &Row) -> Result<bool, Fail> {
     let done = done(rt, alloc, ground, row)?;
     is_as_said(alloc, row, &done)
@@ -147,7 +147,7 @@ fn each_row_one_after_the_other(rt: HostRuntime) -> Result<(), Fail> {
     Ok(())
 }
 
-/// Whether the history has just a Write of this data to the LBAs 6 and 7, as job 5 by pass 0.
+/// Whether the history has only a Write of this data to the LBAs 6 and 7, as job 5 by pass 0.
 fn has_one(history: &History, payload: Payload) -> bool {
     let entry = Entry {
         pass: 0,
@@ -161,13 +161,13 @@ fn has_one(history: &History, payload: Payload) -> bool {
     history.len() == 1 && history[0] == entry
 }
 
-/// Whether port 1 finds just that Write in unit 0.
+/// Whether port 1 finds only that Write in unit 0.
 fn finds_one(rt: &impl Wait, alloc: Global, ground: &mut Ground) -> Result<bool, Fail> {
     let seen = ground.found(rt, alloc, 1, 0)?;
     Ok(has_one(&seen, filled(alloc, 0x42, 1)?))
 }
 
-/// Whether each unit's history has so many entries at the end.
+/// Whether each unit's history has as many entries at the end as `lengths` says.
 fn has_lengths(alloc: Global, ground: Ground, lengths: [usize; 4]) -> Result<bool, Fail> {
     let histories = ground.close(alloc)?;
     if histories.len() != 4 {

@@ -5,7 +5,7 @@ use nvm_store::Limit;
 use std::alloc::Global;
 use std::test::Fail;
 
-/// Whether there can be so many ports, and there was memory for them.
+/// Whether there can be `count` ports, and there was memory for them.
 fn has_ports(alloc: Global, count: u16) -> Result<bool, Fail> {
     let Ok(geometry) = Geometry::new(32, 512, 7, 0, 7, 3) else {
         return Err(Fail::new("there is no such geometry"));

@@ -1,4 +1,4 @@
--- What each atomic step tells the seat that makes it.
+-- What each atomic step reports to the seat that makes it.
 use Rattle.std.specs.Prelude.{◌≡◌, ◌≢◌, ◌⊎◌, ℕ, ◌+◌, ◌*◌, ◌/◌, ◌<◌, ◌≤◌, List, [], ◌∷◌, ◌++◌, map, take, drop, length, Bool, true, false, Option, Some}
 use Rattle.atomic_table.specs.Table.{Me, Step}
 use Rattle.nvm_store.specs.HistoryEntry.{HistoryEntry}
@@ -81,14 +81,14 @@ tries decides step m word m' =
     (word ≡ step.first → Takes word m m' × WasEvent takes word m m')
     × (word ≢ step.first → HasLooked decides word m m' × WasEvent (λ j. misses j (decides word)) word m m')
 
--- The unit is put back as it was, with so many entries.
+-- The unit is put back as it was, with `entries` entries.
 abbrev pub ReturnsAs : (ℕ → Bool) → ℕ → Sits → Sits → Type 0
 ReturnsAs decides entries m m' =
     (ps : List PassView) (history : List HistoryEntry) (book : Option Recorded)
     → m ≡ holding ps history book → entries ≡ length history
     → m' ≡ resting (map (shown (decides (2 * length history + 1)) (length history) history) ps)
 
--- The unit is put back with one entry more, and then has so many.
+-- The unit is put back with one entry more, and then has `entries` of them.
 abbrev pub AddsAs : ℕ → Sits → Sits → Type 0
 AddsAs entries m m' =
     (p : PassView) (history : List HistoryEntry) (entry : HistoryEntry)
@@ -116,7 +116,7 @@ pub record CanAppend (entries : ℕ) (m : Sits) (p : PassView) (history : List H
   pub follows : CanFollow p.bounds.place history entry
   pub room : length history < p.bounds.limit
 
--- how passes that meet are told apart again: the first stays
+-- how passes that meet are separated again: the first stays
 abbrev pub first_of : Group → Group
 first_of g = idle (take 1 g.passes)
 

@@ -1,5 +1,5 @@
 -- The rule of the unit's table: it shows a state to which events lead from a new unit. What the events keep
--- stands beside that, so that each step has it at hand.
+-- is put beside that, so that each step has it at hand.
 use Rattle.std.specs.Prelude.{◌≡◌, List, [], ◌∷◌, Option, Some, None}
 use mathlib.Core.Option as there
 use Rattle.atomic_table.specs.Table.{State}

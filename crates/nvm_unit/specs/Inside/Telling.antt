@@ -1,4 +1,4 @@
--- The history that is told.
+-- The history that is reported.
 use Rattle.std.specs.Prelude.{List, [], ◌∷◌, ◌++◌, ◌-◌, length, take}
 use Rattle.nvm_store.specs.ActRef.{lent_operation_of}
 use Rattle.nvm_store.specs.HistoryEntry.{HistoryEntry}

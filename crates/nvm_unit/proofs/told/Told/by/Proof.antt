@@ -1,4 +1,4 @@
--- The body makes a struct that has no bytes, and the proof says which list it stands for: the one that is told.
+-- The body makes a struct that has no bytes, and the proof says which list it stands for: the one that is reported.
 use Rattle.std.proofs.Common.{[], ◌∷◌, refl}
 use Rattle.std.proofs.raw_atomic.Walks.{proved}
 use mir.Syntax.{named}
