@@ -25,7 +25,7 @@ abbrev pub times_done : ℕ → List (List RecordedJob) → ℕ
 times_done number done = sum_by (λ work. count_by (λ d. nat_eq d.job number) work) done
 
 -- What is recorded of a done job has the shape of an outcome of its job: no part of a refused one; else the parts of the
--- first units in which it has one, with results that its command can have, the last of which decides; and data just of a
+-- first units in which it has one, with results that its command can have, the last of which decides; and data only of a
 -- Read that succeeded.
 pub record HasItsShape (ns : Namespace) (jobs : List Job) (d : RecordedJob) : Type 0 where
   pub job : Job
