@@ -1,4 +1,4 @@
--- What each atomic step tells the seat that makes it.
+-- What each atomic step says to the seat that makes it.
 use Rattle.std.specs.Prelude.{◌≡◌, ℕ, ◌<◌, List, [], ◌∷◌, ◌++◌, take, drop, All}
 use Rattle.atomic_table.specs.Table.{Me, Step}
 
