@@ -14,7 +14,7 @@ impl Moments {
         Ok(Moments { items })
     }
 
-    /// None, with room for so many.
+    /// None, with room for `count`.
     pub fn with_room(alloc: Global, count: usize) -> Result<Moments, NoMemory> {
         Ok(Moments {
             items: Vec::with_capacity(alloc, count)?,
