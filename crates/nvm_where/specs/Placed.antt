@@ -66,7 +66,7 @@ IsPlacedAmongWorkers layout bytes starts first at found =
     MatchOption found (end_of_workers layout bytes starts first ≤ at)
     (λ place. LiesAmongWorkers layout bytes starts first at place.piece place.begins)
 
--- where the workers begin behind histories that begin at `first`
+-- where the workers begin after histories that begin at `first`
 abbrev pub end_of_histories : Layout → List ℕ → List ℕ → ℕ → ℕ
 end_of_histories layout bytes starts first = row_begins (length_in Entries bytes layout starts) bytes first layout.units
 
