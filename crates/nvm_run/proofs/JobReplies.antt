@@ -1,4 +1,4 @@
--- The replies to the parts of a done job: each is one to its operation, and all but the last tell success.
+-- The replies to the parts of a done job: each is one to its operation, and all but the last report success.
 use Rattle.std.proofs.Common.{◌≡◌, ◌⊎◌, ℕ, ◌+◌, ◌≤◌, List, [], ◌∷◌, ◌++◌, length, false, IsTrue, Option, Some, None, MatchOption, refl, sym, ap, subst, ◌∙◌, inl, inr, append-nil, length-append, arith, rules}
 use Rattle.std.specs.List.{AllByRecursion}
 use Rattle.std.specs.Option.{IsSomeAnd}
