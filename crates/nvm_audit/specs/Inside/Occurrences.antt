@@ -30,7 +30,7 @@ pub record IsCounted (done : List (List RecordedJob)) (found : List Occurrence) 
   pub its : IsAt found number occurrence
   pub is : IsOccurrence done number times occurrence
 
--- It was found how often each of `count` jobs was done.
+-- It was found how often each job below `jobs` was done.
 pub record AreCounted (jobs : ℕ) (done : List (List RecordedJob)) (found : List Occurrence) : Type 0 where
   pub long : length found ≡ jobs
   pub each : (number : ℕ) → number < jobs → IsCounted done found number (times_done number done)
