@@ -45,7 +45,7 @@ pub record Draws (jobs : ℕ) (s t : ClaimState) : Type 0 where
   pub word : t.word ≡ s.word + 1
   pub lists : t.lists ≡ slice_set s.lists worker (drawn ++ s.word ∷ [])
 
--- So many draws lead from s to t, one after the other.
+-- This number of draws leads from s to t, one after the other.
 abbrev pub DrawsLead : ℕ → ℕ → ClaimState → ClaimState → Type 0
 DrawsLead jobs zero s t = t ≡ s
 DrawsLead jobs (suc n) s t = (u : ClaimState) × DrawsLead jobs n s u × Draws jobs u t

@@ -26,7 +26,7 @@ use std::thread::Threads;
 /// Does the jobs on a namespace of zero bytes by `workers` workers, 1 to 64, each on a thread of its own where one can be made, and
 /// gives the record of the run, which owns the jobs. Each unit's history may have as many entries as the limit says.
 ///
-/// `before_jobs` says to the gate how many there are. Each worker draws the number of the next job, does it by its own port, has
+/// The gate learns by `before_jobs` how many there are. Each worker draws the number of the next job, does it by its own port, has
 /// it reported to the gate by `after_job`, and goes on until no job is left. The record is lawful, and of exactly these jobs.
 ///
 /// `Workers` says that there can't be that many workers. `NoMemory` says that a growth outside a job was refused: all workers
