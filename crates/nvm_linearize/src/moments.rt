@@ -8,7 +8,7 @@ pub struct Moments {
 }
 
 impl Moments {
-    /// So many times, each this one.
+    /// `count` times, each this one.
     pub fn new(alloc: Global, count: usize, time: u64) -> Result<Moments, NoMemory> {
         let items = vec![in alloc; time; count]?;
         Ok(Moments { items })
