@@ -20,7 +20,7 @@ pub struct Placed {
     lba: u64,
 }
 
-/// So many facts. Memory is taken for no more than the bytes could hold, whatever the count says.
+/// `count` facts. Memory is taken for no more than the bytes could hold, whatever `count` says.
 pub fn facts_of(
     alloc: Global,
     total: usize,
