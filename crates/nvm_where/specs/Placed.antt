@@ -20,7 +20,7 @@ namespace_in bytes =
     namespace_of (number 8 (drop 4 bytes)) (number 4 (drop 12 bytes)) (number 2 (drop 16 bytes)) (number 2 (drop 18 bytes))
     (number 2 (drop 20 bytes)) (number 2 (drop 22 bytes))
 
--- So many units has the namespace, where it is one.
+-- The namespace has `units` units, where it is one.
 abbrev pub IsUnitCount : List ℕ → ℕ → Type 0
 IsUnitCount bytes units = HasNoFault (namespace_in bytes) → units ≡ units_of (namespace_in bytes)
 
