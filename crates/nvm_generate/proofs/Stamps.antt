@@ -95,7 +95,7 @@ cut_early x y z cut long_x long_y early e =
     let same = same_front front z y z long parts in
     sym (append_cancel_left z y z (ap (λ l. l ++ y) (sym same) ∙ parts))
 
--- A cut after it leaves the first half of the one before.
+-- A cut past it leaves the first half of the one before.
 cut_late : (x y z : List ℕ) (more : ℕ) → length x ≡ length z → take (length x + more) (x ++ x) ++ drop (length x + more) (y ++ y) ≡ z ++ z → z ≡ x
 cut_late x y z more long e =
     let rest : List ℕ = drop (length x + more) (y ++ y) in
