@@ -30,7 +30,7 @@ name_takes bytes rest are e =
       rest_are = dropped 4 bytes are;
     })
 
--- Nothing stands behind the facts, and these are the unit and the facts.
+-- Nothing comes after the facts, and these are the unit and the facts.
 ends : (total unit : ℕ) (facts : List Fact) (rest : List ℕ) (x : ℕ × List Fact) → whole_argument total unit facts rest ≡ Ok x
     → (rest ≡ []) × ((unit ≡ x.0) × (facts ≡ x.1))
 ends total unit facts [] x e = (refl, (cc, cc))

@@ -50,7 +50,7 @@ nobody_at total bytes = do
   lba ← number_at total 8 reader.1
   Ok (Nobody reader.0 lba.0, lba.1)
 
--- What the kind says, which stands at `at`.
+-- What the kind says, which is at `at`.
 abbrev pub fact_of_kind : ℕ → ℕ → List ℕ → List ℕ → Result (Fact × List ℕ) ArgumentFault
 fact_of_kind total kind at bytes =
     if kind == 1 then time_at total bytes else

@@ -1,4 +1,4 @@
--- Fields of an argument's file, read from the front. A reading gives a value and the bytes behind it, or the first fault that is
+-- Fields of an argument's file, read from the front. A reading gives a value and the bytes after it, or the first fault that is
 -- met. The offset of what is left is known from its length and from that of the whole file, `total`.
 use Rattle.std.specs.Prelude.{◌≡◌, ◌⊎◌, ℕ, nat_lt, if◌then◌else◌, List, length, drop, Result, Ok, Err}
 use Rattle.byteorder.specs.Endian.{little_number}
@@ -6,7 +6,7 @@ use Rattle.nvm_argument.specs.declared.argument_fault.ArgumentFault.{ArgumentFau
 use Rattle.nvm_argument.specs.declared.argument_fault.ArgumentFault.TheVariants.{Truncated, NoMemory}
 use Rattle.nvm_file.specs.Fields.{offset}
 
--- a number of so many bytes, the lowest first
+-- a number of `count` bytes, the lowest first
 unfoldable pub number_at : ℕ → ℕ → List ℕ → Result (ℕ × List ℕ) ArgumentFault
 number_at total count bytes =
     if nat_lt (length bytes) count then Err (Truncated (offset total bytes)) else Ok (little_number count bytes, drop count bytes)

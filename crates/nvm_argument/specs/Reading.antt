@@ -9,11 +9,11 @@ use Rattle.nvm_argument.specs.Spelling.{argument_name}
 use Rattle.nvm_file.specs.Fields.{◌>>=◌, items_at, offset}
 use Rattle.nvm_refute.specs.declared.fact.Fact.{Fact}
 
--- what stands behind the name
+-- what comes after the name
 unfoldable pub name_at : List ℕ → Result (List ℕ) ArgumentFault
 name_at bytes = if bytes_eq (take 4 bytes) argument_name then Ok (drop 4 bytes) else Err BadName
 
--- the unit and the facts, where nothing stands behind them
+-- the unit and the facts, where nothing comes after them
 abbrev pub whole_argument : ℕ → ℕ → List Fact → List ℕ → Result (ℕ × List Fact) ArgumentFault
 whole_argument total unit facts [] = Ok (unit, facts)
 whole_argument total unit facts (b ∷ bs) = Err (Trailing (offset total (b ∷ bs)))

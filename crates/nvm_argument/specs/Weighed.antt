@@ -15,7 +15,7 @@ use Rattle.nvm_argument.specs.declared.weigh_fault.WeighFault.TheVariants.{Trace
 use Rattle.nvm_argument.specs.declared.weighed.Weighed.{Weighed}
 use Rattle.nvm_argument.specs.declared.weighed.Weighed.TheVariants.{Refuted, FactWrong, NothingRefuted}
 
--- No record explains the trace, and the facts about this unit, which are so many, show it.
+-- No record explains the trace, and the facts about this unit, of which there are `count`, show it.
 pub record IsRefutedAs (judging : Judging) (t : TraceView) (unit : ℕ) (facts : List Fact) (about count : ℕ) : Type 0 where
   pub refuted : (r : RecordView) → ¬ (IsExplainedBy judging t r)
   pub derived : IsRefutation judging t unit facts
@@ -49,7 +49,7 @@ IsArgumentFault argument (Trace fault) = ⊥
 IsArgumentFault argument (Argument fault) = argument_at argument ≡ Err fault
 IsArgumentFault argument NoMemory = Unit {0}
 
--- It is the first fault of the trace's file, or else, where that is one, of the argument's. Want of memory stands beside them.
+-- It is the first fault of the trace's file, or else, where that is one, of the argument's. Or it is want of memory.
 abbrev pub IsWeighFault : List ℕ → List ℕ → WeighFault → Type 0
 IsWeighFault trace argument (Trace fault) = trace_at trace ≡ Err fault
 IsWeighFault trace argument (Argument fault) = ((t : TraceView) × IsTraceFile trace t) × (argument_at argument ≡ Err fault)

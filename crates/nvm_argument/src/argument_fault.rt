@@ -13,10 +13,10 @@ pub enum ArgumentFault {
     /// A field isn't whole; it begins at offset `at`, in bytes.
     #[error("truncated at {at}")]
     Truncated { at: u64 },
-    /// Bytes stand behind the last fact; they begin at offset `at`, in bytes.
+    /// There are bytes after the last fact; they begin at offset `at`, in bytes.
     #[error("trailing at {at}")]
     Trailing { at: u64 },
-    /// There is no such kind of fact; the byte stands at offset `at`.
+    /// There is no such kind of fact; the byte is at offset `at`.
     #[error("bad value at {at}")]
     BadValue { at: u64 },
     /// Memory was asked for and refused.

@@ -9,7 +9,7 @@ use crate::fields::{offset_of, u8_of, u32_of, u64_of};
 use nvm_refute::Fact;
 use std::alloc::Global;
 
-/// A fact has so many bytes at least: its kind and two numbers of pieces.
+/// The fewest bytes of a fact: its kind and two numbers of pieces.
 const LEAST_BYTES: usize = 9;
 
 /// Two pieces, and a block.
@@ -20,7 +20,7 @@ pub struct Placed {
     lba: u64,
 }
 
-/// So many facts. Memory is taken for no more than the bytes could hold, whatever the count says.
+/// `count` facts. Memory is taken for no more than the bytes could hold, whatever `count` says.
 pub fn facts_of(
     alloc: Global,
     total: usize,

@@ -11,8 +11,8 @@ use std::alloc::Global;
 /// Each argument's file begins with these bytes.
 const NAME: &[u8; 4] = b"NVA1";
 
-/// Reads an argument's file from its front. What is read is spelled just so, each byte of it, and the spelling of each argument is
-/// read as just that argument: see [`spellings_are_arguments`](crate::laws::spellings_are_arguments).
+/// Reads an argument's file from its front. What is read is spelled exactly so, each byte of it, and the spelling of each argument is
+/// read as exactly that argument: see [`spellings_are_arguments`](crate::laws::spellings_are_arguments).
 ///
 /// Memory is taken for the facts, never for more than the bytes that follow could hold, whatever their number says.
 ///
@@ -35,7 +35,7 @@ pub fn read_argument(alloc: Global, bytes: &[u8]) -> Result<Argument, ArgumentFa
     Ok(Argument { unit, facts })
 }
 
-/// What stands behind the file's name.
+/// What comes after the file's name.
 #[tactic(auto, unfolding(crate::specs::Reading::name_at))]
 fn name_of(bytes: &[u8]) -> Result<&[u8], ArgumentFault>
     ensures { Gives (λ rest. rest.now) result (name_at bytes.now) }

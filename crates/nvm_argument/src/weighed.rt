@@ -6,7 +6,7 @@ use std::alloc::{AllocError, Global};
 /// What the argument of a file comes to against the trace of another.
 #[derive(Clone, Copy, Debug, PartialEq, Eq)]
 pub enum Weighed {
-    /// No record explains the trace: so many facts about this unit show it.
+    /// No record explains the trace: `facts` facts about this unit show it.
     Refuted { unit: u16, facts: usize },
     /// The fact of this number, counted from 0, isn't given by its rule and the facts before it. It is the first such.
     FactWrong { fact: usize },

@@ -10,13 +10,13 @@ use byteorder::{ByteOrder, LittleEndian};
 use nvm_refute::{Argument, Fact};
 use std::alloc::{AllocError, Global};
 
-/// So many bytes stand before the facts.
+/// The bytes before the facts.
 const HEAD_BYTES: usize = 14;
 
-/// A fact has so many bytes at most.
+/// The most bytes of a fact.
 const MOST_BYTES: usize = 21;
 
-/// The bytes of the argument's file. By [`spellings_are_arguments`] they are read as just this argument.
+/// The bytes of the argument's file. By [`spellings_are_arguments`] they are read as exactly this argument.
 ///
 /// `AllocError` is answered where memory was refused.
 pub fn write_argument(alloc: Global, argument: &Argument) -> Result<Vec<u8>, AllocError>

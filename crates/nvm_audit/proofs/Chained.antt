@@ -11,7 +11,7 @@ module _ (parts : List RecordedPart) (p : RecordedPart) where
   more : length (parts ++ p ∷ []) ≡ length parts + 1
   more = simp length-append (omega arith)
 
-  -- What is so of the parts before is so with one more behind them.
+  -- What is so of the parts before is so with one more after them.
   kept : (n count at : ℕ) → count ≤ length parts → IsLastAt parts n count at → IsLastAt (parts ++ p ∷ []) n count at
   kept n count at few old =
       let within = old.within in
@@ -103,7 +103,7 @@ module _ (parts : List RecordedPart) (p : RecordedPart) where
           earlier = earlier_of was (λ few. old.at_point p.part.point was (stands_read last p.part.point was low read));
         }
 
-    -- A part behind the history's end is left out.
+    -- A part past the history's end is left out.
     pub put_past : length last ≤ p.part.point → AreByPoint entries (parts ++ p ∷ []) last (before ++ 0 ∷ [])
     put_past high =
         let points = old.points in

@@ -11,7 +11,7 @@ use Rattle.nvm_audit.specs.RecordedPart.{RecordedPart}
 use Rattle.nvm_audit.proofs.Places.{at_left, at_end, at_push, at_set, at_replicate}
 use Rattle.nvm_audit.proofs.Standing.{none_stands, below, read_there, read_is, one_there}
 
--- What was read at the part's point tells whether the part made it.
+-- What was read at the part's point says whether the part made it.
 pub made_there : (history : List HistoryEntry) (p : RecordedPart) (n : ℕ) (entry : HistoryEntry) (made : Bool) → n ≡ p.part.point
     → p.part.point < length history → entry ≡ get_or history n entry → IsTrue made ↔ MadeEntry p.part.point entry p
     → IsTrue made ↔ HasMadeEntry history p
@@ -21,7 +21,7 @@ made_there history p n entry made same low read tells =
       λ h. tells.1 (subst (λ (e : HistoryEntry). MadeEntry p.part.point e p) (sym (read_is history p.part.point h.0 entry h.1) ∙ sym is) h.2),
     )
 
--- Nothing stands at a point that the history hasn't come to.
+-- Nothing is at a point that the history hasn't come to.
 pub none_made : (history : List HistoryEntry) (p : RecordedPart) → length history ≤ p.part.point → ¬ (HasMadeEntry history p)
 none_made history p high h = let low = below history p.part.point h.0 h.1 in omega (arith, low, high)
 
@@ -49,7 +49,7 @@ still : (parts : List RecordedPart) (p : RecordedPart) (i : ℕ) (entry : Histor
     → IsClaimed (parts ++ p ∷ []) i entry
 still parts p i entry h = (h.0, h.1, at_left parts (p ∷ []) h.0 h.1 h.2, h.3)
 
--- A part that made its entry claims just that.
+-- A part that made its entry claims exactly that.
 pub claims_one : (history : List HistoryEntry) (parts : List RecordedPart) (p : RecordedPart) (claimed : List Bool)
     → AreClaims history parts claimed → HasMadeEntry history p → AreClaims history (parts ++ p ∷ []) (set claimed p.part.point true)
 claims_one history parts p claimed old made =

@@ -1,5 +1,5 @@
 -- Whether two done jobs are the same is decided, and whether two records are: by the numbers that spell the codes by which the logic
--- tells such values apart.
+-- distinguishes such values.
 use Rattle.std.proofs.Common.{◌≡◌, ℕ, zero, suc, List, [], ◌∷◌, refl, sym, ap, ◌∙◌, nat_eq}
 use Rattle.std.proofs.lemmas.Bool.Decides.{Decides-eqb}
 use Rattle.std.proofs.lemmas.Slice.Eq.{slice_eq-Decides}

@@ -120,7 +120,7 @@ module _ {A B : Type 0} where
   pub item_in_map : (f : A → B) (xs ys : List A) (i : ℕ) (x : A) → xs ≡ ys → i < length xs → x ≡ get_or xs i x → IsAt (map f ys) i (f x)
   item_in_map f xs ys i x same lt read = at_map f ys i x (item_at xs ys i x same lt read)
 
--- What is short of each is short of the one that stands there.
+-- What is short of each is short of the one that is there.
 pub short_there : {A B : Type 0} → (f : A → List B) (n : ℕ) (xs : List A) (i : ℕ) (x : A) → All (λ y. length (f y) ≤ n) xs → IsAt xs i x
     → length (f x) ≤ n
 short_there f n xs i x all at = all_at (λ y. length (f y) ≤ n) xs all i x at

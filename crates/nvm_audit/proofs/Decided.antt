@@ -63,7 +63,7 @@ at_most a b = elim (cases_lt b a) [
 ]
 
 module _ {A : Type 0} where
-  -- what stands at a place, if something does
+  -- what is at a place, if anything is
   pub at_place : (xs : List A) (i : ℕ) → ((x : A) × IsAt xs i x) ⊎ ((x : A) → IsAt xs i x → ⊥)
   at_place [] i = inr (λ x at. none_stands i x at)
   at_place (x ∷ xs) zero = inl (x, refl)

@@ -75,7 +75,7 @@ ends_with_parts ns op parts told some = (λ e. inr (inr e), back)
     back (inr (inl none)) = absurd (some (ap length none.none_done))
     back (inr (inr e)) = e
 
--- Two tests give the same just where what they test is the same.
+-- Two tests give the same exactly where what they test is the same.
 pub same_tests : (a b : Bool) {A B : Type 0} → IsTrue a ↔ A → IsTrue b ↔ B → IsTrue (beq a b) ↔ (A ↔ B)
 same_tests true true tests others = (λ e. (λ x. others.0 refl, λ y. tests.0 refl), λ s. refl)
 same_tests true false tests others =
@@ -87,7 +87,7 @@ same_tests false false tests others =
 
 module _ (ns : Namespace) (job : Job) (op : Operation) (parts : List Part) (told : Statuses) (read : Option (List ℕ))
     (shaped : HasOutcomeShape ns job parts told read ↔ HasShapeOf ns op parts told read) (ending : HasEnding ns op parts told) where
-  -- What ends as an outcome has its shape where there is data just where there should be.
+  -- What ends as an outcome has its shape where there is data exactly where there should be.
   pub shape_by_data : (has gives : Bool) → has ≡ is_some read → IsTrue gives ↔ GivesData op.deed told
       → IsTrue (beq has gives) ↔ HasOutcomeShape ns job parts told read
   shape_by_data has gives has_is gives_is =
@@ -100,7 +100,7 @@ pub the_one : {A : Type 0} → (o : Option A) → IsSome o → (x : A) × (o ≡
 the_one None e = absurd (true≢false (sym e))
 the_one (Some x) e = (x, refl)
 
--- An iterator has come to its end just where nothing was left.
+-- An iterator has come to its end exactly where nothing was left.
 pub none_yielded : (units rest : List ℕ) (next : Option ℕ) → YieldsFirst (λ (us : List ℕ). us) units next rest → (ended : Bool)
     → is_some next ≡ not ended → IsTrue ended ↔ (units ≡ [])
 none_yielded units rest None steps true is = (λ e. steps.0, λ none. refl)

@@ -1,4 +1,4 @@
--- The entry at a place of a unit's history, and what is left behind it.
+-- The entry at a place of a unit's history, and what is left after it.
 use Rattle.std.proofs.Common.{◌≡◌, ◌↔◌, ℕ, ◌+◌, List, [], ◌∷◌, ◌++◌, length, drop, Bool, Some, IsTrue, refl, ap, subst, ◌∙◌, arith, inl, inr}
 use Rattle.std.proofs.lemmas.List.{drop_more, drop_all}
 use Rattle.std.specs.List.{AllByRecursion}
@@ -46,7 +46,7 @@ unclaimed_entry u place entry number is right none =
     }
 
 module _ {C : Type 0} (P : C → Type 0) where
-  -- A failed check stays the first with others behind it.
+  -- A failed check stays the first with others after it.
   pub first_of_front : (front rest : List C) (check : C) → IsFirstFailed P front check → IsFirstFailed P (front ++ rest) check
   first_of_front [] rest check h = absurd h
   first_of_front (c ∷ cs) rest check (inl h) = inl h
@@ -70,7 +70,7 @@ module _ {C : Type 0} (P : C → Type 0) where
         first = λ c h. old.first c (first_behind front rest c passed h);
       }
 
--- the checks from a place on: those of the entry there, then those behind it
+-- the checks from a place on: those of the entry there, then those after it
 left_at : (history : List HistoryEntry) (place : ℕ) (entry : HistoryEntry) → IsAt history place entry
     → entry_checks place (drop place history) ≡ checks_of_entry place entry ++ entry_checks (place + 1) (drop (place + 1) history)
 left_at history place entry at =

@@ -16,7 +16,7 @@ use Rattle.nvm_audit.proofs.Counting.{at_set_same, at_set_other, item_in_map}
 use Rattle.nvm_audit.proofs.Places.{at_left, at_end, taken}
 use Rattle.nvm_audit.proofs.Standing.{none_stands, below, one_there, read_there, read_is}
 
--- One part more is behind the others of its unit.
+-- One part more is after the others of its unit.
 pub one_more_in : (units : ℕ) (parts : List RecordedPart) (p : RecordedPart) (groups : List (List RecordedPart)) (group : List RecordedPart)
     → AreGrouped units parts groups → IsAt groups p.part.unit group
     → AreGrouped units (parts ++ p ∷ []) (set groups p.part.unit (group ++ p ∷ []))
@@ -74,7 +74,7 @@ module _ {A : Type 0} where
   pub get_or_same : (xs : List A) (i : ℕ) (d e : A) → i < length xs → get_or xs i d ≡ get_or xs i e
   get_or_same xs i d e low = read_is xs i (get_or xs i e) d (read_there xs i e low)
 
-  -- what stands at the next place is taken too
+  -- what is at the next place is taken too
   pub one_taken : (xs : List A) (i : ℕ) (x : A) → IsAt xs i x → take (i + 1) xs ≡ take i xs ++ x ∷ []
   one_taken xs i x there = taken xs i x (below xs i x there) (sym (read_is xs i x x there))
 
@@ -109,7 +109,7 @@ one_part_more worker d i part last there then otherwise =
     sym (one_taken (parts_left worker d d.parts) i (recorded_part worker d part last) (left_at worker d d.parts i part last there then otherwise))
 
 module _ {A : Type 0} (f : A → List RecordedPart) where
-  -- The part was put behind the others of its unit.
+  -- The part was put after the others of its unit.
   pub put_more : (units : ℕ) (parts : List RecordedPart) (p : RecordedPart) (groups : List A) (group new e : A)
       → p.part.unit < length groups → group ≡ get_or groups p.part.unit e → f new ≡ f group ++ p ∷ []
       → AreGrouped units parts (map f groups) → AreGrouped units (parts ++ p ∷ []) (map f (set groups p.part.unit new))

@@ -22,7 +22,7 @@ module _ {A : Type 0} where
       let rest = rise_all (p.0 + 1) ps rise.1 k q at in
       omega (arith, first, rest)
 
-  -- It stands in a list, whose first is at place n, at its place, and passes the test.
+  -- It is in a list, whose first is at place n, at its place, and passes the test.
   pub record IsIn (f : A → Bool) (n : ℕ) (xs : List A) (q : ℕ × A) : Type 0 where
     pub j : ℕ
     pub place : q.0 ≡ n + j
@@ -50,7 +50,7 @@ module _ {A : Type 0} where
   later f n x xs q zero place at passes above = absurd (omega (arith, place, above))
   later f n x xs q (suc j) place at passes above = record { j = j; place = omega (arith, place); at = at; passes = passes }
 
-  -- the first of them stands first
+  -- the first of them comes first
   leads : (n : ℕ) (x : A) (p : ℕ × A) (ps : List (ℕ × A)) → Rise n (p ∷ ps) → (k : ℕ) → IsAt (p ∷ ps) k (n + 0, x) → p ≡ (n + 0, x)
   leads n x p ps rise zero at = some-injective p (n + 0, x) at
   leads n x p ps rise (suc k) at =

@@ -103,7 +103,7 @@ pair_succeeds (compares payload) h = absurd (cc h)
 pair_succeeds (pairs payload new) h = refl
 pair_succeeds (deallocates ranges) h = absurd (cc h)
 
--- success is told in one way
+-- success is answered in one way
 success_told : (deed : Deed) (result : PartResult) (told : Statuses) → IsTrue (can_have deed result) → MayShow deed result told
     → IsSuccess told → told ≡ success_of deed
 success_told deed Done told can may s = may
@@ -114,7 +114,7 @@ success_told deed Looked (Two a b) can may s = absurd may
 success_told deed NoMemory told can may s = absurd (replies.stop_fails deed (subst IsSuccess may s))
 success_told deed Full told can may s = absurd (replies.stop_fails deed (subst IsSuccess may s))
 
--- the units of some parts and of those behind them
+-- the units of some parts and of those after them
 units_split : (before : List Part) (last : Part) (left : List ℕ)
     → map (λ (p : Part). p.unit) (before ++ last ∷ []) ++ left ≡ map (λ (p : Part). p.unit) before ++ (last.unit ∷ left)
 units_split [] last left = refl

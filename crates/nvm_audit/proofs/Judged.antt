@@ -141,7 +141,7 @@ has_parts_bytes keeps keeps_data ns job unit part start bytes starts long is som
       high = rw (skipped, blocks) reach;
     }
 
--- What was told of the part's bytes is told of the job's data.
+-- What was answered for the part's bytes is answered for the job's data.
 pub data_told : (ns : Namespace) (job : Job) (op part : Operation) (m : Medium) (p : RecordedPart) (size start : ℕ) (bytes : List ℕ) (same : Bool)
     → ready_operation ns job ≡ Some op → job_part_in ns job p.part.unit ≡ Some part → StartsAt job start → IsLongAsRead ns job bytes
     → size ≡ ns.block_size → p.done.payload ≡ Some bytes

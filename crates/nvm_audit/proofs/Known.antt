@@ -45,7 +45,7 @@ same_place one ns unit a b first second op covered =
     let p2 : IsCovered (place_at b.first b.blocks a.size) op = subst (λ (n : ℕ). IsCovered (place_at b.first n a.size) op) both.1 p1 in
     subst (λ (n : ℕ). IsCovered (place_at b.first b.blocks n) op) size p2
 
--- A part that stands in the shape of a job's outcome is one of the job.
+-- A part that is in the shape of a job's outcome is one of the job.
 pub has_part : HasPart → ShapesByPlan → (ns : Namespace) (job : Job) (d : RecordedJob) → HasOutcomeShape ns job d.parts d.statuses d.payload
     → ((refusal : Statuses) → refusal_of ns job ≡ Some refusal → d.parts ≡ [])
     → ((refusal_of ns job ≡ None) → (op : Operation) × (job_operation_of ns job ≡ Some op))

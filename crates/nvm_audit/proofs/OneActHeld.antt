@@ -55,7 +55,7 @@ all_more P Q more [] all = All-nil Q
 all_more P Q more (x ∷ xs) all = All-cons Q x xs (more x (All-head P x xs all)) (all_more P Q more xs (All-tail P x xs all))
 
 module _ (f : ℕ → List HistoryEntry) (n : ℕ) where
-  -- what stands in a list of what is made of the numbers below n
+  -- what is in a list of what is made of the numbers below n
   made_of : (k : ℕ) (h : List HistoryEntry) → IsAt (map f (range_with_len 0 n)) k h → (h ≡ f k) × (k < n)
   made_of k h at =
       let lt = below (map f (range_with_len 0 n)) k h at in

@@ -1,4 +1,4 @@
--- What stands at a place of a list of which a beginning was taken, or in which one element was put or added.
+-- What is at a place of a list of which a beginning was taken, or in which one element was put or added.
 use Rattle.std.proofs.Common.{◌≡◌, ◌≢◌, ◌⊎◌, ℕ, zero, suc, ◌+◌, ◌<◌, List, [], ◌∷◌, ◌++◌, length, take, set, replicate, get_or, refl, sym, subst, ap, ◌∙◌, arith, inl, inr}
 use Rattle.std.proofs.lemmas.List.{take_more}
 use mathlib.Core.Option.{some-injective}
@@ -55,11 +55,11 @@ module _ {A : Type 0} where
   pub taken : (xs : List A) (k : ℕ) (x : A) → k < length xs → x ≡ get_or xs k x → take (k + 1) xs ≡ take k xs ++ x ∷ []
   taken xs k x low is = take_more xs k x low ∙ ap (λ (y : A). take k xs ++ y ∷ []) (sym is)
 
-  -- what was read stands there
+  -- what was read is there
   pub stands_read : (xs : List A) (k : ℕ) (x : A) → k < length xs → x ≡ get_or xs k x → IsAt xs k x
   stands_read xs k x low is = subst (λ (y : A). IsAt xs k y) (sym is) (read_there xs k x low)
 
-  -- something stands at each place
+  -- something is at each place
   pub get_or_there : (xs : List A) (k : ℕ) → k < length xs → (x : A) × IsAt xs k x
   get_or_there [] k low = absurd (omega arith)
   get_or_there (y ∷ ys) zero low = (y, refl)

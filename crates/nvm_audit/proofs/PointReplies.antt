@@ -1,4 +1,4 @@
--- What a unit told of a part at its point: it is a reply to the part, with the statuses and the data that are recorded.
+-- What a unit answered for a part at its point: it is a reply to the part, with the statuses and the data that are recorded.
 use Rattle.std.proofs.Common.{◌≡◌, ℕ, List, Bool, true, false, Some, IsTrue, cond, refl, sym, ap, subst, ◌∙◌}
 use native.Mathlib.Nat.{suc-ne-zero}
 use Rattle.nvm_record.specs.declared.status.Status.{Status}

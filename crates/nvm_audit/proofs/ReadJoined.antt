@@ -16,7 +16,7 @@ module _ (ns : Namespace) (first blocks : ℕ) (bytes : List ℕ) where
   abbrev pub bytes_in : ℕ → List ℕ
   bytes_in unit = data_part ns.block_size (blocks_below ns first blocks unit) (blocks_in ns first blocks unit) bytes
 
-  -- the bytes of these units, where those of `skipped` blocks stand before them
+  -- the bytes of these units, where those of `skipped` blocks come before them
   from : (skipped left : ℕ) (units : List ℕ) → AreInLine (first + skipped) left (map (piece_in ns first blocks) units)
       → length bytes ≡ (skipped + left) * ns.block_size → flat_map bytes_in units ≡ drop (skipped * ns.block_size) bytes
   from skipped left [] line long =

@@ -1,4 +1,4 @@
--- What is looked for in a record is just what makes it lawful.
+-- What is looked for in a record is exactly what makes it lawful.
 use Rattle.std.proofs.Common.{◌≡◌, ℕ, zero, suc, ◌+◌, ◌<◌, List, [], ◌∷◌, ◌++◌, length, map, refl, subst, arith}
 use Rattle.std.specs.List.{AllByRecursion, range_with_len}
 use Rattle.nvm_record.specs.Lists.{IsAt}

@@ -236,7 +236,7 @@ module _ (ns : Namespace) (jobs : List Job) (history : List HistoryEntry) where
       (λ i j a b x y lt. order (suc i) (suc j) a b x y (omega (arith, lt))) l r)
       p.part.result refl (λ i q at. order 0 (suc i) p q refl at (omega arith)) steps h
 
--- A part that is a call was told what the step gives, and looks or fails.
+-- A part that is a call was answered with what the step gives, and looks or fails.
 ends : KeepsLooks → (ns : Namespace) (limit : ℕ) (history : List HistoryEntry) (whole : Operation) (p : RecordedPart) (result : PartResult)
     → is_call result ≡ true → HasRightStatus ns.block_size limit history (part_in ns whole p.part.unit) p result
     → IsTrue (can_have whole.deed result)

@@ -1,4 +1,4 @@
--- The first of many checks that fails, where they stand in the order of numbers.
+-- The first of many checks that fails, where they are in the order of numbers.
 use Rattle.std.proofs.Common.{ℕ, zero, suc, ◌+◌, ◌<◌, ◌≤◌, List, [], ◌∷◌, ◌++◌, map, Option, Some, None, refl, subst, sym, inl, inr, arith}
 use Rattle.std.proofs.lemmas.Bool.{cases_eq}
 use Rattle.std.specs.List.{AllByRecursion, flat_map, range_with_len}
@@ -77,7 +77,7 @@ module _ {C : Type 0} (P : C → Type 0) (f : ℕ → C) where
         )
   ]
 
--- What is found behind checks that pass is found in all of them.
+-- What is found after checks that pass is found in all of them.
 pub found_behind : (r : RecordView) (xs ys : List RecordCheck) (result : Option AuditFault) → AllByRecursion (Passes r) xs
     → IsFound r ys result → IsFound r (xs ++ ys) result
 found_behind r xs ys None all found = all_of_both (Passes r) xs ys all found

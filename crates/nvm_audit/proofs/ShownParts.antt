@@ -1,4 +1,4 @@
--- What is shown of a unit with parts that are just those which name it.
+-- What is shown of a unit with parts that are exactly those which name it.
 use Rattle.std.proofs.Common.{◌≡◌, ℕ, ◌<◌, List, length, map, get_or, Option, MatchOption, sym, ap, subst, ◌∙◌}
 use Rattle.std.proofs.lemmas.List.{get_or-map, length-map}
 use Rattle.nvm_record.specs.Lists.{IsAt}
@@ -17,7 +17,7 @@ abbrev pub unit_with : RecordView → ℕ → List HistoryEntry → List Recorde
 unit_with r unit history parts =
     record { namespace = r.namespace; limit = r.limit; jobs = r.jobs; unit = unit; history = history; parts = parts }
 
--- What was read of lists of lists stands where it was read.
+-- What was read of lists of lists is where it was read.
 pub stands_within : {X Y : Type 0} (f : X → Y) (xs : List X) (i : ℕ) (x : X) → i < length (map f xs) → x ≡ get_or xs i x → IsAt (map f xs) i (f x)
 stands_within f xs i x low read =
     let below = subst (λ (n : ℕ). i < n) (length-map xs f) low in

@@ -1,11 +1,11 @@
--- What stands at a place of a list that is made of others.
+-- What is at a place of a list that is made of others.
 use Rattle.std.proofs.Common.{◌≡◌, ◌⊎◌, ℕ, zero, suc, ◌<◌, List, [], ◌∷◌, ◌++◌, length, filter, cond, Bool, true, false, get_or, refl, sym, subst, ap, ◌∙◌, Contains, arith, inl, inr, All}
 use Rattle.std.proofs.lemmas.List.Elements.{All-head, All-tail}
 use Rattle.std.specs.List.{flat_map}
 use mathlib.Core.Option.{some-injective, some-ne-none}
 use Rattle.nvm_record.specs.Lists.{IsAt}
 
--- It stands somewhere in the list.
+-- It is somewhere in the list.
 abbrev pub Stands : {A : Type 0} → List A → A → Type 0
 Stands xs x = (i : ℕ) × IsAt xs i x
 
@@ -28,14 +28,14 @@ module _ {A : Type 0} where
   read_is (y ∷ ys) zero x d e = some-injective y x e
   read_is (y ∷ ys) (suc i) x d e = read_is ys i x d e
 
-  -- One thing stands at a place.
+  -- One thing is at a place.
   pub one_there : (xs : List A) (i : ℕ) (x y : A) → IsAt xs i x → IsAt xs i y → x ≡ y
   one_there xs i x y e f = some-injective x y (sym e ∙ f)
 
   pub contained : (xs : List A) (i : ℕ) (x : A) → IsAt xs i x → Contains xs x
   contained xs i x e = (i, below xs i x e, read_is xs i x x e)
 
-  -- what stands in a list of one
+  -- what is in a list of one
   pub alone : (y : A) (i : ℕ) (x : A) → IsAt (y ∷ []) i x → (i ≡ 0) × (x ≡ y)
   alone y zero x e = (refl, sym (some-injective y x e))
   alone y (suc i) x e = absurd (none_stands i x e)
@@ -69,7 +69,7 @@ module _ {A : Type 0} where
       by true h = (suc h.0, h.1)
       by false h = h
 
-  -- What stands before another thing among those that pass a test stands before it among all.
+  -- What comes before another thing among those that pass a test comes before it among all.
   pub filter_order : (f : A → Bool) (xs : List A) (i j : ℕ) (x y : A) → IsAt (filter f xs) i x → IsAt (filter f xs) j y → i < j
       → (a b : ℕ) × IsAt xs a x × IsAt xs b y × (a < b)
   filter_order f [] i j x y e h lt = absurd (none_stands i x e)
@@ -85,7 +85,7 @@ module _ {A : Type 0} where
       by behind after true (suc i) (suc j) e h lt = let rest = behind i j e h (omega arith) in (suc rest.0, suc rest.1, rest.2, rest.3, omega (arith, rest.4))
       by behind after false i j e h lt = let rest = behind i j e h lt in (suc rest.0, suc rest.1, rest.2, rest.3, omega (arith, rest.4))
 
-  -- What is so of all is so of what stands there.
+  -- What is so of all is so of what is there.
   pub all_at : (P : A → Type 0) (xs : List A) → All P xs → (i : ℕ) (x : A) → IsAt xs i x → P x
   all_at P [] all i x e = absurd (none_stands i x e)
   all_at P (y ∷ ys) all zero x e = subst P (some-injective y x e) (All-head P y ys all)

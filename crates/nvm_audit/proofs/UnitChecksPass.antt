@@ -1,4 +1,4 @@
--- What is looked for in a unit is just what makes it lawful.
+-- What is looked for in a unit is exactly what makes it lawful.
 use Rattle.std.proofs.Common.{◌≡◌, ℕ, zero, suc, ◌+◌, List, [], ◌∷◌, ◌++◌, refl, sym, ap, subst, ◌∙◌, arith}
 use Rattle.std.proofs.lemmas.Option.{same_Some}
 use Rattle.std.specs.List.{AllByRecursion}
@@ -67,7 +67,7 @@ module _ (u : UnitView) where
     status : HasItsStatus u p
     payload : HasItsData u p
 
-  -- No part of these goes back behind one before it, of these or of those that stand before all.
+  -- No part of these goes back before an earlier one, of these or of those that come before all.
   record AreInOrder (before parts : List RecordedPart) : Type 0 where
     after : (i : ℕ) (p : RecordedPart) → IsAt parts i p → AllByRecursion (λ earlier. IsNotBefore earlier p) before
     order : PointsNeverGoBack parts

@@ -1,4 +1,4 @@
--- By what name a fault is told (own): that of its case, wherever it is printed.
+-- By what name a fault is reported (own): that of its case, wherever it is printed.
 use Rattle.std.specs.Prelude.{ℕ, List, codes}
 use Rattle.nvm_audit.specs.declared.audit_fault.AuditFault.{AuditFault}
 use Rattle.nvm_audit.specs.declared.audit_fault.AuditFault.TheVariants.{JobMissing, JobTwice, EntryUnclaimed, EntryWrong, PointPast, PointBack, StatusWrong, DataWrong, NoMemory}

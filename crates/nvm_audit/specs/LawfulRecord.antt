@@ -1,7 +1,7 @@
 -- The lawful record: when the answers of a run are those of one-thread block stores, one for each atomic unit, whatever the
 -- order in which its workers did their jobs (own): for commands within the advertised limits, that is the atomicity of NVM
 -- Command Set Specification, "Atomic Operation" and "Atomic Boundaries", and of Base Specification, "Fused Operation". It
--- stands alone: that nothing is left out of the record and that its numbers are in their ranges is a part of it. How a run came
+-- needs nothing else: that nothing is left out of the record and that its numbers are in their ranges is a part of it. How a run came
 -- to it isn't asked, nor which version of the file holds it.
 use Rattle.std.specs.Prelude.{◌≡◌, ℕ, ◌<◌, ◌≤◌, nat_eq, List, length, count_by}
 use Rattle.std.specs.List.{All, sum_by}
@@ -25,7 +25,7 @@ abbrev pub times_done : ℕ → List (List RecordedJob) → ℕ
 times_done number done = sum_by (λ work. count_by (λ d. nat_eq d.job number) work) done
 
 -- What is recorded of a done job has the shape of an outcome of its job: no part of a refused one; else the parts of the
--- first units in which it has one, with results that its command can have, the last of which decides; and data just of a
+-- first units in which it has one, with results that its command can have, the last of which decides; and data only of a
 -- Read that succeeded.
 pub record HasItsShape (ns : Namespace) (jobs : List Job) (d : RecordedJob) : Type 0 where
   pub job : Job

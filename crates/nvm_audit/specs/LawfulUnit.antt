@@ -14,7 +14,7 @@ use Rattle.nvm_audit.specs.RecordedPart.{RecordedPart}
 use Rattle.nvm_audit.specs.PointOrder.{PointsNeverGoBack}
 use Rattle.nvm_audit.specs.Resting.{IsRightAtItsPoint}
 
--- The entry is just its job's part in the unit.
+-- The entry is exactly its job's part in the unit.
 pub record IsPartOfItsJob (ns : Namespace) (jobs : List Job) (unit : ℕ) (entry : HistoryEntry) : Type 0 where
   pub job : Job
   pub its : IsAt jobs entry.job job
@@ -38,13 +38,13 @@ HasMadeEntry history p = (entry : HistoryEntry) × IsAt history p.part.point ent
 -- The unit of this number has this history, and these parts name it.
 pub record IsLawfulUnit (ns : Namespace) (limit : ℕ) (jobs : List Job) (unit : ℕ) (history : List HistoryEntry)
     (parts : List RecordedPart) : Type 0 where
-  -- The history is lawful where the unit lies: each entry changes blocks of just this unit, and succeeds after those before.
+  -- The history is lawful where the unit lies: each entry changes blocks of this unit alone, and succeeds after those before.
   pub place : Place
   pub lies : IsUnitPlace ns unit place
   pub lawful : IsLawfulHistory place history
   -- Each entry is the part of a job that no check refuses.
   pub entries : (i : ℕ) (entry : HistoryEntry) → IsAt history i entry → IsPartOfItsJob ns jobs unit entry
-  -- An entry stands exactly where its worker did this part of the job.
+  -- There is an entry exactly where its worker did this part of the job.
   pub claimed : (i : ℕ) (entry : HistoryEntry) → IsAt history i entry → IsClaimed parts i entry
   pub made : (k : ℕ) (p : RecordedPart) → IsAt parts k p → p.part.result ≡ Done → HasMadeEntry history p
   -- What was recorded of each part is right at its point.

@@ -39,7 +39,7 @@ pub record IsOfOneAct (r : RecordView) (op : Operation) (unit : ℕ) : Type 0 wh
   pub one : units_met r.namespace op ≡ unit ∷ []
   pub done : r.done ≡ (done_alone unit ∷ []) ∷ []
 
--- This unit has just this history, and the others have no entry.
+-- This unit has exactly this history, and the others have no entry.
 abbrev pub HasJust : RecordView → ℕ → List HistoryEntry → Type 0
 HasJust r unit entries =
     (k : ℕ) (history : List HistoryEntry) → IsAt r.units k history → history ≡ (if nat_eq unit k then entries else [])

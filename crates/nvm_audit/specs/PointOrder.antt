@@ -6,7 +6,7 @@ use Rattle.nvm_plan.specs.declared.part.PartResult.{PartResult}
 use Rattle.nvm_plan.specs.declared.part.PartResult.TheVariants.{Done, Failed, Looked, NoMemory, Full}
 use Rattle.nvm_audit.specs.RecordedPart.{RecordedPart}
 
--- the lowest point that its worker's next part in the unit may have: behind the entry, where one was made
+-- the lowest point that its worker's next part in the unit may have: past the entry, where one was made
 abbrev pub least_after : Part → PartResult → ℕ
 least_after part Done = part.point + 1
 least_after part Failed = part.point
@@ -18,7 +18,7 @@ least_after part Full = part.point
 abbrev pub IsNotBefore : RecordedPart → RecordedPart → Type 0
 IsNotBefore earlier later = later.worker ≡ earlier.worker → least_after earlier.part earlier.part.result ≤ later.part.point
 
--- In these parts of one unit, which stand in the order of each worker, no point of a worker is below one that it had
+-- In these parts of one unit, which are in the order of each worker, no point of a worker is below one that it had
 -- before, nor at or below the place of an entry that it had made before.
 abbrev pub PointsNeverGoBack : List RecordedPart → Type 0
 PointsNeverGoBack parts =

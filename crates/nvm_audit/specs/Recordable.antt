@@ -1,4 +1,4 @@
--- What a record file can hold, whether or not any run was so (own). Each record holds just this, by its type. The first
+-- What a record file can hold, whether or not any run was so (own). Each record holds exactly this, by its type. The first
 -- version of the file is older than Dataset Management: opcode 09h is an unknown one there. That each number fits its field (a
 -- point 4 bytes, a status 1 and 1) isn't said here, since the Rust type of the field says it.
 use Rattle.std.specs.Prelude.{◌≡◌, ◌≢◌, ◌⊎◌, ℕ, ◌*◌, ◌<◌, ◌≤◌, List, length, not, Some, IsTrue}
@@ -30,11 +30,11 @@ use Rattle.nvm_audit.specs.declared.version.Version.TheVariants.{One, Two}
 use Rattle.nvm_audit.specs.RecordedJob.{RecordedJob}
 use Rattle.nvm_audit.specs.RecordView.{RecordView}
 
--- a run has at most so many workers
+-- the most workers of a run
 abbrev pub most_workers : ℕ
 most_workers = 64
 
--- a record has at most so many jobs, and each of its workers did at most so many
+-- the most jobs of a record, and of each of its workers
 abbrev pub most_jobs : ℕ
 most_jobs = 4194304
 
@@ -75,7 +75,7 @@ HoldsKind One place op = IsOnRange op.deed
 HoldsKind Two place op = IsOnRange op.deed ⊎ IsDeallocateOfUnit place op
 
 -- The entry is one that some worker may have made of some job in the unit that lies there: its operation changes blocks of
--- just this unit.
+-- this unit alone.
 pub record IsRecordableEntry (r : RecordView) (place : Place) (entry : HistoryEntry) : Type 0 where
   pub pass : entry.pass < r.workers
   pub job : entry.job < length r.jobs
@@ -83,7 +83,7 @@ pub record IsRecordableEntry (r : RecordView) (place : Place) (entry : HistoryEn
   pub covered : IsCovered place entry.operation
   pub kind : HoldsKind r.version place entry.operation
 
--- The history of the unit is within the limit, and each entry may stand there.
+-- The history of the unit is within the limit, and each entry may be there.
 pub record IsRecordableHistory (r : RecordView) (unit : ℕ) (history : List HistoryEntry) : Type 0 where
   pub few : length history ≤ r.limit
   pub place : Place

@@ -55,8 +55,8 @@ AreStepsOf ns jobs history (p ∷ ps) steps =
 abbrev pub parts_by : ℕ → List RecordedPart → List RecordedPart
 parts_by worker parts = filter (λ p. nat_eq p.worker worker) parts
 
--- The run is a placed run of the unit with this history, which these parts name: it has just the history's entries, in
--- order, and just the steps of each worker's parts, in the worker's order; and each call stands at its point.
+-- The run is a placed run of the unit with this history, which these parts name: it has exactly the history's entries, in
+-- order, and exactly the steps of each worker's parts, in the worker's order; and each call is at its point.
 pub record IsPlacedRunOf (ns : Namespace) (jobs : List Job) (history : List HistoryEntry) (parts : List RecordedPart)
     (run : List RunStep) : Type 0 where
   pub whole : entries_in run ≡ history

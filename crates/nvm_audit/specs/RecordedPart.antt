@@ -37,7 +37,7 @@ parts_of_workers worker (work ∷ rest) = parts_of_work worker work ++ parts_of_
 abbrev pub parts_in_unit : ℕ → List (List RecordedJob) → List RecordedPart
 parts_in_unit unit done = filter (λ p. nat_eq p.part.unit unit) (parts_of_workers 0 done)
 
--- What was told of the part. The job's statuses are those of its last part, and a part with others after it succeeded: it
+-- What was answered for the part. The job's statuses are those of its last part, and a part with others after it succeeded: it
 -- is one of a command by itself, since a pair has one part.
 abbrev pub told_of_part : Bool → Statuses → Statuses
 told_of_part true statuses = statuses

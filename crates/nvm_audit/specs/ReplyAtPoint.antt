@@ -1,4 +1,4 @@
--- What the units told of the parts of a done job, each at its part's point, and that the job's statuses and data are those that
+-- What the units answered for the parts of a done job, each at its part's point, and that the job's statuses and data are those that
 -- follow (own).
 use Rattle.std.specs.Prelude.{◌≡◌, ℕ, List, map, Some}
 use Rattle.nvm_record.specs.Lists.{IsAt}

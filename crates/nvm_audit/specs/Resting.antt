@@ -23,7 +23,7 @@ pub record DoesOperation (ns : Namespace) (jobs : List Job) (number : ℕ) (whol
   pub ready : ready_operation ns job ≡ Some whole
 
 -- How a part ended is right, by its unit's history: its statuses, and nothing of its data. One that was done succeeds at its
--- point. One that looked was told what the step gives there, and so was a pair whose comparison fails there. One that found no
+-- point. One that looked was answered with what the step gives there, and so was a pair whose comparison fails there. One that found no
 -- memory, or the history at its limit, did nothing, and would have succeeded there: a pair compares before it asks for either.
 -- Memory is asked for only below the limit. Of a look that found no memory nothing is known.
 abbrev pub HasRightStatus : ℕ → ℕ → List HistoryEntry → Operation → RecordedPart → PartResult → Type 0

@@ -26,7 +26,7 @@ pub data UnitCheck : Type 0 where
   entry_claimed : ℕ → HistoryEntry → UnitCheck
   -- The history has come to the part's point, and has its entry there where it made one.
   point_there : RecordedPart → UnitCheck
-  -- The part's point doesn't go back behind those of its worker before, which are among these parts.
+  -- The part's point doesn't go back before those of its worker before, which are among these parts.
   point_on : List RecordedPart → RecordedPart → UnitCheck
   -- How the part ended, and its statuses, are right at its point.
   status_right : RecordedPart → UnitCheck
@@ -43,7 +43,7 @@ pub record HasItsPoint (u : UnitView) (p : RecordedPart) : Type 0 where
   pub within : p.part.point ≤ length u.history
   pub made : p.part.result ≡ Done → HasMadeEntry u.history p
 
--- How the part ended and what was told of it is right at its point.
+-- How the part ended and what was answered for it is right at its point.
 pub record HasItsStatus (u : UnitView) (p : RecordedPart) : Type 0 where
   pub whole : Operation
   pub does : DoesOperation u.namespace u.jobs p.done.job whole
@@ -69,7 +69,7 @@ abbrev pub entry_checks : ℕ → List HistoryEntry → List UnitCheck
 entry_checks place [] = []
 entry_checks place (entry ∷ entries) = entry_right place entry ∷ entry_claimed place entry ∷ entry_checks (place + 1) entries
 
--- the checks of these parts, before which those others stand
+-- the checks of these parts, which come after those others
 abbrev pub part_checks : List RecordedPart → List RecordedPart → List UnitCheck
 part_checks before [] = []
 part_checks before (p ∷ ps) =

@@ -1,4 +1,4 @@
--- What is told of a lawful record (own).
+-- What is reported of a lawful record (own).
 use Rattle.std.specs.Prelude.{◌≡◌, ℕ, nat_eq, List, length, Bool, ◌&&◌, ◌||◌, count_by}
 use Rattle.std.specs.List.{sum_by}
 use Rattle.nvm_record.specs.declared.status.Status.{Status}

@@ -62,7 +62,7 @@ impl AuditFault {
         }
     }
 
-    /// The name of its case, by which it is told: `JobMissing` and so on.
+    /// The name of its case, by which it is reported: `JobMissing` and so on.
     pub fn name(self) -> &'static str
         ensures { result.now ≡ name_of self }
     {

@@ -18,7 +18,7 @@ use crate::verdict::Verdict;
 use nvm_record::NoMemory;
 use std::alloc::Global;
 
-/// What is first found wrong in the units, by their numbers, if anything is. No unit behind it is looked at.
+/// What is first found wrong in the units, by their numbers, if anything is. No unit after it is looked at.
 fn first_in_units(alloc: Global, record: &Record) -> Result<Option<AuditFault>, NoMemory>
     requires { AllByRecursion (Passes «record».now)
         (count_checks (length «record».now.jobs) ++ shape_checks (length «record».now.jobs)) }

@@ -15,8 +15,8 @@ pub(crate) struct ByPoint {
     pub before: Vec<usize>,
 }
 
-/// The parts by point, of a history of so many entries. It takes one number for each point and one for each part. A part with
-/// a point behind the history's end is left out.
+/// The parts by point, of a history of `entries` entries. It takes one number for each point and one for each part. A part with
+/// a point past the history's end is left out.
 pub(crate) fn by_point(
     alloc: Global,
     entries: usize,

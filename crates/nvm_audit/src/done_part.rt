@@ -32,7 +32,7 @@ impl<'a> Model for DonePart<'a> {
 }
 
 impl<'a> DonePart<'a> {
-    /// What was told of the part: the job's statuses of the last one, and success of one that has others after it.
+    /// What was answered for the part: the job's statuses of the last one, and success of one that has others after it.
     pub(crate) fn told(&self) -> Statuses
         ensures { result ≡ told_of self.now }
     {
@@ -71,7 +71,7 @@ impl<'a> DonePart<'a> {
         self.part.result != PartResult::Done || self.made_entry(history)
     }
 
-    /// The lowest point that the worker's next part in the unit may have: behind the entry, where the part made one.
+    /// The lowest point that the worker's next part in the unit may have: past the entry, where the part made one.
     pub(crate) fn next_point(&self) -> u32
         requires { self.now.part.point ≤ 4194304 }
         ensures { result ≡ least_after self.now.part self.now.part.result }

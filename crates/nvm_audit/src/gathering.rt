@@ -20,7 +20,7 @@ pub(crate) fn part_of<'a>(worker: u16, done: &'a DoneJob, part: Part, is_last: b
     }
 }
 
-/// Puts the parts of a done job that name the unit behind the others.
+/// Puts the parts of a done job that name the unit after the others.
 fn gather_job<'a>(
     unit: u16,
     worker: u16,
@@ -39,7 +39,7 @@ fn gather_job<'a>(
     Ok(())
 }
 
-/// Puts the parts of what a worker did that name the unit behind the others.
+/// Puts the parts of what a worker did that name the unit after the others.
 fn gather_work<'a>(
     unit: u16,
     worker: u16,

@@ -8,7 +8,7 @@ use crate::gathering::part_of;
 use nvm_record::NoMemory;
 use std::alloc::Global;
 
-/// No parts yet, for each of so many units.
+/// No parts yet, for each unit below `units`.
 fn no_groups<'a>(alloc: Global, units: usize) -> Result<Vec<Vec<DonePart<'a>>>, NoMemory>
     ensures { IfOk result (λ groups. AreGrouped units [] (map (λ group. group.items) groups.items)) }
 {
@@ -19,7 +19,7 @@ fn no_groups<'a>(alloc: Global, units: usize) -> Result<Vec<Vec<DonePart<'a>>>, 
     Ok(groups)
 }
 
-/// Puts the part behind the others of its unit.
+/// Puts the part after the others of its unit.
 fn put<'a>(part: DonePart<'a>, groups: &mut Vec<Vec<DonePart<'a>>>) -> Result<(), NoMemory>
     requires { part.part.unit < length groups.old.items }
     ensures long { OnOk result (length groups.new.items ≡ length groups.old.items) }
@@ -32,7 +32,7 @@ fn put<'a>(part: DonePart<'a>, groups: &mut Vec<Vec<DonePart<'a>>>) -> Result<()
     Ok(())
 }
 
-/// Puts the parts of a done job behind the others of their units.
+/// Puts the parts of a done job after the others of their units.
 fn put_job<'a>(
     worker: u16,
     done: &'a DoneJob,
@@ -51,7 +51,7 @@ fn put_job<'a>(
     Ok(())
 }
 
-/// Puts the parts of what a worker did behind the others of their units.
+/// Puts the parts of what a worker did after the others of their units.
 fn put_work<'a>(
     worker: u16,
     work: &'a Vec<DoneJob>,
@@ -69,7 +69,7 @@ fn put_work<'a>(
     Ok(())
 }
 
-/// The parts that name each of so many units, at the place of the unit's number: by worker, and in the worker's order. It is
+/// The parts that name each unit below `units`, at the place of the unit's number: by worker, and in the worker's order. It is
 /// one pass over all that was done.
 pub(crate) fn parts_by_unit<'a>(
     alloc: Global,

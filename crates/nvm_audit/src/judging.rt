@@ -35,7 +35,7 @@ pub(crate) enum Finding {
     DataWrong,
 }
 
-/// Whether a part may have ended as it did where the step gives these statuses, and others were told.
+/// Whether a part may have ended as it did where the step gives these statuses, and others were answered.
 fn may_end(part: Part, is_act: bool, limit: u32, told: Statuses, given: Statuses) -> bool
     ensures { IsTrue result ↔ MayEnd is_act limit part.point told given part.result }
 {

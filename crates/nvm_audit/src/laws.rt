@@ -70,7 +70,7 @@ pub fn what_jobs_make_can_be_held()
     each_command_has_a_status();
 }
 
-/// A lawful record can be held in a file of its version that has room for its limit, has its commands, and holds so many jobs.
+/// A lawful record can be held in a file of its version that has room for its limit, has its commands, and holds as many jobs as it has.
 pub fn lawful_records_can_be_held()
     ensures { (r : RecordView) → IsLawfulRecord r → HoldsLimit r.version r.limit
         → All (λ job. HoldsBody r.version job.body) r.jobs → length r.jobs ≤ most_jobs → IsRecordable r }

@@ -1,6 +1,6 @@
 //! Records of runs: what a finished run shows, and when that is lawful.
 //!
-//! A [`Record`] has the jobs of a run, the history of each unit and what each worker did. By its type it holds just what a
+//! A [`Record`] has the jobs of a run, the history of each unit and what each worker did. By its type it holds exactly what a
 //! record file can hold, whoever made it. Whether it is lawful is a relation in specs alone, over jobs, histories and
 //! done jobs, in which no thread and no word occurs, and a pass only as its worker's number; [`laws`] have what holds of it.
 #![tactic(auto)]

@@ -47,7 +47,7 @@ fn count_work<'a>(found: &mut Vec<Occurrence<'a>>, work: &'a Vec<DoneJob>)
     }
 }
 
-/// How often each of so many jobs was done, at the place of the job's number. It goes over what was done once.
+/// How often each job below `jobs` was done, at the place of the job's number. It goes over what was done once.
 pub(crate) fn occurrences<'a>(
     alloc: Global,
     jobs: usize,

@@ -5,13 +5,13 @@ use nvm_plan::Job;
 use nvm_store::{History, Limit};
 use std::marker::Model;
 
-/// A record has at most so many jobs, and each of its workers did at most so many.
+/// The most jobs of a record, and of each of its workers.
 pub const MOST_JOBS: u32 = 4_194_304;
 
 /// A finished run: its jobs, the changes of each unit, and what each worker did.
 ///
 /// It holds what a record file of its version can hold, which whoever makes one has to prove: 1 to 64 workers; at most
-/// 4,194,304 jobs, which fit the geometry; a history for each unit, within the limit, of entries that change blocks of just
+/// 4,194,304 jobs, which fit the geometry; a history for each unit, within the limit, of entries that change only blocks of
 /// this unit; and for each worker at most 4,194,304 done jobs. A done job has parts in units of the namespace, no more than
 /// there are units, a status for each of its commands, and data of a Read alone, as long as its blocks. The points and
 /// results of parts, and the statuses, may be any: that the record is lawful isn't said.

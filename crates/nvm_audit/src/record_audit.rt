@@ -113,7 +113,7 @@ pub fn audit(
     audit_watched(rt, alloc, record, &Unwatched)
 }
 
-/// What [`audit`] answers. The watcher is told how far it is.
+/// What [`audit`] answers. It reports to the watcher how far it is.
 pub fn audit_watched<W: Watcher + Sync>(
     rt: &(impl Threads + Sync),
     alloc: Global,

@@ -37,7 +37,7 @@ fn may_show(kind: Kind, ended: PartResult, told: Statuses) -> bool
     }
 }
 
-/// Whether a job that ended so is told data, where it stands for an operation.
+/// Whether a job that ended so is answered with data, where it stands for an operation.
 fn gives_data(body: &Body, told: Statuses) -> bool
     ensures { (ns : Namespace) (op : Operation) → operation_of_body ns body.now ≡ Some op
         → IsTrue result ↔ reply.GivesData op.deed told }

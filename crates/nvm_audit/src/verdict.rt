@@ -1,4 +1,4 @@
-/// What is told of a lawful record: how much there was in it.
+/// What is reported of a lawful record: how much there was in it.
 #[derive(Clone, Copy, Debug, PartialEq, Eq)]
 pub struct Verdict {
     /// How many jobs.

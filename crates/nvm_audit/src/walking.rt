@@ -130,7 +130,7 @@ fn advance(
     blocks.change(alloc, entry.act.as_ref())
 }
 
-/// Judges the parts at this place and the entry there, and goes on behind it.
+/// Judges the parts at this place and the entry there, and goes on after it.
 fn step(
     alloc: Global,
     u: &ShownUnit<'_, '_>,

@@ -1,9 +1,9 @@
-/// What is told of the course of an audit. Both methods return, and wait for nothing.
+/// What is reported of the course of an audit. Both methods return, and wait for nothing.
 pub trait Watcher {
-    /// The record has so many units. What was done is looked at first, and then each unit, unless a fault is found before.
+    /// The record has `units` units. What was done is looked at first, and then each unit, unless a fault is found before.
     fn before_units(&self, units: u16);
 
-    /// The unit of this number is audited. Several threads tell of their units at the same time, each unit once, in no order.
+    /// The unit of this number is audited. Several threads report their units at the same time, each unit once, in no order.
     fn after_unit(&self, unit: u16);
 }
 

@@ -8,7 +8,7 @@ use nvm_refute::{Argument, Fact};
 use nvm_steps::{Cell, UnitSteps, ZERO};
 use std::alloc::Global;
 
-/// So many steps that contradict each other are few enough.
+/// Steps that contradict each other are few enough up to this number.
 const FEW: usize = 3;
 
 /// That a step found what no other can have put, if one did.

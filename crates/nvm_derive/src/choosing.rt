@@ -7,7 +7,7 @@ use std::alloc::Global;
 /// The most loops of which each is looked at.
 const LOOPS: usize = 64;
 
-/// That one step of a window stands before another: by the times, or as it was derived.
+/// That one step of a window comes before another: by the times, or as it was derived.
 #[derive(Clone, Copy, PartialEq, Eq)]
 pub struct Link {
     pub earlier: usize,
@@ -213,7 +213,7 @@ fn put_times(reasons: &mut Vec<Link>, links: &Vec<Link>) -> Result<(), NoMemory>
     Ok(())
 }
 
-/// Why the step stands before itself: each reason after those that it rests on.
+/// Why the step comes before itself: each reason after those that it rests on.
 fn reasons_of(
     alloc: Global,
     window: &Window,
@@ -236,7 +236,7 @@ fn reasons_of(
     Ok(Some(reasons))
 }
 
-/// The fewest reasons that were found why a step stands before itself, if one does.
+/// The fewest reasons that were found why a step comes before itself, if one does.
 pub fn choose(
     alloc: Global,
     window: &Window,

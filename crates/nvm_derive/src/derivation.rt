@@ -17,7 +17,7 @@ pub struct Derivation {
     /// For each step where in `derived` it is the earlier one.
     pub leaving: Vec<Vec<usize>>,
     pub orders: Orders,
-    /// For each step those that are derived to stand after it, and before it.
+    /// For each step those that are derived to come after it, and before it.
     laters: Vec<PlaceSet>,
     earliers: Vec<PlaceSet>,
     /// For each of the window's finds who put it, once that is known.
@@ -95,7 +95,7 @@ impl Derivation {
         Ok(true)
     }
 
-    /// That the source of what was found stands before the reader.
+    /// That the source of what was found comes before the reader.
     fn put_source(
         &mut self,
         find: &WindowFind,
@@ -118,7 +118,7 @@ impl Derivation {
         })
     }
 
-    /// That the reader of a block's first contents stands before those that put others there.
+    /// That the reader of a block's first contents comes before those that put others there.
     fn put_first(
         &mut self,
         alloc: Global,
@@ -180,7 +180,7 @@ impl Derivation {
         Ok(())
     }
 
-    /// What a find gives of the sure writers of its block that stand after its source.
+    /// What a find gives of the sure writers of its block that come after its source.
     fn put_over(
         &mut self,
         alloc: Global,
@@ -208,7 +208,7 @@ impl Derivation {
         Ok(())
     }
 
-    /// What a find gives of the sure writers of its block that stand before its reader.
+    /// What a find gives of the sure writers of its block that come before its reader.
     fn put_under(
         &mut self,
         alloc: Global,
@@ -268,7 +268,7 @@ impl Derivation {
         Ok(())
     }
 
-    /// The steps that stand before themselves.
+    /// The steps that come before themselves.
     pub fn loops(&self, alloc: Global) -> Result<Vec<usize>, NoMemory> {
         let mut loops = Vec::new(alloc);
         for place in 0..self.leaving.len() {
@@ -280,7 +280,7 @@ impl Derivation {
     }
 }
 
-/// Derives what stands before what in the window, until a step stands before itself or nothing more follows.
+/// Derives what comes before what in the window, until a step comes before itself or nothing more follows.
 pub fn derive(alloc: Global, window: &Window) -> Result<Derivation, NoMemory> {
     let mut derivation = Derivation::new(alloc, window)?;
     derivation.put_given(alloc, window)?;

@@ -9,7 +9,7 @@ pub enum Rule {
     First,
 }
 
-/// That one step of a window stands before another, by a rule other than that of time.
+/// That one step of a window comes before another, by a rule other than that of time.
 #[derive(Clone, Copy)]
 pub struct Derived {
     pub earlier: usize,
@@ -20,7 +20,7 @@ pub struct Derived {
 }
 
 impl Derived {
-    /// What its rule asks to stand before what already.
+    /// What its rule asks to come before what already.
     pub fn condition(self) -> Option<Condition> {
         let (earlier, later) = match self.by {
             Rule::Source | Rule::First => return None,

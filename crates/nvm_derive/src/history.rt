@@ -30,7 +30,7 @@ pub struct History<'a> {
     sure: Vec<SurePut>,
 }
 
-/// Where a search found its key, or where that would stand.
+/// Where a search found its key, or where that would be.
 fn place_of(searched: Result<usize, usize>) -> usize {
     match searched {
         Ok(place) => place,

@@ -2,7 +2,7 @@ use nvm_record::NoMemory;
 use nvm_steps::PlaceSet;
 use std::alloc::Global;
 
-/// For each of so many places none of them.
+/// For each of `places` places none of them.
 pub fn no_places(alloc: Global, places: usize) -> Result<Vec<PlaceSet>, NoMemory> {
     let mut sets = Vec::new(alloc);
     for _place in 0..places {

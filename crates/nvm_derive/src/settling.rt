@@ -4,7 +4,7 @@ use nvm_record::NoMemory;
 use nvm_steps::{Orders, PlaceSet};
 use std::alloc::Global;
 
-/// That one step of a window has to stand before another.
+/// That one step of a window has to come before another.
 #[derive(Clone, Copy)]
 pub struct Condition {
     pub earlier: usize,
@@ -19,8 +19,8 @@ pub struct Settled {
     pub conditions: Vec<Condition>,
 }
 
-/// Puts down by which orders the reader can't have found what the writer put, if it can't: the writer stands after it, or one that
-/// surely put something there stands between them.
+/// Puts down by which orders the reader can't have found what the writer put, if it can't: the writer comes after it, or one that
+/// surely put something there comes between them.
 fn put_excuse(
     conditions: &mut Vec<Condition>,
     orders: &Orders,

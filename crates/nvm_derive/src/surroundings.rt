@@ -25,7 +25,7 @@ struct Chosen {
 }
 
 impl Chosen {
-    /// Chooses the step too, unless there are so many already.
+    /// Chooses the step too, unless there are `most` already.
     fn put(&mut self, step: usize, most: usize) {
         if self.count < most && !self.steps.has(step) {
             self.steps.put(step);
@@ -55,7 +55,7 @@ fn put_writers(
     }
 }
 
-/// The steps from one place to another, and those that they lead to, at most so many: who can have put what they found, and who
+/// The steps from one place to another, and those that they lead to, at most `most`: who can have put what they found, and who
 /// overwrote that. Where one alone can have put it, it comes first.
 fn steps_round(
     alloc: Global,

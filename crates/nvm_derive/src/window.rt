@@ -29,7 +29,7 @@ pub struct Window {
     pub finds: Vec<WindowFind>,
 }
 
-/// Where this stands in the list, which rises, or would stand.
+/// Where this is in the list, which rises, or would be.
 fn first_from(list: &Vec<usize>, least: usize) -> usize {
     match list.binary_search(&least) {
         Ok(place) => place,

@@ -59,7 +59,7 @@ module _ {S A : Type 0} (making : Making S A) (start : S) (jobs : List Job) (don
         );
   }
 
-  -- Where each job was done, what is made of the others can be told.
+  -- Where each job was done, what is made of the others can be given.
   pub rest_walked : (number : ℕ) (s : S) (so_far : List A) → ((n : ℕ) → n < length jobs → (d : RecordedJob) × IsDoneJob done n d)
       → IsWalk number s so_far
       → (its : List RecordedJob) × AreDone done 0 jobs its × (rest : List A) × (so_far ++ rest ≡ making.all start jobs its)

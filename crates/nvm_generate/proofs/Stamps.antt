@@ -47,7 +47,7 @@ stamps_long size host cid (suc n) valid =
     ∙ omega (arith, length-append (stamps size host cid n) (stamp size host cid n), stamps_long size host cid n valid, stamp_long size host cid n valid) in
     ap (λ k. length (stamps size host cid k)) (sym one) ∙ whole ∙ times_more n size
 
--- the first byte and what is behind it
+-- the first byte and what is after it
 pub same_first : (k a b : ℕ) (xs ys : List ℕ) → 1 ≤ k → replicate k a ++ xs ≡ replicate k b ++ ys → (a ≡ b) × (xs ≡ ys)
 same_first zero a b xs ys some e = absurd (omega arith)
 same_first (suc k) a b xs ys some e =
@@ -82,7 +82,7 @@ whose size host cid block h c b large e =
 same_front : (u v s t : List ℕ) → length u ≡ length v → u ++ s ≡ v ++ t → u ≡ v
 same_front u v s t long e = sym (take-append_seam u s) ∙ ap (take (length u)) e ∙ ap (λ n. take n (v ++ t)) long ∙ take-append_seam v t
 
--- A cut in the first half leaves the second half of the one behind.
+-- A cut in the first half leaves the second half of the one after.
 cut_early : (x y z : List ℕ) (cut : ℕ) → length x ≡ length z → length y ≡ length z → cut ≤ length z → take cut (x ++ x) ++ drop cut (y ++ y) ≡ z ++ z → z ≡ y
 cut_early x y z cut long_x long_y early e =
     let front : List ℕ = take cut x ++ drop cut y in
@@ -95,7 +95,7 @@ cut_early x y z cut long_x long_y early e =
     let same = same_front front z y z long parts in
     sym (append_cancel_left z y z (ap (λ l. l ++ y) (sym same) ∙ parts))
 
--- A cut behind it leaves the first half of the one in front.
+-- A cut past it leaves the first half of the one before.
 cut_late : (x y z : List ℕ) (more : ℕ) → length x ≡ length z → take (length x + more) (x ++ x) ++ drop (length x + more) (y ++ y) ≡ z ++ z → z ≡ x
 cut_late x y z more long e =
     let rest : List ℕ = drop (length x + more) (y ++ y) in

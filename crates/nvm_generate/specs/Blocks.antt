@@ -11,7 +11,7 @@ use Rattle.nvm_geometry.specs.Namespace.{Namespace}
 abbrev pub most_blocks : ℕ
 most_blocks = 256
 
--- A Write of so many blocks in one unit is atomic by the standard, and they have different stamps.
+-- A Write of this number of blocks in one unit is atomic by the standard, and they have different stamps.
 abbrev pub AreFew : Namespace → ℕ → Type 0
 AreFew ns blocks = (blocks ≤ ns.nawun + 1) × (blocks ≤ most_blocks)
 

@@ -18,7 +18,7 @@ IsStamped size host c = c.op ≡ Write → c.payload ≡ stamps size host c.cid 
 
 -- What is known of a command of a load.
 pub record IsCommandOfLoad (load : Load) (host : ℕ) (c : Command) : Type 0 where
-  -- it has just the data that it calls for
+  -- it has exactly the data that it calls for
   pub whole : IsWhole load.geometry.block_size c
   pub stamped : IsStamped load.geometry.block_size host c
   -- it has at most NAWUN + 1 blocks, and at most 256

@@ -1,4 +1,4 @@
--- What stands in the blocks that a load writes: whose each of them is.
+-- What is in the blocks that a load writes: whose each of them is.
 use Rattle.std.specs.Prelude.{◌≡◌, ◌⊎◌, ℕ, ◌/◌, ◌%◌, ◌≤◌, List, [], ◌∷◌, ◌++◌, replicate, take, drop}
 use Rattle.std.specs.List.{flat_map, range_with_len}
 
@@ -14,7 +14,7 @@ filled size bytes = flat_map (replicate (size / 8)) bytes
 abbrev pub stamp : ℕ → ℕ → ℕ → ℕ → List ℕ
 stamp size host cid block = filled size (named host cid block) ++ filled size (named host cid block)
 
--- the data of so many blocks of a command
+-- the data of `blocks` blocks of a command
 abbrev pub stamps : ℕ → ℕ → ℕ → ℕ → List ℕ
 stamps size host cid blocks = flat_map (stamp size host cid) (range_with_len 0 blocks)
 

@@ -49,7 +49,7 @@ impl Asking {
     }
 }
 
-/// What a host asks for next, behind so many commands.
+/// What a host asks for next, after `before` commands.
 pub fn next_job(
     alloc: Global,
     load: &Load,

@@ -36,7 +36,7 @@ pub fn jobs_of_load(alloc: Global, load: &Load, host: u8) -> Result<Vec<Body>, N
 ///
 /// `NoMemory`: nothing was made.
 pub fn list_of_load(alloc: Global, load: &Load, host: u8) -> Result<String, NoMemory>
-    // It is read as the commands of just such jobs.
+    // It is read as the commands of exactly such jobs.
     ensures { IfOk result (λ text. (jobs : List Asked) × AreJobsOfLoad load.now host jobs
         × (commands load.now.geometry.block_size (string_bytes text) ≡ Ok (flat_map commands_of jobs))) }
 {
@@ -57,7 +57,7 @@ fn count_of(job: &Body) -> u16
     }
 }
 
-/// The commands of jobs, in their order. Room is taken for so many.
+/// The commands of jobs, in their order. Room is taken for `count`.
 fn commands_of_jobs(alloc: Global, jobs: Vec<Body>, count: usize) -> Result<Vec<Command>, NoMemory>
     ensures { IfOk result (λ listed. listed.items ≡ flat_map commands_of jobs.items) }
 {

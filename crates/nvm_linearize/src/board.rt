@@ -111,7 +111,7 @@ impl Board {
         true
     }
 
-    /// Whether the step puts into a cell's block just what it finds there, as a pair may.
+    /// Whether the step puts into a cell's block exactly what it finds there, as a pair may.
     pub fn finds(&self, step: &UnitStep, place: u32) -> bool {
         let found = step
             .found

@@ -8,13 +8,13 @@ pub struct Moments {
 }
 
 impl Moments {
-    /// So many times, each this one.
+    /// `count` times, each this one.
     pub fn new(alloc: Global, count: usize, time: u64) -> Result<Moments, NoMemory> {
         let items = vec![in alloc; time; count]?;
         Ok(Moments { items })
     }
 
-    /// None, with room for so many.
+    /// None, with room for `count`.
     pub fn with_room(alloc: Global, count: usize) -> Result<Moments, NoMemory> {
         Ok(Moments {
             items: Vec::with_capacity(alloc, count)?,

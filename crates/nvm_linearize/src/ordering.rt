@@ -29,7 +29,7 @@ pub struct Stuck {
 }
 
 impl Stuck {
-    /// In this unit of so many steps, so many of which were in order.
+    /// In this unit of `steps` steps, `placed` of which were in order.
     pub fn new(unit: u16, steps: usize, placed: u32, around: u32) -> Stuck {
         Stuck {
             unit,

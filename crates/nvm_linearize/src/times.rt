@@ -20,7 +20,7 @@ struct Use {
     step: u32,
 }
 
-/// The time in which a version stands in its block: from its Write to the last step that found it. `low` is when the first of these
+/// The time in which a version is in its block: from its Write to the last step that found it. `low` is when the first of these
 /// steps must have been done, and `high` before when the last can't have been.
 #[derive(Clone, Copy, Debug, PartialEq, Eq, PartialOrd, Ord)]
 pub struct Zone {
@@ -38,13 +38,13 @@ pub struct Times {
     from: Moments,
     /// Of each step, a time at which it must have been done.
     due: Moments,
-    /// Of each version that just one step puts, which surely was done, that step.
+    /// Of each version that exactly one step puts, which surely was done, that step.
     sole: Numbers,
     /// Who found which of these versions, or of those that were there at first, by version.
     uses: Vec<Use>,
 }
 
-/// Of each version that just one step puts, which surely was done, that step, where the version wasn't there at first.
+/// Of each version that exactly one step puts, which surely was done, that step, where the version wasn't there at first.
 fn sole_writers(alloc: Global, unit: &UnitSteps, board: &Board) -> Result<Numbers, NoMemory> {
     let versions = board.versions.count();
     let mut sole = Numbers::new(alloc, versions as usize, NONE)?;
@@ -141,7 +141,7 @@ impl Times {
         changed
     }
 
-    /// The zones of versions that just one step puts, and of those that were there at first, by block.
+    /// The zones of versions that exactly one step puts, and of those that were there at first, by block.
     pub fn zones(&self, alloc: Global, board: &Board) -> Result<Vec<Zone>, NoMemory> {
         let mut zones = Vec::new(alloc);
         let mut next = 0usize;
@@ -173,7 +173,7 @@ impl Times {
                     _ => break,
                 }
             }
-            // What was there at first stands before all that was put.
+            // What was there at first comes before all that was put.
             if is_first {
                 zone.low = 0;
             }

@@ -135,7 +135,7 @@ module _ (laws : PartLaws) (ns : Namespace) (w : Operation) (unit x : ℕ) (unit
     | inr f ↦ put_unreached ns.block_size part x (part_reaches ∙ f) ∙ sym (put_unreached ns.block_size w x f)
   ]
 
--- The block is left, or what the deed puts stands there.
+-- The block is left, or what the deed puts is there.
 abbrev pub Leaves : Option Block → Block → Block → Type 0
 Leaves put old new = (new ≡ old) ⊎ (put ≡ Some new)
 
@@ -181,7 +181,7 @@ deed_puts size blocks (pairs payload new) i old b holds put =
     let is : block_at size new i ≡ b = cc in ap (λ (t : Bool). cond t (block_at size new i) old) holds ∙ is
 deed_puts size blocks (deallocates ranges) i old b holds put = cc
 
--- What the operation puts where it is done stands there.
+-- What the operation puts where it is done is there.
 pub step_puts : (size : ℕ) (op : Operation) (m : Medium) (x : ℕ) (b : Block) → Holds (range_of op m) op.deed
     → put_by size (Some op) x ≡ Some b → medium_after size op m x ≡ b
 step_puts size op m x b holds put = elim (cases_Bool (reaches op x)) [

@@ -1,4 +1,4 @@
--- A job that was done once stands among what some worker did.
+-- A job that was done once is among what some worker did.
 use Rattle.std.proofs.Common.{◌≡◌, ℕ, suc, ◌<◌, nat_eq, List, [], ◌∷◌, refl, ap, inl, inr, arith}
 use Rattle.std.specs.List.{sum_by, count_by}
 use Rattle.std.proofs.lemmas.Bool.{cases_lt, cases_Bool, eqb-true}

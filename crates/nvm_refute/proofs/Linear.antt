@@ -50,7 +50,7 @@ next_at_place ns m (q ∷ steps) zero s at =
     ∙ ap (λ (x : TakenStep). medium_after ns.block_size (operation_taken ns x) m) (some-injective q s at)
 next_at_place ns m (q ∷ steps) (suc i) s at = next_at_place ns (medium_after ns.block_size (operation_taken ns q) m) steps i s at
 
--- Each step has just the data of its blocks, so each medium keeps its blocks' size.
+-- Each step has exactly the data of its blocks, so each medium keeps its blocks' size.
 pub sizes_at_place : ((size : ℕ) (op : Operation) (m : Medium) → HasData (op.blocks * size) op.deed → HasBlockSize size m → HasBlockSize size (medium_after size op m))
     → (ns : Namespace) (m : Medium) (steps : List TakenStep) (i : ℕ)
     → ((k : ℕ) (s : TakenStep) → IsAt steps k s → HasData ((operation_taken ns s).blocks * ns.block_size) (operation_taken ns s).deed)
@@ -106,7 +106,7 @@ pair_held blocks (deallocates ranges) success = tt
 bytes_one : (a b : List ℕ) → Some a ≡ Some b → a ≡ b
 bytes_one a b e = cc
 
--- What was found by the operation stood in the block.
+-- What was found by the operation was in the block.
 pub found_there : PartLaws → ((blocks : List Block) (bytes : List ℕ) → (data_on blocks reads ≡ Some bytes) ↔ (compares_equal blocks bytes ≡ true))
     → (ns : Namespace) (w : Operation) (d : Deed) (unit x : ℕ) (m : Medium) (told : Option (List ℕ)) (found : List ℕ) → w.deed ≡ d
     → unit_number ns x ≡ unit → HasBlockSize ns.block_size m → reaches w x ≡ true

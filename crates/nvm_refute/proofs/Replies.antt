@@ -33,7 +33,7 @@ success_says (Single c) (Two s t) each is = absurd each
 success_says (Pair c d) (One s) each is = absurd each
 success_says (Pair c d) (Two s t) each is = or_left _ _ (or_left _ _ is)
 
--- What is told of a part of what succeeded is success.
+-- What is answered for a part of what succeeded is success.
 pub told_success : (last : Bool) (told : Statuses) → IsSuccess told → IsSuccess (told_of_part last told)
 told_success true told success = success
 told_success false told success = refl
@@ -45,7 +45,7 @@ not_failed false is = refl
 second_status : (s t u v : Status) → Two s t ≡ Two u v → t ≡ v
 second_status s t u v e = cc
 
--- A pair that fails on these blocks fails on others on which it is told the same.
+-- A pair that fails on these blocks fails on others on which it is answered the same.
 pub fails_alike : (blocks others : List Block) (d : Deed) → statuses_on blocks d ≡ statuses_on others d → FailsOn others d → FailsOn blocks d
 fails_alike blocks others (writes payload) same fails = absurd fails
 fails_alike blocks others zeroes same fails = absurd fails

@@ -54,7 +54,7 @@ module _ (ns : Namespace) (ps : List Piece) (unit : ℕ) (run : Run ns ps unit) 
   abbrev pub place_of : ℕ → ℕ
   place_of n = place_by n (seek n run.long)
 
-  -- The one job's step comes before the other's. A job without a step stands where it began.
+  -- The one job's step comes before the other's. A job without a step is where it began.
   abbrev pub Before : ℕ → ℕ → Type 0
   Before a b = (moment_of a < moment_of b) ⊎ ((moment_of a ≡ moment_of b) × (place_of a < place_of b))
 
@@ -148,7 +148,7 @@ module _ (ns : Namespace) (ps : List Piece) (unit : ℕ) (run : Run ns ps unit) 
     abbrev PutAt : ℕ → Block → Type 0
     PutAt i b = (p : Piece) × IsAt ps (run.job i) p × CanPut ns p x b
 
-    -- What stands in the block stood there before, or was put there since.
+    -- What is in the block was there before, or was put there since.
     since : (k n : ℕ) → k + n ≤ run.long
         → (run.block x (k + n) ≡ run.block x k) ⊎ ((i : ℕ) × (k ≤ i) × (i < k + n) × PutAt i (run.block x (k + n)))
     since k zero within = let e : k + 0 ≡ k = omega arith in inl (ap (run.block x) e)
@@ -184,7 +184,7 @@ module _ (ns : Namespace) (ps : List Piece) (unit : ℕ) (run : Run ns ps unit) 
       abbrev pub IsWriters : ℕ → Type 0
       IsWriters i = run.job i ≡ writer
 
-      -- It stood there at the earlier place, or was put there since.
+      -- It was there at the earlier place, or was put there since.
       there_or_put : (k : ℕ) → k ≤ j → (run.block x k ≡ Bytes bytes) ⊎ Between k PutThere
       there_or_put k most =
           let e : k + (j - k) ≡ j = omega (arith, most) in
@@ -249,11 +249,11 @@ module _ (ns : Namespace) (ps : List Piece) (unit : ℕ) (run : Run ns ps unit) 
           let most = last.1 in
           (last.0, omega (arith, high, most), last.2, last.3)
 
-      -- Where a sure writer's step stands before the reader, the writer's stands there or later.
+      -- Where a sure writer's step comes before the reader, the writer's is there or later.
       pub written_from : (other k : ℕ) → k < j → run.job k ≡ other → IsSureWriter ns ps other x → Between k IsWriters
       written_from other k less at sure = writers k (put_from other k less at sure)
 
-      -- Where the reader found what was put there, the writer's step stands before it.
+      -- Where the reader found what was put there, the writer's step comes before it.
       pub written : WasPut ns ps Before bytes reader x → Between 0 IsWriters
       written (inl not_zero) = elim (there_or_put 0 (omega arith)) [
         | inl first ↦ absurd (not_zero (bytes_are bytes (zero_bytes ns.block_size) (sym first ∙ run.zero_first x)))

@@ -53,7 +53,7 @@ module _ (ns : Namespace) (ps : List Piece) (unit : ℕ) (run : Run ns ps unit) 
   there facts n fact is =
       stands_read facts n fact (slice_get_within facts n fact is) (sym (get_or_from_slice_get facts n fact fact is))
 
-  -- What stands before what by the facts does so on the run.
+  -- What comes before what by the facts does so on the run.
   stands : (facts : List Fact) → ((n : ℕ) → IsGivenAt ns ps unit facts n) → (n x y : ℕ) → IsBefore facts n x y → After x y
   stands facts given zero x y is = absurd is
   stands facts given (suc n) x y is =

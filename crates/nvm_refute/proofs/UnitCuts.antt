@@ -47,7 +47,7 @@ both_none : (b : Bool) (o : Option Block) → o ≡ None → cond b o None ≡ N
 both_none true o e = e
 both_none false o e = refl
 
--- What reaches just the LBAs in the unit that the operation reaches, and puts there what it puts.
+-- What reaches exactly the LBAs in the unit that the operation reaches, and puts there what it puts.
 within_unit : (ns : Namespace) (op w : Operation) (unit x : ℕ) → op.first + op.blocks ≤ ns.nsze
     → reaches w x ≡ (reaches op x && unit_number ns x == unit)
     → (reaches w x ≡ true → put_by_deed ns.block_size w.deed (x - w.first) ≡ put_by_deed ns.block_size op.deed (x - op.first))

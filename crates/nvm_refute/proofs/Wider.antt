@@ -1,4 +1,4 @@
--- What is given by what stands before what is given where more does.
+-- What is given by what comes before what is given where more does.
 use Rattle.std.proofs.Common.{ℕ, List, inl, inr}
 use Rattle.nvm_geometry.specs.Namespace.{Namespace}
 use Rattle.nvm_trace.specs.Pieces.{Piece}

@@ -74,7 +74,7 @@ abbrev pub told_by : Option Ending → Option (List ℕ)
 told_by None = None
 told_by (Some e) = e.payload
 
--- the bytes that the piece found at the LBA, if its reply tells them
+-- the bytes that the piece found at the LBA, if its reply says them
 abbrev pub found_at : Namespace → Piece → ℕ → Option (List ℕ)
 found_at ns p lba =
     if has_succeeded p.whole.ended && cut_has ns p.whole.job.body p.cut lba then

@@ -33,7 +33,7 @@ IsOfNobody (Nobody reader lba) = Unit {0}
 abbrev pub HasNobody : List Fact → ℕ → Type 0
 HasNobody facts n = (k : ℕ) × (k < n) × (fact : Fact) × IsAt facts k fact × IsOfNobody fact
 
--- By the first n facts some step stands before itself.
+-- By the first n facts some step comes before itself.
 abbrev pub HasLoop : List Fact → ℕ → Type 0
 HasLoop facts n = (number : ℕ) × IsBefore facts n number number
 

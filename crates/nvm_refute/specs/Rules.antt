@@ -1,4 +1,4 @@
--- The rules by which a fact is given (own). In a block of a medium stands what was put there last, and at first zero bytes.
+-- The rules by which a fact is given (own). A block of a medium has what was put there last, and at first zero bytes.
 use Rattle.std.specs.Prelude.{◌≡◌, ◌≢◌, ◌⊎◌, ℕ, ◌<◌, List, Some}
 use Rattle.nvm_record.specs.declared.block.Block.TheVariants.{Bytes}
 use Rattle.nvm_record.specs.Lists.{IsAt}
@@ -33,20 +33,20 @@ pub record IsSureWriter (ns : Namespace) (ps : List Piece) (writer lba : ℕ) : 
   pub its : IsAt ps writer piece
   pub puts : SurelyPuts ns piece lba
 
--- A piece that surely put something in the block stands before the reader.
+-- A piece that surely put something in the block comes before the reader.
 pub record HasWriterBefore (ns : Namespace) (ps : List Piece) (Before : ℕ → ℕ → Type 0) (reader lba : ℕ) : Type 0 where
   pub writer : ℕ
   pub sure : IsSureWriter ns ps writer lba
   pub before : Before writer reader
 
--- A piece that surely put something in the block stands after the earlier piece and before the later one.
+-- A piece that surely put something in the block comes after the earlier piece and before the later one.
 pub record HasWriterBetween (ns : Namespace) (ps : List Piece) (Before : ℕ → ℕ → Type 0) (earlier later lba : ℕ) : Type 0 where
   pub writer : ℕ
   pub sure : IsSureWriter ns ps writer lba
   pub after : Before earlier writer
   pub before : Before writer later
 
--- The reader found nothing that the piece put in the block: the piece stands after the reader, or another was put over it before.
+-- The reader found nothing that the piece put in the block: the piece comes after the reader, or another was put over it before.
 abbrev pub IsExcused : Namespace → List Piece → (ℕ → ℕ → Type 0) → ℕ → ℕ → ℕ → Type 0
 IsExcused ns ps Before number reader lba = Before reader number ⊎ HasWriterBetween ns ps Before number reader lba
 
@@ -82,7 +82,7 @@ pub record IsFirst (ns : Namespace) (ps : List Piece) (unit : ℕ) (Before : ℕ
   pub sure : IsSureWriter ns ps writer lba
   pub not_reader : writer ≢ reader
 
--- The fact is given by its rule and by what stands before what already.
+-- The fact is given by its rule and by what comes before what already.
 abbrev pub IsGiven : Namespace → List Piece → ℕ → (ℕ → ℕ → Type 0) → Fact → Type 0
 IsGiven ns ps unit Before (Time earlier later) = IsTime ps earlier later
 IsGiven ns ps unit Before (Source writer reader lba) = IsSource ns ps unit Before writer reader lba × (writer ≢ reader)

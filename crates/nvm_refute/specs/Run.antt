@@ -12,7 +12,7 @@ use Rattle.nvm_trace.specs.Timely.{HadEnded}
 use Rattle.nvm_refute.specs.Findings.{CanPut, SurelyPuts, found_at, zero_bytes}
 use Rattle.nvm_refute.specs.Rules.{HasFound, IsSureWriter}
 
--- At each place below `long` the number of the piece whose step it is, its moment, and for each LBA what stands there before the step.
+-- At each place below `long` the number of the piece whose step it is, its moment, and for each LBA what is there before the step.
 pub record Run (ns : Namespace) (ps : List Piece) (unit : ℕ) : Type 0 where
   pub long : ℕ
   pub job : ℕ → ℕ

@@ -1,4 +1,4 @@
--- What stands before what by the first facts of an argument (own): all that follows from them along a chain.
+-- What comes before what by the first facts of an argument (own): all that follows from them along a chain.
 use Rattle.std.specs.Prelude.{◌≡◌, ◌⊎◌, ℕ, zero, suc, List, Option, Some, None, slice_get}
 use Rattle.nvm_refute.specs.declared.fact.Fact.{Fact}
 use Rattle.nvm_refute.specs.declared.fact.Fact.TheVariants.{Time, Source, Over, Under, First, Nobody}
@@ -20,21 +20,21 @@ abbrev pub order_if : Option Fact → Option Order
 order_if None = None
 order_if (Some fact) = order_of fact
 
--- It is the job, or stands before it.
+-- It is the job, or comes before it.
 abbrev pub IsUpTo : (ℕ → ℕ → Type 0) → ℕ → ℕ → Type 0
 IsUpTo Before x job = (x ≡ job) ⊎ Before x job
 
--- It is the job, or stands after it.
+-- It is the job, or comes after it.
 abbrev pub IsFrom : (ℕ → ℕ → Type 0) → ℕ → ℕ → Type 0
 IsFrom Before job y = (y ≡ job) ⊎ Before job y
 
--- The one stands before the other with this more: it did already, or the new order joins what is up to its earlier job with what is
+-- The one comes before the other with this more: it did already, or the new order joins what is up to its earlier job with what is
 -- from its later one on.
 abbrev pub IsBeforeWith : (ℕ → ℕ → Type 0) → Option Order → ℕ → ℕ → Type 0
 IsBeforeWith Before None x y = Before x y
 IsBeforeWith Before (Some o) x y = Before x y ⊎ (IsUpTo Before x o.earlier × IsFrom Before o.later y)
 
--- The one stands before the other by the first n facts.
+-- The one comes before the other by the first n facts.
 abbrev pub IsBefore : List Fact → ℕ → ℕ → ℕ → Type 0
 IsBefore facts zero x y = ⊥
 IsBefore facts (suc n) x y = IsBeforeWith (IsBefore facts n) (order_if (slice_get facts n)) x y

@@ -1,6 +1,6 @@
 use crate::fact::Fact;
 
-/// Why nothing explains a trace: what must stand before what in one of its atomic units.
+/// Why nothing explains a trace: what must come before what in one of its atomic units.
 #[derive(Debug, PartialEq, Eq, Drop)]
 pub struct Argument {
     /// The number of the unit.

@@ -19,7 +19,7 @@ use nvm_trace::{Cut, Owner};
 pub enum Effect {
     /// It leaves the block.
     Nothing,
-    /// It puts just these bytes there.
+    /// It puts exactly these bytes there.
     These,
     /// It puts something else there.
     Other,

@@ -100,7 +100,7 @@ fn body_found<'a>(
     }
 }
 
-/// The bytes that the piece found at the LBA, if its reply tells them.
+/// The bytes that the piece found at the LBA, if its reply says them.
 pub fn found<'a>(geometry: &Geometry, owner: &Owner<'a>, lba: u64) -> Option<&'a [u8]>
     ensures { MatchOption result (found_at geometry.now (piece owner.now.whole.now owner.now.cut) lba ≡ None)
         (λ found. found_at geometry.now (piece owner.now.whole.now owner.now.cut) lba ≡ Some found.now) }

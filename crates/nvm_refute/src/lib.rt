@@ -1,6 +1,6 @@
 //! Arguments that nothing explains a trace: their facts, and the rules that give them.
 //!
-//! An [`Argument`] is a unit and a list of [`Fact`]s: of two pieces of the trace's commands, the one stands before the other in
+//! An [`Argument`] is a unit and a list of [`Fact`]s: of two pieces of the trace's commands, the one comes before the other in
 //! the unit, by a rule. [`refute`] says yes only where each fact is given by its rule and the facts before it, and together they
 //! put a step before itself, or name what nobody can have left there. Then no record explains the trace, which is proved. It looks for no
 //! argument: whoever found one need not be trusted.

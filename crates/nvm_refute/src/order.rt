@@ -6,7 +6,7 @@ ghost use Rattle.nvm_refute.specs.Inside.Held.{IsNoted};
 use nvm_record::NoMemory;
 use std::alloc::Global;
 
-/// That the step of one job stands before that of another.
+/// That the step of one job comes before that of another.
 #[derive(Clone, Copy, Debug, PartialEq, Eq)]
 pub struct Order {
     pub earlier: u32,
@@ -35,7 +35,7 @@ fn put(known: &mut Vec<Order>, order: Order) -> Result<(), NoMemory>
     Ok(())
 }
 
-/// The job, and those that stand before it.
+/// The job, and those that come before it.
 fn up_to(alloc: Global, known: &Vec<Order>, job: u32) -> Result<Vec<u32>, NoMemory>
     ensures { IfOk result (λ jobs. (x : ℕ) → Contains jobs.items x → (x ≡ job) ⊎ IsNoted known.now.items x job) }
 {
@@ -49,7 +49,7 @@ fn up_to(alloc: Global, known: &Vec<Order>, job: u32) -> Result<Vec<u32>, NoMemo
     Ok(jobs)
 }
 
-/// The job, and those that stand after it.
+/// The job, and those that come after it.
 fn from(alloc: Global, known: &Vec<Order>, job: u32) -> Result<Vec<u32>, NoMemory>
     ensures { IfOk result (λ jobs. (y : ℕ) → Contains jobs.items y → (y ≡ job) ⊎ IsNoted known.now.items job y) }
 {
@@ -63,7 +63,7 @@ fn from(alloc: Global, known: &Vec<Order>, job: u32) -> Result<Vec<u32>, NoMemor
     Ok(jobs)
 }
 
-/// Notes that the job stands before each of these.
+/// Notes that the job comes before each of these.
 fn put_before_all(known: &mut Vec<Order>, earlier: u32, laters: &Vec<u32>) -> Result<(), NoMemory>
     ensures { OnOk result ((o : OrderView) → Contains known.new.items o
         → Contains known.old.items o ⊎ ((o.earlier ≡ earlier) × Contains laters.now.items o.later)) }
@@ -80,7 +80,7 @@ fn put_before_all(known: &mut Vec<Order>, earlier: u32, laters: &Vec<u32>) -> Re
     Ok(())
 }
 
-/// Notes that each of the first jobs stands before each of the others.
+/// Notes that each of the first jobs comes before each of the others.
 fn put_each_before_all(
     known: &mut Vec<Order>,
     earliers: &Vec<u32>,
@@ -104,7 +104,7 @@ pub fn note(alloc: Global, known: &mut Vec<Order>, new: Order) -> Result<(), NoM
     put_each_before_all(known, &earliers, &laters)
 }
 
-/// Whether some job stands before itself.
+/// Whether some job comes before itself.
 pub fn has_loop(known: &Vec<Order>) -> bool
     ensures { IsTrue result → (number : ℕ) × IsNoted known.now.items number number }
 {

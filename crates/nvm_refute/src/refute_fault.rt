@@ -10,7 +10,7 @@ pub enum RefuteFault {
     /// The fact of this number, counted from 0, isn't given by its rule and the facts before it. It is the first such.
     #[error("FactWrong")]
     FactWrong { fact: usize },
-    /// Each fact is given, and yet none is one of nobody, and no step stands before itself. Or the trace doesn't start from zero
+    /// Each fact is given, and yet none is one of nobody, and no step comes before itself. Or the trace doesn't start from zero
     /// bytes, or the namespace hasn't the unit.
     #[error("NothingRefuted")]
     NothingRefuted,

@@ -55,7 +55,7 @@ fn note_fact(alloc: Global, known: &mut Vec<Order>, fact: Fact) -> Result<(), No
     }
 }
 
-/// All that stands before something by the facts, each of which is given by its rule and those before it, or the first that isn't.
+/// All that comes before something by the facts, each of which is given by its rule and those before it, or the first that isn't.
 fn derive(
     alloc: Global,
     geometry: &Geometry,
@@ -112,7 +112,7 @@ fn is_zeroes(start: Start) -> bool
 /// Whether the argument refutes the trace: then no record explains it.
 ///
 /// For each fact it looks at each of the trace's pieces. For each piece that can have put what was found it goes through the orders
-/// noted so far, and through all of them again for each that begins at that piece. It notes each two pieces of which the one stands
+/// noted so far, and through all of them again for each that begins at that piece. It notes each two pieces of which the one comes
 /// before the other. So an argument is best given for a short trace. Of errors nothing is proved: they say that it didn't take the argument.
 /// `FactWrong` names the first fact that it doesn't take. After `NoMemory` nothing is known.
 pub fn refute(

@@ -42,7 +42,7 @@ fn is_of_unit(geometry: &Geometry, unit: u16, lba: u64) -> bool
     lba < geometry.nsze() && geometry.unit_of(lba) == unit
 }
 
-/// What the reader found in the block, if its reply tells it and the block is one of the unit's.
+/// What the reader found in the block, if its reply says it and the block is one of the unit's.
 fn has_found<'a>(
     geometry: &Geometry,
     owners: &Vec<Owner<'a>>,

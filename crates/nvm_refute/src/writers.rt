@@ -60,7 +60,7 @@ pub fn is_sure_writer(geometry: &Geometry, owners: &Vec<Owner<'_>>, writer: u32,
     writer < owners.len() && surely_puts(geometry, &owners[writer], lba)
 }
 
-/// Whether a piece that surely put something in the block is known to stand before the reader.
+/// Whether a piece that surely put something in the block is known to come before the reader.
 fn has_writer_before(
     geometry: &Geometry,
     owners: &Vec<Owner<'_>>,
@@ -79,7 +79,7 @@ fn has_writer_before(
     false
 }
 
-/// Whether a piece that surely put something in the block is known to stand after the one piece and before the other.
+/// Whether a piece that surely put something in the block is known to come after the one piece and before the other.
 fn has_writer_between(
     geometry: &Geometry,
     owners: &Vec<Owner<'_>>,

@@ -28,7 +28,7 @@ found x d xs false is rest more =
     let there = rest (omega arith) in
     (suc there.0, there.1)
 
--- A list that is counted stands somewhere.
+-- A list that is counted is found somewhere.
 pick : (d : List ℕ) (xs : List (List ℕ)) → 0 < sum_by (is_it d) xs → (i : ℕ) × IsAt xs i d
 pick d [] more = absurd (omega arith)
 pick d (x ∷ xs) more = found x d xs (bytes_eq x d) refl (pick d xs) more

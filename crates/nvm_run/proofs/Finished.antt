@@ -56,7 +56,7 @@ have_ended : (jobs : ℕ) (workers : List Worker)
 have_ended jobs [] each = tt
 have_ended jobs (worker ∷ workers) each = (each 0 worker refl, have_ended jobs workers (λ i w at. each (suc i) w at))
 
--- What a worker did stands in the order of its draws.
+-- What a worker did is in the order of its draws.
 rises_so : (work : List RecordedJob) (drawn : List ℕ) (last : ℕ) → drawn ≡ numbers_of work ++ last ∷ [] → AllPairs (λ x y. x < y) drawn
     → AllPairs (λ d e. d.job < e.job) work
 rises_so work drawn last is rises i j d lt below =

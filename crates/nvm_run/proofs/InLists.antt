@@ -1,9 +1,9 @@
--- What stands at a place of a list that is made of others.
+-- What is at a place of a list that is made of others.
 use Rattle.std.proofs.Common.{◌≡◌, ◌⊎◌, ℕ, zero, suc, ◌+◌, ◌<◌, List, [], ◌∷◌, ◌++◌, length, map, filter, cond, set, Bool, true, false, refl, sym, subst, ap, ◌∙◌, arith, inl, inr}
 use mathlib.Core.Option.{some, some-injective, some-ne-none}
 use Rattle.nvm_record.specs.Lists.{IsAt}
 
--- It stands somewhere in the list.
+-- It is somewhere in the list.
 abbrev pub Stands : {A : Type 0} → List A → A → Type 0
 Stands xs x = (i : ℕ) × IsAt xs i x
 
@@ -11,11 +11,11 @@ module _ {A : Type 0} where
   pub none_there : (i : ℕ) (x : A) → IsAt [] i x → ⊥
   none_there i x e = some-ne-none x (sym e)
 
-  -- One thing stands at a place.
+  -- One thing is at a place.
   pub same_there : (xs : List A) (i : ℕ) (x y : A) → IsAt xs i x → IsAt xs i y → x ≡ y
   same_there xs i x y e f = some-injective x y (sym e ∙ f)
 
-  -- Something stands at each place below the length.
+  -- Something is at each place below the length.
   pub some_there : (xs : List A) (i : ℕ) → i < length xs → (x : A) × IsAt xs i x
   some_there [] i lt = absurd (omega arith)
   some_there (x ∷ xs) zero lt = (x, refl)
@@ -35,7 +35,7 @@ module _ {A : Type 0} where
   behind (z ∷ xs) ys zero j x is e = absurd (omega arith)
   behind (z ∷ xs) ys (suc i) j x is e = behind xs ys i j x (omega arith) e
 
-  -- It stands in the first list, or behind it in the other.
+  -- It is in the first list, or after it in the other.
   pub in_either : (xs ys : List A) (i : ℕ) (x : A) → IsAt (xs ++ ys) i x
       → ((i < length xs) × IsAt xs i x) ⊎ ((j : ℕ) × (i ≡ length xs + j) × IsAt ys j x)
   in_either [] ys i x e = inr (i, omega arith, e)
@@ -45,7 +45,7 @@ module _ {A : Type 0} where
     | inr after ↦ let is = after.1 in inr (after.0, omega arith, after.2)
   ]
 
-  -- What passes a test stands among all, and passes it.
+  -- What passes a test is among all, and passes it.
   pub passes : (f : A → Bool) (xs : List A) (i : ℕ) (x : A) → IsAt (filter f xs) i x → (f x ≡ true) × Stands xs x
   passes f [] i x e = absurd (none_there i x e)
   passes f (y ∷ ys) i x e = by (λ j h. passes f ys j x h) (f y) refl i e
@@ -67,7 +67,7 @@ module _ {A : Type 0} where
       by true h = (suc h.0, h.1)
       by false h = h
 
-  -- Both stand in the list, the one before the other.
+  -- Both are in the list, the one before the other.
   pub record StandInOrder (xs : List A) (x y : A) : Type 0 where
     pub first : ℕ
     pub second : ℕ
@@ -105,7 +105,7 @@ module _ {A : Type 0} where
       by rest after true (suc i) (suc j) e h lt = later (rest i j e h (omega arith))
       by rest after false i j e h lt = later (rest i j e h lt)
 
-  -- What stands in a list in which one element was replaced.
+  -- What is in a list in which one element was replaced.
   pub replaced : (xs : List A) (i : ℕ) (x y : A) → IsAt xs i y → IsAt (set xs i x) i x
   replaced [] i x y e = absurd (none_there i y e)
   replaced (z ∷ zs) zero x y e = refl

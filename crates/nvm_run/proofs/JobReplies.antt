@@ -1,4 +1,4 @@
--- The replies to the parts of a done job: each is one to its operation, and all but the last tell success.
+-- The replies to the parts of a done job: each is one to its operation, and all but the last report success.
 use Rattle.std.proofs.Common.{◌≡◌, ◌⊎◌, ℕ, ◌+◌, ◌≤◌, List, [], ◌∷◌, ◌++◌, length, false, IsTrue, Option, Some, None, MatchOption, refl, sym, ap, subst, ◌∙◌, inl, inr, append-nil, length-append, arith, rules}
 use Rattle.std.specs.List.{AllByRecursion}
 use Rattle.std.specs.Option.{IsSomeAnd}
@@ -21,13 +21,13 @@ use Rattle.nvm_plan.specs.Operation.{job_operation_of}
 use Rattle.nvm_plan.specs.Outcome.{units_told, data_told, answered, IsOutcomeOf, IsRefused, IsOutcome}
 use Rattle.nvm_plan.specs.Reply.{Reply, MayTell, can_have, IsReplyTo, IsSuccessfulReply}
 
--- The last of the replies tells these statuses, and each one before it success of a command by itself.
+-- The last of the replies has these statuses, and each one before it success of a command by itself.
 abbrev pub LastTells : Statuses → List Reply → Type 0
 LastTells told [] = Unit {0}
 LastTells told (r ∷ []) = r.statuses ≡ told
 LastTells told (r ∷ next ∷ rs) = (r.statuses ≡ One successful_completion) × LastTells told (next ∷ rs)
 
--- success is told in one way
+-- success is answered in one way
 success_told : (deed : Deed) (result : PartResult) (told : Statuses) → IsTrue (can_have deed result) → MayTell deed result told → IsSuccess told
     → told ≡ success_of deed
 success_told deed result told can may success = search rules

@@ -43,7 +43,7 @@ look_or_act false looks acts = cc looks
 
 module _ (laws : AnswerLaws) (x : RecordedPart) (number unit : ℕ) (op : Operation) (p q : PassView)
     (history : List HistoryEntry) (begins : Begins q.seen history) where
-  -- the medium at the point of so many entries
+  -- the medium at the point of n entries
   abbrev medium : ℕ → Medium
   medium n = point p.bounds.place.size history n
 
@@ -115,7 +115,7 @@ module _ (laws : AnswerLaws) (x : RecordedPart) (number unit : ℕ) (op : Operat
       unread result.NoMemory rests.0 (ap (λ (y : Part). y.result) part) here rests.1
       (λ act. absurd (look_or_act (is_look op.deed) looks act))
 
--- What a step of a pass did is right, as it was told.
+-- What a step of a pass did is right, as it was answered.
 did_right : (laws : AnswerLaws) (x : RecordedPart) (did : PartDone) (p q : PassView) (history : List HistoryEntry)
     → Begins q.seen history
     → did.reply.part ≡ x.part → did.reply.statuses ≡ told_of x → DoesPart did p q
@@ -155,14 +155,14 @@ rests_so laws ns limit jobs x p q history taken begins size_is limit_is =
       payload = λ bytes known. its.payload _ (shows.read bytes known);
     }
 
--- A pass that did a part made an entry, which stands at the part's point.
+-- A pass that did a part made an entry, which is at the part's point.
 pub record HasMade (history : List HistoryEntry) (x : RecordedPart) (p : PassView) : Type 0 where
   pub entry : HistoryEntry
   pub at : IsAt history x.part.point entry
   pub pass : entry.pass ≡ p.number
   pub job : entry.job ≡ x.done.job
 
--- Only a change that was done is told so.
+-- Only a change that was done is answered so.
 change_made : (laws : AnswerLaws) (number unit : ℕ) (op : Operation) (x : RecordedPart) (p q : PassView)
     (history : List HistoryEntry) → Begins q.seen history → x.part.result ≡ result.Done → number ≡ x.done.job
     → (changed : Changed)

@@ -50,7 +50,7 @@ pub record IsLeft (ns : Namespace) (jobs : List Job) (x : RecordedPart) (p q : P
   pub mine : (i n : ℕ) (entry : HistoryEntry) → IsAt q.mine i (n, entry)
       → Stands p.mine (n, entry) ⊎ MadeIt ns jobs p.number n entry x
 
--- What is told of a change and of a look has their point, and the entries that there are after them.
+-- What is answered for a change and for a look has their point, and the entries that there are after them.
 change_point : (unit : ℕ) (deed : Deed) (changed : Changed) → (reply_of_change unit deed changed).part.point ≡ point_of changed
 change_point unit deed (Done n) = refl
 change_point unit deed (Failed n statuses) = refl

@@ -1,4 +1,4 @@
--- What a part reads by a pass has just the bytes of its blocks.
+-- What a part reads by a pass has exactly the bytes of its blocks.
 use Rattle.std.proofs.Common.{◌≡◌, ℕ, ◌*◌, List, [], ◌∷◌, length, Some, None, Result, Ok, Err, refl, sym, ap, subst, ◌∙◌, inl, inr}
 use Rattle.std.specs.List.{AllByRecursion}
 use Rattle.std.proofs.lemmas.Option.{none-some}
@@ -21,7 +21,7 @@ use Rattle.nvm_run.proofs.PassPlaces.{HaveBounds, step_keeps}
 abbrev pub KeepSizes : Type 0
 KeepSizes = (place : Place) (history : List HistoryEntry) → IsLawfulHistory place history → HasBlockSize place.size (replay_of place.size history)
 
--- What is read of a medium of a block size has just the bytes of its blocks.
+-- What is read of a medium of a block size has exactly the bytes of its blocks.
 abbrev pub ReadsAreWhole : Type 0
 ReadsAreWhole =
     (size : ℕ) (op : Operation) (m : Medium) (payload : List ℕ) → HasBlockSize size m → data_of op m ≡ Some payload
@@ -31,7 +31,7 @@ ReadsAreWhole =
 abbrev pub HaveSize : ℕ → List PassView → Type 0
 HaveSize size views = HaveBounds (λ k b. b.place.size ≡ size) views
 
--- What the part read, where it read anything, has just the bytes of its blocks.
+-- What the part read, where it read anything, has exactly the bytes of its blocks.
 abbrev pub ReadsItsBytes : ℕ → PartDone → Type 0
 ReadsItsBytes size did = (bytes : List ℕ) → did.reply.payload ≡ Some bytes → length bytes ≡ did.operation.blocks * size
 
@@ -59,7 +59,7 @@ module _ (keep : KeepSizes) (whole : ReadsAreWhole) where
       (look_reads did.reply.part.unit (length history) did.operation (medium_at p.bounds history) look.1 bytes observed.2
       (sym (ap (λ (r : _). r.payload) look.3) ∙ read))
 
-  -- Each part that was done by passes of one block size read just the bytes of its blocks.
+  -- Each part that was done by passes of one block size read exactly the bytes of its blocks.
   pub parts_read : (size : ℕ) (acts : List PartDone) (old new : List PassView) → DoesParts acts old new → HaveSize size old
       → AllByRecursion (ReadsItsBytes size) acts
   parts_read size [] old new does have = tt

@@ -8,7 +8,7 @@ use Rattle.nvm_geometry.specs.Parts.{blocks_below, blocks_in, units_of_range, da
 use Rattle.nvm_plan.specs.Outcome.{units_told, data_told}
 use Rattle.nvm_plan.specs.Reply.{Reply}
 
--- The pieces of a range in the namespace stand in line.
+-- The pieces of a range in the namespace are in line.
 abbrev pub StandInLine : Type 0
 StandInLine = (ns : Namespace) (first blocks : ℕ) → first + blocks ≤ ns.nsze → AreInLine first blocks (pieces_of ns first blocks)
 
@@ -23,7 +23,7 @@ abbrev pub IsCutOf : Namespace → ℕ → ℕ → List ℕ → Reply → Type 0
 IsCutOf ns first blocks all r =
     r.payload ≡ Some (data_part ns.block_size (blocks_below ns first blocks r.part.unit) (blocks_in ns first blocks r.part.unit) all)
 
--- what stands between two ends
+-- what is between two ends
 between : (front bytes rest : List ℕ) (a b : ℕ) → length front ≡ a → length bytes ≡ b
     → take b (drop a (front ++ (bytes ++ rest))) ≡ bytes
 between front bytes rest a b long_front long_bytes =

@@ -1,4 +1,4 @@
--- The record of a lawful run is one of just its jobs, and can be held.
+-- The record of a lawful run is one of exactly its jobs, and can be held.
 use Rattle.std.proofs.Common.{ℕ, ◌<◌, ◌≤◌, List, length, All, AllPairs, refl}
 use Rattle.nvm_record.specs.Lists.{IsAt}
 use Rattle.nvm_geometry.specs.Namespace.{Namespace}

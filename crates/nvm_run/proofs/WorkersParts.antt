@@ -1,4 +1,4 @@
--- Which worker's a part of a record is, and the order in which it stands there.
+-- Which worker's a part of a record is, and the order in which it is there.
 use Rattle.std.proofs.Common.{◌≡◌, ◌⊎◌, ℕ, zero, suc, ◌+◌, ◌<◌, List, [], ◌∷◌, length, subst, refl, sym, ap, arith, inl, inr, nat_eq}
 use Rattle.std.proofs.lemmas.Bool.Decides.{Decides-eqb}
 use mathlib.Core.Option.{some-injective}
@@ -32,7 +32,7 @@ pub record IsOfWork (done : List (List RecordedJob)) (x : RecordedPart) : Type 0
   pub place : ℕ
   pub at : IsAt (parts_of_work x.worker work) place x
 
--- The two parts are of one work, and stand there in order.
+-- The two parts are of one work, and are there in order.
 pub record AreInWork (done : List (List RecordedJob)) (x y : RecordedPart) : Type 0 where
   pub work : List RecordedJob
   pub there : IsAt done x.worker work
@@ -81,7 +81,7 @@ of_workers first (work ∷ done) i x at = elim (in_either (parts_of_work first w
       }
 ]
 
--- It stands in the first worker's work, or in that of a later one.
+-- It is in the first worker's work, or in that of a later one.
 abbrev InEither : ℕ → List RecordedJob → List (List RecordedJob) → ℕ → RecordedPart → Type 0
 InEither first work done i x =
     ((i < length (parts_of_work first work)) × IsAt (parts_of_work first work) i x)
@@ -127,7 +127,7 @@ in_work_of first (work ∷ done) i j x y at also lt same =
     (in_either (parts_of_work first work) (parts_of_workers (first + 1) done) i x at)
     (in_either (parts_of_work first work) (parts_of_workers (first + 1) done) j y also)
 
--- What stands in a worker's work stands among the parts of all workers.
+-- What is in a worker's work is among the parts of all workers.
 pub in_workers : (first nth n : ℕ) (done : List (List RecordedJob)) (work : List RecordedJob) (k : ℕ) (x : RecordedPart)
     → IsAt done nth work → n ≡ first + nth → IsAt (parts_of_work n work) k x → Stands (parts_of_workers first done) x
 in_workers first nth n [] work k x there is at = absurd (none_there nth work there)
@@ -158,7 +158,7 @@ of_unit unit done i x at =
       record { work = of.work; there = subst (λ (n : ℕ). IsAt done n of.work) same of.there; place = of.place; at = of.at },
     )
 
--- Two parts of one worker that name the unit stand in order in its work.
+-- Two parts of one worker that name the unit are in order in its work.
 pub unit_in_order : (unit : ℕ) (done : List (List RecordedJob)) (i j : ℕ) (x y : RecordedPart)
     → IsAt (parts_in_unit unit done) i x
     → IsAt (parts_in_unit unit done) j y → i < j → y.worker ≡ x.worker → AreInWork done x y
@@ -169,7 +169,7 @@ unit_in_order unit done i j x y at also lt same =
     let is : both.nth ≡ x.worker = omega arith in
     record { work = both.work; there = subst (λ (n : ℕ). IsAt done n both.work) is both.there; order = both.order }
 
--- A worker's part in the unit stands among the parts that name the unit.
+-- A worker's part in the unit is among the parts that name the unit.
 pub in_unit_of : (unit worker : ℕ) (done : List (List RecordedJob)) (work : List RecordedJob) (k : ℕ) (x : RecordedPart)
     → IsAt done worker work
     → IsAt (parts_of_work worker work) k x → x.part.unit ≡ unit → Stands (parts_in_unit unit done) x

@@ -45,12 +45,12 @@ pub record Draws (jobs : ℕ) (s t : ClaimState) : Type 0 where
   pub word : t.word ≡ s.word + 1
   pub lists : t.lists ≡ slice_set s.lists worker (drawn ++ s.word ∷ [])
 
--- So many draws lead from s to t, one after the other.
+-- This number of draws leads from s to t, one after the other.
 abbrev pub DrawsLead : ℕ → ℕ → ClaimState → ClaimState → Type 0
 DrawsLead jobs zero s t = t ≡ s
 DrawsLead jobs (suc n) s t = (u : ClaimState) × DrawsLead jobs n s u × Draws jobs u t
 
--- Some number of draws by so many workers leads to this state.
+-- Some number of draws by this number of workers leads to this state.
 abbrev pub IsReached : ℕ → ℕ → ClaimState → Type 0
 IsReached jobs workers s = (n : ℕ) × DrawsLead jobs n (opening_claims workers) s
 
@@ -65,10 +65,10 @@ pub record HasEnded (jobs : ℕ) (done drawn : List ℕ) : Type 0 where
   pub past : jobs ≤ last
   pub after : drawn ≡ done ++ last ∷ []
 
--- Each worker did just the jobs that it drew, and ended.
+-- Each worker did exactly the jobs that it drew, and ended.
 abbrev pub HaveEnded : ℕ → List (List ℕ) → List (List ℕ) → Type 0
 HaveEnded jobs dones lists = AllZip (λ done drawn. All (λ x. x < jobs) done × HasEnded jobs done drawn) dones lists
 
--- Each job stands once in what the workers did, and nothing else stands there.
+-- Each job is found once in what the workers did, and nothing else is there.
 abbrev pub AreDoneOnce : ℕ → List (List ℕ) → Type 0
 AreDoneOnce jobs dones = ComeOnceBelow jobs (λ x. times_in x dones)

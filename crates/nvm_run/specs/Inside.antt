@@ -1,4 +1,4 @@
--- What stands in Inside is cited by private functions and invariants alone: no public clause needs it.
+-- What is in Inside is cited by private functions and invariants alone: no public clause needs it.
 pub mod Rule
 pub mod Plays
 pub mod Seats

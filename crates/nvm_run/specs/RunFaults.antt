@@ -4,7 +4,7 @@ use Rattle.nvm_run.specs.Counters.{IsWorkerCount}
 use Rattle.nvm_run.specs.declared.run_fault.RunFault.{RunFault}
 use Rattle.nvm_run.specs.declared.run_fault.RunFault.TheVariants.{Workers, NoMemory}
 
--- why there is no run by so many workers
+-- why there is no run by this number of workers
 abbrev pub IsRunFault : ℕ → RunFault → Type 0
 IsRunFault count Workers = ¬ IsWorkerCount count
 IsRunFault count NoMemory = IsWorkerCount count

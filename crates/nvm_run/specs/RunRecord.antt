@@ -10,7 +10,7 @@ use Rattle.nvm_audit.specs.RecordedJob.{RecordedJob}
 use Rattle.nvm_audit.specs.RecordView.{RecordView}
 use Rattle.nvm_audit.specs.ReplyAtPoint.{AreRepliesOf}
 
--- The record is that of a run of just these jobs by so many workers, on this namespace, where a unit's history may have `most`
+-- The record is that of a run of exactly these jobs by `count` workers, on this namespace, where a unit's history may have `most`
 -- entries. It is lawful. What it has of each job is the outcome of the replies to the job's parts, each at its point. Each worker
 -- did its jobs in the order of their numbers, so one worker alone does all in their order.
 pub record IsRecordOfRun (ns : Namespace) (most count : ℕ) (asked : List Job) (r : RecordView) : Type 0 where

@@ -12,7 +12,7 @@ use crate::steps::Desk;
 use std::alloc::Global;
 use std::marker::Model;
 
-/// A counter has at most so many workers.
+/// The most workers of a counter.
 pub const MOST_WORKERS: u16 = 64;
 
 /// By it workers draw the numbers of jobs, each number once. To draw one is a single atomic step.
@@ -40,8 +40,8 @@ impl Model for Counter {
 }
 
 impl Counter {
-    /// A counter for so many jobs, which are numbered from 0, and a claim for each worker, of 1 to
-    /// [`MOST_WORKERS`]. `Workers` says that there can't be so many workers; a refusal of memory leaves nothing.
+    /// A counter for `jobs` jobs, which are numbered from 0, and a claim for each worker, of 1 to
+    /// [`MOST_WORKERS`]. `Workers` says that there can't be that many workers; a refusal of memory leaves nothing.
     pub fn new(alloc: Global, jobs: u32, workers: u16) -> Result<(Counter, Vec<Claim>), RunFault>
         ensures taken { IfOk result (λ c. IsWorkerCount workers) }
         ensures refused { IfErr result (IsRunFault workers) }

@@ -64,9 +64,9 @@ pub fn lawful_records_have_lawful_histories()
     ensures { (r : RecordView) → IsLawfulRecord r → AreLawfulHistories r.namespace r.units }
 {}
 
-/// Each part of a lawful record that looked, or whose pair failed, is a call that stands at its point after any entries of which
+/// Each part of a lawful record that looked, or whose pair failed, is a call that is at its point after any entries of which
 /// those of its unit are its history up to that point. So in each order of all units' entries that keeps the order of each unit it has
-/// the answer that is recorded of it, at each place that has just the unit's entries of its point before it.
+/// the answer that is recorded of it, at each place that has exactly the unit's entries of its point before it.
 pub fn recorded_calls_stand_at_their_points()
     ensures stands { (r : RecordView) (unit k : ℕ) (history before : List HistoryEntry) (p : RecordedPart)
         → IsLawfulRecord r → IsAt r.units unit history → IsAt (parts_in_unit unit r.done) k p

@@ -1,4 +1,4 @@
-//! The rule of a counter's table, and what its steps tell.
+//! The rule of a counter's table, and what its steps report.
 ghost use Rattle.std.specs.Prelude.{[]};
 ghost use Rattle.nvm_run.specs.Inside.Rule.{IsRuled, no_numbers};
 ghost use Rattle.nvm_run.specs.Inside.Plays.{draws, first_of, others_of, together};

@@ -23,13 +23,13 @@ use std::alloc::Global;
 use std::sync::Wait;
 use std::thread::Threads;
 
-/// Does the jobs on a namespace of zero bytes by so many workers, 1 to 64, each on a thread of its own where one can be made, and
+/// Does the jobs on a namespace of zero bytes by `workers` workers, 1 to 64, each on a thread of its own where one can be made, and
 /// gives the record of the run, which owns the jobs. Each unit's history may have as many entries as the limit says.
 ///
-/// The gate is told by `before_jobs` how many there are. Each worker draws the number of the next job, does it by its own port, has
-/// the gate told by `after_job`, and goes on until no job is left. The record is lawful, and of just these jobs.
+/// The gate learns by `before_jobs` how many there are. Each worker draws the number of the next job, does it by its own port, has
+/// it reported to the gate by `after_job`, and goes on until no job is left. The record is lawful, and of exactly these jobs.
 ///
-/// `Workers` says that there can't be so many workers. `NoMemory` says that a growth outside a job was refused: all workers
+/// `Workers` says that there can't be that many workers. `NoMemory` says that a growth outside a job was refused: all workers
 /// have ended then, and what they did is lost. Either hands the jobs back, for another run. A job that finds no memory ends with
 /// 0/06, and is recorded so. It waits for the units.
 pub fn run<R: Threads + Wait + Sync, G: Gate + Sync>(
@@ -44,7 +44,7 @@ pub fn run<R: Threads + Wait + Sync, G: Gate + Sync>(
     requires few { length jobs.items ≤ most_jobs }
     requires fit { All (FitsNamespace geometry) jobs.items }
     requires known { All (λ job. HoldsBody Two job.body) jobs.items }
-    // The record is lawful, and of just these jobs.
+    // The record is lawful, and of exactly these jobs.
     ensures record { IfOk result (IsRecordOfRun geometry limit workers jobs.items) }
     // Each unit is a one-thread block store: its entries, and between them each part that looked or whose pair failed, are a run of
     // the step in which each has the answer that it got, each worker's in its order.
@@ -72,7 +72,7 @@ pub fn run<R: Threads + Wait + Sync, G: Gate + Sync>(
     })
 }
 
-/// Has so many workers do the jobs in a new space. Gives the histories with which its units end, and what each worker did.
+/// Has `workers` workers do the jobs in a new space. Gives the histories with which its units end, and what each worker did.
 fn done_by_workers<R: Threads + Wait + Sync, G: Gate + Sync>(
     rt: &R,
     alloc: Global,

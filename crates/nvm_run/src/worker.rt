@@ -25,7 +25,7 @@ pub struct Worker {
     pub done: Vec<DoneJob>,
 }
 
-/// Draws the number of the next job, does it by the port, tells the gate, and goes on until no job is left. The place in
+/// Draws the number of the next job, does it by the port, reports it to the gate, and goes on until no job is left. The place in
 /// the list of done jobs is reserved before a number is drawn, so a job that is drawn is recorded.
 pub(crate) fn work<R: Wait, G: Gate>(
     rt: &R,
@@ -84,7 +84,7 @@ fn do_job<R: Wait, G: Gate>(
     recorded(number, done)
 }
 
-/// What a record shows of the job of this number, of which this was told.
+/// What a record shows of the job of this number, for which this was answered.
 fn recorded(number: u32, done: JobDone) -> DoneJob
     ensures { result ≡ recorded_job number done }
 {

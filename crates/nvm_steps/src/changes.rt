@@ -11,7 +11,7 @@ use nvm_record::{BlockSize, NoMemory, Op};
 use nvm_trace::{Owner, Start, TracedJob};
 use std::alloc::Global;
 
-/// So many blocks, by the changes of their unit, are looked through for a mark. Where there are more, there may be one.
+/// The most blocks, by the changes of their unit, that are looked through for a mark. Where there are more, there may be one.
 const MOST: u64 = 1 << 20;
 
 /// A change of a unit's blocks by a piece of a command.

@@ -1,4 +1,4 @@
-//! Looks that failed: how a try deals with each, and in which of its units it is held to have failed. Which unit it was isn't told.
+//! Looks that failed: how a try deals with each, and in which of its units it is held to have failed. Which unit it was isn't known.
 use crate::changes::Changes;
 use crate::lbas::lbas_in;
 use crate::numbers::{Numbers, to_u32};
@@ -26,7 +26,7 @@ pub struct Failing {
 }
 
 impl Failing {
-    /// Of so many pieces, each is set aside. No unit was searched yet.
+    /// Of `pieces` pieces, each is set aside. No unit was searched yet.
     pub fn new(alloc: Global, geometry: &Geometry, pieces: usize) -> Result<Failing, NoMemory> {
         Ok(Failing {
             searched: Numbers::new(alloc, pieces, 0)?,

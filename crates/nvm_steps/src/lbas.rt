@@ -11,7 +11,7 @@ pub fn leading(body: &Body) -> &Command {
     }
 }
 
-/// The unit of a piece that is of just one, as its cut says.
+/// The unit of a piece that is of only one, as its cut says.
 pub fn unit_of_cut(geometry: &Geometry, owner: &Owner<'_>) -> Option<u16> {
     match owner.cut {
         Cut::Whole => None,

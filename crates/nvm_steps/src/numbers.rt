@@ -17,7 +17,7 @@ pub struct Numbers {
 }
 
 impl Numbers {
-    /// So many numbers, each this one.
+    /// `count` numbers, each this one.
     pub fn new(alloc: Global, count: usize, number: u32) -> Result<Numbers, NoMemory> {
         let items = vec![in alloc; number; count]?;
         Ok(Numbers { items })

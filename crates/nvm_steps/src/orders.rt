@@ -3,16 +3,16 @@ use nvm_record::NoMemory;
 use std::alloc::Global;
 use std::mem;
 
-/// What stands before what among some places, with all that follows.
+/// What comes before what among some places, with all that follows.
 #[derive(Drop)]
 pub struct Orders {
     after: Vec<PlaceSet>,
     before: Vec<PlaceSet>,
-    /// The places of which what stands after them changed, and what stands before them.
+    /// The places of which what comes after them changed, and what comes before them.
     changed: Changed,
 }
 
-/// Places of which what stands after them changed, and those of which what stands before them did.
+/// Places of which what comes after them changed, and those of which what comes before them did.
 #[derive(Drop)]
 pub struct Changed {
     pub after: PlaceSet,
@@ -34,7 +34,7 @@ fn add_to_each(
     }
 }
 
-/// For each place those whose `next` it is or stands behind.
+/// For each place those whose `next` it is or comes after.
 fn before_of(alloc: Global, next: &Vec<usize>) -> Result<Vec<PlaceSet>, NoMemory> {
     let mut ending = Vec::with_capacity(alloc, next.len())?;
     for _place in next {
@@ -57,7 +57,7 @@ fn before_of(alloc: Global, next: &Vec<usize>) -> Result<Vec<PlaceSet>, NoMemory
 }
 
 impl Orders {
-    /// Each place stands before those from its `next` on, of as many places as there are in `next`.
+    /// Each place comes before those from its `next` on, of as many places as there are in `next`.
     pub fn new(alloc: Global, next: &Vec<usize>) -> Result<Orders, NoMemory> {
         let places = next.len();
         let mut after = Vec::with_capacity(alloc, places)?;
@@ -83,17 +83,17 @@ impl Orders {
         Ok(mem::replace(&mut self.changed, none))
     }
 
-    /// What stands after the place.
+    /// What comes after the place.
     pub fn after(&self, place: usize) -> Option<&PlaceSet> {
         self.after.get(place)
     }
 
-    /// What stands before the place.
+    /// What comes before the place.
     pub fn before(&self, place: usize) -> Option<&PlaceSet> {
         self.before.get(place)
     }
 
-    /// Whether the one stands before the other.
+    /// Whether the one comes before the other.
     pub fn has(&self, earlier: usize, later: usize) -> bool {
         match self.after.get(earlier) {
             Some(laters) => laters.has(later),
@@ -101,7 +101,7 @@ impl Orders {
         }
     }
 
-    /// Notes that the one stands before the other, and what follows.
+    /// Notes that the one comes before the other, and what follows.
     pub fn note(&mut self, alloc: Global, earlier: usize, later: usize) -> Result<(), NoMemory> {
         if self.has(earlier, later) {
             return Ok(());

@@ -12,7 +12,7 @@ fn bit_of(place: usize) -> u64 {
     1 << (place % 64)
 }
 
-/// The bits of so many places, the first of a word.
+/// The bits of `places` places, the first of a word.
 fn first_bits(places: usize) -> u64 {
     if places < 64 {
         (1u64 << places).wrapping_sub(1)
@@ -22,7 +22,7 @@ fn first_bits(places: usize) -> u64 {
 }
 
 impl PlaceSet {
-    /// None of so many places.
+    /// None of `places` places.
     pub fn new(alloc: Global, places: usize) -> Result<PlaceSet, NoMemory> {
         let words = vec![in alloc; 0; places / 64 + 1]?;
         Ok(PlaceSet { words })

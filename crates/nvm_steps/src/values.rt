@@ -26,7 +26,7 @@ pub struct Values<'t> {
     /// The bytes of each value, from the first one of other bytes on, and their hashes.
     contents: Vec<&'t [u8]>,
     hashes: Vec<u64>,
-    /// Each value stands at the place that its hash leads to, or at the next one that was free. A power of 2 of places, or none.
+    /// Each value is at the place that its hash leads to, or at the next one that was free. A power of 2 of places, or none.
     table: Numbers,
 }
 
@@ -72,7 +72,7 @@ impl<'t> Values<'t> {
         Some(*bytes)
     }
 
-    /// The place of the table to which a hash leads, so many places on.
+    /// The place of the table to which a hash leads, `turn` places on.
     fn place_of(&self, hash: u64, turn: u32) -> u32 {
         let last = to_u32(self.table.len()).saturating_sub(1);
         ((hash >> 32) as u32).wrapping_add(turn) & last

@@ -5,7 +5,7 @@ use Rattle.std.proofs.lemmas.List.{drop_more, append_cancel_left}
 use Rattle.nvm_record.specs.declared.lba_range.LbaRange.{LbaRange}
 use Rattle.nvm_record.specs.Ranges.{cut_range, cut_ranges, data_of_ranges, range_at, range_bytes, range_count, ranges_of}
 
--- From each place on, the ranges that the data holds are the one there, and those behind.
+-- From each place on, the ranges that the data holds are the one there, and those after it.
 pub ranges_from : (payload : List ℕ) (i : ℕ) → length (ranges_of payload) ≡ range_count payload
     → ((d : LbaRange) → i < range_count payload → get_or (ranges_of payload) i d ≡ range_at payload i) → i < range_count payload
     → drop i (ranges_of payload) ≡ range_at payload i ∷ drop (i + 1) (ranges_of payload)

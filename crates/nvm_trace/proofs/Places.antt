@@ -1,4 +1,4 @@
--- What stands at a place of a list.
+-- What is at a place of a list.
 use Rattle.std.proofs.Common.{◌≡◌, ℕ, zero, suc, ◌<◌, List, [], ◌∷◌, length, map, filter, cond, Bool, true, false, get_or, Contains, refl, sym, ap, subst, ◌∙◌, inl, inr, arith}
 use Rattle.std.proofs.lemmas.List.Elements.{Contains-append_left, Contains-append_right, Contains-append_cases}
 use Rattle.std.specs.List.{flat_map}
@@ -27,7 +27,7 @@ module _ {A : Type 0} where
   pub one_there : (xs : List A) (i : ℕ) (x y : A) → IsAt xs i x → IsAt xs i y → x ≡ y
   one_there xs i x y e f = some-injective x y (sym e ∙ f)
 
-  -- what was read stands there
+  -- what was read is there
   pub stands_read : (xs : List A) (i : ℕ) (x : A) → i < length xs → x ≡ get_or xs i x → IsAt xs i x
   stands_read xs i x low is = subst (λ (y : A). IsAt xs i y) (sym is) (read_there xs i x low)
 

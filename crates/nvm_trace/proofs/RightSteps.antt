@@ -112,11 +112,11 @@ ended ns op parts told read shape i part at = elim shape.ending [
   ]
 ]
 
--- what is told of success, of a pair or else
+-- what is answered for success, of a pair or else
 abbrev success_for : Bool → Statuses
 success_for b = cond b (Two successful_completion successful_completion) (One successful_completion)
 
--- What was told of a part that was done is success.
+-- What was answered for a part that was done is success.
 told_success : (ns : Namespace) (op : Operation) (parts : List Part) (told : Statuses)
     → (IsPair op.deed → units_met ns op ≡ unit_number ns op.first ∷ []) → EndsAtLast ns op parts told
     → (i : ℕ) (part : Part) → IsAt parts i part → part.result ≡ Done → (b : Bool) → EndsAt b i (length parts)
@@ -142,7 +142,7 @@ is_done Looked is = absurd (cc is)
 is_done NoMemory is = absurd (cc is)
 is_done Full is = absurd (cc is)
 
--- what was told of a part is what the step gives
+-- what was answered for a part is what the step gives
 told_at : (size limit : ℕ) (history : List HistoryEntry) (op : Operation) (p : RecordedPart) (result : PartResult)
     → is_step result ≡ true → HasRightStatus size limit history op p result → (result ≡ Done → told_of p ≡ success_of op.deed)
     → told_of p ≡ statuses_of op (point size history p.part.point)

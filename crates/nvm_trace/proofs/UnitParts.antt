@@ -19,7 +19,7 @@ use Rattle.nvm_trace.proofs.ShownSteps.{IsShownPart}
 use Rattle.nvm_trace.proofs.Walk.{made_by, first_or_behind}
 
 module _ {A : Type 0} where
-  -- What passes a test stands among all.
+  -- What passes a test is among all.
   pub out_of_filter : (f : A → Bool) (xs : List A) (i : ℕ) (x : A) → IsAt (filter f xs) i x → (f x ≡ true) × (k : ℕ) × IsAt xs k x
   out_of_filter f [] i x at = absurd (none_stands i x at)
   out_of_filter f (y ∷ ys) i x at = by (λ j e. out_of_filter f ys j x e) (f y) refl i at
@@ -30,7 +30,7 @@ module _ {A : Type 0} where
       by behind true is (suc i) at = let rest = behind i at in (rest.0, suc rest.1, rest.2)
       by behind false is i at = let rest = behind i at in (rest.0, suc rest.1, rest.2)
 
--- This place is the last of so many, or it isn't.
+-- This place is the last of n, or it isn't.
 abbrev pub EndsAt : Bool → ℕ → ℕ → Type 0
 EndsAt true i n = n ≡ i + 1
 EndsAt false i n = i + 1 < n

@@ -104,7 +104,7 @@ module _ (ns : Namespace) (history : List HistoryEntry) where
   abbrev MakeRest : ℕ → List TakenStep → Type 0
   MakeRest n steps = (k : ℕ) → n ≤ k → k < length history → MakeEntry steps k
 
-  -- The first of the steps stands at the point that all of them come to.
+  -- The first of the steps is at the point that all of them come to.
   first_there : (n : ℕ) (s : TakenStep) (steps : List TakenStep) → All (NotAfter s) steps → n ≤ point_of s → point_of s ≤ length history
       → MakeRest n (s ∷ steps) → point_of s ≡ n
   first_there n s steps order from within rest = elim (cases_lt n (point_of s)) [
@@ -122,7 +122,7 @@ module _ (ns : Namespace) (history : List HistoryEntry) where
     | inr most ↦ omega (arith, from, most)
   ]
 
-  -- What comes after the step that made an entry is behind the entry.
+  -- What comes after the step that made an entry is past the entry.
   behind_entry : (n : ℕ) (s t : TakenStep) → made s ≡ true → point_of s ≡ n → NotAfter s t → MadeApart s t → n ≤ point_of t
       → n + 1 ≤ point_of t
   behind_entry n s t is at order apart from = by (made t) refl

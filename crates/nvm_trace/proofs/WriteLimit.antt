@@ -1,4 +1,4 @@
--- A write is cut just where it isn't within the advertised limits.
+-- A write is cut exactly where it isn't within the advertised limits.
 use Rattle.std.proofs.Common.{◌≡◌, ℕ, ◌+◌, ◌-◌, ◌↔◌, Bool, true, false, not, IsTrue, refl, sym, inl, inr}
 use Rattle.std.proofs.lemmas.Bool.{cases_Bool, not-false, or_parts, or_from, not_from_true, ltb-false, le-ltb, eqb-true, eq-eqb}
 use Rattle.nvm_geometry.specs.Namespace.{Namespace}

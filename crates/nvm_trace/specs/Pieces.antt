@@ -1,10 +1,10 @@
 -- The pieces of a trace's commands: what a record that explains the trace has as its jobs. NVM Command Set Specification,
 -- "Atomic Operation" and "Atomic Boundaries": a write is kept whole up to NAWUN + 1 blocks and within a boundary. Of one that
 -- is longer or crosses a boundary the standard keeps each block, and nothing more. A Read or a Compare that succeeded may
--- have found each block at a moment of its own, where the trace says so. One that failed stands as it is: a block that made it fail
+-- have found each block at a moment of its own, where the trace says so. One that failed stays whole: a block that made it fail
 -- at some moment makes all of it fail then. And a fused pair is never cut: above its limit it is refused.
 -- "Dataset Management" and "Atomic Operation" promise nothing of several atomic units together. So a command that writes, of
--- which the reply leaves open what was done, may have been done in any of its units and not in the others: it stands in the
+-- which the reply leaves open what was done, may have been done in any of its units and not in the others: it is in the
 -- record once for each unit that it meets.
 use Rattle.std.specs.Prelude.{ℕ, ◌+◌, ◌-◌, nat_lt, if◌then◌else◌, length, Bool, true, false, ◌&&◌, ◌||◌, List, [], ◌∷◌, map, Option, Some, None}
 use Rattle.std.specs.List.{flat_map, range_with_len}
@@ -77,7 +77,7 @@ cuts_of_body judging ns reads j (Single c) =
     if is_write c.op && leaves_open ns j then by_units (job_units ns j.job) else Whole ∷ []
 cuts_of_body judging ns reads j (Pair c d) = Whole ∷ []
 
--- A job that a check refuses does nothing, and stands as it is.
+-- A job that a check refuses does nothing, and stays whole.
 abbrev pub cuts_by : Option Statuses → Judging → Namespace → Reads → TracedJob → List Cut
 cuts_by (Some refusal) judging ns reads j = Whole ∷ []
 cuts_by None judging ns reads j = cuts_of_body judging ns reads j j.job.body
@@ -116,7 +116,7 @@ block_of size c k = record c { slba = c.slba + k; nlb = 0; payload = data_part s
 abbrev pub lbas_in : Namespace → Command → ℕ → LbasInUnit
 lbas_in ns c unit = if carries_ranges c.op then piece_in ns 0 ns.nsze unit else piece_in ns c.slba (c.nlb + 1) unit
 
--- the command on just these LBAs: with its ranges cut to them, in their order and without those of which no block is left, or with
+-- the command on exactly these LBAs: with its ranges cut to them, in their order and without those of which no block is left, or with
 -- their data
 abbrev pub command_on : ℕ → Command → LbasInUnit → Command
 command_on size c on =
@@ -142,7 +142,7 @@ job_at ns job (InUnit unit) = record job { body = part_of_body ns job.body unit 
 abbrev pub job_of : Namespace → Piece → Job
 job_of ns p = job_at ns p.whole.job p.cut
 
--- its data, of what came back; none comes of a command that stands in the record by units
+-- its data, of what came back; none comes of a command that is in the record by units
 abbrev pub data_at : ℕ → Cut → Option (List ℕ) → Option (List ℕ)
 data_at size Whole bytes = bytes
 data_at size (Block k) None = None

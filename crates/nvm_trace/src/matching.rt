@@ -53,7 +53,7 @@ fn same_job(job: &Job, other: &Job) -> bool
     job.host == other.host && same_body(&job.body, &other.body)
 }
 
-/// Whether it is just this block of the body's command.
+/// Whether it is exactly this block of the body's command.
 fn is_block_of(body: &Body, size: BlockSize, whole: &Body, k: u32) -> bool
     ensures { IsTrue result ↔ (body.now ≡ block_of_body size whole.now k) }
 {
@@ -66,7 +66,7 @@ fn is_block_of(body: &Body, size: BlockSize, whole: &Body, k: u32) -> bool
     }
 }
 
-/// Whether it is just the part in this unit of the body's command.
+/// Whether it is exactly the part in this unit of the body's command.
 fn is_part_of(body: &Body, geometry: &Geometry, whole: &Body, unit: u16) -> bool
     requires { HasBodyIn geometry.now whole.now unit }
     ensures { IsTrue result ↔ (body.now ≡ part_of_body geometry.now whole.now unit) }

@@ -122,14 +122,14 @@ fn exceeds_write_limit(geometry: Geometry, slba: u64, blocks: u32) -> bool
     !geometry.within_write_limit(slba, blocks)
 }
 
-/// Whether the LBA is so many after the first.
+/// Whether the LBA is `blocks` after the first.
 fn is_after(lba: u64, first: u64, blocks: u32) -> bool
     ensures { IsTrue result ↔ (lba ≡ first + blocks) }
 {
     lba >= first && lba - first == u64::from(blocks)
 }
 
-/// The data of so many blocks, after that of those skipped.
+/// The data of `blocks` blocks, after that of those skipped.
 fn blocks_data(bytes: &[u8], size: BlockSize, skipped: u32, blocks: u32) -> &[u8]
     ensures { result.now ≡ data_part size skipped blocks bytes.now }
 {
@@ -146,7 +146,7 @@ pub(crate) fn block_data(bytes: &[u8], size: BlockSize, k: u32) -> &[u8]
     blocks_data(bytes, size, k, 1)
 }
 
-/// Whether it is just this block of the command.
+/// Whether it is exactly this block of the command.
 pub(crate) fn is_block(block: &Command, size: BlockSize, command: &Command, k: u32) -> bool
     ensures { IsTrue result ↔ (block.now ≡ block_of size command.now k) }
 {
@@ -201,7 +201,7 @@ fn has_blocks(nlb: u16, blocks: u32) -> bool
     u32::from(nlb) + 1 == blocks
 }
 
-/// Whether it is the command on just these of its LBAs.
+/// Whether it is the command on exactly these of its LBAs.
 fn is_on_range(part: &Command, size: BlockSize, command: &Command, on: Piece) -> bool
     requires kind { carries_ranges command.now.op ≡ false }
     requires some { 0 < on.blocks }
@@ -220,7 +220,7 @@ fn is_on_range(part: &Command, size: BlockSize, command: &Command, on: Piece) ->
             == blocks_data(command.payload.as_slice(), size, skipped, on.blocks)
 }
 
-/// Whether it is the command on just these LBAs.
+/// Whether it is the command on exactly these LBAs.
 fn is_on_ranges(part: &Command, size: BlockSize, command: &Command, on: Piece) -> bool
     requires kind { carries_ranges command.now.op ≡ true }
     ensures { IsTrue result ↔ (part.now ≡ command_on size command.now on) }

@@ -17,7 +17,7 @@ use nvm_plan::job_units;
 use nvm_record::NoMemory;
 use std::alloc::{AllocError, Global};
 
-/// Puts a piece at the end, where there are fewer than so many.
+/// Puts a piece at the end, where there are fewer than `most`.
 fn put_piece<'a>(owners: &mut Vec<Owner<'a>>, most: usize, owner: Owner<'a>) -> Result<(), NoMemory>
     ensures { (ps : List Piece) → map (λ o. piece o.whole.now o.cut) owners.old.items ≡ take most ps
         → OnOk result (map (λ o. piece o.whole.now o.cut) owners.new.items
@@ -29,7 +29,7 @@ fn put_piece<'a>(owners: &mut Vec<Owner<'a>>, most: usize, owner: Owner<'a>) -> 
     Ok(())
 }
 
-/// Puts each block of the command at the end, up to so many pieces.
+/// Puts each block of the command at the end, up to `most` pieces.
 fn put_blocks<'a>(
     owners: &mut Vec<Owner<'a>>,
     most: usize,
@@ -50,7 +50,7 @@ fn put_blocks<'a>(
     Ok(())
 }
 
-/// Puts the command's part in each of its units at the end, up to so many pieces.
+/// Puts the command's part in each of its units at the end, up to `most` pieces.
 fn put_units<'a>(
     owners: &mut Vec<Owner<'a>>,
     most: usize,
@@ -71,7 +71,7 @@ fn put_units<'a>(
     Ok(())
 }
 
-/// Puts the pieces of the command at the end, up to so many pieces.
+/// Puts the pieces of the command at the end, up to `most` pieces.
 fn put_pieces<'a>(
     owners: &mut Vec<Owner<'a>>,
     most: usize,
@@ -97,8 +97,8 @@ fn put_pieces<'a>(
     }
 }
 
-/// The first pieces of a trace's commands, at most so many, each at the place of its number: what a record that explains the trace
-/// has as its jobs there. The time is linear in the trace and in the number.
+/// The first pieces of a trace's commands, at most `most`, each at the place of its number: what a record that explains the trace
+/// has as its jobs there. The time is linear in the trace and in `most`.
 pub fn first_pieces<'a>(
     alloc: Global,
     judging: Judging,
@@ -136,7 +136,7 @@ pub fn traced_pieces<'a>(
     if owners.len() < usize::MAX {
         Ok(owners)
     } else {
-        // No memory holds so many.
+        // No memory holds that many.
         Err(AllocError)
     }
 }

@@ -5,7 +5,7 @@ use nvm_record::NoMemory;
 use nvm_store::History;
 use std::alloc::Global;
 
-/// A row of zeroes with a place for each level of a history of so many entries.
+/// A row of zeroes with a place for each level of a history of `entries` entries.
 fn empty_row(alloc: Global, entries: usize) -> Result<Vec<u64>, NoMemory>
     requires { entries ≤ 4194304 }
     ensures { IfOk result (λ row. row.items ≡ replicate (2 * entries + 1) 0) }

@@ -3,7 +3,7 @@ use Rattle.std.specs.Prelude.{ℕ, ◌+◌, ◌*◌, ◌==◌, ◌&&◌, ◌||�
 use Rattle.nvm_where.specs.Numbers.{number}
 use Rattle.nvm_where.specs.declared.layout.Layout.{Layout}
 
--- the blocks of a command with this entry, each of so many bytes
+-- the blocks of a command with this entry, each of `block` bytes
 unfoldable pub blocks_length : ℕ → List ℕ → ℕ
 blocks_length block entry = (number 2 (drop 48 entry) + 1) * block
 
@@ -24,7 +24,7 @@ job_length layout job =
     then second_command layout job + (64 + data_length layout (drop (second_command layout job) job))
     else second_command layout job
 
--- the data of a Read with this entry, behind this flag
+-- the data of a Read with this entry, after this flag
 unfoldable pub answer_length : ℕ → List ℕ → List ℕ → ℕ
 answer_length block entry flag = if number 1 (drop 0 flag) == 1 then blocks_length block entry else 0
 

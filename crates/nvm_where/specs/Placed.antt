@@ -20,7 +20,7 @@ namespace_in bytes =
     namespace_of (number 8 (drop 4 bytes)) (number 4 (drop 12 bytes)) (number 2 (drop 16 bytes)) (number 2 (drop 18 bytes))
     (number 2 (drop 20 bytes)) (number 2 (drop 22 bytes))
 
--- So many units has the namespace, where it is one.
+-- The namespace has `units` units, where it is one.
 abbrev pub IsUnitCount : List ℕ → ℕ → Type 0
 IsUnitCount bytes units = HasNoFault (namespace_in bytes) → units ≡ units_of (namespace_in bytes)
 
@@ -66,7 +66,7 @@ IsPlacedAmongWorkers layout bytes starts first at found =
     MatchOption found (end_of_workers layout bytes starts first ≤ at)
     (λ place. LiesAmongWorkers layout bytes starts first at place.piece place.begins)
 
--- where the workers begin behind histories that begin at `first`
+-- where the workers begin after histories that begin at `first`
 abbrev pub end_of_histories : Layout → List ℕ → List ℕ → ℕ → ℕ
 end_of_histories layout bytes starts first = row_begins (length_in Entries bytes layout starts) bytes first layout.units
 

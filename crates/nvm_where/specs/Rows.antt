@@ -25,7 +25,7 @@ unfoldable pub piece_begins : (List ℕ → ℕ) → List ℕ → ℕ → ℕ �
 piece_begins long bytes first zero = first
 piece_begins long bytes first (suc n) = piece_begins long bytes first n + long (drop (piece_begins long bytes first n) bytes)
 
--- where so many pieces begin
+-- where the first n pieces begin
 unfoldable pub begins_of : (List ℕ → ℕ) → List ℕ → ℕ → ℕ → List ℕ
 begins_of long bytes first zero = []
 begins_of long bytes first (suc n) = begins_of long bytes first n ++ piece_begins long bytes first n ∷ []
@@ -35,7 +35,7 @@ pub record LiesInPiece (long : List ℕ → ℕ) (bytes : List ℕ) (first numbe
   pub from : piece_begins long bytes first number ≤ at
   pub before : at < piece_begins long bytes first (suc number)
 
--- What is found in a row of so many pieces: the piece in which the offset lies, or that the row ends at most there.
+-- What is found in a row of `count` pieces: the piece in which the offset lies, or that the row ends at most there.
 abbrev pub IsFound : (List ℕ → ℕ) → List ℕ → ℕ → ℕ → ℕ → Found → Type 0
 IsFound long bytes first count at (Here n begins) =
     (n < count) × (begins ≡ piece_begins long bytes first n) × LiesInPiece long bytes first n at
@@ -58,7 +58,7 @@ pub record LiesInCount (long : List ℕ → ℕ) (bytes : List ℕ) (first numbe
   pub from : row_begins long bytes first number ≤ at
   pub before : at < row_begins long bytes first number + 4
 
--- What is found in so many rows: the number of a row's pieces, a piece of a row, or that the last row ends at most there.
+-- What is found in `rows` rows: the number of a row's pieces, a piece of a row, or that the last row ends at most there.
 abbrev pub IsFoundInRows : (List ℕ → ℕ) → List ℕ → ℕ → ℕ → ℕ → FoundInRows → Type 0
 IsFoundInRows long bytes first rows at (among.Count n begins) =
     (n < rows) × (begins ≡ row_begins long bytes first n) × LiesInCount long bytes first n at

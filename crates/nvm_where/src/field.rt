@@ -7,7 +7,7 @@ use std::alloc::{AllocError, Global};
 /// The kind of an entry of a Deallocate.
 const DEALLOCATE: u8 = 5;
 
-/// A field of what stands before the jobs of a record, of which the first begins at `first`.
+/// A field of what comes before the jobs of a record, of which the first begins at `first`.
 pub(crate) fn field_of_record_head(first: usize, at: usize) -> &'static str {
     if at < 4 {
         "the name"
@@ -22,7 +22,7 @@ pub(crate) fn field_of_record_head(first: usize, at: usize) -> &'static str {
     }
 }
 
-/// A field of what stands before the jobs of a trace.
+/// A field of what comes before the jobs of a trace.
 pub(crate) fn field_of_trace_head(at: usize) -> &'static str {
     match at {
         0..4 => "the name",

@@ -8,7 +8,7 @@ use nvm_geometry::Geometry;
 /// What the head of a record or of a trace says of its pieces.
 #[derive(Clone, Copy)]
 pub(crate) struct Layout {
-    /// A block has so many bytes: the lower half of the head's number, which is at most 4,096.
+    /// The bytes of a block: the lower half of the head's number, which is at most 4,096.
     pub block: u16,
     /// Whether ranges follow the entry of opcode 09h.
     pub ranges: bool,

@@ -1,4 +1,4 @@
-//! How long pieces are, by what stands in them.
+//! How long pieces are, by what is in them.
 ghost use Rattle.std.specs.Prelude.{◌≡◌, ◌<◌, ◌^◌, drop};
 ghost use Rattle.nvm_where.specs.Lengths as spec;
 
@@ -47,7 +47,7 @@ pub(crate) fn job_length(layout: &Layout, job: &[u8]) -> usize
     }
 }
 
-/// The data of a Read, behind the flag which begins here; `entry` is that of its command.
+/// The data of a Read, after the flag which begins here; `entry` is that of its command.
 #[tactic(auto, unfolding(crate::specs::Lengths::answer_length))]
 fn answer_length(block: u16, entry: &[u8], flag: &[u8]) -> usize
     ensures value { result ≡ spec.answer_length block entry.now flag.now }

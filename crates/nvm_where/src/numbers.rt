@@ -4,7 +4,7 @@ ghost use Rattle.nvm_where.specs.Numbers.{number};
 
 use byteorder::{ByteOrder, LittleEndian};
 
-/// The bytes from an offset on; none where it is behind their end.
+/// The bytes from an offset on; none where it is past their end.
 pub(crate) fn behind(bytes: &[u8], at: usize) -> &[u8]
     ensures { result.now ≡ drop at bytes.now }
 {

@@ -1,7 +1,7 @@
 /// A piece of a record, a trace or an argument. All numbers count from 0.
 #[derive(Clone, Copy, Debug, PartialEq, Eq)]
 pub enum Piece {
-    /// What stands before the jobs of a record or a trace, or before the facts of an argument.
+    /// What comes before the jobs of a record or a trace, or before the facts of an argument.
     Head,
     /// A job of a record or of a trace, where with its times and what came back.
     Job { number: u64 },

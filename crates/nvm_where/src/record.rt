@@ -9,8 +9,9 @@ use crate::table::find_job;
 use nvm_record::NoMemory;
 use std::alloc::Global;
 
-/// Where in a record with these bytes an offset lies, or `None` where it is at or behind the record's end. The piece is found from the lengths
-/// of those before it, as far as these are what a record may have: so the offset of a reader's first fault lies in the piece that is answered.
+/// Where in a record with these bytes an offset lies, or `None` where it is at or past the record's end. The piece is found from the
+/// lengths of those before it, as far as these are what a record may have: so the offset of a reader's first fault lies in the piece
+/// that is answered.
 ///
 /// It is one pass over the pieces up to the offset, and takes 8 bytes of memory for each job. `NoMemory` is answered where a growth was refused.
 pub fn place_in_record(alloc: Global, bytes: &[u8], at: u64) -> Result<Option<Place>, NoMemory>

@@ -1,4 +1,4 @@
-//! Pieces that stand one after the other.
+//! Pieces that come one after the other.
 ghost use Rattle.std.specs.Prelude.{◌≡◌, ◌<◌, ◌≤◌, ◌^◌, length};
 ghost use Rattle.nvm_where.specs.Rows.{IsFound, IsFoundInRows, length_in};
 
@@ -7,7 +7,7 @@ use crate::layout::Layout;
 use crate::lengths::{done_length, entry_length, fact_length, traced_length};
 use crate::numbers::{behind, u32_at};
 
-/// What stands in a row.
+/// What is in a row.
 #[derive(Clone, Copy)]
 pub(crate) enum Row {
     /// Jobs of a trace.
@@ -64,7 +64,7 @@ pub(crate) fn find(
     Found::Behind { end: begins }
 }
 
-/// Looks for an offset in so many rows, of which the first begins at `first`. Each has the number of its pieces, and then the pieces.
+/// Looks for an offset in `rows` rows, of which the first begins at `first`. Each has the number of its pieces, and then the pieces.
 #[tactic(auto, using(crate::proofs::RowLoops::one_row_more), unfolding(crate::specs::Rows::row_begins))]
 pub(crate) fn find_in_rows(
     row: Row,

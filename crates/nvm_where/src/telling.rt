@@ -12,7 +12,7 @@ use crate::trace::{place_in_argument, place_in_trace};
 use nvm_record::NoMemory;
 use std::alloc::Global;
 
-/// What field stands at an offset of a record, a trace or an argument, by the name with which the bytes begin, as in `it is the kind of entry 3
+/// What field is at an offset of a record, a trace or an argument, by the name with which the bytes begin, as in `it is the kind of entry 3
 /// of unit 5`. `None` where nothing is known of the offset, or of the name.
 pub fn field_told(alloc: Global, bytes: &[u8], at: u64) -> Result<Option<String>, NoMemory> {
     let told = if bytes.starts_with(b"NVR") {
@@ -70,7 +70,7 @@ fn told_of_record(
     }
 }
 
-/// Where the job of this number begins in a record, or behind its last job.
+/// Where the job of this number begins in a record, or after its last job.
 fn start_of_job(bytes: &[u8], layout: &Layout, number: u32) -> usize {
     let mut begins = layout.first;
     for _ in 0..number.min(layout.jobs) {

@@ -1,4 +1,4 @@
--- All lines of a list that are no commands. One of them counts as no command: what stands behind it is read as if it weren't there.
+-- All lines of a list that are no commands. One of them counts as no command: what comes after it is read as if it weren't there.
 use Rattle.std.specs.Prelude.{◌≡◌, ℕ, ◌+◌, List, [], ◌∷◌, Result, Ok, Err}
 use Rattle.nvm_record.specs.declared.command.Command.{Command}
 use Rattle.nvm_list.specs.Words.{text_lines, words}
@@ -14,7 +14,7 @@ abbrev pub said_by : Result Command Expected → SaidLine
 said_by (Ok c) = saying.Command
 said_by (Err expected) = saying.Wrong expected
 
--- what a line says that has these words, where its command would stand at this place
+-- what a line says that has these words, where its command would be at this place
 abbrev pub said_on : ℕ → ℕ → List (List ℕ) → SaidLine
 said_on size place [] = saying.Nothing
 said_on size place (word ∷ words) = said_by (command_at size place (word ∷ words))
@@ -22,13 +22,13 @@ said_on size place (word ∷ words) = said_by (command_at size place (word ∷ w
 abbrev pub wrong_line : ℕ → Expected → WrongLine
 wrong_line line expected = record { line = line; expected = expected }
 
--- The line, if it is wrong, and then the wrong ones behind it, where the next command stands at the place that is given.
+-- The line, if it is wrong, and then the wrong ones after it, where the next command is at the place that is given.
 abbrev pub followed_by : SaidLine → ℕ → ℕ → (ℕ → List WrongLine) → List WrongLine
 followed_by saying.Nothing line place behind = behind place
 followed_by saying.Command line place behind = behind (place + 1)
 followed_by (saying.Wrong expected) line place behind = wrong_line line expected ∷ behind place
 
--- the wrong ones of lines, of which the first is line `line` and its command stands at place `place`
+-- the wrong ones of lines, of which the first is line `line` and its command is at place `place`
 abbrev pub wrong_from : ℕ → ℕ → ℕ → List (List ℕ) → List WrongLine
 wrong_from size line place [] = []
 wrong_from size line place (text ∷ texts) =

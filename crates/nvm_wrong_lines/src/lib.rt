@@ -1,7 +1,7 @@
 //! All lines of a command list that are no commands, each with what was expected in it.
 //!
-//! [`nvm_list`] reads lists, and answers the first wrong line in place of commands. [`wrong_lines`] goes on behind it. A wrong line counts as
-//! no command, and the lines behind it are read as if it weren't there.
+//! [`nvm_list`] reads lists, and answers the first wrong line in place of commands. [`wrong_lines`] goes on after it. A wrong line counts
+//! as no command, and the lines after it are read as if it weren't there.
 #![tactic(auto)]
 
 mod reading;

@@ -43,7 +43,7 @@ fn wrong_from(alloc: Global, text: &[u8], size: BlockSize) -> Result<Vec<WrongLi
     Ok(wrong)
 }
 
-/// What a line says behind so many commands.
+/// What a line says after `before` commands.
 fn said_on(alloc: Global, text: &[u8], before: usize, size: BlockSize) -> Result<SaidLine, NoMemory>
     ensures { IfOk result (λ said. said ≡ spec.said_on size (before + 1) (words text.now)) }
 {

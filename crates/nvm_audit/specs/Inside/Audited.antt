@@ -38,7 +38,7 @@ view_of_shown u =
       parts = u.parts.now.items;
     }
 
--- The entry names a job, and changes blocks of just this unit.
+-- The entry names a job, and changes blocks of this unit alone.
 pub record IsKnownEntry (u : UnitView) (entry : HistoryEntry) : Type 0 where
   pub job : entry.job < length u.jobs
   pub act : IsAct entry.operation.deed
@@ -67,7 +67,7 @@ pub record IsKnownUnit (u : UnitView) : Type 0 where
 abbrev pub EndedRight : UnitView → RecordedPart → Type 0
 EndedRight u p = p.part.result ≢ Done → HasItsStatus u p
 
--- It is just what is found of the part at its point.
+-- It is exactly what is found of the part at its point.
 abbrev pub IsJudged : UnitView → RecordedPart → Finding → Type 0
 IsJudged u p Right = EndedRight u p × HasItsData u p
 IsJudged u p StatusWrong = (p.part.result ≢ Done) × (¬ (HasItsStatus u p))
@@ -84,7 +84,7 @@ pub record IsLastAt (parts : List RecordedPart) (n count at : ℕ) : Type 0 wher
   pub there : (k : ℕ) (p : RecordedPart) → at ≡ k + 1 → IsAt parts k p → p.part.point ≡ n
   pub last : (k : ℕ) (p : RecordedPart) → at ≤ k → k < count → IsAt parts k p → p.part.point ≢ n
 
--- For each point of a history of so many entries the last part there, and for each such part the one before it at its point.
+-- For each point of a history of `entries` entries the last part there, and for each such part the one before it at its point.
 pub record AreByPoint (entries : ℕ) (parts : List RecordedPart) (last before : List ℕ) : Type 0 where
   pub points : length last ≡ entries + 1
   pub numbers : length before ≡ length parts
@@ -92,7 +92,7 @@ pub record AreByPoint (entries : ℕ) (parts : List RecordedPart) (last before :
   pub earlier : (k at : ℕ) (p : RecordedPart) → IsAt before k at → IsAt parts k p → p.part.point ≤ entries
       → IsLastAt parts p.part.point k at
 
--- The parts with this point are judged from the last one down to that before which `at` parts stand; those with lower points are.
+-- The parts with this point are judged from the last one down to that before which there are `at` parts; those with lower points are.
 pub record IsJudgedDownTo (u : UnitView) (n at : ℕ) (findings : List Finding) : Type 0 where
   pub long : length findings ≡ length u.parts
   pub within : at ≤ length u.parts

@@ -11,7 +11,7 @@ use Rattle.nvm_audit.specs.declared.judging.Finding.{Finding}
 use Rattle.nvm_audit.specs.declared.judging.Finding.TheVariants.{Right, StatusWrong, DataWrong}
 use Rattle.nvm_audit.specs.RecordedPart.{RecordedPart, told_of}
 
--- A part that ended so, of an act or of a look, may have done so where the step gives these statuses and this was told. Of one
+-- A part that ended so, of an act or of a look, may have done so where the step gives these statuses and this was answered. Of one
 -- that was done nothing is asked: its entry is judged.
 abbrev pub MayEnd : Bool → ℕ → ℕ → Statuses → Statuses → PartResult → Type 0
 MayEnd act limit n told given Done = Unit {0}
@@ -28,7 +28,7 @@ EndsRight limit op m p Looked = told_of p ≡ statuses_of op m
 EndsRight limit op m p NoMemory = IsAct op.deed → IsSuccess (statuses_of op m) × (p.part.point < limit)
 EndsRight limit op m p Full = IsSuccess (statuses_of op m) × (p.part.point ≡ limit)
 
--- The finding is just so, where this is asked of the status and that of the data.
+-- The finding is exactly this, where this is asked of the status and that of the data.
 abbrev pub IsFound : Finding → Type 0 → Type 0 → Type 0
 IsFound Right status payload = status × payload
 IsFound StatusWrong status payload = ¬ status

@@ -30,12 +30,12 @@ pub record IsCounted (done : List (List RecordedJob)) (found : List Occurrence) 
   pub its : IsAt found number occurrence
   pub is : IsOccurrence done number times occurrence
 
--- It was found how often each of so many jobs was done.
+-- It was found how often each job below `jobs` was done.
 pub record AreCounted (jobs : ℕ) (done : List (List RecordedJob)) (found : List Occurrence) : Type 0 where
   pub long : length found ≡ jobs
   pub each : (number : ℕ) → number < jobs → IsCounted done found number (times_done number done)
 
--- Each done job is of one of so many jobs.
+-- Each done job is of a job below `jobs`.
 abbrev pub AreOfJobs : ℕ → List (List RecordedJob) → Type 0
 AreOfJobs jobs done =
     (worker : ℕ) (work : List RecordedJob) (place : ℕ) (d : RecordedJob) → IsAt done worker work → IsAt work place d
@@ -47,6 +47,6 @@ HasShapeOnce ns job Never = Unit {0}
 HasShapeOnce ns job (Once d) = HasOutcomeShape ns job d.now.parts d.now.statuses d.now.payload
 HasShapeOnce ns job Often = Unit {0}
 
--- a unit's history has at most so many entries, whatever its limit
+-- the most entries of a unit's history, whatever its limit
 abbrev pub most_entries : ℕ
 most_entries = 4194304

@@ -42,7 +42,7 @@ impl Board {
         self.guess_fresh(unit, guess.fresh, &mut guessed)
     }
 
-    /// Guesses the first contents of blocks of which a step told what it found.
+    /// Guesses the first contents of blocks of which a step says what it found.
     fn guess_found(
         &mut self,
         alloc: Global,

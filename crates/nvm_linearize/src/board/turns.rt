@@ -6,10 +6,10 @@ use nvm_record::NoMemory;
 use nvm_steps::Numbers;
 use std::alloc::Global;
 
-/// Which versions of each block are still to be put, in the order of the times at which they are due. Only those are told apart that
-/// just one step puts.
+/// Which versions of each block are still to be put, in the order of the times at which they are due. Only those are distinguished that
+/// exactly one step puts.
 ///
-/// All versions stand in one line, block by block. Before a block's versions there stands one place for the block itself.
+/// All versions are in one line, block by block. Before a block's versions there is one place for the block itself.
 #[derive(Debug, Drop)]
 pub struct VersionTurns {
     /// Of each of these versions, its place in the line.

@@ -6,7 +6,7 @@ use std::alloc::Global;
 pub const NONE: u32 = u32::MAX;
 
 /// The blocks and the versions of a unit's cells. A version is a block with one of the values that steps found or put there. The versions
-/// of a block stand side by side, by their values.
+/// of a block are side by side, by their values.
 #[derive(Debug, Drop)]
 pub struct Versions {
     /// The block of each cell, counted from 0.

@@ -50,7 +50,7 @@ impl<'u> Search<'u> {
             && !self.is_too_soon(step)
     }
 
-    /// Where the deadlines from the latest beginning of a step in order on stand.
+    /// Where the deadlines begin that aren't before the latest beginning of a step in order.
     fn first_deadline(&self) -> usize {
         let latest = self.latest;
         self.deadlines

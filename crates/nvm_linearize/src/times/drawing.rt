@@ -118,7 +118,7 @@ impl Times {
         Ok(changed)
     }
 
-    /// Has the step of each version of a block come after all of the versions that stand before it. The zones come by `low`.
+    /// Has the step of each version of a block come after all of the versions that come before it. The zones come by `low`.
     fn draw_from(&mut self, zones: &[Zone], ends: &[End]) -> bool {
         let mut changed = false;
         let mut before = Two::none(0);
@@ -140,7 +140,7 @@ impl Times {
         changed
     }
 
-    /// Has all steps of each version of a block come before the steps of the versions that stand after it, and notes when they are due. The
+    /// Has all steps of each version of a block come before the steps of the versions that come after it, and notes when they are due. The
     /// zones come by `low`.
     fn draw_due(&mut self, zones: &[Zone], ends: &[End], dues: &mut Moments) -> bool {
         let mut changed = false;

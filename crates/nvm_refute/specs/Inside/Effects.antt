@@ -5,7 +5,7 @@ use Rattle.nvm_record.specs.declared.block.Block.TheVariants.{Bytes}
 use Rattle.nvm_refute.specs.declared.effect.Effect.{Effect}
 use Rattle.nvm_refute.specs.declared.effect.Effect.TheVariants.{Nothing, These, Other}
 
--- It puts nothing, just these bytes, or something else.
+-- It puts nothing, exactly these bytes, or something else.
 abbrev pub IsEffect : Option Block → List ℕ → Effect → Type 0
 IsEffect put bytes Nothing = put ≡ None
 IsEffect put bytes These = put ≡ Some (Bytes bytes)

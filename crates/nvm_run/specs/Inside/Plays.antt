@@ -1,4 +1,4 @@
--- What each atomic step tells the seat that makes it.
+-- What each atomic step says to the seat that makes it.
 use Rattle.std.specs.Prelude.{◌≡◌, ℕ, ◌<◌, List, [], ◌∷◌, ◌++◌, take, drop, All}
 use Rattle.atomic_table.specs.Table.{Me, Step}
 
@@ -19,7 +19,7 @@ HasDrawn n m m' =
 abbrev pub draws : Step (Unit {0}) → Sits → ℕ → Sits → Type 0
 draws step m n m' = HasDrawn n m m'
 
--- how workers are told apart: the first stays
+-- how workers are distinguished: the first stays
 abbrev pub first_of : List (List ℕ) → List (List ℕ)
 first_of lists = take 1 lists
 

@@ -12,7 +12,7 @@ total h groups = sum_by (sum_by h) groups
 abbrev pub past : ℕ → List ℕ → ℕ
 past jobs drawn = count_by (λ x. leb jobs x) drawn
 
--- Draws led to this word and to these lists, wherever they stand: whatever is counted of each list is the same.
+-- Draws led to this word and to these lists, wherever they are: whatever is counted of each list is the same.
 abbrev pub HasComeTo : Bounds → ℕ → List (List (List ℕ)) → Type 0
 HasComeTo b word groups =
     (s : ClaimState) × IsReached b.jobs b.workers s × (s.word ≡ word) × ((h : List ℕ → ℕ) → sum_by h s.lists ≡ total h groups)

@@ -11,7 +11,7 @@ use Rattle.nvm_space.specs.Trace.{PartDone}
 use Rattle.nvm_audit.specs.RecordedPart.{RecordedPart, told_of}
 use Rattle.nvm_audit.specs.Resting.{DoesOperation, data_in}
 
--- The recorded part is the part that was done: its job's part in its unit, by the job's operation, with what was told of it; and
+-- The recorded part is the part that was done: its job's part in its unit, by the job's operation, with what was answered for it; and
 -- where the job's data is recorded, what it read is those bytes that are of its unit.
 pub record Shows (ns : Namespace) (jobs : List Job) (p : RecordedPart) (did : PartDone) : Type 0 where
   pub job : Job

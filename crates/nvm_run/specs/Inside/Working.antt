@@ -26,7 +26,7 @@ abbrev pub payload_in : Completions → Option (List ℕ)
 payload_in (One completion) = completion.payload
 payload_in (Two first second) = None
 
--- what a record shows of the job of this number, of which this was told
+-- what a record shows of the job of this number, for which this was answered
 abbrev pub recorded_job : ℕ → JobDone → RecordedJob
 recorded_job number done =
     record {
@@ -40,7 +40,7 @@ recorded_job number done =
 abbrev pub numbers_of : List RecordedJob → List ℕ
 numbers_of work = map (λ d. d.job) work
 
--- The worker drew numbers until no job was left, and did just those jobs by this port, in the order of their draws.
+-- The worker drew numbers until no job was left, and did exactly those jobs by this port, in the order of their draws.
 pub record HasWorked (counter : CounterName) (s : SpaceName) (jobs : List Job) (port : PortState) (worker : Worker) : Type 0 where
   pub claim : worker.claim.table ≡ counter.table
   pub ended : HasEnded counter.jobs (numbers_of worker.done.items) worker.claim.drawn

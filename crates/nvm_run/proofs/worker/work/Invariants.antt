@@ -5,7 +5,7 @@ use Rattle.nvm_run.specs.DoneJobs.{HaveDone}
 use Rattle.nvm_run.specs.Inside.Working.{numbers_of}
 use Rattle.nvm_run.proofs.worker.work.Given as goal
 
--- The worker has done just the jobs that it drew, by its port.
+-- The worker has done exactly the jobs that it drew, by its port.
 abbrev pub invariant-loop : goal.invariant-loop
 invariant-loop g l = record {
   turns : (goal.iterator-loop g).can_next l.iterator' × (goal.iterator-loop g).is_finite l.iterator';
