@@ -1,4 +1,4 @@
-use Rattle.std.proofs.Common.{IsTrue}
+use Rattle.std.proofs.Common.{◌≡◌, IsTrue}
 use Rattle.nvm_record.specs.Step.{Deed}
 use Rattle.nvm_plan.specs.Reply.{can_have}
 use Rattle.nvm_plan.specs.Kinds.{kind_of}
