@@ -7,7 +7,7 @@ use Rattle.nvm_plan.specs.Checks.{refusal_of}
 use Rattle.nvm_plan.specs.JobPart.{job_units}
 use Rattle.nvm_audit.specs.RecordView.{RecordView}
 use Rattle.nvm_text.specs.Lines.{statuses_text}
-use Rattle.nvm_report.specs.DoneLines.{word_of}
+use Rattle.nvm_report.specs.DoneLines.{result_word}
 use Rattle.nvm_explain.specs.declared.kind.Kind.{Kind}
 use Rattle.nvm_explain.specs.declared.kind.Kind.TheVariants.{Act, Pair, Look}
 use Rattle.nvm_explain.specs.declared.shape_fault.ShapeFault.{ShapeFault}
@@ -48,14 +48,14 @@ shape_line (UnitWrong unit due) =
     codes "a part is recorded in unit " ++ (decimal unit ++ (codes ", where " ++ (due_unit due ++ codes " is due\n")))
 shape_line (ResultWrong unit result kind) =
     codes "the part in unit " ++ (decimal unit
-    ++ (codes " is recorded as " ++ (word_of result ++ (codes ", where it can be: " ++ (ends_of kind ++ codes "\n")))))
+    ++ (codes " is recorded as " ++ (result_word result ++ (codes ", where it can be: " ++ (ends_of kind ++ codes "\n")))))
 shape_line (PartBehind unit result) =
     codes "the part in unit " ++ (decimal unit
-    ++ (codes " ended the job as " ++ (word_of result ++ codes ", and another is recorded after it\n")))
+    ++ (codes " ended the job as " ++ (result_word result ++ codes ", and another is recorded after it\n")))
 shape_line (StatusRefused told due) = due_statuses told due (codes " is due\n")
 shape_line (StatusUnstarted told due) = due_statuses told due (codes " is due: no part is recorded\n")
 shape_line (StatusAfter told result due) =
-    due_statuses told due (codes " is due: the last part is recorded as " ++ (word_of result ++ codes "\n"))
+    due_statuses told due (codes " is due: the last part is recorded as " ++ (result_word result ++ codes "\n"))
 shape_line (PartMissing unit) =
     codes "no part is recorded in unit " ++ (decimal unit ++ codes ", and each part before it succeeded\n")
 shape_line DataMissing = codes "no data is recorded, where that of the Read is due\n"

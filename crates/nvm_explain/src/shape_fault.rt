@@ -11,7 +11,7 @@ use crate::kind::{Kind, is_read, kind_of};
 use nvm_audit::DoneJob;
 use nvm_geometry::Geometry;
 use nvm_plan::laws::{parts_of_jobs, ready_jobs};
-use nvm_plan::{Job, JobUnits, Part, PartResult, Plan, job_units, plan};
+use nvm_plan::{Job, JobUnits, Part, PartResult, Plan, plan, ready_job_units};
 use nvm_record::Statuses;
 
 /// What is first wrong. `told` are the statuses that are recorded, and `due` is what is right in place of what is recorded.
@@ -101,7 +101,7 @@ fn ready_fault(geometry: &Geometry, job: &Job, done: &DoneJob) -> Option<ShapeFa
 {
     parts_of_jobs();
     let kind = kind_of(&job.body);
-    let mut units = job_units(geometry, job);
+    let mut units = ready_job_units(geometry, job);
     if let Some(fault) = ending_fault(kind, &mut units, &done.parts, done.statuses) {
         return Some(fault);
     }

@@ -3,14 +3,14 @@ use Rattle.std.specs.Prelude.{ℕ, ◌+◌, Bool, true, false, if◌then◌else�
 use Rattle.nvm_record.specs.declared.status.Statuses.{Statuses}
 use Rattle.nvm_plan.specs.declared.part.Part.{Part}
 use Rattle.nvm_audit.specs.RecordedJob.{RecordedJob}
-use Rattle.nvm_report.specs.DoneLines.{word_of}
+use Rattle.nvm_report.specs.DoneLines.{result_word}
 use Rattle.nvm_objects.specs.Values.{data_value, status_strings}
 
 -- the part's unit, the point on which it rests, and how it ended, in the word of the record's listing
 unfoldable pub part_object : Part → List ℕ
 part_object part =
     codes "{\"unit\":" ++ (decimal part.unit
-    ++ (codes ",\"point\":" ++ (decimal part.point ++ (codes ",\"result\":\"" ++ (word_of part.result ++ codes "\"}")))))
+    ++ (codes ",\"point\":" ++ (decimal part.point ++ (codes ",\"result\":\"" ++ (result_word part.result ++ codes "\"}")))))
 
 -- what stands before a part
 abbrev pub comma_before : Bool → List ℕ

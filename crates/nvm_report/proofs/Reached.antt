@@ -6,7 +6,7 @@ use Rattle.std.specs.List.{list_any, range_with_len}
 use Rattle.std.specs.Option.{SomeIff, is_some}
 use Rattle.nvm_record.specs.declared.lba_range.LbaRange.{LbaRange}
 use Rattle.nvm_record.specs.Ranges.{cut_range, range_at, range_count, range_has, ranges_have, ranges_of}
-use Rattle.nvm_draw.proofs.Ranges.{next_range, no_range}
+use Rattle.nvm_report.proofs.Ranges.{next_range, no_range}
 
 or_true : (b : Bool) → (b || true) ≡ true
 or_true true = refl
