@@ -36,7 +36,7 @@ picture_text r answer sheet =
     ++ (key_text r.workers (change_before r (wrong_in answer)) sheet.from sheet.columns
     ++ (rows_text r (rings_of r (wrong_in answer)) sheet.from sheet.columns 0 [] sheet.rows.items ++ codes "</svg>\n")))
 
--- It tells what an audit answers of the record, and draws the units of the window.
+-- It says what an audit answers of the record, and draws the units of the window.
 pub record IsPicture (r : RecordView) (window : Window) (text : List ℕ) : Type 0 where
   pub answer : Result Verdict AuditFault
   pub its : IsAnswer r answer

@@ -76,33 +76,37 @@ fn push_fault(text: &mut String, fault: ShapeFault) -> Result<(), NoMemory>
                 "the part in unit {unit} is recorded as {ended}, where it can be: {ends}\n"
             )
         }
-        ShapeFault::PartBehind { unit, result } => {
+        ShapeFault::PartAfterEnd { unit, result } => {
             let ended = result_word(result);
             write!(
                 text,
                 "the part in unit {unit} ended the job as {ended}, and another is recorded after it\n"
             )
         }
-        ShapeFault::StatusRefused { told, due } => {
-            let told = StatusesText(told);
+        ShapeFault::StatusRefused { recorded, due } => {
+            let recorded = StatusesText(recorded);
             let due = StatusesText(due);
-            write!(text, "status {told} is recorded, where {due} is due\n")
+            write!(text, "status {recorded} is recorded, where {due} is due\n")
         }
-        ShapeFault::StatusUnstarted { told, due } => {
-            let told = StatusesText(told);
+        ShapeFault::StatusUnstarted { recorded, due } => {
+            let recorded = StatusesText(recorded);
             let due = StatusesText(due);
             write!(
                 text,
-                "status {told} is recorded, where {due} is due: no part is recorded\n"
+                "status {recorded} is recorded, where {due} is due: no part is recorded\n"
             )
         }
-        ShapeFault::StatusAfter { told, result, due } => {
-            let told = StatusesText(told);
+        ShapeFault::StatusAfter {
+            recorded,
+            result,
+            due,
+        } => {
+            let recorded = StatusesText(recorded);
             let due = StatusesText(due);
             let ended = result_word(result);
             write!(
                 text,
-                "status {told} is recorded, where {due} is due: the last part is recorded as {ended}\n"
+                "status {recorded} is recorded, where {due} is due: the last part is recorded as {ended}\n"
             )
         }
         ShapeFault::PartMissing { unit } => write!(

@@ -12,7 +12,7 @@ part_object part =
     codes "{\"unit\":" ++ (decimal part.unit
     ++ (codes ",\"point\":" ++ (decimal part.point ++ (codes ",\"result\":\"" ++ (result_word part.result ++ codes "\"}")))))
 
--- what stands before a part
+-- what comes before a part
 abbrev pub comma_before : Bool → List ℕ
 comma_before is_first = if is_first then [] else codes ","
 
@@ -21,13 +21,13 @@ abbrev pub part_objects : Bool → List Part → List ℕ
 part_objects is_first [] = []
 part_objects is_first (part ∷ parts) = (comma_before is_first ++ part_object part) ++ part_objects false parts
 
--- what stands before the parts: the worker that did the job, the job's number, and its statuses
+-- what comes before the parts: the worker that did the job, the job's number, and its statuses
 unfoldable pub done_start : ℕ → ℕ → Statuses → List ℕ
 done_start worker job statuses =
     codes "{\"worker\":" ++ (decimal worker
     ++ (codes ",\"job\":" ++ (decimal job ++ (codes ",\"statuses\":[" ++ (status_strings statuses ++ codes "],\"parts\":[")))))
 
--- what stands behind them: the data of a Read as the longest runs of equal bytes, if there is any
+-- what comes after them: the data of a Read as the longest runs of equal bytes, if there is any
 unfoldable pub done_end : Option (List ℕ) → List ℕ
 done_end answered = codes "],\"data\":" ++ (data_value answered ++ codes "}\n")
 

@@ -39,7 +39,7 @@ fn push_done(text: &mut String, worker: u64, done: &DoneJob) -> Result<(), NoMem
     push_end(text, &done.payload)
 }
 
-/// Appends what stands before the parts.
+/// Appends what comes before the parts.
 #[tactic(auto, unfolding(crate::specs::DoneObject::done_start))]
 fn push_start(text: &mut String, worker: u64, job: u32, statuses: Statuses) -> Result<(), NoMemory>
     ensures { OnOk result (string_bytes text.new ≡ string_bytes text.old ++ spec.done_start worker job statuses) }
@@ -63,7 +63,7 @@ fn push_parts(text: &mut String, parts: &[Part]) -> Result<(), NoMemory>
     Ok(())
 }
 
-/// Appends the object of one part, behind a comma unless it is the first.
+/// Appends the object of one part, after a comma unless it is the first.
 #[tactic(auto, unfolding(crate::specs::DoneObject::part_object))]
 fn push_part(text: &mut String, is_first: bool, part: Part) -> Result<(), NoMemory>
     ensures { OnOk result (string_bytes text.new
@@ -82,14 +82,14 @@ fn push_part(text: &mut String, is_first: bool, part: Part) -> Result<(), NoMemo
     )
 }
 
-/// What stands before a part.
+/// What comes before a part.
 fn comma_before(is_first: bool) -> &'static str
     ensures { result.now ≡ spec.comma_before is_first }
 {
     if is_first { "" } else { "," }
 }
 
-/// Appends what stands behind the parts: the data of a Read, if there is any.
+/// Appends what comes after the parts: the data of a Read, if there is any.
 #[tactic(auto, unfolding(crate::specs::DoneObject::done_end))]
 fn push_end(text: &mut String, payload: &Option<ReadData>) -> Result<(), NoMemory>
     ensures { OnOk result (string_bytes text.new ≡ string_bytes text.old ++ spec.done_end payload.now) }

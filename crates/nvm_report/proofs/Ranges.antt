@@ -10,7 +10,7 @@ as_many : (payload : List ℕ) → length (ranges_of payload) ≡ range_count pa
 as_many payload =
     length-map (range_with_len 0 (range_count payload)) (range_at payload) ∙ length-range_with_len 0 (range_count payload)
 
--- The first of the ranges that are left has the LBA, or one of those behind it does.
+-- The first of the ranges that are left has the LBA, or one of those after it does.
 pub next_range : (payload : List ℕ) (place lba : ℕ) → place < range_count payload
     → ranges_have (drop place (ranges_of payload)) lba
     ≡ (range_has (range_at payload place) lba || ranges_have (drop (place + 1) (ranges_of payload)) lba)
@@ -24,7 +24,7 @@ next_range payload place lba low =
     at_drop_more (λ (rs : List LbaRange). ranges_have rs lba) (ranges_of payload) place d here
     ∙ ap (λ (r : LbaRange). range_has r lba || ranges_have (drop (place + 1) (ranges_of payload)) lba) is
 
--- Behind all ranges none is left.
+-- After all ranges none is left.
 pub no_range : (payload : List ℕ) (place lba : ℕ) → range_count payload ≤ place
     → ranges_have (drop place (ranges_of payload)) lba ≡ false
 no_range payload place lba past =

@@ -6,10 +6,10 @@ unfolding shape_line
 returns-in-ResultWrong c =
     rw (c.in-ResultWrong.is, ← c.result_word-ended.ensures, ← c.ends_of-ends.ensures) c.write-in-ResultWrong.ensures.bytes
 
-pub returns-in-PartBehind : goal.returns-in-PartBehind
+pub returns-in-PartAfterEnd : goal.returns-in-PartAfterEnd
 unfolding shape_line
-returns-in-PartBehind c =
-    rw (c.in-PartBehind.is, ← c.result_word-ended-in-PartBehind.ensures) c.write-in-PartBehind.ensures.bytes
+returns-in-PartAfterEnd c =
+    rw (c.in-PartAfterEnd.is, ← c.result_word-ended-in-PartAfterEnd.ensures) c.write-in-PartAfterEnd.ensures.bytes
 
 pub returns-in-StatusUnstarted : goal.returns-in-StatusUnstarted
 unfolding shape_line
