@@ -27,16 +27,40 @@ fn version_start(version: Version) -> &'static str
 }
 
 /// Appends the members of a namespace.
-#[tactic(auto, unfolding(crate::specs::HeadObject::namespace_members))]
 fn push_namespace(text: &mut String, geometry: Geometry) -> Result<(), NoMemory>
     ensures { OnOk result (string_bytes text.new ≡ string_bytes text.old ++ spec.namespace_members geometry) }
 {
-    let nsze = geometry.nsze();
-    let block = geometry.block_size().bytes();
-    let nabsn = geometry.nabsn();
-    let nabo = geometry.nabo();
-    let nawun = geometry.nawun();
-    let nacwu = geometry.nacwu();
+    push_namespace_members(
+        text,
+        geometry.nsze(),
+        geometry.block_size().bytes(),
+        geometry.nabsn(),
+        geometry.nabo(),
+        geometry.nawun(),
+        geometry.nacwu(),
+    )
+}
+
+/// Appends the members of a namespace of these numbers.
+#[tactic(auto, unfolding(crate::specs::HeadObject::namespace_members))]
+fn push_namespace_members(
+    text: &mut String,
+    nsze: u64,
+    block: u32,
+    nabsn: u16,
+    nabo: u16,
+    nawun: u16,
+    nacwu: u16,
+) -> Result<(), NoMemory>
+    ensures { OnOk result (string_bytes text.new ≡ string_bytes text.old ++ spec.namespace_members (record {
+      nsze = nsze;
+      block_size = block;
+      nabsn = nabsn;
+      nabo = nabo;
+      nawun = nawun;
+      nacwu = nacwu;
+    })) }
+{
     write!(
         text,
         "\"nsze\":{nsze},\"block\":{block},\"nabsn\":{nabsn},\"nabo\":{nabo},\"nawun\":{nawun},\"nacwu\":{nacwu},"

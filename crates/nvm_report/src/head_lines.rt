@@ -26,16 +26,40 @@ fn version_line(version: Version) -> &'static str
 }
 
 /// Appends the line of a namespace: `namespace`, and its six numbers by their names.
-#[tactic(auto, unfolding(crate::specs::HeadLines::namespace_line))]
 pub fn push_namespace(text: &mut String, geometry: Geometry) -> Result<(), NoMemory>
     ensures { OnOk result (string_bytes text.new ≡ string_bytes text.old ++ spec.namespace_line geometry) }
 {
-    let nsze = geometry.nsze();
-    let block = geometry.block_size().bytes();
-    let nabsn = geometry.nabsn();
-    let nabo = geometry.nabo();
-    let nawun = geometry.nawun();
-    let nacwu = geometry.nacwu();
+    push_namespace_line(
+        text,
+        geometry.nsze(),
+        geometry.block_size().bytes(),
+        geometry.nabsn(),
+        geometry.nabo(),
+        geometry.nawun(),
+        geometry.nacwu(),
+    )
+}
+
+/// Appends the line of a namespace of these numbers.
+#[tactic(auto, unfolding(crate::specs::HeadLines::namespace_line))]
+fn push_namespace_line(
+    text: &mut String,
+    nsze: u64,
+    block: u32,
+    nabsn: u16,
+    nabo: u16,
+    nawun: u16,
+    nacwu: u16,
+) -> Result<(), NoMemory>
+    ensures { OnOk result (string_bytes text.new ≡ string_bytes text.old ++ spec.namespace_line (record {
+      nsze = nsze;
+      block_size = block;
+      nabsn = nabsn;
+      nabo = nabo;
+      nawun = nawun;
+      nacwu = nacwu;
+    })) }
+{
     write!(
         text,
         "namespace nsze {nsze} block {block} nabsn {nabsn} nabo {nabo} nawun {nawun} nacwu {nacwu}\n"
