@@ -35,7 +35,7 @@ below_all number from (suc count) mark marks low =
     ∙ ap (λ (rest : List (List Mark)). filter (has number from) (marks ++ mark ∷ []) ∷ rest)
     (below_all number (from + 1) count mark marks (omega (arith, low)))
 
--- One mark more is behind the others of its number.
+-- One mark more is after the others of its number.
 pub put_one : (number : Mark → ℕ) (from count place : ℕ) (mark : Mark) (marks : List Mark) → number mark ≡ from + place
     → put_at place mark (by_number number from count marks) ≡ by_number number from count (marks ++ mark ∷ [])
 put_one number from zero place mark marks at = refl
@@ -157,7 +157,7 @@ length_by_number number from zero marks = refl
 length_by_number number from (suc count) marks = ap suc (length_by_number number (from + 1) count marks)
 
 module _ {A : Type 0} where
-  -- what is left begins with what stands here
+  -- what is left begins with what is here
   pub left_from : (xs : List A) (i : ℕ) (x : A) → i < length xs → x ≡ get_or xs i x → drop i xs ≡ x ∷ drop (i + 1) xs
   left_from xs i x low is =
       let next : suc i ≡ i + 1 = omega arith in

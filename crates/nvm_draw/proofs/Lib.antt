@@ -2,5 +2,3 @@ pub mod Chains
 pub mod Room
 pub mod ByNumber
 pub mod UsedUnits
-pub mod Ranges
-pub mod Reached

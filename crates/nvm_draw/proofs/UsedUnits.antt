@@ -27,17 +27,17 @@ module _ {A : Type 0} where
   front_of (x ∷ xs) ys zero long = absurd (omega (arith, long))
   front_of (x ∷ xs) ys (suc n) long = ap (λ (zs : List A). x ∷ zs) (front_of xs ys n (omega (arith, long)))
 
-  behind : (xs : List A) (y : A) (ys : List A) (n : ℕ) → length xs ≡ n → slice_get (xs ++ y ∷ ys) n ≡ Some y
-  behind [] y ys zero long = refl
-  behind [] y ys (suc n) long = absurd (omega (arith, long))
-  behind (x ∷ xs) y ys zero long = absurd (omega (arith, long))
-  behind (x ∷ xs) y ys (suc n) long = behind xs y ys n (omega (arith, long))
+  after_front : (xs : List A) (y : A) (ys : List A) (n : ℕ) → length xs ≡ n → slice_get (xs ++ y ∷ ys) n ≡ Some y
+  after_front [] y ys zero long = refl
+  after_front [] y ys (suc n) long = absurd (omega (arith, long))
+  after_front (x ∷ xs) y ys zero long = absurd (omega (arith, long))
+  after_front (x ∷ xs) y ys (suc n) long = after_front xs y ys n (omega (arith, long))
 
   pub full_front : (whole xs : List A) (y : A) (ys : List A) → xs ++ y ∷ ys ≡ whole → length xs ≡ 64 → xs ≡ take 64 whole
   full_front whole xs y ys is long = sym (front_of xs (y ∷ ys) 64 long) ∙ ap (λ (zs : List A). take 64 zs) is
 
   pub full_next : (whole xs : List A) (y : A) (ys : List A) → xs ++ y ∷ ys ≡ whole → length xs ≡ 64 → Some y ≡ slice_get whole 64
-  full_next whole xs y ys is long = sym (behind xs y ys 64 long) ∙ ap (λ (zs : List A). slice_get zs 64) is
+  full_next whole xs y ys is long = sym (after_front xs y ys 64 long) ∙ ap (λ (zs : List A). slice_get zs 64) is
 
   pub all_front : (whole xs : List A) → xs ≡ whole → length xs ≤ 64 → xs ≡ take 64 whole
   all_front whole xs is few = sym (take_all 64 xs few) ∙ ap (λ (zs : List A). take 64 zs) is

@@ -1,4 +1,4 @@
--- What stands above the rows: what the record is of, its namespace, what an audit answered, and what isn't drawn.
+-- What is above the rows: what the record is of, its namespace, what an audit answered, and what isn't drawn.
 use Rattle.std.specs.Prelude.{ℕ, zero, suc, ◌+◌, ◌-◌, min, List, [], ◌++◌, length, Bool, true, false, Option, Some, None, Result, Ok, Err, codes, decimal}
 use Rattle.nvm_geometry.specs.Namespace.{Namespace}
 use Rattle.nvm_audit.specs.declared.audit_fault.AuditFault.{AuditFault}
@@ -80,7 +80,7 @@ abbrev pub before_text : List ℕ → ℕ → List ℕ
 before_text words zero = []
 before_text words (suc last) = words ++ decimal last
 
--- the units from the first one on that the picture has no room for, up to the last of so many
+-- the units from the first one on that the picture has no room for, up to the last of all
 abbrev pub units_after : Option ℕ → ℕ → List ℕ
 units_after None units = []
 units_after (Some next) units = codes "; units " ++ (decimal next ++ (codes " to " ++ decimal (units - 1)))
@@ -94,7 +94,7 @@ abbrev pub hidden_fault : Bool → List ℕ
 hidden_fault false = []
 hidden_fault true = codes "; where the fault is"
 
--- what isn't drawn of the units of a record, which are so many
+-- what isn't drawn of a record with this number of units
 unfoldable pub cut_text : ℕ → Sheet → List ℕ
 cut_text units sheet =
     codes "<text class='cut' x='16' y='88'>Not drawn: units without entries and marks"

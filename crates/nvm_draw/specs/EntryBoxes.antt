@@ -47,7 +47,7 @@ deed_lbas first blocks (deallocates ranges) = ranges_text ranges
 abbrev pub lbas_of : Operation → List ℕ
 lbas_of op = deed_lbas op.first op.blocks op.deed
 
--- A box has room for eight characters. What is longer stands in the title alone.
+-- A box has room for eight characters. What is longer is in the title alone.
 abbrev pub where_room : List ℕ → List ℕ
 where_room lbas = if nat_le (length lbas) 8 then codes "<text class='lbas' x='20' y='40'>" ++ (lbas ++ codes "</text>") else []
 

@@ -23,7 +23,7 @@ rings_text change =
     codes "<text x='16' y='156'>Rings: red, what is of the fault; violet and dashed, the last change before it of a block that its job reads or compares: "
     ++ (spot_text change ++ codes ".</text>\n")
 
--- eight names stand in a line
+-- eight names are in a line
 unfoldable pub worker_text : ℕ → List ℕ
 worker_text worker =
     codes "<g class='worker" ++ (colour_text worker

@@ -1,4 +1,4 @@
--- The letters that stand in marks.
+-- The letters in marks.
 use Rattle.std.specs.Prelude.{ℕ, List, Option, Some, None, codes, slice_get}
 use Rattle.nvm_record.specs.declared.op.Op.{Op}
 use Rattle.nvm_record.specs.declared.op.Op.TheVariants.{Write, Read, WriteUncorrectable, Compare, WriteZeroes, Dataset, Other}

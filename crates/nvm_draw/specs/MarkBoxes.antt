@@ -1,4 +1,4 @@
--- How marks are drawn: those of one point below each other, before the entry of that place. Of more than three, the first two stand
+-- How marks are drawn: those of one point below each other, before the entry of that place. Of more than three, the first two are drawn
 -- there, and the number of the others.
 use Rattle.std.specs.Prelude.{ℕ, ◌+◌, ◌-◌, ◌*◌, nat_le, nat_lt, if◌then◌else◌, List, [], ◌∷◌, ◌++◌, length, take, drop, Bool, true, false, Option, codes, decimal}
 use Rattle.std.specs.List.{list_any}

@@ -52,12 +52,12 @@ marks_of r = filter (is_mark r) (parts_of_workers 0 r.done)
 abbrev pub marks_in : RecordView → ℕ → List Mark
 marks_in r unit = filter (λ mark. nat_eq mark.part.unit unit) (marks_of r)
 
--- for each of so many numbers, from this one on, the marks that have it
+-- for each of `count` numbers, from this one on, the marks that have it
 abbrev pub by_number : (Mark → ℕ) → ℕ → ℕ → List Mark → List (List Mark)
 by_number number from zero marks = []
 by_number number from (suc count) marks =
     filter (λ mark. nat_eq (number mark) from) marks ∷ by_number number (from + 1) count marks
 
--- the marks of a unit for each point of the window, from the first place that is drawn to behind its last
+-- the marks of a unit for each point of the window, from the first place that is drawn to after its last
 abbrev pub stacks_in : RecordView → ℕ → ℕ → List (List Mark)
 stacks_in r from unit = by_number (λ mark. mark.part.point) from 65 (marks_in r unit)

@@ -12,7 +12,7 @@ use Rattle.nvm_draw.specs.declared.wrong.Wrong.{Wrong}
 use Rattle.nvm_draw.specs.Caption.{caption_text}
 use Rattle.nvm_draw.specs.Frame.{frame_text}
 use Rattle.nvm_draw.specs.Key.{key_text}
-use Rattle.nvm_draw.specs.LastChange.{last_change}
+use Rattle.nvm_draw.specs.LastChange.{change_before}
 use Rattle.nvm_draw.specs.Rings.{rings_of}
 use Rattle.nvm_draw.specs.Rows.{rows_text}
 use Rattle.nvm_draw.specs.Sheet.{IsSheet}
@@ -33,10 +33,10 @@ unfoldable pub picture_text : RecordView → Result Verdict AuditFault → Sheet
 picture_text r answer sheet =
     frame_text (width sheet.columns) (height r.workers (length sheet.rows.items))
     ++ (caption_text r answer sheet
-    ++ (key_text r.workers (last_change r (wrong_in answer)) sheet.from sheet.columns
+    ++ (key_text r.workers (change_before r (wrong_in answer)) sheet.from sheet.columns
     ++ (rows_text r (rings_of r (wrong_in answer)) sheet.from sheet.columns 0 [] sheet.rows.items ++ codes "</svg>\n")))
 
--- It tells what an audit answers of the record, and draws the units of the window.
+-- It says what an audit answers of the record, and draws the units of the window.
 pub record IsPicture (r : RecordView) (window : Window) (text : List ℕ) : Type 0 where
   pub answer : Result Verdict AuditFault
   pub its : IsAnswer r answer

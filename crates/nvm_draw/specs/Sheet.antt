@@ -1,4 +1,4 @@
--- What of a record stands in a picture: which units, and which places of them. A window tells the first of each, or a fault does.
+-- What of a record is in a picture: which units, and which places of them. The first of each is the window's, or follows from a fault.
 use Rattle.std.specs.Prelude.{◌≡◌, ℕ, ◌+◌, ◌-◌, ◌<◌, nat_lt, nat_eq, min, max, if◌then◌else◌, List, [], ◌∷◌, length, take, drop, filter, map, All, Bool, false, not, ◌&&◌, ◌||◌, ◌==◌, Option, Some, None, slice_get}
 use Rattle.std.specs.List.{list_any, range_with_len}
 use Rattle.nvm_geometry.specs.Boundaries.{units_of}
@@ -70,7 +70,7 @@ abbrev pub most_places : RecordView → ℕ → List Row → ℕ
 most_places r from [] = 0
 most_places r from (row ∷ rows) = max (places_in r from row) (most_places r from rows)
 
--- An entry or a mark of the unit stands behind the window.
+-- An entry or a mark of the unit is after the window.
 abbrev pub has_more_in : RecordView → ℕ → ℕ → Bool
 has_more_in r from unit =
     nat_lt (from + 64) (length (entries_of r unit)) || list_any (λ mark. nat_lt (from + 64) mark.part.point) (marks_in r unit)
@@ -80,7 +80,7 @@ abbrev pub has_mark : ℕ → Option (List Mark) → Bool
 has_mark job None = false
 has_mark job (Some marks) = list_any (λ mark. nat_eq mark.job job) marks
 
--- The row has the place that is so far behind its first. Behind its last place stand marks alone.
+-- The row has the place that is `place` after its first. After its last place there are marks alone.
 abbrev pub has_place : ℕ → ℕ → Row → Bool
 has_place place job row =
     nat_lt place 64 || (nat_eq place 64 && has_mark job (slice_get (map (λ stack. stack.items) row.stacks.items) 64))
@@ -93,12 +93,12 @@ abbrev pub hides_spot : ℕ → Option Spot → ℕ → List Row → Bool
 hides_spot job None from rows = false
 hides_spot job (Some spot) from rows = nat_lt spot.place from || not (shows spot.unit (spot.place - from) job rows)
 
--- The fault is in a unit, and stands in none of the rows.
+-- The fault is in a unit, and is in none of the rows.
 abbrev pub hides : Option Wrong → ℕ → List Row → Bool
 hides None from rows = false
 hides (Some wrong) from rows = hides_spot wrong.job wrong.spot from rows
 
--- What stands in the picture of a record with this fault, or with none: the first 64 of the units that are used, from the first unit
+-- What is in the picture of a record with this fault, or with none: the first 64 of the units that are used, from the first unit
 -- on, each as a row; and what is said of the others.
 pub record IsSheet (r : RecordView) (window : Window) (wrong : Option Wrong) (sheet : Sheet) : Type 0 where
   pub first : sheet.first ≡ first_unit window.unit (spot_of wrong)

@@ -1,4 +1,4 @@
--- What of a record is marked as wrong: that of the fault's job which stands in the fault's spot; where the fault is in no unit, all
+-- What of a record is marked as wrong: that of the fault's job which is in the fault's spot; where the fault is in no unit, all
 -- of its job.
 use Rattle.std.specs.Prelude.{ℕ, nat_eq, Bool, true, false, ◌&&◌, Option, Some, None}
 use Rattle.nvm_audit.specs.declared.audit_fault.AuditFault.{AuditFault}

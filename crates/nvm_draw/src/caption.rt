@@ -141,7 +141,7 @@ fn meaning(fault: AuditFault) -> &'static str
     }
 }
 
-/// Appends what isn't drawn of so many units.
+/// Appends what isn't drawn of a record with this number of units.
 #[tactic(auto, unfolding(crate::specs::Caption::cut_text))]
 fn push_cut(text: &mut String, units: u64, sheet: &Sheet) -> Result<(), NoMemory>
     ensures { OnOk result (string_bytes text.new ≡ string_bytes text.old ++ spec.cut_text units sheet.now) }

@@ -14,7 +14,7 @@ use nvm_store::{Act, Entry};
 use std::fmt;
 use std::fmt::{Display, Formatter};
 
-/// A box has room for so many characters of LBAs.
+/// The most characters of LBAs that a box has room for.
 const ROOM: usize = 8;
 
 /// Appends the boxes of a unit's entries, of which the first is at place `from`.

@@ -16,7 +16,7 @@ use nvm_record::NoMemory;
 use nvm_store::Entry;
 use std::alloc::Global;
 
-/// What of the record stands in a picture.
+/// What of the record is in a picture.
 pub(crate) fn sheet_of(
     alloc: Global,
     run: &Record,
@@ -85,7 +85,7 @@ pub(crate) fn entries_of<'a>(run: &'a Record, unit: u16) -> &'a [Entry]
     }
 }
 
-/// The rows from a unit on, and the first unit behind the last row that could be drawn.
+/// The rows from a unit on, and the first unit after the last row that could be drawn.
 fn rows_of(
     alloc: Global,
     run: &Record,
@@ -171,7 +171,7 @@ fn last_column(stacks: &[Vec<Mark>]) -> usize
     last
 }
 
-/// Whether a unit that is drawn has an entry or a mark behind the window.
+/// Whether a unit that is drawn has an entry or a mark after the window.
 fn has_more(run: &Record, marks: &[Vec<Mark>], rows: &[Row], from: u32) -> bool
     requires marks { AreByUnit run.now (map (λ list. list.items) marks.now) }
     requires rows { All (IsRow run.now from) rows.now }
@@ -185,7 +185,7 @@ fn has_more(run: &Record, marks: &[Vec<Mark>], rows: &[Row], from: u32) -> bool
     false
 }
 
-/// Whether a unit has an entry or a mark behind the window.
+/// Whether a unit has an entry or a mark after the window.
 fn has_more_in(run: &Record, marks: &[Vec<Mark>], unit: u16, from: u32) -> bool
     requires marks { AreByUnit run.now (map (λ list. list.items) marks.now) }
     requires unit { unit < length run.now.units }

@@ -12,10 +12,10 @@ use nvm_report::push_part;
 use std::fmt;
 use std::fmt::{Display, Formatter};
 
-/// So many marks of one point stand below each other; of more, the last is their number.
+/// The most marks of one point that are drawn; of more, the last is their number.
 const STACK: usize = 3;
 
-/// So many marks have a line in the title of their number; of more, it says how many more there are.
+/// The most marks with a line in the title of their number; of more, it says how many more there are.
 const TITLED: usize = 16;
 
 /// From one mark to the one below it.

@@ -24,7 +24,7 @@ use std::thread::Threads;
 /// pairs, refused changes) is a mark before the entry at its point. Lines join the boxes of one job in
 /// rows that are next to each other. Boxes and marks have the lines of a listing as their titles. What
 /// is of the fault has a red ring, and the last change before it of a block that its job reads or compares a violet one. Units without entries and marks aren't drawn, nor is what lies outside of the window, which the
-/// picture says. The record may be unlawful. The watcher is told how far the audit is.
+/// picture says. The record may be unlawful. The watcher learns how far the audit is.
 ///
 /// `NoMemory` is answered where a growth was refused.
 pub fn draw_record<W: Watcher + Sync>(

@@ -21,7 +21,7 @@ pub(crate) fn marks_of(alloc: Global, run: &Record) -> Result<Vec<Vec<Mark>>, No
     Ok(marks)
 }
 
-/// So many lists of marks, with none in them.
+/// `count` empty lists of marks.
 fn no_marks(alloc: Global, count: usize) -> Result<Vec<Vec<Mark>>, NoMemory>
     ensures { IfOk result (λ lists. AreEmpty count (map (λ list. list.items) lists.items)) }
 {
@@ -32,7 +32,7 @@ fn no_marks(alloc: Global, count: usize) -> Result<Vec<Vec<Mark>>, NoMemory>
     Ok(lists)
 }
 
-/// Puts the marks of what a worker did behind the others of their units.
+/// Puts the marks of what a worker did after the others of their units.
 fn put_work(
     run: &Record,
     worker: u16,
@@ -71,7 +71,7 @@ fn put_job(
     Ok(())
 }
 
-/// Puts a mark behind the others of a list.
+/// Puts a mark after the others of a list.
 fn put(mark: Mark, place: usize, lists: &mut Vec<Vec<Mark>>) -> Result<(), NoMemory>
     ensures { OnOk result (map (λ list. list.items) lists.new.items
         ≡ spec.put_at place mark (map (λ list. list.items) lists.old.items)) }

@@ -1,7 +1,7 @@
 ghost use Rattle.std.specs.Prelude.{◌≡◌};
 ghost use Rattle.nvm_draw.specs.Rings as spec;
 
-use crate::last_change::last_change;
+use crate::last_change::change_before;
 use crate::wrong::Wrong;
 use nvm_audit::{Record, Spot};
 
@@ -21,7 +21,7 @@ impl Rings {
     {
         Rings {
             wrong,
-            change: last_change(run, wrong),
+            change: change_before(run, wrong),
         }
     }
 }

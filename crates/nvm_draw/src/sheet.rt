@@ -2,7 +2,7 @@ ghost use Rattle.std.specs.Prelude.{◌≤◌, length};
 
 use crate::mark::Mark;
 
-/// What of a record stands in a picture.
+/// What of a record is in a picture.
 #[derive(Drop)]
 pub(crate) struct Sheet {
     /// The number of the first unit that may be drawn.
@@ -15,7 +15,7 @@ pub(crate) struct Sheet {
     pub columns: u8,
     /// The number of the first unit that isn't drawn since the picture is full.
     pub next: Option<u16>,
-    /// Whether a unit that is drawn has entries behind the window.
+    /// Whether a unit that is drawn has entries after the window.
     pub has_more: bool,
     /// Whether the fault is at a spot outside of the window.
     pub hides_fault: bool,

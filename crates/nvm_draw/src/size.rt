@@ -2,7 +2,7 @@
 ghost use Rattle.std.specs.Prelude.{◌≡◌, ◌≤◌};
 ghost use Rattle.nvm_draw.specs.Sizes as spec;
 
-/// So many units, and so many places of each, are drawn at most.
+/// The most units that are drawn, and the most places of each.
 pub(crate) const MOST: usize = 64;
 
 /// The left margin, in which units are named.
@@ -11,23 +11,23 @@ pub(crate) const LEFT: u64 = 120;
 /// From one entry to the next.
 pub(crate) const STEP: u64 = 66;
 
-/// From a point to the entry behind it: the marks stand there.
+/// From a point to the entry after it, which is the room for the marks.
 pub(crate) const GAP: u64 = 26;
 
 /// From one unit to the next.
 pub(crate) const ROW: u64 = 56;
 
-/// The text above the picture wants so much.
+/// The width that the text above the picture wants.
 const LEAST_WIDTH: u64 = 1000;
 
-/// The width of a row of so many places, without its margins.
+/// The width of a row of `columns` places, without its margins.
 pub(crate) fn row_width(columns: u8) -> u64
     ensures { result ≡ spec.row_width columns }
 {
     STEP * u64::from(columns) + GAP
 }
 
-/// The width of a picture of so many places.
+/// The width of a picture of `columns` places.
 pub(crate) fn width(columns: u8) -> u64
     ensures { result ≡ spec.width columns }
 {
@@ -39,14 +39,14 @@ pub(crate) fn width(columns: u8) -> u64
     }
 }
 
-/// Where the first row begins, below the names of so many workers.
+/// Where the first row begins, below the names of the workers.
 pub(crate) fn top(workers: u16) -> u64
     ensures { result ≡ spec.top workers }
 {
     210 + 22 * ((u64::from(workers) + 7) / 8)
 }
 
-/// The height of a picture of so many workers and rows.
+/// The height of a picture of these numbers of workers and rows.
 pub(crate) fn height(workers: u16, rows: usize) -> u64
     requires { rows ≤ 64 }
     ensures { result ≡ spec.height workers rows }

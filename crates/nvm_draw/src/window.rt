@@ -13,7 +13,7 @@ pub struct Window {
     pub from: Option<u32>,
 }
 
-/// At most so many entries of a history as are drawn, from a place on.
+/// The entries of a history that are drawn: at most 64, from a place on.
 pub(crate) fn drawn_entries(history: &[Entry], from: u32) -> &[Entry]
     ensures value { result.now ≡ take 64 (drop from history.now) }
     ensures few { length result.now ≤ 64 }

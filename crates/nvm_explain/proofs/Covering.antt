@@ -31,20 +31,20 @@ one_unit_place one ns unit p q a b =
     let same = one ns unit p.first p.blocks q.first q.blocks a.lbas b.lbas in
     same_place p q same.0 same.1 (a.size ∙ sym b.size)
 
--- What was read of a list stands in the list of what is shown.
+-- What was read of a list is in the list of what is shown.
 pub stands_shown : {A B : Type 0} (f : A → B) (xs : List A) (i : ℕ) (x : A) → i < length xs → x ≡ get_or xs i x
     → IsAt (map f xs) i (f x)
 stands_shown f [] i x low is = absurd (omega (arith, low))
 stands_shown f (y ∷ ys) zero x low is = ap (λ z. some (f z)) (sym is)
 stands_shown f (y ∷ ys) (suc i) x low is = stands_shown f ys i x (omega (arith, low)) is
 
--- Behind the end nothing is got.
+-- After the end nothing is found.
 pub none_shown : {A B : Type 0} (f : A → B) (xs : List A) (i : ℕ) → length xs ≤ i → None ≡ slice_get (map f xs) i
 none_shown f [] i past = refl
 none_shown f (y ∷ ys) zero past = absurd (omega (arith, past))
 none_shown f (y ∷ ys) (suc i) past = none_shown f ys i (omega (arith, past))
 
--- what was got stands there
+-- what was found is there
 got_below : {A : Type 0} (xs : List A) (i : ℕ) (x : A) → slice_get xs i ≡ Some x → i < length xs
 got_below [] i x got = absurd cc
 got_below (y ∷ ys) zero x got = omega arith

@@ -1,7 +1,6 @@
 pub mod Covering
 pub mod Few
 pub mod Meeting
-pub mod Ranges
 pub mod Seen
 pub mod Successes
 pub mod Telling

@@ -27,7 +27,7 @@ pub met : {A : Type 0} (same : A → A → Bool) (p : A → Bool) (w : A) (more 
 met same p w more here tied =
     rw here (twice p (λ x. not (same x w)) p (λ x. agrees (same x w) (p x) (tied x)) (once same more))
 
--- One that is met first stands before those that are left.
+-- One that is met first comes before those that are left.
 pub first_met : {A : Type 0} (same : A → A → Bool) (p q : A → Bool) (w : A) (more : List A) → p w ≡ true
     → ((x : A) → q x ≡ (not (same x w) && p x)) → filter p (once same (w ∷ more)) ≡ w ∷ filter q (once same more)
 first_met same p q w more here left = rw here (ap (λ ys. w ∷ ys) (twice p (λ x. not (same x w)) q left (once same more)))

@@ -1,4 +1,4 @@
--- What is left to tell of statuses, of which some were met.
+-- What is left to say of statuses, of which some were met.
 use Rattle.std.proofs.Common.{◌≡◌, ◌+◌, ◌<◌, ℕ, drop, get_or, length, map, if◌then◌else◌, ◌==◌, ◌&&◌, ◌||◌, Bool, true, false, not, List, [], ◌∷◌, ◌++◌, append_assoc, ap, ap₂, refl, sym, subst, eqb-true, ◌∙◌}
 use Rattle.std.proofs.lemmas.List.{at_drop_more}
 use Rattle.std.specs.List.{filter}
@@ -56,7 +56,7 @@ met_before earlier s left here =
     ap (λ more. earlier ++ more) (met same_statuses (λ t. not (is_met earlier t)) s left (ap not here)
     (λ t same. ap not (subst (λ (u : Statuses). is_met earlier u ≡ true) (sym (statuses_eq t s same)) here)))
 
--- What wasn't met stands next.
+-- What wasn't met is next.
 met_next : (earlier : List Statuses) (s : Statuses) (left : List Statuses) → is_met earlier s ≡ false
     → met_and_left earlier (s ∷ left) ≡ met_and_left (earlier ++ s ∷ []) left
 met_next earlier s left here =
@@ -83,6 +83,6 @@ met_step earlier others work k it low is =
     met_one earlier it.statuses _
     ∙ (ap (λ (d : RecordedJob). left (d ∷ drop (k + 1) work)) is ∙ sym (at_drop_more left work k it low))
 
--- Where none was met, each stands once.
+-- Where none was met, each is there once.
 pub none_met : (left : List Statuses) → met_and_left [] left ≡ once same_statuses left
 none_met left = filter_all (λ s. not (is_met [] s)) (λ s. refl) (once same_statuses left)

@@ -14,7 +14,7 @@ difference_from first size at (a ∷ bytes) (b ∷ others) =
     if a == b then difference_from first size (at + 1) bytes others
     else Some (record { lba = first + at / size; offset = at % size; byte = a; other = b })
 
--- the first byte that differs, if one does and there are as many of both, which are of blocks in a namespace
+-- the first byte that differs, if one does and both have the same length, which are of blocks in a namespace
 abbrev pub difference_of : ℕ → ℕ → List ℕ → List ℕ → Option Difference
 difference_of first size bytes others =
     if length bytes == length others && nat_le first most_blocks then difference_from first size 0 bytes others else None

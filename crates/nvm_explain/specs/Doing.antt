@@ -12,7 +12,7 @@ abbrev pub first_done : ℕ → List (List RecordedJob) → Option RecordedJob
 first_done number [] = None
 first_done number (work ∷ others) = option_or (find (λ done. done.job == number) work) (first_done number others)
 
--- The first of these parts in the unit, with what its host was told of it. They are the last parts of a job with these statuses.
+-- The first of these parts in the unit, with the statuses that its host was sent of it. They are the last parts of a job with these statuses.
 abbrev pub first_part : ℕ → Statuses → List Part → Option DonePart
 first_part unit statuses [] = None
 first_part unit statuses (part ∷ parts) =

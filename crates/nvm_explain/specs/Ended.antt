@@ -11,7 +11,7 @@ use Rattle.nvm_explain.specs.Once.{once}
 abbrev pub same_status : Status → Status → Bool
 same_status s t = s.sct == t.sct && s.sc == t.sc
 
--- both are of as many commands, and have the same status for each
+-- both are of the same number of commands, and have the same status for each
 abbrev pub same_statuses : Statuses → Statuses → Bool
 same_statuses (One s) (One t) = same_status s t
 same_statuses (One s) (Two t u) = false

@@ -1,4 +1,4 @@
--- At which points of a history the step can be told.
+-- At which points of a history the step can be said.
 use Rattle.std.specs.Prelude.{ℕ, ◌==◌, ◌&&◌, nat_le, Bool, true, List, [], ◌∷◌, length, take}
 use Rattle.nvm_record.specs.declared.status.Status.{Status}
 use Rattle.nvm_record.specs.declared.status.Statuses.{Statuses}

@@ -11,7 +11,7 @@ abbrev pub start_of : Body → ℕ
 start_of (Single c) = c.slba
 start_of (Pair c d) = c.slba
 
--- a namespace has at most so many LBAs
+-- the most LBAs of a namespace
 abbrev pub most_blocks : ℕ
 most_blocks = 65536
 

@@ -19,7 +19,7 @@ use Rattle.nvm_plan.specs.Reply.{can_have, stop_of}
 use Rattle.nvm_plan.specs.Shape.{goes_on}
 use Rattle.nvm_audit.specs.RecordedJob.{RecordedJob}
 use Rattle.nvm_explain.specs.declared.shape_fault.ShapeFault.{ShapeFault}
-use Rattle.nvm_explain.specs.declared.shape_fault.ShapeFault.TheVariants.{UnitWrong, ResultWrong, PartBehind, StatusRefused, StatusUnstarted, StatusAfter, PartMissing, DataMissing, DataGiven}
+use Rattle.nvm_explain.specs.declared.shape_fault.ShapeFault.TheVariants.{UnitWrong, ResultWrong, PartAfterEnd, StatusRefused, StatusUnstarted, StatusAfter, PartMissing, DataMissing, DataGiven}
 use Rattle.nvm_explain.specs.Ended.{same_statuses}
 use Rattle.nvm_explain.specs.Kinds.{kind_of}
 use Rattle.nvm_explain.specs.Reached.{is_success}
@@ -31,7 +31,7 @@ unit_fault (part ∷ parts) [] = Some (UnitWrong part.unit None)
 unit_fault (part ∷ parts) (unit ∷ units) =
     if part.unit == unit then unit_fault parts units else Some (UnitWrong part.unit (Some unit))
 
--- the units that are left behind those of the parts
+-- the units that are left after those of the parts
 abbrev pub units_left : List Part → List ℕ → List ℕ
 units_left [] units = units
 units_left (part ∷ parts) [] = []
@@ -45,50 +45,50 @@ result_fault deed (part ∷ parts) =
 
 -- the statuses that are due, if they aren't these
 abbrev pub unless_due : (Statuses → ShapeFault) → Statuses → Statuses → Option ShapeFault
-unless_due fault due told = if same_statuses told due then None else Some (fault due)
+unless_due fault due recorded = if same_statuses recorded due then None else Some (fault due)
 
 -- The statuses aren't those that are due where the last part ended so. Those of a comparison that failed and of a look rest on
 -- what the unit held.
 abbrev pub status_after : Statuses → Statuses → Statuses → PartResult → Option ShapeFault
-status_after success stop told Done = unless_due (StatusAfter told Done) success told
-status_after success stop told Failed = None
-status_after success stop told Looked = None
-status_after success stop told NoMemory = unless_due (StatusAfter told NoMemory) stop told
-status_after success stop told Full = unless_due (StatusAfter told Full) stop told
+status_after success stop recorded Done = unless_due (StatusAfter recorded Done) success recorded
+status_after success stop recorded Failed = None
+status_after success stop recorded Looked = None
+status_after success stop recorded NoMemory = unless_due (StatusAfter recorded NoMemory) stop recorded
+status_after success stop recorded Full = unless_due (StatusAfter recorded Full) stop recorded
 
--- The first of the parts behind which none may stand, and one does; or the statuses where they aren't those that the last of the
+-- The first of the parts after which there may be none, where there is one; or the statuses where they aren't those that the last of the
 -- parts decides.
 abbrev pub end_fault : Statuses → Statuses → Statuses → List Part → Option ShapeFault
-end_fault success stop told [] = None
-end_fault success stop told (part ∷ parts) =
-    if length parts == 0 then status_after success stop told part.result else
-    if goes_on part.result then end_fault success stop told parts else Some (PartBehind part.unit part.result)
+end_fault success stop recorded [] = None
+end_fault success stop recorded (part ∷ parts) =
+    if length parts == 0 then status_after success stop recorded part.result else
+    if goes_on part.result then end_fault success stop recorded parts else Some (PartAfterEnd part.unit part.result)
 
 -- a unit that is left where the job succeeded
 abbrev pub missing_fault : Statuses → List ℕ → Option ShapeFault
-missing_fault told [] = None
-missing_fault told (unit ∷ units) = if is_success told then Some (PartMissing unit) else None
+missing_fault recorded [] = None
+missing_fault recorded (unit ∷ units) = if is_success recorded then Some (PartMissing unit) else None
 
--- what is first wrong with the parts, and with the statuses behind them, of a deed that has a part in each of these units
+-- what is first wrong with the parts, and with the statuses after them, of a deed that has a part in each of these units
 abbrev pub parts_fault : Deed → List ℕ → List Part → Statuses → Option ShapeFault
-parts_fault deed units parts told =
+parts_fault deed units parts recorded =
     option_or (unit_fault parts units) (option_or (result_fault deed parts)
-    (option_or (end_fault (success_of deed) (stop_of deed) told parts) (missing_fault told (units_left parts units))))
+    (option_or (end_fault (success_of deed) (stop_of deed) recorded parts) (missing_fault recorded (units_left parts units))))
 
 -- The statuses where no part was done aren't those that are due: success where the deed has no part.
 abbrev pub unstarted_fault : Deed → List ℕ → Statuses → Option ShapeFault
-unstarted_fault deed [] told = unless_due (StatusUnstarted told) (success_of deed) told
-unstarted_fault deed (unit ∷ units) told = unless_due (StatusUnstarted told) (unstarted_of deed) told
+unstarted_fault deed [] recorded = unless_due (StatusUnstarted recorded) (success_of deed) recorded
+unstarted_fault deed (unit ∷ units) recorded = unless_due (StatusUnstarted recorded) (unstarted_of deed) recorded
 
 -- what is first wrong with how the deed ended
 abbrev pub ending_fault : Deed → List ℕ → List Part → Statuses → Option ShapeFault
-ending_fault deed units [] told = unstarted_fault deed units told
-ending_fault deed units (part ∷ parts) told = parts_fault deed units (part ∷ parts) told
+ending_fault deed units [] recorded = unstarted_fault deed units recorded
+ending_fault deed units (part ∷ parts) recorded = parts_fault deed units (part ∷ parts) recorded
 
 -- Data is due of a Read that succeeded, and of nothing else.
 abbrev pub data_fault : Deed → Statuses → Option (List ℕ) → Option ShapeFault
-data_fault deed told None = if is_read deed && is_success told then Some DataMissing else None
-data_fault deed told (Some bytes) = if is_read deed && is_success told then None else Some DataGiven
+data_fault deed recorded None = if is_read deed && is_success recorded then Some DataMissing else None
+data_fault deed recorded (Some bytes) = if is_read deed && is_success recorded then None else Some DataGiven
 
 -- what is first wrong with what is recorded of a job that does this operation
 abbrev pub ready_fault : Namespace → RecordedJob → Operation → Option ShapeFault

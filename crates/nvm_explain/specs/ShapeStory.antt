@@ -7,11 +7,11 @@ use Rattle.nvm_plan.specs.Checks.{refusal_of}
 use Rattle.nvm_plan.specs.JobPart.{job_units}
 use Rattle.nvm_audit.specs.RecordView.{RecordView}
 use Rattle.nvm_text.specs.Lines.{statuses_text}
-use Rattle.nvm_report.specs.DoneLines.{word_of}
+use Rattle.nvm_report.specs.DoneLines.{result_word}
 use Rattle.nvm_explain.specs.declared.kind.Kind.{Kind}
 use Rattle.nvm_explain.specs.declared.kind.Kind.TheVariants.{Act, Pair, Look}
 use Rattle.nvm_explain.specs.declared.shape_fault.ShapeFault.{ShapeFault}
-use Rattle.nvm_explain.specs.declared.shape_fault.ShapeFault.TheVariants.{UnitWrong, ResultWrong, PartBehind, StatusRefused, StatusUnstarted, StatusAfter, PartMissing, DataMissing, DataGiven}
+use Rattle.nvm_explain.specs.declared.shape_fault.ShapeFault.TheVariants.{UnitWrong, ResultWrong, PartAfterEnd, StatusRefused, StatusUnstarted, StatusAfter, PartMissing, DataMissing, DataGiven}
 use Rattle.nvm_explain.specs.Doing.{first_done}
 use Rattle.nvm_explain.specs.IfAny.{if_any}
 use Rattle.nvm_explain.specs.ShapeFault.{shape_fault}
@@ -40,7 +40,7 @@ due_unit (Some unit) = codes "one in unit " ++ decimal unit
 
 -- which statuses are recorded, and which are due, and why
 abbrev pub due_statuses : Statuses → Statuses → List ℕ → List ℕ
-due_statuses told due why = codes "status " ++ (statuses_text told ++ (codes " is recorded, where " ++ (statuses_text due ++ why)))
+due_statuses recorded due why = codes "status " ++ (statuses_text recorded ++ (codes " is recorded, where " ++ (statuses_text due ++ why)))
 
 -- what is wrong, and what is due
 unfoldable pub shape_line : ShapeFault → List ℕ
@@ -48,14 +48,14 @@ shape_line (UnitWrong unit due) =
     codes "a part is recorded in unit " ++ (decimal unit ++ (codes ", where " ++ (due_unit due ++ codes " is due\n")))
 shape_line (ResultWrong unit result kind) =
     codes "the part in unit " ++ (decimal unit
-    ++ (codes " is recorded as " ++ (word_of result ++ (codes ", where it can be: " ++ (ends_of kind ++ codes "\n")))))
-shape_line (PartBehind unit result) =
+    ++ (codes " is recorded as " ++ (result_word result ++ (codes ", where it can be: " ++ (ends_of kind ++ codes "\n")))))
+shape_line (PartAfterEnd unit result) =
     codes "the part in unit " ++ (decimal unit
-    ++ (codes " ended the job as " ++ (word_of result ++ codes ", and another is recorded after it\n")))
-shape_line (StatusRefused told due) = due_statuses told due (codes " is due\n")
-shape_line (StatusUnstarted told due) = due_statuses told due (codes " is due: no part is recorded\n")
-shape_line (StatusAfter told result due) =
-    due_statuses told due (codes " is due: the last part is recorded as " ++ (word_of result ++ codes "\n"))
+    ++ (codes " ended the job as " ++ (result_word result ++ codes ", and another is recorded after it\n")))
+shape_line (StatusRefused recorded due) = due_statuses recorded due (codes " is due\n")
+shape_line (StatusUnstarted recorded due) = due_statuses recorded due (codes " is due: no part is recorded\n")
+shape_line (StatusAfter recorded result due) =
+    due_statuses recorded due (codes " is due: the last part is recorded as " ++ (result_word result ++ codes "\n"))
 shape_line (PartMissing unit) =
     codes "no part is recorded in unit " ++ (decimal unit ++ codes ", and each part before it succeeded\n")
 shape_line DataMissing = codes "no data is recorded, where that of the Read is due\n"

@@ -21,7 +21,7 @@ pub struct Difference {
     pub other: u8,
 }
 
-/// The first byte that differs, if one does and there are as many of both. Both are of the same blocks, from `first` on.
+/// The first byte that differs, if one does and both have the same length. Both are of the same blocks, from `first` on.
 pub(crate) fn difference_of(
     first: u64,
     size: BlockSize,

@@ -7,7 +7,7 @@ use nvm_audit::DoneJob;
 use nvm_plan::Part;
 use nvm_record::{Status, Statuses};
 
-/// A part of a done job in one unit, and what its host was told of it.
+/// A part of a done job in one unit, and the statuses that its host was sent of it.
 #[derive(Clone, Copy)]
 pub struct DonePart {
     pub part: Part,

@@ -25,7 +25,7 @@ use std::thread::Threads;
 /// Audits the record and explains what was found, as text: a line for each fact, in the words of a record's listing.
 ///
 /// It is audited once, in several threads. Beside that one unit's history is replayed up to the place of the fault, and what was
-/// done is gone over. The watcher is told how far the audit is. `NoMemory` is answered where a growth was refused.
+/// done is gone over. The watcher learns how far the audit is. `NoMemory` is answered where a growth was refused.
 pub fn explain<W: Watcher + Sync>(
     rt: &(impl Threads + Sync),
     alloc: Global,

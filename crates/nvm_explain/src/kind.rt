@@ -1,4 +1,4 @@
-//! What the parts of a job do, and what may be told of them.
+//! What the parts of a job do, and with which statuses they may end.
 ghost use Rattle.std.specs.Prelude.{◌≡◌, Some};
 ghost use Rattle.nvm_record.specs.Deeds as deeds;
 ghost use Rattle.nvm_record.specs.Step.{Deed, Operation};
@@ -35,38 +35,38 @@ impl Kind {
         }
     }
 
-    /// What is told where all parts succeeded.
+    /// The statuses where all parts succeeded.
     pub(crate) fn success(self) -> Statuses
         ensures { (deed : Deed) → spec.kind_of deed ≡ self → result ≡ deeds.success_of deed }
     {
         let success = Status::SUCCESSFUL_COMPLETION;
-        self.told(Statuses::One(success), Statuses::Two(success, success))
+        self.choose(Statuses::One(success), Statuses::Two(success, success))
     }
 
-    /// What is told where memory was refused to a part, or its unit's history was full.
+    /// The statuses where memory was refused to a part, or its unit's history was full.
     pub(crate) fn stop(self) -> Statuses
         ensures { (deed : Deed) → spec.kind_of deed ≡ self → result ≡ reply.stop_of deed }
     {
         let error = Status::INTERNAL_ERROR;
-        self.told(
+        self.choose(
             Statuses::One(error),
             Statuses::Two(Status::SUCCESSFUL_COMPLETION, error),
         )
     }
 
-    /// What is told where memory was refused before the first part.
+    /// The statuses where memory was refused before the first part.
     pub(crate) fn unstarted(self) -> Statuses
         ensures { (deed : Deed) → spec.kind_of deed ≡ self → result ≡ outcome.unstarted_of deed }
     {
         let error = Status::INTERNAL_ERROR;
-        self.told(
+        self.choose(
             Statuses::One(error),
             Statuses::Two(error, Status::ABORTED_DUE_TO_FAILED_FUSED_COMMAND),
         )
     }
 
-    /// What is told of a command by itself, or of a pair.
-    fn told(self, alone: Statuses, paired: Statuses) -> Statuses
+    /// Those for a command by itself, or those for a pair.
+    fn choose(self, alone: Statuses, paired: Statuses) -> Statuses
         ensures { (deed : Deed) → spec.kind_of deed ≡ self → result ≡ deeds.for_deed deed alone paired }
     {
         match self {

@@ -1,9 +1,10 @@
 //! Records of runs explained: of an unlawful one what went wrong and where, and of a lawful one how much there was in it.
 //!
-//! [`explain`] audits a record and tells the verdict, as an audit prints it. Of a first fault it tells what such a fault means,
+//! [`explain`] audits a record and gives the verdict, as an audit prints it. Of a first fault it says what such a fault means,
 //! the job and what was done of it, the unit's entries round the place, and what the step gives at that point beside what was
 //! recorded there: where bytes decide, the first that differs, and the entry that changed its block last. [`push_job`] appends what a
-//! record has of one job. Explanations that were written by hand stand in `examples/explained.py`, which holds the built `nvq` to them.
+//! record has of one job. `examples/explained.py` has explanations that were written by
+//! hand, and holds the built `nvq` to them.
 #![tactic(auto)]
 
 mod around;

@@ -11,10 +11,10 @@ use crate::kind::{Kind, is_read, kind_of};
 use nvm_audit::DoneJob;
 use nvm_geometry::Geometry;
 use nvm_plan::laws::{parts_of_jobs, ready_jobs};
-use nvm_plan::{Job, JobUnits, Part, PartResult, Plan, job_units, plan};
+use nvm_plan::{Job, JobUnits, Part, PartResult, Plan, plan, ready_job_units};
 use nvm_record::Statuses;
 
-/// What is first wrong. `told` are the statuses that are recorded, and `due` is what is right in place of what is recorded.
+/// What is first wrong. `recorded` are the statuses that are recorded, and `due` is what is right in place of what is recorded.
 #[derive(Clone, Copy)]
 pub enum ShapeFault {
     /// A part is in a unit in which the job's next part isn't. That is in another, or there is none.
@@ -29,23 +29,23 @@ pub enum ShapeFault {
         kind: Kind,
     },
     /// A part after which there can be none has another after it.
-    PartBehind {
+    PartAfterEnd {
         unit: u16,
         result: PartResult,
     },
     /// The statuses aren't those of the check that refuses the job.
     StatusRefused {
-        told: Statuses,
+        recorded: Statuses,
         due: Statuses,
     },
     /// The statuses aren't those of a job of which no part was done.
     StatusUnstarted {
-        told: Statuses,
+        recorded: Statuses,
         due: Statuses,
     },
     /// The statuses aren't those of a job whose last part ended so.
     StatusAfter {
-        told: Statuses,
+        recorded: Statuses,
         result: PartResult,
         due: Statuses,
     },
@@ -83,7 +83,7 @@ fn refused_fault(refusal: Statuses, done: &DoneJob) -> Option<ShapeFault>
     }
     if done.statuses != refusal {
         return Some(ShapeFault::StatusRefused {
-            told: done.statuses,
+            recorded: done.statuses,
             due: refusal,
         });
     }
@@ -101,7 +101,7 @@ fn ready_fault(geometry: &Geometry, job: &Job, done: &DoneJob) -> Option<ShapeFa
 {
     parts_of_jobs();
     let kind = kind_of(&job.body);
-    let mut units = job_units(geometry, job);
+    let mut units = ready_job_units(geometry, job);
     if let Some(fault) = ending_fault(kind, &mut units, &done.parts, done.statuses) {
         return Some(fault);
     }
@@ -118,40 +118,40 @@ fn ending_fault(
     kind: Kind,
     units: &mut JobUnits<'_>,
     parts: &[Part],
-    told: Statuses,
+    recorded: Statuses,
 ) -> Option<ShapeFault>
-    ensures { (deed : Deed) → kinds.kind_of deed ≡ kind → result ≡ spec.ending_fault deed units.old parts.now told }
+    ensures { (deed : Deed) → kinds.kind_of deed ≡ kind → result ≡ spec.ending_fault deed units.old parts.now recorded }
 {
     if parts.is_empty() {
-        unstarted_fault(kind, units, told)
+        unstarted_fault(kind, units, recorded)
     } else {
-        parts_fault(kind, units, parts, told)
+        parts_fault(kind, units, parts, recorded)
     }
 }
 
 /// Whether the statuses are other ones than are due where no part was done.
-fn unstarted_fault(kind: Kind, units: &mut JobUnits<'_>, told: Statuses) -> Option<ShapeFault>
-    ensures { (deed : Deed) → kinds.kind_of deed ≡ kind → result ≡ spec.unstarted_fault deed units.old told }
+fn unstarted_fault(kind: Kind, units: &mut JobUnits<'_>, recorded: Statuses) -> Option<ShapeFault>
+    ensures { (deed : Deed) → kinds.kind_of deed ≡ kind → result ≡ spec.unstarted_fault deed units.old recorded }
 {
     let due = match units.next() {
         Some(_) => kind.unstarted(),
         None => kind.success(),
     };
-    if told == due {
+    if recorded == due {
         None
     } else {
-        Some(ShapeFault::StatusUnstarted { told, due })
+        Some(ShapeFault::StatusUnstarted { recorded, due })
     }
 }
 
-/// What is first wrong with the parts, and with the statuses behind them.
+/// What is first wrong with the parts, and with the statuses after them.
 fn parts_fault(
     kind: Kind,
     units: &mut JobUnits<'_>,
     parts: &[Part],
-    told: Statuses,
+    recorded: Statuses,
 ) -> Option<ShapeFault>
-    ensures { (deed : Deed) → kinds.kind_of deed ≡ kind → result ≡ spec.parts_fault deed units.old parts.now told }
+    ensures { (deed : Deed) → kinds.kind_of deed ≡ kind → result ≡ spec.parts_fault deed units.old parts.now recorded }
 {
     if let Some(fault) = unit_fault(units, parts) {
         return Some(fault);
@@ -159,11 +159,11 @@ fn parts_fault(
     if let Some(fault) = result_fault(kind, parts) {
         return Some(fault);
     }
-    if let Some(fault) = end_fault(kind.success(), kind.stop(), told, parts) {
+    if let Some(fault) = end_fault(kind.success(), kind.stop(), recorded, parts) {
         return Some(fault);
     }
     match units.next() {
-        Some(unit) if told.is_success() => Some(ShapeFault::PartMissing { unit }),
+        Some(unit) if recorded.is_success() => Some(ShapeFault::PartMissing { unit }),
         _ => None,
     }
 }
@@ -201,21 +201,21 @@ fn result_fault(kind: Kind, parts: &[Part]) -> Option<ShapeFault>
     None
 }
 
-/// The first of the parts behind which none can be, where one is, or whether the statuses are other ones than the last part decides.
+/// The first of the parts after which none can be, where one is, or whether the statuses are other ones than the last part decides.
 fn end_fault(
     success: Statuses,
     stop: Statuses,
-    told: Statuses,
+    recorded: Statuses,
     parts: &[Part],
 ) -> Option<ShapeFault>
-    ensures { result ≡ spec.end_fault success stop told parts.now }
+    ensures { result ≡ spec.end_fault success stop recorded parts.now }
 {
     for (place, part) in parts.iter().enumerate() {
         if place + 1 == parts.len() {
-            return status_after(success, stop, told, part.result);
+            return status_after(success, stop, recorded, part.result);
         }
         if !goes_on(part.result) {
-            return Some(ShapeFault::PartBehind {
+            return Some(ShapeFault::PartAfterEnd {
                 unit: part.unit,
                 result: part.result,
             });
@@ -235,21 +235,21 @@ fn goes_on(ended: PartResult) -> bool
 fn status_after(
     success: Statuses,
     stop: Statuses,
-    told: Statuses,
+    recorded: Statuses,
     ended: PartResult,
 ) -> Option<ShapeFault>
-    ensures { result ≡ spec.status_after success stop told ended }
+    ensures { result ≡ spec.status_after success stop recorded ended }
 {
     let due = match ended {
         PartResult::Done => success,
         PartResult::NoMemory | PartResult::Full => stop,
         PartResult::Failed | PartResult::Looked => return None,
     };
-    if told == due {
+    if recorded == due {
         None
     } else {
         Some(ShapeFault::StatusAfter {
-            told,
+            recorded,
             result: ended,
             due,
         })

@@ -1,6 +1,5 @@
 ghost use Rattle.std.specs.Prelude.{◌≡◌, ◌++◌, OnOk, string_bytes};
 ghost use Rattle.nvm_plan.specs.Checks.{refusal_of};
-ghost use Rattle.nvm_report.specs.DoneLines.{word_of as words_of};
 ghost use Rattle.nvm_explain.specs.ShapeStory as spec;
 
 use crate::doing::done_of;
@@ -9,8 +8,9 @@ use crate::looked_up::job_of;
 use crate::shape_fault::{ShapeFault, shape_fault};
 use nvm_audit::Record;
 use nvm_geometry::Geometry;
-use nvm_plan::{Job, PartResult, Plan, job_units, plan};
+use nvm_plan::{Job, Plan, plan, ready_job_units};
 use nvm_record::NoMemory;
+use nvm_report::result_word;
 use nvm_text::StatusesText;
 
 /// Appends with which statuses a check refuses the job, or in which units it has a part, and what is first wrong with what was done
@@ -43,7 +43,7 @@ fn push_plan(text: &mut String, geometry: &Geometry, job: &Job) -> Result<(), No
         }
         Plan::Ready => {
             text.push_str("no check refuses the job, which has a part in each of the units:")?;
-            for unit in job_units(geometry, job) {
+            for unit in ready_job_units(geometry, job) {
                 write!(text, " {unit}")?;
             }
             text.push_str("\n")
@@ -69,40 +69,44 @@ fn push_fault(text: &mut String, fault: ShapeFault) -> Result<(), NoMemory>
             "a part is recorded in unit {unit}, where none is due\n"
         ),
         ShapeFault::ResultWrong { unit, result, kind } => {
-            let ended = word_of(result);
+            let ended = result_word(result);
             let ends = ends_of(kind);
             write!(
                 text,
                 "the part in unit {unit} is recorded as {ended}, where it can be: {ends}\n"
             )
         }
-        ShapeFault::PartBehind { unit, result } => {
-            let ended = word_of(result);
+        ShapeFault::PartAfterEnd { unit, result } => {
+            let ended = result_word(result);
             write!(
                 text,
                 "the part in unit {unit} ended the job as {ended}, and another is recorded after it\n"
             )
         }
-        ShapeFault::StatusRefused { told, due } => {
-            let told = StatusesText(told);
+        ShapeFault::StatusRefused { recorded, due } => {
+            let recorded = StatusesText(recorded);
             let due = StatusesText(due);
-            write!(text, "status {told} is recorded, where {due} is due\n")
+            write!(text, "status {recorded} is recorded, where {due} is due\n")
         }
-        ShapeFault::StatusUnstarted { told, due } => {
-            let told = StatusesText(told);
+        ShapeFault::StatusUnstarted { recorded, due } => {
+            let recorded = StatusesText(recorded);
             let due = StatusesText(due);
             write!(
                 text,
-                "status {told} is recorded, where {due} is due: no part is recorded\n"
+                "status {recorded} is recorded, where {due} is due: no part is recorded\n"
             )
         }
-        ShapeFault::StatusAfter { told, result, due } => {
-            let told = StatusesText(told);
+        ShapeFault::StatusAfter {
+            recorded,
+            result,
+            due,
+        } => {
+            let recorded = StatusesText(recorded);
             let due = StatusesText(due);
-            let ended = word_of(result);
+            let ended = result_word(result);
             write!(
                 text,
-                "status {told} is recorded, where {due} is due: the last part is recorded as {ended}\n"
+                "status {recorded} is recorded, where {due} is due: the last part is recorded as {ended}\n"
             )
         }
         ShapeFault::PartMissing { unit } => write!(
@@ -114,19 +118,6 @@ fn push_fault(text: &mut String, fault: ShapeFault) -> Result<(), NoMemory>
             "no data is recorded, where that of the Read is due\n"
         ),
         ShapeFault::DataGiven => write!(text, "data is recorded, where none is due\n"),
-    }
-}
-
-/// The word for how a part ended.
-fn word_of(ended: PartResult) -> &'static str
-    ensures { result.now ≡ words_of ended }
-{
-    match ended {
-        PartResult::Done => "done",
-        PartResult::Failed => "failed",
-        PartResult::Looked => "looked",
-        PartResult::NoMemory => "no-memory",
-        PartResult::Full => "full",
     }
 }
 

@@ -7,7 +7,7 @@ use nvm_record::NoMemory;
 use nvm_store::{Entry, History};
 use std::alloc::Global;
 
-/// A run has at most so many workers.
+/// The most workers of a run.
 const MOST_WORKERS: usize = 64;
 
 /// How many entries each unit has.

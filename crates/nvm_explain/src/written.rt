@@ -13,8 +13,8 @@ use nvm_plan::{LentPart, job_part_in};
 use nvm_record::{BlockSize, NoMemory};
 use nvm_store::{Act, ActRef, Entry, Look};
 
-/// Appends the first byte that the entry writes otherwise than the part of its job in the unit, if there is such a job, where both write as many
-/// blocks from one LBA.
+/// Appends the first byte that the entry writes otherwise than the part of its job in the unit, if there is such a job, where both write
+/// the same number of blocks from one LBA.
 pub(crate) fn push_written(
     text: &mut String,
     run: &Record,

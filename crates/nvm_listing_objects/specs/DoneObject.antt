@@ -3,16 +3,16 @@ use Rattle.std.specs.Prelude.{ℕ, ◌+◌, Bool, true, false, if◌then◌else�
 use Rattle.nvm_record.specs.declared.status.Statuses.{Statuses}
 use Rattle.nvm_plan.specs.declared.part.Part.{Part}
 use Rattle.nvm_audit.specs.RecordedJob.{RecordedJob}
-use Rattle.nvm_report.specs.DoneLines.{word_of}
+use Rattle.nvm_report.specs.DoneLines.{result_word}
 use Rattle.nvm_objects.specs.Values.{data_value, status_strings}
 
 -- the part's unit, the point on which it rests, and how it ended, in the word of the record's listing
 unfoldable pub part_object : Part → List ℕ
 part_object part =
     codes "{\"unit\":" ++ (decimal part.unit
-    ++ (codes ",\"point\":" ++ (decimal part.point ++ (codes ",\"result\":\"" ++ (word_of part.result ++ codes "\"}")))))
+    ++ (codes ",\"point\":" ++ (decimal part.point ++ (codes ",\"result\":\"" ++ (result_word part.result ++ codes "\"}")))))
 
--- what stands before a part
+-- what comes before a part
 abbrev pub comma_before : Bool → List ℕ
 comma_before is_first = if is_first then [] else codes ","
 
@@ -21,13 +21,13 @@ abbrev pub part_objects : Bool → List Part → List ℕ
 part_objects is_first [] = []
 part_objects is_first (part ∷ parts) = (comma_before is_first ++ part_object part) ++ part_objects false parts
 
--- what stands before the parts: the worker that did the job, the job's number, and its statuses
+-- what comes before the parts: the worker that did the job, the job's number, and its statuses
 unfoldable pub done_start : ℕ → ℕ → Statuses → List ℕ
 done_start worker job statuses =
     codes "{\"worker\":" ++ (decimal worker
     ++ (codes ",\"job\":" ++ (decimal job ++ (codes ",\"statuses\":[" ++ (status_strings statuses ++ codes "],\"parts\":[")))))
 
--- what stands behind them: the data of a Read as the longest runs of equal bytes, if there is any
+-- what comes after them: the data of a Read as the longest runs of equal bytes, if there is any
 unfoldable pub done_end : Option (List ℕ) → List ℕ
 done_end answered = codes "],\"data\":" ++ (data_value answered ++ codes "}\n")
 

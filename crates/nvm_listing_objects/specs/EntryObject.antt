@@ -15,11 +15,11 @@ abbrev pub data_member : List ℕ → List ℕ
 data_member bytes = codes ",\"data\":\"" ++ (runs_text (runs bytes) ++ codes "\"")
 
 -- the data to compare with, and that to write
-unfoldable pub pair_members : List ℕ → List ℕ → List ℕ
+abbrev pub pair_members : List ℕ → List ℕ → List ℕ
 pair_members compare write =
     codes ",\"compare\":\"" ++ (runs_text (runs compare) ++ (codes "\",\"write\":\"" ++ (runs_text (runs write) ++ codes "\"")))
 
--- What was done, on which blocks, with which data: of a pair the data to compare with stands before that to write. A
+-- What was done, on which blocks, with which data: of a pair the data to compare with comes before that to write. A
 -- Deallocate is on its ranges. A history has no Read and no Compare.
 abbrev pub deed_members : ℕ → ℕ → Deed → List ℕ
 deed_members first blocks (writes payload) =

@@ -1,12 +1,12 @@
 //! A job that a worker did as an object of JSON.
 ghost use Rattle.std.specs.Prelude.{◌≡◌, ◌++◌, true, OnOk, map, string_bytes};
-ghost use Rattle.nvm_report.specs.DoneLines.{word_of};
 ghost use Rattle.nvm_listing_objects.specs.DoneObject as spec;
 
 use nvm_audit::DoneJob;
 use nvm_objects::{DataValue, StatusStrings};
-use nvm_plan::{Part, PartResult};
+use nvm_plan::Part;
 use nvm_record::{NoMemory, ReadData, Statuses};
+use nvm_report::result_word;
 
 /// Appends the objects of what workers did, of which the first has number 0.
 pub(crate) fn push_workers(text: &mut String, done: &[Vec<DoneJob>]) -> Result<(), NoMemory>
@@ -39,7 +39,7 @@ fn push_done(text: &mut String, worker: u64, done: &DoneJob) -> Result<(), NoMem
     push_end(text, &done.payload)
 }
 
-/// Appends what stands before the parts.
+/// Appends what comes before the parts.
 #[tactic(auto, unfolding(crate::specs::DoneObject::done_start))]
 fn push_start(text: &mut String, worker: u64, job: u32, statuses: Statuses) -> Result<(), NoMemory>
     ensures { OnOk result (string_bytes text.new ≡ string_bytes text.old ++ spec.done_start worker job statuses) }
@@ -63,7 +63,7 @@ fn push_parts(text: &mut String, parts: &[Part]) -> Result<(), NoMemory>
     Ok(())
 }
 
-/// Appends the object of one part, behind a comma unless it is the first.
+/// Appends the object of one part, after a comma unless it is the first.
 #[tactic(auto, unfolding(crate::specs::DoneObject::part_object))]
 fn push_part(text: &mut String, is_first: bool, part: Part) -> Result<(), NoMemory>
     ensures { OnOk result (string_bytes text.new
@@ -75,34 +75,21 @@ fn push_part(text: &mut String, is_first: bool, part: Part) -> Result<(), NoMemo
         result,
     } = part;
     let comma = comma_before(is_first);
-    let ended = word_of(result);
+    let ended = result_word(result);
     write!(
         text,
         "{comma}{{\"unit\":{unit},\"point\":{point},\"result\":\"{ended}\"}}"
     )
 }
 
-/// What stands before a part.
+/// What comes before a part.
 fn comma_before(is_first: bool) -> &'static str
     ensures { result.now ≡ spec.comma_before is_first }
 {
     if is_first { "" } else { "," }
 }
 
-/// The word for how a part ended.
-fn word_of(ended: PartResult) -> &'static str
-    ensures { result.now ≡ word_of ended }
-{
-    match ended {
-        PartResult::Done => "done",
-        PartResult::Failed => "failed",
-        PartResult::Looked => "looked",
-        PartResult::NoMemory => "no-memory",
-        PartResult::Full => "full",
-    }
-}
-
-/// Appends what stands behind the parts: the data of a Read, if there is any.
+/// Appends what comes after the parts: the data of a Read, if there is any.
 #[tactic(auto, unfolding(crate::specs::DoneObject::done_end))]
 fn push_end(text: &mut String, payload: &Option<ReadData>) -> Result<(), NoMemory>
     ensures { OnOk result (string_bytes text.new ≡ string_bytes text.old ++ spec.done_end payload.now) }

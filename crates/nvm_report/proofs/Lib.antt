@@ -1,0 +1,3 @@
+pub mod Ranges
+pub mod Reached
+pub mod Places

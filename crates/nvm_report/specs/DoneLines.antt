@@ -10,12 +10,12 @@ use Rattle.nvm_text.specs.Runs.{runs}
 use Rattle.nvm_text.specs.Lines.{runs_text, statuses_text}
 
 -- how a part ended
-abbrev pub word_of : PartResult → List ℕ
-word_of Done = codes "done"
-word_of Failed = codes "failed"
-word_of Looked = codes "looked"
-word_of NoMemory = codes "no-memory"
-word_of Full = codes "full"
+abbrev pub result_word : PartResult → List ℕ
+result_word Done = codes "done"
+result_word Failed = codes "failed"
+result_word Looked = codes "looked"
+result_word NoMemory = codes "no-memory"
+result_word Full = codes "full"
 
 -- the worker that did the job, the job's number, the part's unit, the point on which it rests, and how it ended
 unfoldable pub part_line : ℕ → ℕ → Part → List ℕ
@@ -24,7 +24,7 @@ part_line worker job part =
     ++ (codes " job " ++ (decimal job
     ++ (codes " unit " ++ (decimal part.unit
     ++ (codes " point " ++ (decimal part.point
-    ++ (codes " " ++ (word_of part.result ++ codes "\n")))))))))
+    ++ (codes " " ++ (result_word part.result ++ codes "\n")))))))))
 
 abbrev pub part_lines : ℕ → ℕ → List Part → List ℕ
 part_lines worker job [] = []

@@ -14,7 +14,7 @@ blocks_text name first blocks = name ++ (decimal first ++ (codes " " ++ decimal 
 abbrev pub data_text : List ℕ → List ℕ
 data_text bytes = codes " " ++ runs_text (runs bytes)
 
--- What was done, on which blocks, with which data: of a pair the data to compare with stands before that to write. A
+-- What was done, on which blocks, with which data: of a pair the data to compare with comes before that to write. A
 -- Deallocate is on its ranges. A history has no Read and no Compare.
 abbrev pub deed_text : ℕ → ℕ → Deed → List ℕ
 deed_text first blocks (writes payload) = blocks_text (codes " write ") first blocks ++ data_text payload

@@ -4,3 +4,4 @@ pub mod JobLines
 pub mod EntryLines
 pub mod DoneLines
 pub mod RecordListing
+pub mod LastChange

@@ -1,4 +1,4 @@
--- A number behind the words that say what it is.
+-- A number after the words that say what it is.
 use Rattle.std.specs.Prelude.{ℕ, List, ◌++◌, decimal}
 
 unfoldable pub numbered : List ℕ → ℕ → List ℕ

@@ -59,7 +59,7 @@ pub fn push_part(text: &mut String, worker: u64, job: u32, part: Part) -> Result
         point,
         result,
     } = part;
-    let ended = word_of(result);
+    let ended = result_word(result);
     write!(
         text,
         "worker {worker} job {job} unit {unit} point {point} {ended}\n"
@@ -67,8 +67,8 @@ pub fn push_part(text: &mut String, worker: u64, job: u32, part: Part) -> Result
 }
 
 /// The word for how a part ended.
-fn word_of(ended: PartResult) -> &'static str
-    ensures { result.now ≡ spec.word_of ended }
+pub fn result_word(ended: PartResult) -> &'static str
+    ensures { result.now ≡ spec.result_word ended }
 {
     match ended {
         PartResult::Done => "done",

@@ -4,7 +4,7 @@ use Rattle.nvm_audit.specs.RecordView.{RecordView}
 use Rattle.nvm_draw.specs.declared.mark.Mark.{Mark}
 use Rattle.nvm_draw.specs.Marks.{by_number, is_mark, marks_of}
 
--- The mark stands behind the others of the list at the place, if there is one.
+-- The mark comes after the others of the list at the place, if there is one.
 abbrev pub put_at : ℕ → Mark → List (List Mark) → List (List Mark)
 put_at place mark [] = []
 put_at zero mark (marks ∷ lists) = (marks ++ mark ∷ []) ∷ lists
@@ -28,7 +28,7 @@ abbrev pub with_points : ℕ → List Mark → List (List Mark) → List (List M
 with_points from [] lists = lists
 with_points from (mark ∷ marks) lists = with_points from marks (with_point from mark lists)
 
--- So many lists have nothing in them, whatever number they are for.
+-- These are `count` empty lists, whatever number they are for.
 abbrev pub AreEmpty : ℕ → List (List Mark) → Type 0
 AreEmpty count lists = (number : Mark → ℕ) (from : ℕ) → lists ≡ by_number number from count []
 

@@ -6,6 +6,6 @@ use Rattle.nvm_draw.proofs.row.push_rows.Given as goal
 abbrev pub invariant-loop-place : goal.invariant-loop-place
 invariant-loop-place l = record {
   few : length l.above ≤ 64;
-  told : string_bytes l.text ++ rows_text l.run l.rings l.sheet.from l.sheet.columns l.place l.above (drop l.place l.sheet.rows.items)
+  written : string_bytes l.text ++ rows_text l.run l.rings l.sheet.from l.sheet.columns l.place l.above (drop l.place l.sheet.rows.items)
       ≡ string_bytes l.fn.text ++ rows_text l.run l.rings l.sheet.from l.sheet.columns 0 [] l.sheet.rows.items;
 }

@@ -3,7 +3,7 @@ use Rattle.nvm_explain.specs.Ended.{all_statuses, different_statuses}
 use Rattle.nvm_explain.proofs.Telling.{met_and_left}
 use Rattle.nvm_explain.proofs.ended.different_statuses.Given as goal
 
--- the statuses that were met, and those that are left of this worker and of those behind it, are all
+-- the statuses that were met, and those that are left of this worker and of those after it, are all
 abbrev pub invariant-loop-it : goal.invariant-loop-it
 invariant-loop-it l =
     met_and_left l.met.items (map (λ d. d.statuses) (drop l.it-index l.it-items)

@@ -4,12 +4,12 @@ use Rattle.nvm_explain.proofs.shape_story.push_fault.Goals as goal
 pub returns-in-ResultWrong : goal.returns-in-ResultWrong
 unfolding shape_line
 returns-in-ResultWrong c =
-    rw (c.in-ResultWrong.is, ← c.word_of-ended.ensures, ← c.ends_of-ends.ensures) c.write-in-ResultWrong.ensures.bytes
+    rw (c.in-ResultWrong.is, ← c.result_word-ended.ensures, ← c.ends_of-ends.ensures) c.write-in-ResultWrong.ensures.bytes
 
-pub returns-in-PartBehind : goal.returns-in-PartBehind
+pub returns-in-PartAfterEnd : goal.returns-in-PartAfterEnd
 unfolding shape_line
-returns-in-PartBehind c =
-    rw (c.in-PartBehind.is, ← c.word_of-ended-in-PartBehind.ensures) c.write-in-PartBehind.ensures.bytes
+returns-in-PartAfterEnd c =
+    rw (c.in-PartAfterEnd.is, ← c.result_word-ended-in-PartAfterEnd.ensures) c.write-in-PartAfterEnd.ensures.bytes
 
 pub returns-in-StatusUnstarted : goal.returns-in-StatusUnstarted
 unfolding shape_line
@@ -18,4 +18,4 @@ returns-in-StatusUnstarted c = rw c.in-StatusUnstarted.is c.write-in-StatusUnsta
 pub returns-in-StatusAfter : goal.returns-in-StatusAfter
 unfolding shape_line
 returns-in-StatusAfter c =
-    rw (c.in-StatusAfter.is, ← c.word_of-ended-in-StatusAfter.ensures) c.write-in-StatusAfter.ensures.bytes
+    rw (c.in-StatusAfter.is, ← c.result_word-ended-in-StatusAfter.ensures) c.write-in-StatusAfter.ensures.bytes

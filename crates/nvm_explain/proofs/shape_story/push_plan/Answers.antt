@@ -6,7 +6,7 @@ loop-unit-init c =
     rw (
       c.in-Ready.ensures.table,
       c.into_iter-unit-iterator.ensures.into_iter_gives,
-      c.job_units-unit-items.ensures,
+      c.ready_job_units-unit-items.ensures,
       c.in_ok-push_str-in-Ready.ensures.bytes,
       append_assoc,
     )

@@ -27,7 +27,7 @@ loop-entry-preserved c =
     let n = c.loop-entry.entry-index in
     let entry = c.entry-item.result in
     let stepped = c.in_ok-goes_on.ensures.step m (search rules) c.loop-entry.invariant.held in
-    let told = c.in_ok-goes_on.ensures.goes m c.loop-entry.invariant.held in
+    let says = c.in_ok-goes_on.ensures.goes m c.loop-entry.invariant.held in
     let goes : c.in_ok-goes_on.field-0 ≡ true = search rules in
     let here : n < length entries = search rules in
     let is : get_or entries n entry ≡ entry = sym c.entry-item.is in
@@ -38,5 +38,5 @@ loop-entry-preserved c =
       medium = medium_after size entry.operation m;
       held = rw (ap (λ (p : Place). p.size) c.loop-entry.invariant.place) at stepped;
       left = rw is at (sym more ∙ c.loop-entry.invariant.left);
-      succeed = after_success _ _ _ (sym told ∙ goes) (rw is at (sym rest ∙ c.loop-entry.invariant.succeed));
+      succeed = after_success _ _ _ (sym says ∙ goes) (rw is at (sym rest ∙ c.loop-entry.invariant.succeed));
     }

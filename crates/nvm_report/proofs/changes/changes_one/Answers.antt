@@ -2,8 +2,8 @@ use Rattle.std.proofs.Common.{ap, sym, ◌∙◌}
 use Rattle.std.specs.List.{list_any, range_with_len}
 use Rattle.nvm_record.specs.declared.lba_range.LbaRange.{LbaRange}
 use Rattle.nvm_record.specs.Ranges.{ranges_have, ranges_of}
-use Rattle.nvm_draw.proofs.Reached.{cut_fails, cut_passes}
-use Rattle.nvm_draw.proofs.last_change.changes_one.Goals as goal
+use Rattle.nvm_report.proofs.Reached.{cut_fails, cut_passes}
+use Rattle.nvm_report.proofs.changes.changes_one.Goals as goal
 
 pub returns-in-Some : goal.returns-in-Some
 returns-in-Some c =

@@ -1,5 +1,5 @@
 -- Whether one of the ranges that data names has an LBA, range by range.
-use Rattle.std.proofs.Common.{◌≡◌, ℕ, ◌+◌, ◌<◌, ◌≤◌, List, ◌||◌, true, false, ap, arith, drop, get_or, length, ◌∙◌}
+use Rattle.std.proofs.Common.{◌≡◌, ℕ, ◌+◌, ◌<◌, ◌≤◌, List, ◌||◌, false, ap, arith, drop, get_or, length, ◌∙◌}
 use Rattle.std.proofs.lemmas.List.{at_drop_more, at_drop_all, get_or-map, length-map}
 use Rattle.std.proofs.lemmas.List.FromFn.{get_or-range_with_len, length-range_with_len}
 use Rattle.std.specs.List.{range_with_len}
@@ -10,7 +10,7 @@ as_many : (payload : List ℕ) → length (ranges_of payload) ≡ range_count pa
 as_many payload =
     length-map (range_with_len 0 (range_count payload)) (range_at payload) ∙ length-range_with_len 0 (range_count payload)
 
--- The first of the ranges that are left has the LBA, or one of those behind it does.
+-- The first of the ranges that are left has the LBA, or one of those after it does.
 pub next_range : (payload : List ℕ) (place lba : ℕ) → place < range_count payload
     → ranges_have (drop place (ranges_of payload)) lba
     ≡ (range_has (range_at payload place) lba || ranges_have (drop (place + 1) (ranges_of payload)) lba)
@@ -24,20 +24,8 @@ next_range payload place lba low =
     at_drop_more (λ (rs : List LbaRange). ranges_have rs lba) (ranges_of payload) place d here
     ∙ ap (λ (r : LbaRange). range_has r lba || ranges_have (drop (place + 1) (ranges_of payload)) lba) is
 
--- Behind all ranges none is left.
+-- After all ranges none is left.
 pub no_range : (payload : List ℕ) (place lba : ℕ) → range_count payload ≤ place
     → ranges_have (drop place (ranges_of payload)) lba ≡ false
 no_range payload place lba past =
     at_drop_all (λ (rs : List LbaRange). ranges_have rs lba) (ranges_of payload) place (omega (arith, past, as_many payload))
-
--- The first of the ranges that are left has the LBA.
-pub range_there : (payload : List ℕ) (place lba : ℕ) → place < range_count payload → range_has (range_at payload place) lba ≡ true
-    → ranges_have (drop place (ranges_of payload)) lba ≡ true
-range_there payload place lba low has =
-    next_range payload place lba low ∙ ap (λ b. b || ranges_have (drop (place + 1) (ranges_of payload)) lba) has
-
--- It hasn't.
-pub range_passed : (payload : List ℕ) (place lba : ℕ) → place < range_count payload → range_has (range_at payload place) lba ≡ false
-    → ranges_have (drop place (ranges_of payload)) lba ≡ ranges_have (drop (place + 1) (ranges_of payload)) lba
-range_passed payload place lba low has =
-    next_range payload place lba low ∙ ap (λ b. b || ranges_have (drop (place + 1) (ranges_of payload)) lba) has

@@ -1,8 +1,8 @@
 use Rattle.std.proofs.Common.{◌<◌, ◌≤◌, arith, subst, sym, ◌∙◌}
 use Rattle.nvm_record.specs.declared.lba_range.LbaRange.{LbaRange}
 use Rattle.nvm_record.specs.Ranges.{cut_range, range_count}
-use Rattle.nvm_draw.proofs.Reached.{all_missed, none_left, range_met, range_missed, some_left}
-use Rattle.nvm_draw.proofs.last_change.have_one.Goals as goal
+use Rattle.nvm_report.proofs.Reached.{all_missed, none_left, range_met, range_missed, some_left}
+use Rattle.nvm_report.proofs.changes.have_one.Goals as goal
 
 pub returns-then-is_some : goal.returns-then-is_some
 returns-then-is_some c =

@@ -1,7 +1,7 @@
 use Rattle.std.proofs.Common.{inl, inr, sym, ◌∙◌}
 use Rattle.std.proofs.lemmas.Bool.{cases_Bool}
-use Rattle.nvm_draw.proofs.Reached.{cut_gone, cut_there, none_left, some_left}
-use Rattle.nvm_draw.proofs.last_change.meet.Goals as goal
+use Rattle.nvm_report.proofs.Reached.{cut_gone, cut_there, none_left, some_left}
+use Rattle.nvm_report.proofs.changes.meet.Goals as goal
 
 pub returns : goal.returns
 returns c =

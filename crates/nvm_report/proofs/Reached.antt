@@ -6,7 +6,7 @@ use Rattle.std.specs.List.{list_any, range_with_len}
 use Rattle.std.specs.Option.{SomeIff, is_some}
 use Rattle.nvm_record.specs.declared.lba_range.LbaRange.{LbaRange}
 use Rattle.nvm_record.specs.Ranges.{cut_range, range_at, range_count, range_has, ranges_have, ranges_of}
-use Rattle.nvm_draw.proofs.Ranges.{next_range, no_range}
+use Rattle.nvm_report.proofs.Ranges.{next_range, no_range}
 
 or_true : (b : Bool) → (b || true) ≡ true
 or_true true = refl
@@ -18,8 +18,8 @@ some_passes : (test : ℕ → Bool) (first count lba : ℕ) → first ≤ lba �
 some_passes test first zero lba above below passes = absurd (omega (arith, above, below))
 some_passes test first (suc count) lba above below passes =
     elim (cases_Bool (nat_lt first lba)) [
-      | inl behind ↦
-          let low = ltb-true first lba behind in
+      | inl later ↦
+          let low = ltb-true first lba later in
           ap (λ (c : Bool). test first || c) (some_passes test (first + 1) count lba (omega (arith, low)) (omega (arith, below)) passes)
           ∙ or_true (test first)
       | inr here ↦
@@ -78,8 +78,8 @@ narrowed test first end a (suc count) low n at long =
           let under = ltb-true a first before in
           narrowed test first end (a + 1) count low n (omega (arith, at, under)) (omega (arith, at, long))
           ∙ ap (λ (d : Bool). d || rest) (sym (and_false (test a) (among a) (outside first end a (inl under))))
-      | inr behind ↦
-          let high = ltb-false a first behind in
+      | inr later ↦
+          let high = ltb-false a first later in
           let here : low ≡ a = omega (arith, at, high) in
           elim (cases_Bool (nat_lt a end)) [
             | inl before ↦
@@ -167,7 +167,7 @@ all_missed payload place r past =
     none_passes (λ lba. ranges_have (drop place (ranges_of payload)) lba) r.first r.blocks
     (λ lba above below. no_range payload place lba past)
 
--- What it tells whether something is left of a cut.
+-- What it says of a cut that something is left of it.
 pub some_left : (cut : Option LbaRange) (P : Type 0) (it : LbaRange) → SomeIff cut P it → is_some cut ≡ true → P
 some_left None P it iff is = absurd (false≢true is)
 some_left (Some x) P it iff is = iff.0

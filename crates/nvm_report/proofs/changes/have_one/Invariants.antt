@@ -1,7 +1,7 @@
 use Rattle.std.proofs.Common.{◌≡◌, drop}
 use Rattle.std.specs.List.{list_any, range_with_len}
 use Rattle.nvm_record.specs.Ranges.{ranges_have, ranges_of}
-use Rattle.nvm_draw.proofs.last_change.have_one.Given as goal
+use Rattle.nvm_report.proofs.changes.have_one.Given as goal
 
 -- a block lies in one of the ranges where one lies in one of those that are left
 abbrev pub invariant-loop-place : goal.invariant-loop-place
