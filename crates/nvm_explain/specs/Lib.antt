@@ -21,6 +21,5 @@ pub mod Ended
 pub mod Distinct
 pub mod Most
 pub mod Summary
-pub mod Kinds
 pub mod ShapeFault
 pub mod ShapeStory

@@ -13,6 +13,7 @@ use Rattle.nvm_plan.specs.declared.part.Part.{Part}
 use Rattle.nvm_plan.specs.declared.part.PartResult.{PartResult}
 use Rattle.nvm_plan.specs.declared.part.PartResult.TheVariants.{Done, Failed, Looked, NoMemory, Full}
 use Rattle.nvm_plan.specs.Checks.{refusal_of}
+use Rattle.nvm_plan.specs.Kinds.{kind_of}
 use Rattle.nvm_plan.specs.Operation.{job_operation_of}
 use Rattle.nvm_plan.specs.Outcome.{unstarted_of}
 use Rattle.nvm_plan.specs.Reply.{can_have, stop_of}
@@ -21,7 +22,6 @@ use Rattle.nvm_audit.specs.RecordedJob.{RecordedJob}
 use Rattle.nvm_explain.specs.declared.shape_fault.ShapeFault.{ShapeFault}
 use Rattle.nvm_explain.specs.declared.shape_fault.ShapeFault.TheVariants.{UnitWrong, ResultWrong, PartAfterEnd, StatusRefused, StatusUnstarted, StatusAfter, PartMissing, DataMissing, DataGiven}
 use Rattle.nvm_explain.specs.Ended.{same_statuses}
-use Rattle.nvm_explain.specs.Kinds.{kind_of}
 use Rattle.nvm_explain.specs.Reached.{is_success}
 
 -- The first of the parts that isn't in the first of these units that is left, if there is one.

@@ -8,8 +8,8 @@ use Rattle.nvm_plan.specs.JobPart.{job_units}
 use Rattle.nvm_audit.specs.RecordView.{RecordView}
 use Rattle.nvm_text.specs.Lines.{statuses_text}
 use Rattle.nvm_report.specs.DoneLines.{result_word}
-use Rattle.nvm_explain.specs.declared.kind.Kind.{Kind}
-use Rattle.nvm_explain.specs.declared.kind.Kind.TheVariants.{Act, Pair, Look}
+use Rattle.nvm_plan.specs.declared.kind.Kind.{Kind}
+use Rattle.nvm_plan.specs.declared.kind.Kind.TheVariants.{Act, Pair, Look}
 use Rattle.nvm_explain.specs.declared.shape_fault.ShapeFault.{ShapeFault}
 use Rattle.nvm_explain.specs.declared.shape_fault.ShapeFault.TheVariants.{UnitWrong, ResultWrong, PartAfterEnd, StatusRefused, StatusUnstarted, StatusAfter, PartMissing, DataMissing, DataGiven}
 use Rattle.nvm_explain.specs.Doing.{first_done}

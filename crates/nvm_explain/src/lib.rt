@@ -17,7 +17,6 @@ mod entry_story;
 mod explaining;
 mod given;
 mod job_story;
-mod kind;
 mod last_change;
 mod looked_up;
 mod meaning;

@@ -2,16 +2,15 @@
 ghost use Rattle.std.specs.Prelude.{◌≡◌, None, Some};
 ghost use Rattle.nvm_record.specs.Step.{Deed, Operation};
 ghost use Rattle.nvm_plan.specs.Checks.{refusal_of};
+ghost use Rattle.nvm_plan.specs.Kinds as kinds;
 ghost use Rattle.nvm_plan.specs.Operation.{job_operation_of};
 ghost use Rattle.nvm_plan.specs.Shape as shape;
-ghost use Rattle.nvm_explain.specs.Kinds as kinds;
 ghost use Rattle.nvm_explain.specs.ShapeFault as spec;
 
-use crate::kind::{Kind, is_read, kind_of};
 use nvm_audit::DoneJob;
 use nvm_geometry::Geometry;
 use nvm_plan::laws::{parts_of_jobs, ready_jobs};
-use nvm_plan::{Job, JobUnits, Part, PartResult, Plan, plan, ready_job_units};
+use nvm_plan::{Job, JobUnits, Kind, Part, PartResult, Plan, is_read, plan, ready_job_units};
 use nvm_record::Statuses;
 
 /// What is first wrong. `recorded` are the statuses that are recorded, and `due` is what is right in place of what is recorded.
@@ -100,7 +99,7 @@ fn ready_fault(geometry: &Geometry, job: &Job, done: &DoneJob) -> Option<ShapeFa
         → result ≡ spec.ready_fault geometry.now done.now op }
 {
     parts_of_jobs();
-    let kind = kind_of(&job.body);
+    let kind = Kind::of(&job.body);
     let mut units = ready_job_units(geometry, job);
     if let Some(fault) = ending_fault(kind, &mut units, &done.parts, done.statuses) {
         return Some(fault);

@@ -3,12 +3,11 @@ ghost use Rattle.nvm_plan.specs.Checks.{refusal_of};
 ghost use Rattle.nvm_explain.specs.ShapeStory as spec;
 
 use crate::doing::done_of;
-use crate::kind::Kind;
 use crate::looked_up::job_of;
 use crate::shape_fault::{ShapeFault, shape_fault};
 use nvm_audit::Record;
 use nvm_geometry::Geometry;
-use nvm_plan::{Job, Plan, plan, ready_job_units};
+use nvm_plan::{Job, Kind, Plan, plan, ready_job_units};
 use nvm_record::NoMemory;
 use nvm_report::result_word;
 use nvm_text::StatusesText;

@@ -2,7 +2,7 @@
 use crate::bytes::{put_u16, put_u32};
 use crate::record_bytes::RecordDraft;
 use crate::record_bytes::shares::DONE;
-use nvm_plan::{Body, Plan, job_part_count, plan};
+use nvm_plan::{Kind, Plan, plan, ready_part_count};
 use nvm_record::{NoMemory, Status, Statuses};
 use nvm_steps::{block_at, to_u32};
 use nvm_trace::{Cut, Owner};
@@ -67,8 +67,10 @@ impl<'m, 't> RecordDraft<'m, 't> {
         let job = &owner.whole.job;
         let statuses = match plan(self.geometry, job) {
             Plan::Refused(statuses) => statuses,
-            Plan::Ready if job_part_count(self.geometry, job) == 0 => success_of(&job.body),
-            Plan::Ready => without_memory(&job.body),
+            Plan::Ready if ready_part_count(self.geometry, job) == 0 => Kind::of(
+                &job.body,
+            ).success(),
+            Plan::Ready => Kind::of(&job.body).unstarted(),
         };
         put_u32(out, piece)?;
         put_u16(out, 0)?;
@@ -90,7 +92,7 @@ impl<'m, 't> RecordDraft<'m, 't> {
             put_part(out, share.unit, share.point, share.result)?;
             is_success = share.is_success;
         }
-        let success = success_of(&owner.whole.job.body);
+        let success = Kind::of(&owner.whole.job.body).success();
         let (statuses, told) = match &owner.whole.ended {
             Some(ending) if !is_success => (ending.statuses, None),
             Some(ending) => (success, ending.payload.as_ref()),
@@ -139,23 +141,5 @@ fn put_statuses(out: &mut Vec<u8>, statuses: Statuses) -> Result<(), NoMemory> {
             put_status(out, first)?;
             put_status(out, second)
         }
-    }
-}
-
-/// Success of each command.
-fn success_of(body: &Body) -> Statuses {
-    let success = Status::SUCCESSFUL_COMPLETION;
-    match body {
-        Body::Single(_) => Statuses::One(success),
-        Body::Pair(_, _) => Statuses::Two(success, success),
-    }
-}
-
-/// The statuses where there was no memory.
-fn without_memory(body: &Body) -> Statuses {
-    let internal = Status::INTERNAL_ERROR;
-    match body {
-        Body::Single(_) => Statuses::One(internal),
-        Body::Pair(_, _) => Statuses::Two(internal, Status::ABORTED_DUE_TO_FAILED_FUSED_COMMAND),
     }
 }

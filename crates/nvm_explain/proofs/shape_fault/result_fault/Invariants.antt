@@ -1,6 +1,6 @@
 use Rattle.std.proofs.Common.{◌≡◌, drop}
 use Rattle.nvm_record.specs.Step.{Deed}
-use Rattle.nvm_explain.specs.Kinds.{kind_of}
+use Rattle.nvm_plan.specs.Kinds.{kind_of}
 use Rattle.nvm_explain.specs.ShapeFault.{result_fault}
 use Rattle.nvm_explain.proofs.shape_fault.result_fault.Given as goal
 
