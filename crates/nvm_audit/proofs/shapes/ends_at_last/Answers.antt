@@ -16,7 +16,7 @@ pub returns-then-not-results_fit : goal.returns-then-not-results_fit
 returns-then-not-results_fit c = λ op is. (
   λ e. absurd (true≢false (sym e)),
   λ e.
-      let yes = (c.results_fit.ensures op.deed (c.kind_of-kind.ensures c.args.geometry.now op is)).1 e.results in
+      let yes = (c.results_fit.ensures op.deed (c.of-kind.ensures c.args.geometry.now op is)).1 e.results in
       absurd (true≢false (sym yes ∙ c.if-not-results_fit.true)),
 )
 
@@ -34,7 +34,7 @@ returns-then-not-may_show c = λ op is. (
   λ e. absurd (true≢false (sym e)),
   λ e.
       let long = c.requires.some in
-      let yes = (c.may_show.ensures op.deed (c.kind_of-kind.ensures c.args.geometry.now op is)).1
+      let yes = (c.may_show.ensures op.deed (c.of-kind.ensures c.args.geometry.now op is)).1
       (last_shows c.args.geometry.now op c.args.parts.now c.args.told (length c.args.parts.now - 1) _ (omega (arith, long)) e) in
       absurd (true≢false (sym yes ∙ c.if-not-may_show.true)),
 )
@@ -42,7 +42,7 @@ returns-then-not-may_show c = λ op is. (
 pub returns-then-not-is_success : goal.returns-then-not-is_success
 returns-then-not-is_success c = λ op is.
     let long = c.requires.some in
-    let kind = c.kind_of-kind.ensures c.args.geometry.now op is in
+    let kind = c.of-kind.ensures c.args.geometry.now op is in
     let units = c.parts_of_jobs.ensures.units c.args.geometry.now c.args.job.now op c.requires.ready is in (
       λ e.
           ends c.args.geometry.now op c.args.parts.now c.args.told (length c.args.parts.now - 1) _ (omega (arith, long))
@@ -57,7 +57,7 @@ returns-then-not-is_success c = λ op is.
 pub returns-else-not-is_success : goal.returns-else-not-is_success
 returns-else-not-is_success c = λ op is.
     let long = c.requires.some in
-    let kind = c.kind_of-kind.ensures c.args.geometry.now op is in
+    let kind = c.of-kind.ensures c.args.geometry.now op is in
     let units = c.parts_of_jobs.ensures.units c.args.geometry.now c.args.job.now op c.requires.ready is in (
       λ e.
           ends c.args.geometry.now op c.args.parts.now c.args.told (length c.args.parts.now - 1) _ (omega (arith, long))
