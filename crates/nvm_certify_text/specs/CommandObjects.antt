@@ -3,7 +3,7 @@ use Rattle.std.specs.Prelude.{ℕ, List, ◌++◌, Option, Some, None, codes, de
 use Rattle.nvm_objects.specs.Values.{data_value, sent_objects, status_strings}
 use Rattle.nvm_trace.specs.declared.traced_job.Ending.{Ending}
 use Rattle.nvm_trace.specs.declared.traced_job.TracedJob.{TracedJob}
-use Rattle.nvm_certify_text.specs.Facts.{time_of}
+use Rattle.nvm_trace_text.specs.Listing.{time_of}
 use Rattle.nvm_certify_text.specs.Values.{number_or_null}
 
 -- what came back, if anything did

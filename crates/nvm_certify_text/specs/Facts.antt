@@ -1,15 +1,11 @@
 -- The line of a fact (own): what stands before what, and by which rule.
 use Rattle.std.specs.Prelude.{ℕ, List, ◌++◌, Option, Some, None, slice_get, codes, decimal}
-use Rattle.nvm_trace.specs.declared.traced_job.Ending.{Ending}
 use Rattle.nvm_trace.specs.declared.traced_job.TracedJob.{TracedJob}
+use Rattle.nvm_trace_text.specs.Listing.{time_of, time_text}
 use Rattle.nvm_refute.specs.declared.fact.Fact.{Fact}
 use Rattle.nvm_refute.specs.declared.fact.Fact.TheVariants.{Time, Source, Over, Under, First, Nobody}
 use Rattle.nvm_certify_text.specs.declared.naming.PieceName.{PieceName}
 use Rattle.nvm_certify_text.specs.Names.{name_at, name_text}
-
-abbrev pub time_of : Option Ending → Option ℕ
-time_of None = None
-time_of (Some e) = Some e.time
 
 abbrev pub end_of : Option TracedJob → Option ℕ
 end_of None = None
@@ -25,11 +21,6 @@ ended_at jobs number = end_of (slice_get jobs number)
 
 unfoldable pub began_at : List TracedJob → ℕ → Option ℕ
 began_at jobs number = beginning_of (slice_get jobs number)
-
--- `-` for no time
-unfoldable pub time_text : Option ℕ → List ℕ
-time_text None = codes "-"
-time_text (Some time) = decimal time
 
 -- what stands before what
 unfoldable pub order_text : PieceName → PieceName → List ℕ

@@ -6,23 +6,14 @@ use Rattle.nvm_certify.specs.declared.certification.Certification.TheVariants as
 use Rattle.nvm_certify.specs.declared.certification.Reached.{Reached}
 use Rattle.nvm_refute.specs.declared.fact.Fact.{Fact}
 use Rattle.nvm_refute.specs.declared.fact.Fact.TheVariants.{Time, Source, Over, Under, First, Nobody}
-use Rattle.nvm_trace.specs.declared.explained.Explained.{Explained}
 use Rattle.nvm_trace.specs.declared.judging.Judging.{Judging}
 use Rattle.nvm_trace.specs.declared.traced_job.TracedJob.{TracedJob}
 use Rattle.nvm_trace.specs.TraceView.{TraceView}
 use Rattle.nvm_trace_text.specs.Listing.{job_line}
+use Rattle.nvm_trace_text.specs.WitnessLine.{explained_line}
 use Rattle.nvm_certify_text.specs.declared.naming.PieceName.{PieceName}
 use Rattle.nvm_certify_text.specs.Facts.{fact_line}
 use Rattle.nvm_certify_text.specs.Names.{name_at, name_text, names}
-
--- how many jobs, units and steps there are, how many replies don't say what was done, and how many preparations there are
-unfoldable pub explained_line : Explained → List ℕ
-explained_line e =
-    codes "explained jobs " ++ (decimal e.jobs
-    ++ (codes " units " ++ (decimal e.units
-    ++ (codes " steps " ++ (decimal e.steps
-    ++ (codes " excused " ++ (decimal e.excused
-    ++ (codes " preparations " ++ (decimal e.preparations ++ codes "\n")))))))))
 
 -- how far a search came in which unit, and on a second line what that means
 unfoldable pub reached_line : Reached → List ℕ

@@ -2,11 +2,11 @@
 ghost use Rattle.std.specs.Prelude.{◌≡◌, ◌++◌, OnOk, Some, string_bytes};
 ghost use Rattle.nvm_certify_text.specs.CommandObjects as spec;
 
-use crate::fact_line::time_of;
 use crate::values::NumberValue;
 use nvm_objects::{DataValue, SentObjects, StatusStrings};
 use nvm_record::NoMemory;
 use nvm_trace::{Ending, TracedJob};
+use nvm_trace_text::time_of;
 use std::fmt;
 use std::fmt::{Display, Formatter};
 

@@ -5,25 +5,10 @@ ghost use Rattle.nvm_certify_text.specs.Facts as spec;
 use crate::naming::{PieceName, name_at};
 use nvm_record::NoMemory;
 use nvm_refute::Fact;
-use nvm_trace::{Ending, TracedJob};
+use nvm_trace::TracedJob;
+use nvm_trace_text::{TimeText, time_of};
 use std::fmt;
 use std::fmt::{Display, Formatter};
-
-/// A time, or `-` for none.
-#[derive(Clone, Copy)]
-struct TimeText(Option<u64>);
-
-impl Display for TimeText {
-    ghost output = { λ text. Some (spec.time_text text.0) };
-
-    #[tactic(auto, unfolding(crate::specs::Facts::time_text))]
-    fn fmt<W: fmt::Write>(&self, f: &mut Formatter<W>) -> fmt::Result {
-        match self.0 {
-            Some(time) => write!(f, "{time}"),
-            None => f.write_str("-"),
-        }
-    }
-}
 
 /// That the one piece stands before the other.
 #[derive(Clone, Copy)]
@@ -35,16 +20,6 @@ impl Display for OrderText {
     #[tactic(auto, unfolding(crate::specs::Facts::order_text))]
     fn fmt<W: fmt::Write>(&self, f: &mut Formatter<W>) -> fmt::Result {
         write!(f, "{} stands before {}", self.0, self.1)
-    }
-}
-
-/// When a job that ended so did, if it did.
-pub fn time_of(ended: &Option<Ending>) -> Option<u64>
-    ensures { result ≡ spec.time_of ended.now }
-{
-    match ended {
-        Some(ending) => Some(ending.time),
-        None => None,
     }
 }
 

@@ -8,8 +8,8 @@ use crate::naming::{PieceName, name_at, names};
 use nvm_certify::{Certification, Reached};
 use nvm_record::NoMemory;
 use nvm_refute::{Argument, Fact};
-use nvm_trace::{Explained, Judging, Trace, TracedJob};
-use nvm_trace_text::push_job;
+use nvm_trace::{Judging, Trace, TracedJob};
+use nvm_trace_text::{ExplainedLine, push_job};
 use std::alloc::Global;
 
 /// The text of a verdict on a trace, each line with its line feed. It begins with `explained`, `contradiction` or `unknown`.
@@ -31,7 +31,10 @@ pub fn certification_text(
     ensures { IfOk result (λ text. string_bytes text ≡ spec.certification_text judging «trace».now certification.now) }
 {
     match certification {
-        Certification::Explained { numbers, .. } => explained_text(alloc, *numbers),
+        Certification::Explained { numbers, .. } => format!(in alloc;
+            "{}",
+            ExplainedLine(*numbers)
+        ),
         Certification::Contradicted { argument } => {
             contradiction_text(alloc, judging, trace, argument)
         }
@@ -50,23 +53,6 @@ pub fn certification_status(certification: &Certification) -> u8
         Certification::Contradicted { .. } => 2,
         Certification::Unknown { .. } => 3,
     }
-}
-
-/// The line of an explained trace.
-#[tactic(auto, unfolding(crate::specs::Verdict::explained_line))]
-fn explained_text(alloc: Global, explained: Explained) -> Result<String, NoMemory>
-    ensures { IfOk result (λ line. string_bytes line ≡ spec.explained_line explained) }
-{
-    let Explained {
-        jobs,
-        units,
-        steps,
-        excused,
-        preparations,
-    } = explained;
-    format!(in alloc;
-        "explained jobs {jobs} units {units} steps {steps} excused {excused} preparations {preparations}\n"
-    )
 }
 
 /// The lines of a trace of which nothing is known.
