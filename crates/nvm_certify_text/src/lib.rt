@@ -9,6 +9,7 @@ mod command_object;
 mod fact_line;
 mod fact_object;
 mod naming;
+mod order;
 mod values;
 mod verdict;
 mod verdict_object;

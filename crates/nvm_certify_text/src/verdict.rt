@@ -5,6 +5,7 @@ ghost use Rattle.nvm_certify_text.specs.Verdict as spec;
 
 use crate::fact_line::push_fact;
 use crate::naming::{PieceName, name_at, names};
+use crate::order::itself_of;
 use nvm_certify::{Certification, Reached};
 use nvm_record::NoMemory;
 use nvm_refute::{Argument, Fact};
@@ -216,33 +217,8 @@ fn push_facts(
 pub fn push_end(text: &mut String, names: &[PieceName], facts: &[Fact]) -> Result<(), NoMemory>
     ensures { OnOk result (string_bytes text.new ≡ string_bytes text.old ++ spec.last_line names.now facts.now) }
 {
-    match last_earlier(facts) {
-        Some(piece) => {
-            let name = name_at(names, piece);
-            write!(text, "so {name} stands before itself\n")
-        }
+    match itself_of(names, facts) {
+        Some(name) => write!(text, "so {name} stands before itself\n"),
         None => Ok(()),
-    }
-}
-
-/// The piece that the last fact puts before another.
-pub(crate) fn last_earlier(facts: &[Fact]) -> Option<u32>
-    ensures { result ≡ spec.last_earlier facts.now }
-{
-    match facts.last() {
-        Some(fact) => earlier_of(*fact),
-        None => None,
-    }
-}
-
-/// The piece that the fact puts before another.
-fn earlier_of(fact: Fact) -> Option<u32>
-    ensures { result ≡ spec.earlier_of fact }
-{
-    match fact {
-        Fact::Time { earlier, .. } => Some(earlier),
-        Fact::Source { writer, .. } | Fact::Under { writer, .. } => Some(writer),
-        Fact::Over { reader, .. } | Fact::First { reader, .. } => Some(reader),
-        Fact::Nobody { .. } => None,
     }
 }
