@@ -10,7 +10,7 @@ use Rattle.nvm_trace.specs.TraceView.{TraceView}
 use Rattle.nvm_trace.specs.declared.explained.Explained.{Explained as Numbers}
 use Rattle.nvm_trace.specs.declared.judging.Judging.{Judging}
 use Rattle.nvm_trace.specs.declared.witness_fault.WitnessFault.{WitnessFault}
-use Rattle.nvm_engine.specs.WitnessLine.{witness_line}
+use Rattle.nvm_trace_text.specs.WitnessLine.{witness_line}
 use Rattle.nvm_engine.specs.Witnessed.{IsWitnessedAs}
 use Rattle.nvm_c.specs.UnreadLine.{unread_line}
 use Rattle.nvm_c.specs.UnreadTrace.{trace_fault_line}

@@ -4,15 +4,9 @@ use Rattle.std.proofs.Common.{◌≡◌, ℕ, List, ◌++◌, ap, ◌∙◌, app
 two : (old m new a b : List ℕ) → m ≡ old ++ a → new ≡ m ++ b → new ≡ old ++ (a ++ b)
 two old m new a b first second = second ∙ ap (λ (x : List ℕ). x ++ b) first ∙ append_assoc old a b
 
-three : (old m n new a b c : List ℕ) → m ≡ old ++ a → n ≡ m ++ b → new ≡ n ++ c → new ≡ old ++ (a ++ (b ++ c))
-three old m n new a b c first second third = two old m new a (b ++ c) first (two m n new b c second third)
-
--- the third is the text of a value that is another's
-pub three_of : {A : Type 0} (f : A → List ℕ) (old m n new a b : List ℕ) (x y : A) → m ≡ old ++ a → n ≡ m ++ b → new ≡ n ++ f x → x ≡ y
-    → new ≡ old ++ (a ++ (b ++ f y))
-three_of {A} f old m n new a b x y first second third same =
-    three old m n new a b (f y) first second (third ∙ ap (λ (z : A). n ++ f z) same)
-
--- two pieces behind a start
-pub behind : (start old m new a b : List ℕ) → old ≡ start → m ≡ old ++ a → new ≡ m ++ b → new ≡ start ++ (a ++ b)
-behind start old m new a b is first second = two old m new a b first second ∙ ap (λ (x : List ℕ). x ++ (a ++ b)) is
+-- four pieces behind a start
+pub behind : (start old m n o new a b c d : List ℕ) → old ≡ start → m ≡ old ++ a → n ≡ m ++ b → o ≡ n ++ c → new ≡ o ++ d
+    → new ≡ start ++ (a ++ (b ++ (c ++ d)))
+behind start old m n o new a b c d is first second third fourth =
+    two old m new a (b ++ (c ++ d)) first (two m n new b (c ++ d) second (two n o new c d third fourth))
+    ∙ ap (λ (x : List ℕ). x ++ (a ++ (b ++ (c ++ d)))) is

@@ -1,4 +1,5 @@
 pub mod Names
+pub mod Orders
 pub mod Facts
 pub mod Verdict
 pub mod Values

@@ -1,28 +1,20 @@
 -- The text of a verdict on a trace (own), and the exit status that goes with it.
-use Rattle.std.specs.Prelude.{ℕ, ◌-◌, ◌==◌, ◌||◌, length, Bool, List, [], ◌++◌, Option, Some, None, slice_get, codes, decimal}
+use Rattle.std.specs.Prelude.{ℕ, ◌==◌, ◌||◌, length, Bool, List, [], ◌++◌, Option, Some, None, codes, decimal}
 use Rattle.std.specs.List.{enumerate_from, filter, flat_map, list_any}
 use Rattle.nvm_certify.specs.declared.certification.Certification.{Certification}
 use Rattle.nvm_certify.specs.declared.certification.Certification.TheVariants as verdict
 use Rattle.nvm_certify.specs.declared.certification.Reached.{Reached}
 use Rattle.nvm_refute.specs.declared.fact.Fact.{Fact}
 use Rattle.nvm_refute.specs.declared.fact.Fact.TheVariants.{Time, Source, Over, Under, First, Nobody}
-use Rattle.nvm_trace.specs.declared.explained.Explained.{Explained}
 use Rattle.nvm_trace.specs.declared.judging.Judging.{Judging}
 use Rattle.nvm_trace.specs.declared.traced_job.TracedJob.{TracedJob}
 use Rattle.nvm_trace.specs.TraceView.{TraceView}
 use Rattle.nvm_trace_text.specs.Listing.{job_line}
+use Rattle.nvm_trace_text.specs.WitnessLine.{explained_line}
 use Rattle.nvm_certify_text.specs.declared.naming.PieceName.{PieceName}
 use Rattle.nvm_certify_text.specs.Facts.{fact_line}
 use Rattle.nvm_certify_text.specs.Names.{name_at, name_text, names}
-
--- how many jobs, units and steps there are, how many replies don't say what was done, and how many preparations there are
-unfoldable pub explained_line : Explained → List ℕ
-explained_line e =
-    codes "explained jobs " ++ (decimal e.jobs
-    ++ (codes " units " ++ (decimal e.units
-    ++ (codes " steps " ++ (decimal e.steps
-    ++ (codes " excused " ++ (decimal e.excused
-    ++ (codes " preparations " ++ (decimal e.preparations ++ codes "\n")))))))))
+use Rattle.nvm_certify_text.specs.Orders.{itself_of}
 
 -- how far a search came in which unit, and on a second line what that means
 unfoldable pub reached_line : Reached → List ℕ
@@ -62,30 +54,13 @@ named_jobs names facts jobs = filter (λ x. list_any (names_job names x.0) facts
 abbrev pub command_line : ℕ × TracedJob → List ℕ
 command_line x = codes "job " ++ (decimal x.0 ++ (codes " " ++ job_line x.1))
 
--- the piece that the fact puts before another
-abbrev pub earlier_of : Fact → Option ℕ
-earlier_of (Time earlier later) = Some earlier
-earlier_of (Source writer reader lba) = Some writer
-earlier_of (Over reader writer lba source) = Some reader
-earlier_of (Under writer source lba reader) = Some writer
-earlier_of (First reader writer lba) = Some reader
-earlier_of (Nobody reader lba) = None
-
 -- what the facts come to, by the last of them
-abbrev pub end_line : List PieceName → Option ℕ → List ℕ
-end_line names None = []
-end_line names (Some piece) = codes "so " ++ (name_text (name_at names piece) ++ codes " stands before itself\n")
-
-abbrev pub earlier_if : Option Fact → Option ℕ
-earlier_if None = None
-earlier_if (Some fact) = earlier_of fact
-
--- the piece that the last fact puts before another
-abbrev pub last_earlier : List Fact → Option ℕ
-last_earlier facts = earlier_if (slice_get facts (length facts - 1))
+abbrev pub end_line : Option PieceName → List ℕ
+end_line None = []
+end_line (Some name) = codes "so " ++ (name_text name ++ codes " stands before itself\n")
 
 abbrev pub last_line : List PieceName → List Fact → List ℕ
-last_line names facts = end_line names (last_earlier facts)
+last_line names facts = end_line (itself_of names facts)
 
 abbrev pub facts_text : List PieceName → List TracedJob → List Fact → List ℕ
 facts_text names jobs facts = flat_map (fact_line names jobs) facts ++ last_line names facts

@@ -11,10 +11,11 @@ use Rattle.nvm_trace.specs.declared.traced_job.TracedJob.{TracedJob}
 use Rattle.nvm_trace.specs.TraceView.{TraceView}
 use Rattle.nvm_certify_text.specs.declared.naming.PieceName.{PieceName}
 use Rattle.nvm_certify_text.specs.CommandObjects.{command_object}
-use Rattle.nvm_certify_text.specs.FactObjects.{fact_object, piece_object}
+use Rattle.nvm_certify_text.specs.FactObjects.{fact_object, piece_object, piece_or_null}
 use Rattle.nvm_certify_text.specs.Names.{name_at, names}
+use Rattle.nvm_certify_text.specs.Orders.{itself_of}
 use Rattle.nvm_certify_text.specs.Values.{values}
-use Rattle.nvm_certify_text.specs.Verdict.{last_earlier, named_jobs}
+use Rattle.nvm_certify_text.specs.Verdict.{named_jobs}
 
 unfoldable pub explained_object : Explained → List ℕ
 explained_object e =
@@ -39,33 +40,17 @@ unknown_object judging t (Some r) piece = reached_object r
 unknown_object judging t None (Some piece) = unknown_of (name_at (names judging t) piece)
 unknown_object judging t None None = codes "{\"verdict\":\"unknown\",\"why\":\"no record\"}\n"
 
-abbrev pub name_of : List PieceName → Option ℕ → Option PieceName
-name_of names None = None
-name_of names (Some piece) = Some (name_at names piece)
-
--- the piece that would stand before itself, if the last fact puts one before another
-abbrev pub itself_of : List PieceName → List Fact → Option PieceName
-itself_of names facts = name_of names (last_earlier facts)
-
-unfoldable pub itself_value : Option PieceName → List ℕ
-itself_value None = codes "null"
-itself_value (Some name) = piece_object name
-
-unfoldable pub contradiction_end : Option PieceName → List ℕ
-contradiction_end name = codes "],\"itself\":" ++ (itself_value name ++ codes "}\n")
+unfoldable pub contradiction_end : List PieceName → List Fact → List ℕ
+contradiction_end names facts = codes "],\"itself\":" ++ (piece_or_null (itself_of names facts) ++ codes "}\n")
 
 unfoldable pub contradiction_start : ℕ → List ℕ
 contradiction_start unit = codes "{\"verdict\":\"contradiction\",\"unit\":" ++ (decimal unit ++ codes ",\"commands\":[")
 
--- from behind the commands on
-abbrev pub argument_members : List PieceName → List TracedJob → List Fact → List ℕ
-argument_members names jobs facts =
-    codes "],\"facts\":[" ++ (values (fact_object names jobs) true facts ++ contradiction_end (itself_of names facts))
-
 abbrev pub contradiction_with : List PieceName → List TracedJob → ℕ → List Fact → List ℕ
 contradiction_with names jobs unit facts =
     contradiction_start unit
-    ++ (values command_object true (named_jobs names facts (enumerate_from 0 jobs)) ++ argument_members names jobs facts)
+    ++ (values command_object true (named_jobs names facts (enumerate_from 0 jobs))
+    ++ (codes "],\"facts\":[" ++ (values (fact_object names jobs) true facts ++ contradiction_end names facts)))
 
 -- a value for each command that the facts name, one for each fact, and what they come to
 abbrev pub contradiction_object : Judging → TraceView → ℕ → List Fact → List ℕ

@@ -3,48 +3,27 @@ ghost use Rattle.std.specs.Prelude.{◌≡◌, ◌++◌, OnOk, Some, string_byte
 ghost use Rattle.nvm_certify_text.specs.Facts as spec;
 
 use crate::naming::{PieceName, name_at};
+use crate::order::{Order, order_of};
 use nvm_record::NoMemory;
 use nvm_refute::Fact;
-use nvm_trace::{Ending, TracedJob};
+use nvm_trace::TracedJob;
+use nvm_trace_text::{TimeText, time_of};
 use std::fmt;
 use std::fmt::{Display, Formatter};
 
-/// A time, or `-` for none.
+/// Which piece stands before which, and a colon, or nothing.
 #[derive(Clone, Copy)]
-struct TimeText(Option<u64>);
-
-impl Display for TimeText {
-    ghost output = { λ text. Some (spec.time_text text.0) };
-
-    #[tactic(auto, unfolding(crate::specs::Facts::time_text))]
-    fn fmt<W: fmt::Write>(&self, f: &mut Formatter<W>) -> fmt::Result {
-        match self.0 {
-            Some(time) => write!(f, "{time}"),
-            None => f.write_str("-"),
-        }
-    }
-}
-
-/// That the one piece stands before the other.
-#[derive(Clone, Copy)]
-struct OrderText(PieceName, PieceName);
+struct OrderText(Option<Order>);
 
 impl Display for OrderText {
-    ghost output = { λ text. Some (spec.order_text text.0 text.1) };
+    ghost output = { λ text. Some (spec.order_text text.0) };
 
     #[tactic(auto, unfolding(crate::specs::Facts::order_text))]
     fn fmt<W: fmt::Write>(&self, f: &mut Formatter<W>) -> fmt::Result {
-        write!(f, "{} stands before {}", self.0, self.1)
-    }
-}
-
-/// When a job that ended so did, if it did.
-pub fn time_of(ended: &Option<Ending>) -> Option<u64>
-    ensures { result ≡ spec.time_of ended.now }
-{
-    match ended {
-        Some(ending) => Some(ending.time),
-        None => None,
+        match self.0 {
+            Some(order) => write!(f, "{} stands before {}: ", order.before, order.after),
+            None => Ok(()),
+        }
     }
 }
 
@@ -80,16 +59,16 @@ pub fn push_fact(
 ) -> Result<(), NoMemory>
     ensures { OnOk result (string_bytes text.new ≡ string_bytes text.old ++ spec.fact_line names.now jobs.now fact) }
 {
+    let order = OrderText(order_of(names, fact));
     match fact {
         Fact::Time { earlier, later } => {
             let earlier = name_at(names, earlier);
             let later = name_at(names, later);
-            let order = OrderText(earlier, later);
             let ended = TimeText(ended_at(jobs, earlier.job));
             let began = TimeText(began_at(jobs, later.job));
             write!(
                 text,
-                "{order}: it had ended at {ended}, and {later} began at {began}\n"
+                "{order}it had ended at {ended}, and {later} began at {began}\n"
             )
         }
         Fact::Source {
@@ -99,10 +78,9 @@ pub fn push_fact(
         } => {
             let writer = name_at(names, writer);
             let reader = name_at(names, reader);
-            let order = OrderText(writer, reader);
             write!(
                 text,
-                "{order}: only {writer} can have put what {reader} found in LBA {lba}\n"
+                "{order}only {writer} can have put what {reader} found in LBA {lba}\n"
             )
         }
         Fact::Over {
@@ -114,10 +92,9 @@ pub fn push_fact(
             let reader = name_at(names, reader);
             let writer = name_at(names, writer);
             let source = name_at(names, source);
-            let order = OrderText(reader, writer);
             write!(
                 text,
-                "{order}: {writer} put something in LBA {lba} after {source}, whose data {reader} found there\n"
+                "{order}{writer} put something in LBA {lba} after {source}, whose data {reader} found there\n"
             )
         }
         Fact::Under {
@@ -129,30 +106,23 @@ pub fn push_fact(
             let writer = name_at(names, writer);
             let source = name_at(names, source);
             let reader = name_at(names, reader);
-            let order = OrderText(writer, source);
             write!(
                 text,
-                "{order}: {writer} put something in LBA {lba}, stands before {reader}, and {reader} found {source}'s data there\n"
+                "{order}{writer} put something in LBA {lba}, stands before {reader}, and {reader} found {source}'s data there\n"
             )
         }
-        Fact::First {
-            reader,
-            writer,
-            lba,
-        } => {
+        Fact::First { reader, lba, .. } => {
             let reader = name_at(names, reader);
-            let writer = name_at(names, writer);
-            let order = OrderText(reader, writer);
             write!(
                 text,
-                "{order}: {reader} found the zeroes there that were in LBA {lba} at first, and nobody can have left zeroes there\n"
+                "{order}{reader} found the zeroes there that were in LBA {lba} at first, and nobody can have left zeroes there\n"
             )
         }
         Fact::Nobody { reader, lba } => {
             let reader = name_at(names, reader);
             write!(
                 text,
-                "{reader} found in LBA {lba} what nobody can have left there\n"
+                "{order}{reader} found in LBA {lba} what nobody can have left there\n"
             )
         }
     }

@@ -4,6 +4,7 @@ ghost use Rattle.nvm_certify_text.specs.FactObjects as spec;
 
 use crate::fact_line::{began_at, ended_at};
 use crate::naming::{PieceName, name_at};
+use crate::order::{Order, order_of};
 use crate::values::NumberValue;
 use nvm_record::NoMemory;
 use nvm_refute::Fact;
@@ -29,18 +30,39 @@ impl Display for PieceObject {
     }
 }
 
-/// Which piece stands before which.
+/// A piece, or `null` for none.
 #[derive(Clone, Copy)]
-struct OrderMembers(PieceName, PieceName);
+pub(crate) struct PieceValue(pub(crate) Option<PieceName>);
+
+impl Display for PieceValue {
+    ghost output = { λ value. Some (spec.piece_or_null value.0) };
+
+    #[tactic(auto, unfolding(crate::specs::FactObjects::piece_or_null))]
+    fn fmt<W: fmt::Write>(&self, f: &mut Formatter<W>) -> fmt::Result {
+        match self.0 {
+            Some(name) => write!(f, "{}", PieceObject(name)),
+            None => f.write_str("null"),
+        }
+    }
+}
+
+/// Which piece stands before which, if the fact says so.
+#[derive(Clone, Copy)]
+struct OrderMembers(Option<Order>);
 
 impl Display for OrderMembers {
-    ghost output = { λ order. Some (spec.order_members order.0 order.1) };
+    ghost output = { λ members. Some (spec.order_members members.0) };
 
     #[tactic(auto, unfolding(crate::specs::FactObjects::order_members))]
     fn fmt<W: fmt::Write>(&self, f: &mut Formatter<W>) -> fmt::Result {
-        let before = PieceObject(self.0);
-        let after = PieceObject(self.1);
-        write!(f, "\"before\":{before},\"after\":{after}")
+        match self.0 {
+            Some(order) => {
+                let before = PieceObject(order.before);
+                let after = PieceObject(order.after);
+                write!(f, "\"before\":{before},\"after\":{after}")
+            }
+            None => f.write_str("\"before\":null,\"after\":null"),
+        }
     }
 }
 
@@ -53,76 +75,39 @@ pub(crate) fn push_fact_object(
 ) -> Result<(), NoMemory>
     ensures { OnOk result (string_bytes text.new ≡ string_bytes text.old ++ spec.fact_object names.now jobs.now fact) }
 {
+    let order = OrderMembers(order_of(names, fact));
     match fact {
         Fact::Time { earlier, later } => {
-            let earlier = name_at(names, earlier);
-            let later = name_at(names, later);
-            let order = OrderMembers(earlier, later);
-            let ended = NumberValue(ended_at(jobs, earlier.job));
-            let began = NumberValue(began_at(jobs, later.job));
+            let ended = NumberValue(ended_at(jobs, name_at(names, earlier).job));
+            let began = NumberValue(began_at(jobs, name_at(names, later).job));
             write!(
                 text,
                 "{{\"rule\":\"time\",{order},\"ended\":{ended},\"began\":{began}}}"
             )
         }
-        Fact::Source {
-            writer,
-            reader,
-            lba,
-        } => {
-            let writer = name_at(names, writer);
-            let reader = name_at(names, reader);
-            let order = OrderMembers(writer, reader);
+        Fact::Source { lba, .. } => {
             write!(text, "{{\"rule\":\"source\",{order},\"lba\":{lba}}}")
         }
-        Fact::Over {
-            reader,
-            writer,
-            lba,
-            source,
-        } => {
-            let reader = name_at(names, reader);
-            let writer = name_at(names, writer);
-            let source = name_at(names, source);
-            let order = OrderMembers(reader, writer);
-            let found = PieceObject(source);
+        Fact::Over { lba, source, .. } => {
+            let source = PieceObject(name_at(names, source));
             write!(
                 text,
-                "{{\"rule\":\"over\",{order},\"lba\":{lba},\"source\":{found}}}"
+                "{{\"rule\":\"over\",{order},\"lba\":{lba},\"source\":{source}}}"
             )
         }
-        Fact::Under {
-            writer,
-            source,
-            lba,
-            reader,
-        } => {
-            let writer = name_at(names, writer);
-            let source = name_at(names, source);
-            let reader = name_at(names, reader);
-            let order = OrderMembers(writer, source);
-            let finder = PieceObject(reader);
+        Fact::Under { lba, reader, .. } => {
+            let reader = PieceObject(name_at(names, reader));
             write!(
                 text,
-                "{{\"rule\":\"under\",{order},\"lba\":{lba},\"reader\":{finder}}}"
+                "{{\"rule\":\"under\",{order},\"lba\":{lba},\"reader\":{reader}}}"
             )
         }
-        Fact::First {
-            reader,
-            writer,
-            lba,
-        } => {
-            let reader = name_at(names, reader);
-            let writer = name_at(names, writer);
-            let order = OrderMembers(reader, writer);
-            write!(text, "{{\"rule\":\"first\",{order},\"lba\":{lba}}}")
-        }
+        Fact::First { lba, .. } => { write!(text, "{{\"rule\":\"first\",{order},\"lba\":{lba}}}") }
         Fact::Nobody { reader, lba } => {
-            let reader = name_at(names, reader);
-            let finder = PieceObject(reader);
+            let reader = PieceObject(name_at(names, reader));
             write!(
                 text,
-                "{{\"rule\":\"nobody\",\"before\":null,\"after\":null,\"lba\":{lba},\"reader\":{finder}}}"
+                "{{\"rule\":\"nobody\",{order},\"lba\":{lba},\"reader\":{reader}}}"
             )
         }
     }

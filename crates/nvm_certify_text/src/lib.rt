@@ -9,11 +9,12 @@ mod command_object;
 mod fact_line;
 mod fact_object;
 mod naming;
+mod order;
 mod values;
 mod verdict;
 mod verdict_object;
 
-pub use fact_line::{push_fact, time_of};
+pub use fact_line::push_fact;
 pub use naming::{PieceName, names};
 pub use verdict::{certification_status, certification_text, push_end};
 pub use verdict_object::certification_object;

@@ -5,11 +5,12 @@ ghost use Rattle.nvm_certify_text.specs.Verdict as spec;
 
 use crate::fact_line::push_fact;
 use crate::naming::{PieceName, name_at, names};
+use crate::order::itself_of;
 use nvm_certify::{Certification, Reached};
 use nvm_record::NoMemory;
 use nvm_refute::{Argument, Fact};
-use nvm_trace::{Explained, Judging, Trace, TracedJob};
-use nvm_trace_text::push_job;
+use nvm_trace::{Judging, Trace, TracedJob};
+use nvm_trace_text::{ExplainedLine, push_job};
 use std::alloc::Global;
 
 /// The text of a verdict on a trace, each line with its line feed. It begins with `explained`, `contradiction` or `unknown`.
@@ -31,7 +32,10 @@ pub fn certification_text(
     ensures { IfOk result (λ text. string_bytes text ≡ spec.certification_text judging «trace».now certification.now) }
 {
     match certification {
-        Certification::Explained { numbers, .. } => explained_text(alloc, *numbers),
+        Certification::Explained { numbers, .. } => format!(in alloc;
+            "{}",
+            ExplainedLine(*numbers)
+        ),
         Certification::Contradicted { argument } => {
             contradiction_text(alloc, judging, trace, argument)
         }
@@ -50,23 +54,6 @@ pub fn certification_status(certification: &Certification) -> u8
         Certification::Contradicted { .. } => 2,
         Certification::Unknown { .. } => 3,
     }
-}
-
-/// The line of an explained trace.
-#[tactic(auto, unfolding(crate::specs::Verdict::explained_line))]
-fn explained_text(alloc: Global, explained: Explained) -> Result<String, NoMemory>
-    ensures { IfOk result (λ line. string_bytes line ≡ spec.explained_line explained) }
-{
-    let Explained {
-        jobs,
-        units,
-        steps,
-        excused,
-        preparations,
-    } = explained;
-    format!(in alloc;
-        "explained jobs {jobs} units {units} steps {steps} excused {excused} preparations {preparations}\n"
-    )
 }
 
 /// The lines of a trace of which nothing is known.
@@ -230,33 +217,8 @@ fn push_facts(
 pub fn push_end(text: &mut String, names: &[PieceName], facts: &[Fact]) -> Result<(), NoMemory>
     ensures { OnOk result (string_bytes text.new ≡ string_bytes text.old ++ spec.last_line names.now facts.now) }
 {
-    match last_earlier(facts) {
-        Some(piece) => {
-            let name = name_at(names, piece);
-            write!(text, "so {name} stands before itself\n")
-        }
+    match itself_of(names, facts) {
+        Some(name) => write!(text, "so {name} stands before itself\n"),
         None => Ok(()),
-    }
-}
-
-/// The piece that the last fact puts before another.
-pub(crate) fn last_earlier(facts: &[Fact]) -> Option<u32>
-    ensures { result ≡ spec.last_earlier facts.now }
-{
-    match facts.last() {
-        Some(fact) => earlier_of(*fact),
-        None => None,
-    }
-}
-
-/// The piece that the fact puts before another.
-fn earlier_of(fact: Fact) -> Option<u32>
-    ensures { result ≡ spec.earlier_of fact }
-{
-    match fact {
-        Fact::Time { earlier, .. } => Some(earlier),
-        Fact::Source { writer, .. } | Fact::Under { writer, .. } => Some(writer),
-        Fact::Over { reader, .. } | Fact::First { reader, .. } => Some(reader),
-        Fact::Nobody { .. } => None,
     }
 }

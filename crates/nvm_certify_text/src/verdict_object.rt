@@ -1,5 +1,5 @@
 //! The verdict as an object of JSON.
-ghost use Rattle.std.specs.Prelude.{◌≡◌, ◌++◌, true, IfOk, OnOk, Some, string_bytes};
+ghost use Rattle.std.specs.Prelude.{◌≡◌, ◌++◌, true, IfOk, OnOk, string_bytes};
 ghost use Rattle.std.specs.List.{enumerate_from};
 ghost use Rattle.nvm_certify_text.specs.VerdictObject as spec;
 ghost use Rattle.nvm_certify_text.specs.CommandObjects.{command_object};
@@ -8,17 +8,16 @@ ghost use Rattle.nvm_certify_text.specs.Values.{values};
 ghost use Rattle.nvm_certify_text.specs.Verdict.{named_jobs};
 
 use crate::command_object::push_command_object;
-use crate::fact_object::{PieceObject, push_fact_object};
+use crate::fact_object::{PieceObject, PieceValue, push_fact_object};
 use crate::naming::{PieceName, name_at, names};
+use crate::order::itself_of;
 use crate::values::push_comma;
-use crate::verdict::{is_named, last_earlier};
+use crate::verdict::is_named;
 use nvm_certify::{Certification, Reached};
 use nvm_record::NoMemory;
 use nvm_refute::{Argument, Fact};
 use nvm_trace::{Explained, Judging, Trace, TracedJob};
 use std::alloc::Global;
-use std::fmt;
-use std::fmt::{Display, Formatter};
 
 /// The verdict on a trace as one object of JSON, on one line with its line feed. Its names are the words of the verdict's text.
 ///
@@ -135,7 +134,9 @@ fn contradiction_with(
 {
     let mut text = contradiction_start(alloc, unit)?;
     push_commands(&mut text, names, jobs, facts)?;
-    push_argument(&mut text, names, jobs, facts)?;
+    text.push_str("],\"facts\":[")?;
+    push_facts(&mut text, names, jobs, facts)?;
+    push_end(&mut text, names, facts)?;
     Ok(text)
 }
 
@@ -168,22 +169,6 @@ fn push_commands(
     Ok(())
 }
 
-/// Appends what stands behind the commands.
-fn push_argument(
-    text: &mut String,
-    names: &[PieceName],
-    jobs: &[TracedJob],
-    facts: &[Fact],
-) -> Result<(), NoMemory>
-    ensures { OnOk result (string_bytes text.new ≡ string_bytes text.old ++ spec.argument_members names.now jobs.now facts.now) }
-{
-    text.push_str("],\"facts\":[")?;
-    push_facts(text, names, jobs, facts)?;
-    let itself = itself_of(names, facts);
-    push_end(text, itself)?;
-    Ok(())
-}
-
 /// Appends a value for each fact.
 fn push_facts(
     text: &mut String,
@@ -203,37 +188,11 @@ fn push_facts(
     Ok(())
 }
 
-/// The piece that would stand before itself by these facts, if the last of them puts one before another.
-fn itself_of(names: &[PieceName], facts: &[Fact]) -> Option<PieceName>
-    ensures { result ≡ spec.itself_of names.now facts.now }
-{
-    match last_earlier(facts) {
-        Some(piece) => Some(name_at(names, piece)),
-        None => None,
-    }
-}
-
-/// A piece, or `null` for none.
-#[derive(Clone, Copy)]
-struct ItselfValue(Option<PieceName>);
-
-impl Display for ItselfValue {
-    ghost output = { λ value. Some (spec.itself_value value.0) };
-
-    #[tactic(auto, unfolding(crate::specs::VerdictObject::itself_value))]
-    fn fmt<W: fmt::Write>(&self, f: &mut Formatter<W>) -> fmt::Result {
-        match self.0 {
-            Some(name) => write!(f, "{}", PieceObject(name)),
-            None => f.write_str("null"),
-        }
-    }
-}
-
 /// Appends what the facts come to, and ends the object.
 #[tactic(auto, unfolding(crate::specs::VerdictObject::contradiction_end))]
-fn push_end(text: &mut String, itself: Option<PieceName>) -> Result<(), NoMemory>
-    ensures { OnOk result (string_bytes text.new ≡ string_bytes text.old ++ spec.contradiction_end itself) }
+fn push_end(text: &mut String, names: &[PieceName], facts: &[Fact]) -> Result<(), NoMemory>
+    ensures { OnOk result (string_bytes text.new ≡ string_bytes text.old ++ spec.contradiction_end names.now facts.now) }
 {
-    let itself = ItselfValue(itself);
+    let itself = PieceValue(itself_of(names, facts));
     write!(text, "],\"itself\":{itself}}}\n")
 }

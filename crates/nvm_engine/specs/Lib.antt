@@ -10,5 +10,4 @@ pub mod LongLines
 pub mod LongText
 pub mod Shown
 pub mod Judged
-pub mod WitnessLine
 pub mod Witnessed

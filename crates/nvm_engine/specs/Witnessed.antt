@@ -22,6 +22,11 @@ use Rattle.nvm_engine.specs.declared.fault.Fault.TheVariants.{NoMemory}
 abbrev pub IsKnownAnswer : Result Explained WitnessFault → Type 0
 IsKnownAnswer answer = answer ≢ Err NoMemoryFault
 
+-- the exit status
+abbrev pub witness_status : Result Explained WitnessFault → ℕ
+witness_status (Ok e) = 0
+witness_status (Err fault) = 2
+
 -- The record explains the trace, with these numbers; or the fault is the first.
 abbrev pub IsWitnessedAs : Judging → TraceView → RecordView → Result Explained WitnessFault → Type 0
 IsWitnessedAs judging t r (Ok numbers) = IsExplainedBy judging t r × HasNumbers judging t r numbers

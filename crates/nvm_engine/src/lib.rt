@@ -21,7 +21,6 @@ mod shown;
 mod status_names;
 mod verdict_line;
 mod verdict_object;
-mod witness_line;
 mod witnessed;
 mod witnessing;
 mod witnessing_alone;

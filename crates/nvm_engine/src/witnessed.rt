@@ -1,10 +1,11 @@
 ghost use Rattle.std.specs.Prelude.{◌≡◌, ◌≢◌, Ok, Err, IfOk, OnOk, string_bytes};
-ghost use Rattle.nvm_engine.specs.WitnessLine.{witness_line, witness_status};
 ghost use Rattle.nvm_trace.specs.declared.witness_fault.WitnessFault.TheVariants.{NoMemory as NoMemoryFault};
+ghost use Rattle.nvm_trace_text.specs.WitnessLine.{witness_line};
+ghost use Rattle.nvm_engine.specs.Witnessed.{witness_status};
 
-use crate::witness_line::{explained_text, unexplained_text};
 use nvm_record::NoMemory;
 use nvm_trace::{Explained, WitnessFault};
+use nvm_trace_text::{ExplainedLine, UnexplainedLine};
 use std::alloc::{AllocError, Global};
 use std::marker::Model;
 
@@ -53,8 +54,8 @@ impl Witnessed {
         ensures { IfOk result (λ line. string_bytes line ≡ witness_line self.now) }
     {
         match &self.answer {
-            Ok(explained) => explained_text(alloc, *explained),
-            Err(fault) => unexplained_text(alloc, fault.name(), fault.job(), fault.spot()),
+            Ok(explained) => format!(in alloc; "{}", ExplainedLine(*explained)),
+            Err(fault) => format!(in alloc; "{}", UnexplainedLine(*fault)),
         }
     }
 

@@ -10,7 +10,7 @@ use Rattle.nvm_trace.specs.declared.explained.Explained.{Explained}
 use Rattle.nvm_trace.specs.declared.judging.Judging.{Judging}
 use Rattle.nvm_trace.specs.declared.witness_fault.WitnessFault.{WitnessFault}
 use Rattle.nvm_trace.specs.declared.witness_fault.WitnessFault.TheVariants.{NamespaceDiffers, JobDiffers, NoPreparation, Unlawful, ReplyDiffers, TimeBack, NoMemory}
-use Rattle.nvm_engine.specs.WitnessLine.{witness_line}
+use Rattle.nvm_trace_text.specs.WitnessLine.{witness_line}
 use Rattle.nvm_explain.specs.Story.{fault_text}
 use Rattle.nvm_explain.specs.Summary.{lawful_text}
 use Rattle.nvm_story.specs.Jobs.{recorded_lines, traced_line}

@@ -11,6 +11,5 @@ mod meaning;
 mod namespaces;
 mod ordering;
 mod telling;
-mod witness_line;
 
 pub use telling::witness_story;

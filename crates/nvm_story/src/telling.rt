@@ -11,13 +11,13 @@ use crate::jobs::{push_recorded, push_traced};
 use crate::meaning::meaning;
 use crate::namespaces::push_namespaces;
 use crate::ordering::push_time_story;
-use crate::witness_line::{push_explained, push_unexplained};
 use nvm_audit::{Record, Spot, Unwatched};
 use nvm_explain::explain;
 use nvm_record::NoMemory;
 use nvm_trace::{
     Explained, Judging, Trace, WitnessFault, first_pieces, steps_of, traced_pieces, witness,
 };
+use nvm_trace_text::{ExplainedLine, UnexplainedLine};
 use std::alloc::{AllocError, Global};
 use std::thread::Threads;
 
@@ -61,7 +61,7 @@ fn explained_story(
     ensures { IfOk result (λ text. spec.IsExplainedText «record».now explained (string_bytes text)) }
 {
     let mut text = String::new(alloc);
-    push_explained(&mut text, explained)?;
+    write!(text, "{}", ExplainedLine(explained))?;
     let told = explain(rt, alloc, record, &Unwatched)?;
     text.push_str(told.as_str())?;
     Ok(text)
@@ -80,7 +80,7 @@ fn unexplained_story(
     ensures { IfOk result (λ text. string_bytes text ≡ spec.unexplained_text judging «trace».now «record».now fault) }
 {
     let mut text = String::new(alloc);
-    push_unexplained(&mut text, fault)?;
+    write!(text, "{}", UnexplainedLine(fault))?;
     text.push_str(meaning(fault))?;
     push_story(&mut text, rt, alloc, judging, trace, record, fault)?;
     Ok(text)

@@ -2,9 +2,9 @@
 use Rattle.std.specs.Prelude.{ℕ, nat_lt, if◌then◌else◌, List, [], ◌∷◌, Option, Some, None, slice_get}
 use Rattle.std.specs.List.{enumerate_from, insert, list_any, position_or_len}
 use Rattle.nvm_certify_text.specs.declared.naming.PieceName.{PieceName}
-use Rattle.nvm_certify_text.specs.Facts.{time_of}
 use Rattle.nvm_refute.specs.declared.fact.Fact.{Fact}
 use Rattle.nvm_trace.specs.declared.traced_job.TracedJob.{TracedJob}
+use Rattle.nvm_trace_text.specs.Listing.{time_of}
 use Rattle.nvm_timeline.specs.declared.lane.Lane.{Lane}
 use Rattle.nvm_timeline.specs.Circle.{has}
 use Rattle.nvm_timeline.specs.Named.{names_step}

@@ -3,10 +3,11 @@ ghost use Rattle.std.specs.Prelude.{◌≡◌, ◌≤◌, IfOk, OnOk, length};
 ghost use Rattle.nvm_timeline.specs.Lanes as spec;
 
 use crate::named::is_named;
-use nvm_certify_text::{PieceName, time_of};
+use nvm_certify_text::PieceName;
 use nvm_record::NoMemory;
 use nvm_refute::Fact;
 use nvm_trace::TracedJob;
+use nvm_trace_text::time_of;
 use std::alloc::Global;
 
 /// A step that is drawn: a piece of one of a trace's commands.

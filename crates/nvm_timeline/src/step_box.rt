@@ -1,16 +1,15 @@
 //! The steps as boxes.
 ghost use Rattle.std.specs.Prelude.{◌≡◌, ◌++◌, OnOk, Some, string_bytes};
-ghost use Rattle.nvm_text.specs.Lines.{payload_text};
 ghost use Rattle.nvm_timeline.specs.StepBoxes as spec;
 
 use crate::lane::Lane;
 use crate::place::{box_left, box_top, box_width};
 use nvm_list::CommandText;
 use nvm_plan::Body;
-use nvm_record::{Command, NoMemory, ReadData};
-use nvm_text::{RunsText, StatusesText};
+use nvm_record::{Command, NoMemory};
+use nvm_text::StatusesText;
 use nvm_trace::{Ending, TracedJob};
-use nvm_trace_text::push_job;
+use nvm_trace_text::{DataText, push_job};
 use std::fmt;
 use std::fmt::{Display, Formatter};
 
@@ -122,24 +121,9 @@ impl Display for ReplyWords<'_> {
         match self.0 {
             Some(ending) => {
                 let statuses = StatusesText(ending.statuses);
-                write!(f, "{statuses}{}", FoundText(&ending.payload))
+                write!(f, "{statuses}{}", DataText(&ending.payload))
             }
             None => f.write_str("no reply"),
-        }
-    }
-}
-
-/// A space and what a Read found, or nothing.
-#[derive(Clone, Copy)]
-struct FoundText<'a>(&'a Option<ReadData>);
-
-impl Display for FoundText<'_> {
-    ghost output = { λ text. Some (payload_text text.0.now) };
-
-    fn fmt<W: fmt::Write>(&self, f: &mut Formatter<W>) -> fmt::Result {
-        match self.0 {
-            Some(bytes) => write!(f, " {}", RunsText(bytes.as_slice())),
-            None => Ok(()),
         }
     }
 }

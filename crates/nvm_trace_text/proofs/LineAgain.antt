@@ -36,7 +36,7 @@ use Rattle.nvm_trace.specs.declared.traced_job.TracedJob.{TracedJob}
 use Rattle.nvm_trace_text.specs.Expecting.{◌>>=◌, as_listed}
 use Rattle.nvm_trace_text.specs.Head.{ended_with}
 use Rattle.nvm_trace_text.specs.Lines.{field, end_time, identified, body_with, status_of, status, read_data, reply, ending, job_of, job}
-use Rattle.nvm_trace_text.specs.Listing.{end_text, sent_text}
+use Rattle.nvm_trace_text.specs.Listing.{end_text, sent_text, time_of}
 use Rattle.nvm_trace_text.specs.Marks.{before_mark, behind_mark}
 use Rattle.nvm_trace_text.specs.Spelled.{AreBytes, BodyFits, StatusFits, StatusesFit, EndingFits, JobFits, EndsBeforeLast}
 use Rattle.nvm_trace_text.specs.declared.expected.TraceExpected.{TraceExpected}
@@ -46,10 +46,6 @@ use Rattle.nvm_trace_text.proofs.MarkWords.{IsCut, IsUnmarked, cut_none, cut_her
 use Rattle.nvm_trace_text.proofs.SentWords.{IsFree, IsOther, other_by_length, runs_other, no_number, decimal_free, words_plain, no_plus, no_equals, sent_words, listable, sent_free, found, field_again, identified_again}
 
 -- ---- when it ended
-
-abbrev pub time_of : Option Ending → Option ℕ
-time_of None = None
-time_of (Some e) = Some e.time
 
 no_dash : (n : ℕ) → n < 2 ^ 64 → bytes_eq (decimal n) (codes "-") ≡ false
 no_dash n fits =

@@ -8,3 +8,4 @@ pub mod Listing
 pub mod Inside
 pub mod Spelled
 pub mod ReadBack
+pub mod WitnessLine

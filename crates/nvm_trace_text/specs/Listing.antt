@@ -43,10 +43,18 @@ numbers_in ns =
 abbrev pub head_line : TraceView → List ℕ
 head_line t = numbers_text (numbers_in t.namespace) ++ known_text t.first t.start t.reads
 
--- `-` where it never ended
+-- when it ended, if it did
+abbrev pub time_of : Option Ending → Option ℕ
+time_of None = None
+time_of (Some e) = Some e.time
+
+-- `-` for no time
+abbrev pub time_text : Option ℕ → List ℕ
+time_text None = codes "-"
+time_text (Some time) = decimal time
+
 abbrev pub end_text : Option Ending → List ℕ
-end_text None = codes "-"
-end_text (Some e) = decimal e.time
+end_text e = time_text (time_of e)
 
 -- the command as in a command list, behind its identifier
 abbrev pub sent_text : Command → List ℕ

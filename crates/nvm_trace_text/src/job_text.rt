@@ -1,5 +1,5 @@
 //! A job as its line shows it.
-ghost use Rattle.std.specs.Prelude.{Some};
+ghost use Rattle.std.specs.Prelude.{◌≡◌, Some};
 ghost use Rattle.nvm_text.specs.Lines.{payload_text};
 ghost use Rattle.nvm_trace_text.specs.Listing as spec;
 
@@ -11,16 +11,26 @@ use nvm_trace::Ending;
 use std::fmt;
 use std::fmt::{Display, Formatter};
 
-/// The time at which it ended, or `-` if it never did.
-#[derive(Clone, Copy)]
-pub(crate) struct EndText<'a>(pub(crate) &'a Option<Ending>);
+/// When a job ended, if it did.
+pub fn time_of(ended: &Option<Ending>) -> Option<u64>
+    ensures { result ≡ spec.time_of ended.now }
+{
+    match ended {
+        Some(ending) => Some(ending.time),
+        None => None,
+    }
+}
 
-impl Display for EndText<'_> {
-    ghost output = { λ text. Some (spec.end_text text.0.now) };
+/// A time, or `-` for none.
+#[derive(Clone, Copy)]
+pub struct TimeText(pub Option<u64>);
+
+impl Display for TimeText {
+    ghost output = { λ text. Some (spec.time_text text.0) };
 
     fn fmt<W: fmt::Write>(&self, f: &mut Formatter<W>) -> fmt::Result {
         match self.0 {
-            Some(ending) => write!(f, "{}", ending.time),
+            Some(time) => write!(f, "{time}"),
             None => f.write_str("-"),
         }
     }
@@ -74,9 +84,9 @@ impl Display for ReplyText<'_> {
     }
 }
 
-/// A space and data as runs, or nothing.
+/// A space and the data of a Read as runs, or nothing.
 #[derive(Clone, Copy)]
-struct DataText<'a>(&'a Option<ReadData>);
+pub struct DataText<'a>(pub &'a Option<ReadData>);
 
 impl Display for DataText<'_> {
     ghost output = { λ text. Some (payload_text text.0.now) };

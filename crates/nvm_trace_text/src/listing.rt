@@ -3,7 +3,7 @@ ghost use Rattle.nvm_trace_text.specs.Listing as spec;
 ghost use Rattle.nvm_trace_text.specs.Listing.{text_of};
 
 use crate::head::Numbers;
-use crate::job_text::{BodyText, EndText, ReplyText};
+use crate::job_text::{BodyText, ReplyText, TimeText, time_of};
 use nvm_geometry::Geometry;
 use nvm_record::NoMemory;
 use nvm_trace::{Reads, Start, Trace, TracedJob};
@@ -93,7 +93,7 @@ pub fn push_job(text: &mut String, job: &TracedJob) -> Result<(), NoMemory>
     ensures { OnOk result (string_bytes text.new ≡ string_bytes text.old ++ spec.job_line job.now) }
 {
     let began = job.began;
-    let ended = EndText(&job.ended);
+    let ended = TimeText(time_of(&job.ended));
     let host = job.job.host;
     let body = BodyText(&job.job.body);
     let reply = ReplyText(&job.ended);

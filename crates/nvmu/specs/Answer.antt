@@ -6,7 +6,8 @@ use Rattle.nvm_audit.specs.declared.verdict.Verdict.{Verdict}
 use Rattle.nvm_engine.specs.Printed.{IsPrintedOf}
 use Rattle.nvm_engine.specs.VerdictLine.{answer_line, answer_status}
 use Rattle.nvm_engine.specs.VerdictObject.{answer_object}
-use Rattle.nvm_engine.specs.WitnessLine.{witness_line, witness_status}
+use Rattle.nvm_engine.specs.Witnessed.{witness_status}
+use Rattle.nvm_trace_text.specs.WitnessLine.{witness_line}
 use Rattle.nvm_front.specs.declared.judging_words.Telling.{Telling}
 use Rattle.nvm_front.specs.declared.judging_words.Telling.TheVariants.{Lines, Object}
 use Rattle.nvmu.specs.declared.answer.Answer.{Answer}

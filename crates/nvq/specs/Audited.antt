@@ -7,8 +7,8 @@ use Rattle.nvm_audit.specs.RecordView.{RecordView}
 use Rattle.nvm_engine.specs.Judged.{IsJudged}
 use Rattle.nvm_engine.specs.VerdictLine.{answer_line, answer_status}
 use Rattle.nvm_engine.specs.VerdictObject.{answer_object}
-use Rattle.nvm_engine.specs.WitnessLine.{witness_line, witness_status}
-use Rattle.nvm_engine.specs.Witnessed.{IsWitnessed}
+use Rattle.nvm_trace_text.specs.WitnessLine.{witness_line}
+use Rattle.nvm_engine.specs.Witnessed.{IsWitnessed, witness_status}
 use Rattle.nvm_faults.specs.AllFaults.{AreFaults}
 use Rattle.nvm_faults.specs.FaultsText.{faults_text, faults_status}
 use Rattle.nvm_faults.specs.declared.faults.Faults.{Faults}

@@ -24,12 +24,10 @@ unexplained_with name (Some job) (Some spot) =
 unexplained_with name (Some job) None = codes "unexplained " ++ (name ++ (codes " job " ++ (decimal job ++ codes " unit - place -\n")))
 unexplained_with name None spot = codes "unexplained " ++ (name ++ codes " job - unit - place -\n")
 
+abbrev pub unexplained_line : WitnessFault → List ℕ
+unexplained_line fault = unexplained_with (name_of fault) (job_of fault) (spot_of fault)
+
 -- the line of what a witness answers
 abbrev pub witness_line : Result Explained WitnessFault → List ℕ
 witness_line (Ok e) = explained_line e
-witness_line (Err fault) = unexplained_with (name_of fault) (job_of fault) (spot_of fault)
-
--- the exit status after it
-abbrev pub witness_status : Result Explained WitnessFault → ℕ
-witness_status (Ok e) = 0
-witness_status (Err fault) = 2
+witness_line (Err fault) = unexplained_line fault
