@@ -2,10 +2,9 @@
 ghost use Rattle.std.specs.Prelude.{◌≡◌, true};
 ghost use Rattle.nvm_unit.specs.Passes.{IsPassOf};
 
-use super::super::blocks::{NO_MEMORY, Read, look_at, poll_at, try_write, write};
-use super::super::two_passes;
-use crate::holding::Holding;
+use crate::blocks::{Read, look_at, poll_at, try_write};
 use nvm_unit::{Busy, Changed, LookFault, Open, Pass, Unit};
+use nvm_unit_tests::{Holding, NO_MEMORY, two_passes, write};
 use std::alloc::Global;
 use std::sync::Wait;
 use std::test::Fail;

@@ -2,11 +2,11 @@
 ghost use Rattle.std.specs.Prelude.{◌≡◌, true};
 ghost use Rattle.nvm_unit.specs.Passes.{IsPassOf};
 
-use super::blocks::{Read, look_at, observe_at, write};
-use super::{BLOCK, two_passes};
+use crate::blocks::{Read, look_at, observe_at};
 use nvm_record::Status;
 use nvm_store::{Answer, Look};
 use nvm_unit::{Changed, LookFault, Observed, Open, Pass, Unit};
+use nvm_unit_tests::{BLOCK, two_passes, write};
 use std::alloc::Global;
 use std::sync::Wait;
 use std::test::Fail;

@@ -1,7 +1,7 @@
 //! Which passes keep versions.
-use super::blocks::{look_at, observe_at, try_write, write};
-use super::{opened, two_passes};
+use crate::blocks::{look_at, observe_at, try_write};
 use nvm_unit::{Changed, LookFault, Open};
+use nvm_unit_tests::{opened, two_passes, write};
 use std::alloc::Global;
 use std::sync::Wait;
 use std::test::Fail;

@@ -1,7 +1,7 @@
 //! A unit that keeps no entry.
-use super::blocks::{look_at, write};
-use super::{PLACE, closed, dealt};
+use crate::blocks::look_at;
 use nvm_unit::{Changed, Kept, LookFault, Open, Unit};
+use nvm_unit_tests::{PLACE, closed, dealt, write};
 use std::test::Fail;
 
 /// Its passes are answered as those of any unit, and what is kept at the end is how many changes there were.

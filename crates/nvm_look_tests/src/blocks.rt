@@ -1,52 +1,20 @@
-//! Calls on one block: Writes of bytes that are all the same, and Reads that find such bytes.
-ghost use Rattle.std.specs.Prelude.{◌≡◌, true};
+//! Calls on one block that never wait, and an observation of it: what they are told of bytes that are all the same.
+ghost use Rattle.std.specs.Prelude.{◌≡◌, IfOk, true};
+ghost use Rattle.nvm_store.specs.Look.{look_operation_of};
+ghost use Rattle.nvm_store.specs.Place.{IsCovered};
 ghost use Rattle.nvm_unit.specs.Passes.{IsPassOf};
 
-use super::BLOCK;
-use nvm_record::Payload;
-use nvm_store::{ActRef, Answer, Look};
+use nvm_store::{Answer, Look};
 use nvm_unit::{Busy, Changed, Gate, Kept, LookFault, Observed, Open, Pass, Unit};
+use nvm_unit_tests::{BLOCK, NO_MEMORY, block_of, write_of};
 use std::alloc::Global;
 use std::sync::Wait;
 
-pub(super) const NO_MEMORY: &'static str = "there was no memory";
-
 /// The point of a Read's answer, and the byte of which the block is full.
-pub(super) type Read = (u64, u8);
-
-/// Does a Write as job 5, for which there must be memory.
-pub(super) fn write<K: Kept, R: Wait, G: Gate>(
-    rt: &R,
-    alloc: Global,
-    unit: &Unit<K>,
-    pass: &mut Pass<K>,
-    lba: u64,
-    byte: u8,
-    gate: &G,
-) -> Result<Changed, &'static str>
-    requires { IsPassOf unit.now pass.old }
-    ensures of { IsPassOf unit.now pass.new }
-    ensures number { pass.new.view.number ≡ pass.old.view.number }
-{
-    let Ok(payload) = Payload::copy_of(alloc, &[byte; BLOCK]) else {
-        return Err(NO_MEMORY);
-    };
-    let act = ActRef::Write {
-        first: lba,
-        blocks: 1,
-        payload: payload.lend(),
-    };
-    if !unit.covers(act) {
-        return Err("the unit doesn't cover the Write");
-    }
-    match unit.change(rt, alloc, pass, 5, act, gate) {
-        Changed::NoMemory { .. } => Err(NO_MEMORY),
-        changed => Ok(changed),
-    }
-}
+pub(crate) type Read = (u64, u8);
 
 /// Tries once to do a Write as job 5, for which there must be memory.
-pub(super) fn try_write<G: Gate>(
+pub(crate) fn try_write<G: Gate>(
     alloc: Global,
     unit: &Unit,
     pass: &mut Pass,
@@ -58,25 +26,31 @@ pub(super) fn try_write<G: Gate>(
     ensures of { IsPassOf unit.now pass.new }
     ensures number { pass.new.view.number ≡ pass.old.view.number }
 {
-    let Ok(payload) = Payload::copy_of(alloc, &[byte; BLOCK]) else {
-        return Err(NO_MEMORY);
-    };
-    let act = ActRef::Write {
-        first: lba,
-        blocks: 1,
-        payload: payload.lend(),
-    };
-    if !unit.covers(act) {
-        return Err("the unit doesn't cover the Write");
-    }
+    let payload = block_of(alloc, byte)?;
+    let act = write_of(unit, lba, &payload)?;
     match unit.try_change(alloc, pass, 5, act, gate) {
         Ok(Changed::NoMemory { .. }) => Err(NO_MEMORY),
         tried => Ok(tried),
     }
 }
 
+/// The Read of a block, which the unit must cover.
+fn read_at<'a, K: Kept>(unit: &Unit<K>, lba: u64) -> Result<Look<'a>, &'static str>
+    ensures { IfOk result (λ look. IsCovered unit.now.bounds.place (look_operation_of look)) }
+{
+    let look = Look::Read {
+        first: lba,
+        blocks: 1,
+    };
+    if unit.covers_look(look) {
+        Ok(look)
+    } else {
+        Err("the unit doesn't cover the Read")
+    }
+}
+
 /// Reads the block from what the pass keeps, for which there must be memory.
-pub(super) fn look_at<K: Kept>(
+pub(crate) fn look_at<K: Kept>(
     alloc: Global,
     unit: &Unit<K>,
     pass: &mut Pass<K>,
@@ -87,13 +61,7 @@ pub(super) fn look_at<K: Kept>(
     ensures of { IsPassOf unit.now pass.new }
     ensures number { pass.new.view.number ≡ pass.old.view.number }
 {
-    let look = Look::Read {
-        first: lba,
-        blocks: 1,
-    };
-    if !unit.covers_look(look) {
-        return Err("the unit doesn't cover the Read");
-    }
+    let look = read_at(unit, lba)?;
     match unit.look(alloc, pass, look) {
         Ok(observed) => {
             let read = read_of(&observed)?;
@@ -105,7 +73,7 @@ pub(super) fn look_at<K: Kept>(
 }
 
 /// Reads the block of the unit, for which there must be memory.
-pub(super) fn observe_at(
+pub(crate) fn observe_at(
     rt: &impl Wait,
     alloc: Global,
     unit: &Unit,
@@ -116,13 +84,7 @@ pub(super) fn observe_at(
     ensures of { IsPassOf unit.now pass.new }
     ensures number { pass.new.view.number ≡ pass.old.view.number }
 {
-    let look = Look::Read {
-        first: lba,
-        blocks: 1,
-    };
-    if !unit.covers_look(look) {
-        return Err("the unit doesn't cover the Read");
-    }
+    let look = read_at(unit, lba)?;
     match unit.observe(rt, alloc, pass, look) {
         Ok(observed) => read_of(&observed),
         Err(_) => Err(NO_MEMORY),
@@ -130,7 +92,7 @@ pub(super) fn observe_at(
 }
 
 /// Does a Write as job 5, for which there must be memory, unless another pass holds the unit.
-pub(super) fn poll_write(
+pub(crate) fn poll_write(
     alloc: Global,
     unit: &Unit,
     pass: &mut Pass,
@@ -141,17 +103,8 @@ pub(super) fn poll_write(
     ensures of { IsPassOf unit.now pass.new }
     ensures number { pass.new.view.number ≡ pass.old.view.number }
 {
-    let Ok(payload) = Payload::copy_of(alloc, &[byte; BLOCK]) else {
-        return Err(NO_MEMORY);
-    };
-    let act = ActRef::Write {
-        first: lba,
-        blocks: 1,
-        payload: payload.lend(),
-    };
-    if !unit.covers(act) {
-        return Err("the unit doesn't cover the Write");
-    }
+    let payload = block_of(alloc, byte)?;
+    let act = write_of(unit, lba, &payload)?;
     match unit.poll_change(alloc, pass, 5, act, &Open) {
         Some(Changed::NoMemory { .. }) => Err(NO_MEMORY),
         polled => Ok(polled),
@@ -159,7 +112,7 @@ pub(super) fn poll_write(
 }
 
 /// Reads the block of the unit, for which there must be memory, unless another pass holds the unit.
-pub(super) fn poll_at(
+pub(crate) fn poll_at(
     alloc: Global,
     unit: &Unit,
     pass: &mut Pass,
@@ -169,13 +122,7 @@ pub(super) fn poll_at(
     ensures of { IsPassOf unit.now pass.new }
     ensures number { pass.new.view.number ≡ pass.old.view.number }
 {
-    let look = Look::Read {
-        first: lba,
-        blocks: 1,
-    };
-    if !unit.covers_look(look) {
-        return Err("the unit doesn't cover the Read");
-    }
+    let look = read_at(unit, lba)?;
     match unit.poll_observe(alloc, pass, look, &Open) {
         Some(Ok(observed)) => {
             let read = read_of(&observed)?;

@@ -3,7 +3,7 @@ use Rattle.nvm_unit.specs.Ends.{pass_at, new_passes}
 use Rattle.nvm_unit.specs.Machine.{newcomers_from}
 use Rattle.nvm_unit.specs.Passes.{PassState, UnitName}
 use Rattle.nvm_unit.specs.Views.{newcomer}
-use Rattle.nvm_unit_tests.proofs.unit.dealt.Goals as goal
+use Rattle.nvm_unit_tests.proofs.opening.dealt.Goals as goal
 
 -- What is popped from a list of two, the last first.
 popped : (a b x y : PassState) (rest : List PassState) → a ∷ b ∷ [] ≡ (rest ++ x ∷ []) ++ y ∷ [] → (x ≡ a) × (y ≡ b)

@@ -2,11 +2,10 @@
 ghost use Rattle.std.specs.Prelude.{◌≡◌, true};
 ghost use Rattle.nvm_unit.specs.Passes.{IsPassOf};
 
-use super::super::BLOCK;
-use super::super::blocks::{NO_MEMORY, Read, look_at, write};
-use nvm_record::{BlockSize, Payload};
-use nvm_store::{ActRef, Limit, Place};
+use crate::blocks::{Read, look_at};
+use nvm_store::{ActRef, Limit};
 use nvm_unit::{Busy, Changed, LookFault, Open, Pass, Unit};
+use nvm_unit_tests::{NO_MEMORY, PLACE, block_of, write};
 use std::alloc::Global;
 use std::sync::Wait;
 use std::sync::atomic::{AtomicU64, Ordering};
@@ -53,9 +52,7 @@ fn try_to_catch_up(alloc: Global, unit: &Unit, pass: &mut Pass) -> Result<u64, &
     ensures of { IsPassOf unit.now pass.new }
     ensures number { pass.new.view.number ≡ pass.old.view.number }
 {
-    let Ok(ones) = Payload::copy_of(alloc, &[1; BLOCK]) else {
-        return Err(NO_MEMORY);
-    };
+    let ones = block_of(alloc, 1)?;
     let act = ActRef::Pair {
         first: 7,
         blocks: 1,
@@ -171,14 +168,9 @@ fn work<R: Wait>(
 
 #[test]
 fn a_reader_never_waits_and_never_goes_back(rt: HostRuntime) -> Result<(), Fail> {
-    let place = Place {
-        first: 0,
-        blocks: 8,
-        size: BlockSize::BYTES_512,
-    };
     let limit = Limit::new(200).ok_or("there is no such limit")?;
     let alloc = rt.alloc();
-    let Ok((unit, passes)) = Unit::new(alloc, 0, place, 5, limit) else {
+    let Ok((unit, passes)) = Unit::new(alloc, 0, PLACE, 5, limit) else {
         return Err(Fail::new("there was no memory"));
     };
     let done = AtomicU64::new(0);

@@ -1,7 +1,7 @@
 //! What a pass is told of single tries while nobody holds the unit.
-use super::blocks::{look_at, poll_at, poll_write, try_write, write};
-use super::two_passes;
+use crate::blocks::{look_at, poll_at, poll_write, try_write};
 use nvm_unit::{Changed, Open};
+use nvm_unit_tests::{two_passes, write};
 use std::test::Fail;
 
 #[test]
