@@ -3,7 +3,7 @@ use mathlib.Core.Option.{some-ne-none}
 use Rattle.nvm_record.specs.Lists.{IsAt}
 use Rattle.nvm_space.specs.Ports.{PortState, IsPortOf, AreAllPortsOf}
 use Rattle.nvm_space.specs.Spaces.{SpaceName}
-use Rattle.nvm_refusal_tests.proofs.namespace.two_ports.Goals as goal
+use Rattle.nvm_space_tests.proofs.opening.two_ports.Goals as goal
 
 at_last : (xs : List PortState) (x : PortState) → IsAt (xs ++ x ∷ []) (length xs) x
 at_last [] x = refl
