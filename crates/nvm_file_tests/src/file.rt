@@ -5,7 +5,11 @@ mod traces;
 mod worked_record;
 mod written;
 
+use nvm_audit::Record;
+use nvm_file::read_record;
+use nvm_record::Payload;
 use std::alloc::{AllocError, Global};
+use std::test::Fail;
 
 /// The bytes of the record of a Write of a block of 41h at LBA 0 and a Read of it, on 32 blocks of 512 bytes in four units,
 /// with one worker.
@@ -38,4 +42,10 @@ fn worked_bytes(alloc: Global, second: bool) -> Result<Vec<u8>, AllocError> {
     file.extend_from_slice(&[1, 0, 0, 0, 1, 0, 0, 0, 1, 0, 0, 0, 3, 0, 0, 1])?;
     file.extend_from_slice(&[0x41; 512])?;
     Ok(file)
+}
+
+/// The record of these bytes.
+fn read_worked(alloc: Global, second: bool) -> Result<Record, Fail> {
+    let file = Payload::new(alloc, worked_bytes(alloc, second)?)?;
+    Ok(read_record(alloc, &file)?)
 }

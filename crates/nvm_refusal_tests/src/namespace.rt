@@ -1,45 +1,23 @@
-//! LBAs 0 to 31 with blocks of 512 bytes, in 4 units of 8 LBAs each, and a space of them with two ports.
-ghost use Rattle.std.specs.Prelude.{◌≡◌, IfOk, true};
+//! What is made on the namespace that tests of `nvm_space` have: LBAs 0 to 31 with blocks of 512 bytes, in 4 units of 8 LBAs each.
+ghost use Rattle.std.specs.Prelude.{IfOk};
 ghost use Rattle.nvm_space.specs.Ports.{IsPortOf};
 
-use nvm_geometry::Geometry;
 use nvm_space::{Port, Space};
+use nvm_space_tests::geometry;
 use nvm_store::Limit;
 use nvm_unit::Count;
 use std::alloc::Global;
 use std::test::Fail;
 
+/// How many changes a unit takes.
+pub const CHANGES: u32 = 8;
+
 pub const BLOCK: usize = 512;
 
-/// The namespace. A Write of up to 8 blocks is one step, and a pair of up to 4.
-pub fn geometry() -> Result<Geometry, Fail> {
-    match Geometry::new(32, 512, 7, 0, 7, 3) {
-        Ok(geometry) => Ok(geometry),
-        Err(_) => Err(Fail::new("there is no such geometry")),
-    }
-}
-
-/// At most 8 changes of a unit.
+/// That limit.
 pub fn limit() -> Result<Limit, Fail> {
-    let limit = Limit::new(8).ok_or("there is no such limit")?;
+    let limit = Limit::new(CHANGES).ok_or("there is no such limit")?;
     Ok(limit)
-}
-
-/// A new space, and its two ports.
-pub fn two_ports(alloc: Global) -> Result<(Space, Port, Port), Fail>
-    ensures of { IfOk result (λ s. IsPortOf s.0 s.1 × IsPortOf s.0 s.2) }
-    ensures versions { IfOk result (λ s. s.0.versions ≡ true) }
-{
-    let Ok((space, mut ports)) = Space::new(alloc, geometry()?, 2, limit()?) else {
-        return Err(Fail::new("there was no memory"));
-    };
-    let Some(second) = ports.pop() else {
-        return Err(Fail::new("there is no second port"));
-    };
-    let Some(first) = ports.pop() else {
-        return Err(Fail::new("there is no first port"));
-    };
-    Ok((space, first, second))
 }
 
 /// A new space that keeps no histories and has no limit, and its one port.

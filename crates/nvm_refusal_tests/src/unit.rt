@@ -1,58 +1,14 @@
-//! A unit of LBAs 0 to 7 with blocks of 512 bytes, its two passes, and what they are told.
-ghost use Rattle.std.specs.Prelude.{◌≡◌, IfOk, true};
-ghost use Rattle.nvm_unit.specs.Ends.{new_passes};
+//! What is done to block 0 of a unit of LBAs 0 to 7 with blocks of 512 bytes, and what its passes are told.
+ghost use Rattle.std.specs.Prelude.{◌≡◌};
 ghost use Rattle.nvm_unit.specs.Passes.{IsPassOf};
 
-use crate::namespace::{BLOCK, limit};
-use nvm_record::{BlockSize, Payload, PayloadRef, Status};
-use nvm_store::{ActRef, Answer, Limit, Look, Place};
+use crate::namespace::BLOCK;
+use nvm_record::{Payload, PayloadRef, Status};
+use nvm_store::{ActRef, Answer, Look};
 use nvm_unit::{Changed, Observed, Open, Pass, Unit};
 use std::alloc::Global;
 use std::sync::Wait;
 use std::test::Fail;
-
-pub const PLACE: Place = Place {
-    first: 0,
-    blocks: 8,
-    size: BlockSize::BYTES_512,
-};
-
-/// A new unit, and its two passes.
-pub fn two_passes(alloc: Global) -> Result<(Unit, Pass, Pass), Fail>
-    ensures of { IfOk result (λ u. IsPassOf u.0 u.1 × IsPassOf u.0 u.2) }
-    ensures versions { IfOk result (λ u. u.0.versions ≡ true) }
-{
-    two_passes_up_to(alloc, limit()?)
-}
-
-/// A new unit of so many changes, and its two passes.
-pub fn two_passes_up_to(alloc: Global, limit: Limit) -> Result<(Unit, Pass, Pass), Fail>
-    ensures of { IfOk result (λ u. IsPassOf u.0 u.1 × IsPassOf u.0 u.2) }
-    ensures count { IfOk result (λ u. u.0.bounds.passes ≡ 2) }
-    ensures numbers { IfOk result (λ u. (u.1.view.number ≡ 0) × (u.2.view.number ≡ 1)) }
-    ensures versions { IfOk result (λ u. u.0.versions ≡ true) }
-{
-    let (unit, passes) = Unit::new(alloc, 3, PLACE, 2, limit)?;
-    dealt(unit, passes)
-}
-
-/// The new unit, and its two passes.
-fn dealt(unit: Unit, passes: Vec<Pass>) -> Result<(Unit, Pass, Pass), Fail>
-    requires count { unit.bounds.passes ≡ 2 }
-    requires passes { passes.items ≡ new_passes unit }
-    ensures same { IfOk result (λ u. u.0 ≡ unit) }
-    ensures of { IfOk result (λ u. IsPassOf u.0 u.1 × IsPassOf u.0 u.2) }
-    ensures numbers { IfOk result (λ u. (u.1.view.number ≡ 0) × (u.2.view.number ≡ 1)) }
-{
-    let mut passes = passes;
-    let Some(second) = passes.pop() else {
-        return Err(Fail::new("there is no second pass"));
-    };
-    let Some(first) = passes.pop() else {
-        return Err(Fail::new("there is no first pass"));
-    };
-    Ok((unit, first, second))
-}
 
 /// A Write of block 0.
 pub fn write_of<'a>(payload: PayloadRef<'a>) -> ActRef<'a> {

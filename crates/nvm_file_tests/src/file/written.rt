@@ -1,4 +1,4 @@
-use super::worked_bytes;
+use super::{read_worked, worked_bytes};
 use nvm_audit::Record;
 use nvm_file::{UpgradeFault, read_record, upgrade, write_record};
 use nvm_record::Payload;
@@ -30,31 +30,33 @@ impl Write for SmallWriter {
     }
 }
 
-fn worked_record(alloc: Global, second: bool) -> Result<Record, Fail> {
-    let file = Payload::new(alloc, worked_bytes(alloc, second)?)?;
-    Ok(read_record(alloc, &file)?)
+/// The record's file.
+fn written(alloc: Global, record: &Record) -> Result<Vec<u8>, Fail> {
+    let mut bytes = Vec::new(alloc);
+    write_record(&mut bytes, record)?;
+    Ok(bytes)
 }
 
 #[test]
 fn both_versions_are_written_as_they_stood(rt: HostRuntime) -> Result<(), Fail> {
     let alloc = rt.alloc();
     for second in [false, true] {
-        let record = worked_record(alloc, second)?;
-        let mut bytes = Vec::new(alloc);
-        write_record(&mut bytes, &record)?;
-        assert_eq!(rt; bytes, worked_bytes(alloc, second)?);
+        let record = read_worked(alloc, second)?;
+        assert_eq!(rt; written(alloc, &record)?, worked_bytes(alloc, second)?);
     }
     Ok(())
 }
 
+/// Records of one file are one record, so both versions have the same jobs, histories and done jobs.
 #[test]
 fn an_upgraded_record_is_the_second_version(rt: HostRuntime) -> Result<(), Fail> {
     let alloc = rt.alloc();
-    let mut record = worked_record(alloc, false)?;
+    let mut record = read_worked(alloc, false)?;
+    let second = worked_bytes(alloc, true)?;
     upgrade(&mut record)?;
-    assert_eq!(rt; record, worked_record(alloc, true)?);
+    assert_eq!(rt; written(alloc, &record)?, second);
     upgrade(&mut record)?;
-    assert_eq!(rt; record, worked_record(alloc, true)?);
+    assert_eq!(rt; written(alloc, &record)?, second);
     Ok(())
 }
 
@@ -81,7 +83,7 @@ fn an_unknown_opcode_has_no_second_form(rt: HostRuntime) -> Result<(), Fail> {
 #[test]
 fn a_full_writer_has_a_front(rt: HostRuntime) -> Result<(), Fail> {
     let alloc = rt.alloc();
-    let record = worked_record(alloc, false)?;
+    let record = read_worked(alloc, false)?;
     let whole = worked_bytes(alloc, false)?;
     for room in [0, 1, 27, 99, 100, 678, 1772] {
         let mut writer = SmallWriter {
@@ -98,7 +100,7 @@ fn a_full_writer_has_a_front(rt: HostRuntime) -> Result<(), Fail> {
 #[test]
 fn a_buffer_is_a_writer(rt: HostRuntime) -> Result<(), Fail> {
     let alloc = rt.alloc();
-    let record = worked_record(alloc, true)?;
+    let record = read_worked(alloc, true)?;
     let mut buffered = BufWriter::new(alloc, Vec::new(alloc))?;
     write_record(&mut buffered, &record)?;
     let Ok(bytes) = buffered.into_inner() else {

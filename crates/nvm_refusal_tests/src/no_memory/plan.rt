@@ -1,10 +1,10 @@
 //! What a job is, before it is done.
 use crate::job::{pair_of, single};
-use crate::namespace::geometry;
 use nvm_geometry::Geometry;
 use nvm_plan::laws::ready_jobs;
 use nvm_plan::{Job, LentPart, Plan, fits, job_part_in, next_job_unit, plan};
 use nvm_record::{Op, Payload, Status, Statuses};
+use nvm_space_tests::geometry;
 use nvm_store::{ActRef, Look};
 use std::test::Fail;
 

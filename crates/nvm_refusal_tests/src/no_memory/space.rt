@@ -3,10 +3,11 @@ ghost use Rattle.std.specs.Prelude.{◌≡◌, true, ◌<◌};
 ghost use Rattle.nvm_space.specs.Ports.{IsPortOf};
 
 use crate::job::{done, single};
-use crate::namespace::two_ports;
+use crate::namespace::CHANGES;
 use nvm_plan::Completions;
 use nvm_record::{LbaRange, Op, Payload, Status, ranges_data};
 use nvm_space::{JobDone, Port, Progress, ReadNow, Space};
+use nvm_space_tests::two_ports;
 use std::alloc::Global;
 use std::test::Fail;
 
@@ -43,7 +44,7 @@ fn reads_over_a_boundary_behind_the_end_or_of_what_is_newer_fail(
     rt: HostRuntime,
 ) -> Result<(), Fail> {
     let alloc = rt.alloc();
-    let (space, mut first, mut second) = two_ports(alloc)?;
+    let (space, mut first, mut second) = two_ports(alloc, CHANGES)?;
     let zeroes = single(1, Op::WriteZeroes, 0, 0, Payload::empty());
     let zeroed = status_of(done(&rt, alloc, &space, &mut second, &zeroes)?)?;
     if zeroed != Status::SUCCESSFUL_COMPLETION {
@@ -63,7 +64,7 @@ fn reads_over_a_boundary_behind_the_end_or_of_what_is_newer_fail(
 #[test]
 fn a_job_makes_no_step(rt: HostRuntime) -> Result<(), Fail> {
     let alloc = rt.alloc();
-    let (space, mut first, _second) = two_ports(alloc)?;
+    let (space, mut first, _second) = two_ports(alloc, CHANGES)?;
     let range = LbaRange {
         first: 0,
         blocks: 8,

@@ -2,18 +2,19 @@
 ghost use Rattle.std.specs.Prelude.{◌≡◌, true};
 ghost use Rattle.nvm_unit.specs.Passes.{IsPassOf};
 
-use crate::namespace::BLOCK;
-use crate::unit::{compared, equal_at, two_passes, two_passes_up_to, write};
+use crate::namespace::{BLOCK, CHANGES};
+use crate::unit::{compared, equal_at, write};
 use nvm_record::{Payload, Status, Statuses};
-use nvm_store::{ActRef, Limit, Look};
+use nvm_store::{ActRef, Look};
 use nvm_unit::{Busy, Changed, LookFault, Observed, Open, Pass, Unit};
+use nvm_unit_tests::{closed, two_passes};
 use std::alloc::Global;
 use std::test::Fail;
 
 #[test]
 fn a_pass_is_brought_up_and_compares(rt: HostRuntime) -> Result<(), Fail> {
     let alloc = rt.alloc();
-    let (unit, mut first, mut second) = two_passes(alloc)?;
+    let (unit, mut first, mut second) = two_passes(alloc, CHANGES)?;
     write(&rt, alloc, &unit, &mut first, 0x41)?;
     unit.refresh(&rt, &mut second);
     assert!(rt; second.keeps());
@@ -51,7 +52,7 @@ fn look(
 #[test]
 fn passes_meet(rt: HostRuntime) -> Result<(), Fail> {
     let alloc = rt.alloc();
-    let (unit, mut first, mut second) = two_passes(alloc)?;
+    let (unit, mut first, mut second) = two_passes(alloc, CHANGES)?;
     write(&rt, alloc, &unit, &mut first, 0x41)?;
     let newer = LookFault::Newer { count: 1 };
     let looked = look(alloc, &unit, &mut second, 0);
@@ -88,7 +89,7 @@ fn try_pair(
 #[test]
 fn a_pair_fails_at_once(rt: HostRuntime) -> Result<(), Fail> {
     let alloc = rt.alloc();
-    let (unit, mut first, _second) = two_passes(alloc)?;
+    let (unit, mut first, _second) = two_passes(alloc, CHANGES)?;
     let ones = Payload::copy_of(alloc, &[1; BLOCK])?;
     let statuses = Statuses::Two(
         Status::COMPARE_FAILURE,
@@ -100,27 +101,15 @@ fn a_pair_fails_at_once(rt: HostRuntime) -> Result<(), Fail> {
     Ok(())
 }
 
-/// How many entries are kept of the unit, which has just these passes. Only the list of these takes memory.
-fn closed(alloc: Global, unit: Unit, first: Pass, second: Pass) -> Result<usize, Fail>
-    requires of { IsPassOf unit first × IsPassOf unit second }
-    requires count { unit.bounds.passes ≡ 2 }
-    requires numbers { (first.view.number ≡ 0) × (second.view.number ≡ 1) }
-{
-    let mut passes = Vec::with_capacity(alloc, 2)?;
-    passes.push(first)?;
-    passes.push(second)?;
-    Ok(unit.close(passes).len())
-}
-
+/// Of a close only the list of the passes takes memory.
 #[test]
 fn a_unit_is_full_and_is_closed(rt: HostRuntime) -> Result<(), Fail> {
     let alloc = rt.alloc();
-    let limit = Limit::new(1).ok_or("there is no such limit")?;
-    let (unit, mut first, mut second) = two_passes_up_to(alloc, limit)?;
+    let (unit, mut first, mut second) = two_passes(alloc, 1)?;
     write(&rt, alloc, &unit, &mut first, 1)?;
     let ones = Payload::copy_of(alloc, &[1; BLOCK])?;
     let tried = try_pair(alloc, &unit, &mut second, &ones);
     assert_eq!(rt; tried, Some(Ok(Changed::Full { point: 1 })));
-    assert_eq!(rt; closed(alloc, unit, first, second)?, 1);
+    assert_eq!(rt; closed(alloc, unit, first, second)?.len(), 1);
     Ok(())
 }

@@ -1,9 +1,10 @@
 //! A space that is made or closed, pairs on its first block, and a Read over two units. A space that is there stays as it is.
 use crate::job::{PairEnd, done, holds, pair_end, pair_of, single};
-use crate::namespace::{geometry, limit, two_ports, unrecorded};
+use crate::namespace::{CHANGES, limit, unrecorded};
 use nvm_plan::{Completions, PartResult};
 use nvm_record::{NoMemory, Op, Payload, Status};
 use nvm_space::{JobDone, Port, Space, SpaceFault};
+use nvm_space_tests::{geometry, two_ports};
 use nvm_store::History;
 use std::alloc::AllocError;
 use std::test::Fail;
@@ -23,7 +24,7 @@ fn ports_of(made: Result<(Space, Vec<Port>), SpaceFault>) -> Result<usize, Space
 #[test]
 fn new_makes_no_space(rt: HostRuntime) -> Result<(), Fail> {
     let alloc = rt.alloc();
-    let (space, mut first, mut second) = two_ports(alloc)?;
+    let (space, mut first, mut second) = two_ports(alloc, CHANGES)?;
     let pair = pair_of(alloc, 0, 0x55)?;
     let end = pair_end(done(&rt, alloc, &space, &mut first, &pair)?)?;
     if ended(end).is_err() {
@@ -61,7 +62,7 @@ fn ended(end: PairEnd) -> Result<PairEnd, NoMemory> {
 #[test]
 fn a_pair_that_finds_zeroes_leaves_them(rt: HostRuntime) -> Result<(), Fail> {
     let alloc = rt.alloc();
-    let (space, mut first, mut second) = two_ports(alloc)?;
+    let (space, mut first, mut second) = two_ports(alloc, CHANGES)?;
     let pair = pair_of(alloc, 0, 0x55)?;
     let end = ended(pair_end(done(&rt, alloc, &space, &mut first, &pair)?)?);
     let byte = if end.is_ok() { 0x55 } else { 0 };
@@ -83,7 +84,7 @@ fn begun(end: PairEnd) -> Result<PairEnd, NoMemory> {
 #[test]
 fn a_pair_that_finds_other_bytes_has_no_part(rt: HostRuntime) -> Result<(), Fail> {
     let alloc = rt.alloc();
-    let (space, mut first, mut second) = two_ports(alloc)?;
+    let (space, mut first, mut second) = two_ports(alloc, CHANGES)?;
     let pair = pair_of(alloc, 1, 0x55)?;
     let end = begun(pair_end(done(&rt, alloc, &space, &mut first, &pair)?)?);
     assert!(rt; holds(&rt, alloc, &space, &mut second, 0)?);

@@ -1,15 +1,14 @@
 //! What is made of the blocks of a unit. The unit that is lent keeps its own.
-ghost use Rattle.std.specs.Prelude.{IfOk, OnOk};
+ghost use Rattle.std.specs.Prelude.{IfOk};
 ghost use Rattle.nvm_store.specs.History.{IsLawfulHistory};
 ghost use Rattle.nvm_store.specs.Place.{place_at};
 
 use crate::namespace::BLOCK;
 use crate::unit::write_of;
 use nvm_record::{BlockSize, NoMemory, Payload, ReadData, Status};
-use nvm_store::laws::{acts_and_looks, lawful_with_one_more};
-use nvm_store::{
-    ActRef, Answer, Entry, History, Look, UnitBlocks, answer, apply, judge, judge_look, replay,
-};
+use nvm_store::{Answer, History, Look, UnitBlocks, answer, apply, judge, judge_look, replay};
+use nvm_tests::push;
+use nvm_unit_tests::PLACE;
 use std::alloc::Global;
 use std::test::Fail;
 
@@ -65,36 +64,13 @@ fn change_leaves_the_unit(rt: HostRuntime) -> Result<(), Fail> {
     Ok(())
 }
 
-/// Adds the act to a history of the unit, if it succeeds after the others.
-fn push(alloc: Global, size: BlockSize, history: &mut History, act: ActRef<'_>) -> Result<(), Fail>
-    requires { IsLawfulHistory (place_at 0 8 size) history.old.items }
-    ensures { OnOk result (IsLawfulHistory (place_at 0 8 size) history.new.items) }
-{
-    lawful_with_one_more();
-    acts_and_looks();
-    let unit = replay(alloc, 0, 8, size, history)?;
-    if !unit.covers(act) {
-        return Err(Fail::new("the unit doesn't cover the act"));
-    }
-    if !judge(&unit, act).is_success() {
-        return Err(Fail::new("the act fails"));
-    }
-    let act = act.to_act(alloc)?;
-    history.push(Entry {
-        pass: 0,
-        job: 0,
-        act,
-    })?;
-    Ok(())
-}
-
 /// The history of a Write of a block of 41h.
 fn one_write(alloc: Global) -> Result<History, Fail>
     ensures { IfOk result (λ history. IsLawfulHistory (place_at 0 8 512) history.items) }
 {
     let data = Payload::copy_of(alloc, &[0x41; BLOCK])?;
     let mut history = Vec::new(alloc);
-    push(alloc, SIZE, &mut history, write_of(data.lend()))?;
+    push(alloc, PLACE, &mut history, write_of(data.lend()))?;
     Ok(history)
 }
 

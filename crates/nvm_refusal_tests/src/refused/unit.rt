@@ -1,9 +1,10 @@
 //! A unit that is made, and a copy of a history. A unit that is there stays as it is.
-use crate::namespace::limit;
-use crate::unit::{PLACE, compared, equal_at, two_passes, write};
+use crate::namespace::{CHANGES, limit};
+use crate::unit::{compared, equal_at, write};
 use nvm_record::NoMemory;
 use nvm_store::History;
 use nvm_unit::{Pass, Unit, UnitFault};
+use nvm_unit_tests::{PLACE, two_passes};
 use std::test::Fail;
 
 /// How many entries were copied.
@@ -15,7 +16,7 @@ fn counted(copied: Result<History, NoMemory>) -> Result<usize, NoMemory> {
 #[test]
 fn history_gives_no_copy(rt: HostRuntime) -> Result<(), Fail> {
     let alloc = rt.alloc();
-    let (unit, mut first, mut second) = two_passes(alloc)?;
+    let (unit, mut first, mut second) = two_passes(alloc, CHANGES)?;
     write(&rt, alloc, &unit, &mut first, 0x41)?;
     let copied = unit.history(&rt, alloc, &mut second);
     let found = compared(&rt, alloc, &unit, &mut second, 0x41);
@@ -33,7 +34,7 @@ fn passes_of(made: Result<(Unit, Vec<Pass>), UnitFault>) -> Result<usize, UnitFa
 #[test]
 fn new_makes_no_unit(rt: HostRuntime) -> Result<(), Fail> {
     let alloc = rt.alloc();
-    let (unit, mut first, mut second) = two_passes(alloc)?;
+    let (unit, mut first, mut second) = two_passes(alloc, CHANGES)?;
     write(&rt, alloc, &unit, &mut first, 0x41)?;
     let made = passes_of(Unit::new(alloc, 4, PLACE, 2, limit()?));
     let found = compared(&rt, alloc, &unit, &mut second, 0x41);

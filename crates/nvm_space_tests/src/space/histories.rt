@@ -2,7 +2,7 @@
 ghost use Rattle.nvm_space.specs.Ports.{IsPortOf};
 
 use super::jobs::job_of;
-use super::two_ports;
+use crate::opening::two_ports;
 use nvm_plan::{Completions, Job, fits};
 use nvm_record::Status;
 use nvm_space::{JobDone, Port, Space};

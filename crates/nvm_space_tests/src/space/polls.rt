@@ -5,7 +5,7 @@ ghost use Rattle.nvm_space.specs.Progress.{IsProgress};
 ghost use Rattle.nvm_unit.specs.Ends.{views_of};
 
 use super::jobs::{single, zeroes};
-use super::two_ports;
+use crate::opening::two_ports;
 use nvm_plan::{Completions, Job, PartResult, fits};
 use nvm_record::{Op, Payload, ReadData, Status};
 use nvm_space::{JobDone, Port, Progress, Space};

@@ -3,7 +3,7 @@ ghost use Rattle.std.specs.Prelude.{◌≡◌, ◌<◌, true};
 ghost use Rattle.nvm_space.specs.Ports.{IsPortOf};
 
 use super::jobs::single;
-use super::two_ports;
+use crate::opening::two_ports;
 use nvm_plan::{Completions, fits};
 use nvm_record::{Op, Payload, Status};
 use nvm_space::{JobDone, Port, ReadNow, Space};

@@ -4,7 +4,7 @@ ghost use Rattle.nvm_space.specs.Ports.{IsPortOf};
 
 use super::jobs::single;
 use super::reads::{Read, read};
-use super::two_ports;
+use crate::opening::two_ports;
 use nvm_plan::{Completions, Job, PartResult, fits};
 use nvm_record::{Completion, NoMemory, Op, Payload, ReadData, Status};
 use nvm_space::{JobDone, Port, ReadNow, Space};

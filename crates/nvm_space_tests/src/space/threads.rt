@@ -8,7 +8,7 @@ ghost use Rattle.nvm_unit.specs.declared.views.PassView.{PassView};
 
 use super::jobs::zeroes;
 use super::polls::{poll_once, told};
-use super::two_ports;
+use crate::opening::two_ports;
 use nvm_plan::{Job, PartResult, fits};
 use nvm_record::Status;
 use nvm_space::{JobDone, Port, Progress, Space};

@@ -1,7 +1,7 @@
 //! A space that keeps no histories.
 use super::jobs::zeroes;
 use super::polls::{Told, told};
-use nvm_geometry::Geometry;
+use crate::opening::geometry;
 use nvm_plan::{PartResult, fits};
 use nvm_record::Status;
 use nvm_space::Space;
@@ -15,10 +15,7 @@ use std::test::Fail;
 /// What is told of a Write Zeroes of LBAs 6 to 17 in a new space, and how many changes each unit counts in the end.
 fn zeroed(rt: &impl Wait, alloc: Global, limit: Option<Limit>) -> Result<(Told, Vec<u64>), Fail> {
     ports_are_changed_in_place();
-    let Ok(geometry) = Geometry::new(32, 512, 7, 0, 7, 3) else {
-        return Err(Fail::new("there is no such geometry"));
-    };
-    let Ok((space, mut ports)) = Space::unrecorded(alloc, geometry, 1, limit, false) else {
+    let Ok((space, mut ports)) = Space::unrecorded(alloc, geometry()?, 1, limit, false) else {
         return Err(Fail::new("there was no memory"));
     };
     let job = zeroes(6, 11);

@@ -1,35 +1,23 @@
-ghost use Rattle.std.specs.Prelude.{OnOk};
+ghost use Rattle.std.specs.Prelude.{◌≡◌, OnOk};
 ghost use Rattle.nvm_store.specs.History.{IsLawfulHistory};
 ghost use Rattle.nvm_store.specs.Place.{place_at};
 
 use super::{BLOCK, block, size};
+use crate::pushing::push;
 use nvm_record::{BlockSize, LbaRange, Payload, Status, ranges_data};
-use nvm_store::laws::{acts_and_looks, lawful_with_one_more};
-use nvm_store::{ActRef, Entry, History, Look, UnitBlocks, judge, judge_look, replay};
+use nvm_store::{ActRef, History, Look, Place, UnitBlocks, judge_look, replay};
 use std::alloc::Global;
 use std::test::Fail;
 
-/// Adds the act to a history of the unit of the 4 blocks from LBA 8, if it succeeds after the others.
-fn push(alloc: Global, size: BlockSize, history: &mut History, act: ActRef<'_>) -> Result<(), Fail>
-    requires { IsLawfulHistory (place_at 8 4 size) history.old.items }
-    ensures { OnOk result (IsLawfulHistory (place_at 8 4 size) history.new.items) }
+/// The place of the 4 blocks from LBA 8.
+fn place(size: BlockSize) -> Place
+    ensures { result ≡ place_at 8 4 size }
 {
-    lawful_with_one_more();
-    acts_and_looks();
-    let unit = replay(alloc, 8, 4, size, history)?;
-    if !unit.covers(act) {
-        return Err(Fail::new("the unit doesn't cover the act"));
+    Place {
+        first: 8,
+        blocks: 4,
+        size,
     }
-    if !judge(&unit, act).is_success() {
-        return Err(Fail::new("the act fails"));
-    }
-    let act = act.to_act(alloc)?;
-    history.push(Entry {
-        pass: 0,
-        job: 0,
-        act,
-    })?;
-    Ok(())
 }
 
 /// Adds a Write of two blocks of this byte.
@@ -49,7 +37,7 @@ fn push_write(
         blocks: 2,
         payload: payload.lend(),
     };
-    push(alloc, size, history, write)
+    push(alloc, place(size), history, write)
 }
 
 /// Adds the Deallocate of the range on all 4 blocks.
@@ -68,7 +56,7 @@ fn push_deallocate(
         blocks: 4,
         ranges: ranges.lend(),
     };
-    push(alloc, size, history, deallocate)
+    push(alloc, place(size), history, deallocate)
 }
 
 /// What is told of a comparison of the block at the LBA with this byte, if the unit has the LBA.
@@ -131,12 +119,12 @@ fn replay_does_each_kind_of_act(rt: HostRuntime) -> Result<(), Fail> {
         first: 9,
         blocks: 1,
     };
-    push(alloc, size, &mut history, zeroes)?;
+    push(alloc, place(size), &mut history, zeroes)?;
     let mark = ActRef::Uncorrectable {
         first: 10,
         blocks: 1,
     };
-    push(alloc, size, &mut history, mark)?;
+    push(alloc, place(size), &mut history, mark)?;
     let compare = Payload::copy_of(alloc, &block(0))?;
     let write = Payload::copy_of(alloc, &block(2))?;
     let pair = ActRef::Pair {
@@ -145,7 +133,7 @@ fn replay_does_each_kind_of_act(rt: HostRuntime) -> Result<(), Fail> {
         compare: compare.lend(),
         write: write.lend(),
     };
-    push(alloc, size, &mut history, pair)?;
+    push(alloc, place(size), &mut history, pair)?;
     let unit = replay(alloc, 8, 4, size, &history)?;
     assert!(rt; has(&unit, 8, 1) && has(&unit, 9, 0) && has(&unit, 11, 2));
     assert_eq!(rt;

@@ -2,7 +2,8 @@
 ghost use Rattle.std.specs.Prelude.{◌≡◌};
 ghost use Rattle.nvm_unit.specs.Passes.{IsPassOf};
 
-use super::{BLOCK, change, closed, two_passes};
+use super::change;
+use crate::opening::{BLOCK, closed, two_passes};
 use nvm_record::{LbaRange, Payload, Status, ranges_data};
 use nvm_store::{ActRef, Answer, Look};
 use nvm_unit::{Changed, Open, Pass, Unit};

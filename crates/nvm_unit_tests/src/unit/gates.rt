@@ -1,5 +1,6 @@
 //! What a gate is told, and how often.
-use super::{change, two_passes};
+use super::change;
+use crate::opening::two_passes;
 use nvm_record::Payload;
 use nvm_store::ActRef;
 use nvm_unit::{Changed, Gate};

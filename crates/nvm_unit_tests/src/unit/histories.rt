@@ -2,9 +2,10 @@
 ghost use Rattle.std.specs.Prelude.{◌≡◌};
 ghost use Rattle.nvm_unit.specs.Passes.{IsPassOf};
 
-use super::blocks::write;
-use super::{BLOCK, change, two_passes};
+use super::change;
 use crate::acts::{each_kind, history_of};
+use crate::opening::{BLOCK, two_passes};
+use crate::writing::write;
 use nvm_record::Payload;
 use nvm_store::{Act, Answer, Entry, Look};
 use nvm_unit::{Changed, Observed, Open, Pass, Unit};

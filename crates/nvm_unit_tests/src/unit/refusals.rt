@@ -3,7 +3,7 @@
 ghost use Rattle.std.specs.Prelude.{◌≡◌};
 ghost use Rattle.nvm_unit.specs.Passes.{IsPassOf};
 
-use super::{BLOCK, two_passes};
+use crate::opening::{BLOCK, two_passes};
 use nvm_record::{NoMemory, Payload, PayloadRef, Status, Statuses};
 use nvm_store::{ActRef, Answer, Look};
 use nvm_unit::{Changed, Observed, Open, Pass, Unit};

@@ -1,12 +1,10 @@
 //! Several threads on one unit.
-mod held;
 mod histories;
-mod looking;
 
 ghost use Rattle.nvm_unit.specs.Passes.{IsPassOf};
 
-use nvm_record::BlockSize;
-use nvm_store::{ActRef, Limit, Place};
+use crate::opening::PLACE;
+use nvm_store::{ActRef, Limit};
 use nvm_unit::{Gate, Pass, Unit};
 use std::alloc::Global;
 use std::sync::Wait;
@@ -66,14 +64,9 @@ fn change_often<R: Wait>(
 /// No change is at its gate while another is, since it holds the unit there.
 #[test]
 fn threads_that_wait_go_on_one_after_the_other(rt: HostRuntime) -> Result<(), Fail> {
-    let place = Place {
-        first: 0,
-        blocks: 8,
-        size: BlockSize::BYTES_512,
-    };
     let limit = Limit::new(1600).ok_or("there is no such limit")?;
     let alloc = rt.alloc();
-    let Ok((unit, passes)) = Unit::new(alloc, 0, place, 8, limit) else {
+    let Ok((unit, passes)) = Unit::new(alloc, 0, PLACE, 8, limit) else {
         return Err(Fail::new("there was no memory"));
     };
     let gate = Slow {

@@ -4,11 +4,12 @@ ghost use Rattle.nvm_audit.specs.declared.version.Version.TheVariants.{Two};
 ghost use Rattle.nvm_audit.specs.Recordable.{HoldsBody};
 
 use crate::job::single;
-use crate::namespace::{BLOCK, geometry, limit};
+use crate::namespace::{BLOCK, limit};
 use nvm_audit::{Record, Verdict, audit};
 use nvm_plan::{Job, fits};
 use nvm_record::{NoMemory, Op, Payload};
 use nvm_run::{RunFault, run};
+use nvm_space_tests::geometry;
 use nvm_unit::Open;
 use std::alloc::Global;
 use std::sync::Wait;

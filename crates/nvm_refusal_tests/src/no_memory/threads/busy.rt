@@ -1,11 +1,12 @@
 //! A pass that tries or polls a change, or polls a comparison, while another has the unit.
 ghost use Rattle.nvm_unit.specs.Passes.{IsPassOf};
 
-use crate::namespace::BLOCK;
-use crate::unit::{two_passes, write_of};
+use crate::namespace::{BLOCK, CHANGES};
+use crate::unit::write_of;
 use nvm_record::{Payload, Status, Statuses};
 use nvm_store::{ActRef, Look};
 use nvm_unit::{Busy, Changed, Gate, ObserveFault, Observed, Open, Pass, Unit};
+use nvm_unit_tests::two_passes;
 use std::alloc::Global;
 use std::sync::Wait;
 use std::sync::atomic::{AtomicU64, Ordering};
@@ -150,7 +151,7 @@ fn tried<R: Threads + Wait + Clock + Sync>(
 #[test]
 fn a_try_is_busy_and_polls_wait(rt: HostRuntime) -> Result<(), Fail> {
     let alloc = rt.alloc();
-    let (unit, mut first, mut second) = two_passes(alloc)?;
+    let (unit, mut first, mut second) = two_passes(alloc, CHANGES)?;
     let ones = Payload::copy_of(alloc, &[1; BLOCK])?;
     let (held, told) = tried(&rt, alloc, &unit, &mut first, &mut second, &ones);
     let Some(told) = told else {

@@ -19,6 +19,14 @@ fn facts<R: Threads + Sync>(rt: &R, alloc: Global, lines: &str) -> Result<Vec<Fa
     }
 }
 
+/// Fails unless an argument says that no record explains the trace.
+fn has_argument<R: Threads + Sync>(rt: &R, alloc: Global, lines: &str) -> Result<(), Fail> {
+    if facts(rt, alloc, lines)?.is_empty() {
+        return Err(Fail::new("the argument has no fact"));
+    }
+    Ok(())
+}
+
 #[test]
 fn what_an_order_explains_has_no_argument(rt: HostRuntime) -> Result<(), Fail> {
     let lines = "1 10 1 1 write 0 2 512*01,512*02 = 0/00
@@ -70,8 +78,7 @@ fn a_stale_read_between_overlapping_steps_has_an_argument(rt: HostRuntime) -> Re
 4 5 1 1 read 0 1 = 0/00 02
 6 7 1 1 read 0 1 = 0/00 01
 ";
-    assert!(rt; facts(&rt, rt.alloc(), lines)?.len() > 0);
-    Ok(())
+    has_argument(&rt, rt.alloc(), lines)
 }
 
 #[test]
@@ -87,8 +94,7 @@ fn a_torn_write_has_an_argument(rt: HostRuntime) -> Result<(), Fail> {
 1 9 1 1 write 4 4 512*05,512*06,512*07,512*08 = 0/00
 1 9 1 1 read 4 4 = 0/00 512*01,512*02,512*07,512*08
 ";
-    assert!(rt; facts(&rt, rt.alloc(), lines)?.len() > 0);
-    Ok(())
+    has_argument(&rt, rt.alloc(), lines)
 }
 
 #[test]
@@ -104,8 +110,7 @@ fn a_pair_that_two_hosts_won_has_an_argument(rt: HostRuntime) -> Result<(), Fail
 3 9 1 1 compare 0 1 01 first + 1 write 0 1 02 second = 0/00 0/00
 3 9 2 1 compare 0 1 01 first + 1 write 0 1 03 second = 0/00 0/00
 ";
-    assert!(rt; facts(&rt, rt.alloc(), lines)?.len() > 0);
-    Ok(())
+    has_argument(&rt, rt.alloc(), lines)
 }
 
 #[test]
@@ -115,8 +120,7 @@ fn reads_that_go_back_have_an_argument(rt: HostRuntime) -> Result<(), Fail> {
 4 5 1 1 read 0 1 = 0/00 02
 6 7 1 1 read 0 1 = 0/00 01
 ";
-    assert!(rt; facts(&rt, rt.alloc(), lines)?.len() > 0);
-    Ok(())
+    has_argument(&rt, rt.alloc(), lines)
 }
 
 #[test]
@@ -130,8 +134,7 @@ fn a_stale_read_far_from_its_source_has_an_argument(rt: HostRuntime) -> Result<(
         lines.push_str(line.as_str())?;
     }
     lines.push_str("200 201 1 1 read 0 1 = 0/00 01\n")?;
-    assert!(rt; facts(&rt, alloc, lines.as_str())?.len() > 0);
-    Ok(())
+    has_argument(&rt, alloc, lines.as_str())
 }
 
 /// Of two Writes of the bytes that the Read found one was overwritten before it began, and the other began after it had ended.
@@ -142,8 +145,7 @@ fn a_stale_read_of_bytes_written_again_has_an_argument(rt: HostRuntime) -> Resul
 5 6 1 1 read 0 1 = 0/00 01
 7 8 1 1 write 0 1 01 = 0/00
 ";
-    assert!(rt; facts(&rt, rt.alloc(), lines)?.len() > 0);
-    Ok(())
+    has_argument(&rt, rt.alloc(), lines)
 }
 
 /// That the first Write's bytes were overwritten before the second Read is known only by what the first Read found. So they were the
@@ -157,8 +159,7 @@ fn reads_that_go_back_to_bytes_written_twice_have_an_argument(rt: HostRuntime) -
 7 8 1 1 read 0 1 = 0/00 01
 9 10 1 1 read 0 1 = 0/00 02
 ";
-    assert!(rt; facts(&rt, rt.alloc(), lines)?.len() > 0);
-    Ok(())
+    has_argument(&rt, rt.alloc(), lines)
 }
 
 /// The first zeroes were overwritten before the first Read began, so what it found are the Deallocate's, which the second overlooked.
@@ -169,6 +170,5 @@ fn zeroes_that_come_and_go_have_an_argument(rt: HostRuntime) -> Result<(), Fail>
 4 5 1 1 read 0 1 = 0/00 00
 6 7 1 1 read 0 1 = 0/00 01
 ";
-    assert!(rt; facts(&rt, rt.alloc(), lines)?.len() > 0);
-    Ok(())
+    has_argument(&rt, rt.alloc(), lines)
 }

@@ -2,7 +2,7 @@
 ghost use Rattle.std.specs.Prelude.{◌≡◌};
 ghost use Rattle.nvm_unit.specs.Passes.{IsPassOf};
 
-use super::super::{closed, two_passes};
+use crate::opening::{closed, two_passes};
 use nvm_store::{ActRef, History};
 use nvm_unit::{Changed, Open, Pass, Unit};
 use std::alloc::Global;
