@@ -1,4 +1,4 @@
-//! The line that tells whether a record explains a trace.
+//! The line that says whether a record explains a trace.
 ghost use Rattle.std.specs.Prelude.{◌≡◌, IfOk, string_bytes};
 ghost use Rattle.nvm_engine.specs.WitnessLine.{explained_line, unexplained_with};
 
