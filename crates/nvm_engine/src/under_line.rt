@@ -1,24 +1,25 @@
-//! The line of a command, and under it what its list says and the name of its status.
+//! What is under the line of a command in the long form: what its list says of it, and the name and the number of its status.
 ghost use Rattle.std.specs.Prelude.{◌≡◌, ◌≤◌, ◌+◌, ◌*◌, ◌++◌, OnErr, OnOk, drop, false};
 ghost use Rattle.std.specs.Fmt.{digits};
 ghost use Rattle.std.specs.Io.KnownBytes.{Appends};
 ghost use Rattle.nvm_write.specs.Handed.{TakesFront};
-ghost use Rattle.nvm_text.specs.Lines.{hex2, line};
-ghost use Rattle.nvm_engine.specs.LongLines.{behind_next, lists_say, long_line, named_text, next_of, number_text};
+ghost use Rattle.nvm_text.specs.Lines.{hex2};
 ghost use Rattle.nvm_engine.specs.StatusNames.{status_digits};
+ghost use Rattle.nvm_engine.specs.UnderLine.{after_next, lists_say, named_text, next_of, number_text, under};
 
+use crate::form::Form;
 use crate::status_names::status_name;
 use nvm_list::next_said;
-use nvm_record::{Op, ReadData, Status};
-use nvm_text::{Piece, write_told};
+use nvm_record::Status;
+use nvm_text::Piece;
 use nvm_write::hand;
 use std::io;
 use std::io::Write;
 
-/// What the list of a host says of its next command. The list goes on behind that.
+/// What the list of a host says of its next command. The list goes on after that.
 pub(crate) fn take_said<'a>(lists: &mut [&'a [u8]], host: u16) -> &'a [u8]
     ensures said { result.now ≡ next_of (lists_say lists.old) host }
-    ensures left { lists_say lists.new ≡ behind_next (lists_say lists.old) host }
+    ensures left { lists_say lists.new ≡ after_next (lists_say lists.old) host }
 {
     let place = usize::from(host).saturating_sub(1);
     if place >= lists.len() {
@@ -29,28 +30,27 @@ pub(crate) fn take_said<'a>(lists: &mut [&'a [u8]], host: u16) -> &'a [u8]
     said
 }
 
-/// Writes the line of a host's command, and under it what its list says of it and the name of its status.
-pub(crate) fn write_long_line<W: Write>(
+/// Writes what is under the line of a command in this form.
+pub(crate) fn write_under<W: Write>(
     writer: &mut W,
-    op: Op,
-    host: u16,
-    cid: u16,
-    status: Status,
-    payload: &Option<ReadData>,
+    form: Form,
     said: &[u8],
+    status: Status,
 ) -> io::Result<()>
-    ensures whole { OnOk result (Appends (W.contents writer.old) (W.contents writer.new)
-        (long_line op (record { host = host; cid = cid; status = status; payload = payload.now }) said.now)) }
-    ensures front { OnErr result (TakesFront (W.contents writer.old) (W.contents writer.new)
-        (long_line op (record { host = host; cid = cid; status = status; payload = payload.now }) said.now)) }
+    ensures whole { OnOk result (Appends (W.contents writer.old) (W.contents writer.new) (under form said.now status)) }
+    ensures front { OnErr result (TakesFront (W.contents writer.old) (W.contents writer.new) (under form said.now status)) }
 {
-    write_told(writer, op, host, cid, status, payload)?;
-    write_named(writer, said, status)?;
-    write_number(writer, status)
+    match form {
+        Form::Short => Ok(()),
+        Form::Long => {
+            write_named(writer, said, status)?;
+            write_number(writer, status)
+        }
+    }
 }
 
 /// Writes what is said of a command, and the name of its status.
-#[tactic(auto, unfolding(crate::specs::LongLines::named_text))]
+#[tactic(auto, unfolding(crate::specs::UnderLine::named_text))]
 fn write_named<W: Write>(writer: &mut W, said: &[u8], status: Status) -> io::Result<()>
     ensures whole { OnOk result (Appends (W.contents writer.old) (W.contents writer.new) (named_text said.now status)) }
     ensures front { OnErr result (TakesFront (W.contents writer.old) (W.contents writer.new) (named_text said.now status)) }
@@ -62,7 +62,7 @@ fn write_named<W: Write>(writer: &mut W, said: &[u8], status: Status) -> io::Res
 }
 
 /// Writes the number of a status in parentheses, and the end of the line.
-#[tactic(auto, unfolding(crate::specs::LongLines::number_text))]
+#[tactic(auto, unfolding(crate::specs::UnderLine::number_text))]
 fn write_number<W: Write>(writer: &mut W, status: Status) -> io::Result<()>
     ensures whole { OnOk result (Appends (W.contents writer.old) (W.contents writer.new) (number_text status)) }
     ensures front { OnErr result (TakesFront (W.contents writer.old) (W.contents writer.new) (number_text status)) }

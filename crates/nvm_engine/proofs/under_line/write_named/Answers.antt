@@ -1,8 +1,8 @@
 use Rattle.std.proofs.Common.{◌++◌, codes, refl}
 use Rattle.nvm_write.proofs.Taking.{behind, both, first_of, on_err, on_err_then, on_ok_then, within}
-use Rattle.nvm_engine.specs.LongLines.{named_text}
+use Rattle.nvm_engine.specs.UnderLine.{named_text}
 use Rattle.nvm_engine.specs.StatusNames.{status_name}
-use Rattle.nvm_engine.proofs.long_line.write_named.Goals as goal
+use Rattle.nvm_engine.proofs.under_line.write_named.Goals as goal
 
 pub returns-in_err-hand-clause-front : goal.returns-in_err-hand-clause-front
 unfolding named_text

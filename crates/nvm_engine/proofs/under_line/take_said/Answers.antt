@@ -3,7 +3,7 @@ use Rattle.std.proofs.lemmas.List.{map-set, get_or-map}
 use Rattle.std.proofs.Math.ListN.{set}
 use Rattle.nvm_list.specs.Words.{others}
 use Rattle.nvm_list.specs.Said.{said_lines}
-use Rattle.nvm_engine.proofs.long_line.take_said.Goals as goal
+use Rattle.nvm_engine.proofs.under_line.take_said.Goals as goal
 
 pub returns-clause-left : goal.returns-clause-left
 returns-clause-left c =

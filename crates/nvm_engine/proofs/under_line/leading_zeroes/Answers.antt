@@ -1,6 +1,6 @@
 use Rattle.std.proofs.Common.{◌+◌, ◌*◌, ◌<◌, ◌≤◌, arith}
 use Rattle.nvm_engine.proofs.NumberDigits.{one_digit, two_digits, three_digits, four_digits}
-use Rattle.nvm_engine.proofs.long_line.leading_zeroes.Goals as goal
+use Rattle.nvm_engine.proofs.under_line.leading_zeroes.Goals as goal
 
 pub returns-then-number-lt16-clause-others : goal.returns-then-number-lt16-clause-others
 returns-then-number-lt16-clause-others c =
