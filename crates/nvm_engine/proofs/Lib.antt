@@ -2,8 +2,6 @@ pub mod Reading
 pub mod Told
 pub mod Writing
 pub mod OneText
-pub mod Printing
 pub mod NamesApart
 pub mod NumberDigits
 pub mod NamesOfOutcomes
-pub mod LastLine

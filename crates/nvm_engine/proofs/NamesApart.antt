@@ -5,7 +5,7 @@ use Rattle.std.specs.Str.{bytes_eq}
 use Rattle.nvm_record.specs.declared.status.Status.{Status}
 use Rattle.nvm_engine.specs.StatusNames.{NamedStatus, status_table, unknown_status, status_name, StandsIn, HasName}
 
--- what holds of each row's status holds of each that stands there
+-- what holds of each row's status holds of each that is there
 of_rows : (P : Status → Type 0) (rows : List NamedStatus) → AllByRecursion (λ row. P row.status) rows → (s : Status) → StandsIn rows s → P s
 of_rows P [] all s there = absurd there
 of_rows P (row ∷ rows) all s (inl is) = subst P (sym is) all.0

@@ -81,7 +81,7 @@ refused_named : (ns : Namespace) (job : Job) (told : Statuses) → refusal_of ns
 unfolding refusal_of
 refused_named ns job told e = first_named (checks ns job.body) (all_answers ns job.body) told e
 
--- ---- what is told of a job that isn't refused
+-- ---- the statuses of a job that isn't refused
 
 of_kind : (pair : Bool) (one two : Statuses) → HaveNames one → HaveNames two → HaveNames (if pair then two else one)
 of_kind true one two h k = k

@@ -49,8 +49,8 @@ IsFilesFault size number (file ∷ files) fault =
     IsFileFault size number file fault
     ⊎ (((commands : List Command) × IsHostFile size file commands) × IsFilesFault size (number + 1) files fault)
 
--- The first fault: too many files, or else one of the options, or else one of the files. Want of memory
--- stands beside them, since no definition can say that memory was there.
+-- The first fault: too many files, or else one of the options, or else one of the files. Or memory was
+-- refused, since no definition can say that memory was there.
 abbrev pub IsFirstRunFault : Settings → List (List ℕ) → Fault → Type 0
 IsFirstRunFault s files fault =
     ((most_hosts < length files) × (fault ≡ TooManyHosts))

@@ -1,4 +1,4 @@
--- What is told of the bytes of a record's file that is audited.
+-- What is answered of the bytes of a record's file that is audited.
 use Rattle.std.specs.Prelude.{◌≡◌, ◌≢◌, ◌⊎◌, ℕ, List, Result, Ok, Err}
 use Rattle.nvm_audit.specs.LawfulRecord.{IsLawfulRecord}
 use Rattle.nvm_audit.specs.RecordChecks.{IsFirstFault}
@@ -29,6 +29,6 @@ pub record IsJudged (bytes : List ℕ) (answer : Result Verdict AuditFault) : Ty
   pub file : IsRecordFile bytes run
   pub judged : IsJudgedAs run answer
 
--- It is the first fault of the bytes as a record's file. Want of memory stands beside it.
+-- It is the first fault of the bytes as a record's file. Or memory was refused.
 abbrev pub IsUnreadFault : List ℕ → Fault → Type 0
 IsUnreadFault bytes fault = ((of : RecordFault) × (record_at bytes ≡ Err of) × (fault ≡ fault_of_record of)) ⊎ (fault ≡ NoMemory)

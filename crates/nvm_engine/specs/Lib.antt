@@ -1,13 +1,12 @@
 pub mod Settings
 pub mod Fault
+pub mod StatusNames
+pub mod UnderLine
 pub mod Lines
 pub mod RecordLines
 pub mod VerdictLine
 pub mod VerdictObject
 pub mod Printed
-pub mod StatusNames
-pub mod LongLines
-pub mod LongText
 pub mod Shown
 pub mod Judged
 pub mod Witnessed

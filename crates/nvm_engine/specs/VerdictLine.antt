@@ -1,4 +1,4 @@
--- What is printed of an audit: one line, which tells what there was in a lawful record, or the first fault of another.
+-- What is printed of an audit: one line, with what there was in a lawful record, or the first fault of another.
 use Rattle.std.specs.Prelude.{ℕ, List, [], ◌++◌, Option, Some, None, Result, Ok, Err, codes, decimal}
 use Rattle.nvm_audit.specs.declared.audit_fault.AuditFault.{AuditFault}
 use Rattle.nvm_audit.specs.declared.audit_fault.Spot.{Spot}

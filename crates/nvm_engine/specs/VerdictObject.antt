@@ -1,4 +1,4 @@
--- What is told to programs of an audit: one object of JSON (RFC 8259) on a line. Its names are the words of the line that people read. No
+-- What is printed of an audit for programs: one object of JSON (RFC 8259) on a line. Its names are the words of the line that people read. No
 -- string in it has a quote, a backslash or a control character, so none is escaped.
 use Rattle.std.specs.Prelude.{ℕ, List, ◌++◌, Option, Some, None, Result, Ok, Err, codes, decimal}
 use Rattle.nvm_audit.specs.declared.audit_fault.AuditFault.{AuditFault}

@@ -44,7 +44,7 @@ pub record IsWitnessed (judging : Judging) (trace run : List ℕ) (answer : Resu
 abbrev pub IsTraceFault : List ℕ → Fault → Type 0
 IsTraceFault trace fault = (of : TraceFileFault) × (trace_at trace ≡ Err of) × (fault ≡ fault_of_trace of)
 
--- It is the first fault of the trace's file, or else, where that is one, of the record's. Want of memory stands beside them.
+-- It is the first fault of the trace's file, or else, where that is one, of the record's. Or memory was refused.
 abbrev pub IsUnwitnessedFault : List ℕ → List ℕ → Fault → Type 0
 IsUnwitnessedFault trace run fault =
     IsTraceFault trace fault ⊎ ((((t : TraceView) × IsTraceFile trace t) × IsUnreadFault run fault) ⊎ (fault ≡ NoMemory))

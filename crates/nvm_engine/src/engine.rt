@@ -29,10 +29,10 @@ use std::thread::Threads;
 /// Does the commands of the hosts' files, of which the first is host 1's, on a namespace of zero bytes by as many workers as
 /// the settings say, and says what to show: the run's record, which is lawful, and its text with the verdict of an audit.
 ///
-/// The gate is told of the course of the jobs. A job that finds no memory ends with 0/06 and has its lines as any other; a pair
+/// The gate is notified of the course of the jobs. A job that finds no memory ends with 0/06 and has its lines as any other; a pair
 /// ends with 0/06 and 0/09 before its part, and with 0/00 and 0/06 in it.
 ///
-/// The first fault is answered: more than 64 files, then one of the settings, then one of a file, or
+/// The first fault is returned: more than 64 files, then one of the settings, then one of a file, or
 /// `NoMemory` where a growth outside a command was refused. All workers have ended then, and nothing is shown.
 pub fn execute<R: Threads + Wait + Sync, G: Gate + Sync>(
     rt: &R,
@@ -48,7 +48,7 @@ pub fn execute<R: Threads + Wait + Sync, G: Gate + Sync>(
     execute_watched(rt, alloc, settings, files, gate, &Unwatched)
 }
 
-/// What [`execute`] does. The watcher is told how far the audit is.
+/// What [`execute`] does. The watcher is notified how far the audit is.
 pub fn execute_watched<R: Threads + Wait + Sync, G: Gate + Sync, W: Watcher + Sync>(
     rt: &R,
     alloc: Global,

@@ -11,19 +11,19 @@ use thiserror::Error;
 /// Why there is nothing to show. Each prints its one line, without the name of a program.
 #[derive(Debug, Drop, Error)]
 pub enum Fault {
-    /// The options describe no namespace.
+    /// The settings describe no namespace: their first fault.
     #[error("geometry: {0}")]
     Geometry(GeometryFault),
     /// There are more than 64 host files.
     #[error("too many hosts")]
     TooManyHosts,
-    /// A host's file isn't one: its first fault from the front. Hosts count from 1.
+    /// A host's file isn't one: the number of the host, which counts from 1, and the file's first fault from the front.
     #[error("host {host}: {fault}")]
     Host { host: u16, fault: HostFault },
-    /// The file doesn't hold a record: its first fault from the front.
+    /// The bytes aren't a record's file: their first fault from the front.
     #[error("record: {0}")]
     Record(RecordFault),
-    /// The file doesn't hold a trace: its first fault from the front.
+    /// The bytes aren't a trace's file: their first fault from the front.
     #[error("trace: {0}")]
     Trace(TraceFileFault),
     /// Memory was asked for and refused, outside a command.

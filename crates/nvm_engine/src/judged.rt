@@ -44,7 +44,7 @@ impl Judged {
         }
     }
 
-    /// Of a record with this first fault. Want of memory is none: it is answered.
+    /// Of a record with this first fault. Want of memory is none: it is returned.
     pub(crate) fn unlawful(fault: AuditFault) -> Result<Judged, NoMemory>
         ensures told { IfOk result (λ judged. judged ≡ Err fault) }
         ensures known { OnOk result (fault ≢ NoMemoryFault) }
@@ -55,7 +55,7 @@ impl Judged {
         }
     }
 
-    /// Writes the line of the verdict or of the fault. Where the writer fails, its error is answered, and it has taken a front of
+    /// Writes the line of the verdict or of the fault. Where the writer fails, its error is returned, and it has taken a front of
     /// the line.
     pub fn write_line<W: Write>(&self, writer: &mut W) -> io::Result<()>
         ensures whole { OnOk result (Appends (W.contents writer.old) (W.contents writer.new) (answer_line self.now)) }

@@ -20,7 +20,7 @@ use std::thread::Threads;
 
 /// Audits the record that a file of either version holds: whether it is lawful, or what is its first fault.
 ///
-/// Where the bytes are no record's file, the first fault from the front is answered, with its offset. `NoMemory` is answered where
+/// Where the bytes are no record's file, the first fault from the front is returned, with its offset. `NoMemory` is returned where
 /// a growth was refused: nothing is known of the record then.
 pub fn audit_bytes(
     rt: &(impl Threads + Sync),
@@ -29,7 +29,7 @@ pub fn audit_bytes(
 ) -> Result<Judged, Fault>
     ensures judged { IfOk result (IsJudged bytes.now) }
     ensures fault { IfErr result (IsUnreadFault bytes.now) }
-    // A lawful record is told to be so, and of another one its first fault is told, unless memory was refused.
+    // A lawful record is found lawful, and of another one its first fault is named, unless memory was refused.
     ensures accepted { (r : RecordView) → IsRecordFile bytes.now r → IsLawfulRecord r
         → MatchResult result (λ judged. (verdict : Numbers) × (judged ≡ Ok verdict)) (λ fault. fault ≡ NoMemoryFault) }
     ensures named { (r : RecordView) (first : FaultOfRecord) → IsRecordFile bytes.now r → IsFirstFault r first
@@ -38,7 +38,7 @@ pub fn audit_bytes(
     audit_bytes_watched(rt, alloc, bytes, &Unwatched)
 }
 
-/// What [`audit_bytes`] answers. The watcher is told how far the audit is.
+/// What [`audit_bytes`] returns. The watcher is notified how far the audit is.
 pub fn audit_bytes_watched<W: Watcher + Sync>(
     rt: &(impl Threads + Sync),
     alloc: Global,
@@ -47,7 +47,7 @@ pub fn audit_bytes_watched<W: Watcher + Sync>(
 ) -> Result<Judged, Fault>
     ensures judged { IfOk result (IsJudged bytes.now) }
     ensures fault { IfErr result (IsUnreadFault bytes.now) }
-    // A lawful record is told to be so, and of another one its first fault is told, unless memory was refused.
+    // A lawful record is found lawful, and of another one its first fault is named, unless memory was refused.
     ensures accepted { (r : RecordView) → IsRecordFile bytes.now r → IsLawfulRecord r
         → MatchResult result (λ judged. (verdict : Numbers) × (judged ≡ Ok verdict)) (λ fault. fault ≡ NoMemoryFault) }
     ensures named { (r : RecordView) (first : FaultOfRecord) → IsRecordFile bytes.now r → IsFirstFault r first
@@ -69,7 +69,7 @@ pub(crate) fn record_of(alloc: Global, bytes: &Payload) -> Result<Record, Fault>
     }
 }
 
-/// What an audit tells of the record. The watcher is told how far it is.
+/// What an audit answers of the record. The watcher is notified how far it is.
 pub fn judge_watched<W: Watcher + Sync>(
     rt: &(impl Threads + Sync),
     alloc: Global,

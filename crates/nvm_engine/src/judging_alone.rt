@@ -11,7 +11,7 @@ use nvm_audit::{Record, audit_alone};
 use nvm_record::NoMemory;
 use std::alloc::Global;
 
-/// What an audit tells of the record, by this thread alone and without a wait.
+/// What an audit answers of the record, by this thread alone and without a wait.
 pub fn judge_alone(alloc: Global, run: &Record) -> Result<Judged, NoMemory>
     ensures judged { IfOk result (IsJudgedAs run.now) }
     ensures accepted { IsLawfulRecord run.now → IfOk result (λ judged. (verdict : Numbers) × (judged ≡ Ok verdict)) }

@@ -8,17 +8,17 @@
 
 mod engine;
 mod fault;
+mod form;
 mod judged;
 mod judging;
 mod judging_alone;
 pub mod laws;
 mod lines;
-mod long_line;
-mod long_text;
 mod record_text;
 mod settings;
 mod shown;
 mod status_names;
+mod under_line;
 mod verdict_line;
 mod verdict_object;
 mod witnessed;

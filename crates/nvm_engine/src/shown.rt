@@ -3,14 +3,12 @@ ghost use Rattle.std.specs.Io.KnownBytes.{Appends};
 ghost use Rattle.nvm_write.specs.Handed.{TakesFront};
 ghost use Rattle.nvm_audit.specs.LawfulRecord.{IsLawfulRecord};
 ghost use Rattle.nvm_audit.specs.Recordable.{IsRecordable};
-ghost use Rattle.nvm_engine.specs.LongLines.{lists_say};
-ghost use Rattle.nvm_engine.specs.LongText.{IsLongTextOf};
-ghost use Rattle.nvm_engine.specs.Printed.{IsPrintedOf};
+ghost use Rattle.nvm_engine.specs.Printed.{IsLongTextOf, IsPrintedOf};
+ghost use Rattle.nvm_engine.specs.UnderLine.{lists_say};
 
+use crate::form::Form;
 use crate::judging::verdict_of;
-use crate::long_text::write_long_record;
 use crate::record_text::write_record_text;
-use crate::verdict_line::write_lawful;
 use nvm_audit::{Record, Verdict, Watcher};
 use nvm_done_jobs::DoneJobs;
 use nvm_record::NoMemory;
@@ -22,7 +20,7 @@ use std::thread::Threads;
 
 /// What a run shows: its record, and the text of that with its verdict.
 ///
-/// All that the text needs stands here, so nothing but the writer can fail while it is written. The text itself isn't held, and
+/// All that the text needs is here, so nothing but the writer can fail while it is written. The text itself isn't held, and
 /// no bytes of the record's file.
 ///
 /// Contracts see the record, which is lawful.
@@ -77,23 +75,30 @@ impl Shown {
     /// Writes what goes to standard output: a line for each command, in the order of the jobs and not in that of the workers, and
     /// then the line of the verdict. It takes no memory of its own, and doesn't flush.
     ///
-    /// Where the writer fails, its error is answered, and it has taken a front of the text.
+    /// Where the writer fails, its error is returned, and it has taken a front of the text.
     pub fn write_text<W: Write>(&self, writer: &mut W) -> io::Result<()>
         ensures whole { OnOk result ((text : List ℕ) × IsPrintedOf self.now text
             × Appends (W.contents writer.old) (W.contents writer.new) text) }
         ensures front { OnErr result ((text : List ℕ) × IsPrintedOf self.now text
             × TakesFront (W.contents writer.old) (W.contents writer.new) text) }
     {
-        write_record_text(writer, &self.run, &self.found)?;
-        write_lawful(writer, self.verdict)
+        let mut none: [&[u8]; 0] = [];
+        write_record_text(
+            writer,
+            Form::Short,
+            &self.run,
+            &self.found,
+            &mut none,
+            self.verdict,
+        )
     }
 
     /// Writes what [`write_text`](Shown::write_text) does, and under the line of each command one that begins with two spaces:
     /// what the command's list says of it, and the name and the number of its status. `lists` are the command lists of the run,
-    /// host 1's first, and are left behind the lines that were told of. A command of which no list says anything has no words
+    /// host 1's first, and are left after the lines that were printed. A command of which no list says anything has no words
     /// there.
     ///
-    /// It takes no memory of its own, and doesn't flush. Where the writer fails, its error is answered, and it has taken a front
+    /// It takes no memory of its own, and doesn't flush. Where the writer fails, its error is returned, and it has taken a front
     /// of the text.
     pub fn write_long_text<W: Write>(&self, writer: &mut W, lists: &mut [&[u8]]) -> io::Result<()>
         ensures whole { OnOk result ((text : List ℕ) × IsLongTextOf (lists_say lists.old) self.now text
@@ -101,6 +106,13 @@ impl Shown {
         ensures front { OnErr result ((text : List ℕ) × IsLongTextOf (lists_say lists.old) self.now text
             × TakesFront (W.contents writer.old) (W.contents writer.new) text) }
     {
-        write_long_record(writer, &self.run, &self.found, lists, self.verdict)
+        write_record_text(
+            writer,
+            Form::Long,
+            &self.run,
+            &self.found,
+            lists,
+            self.verdict,
+        )
     }
 }

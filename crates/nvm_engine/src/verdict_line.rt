@@ -1,4 +1,4 @@
-//! The line that tells how an audit ended.
+//! The line that says how an audit ended.
 ghost use Rattle.std.specs.Prelude.{OnErr, OnOk};
 ghost use Rattle.std.specs.Io.KnownBytes.{Appends};
 ghost use Rattle.nvm_write.specs.Handed.{TakesFront};

@@ -1,4 +1,4 @@
-//! The object of JSON that tells how an audit ended.
+//! The object of JSON that says how an audit ended.
 ghost use Rattle.std.specs.Prelude.{◌≡◌, IfOk, string_bytes};
 ghost use Rattle.nvm_engine.specs.VerdictObject as spec;
 

@@ -38,7 +38,7 @@ impl Witnessed {
         }
     }
 
-    /// Of a trace and a record with this first fault. Want of memory is none: it is answered.
+    /// Of a trace and a record with this first fault. Want of memory is none: it is returned.
     pub(crate) fn unexplained(fault: WitnessFault) -> Result<Witnessed, NoMemory>
         ensures told { IfOk result (λ witnessed. witnessed ≡ Err fault) }
         ensures known { OnOk result (fault ≢ NoMemoryFault) }

@@ -21,8 +21,8 @@ use std::thread::Threads;
 
 /// Whether the record that a file holds explains the trace that another file holds: the numbers of the two, or the first fault.
 ///
-/// Where the bytes are no trace's file, or then no record's file, the first fault from the front is answered, with its offset.
-/// `NoMemory` is answered where a growth was refused: nothing is known then.
+/// Where the bytes are no trace's file, or then no record's file, the first fault from the front is returned, with its offset.
+/// `NoMemory` is returned where a growth was refused: nothing is known then.
 pub fn witness_bytes(
     rt: &(impl Threads + Sync),
     alloc: Global,
@@ -32,7 +32,7 @@ pub fn witness_bytes(
 ) -> Result<Witnessed, Fault>
     ensures witnessed { IfOk result (IsWitnessed judging trace.now «record».now) }
     ensures fault { IfErr result (IsUnwitnessedFault trace.now «record».now) }
-    // A record that explains the trace is answered to do so, unless memory was refused.
+    // A record that explains the trace is found to do so, unless memory was refused.
     ensures accepted { (t : TraceView) (r : RecordView) → IsTraceFile trace.now t → IsRecordFile «record».now r → IsExplainedBy judging t r
         → MatchResult result (λ witnessed. (numbers : Numbers) × (witnessed ≡ Ok numbers)) (λ fault. fault ≡ NoMemoryFault) }
 {

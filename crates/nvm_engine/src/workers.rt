@@ -23,7 +23,7 @@ impl Model for Workers {
 }
 
 impl Workers {
-    /// So many workers, or `None` where that isn't 1 to 64.
+    /// `count` workers, or `None` where that isn't 1 to 64.
     pub fn new(count: u16) -> Option<Workers>
         ensures { SomeIff result (IsWorkerCount count) count }
     {

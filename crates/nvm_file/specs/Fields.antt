@@ -53,11 +53,11 @@ module _ {A E : Type 0} where
     others ← items_at item (place + 1) count first.1
     Ok (first.0 ∷ others.0, others.1)
 
--- What is answered in place of a value is the fault that is met, or want of memory.
-abbrev pub Fails : {Y : Type 0} → RecordFault → Result Y RecordFault → Type 0
-Fails e read = (read ≡ Err e) ⊎ (e ≡ NoMemory)
+-- What a function answers, seen by `view`, is what is read, unless the answer is a fault that is excused.
+abbrev pub GivesUnless : {X Y E : Type 0} → (E → Type 0) → (X → Y) → Result X E → Result Y E → Type 0
+GivesUnless excused view (Ok x) read = read ≡ Ok (view x)
+GivesUnless excused view (Err e) read = (read ≡ Err e) ⊎ excused e
 
--- What a function answers, seen by `view`, is what is read, unless memory runs out.
+-- The same unless memory runs out.
 abbrev pub Gives : {X Y : Type 0} → (X → Y) → Result X RecordFault → Result Y RecordFault → Type 0
-Gives view (Ok x) read = read ≡ Ok (view x)
-Gives view (Err e) read = Fails e read
+Gives view answer read = GivesUnless (λ e. e ≡ NoMemory) view answer read

@@ -4,3 +4,4 @@ pub mod Head
 pub mod Frames
 pub mod TraceFrames
 pub mod Short
+pub mod Items

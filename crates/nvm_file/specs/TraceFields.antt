@@ -1,9 +1,10 @@
 -- Fields of a trace's file. They are read as those of a record file are, and a fault of theirs has the trace file's name.
-use Rattle.std.specs.Prelude.{◌≡◌, ◌⊎◌, Result, Ok, Err}
+use Rattle.std.specs.Prelude.{◌≡◌, Result, Ok, Err}
 use Rattle.nvm_file.specs.declared.record_fault.RecordFault.{RecordFault}
 use Rattle.nvm_file.specs.declared.record_fault.RecordFault.TheVariants as fault
 use Rattle.nvm_file.specs.declared.trace_file_fault.TraceFileFault.{TraceFileFault}
 use Rattle.nvm_file.specs.declared.trace_file_fault.TraceFileFault.TheVariants.{BadName, Truncated, Trailing, BadValue, NoMemory}
+use Rattle.nvm_file.specs.Fields.{GivesUnless}
 
 -- The name and the version of a record file are the name of a trace's file: no reading of one meets an unknown version.
 abbrev pub fault_of : RecordFault → TraceFileFault
@@ -21,5 +22,4 @@ in_trace (Err e) = Err (fault_of e)
 
 -- What a function answers, seen by `view`, is what is read, unless memory runs out.
 abbrev pub GivesTraced : {X Y : Type 0} → (X → Y) → Result X TraceFileFault → Result Y TraceFileFault → Type 0
-GivesTraced view (Ok x) read = read ≡ Ok (view x)
-GivesTraced view (Err e) read = (read ≡ Err e) ⊎ (e ≡ NoMemory)
+GivesTraced view answer read = GivesUnless (λ e. e ≡ NoMemory) view answer read

@@ -6,7 +6,8 @@ ghost use Rattle.nvm_file.specs.EntryReading.{deallocate_at, fused_at, operation
 ghost use Rattle.nvm_file.specs.Fields.{Gives, items_at};
 ghost use Rattle.nvm_file.specs.Inside.Rest.{left_of};
 
-use crate::fields::{data_of, refused, room_for, u8_in, u16_in, u32_of, u64_of};
+use crate::fields::{data_of, refused, u8_in, u16_in, u32_of, u64_of};
+use crate::items::items_of;
 use crate::record_fault::RecordFault;
 use crate::rest::Rest;
 use nvm_audit::Version;
@@ -173,15 +174,13 @@ fn ranges_of<'a>(
 ) -> Result<(Vec<LbaRange>, Rest<'a>), RecordFault>
     ensures { Gives (λ x. (x.0.items, left_of x.1)) result (items_at (λ _. range_in total place.now) 0 count (left_of from.entry)) }
 {
-    let room = room_for(count as usize, RANGE_BYTES, from);
-    let mut ranges = Vec::with_capacity(alloc, room)?;
-    let mut rest = from;
-    for _ in 0..count {
-        let (range, after) = range_of(total, place, rest)?;
-        ranges.push(range)?;
-        rest = after;
-    }
-    Ok((ranges, rest))
+    items_of(
+        alloc,
+        count as u32,
+        RANGE_BYTES,
+        from,
+        |_, rest| range_of(total, place, rest),
+    )
 }
 
 /// A first LBA and a number of blocks, all inside the unit.

@@ -7,10 +7,9 @@ ghost use Rattle.nvm_file.specs.Fields.{Gives, items_at, number_in};
 ghost use Rattle.nvm_file.specs.Reading.{workers_at};
 ghost use Rattle.nvm_file.specs.Inside.Rest.{left_of};
 
-use crate::fields::{
-    cut_short, refused, room_for, u8_in, u8_of, u16_below, u16_in, u32_in, u32_of,
-};
+use crate::fields::{cut_short, refused, u8_in, u8_of, u16_below, u16_in, u32_in, u32_of};
 use crate::frame::Frame;
+use crate::items::items_of;
 use crate::record_fault::RecordFault;
 use crate::rest::Rest;
 use nvm_audit::{DoneJob, MOST_JOBS};
@@ -37,15 +36,10 @@ pub fn workers_of<'a>(
 ) -> Result<(Vec<Vec<DoneJob>>, Rest<'a>), RecordFault>
     ensures { Gives (λ x. (map (λ work. work.items) x.0.items, left_of x.1)) result (workers_at frame.now jobs.now (left_of from.entry)) }
 {
-    let room = room_for(frame.workers as usize, LEAST_WORK_BYTES, from);
-    let mut done = Vec::with_capacity(alloc, room)?;
-    let mut rest = from;
-    for _ in 0..frame.workers {
-        let (work, after) = work_of(alloc, frame, jobs, rest)?;
-        done.push(work)?;
-        rest = after;
-    }
-    Ok((done, rest))
+    let count = frame.workers as u32;
+    items_of(alloc, count, LEAST_WORK_BYTES, from, |_, rest| {
+        work_of(alloc, frame, jobs, rest)
+    })
 }
 
 /// What a worker did: how many jobs, and each of them.
@@ -72,15 +66,9 @@ fn done_jobs_of<'a>(
 ) -> Result<(Vec<DoneJob>, Rest<'a>), RecordFault>
     ensures { Gives (λ x. (x.0.items, left_of x.1)) result (items_at (λ _. done_at frame.now jobs.now) 0 count (left_of from.entry)) }
 {
-    let room = room_for(count as usize, LEAST_BYTES, from);
-    let mut work = Vec::with_capacity(alloc, room)?;
-    let mut rest = from;
-    for _ in 0..count {
-        let (done, after) = done_job_of(alloc, frame, jobs, rest)?;
-        work.push(done)?;
-        rest = after;
-    }
-    Ok((work, rest))
+    items_of(alloc, count, LEAST_BYTES, from, |_, rest| {
+        done_job_of(alloc, frame, jobs, rest)
+    })
 }
 
 /// A job that was done: its number, which is one of these jobs', and what was done.
@@ -146,15 +134,13 @@ fn some_parts_of<'a>(
 ) -> Result<(Vec<Part>, Rest<'a>), RecordFault>
     ensures { Gives (λ x. (x.0.items, left_of x.1)) result (items_at (λ _. part_at frame.now) 0 count (left_of from.entry)) }
 {
-    let room = room_for(count as usize, PART_BYTES, from);
-    let mut parts = Vec::with_capacity(alloc, room)?;
-    let mut rest = from;
-    for _ in 0..count {
-        let (part, after) = part_of(frame, rest)?;
-        parts.push(part)?;
-        rest = after;
-    }
-    Ok((parts, rest))
+    items_of(
+        alloc,
+        count as u32,
+        PART_BYTES,
+        from,
+        |_, rest| part_of(frame, rest),
+    )
 }
 
 /// A part: its unit, its point, and how it ended.

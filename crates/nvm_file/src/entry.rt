@@ -7,8 +7,9 @@ ghost use Rattle.nvm_file.specs.Reading.{units_at};
 ghost use Rattle.nvm_file.specs.Inside.Rest.{left_of};
 
 use crate::act::act_of;
-use crate::fields::{room_for, u16_below, u32_below, u32_in};
+use crate::fields::{u16_below, u32_below, u32_in};
 use crate::frame::Frame;
+use crate::items::items_of;
 use crate::record_fault::RecordFault;
 use crate::rest::Rest;
 use nvm_geometry::{Geometry, laws};
@@ -31,15 +32,13 @@ pub fn units_of<'a>(
     ensures { Gives (λ x. (map (λ history. history.items) x.0.items, left_of x.1)) result (units_at frame.now (left_of from.entry)) }
 {
     let count = frame.geometry.units();
-    let room = room_for(count as usize, LEAST_HISTORY_BYTES, from);
-    let mut units = Vec::with_capacity(alloc, room)?;
-    let mut rest = from;
-    for unit in 0..count {
-        let (history, after) = history_of(alloc, frame, unit, rest)?;
-        units.push(history)?;
-        rest = after;
-    }
-    Ok((units, rest))
+    items_of(
+        alloc,
+        count as u32,
+        LEAST_HISTORY_BYTES,
+        from,
+        |unit, rest| { history_of(alloc, frame, unit as u16, rest) },
+    )
 }
 
 /// The history of a unit: how many entries it has, and each of them.
@@ -79,15 +78,9 @@ fn entries_of<'a>(
 ) -> Result<(History, Rest<'a>), RecordFault>
     ensures { Gives (λ x. (x.0.items, left_of x.1)) result (items_at (λ _. entry_at frame.now place.now) 0 count (left_of from.entry)) }
 {
-    let room = room_for(count as usize, LEAST_BYTES, from);
-    let mut entries = Vec::with_capacity(alloc, room)?;
-    let mut rest = from;
-    for _ in 0..count {
-        let (entry, after) = entry_of(alloc, frame, place, rest)?;
-        entries.push(entry)?;
-        rest = after;
-    }
-    Ok((entries, rest))
+    items_of(alloc, count, LEAST_BYTES, from, |_, rest| {
+        entry_of(alloc, frame, place, rest)
+    })
 }
 
 /// An entry in the unit that lies there: the numbers of its pass and of its job, and what was done.

@@ -7,8 +7,9 @@ ghost use Rattle.nvm_file.specs.Inside.Rest.{left_of};
 ghost use Rattle.nvm_file.specs.Reading.{jobs_at};
 
 use crate::command::command_of;
-use crate::fields::{room_for, u8_in, u16_in};
+use crate::fields::{u8_in, u16_in};
 use crate::frame::Frame;
+use crate::items::items_of;
 use crate::record_fault::RecordFault;
 use crate::rest::Rest;
 use crate::scope::Scope;
@@ -41,15 +42,13 @@ fn some_jobs_of<'a>(
 ) -> Result<(Vec<Job>, Rest<'a>), RecordFault>
     ensures { Gives (λ x. (x.0.items, left_of x.1)) result (items_at (λ _. job_at scope.now) 0 count (left_of from.entry)) }
 {
-    let room = room_for(count as usize, LEAST_BYTES, from);
-    let mut jobs = Vec::with_capacity(alloc, room)?;
-    let mut rest = from;
-    for _ in 0..count {
-        let (job, after) = job_of(scope, rest)?;
-        jobs.push(job)?;
-        rest = after;
-    }
-    Ok((jobs, rest))
+    items_of(
+        alloc,
+        count,
+        LEAST_BYTES,
+        from,
+        |_, rest| job_of(scope, rest),
+    )
 }
 
 /// A job: the number of its host, its kind, and its command or commands.

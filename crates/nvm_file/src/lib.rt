@@ -12,6 +12,7 @@ mod entry;
 mod fields;
 mod frame;
 mod head;
+mod items;
 mod job;
 pub mod laws;
 mod reading;

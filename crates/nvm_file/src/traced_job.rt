@@ -6,7 +6,8 @@ ghost use Rattle.nvm_file.specs.TraceFields.{GivesTraced};
 ghost use Rattle.nvm_file.specs.TracedJobReading.{began_at, ended_at, ended_by, ending_at, traced_at};
 
 use crate::done_job::{payload_of, read_length, statuses_of};
-use crate::fields::{offset_of, room_for, u64_of};
+use crate::fields::{offset_of, u64_of};
+use crate::items::items_of;
 use crate::job::job_of;
 use crate::record_fault::RecordFault;
 use crate::rest::Rest;
@@ -31,15 +32,13 @@ pub fn traced_jobs_of<'a>(
 ) -> Result<(Vec<TracedJob>, Rest<'a>), TraceFileFault>
     ensures { GivesTraced (λ x. (x.0.items, left_of x.1)) result (items_at (λ _. traced_at scope.now) 0 count (left_of from.entry)) }
 {
-    let room = room_for(count as usize, LEAST_BYTES, from);
-    let mut jobs = Vec::with_capacity(alloc, room)?;
-    let mut rest = from;
-    for _ in 0..count {
-        let (job, after) = traced_job_of(scope, rest)?;
-        jobs.push(job)?;
-        rest = after;
-    }
-    Ok((jobs, rest))
+    items_of(
+        alloc,
+        count,
+        LEAST_BYTES,
+        from,
+        |_, rest| traced_job_of(scope, rest),
+    )
 }
 
 /// A job, when it began, and how it ended.

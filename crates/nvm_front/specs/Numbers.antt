@@ -14,7 +14,7 @@ unit_letter byte =
 abbrev pub unit_of : List ℕ → ℕ
 unit_of word = unit_letter (get_or word (length word - 1) 0)
 
--- the word without the letter behind it
+-- the word without the letter after it
 abbrev pub without_unit : List ℕ → List ℕ
 without_unit word = if unit_of word == 1 then word else take (length word - 1) word
 
@@ -22,7 +22,7 @@ without_unit word = if unit_of word == 1 then word else take (length word - 1) w
 abbrev pub body_of : List ℕ → List ℕ
 body_of word = if get_or (without_unit word) 0 0 == 43 then drop 1 (without_unit word) else without_unit word
 
--- `0x` or `0X` stands before the digits
+-- `0x` or `0X` comes before the digits
 abbrev pub is_hexadecimal : List ℕ → Bool
 is_hexadecimal body = nat_le 2 (length body) && (get_or body 0 0 == 48 && (get_or body 1 0 == 120 || get_or body 1 0 == 88))
 
@@ -47,7 +47,7 @@ are_digits radix (byte ∷ bytes) = nat_lt (digit_value byte) radix && are_digit
 abbrev pub is_numeral : ℕ → List ℕ → Bool
 is_numeral radix bytes = nat_lt 0 (length bytes) && are_digits radix bytes
 
--- the number that digits write behind those of n
+-- the number that digits write after those of n
 abbrev pub value_after : ℕ → ℕ → List ℕ → ℕ
 value_after radix n [] = n
 value_after radix n (byte ∷ bytes) = value_after radix (n * radix + digit_value byte) bytes

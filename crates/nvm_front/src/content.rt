@@ -41,7 +41,7 @@ impl Content {
     }
 }
 
-/// Whether a byte can stand in text: no control character but tab, line feed and carriage return.
+/// Whether a byte can be in text: no control character but tab, line feed and carriage return.
 fn is_of_text(byte: u8) -> bool {
     matches!(byte, b'\t' | b'\n' | b'\r') || (byte >= b' ' && byte != 127)
 }

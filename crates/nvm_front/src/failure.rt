@@ -4,7 +4,7 @@ use std::alloc::{AllocError, AllocFailed, Global};
 use std::fmt;
 
 /// Why a program shows nothing: a fault, and what helps whoever reads it. It prints the fault's line, and the hint on the
-/// next line behind two spaces.
+/// next line after two spaces.
 #[derive(Debug, Drop)]
 pub struct Failure<F> {
     pub fault: F,
@@ -65,7 +65,8 @@ impl<F: From<AllocFailed<T>>, T: Drop> From<AllocFailed<T>> for Failure<F> {
     }
 }
 
-/// Prints the fault's line on standard error, with the program's name before it, and what helps below it. Gives the exit status.
+/// Prints the fault's line on standard error, with the program's name before it, and what helps below it. Returns the exit status,
+/// which is 1.
 pub fn failed<R: Eprint, F: fmt::Display + Drop>(rt: &R, program: &str, failure: Failure<F>) -> u8
     ensures { result ≡ 1 }
 {

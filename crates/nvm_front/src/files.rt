@@ -12,13 +12,13 @@ use std::path::Path;
 use std::rt::Files;
 use std::{fs, io};
 
-/// The path that stands for standard input, or for standard output. A file of that name is `./-`.
+/// The path that means standard input, or standard output. A file of that name is `./-`.
 pub const STANDARD: &str = "-";
 
 /// Another path of standard input.
 const INPUT: &str = "/dev/stdin";
 
-/// A file is read in chunks of so many bytes.
+/// How many bytes a file is read by at a time.
 const CHUNK: usize = 65_536;
 
 /// Why a file or a standard stream wasn't read, or wasn't written.
@@ -39,7 +39,7 @@ impl From<io::Error> for FileFault {
     }
 }
 
-/// The bytes of the file at a path, or of standard input where the path is `-`. How far it is, is told of a file.
+/// The bytes of the file at a path, or of standard input where the path is `-`. How far it is, is shown of a file.
 pub fn read_input<R: Files + AllocGlobal + Input + Eprint>(
     rt: &R,
     path: &str,
@@ -144,7 +144,7 @@ pub fn is_output<R: Files>(rt: &R, out: &str) -> Result<bool, FileFault> {
 }
 
 /// Whether what would be written to two paths goes to one place: to one path, to one regular file, or to one name in one folder
-/// where nothing stands yet. `-` is standard output here. A link that leads to nothing is told apart from what it leads to.
+/// where nothing is yet. `-` is standard output here. A link that leads to nothing isn't one place with what it leads to.
 /// `NoMemory` is the only fault.
 pub fn is_one_output<R: Files>(rt: &R, out: &str, other: &str) -> Result<bool, FileFault> {
     if out == other {
@@ -158,7 +158,7 @@ pub fn is_one_output<R: Files>(rt: &R, out: &str, other: &str) -> Result<bool, F
     }
 }
 
-/// Whether one regular file stands at both paths.
+/// Whether one regular file is at both paths.
 fn is_one_file<R: Files>(rt: &R, out: &str, other: &str) -> Result<bool, FileFault> {
     let (Some(out), Some(other)) = (standing(rt, out)?, standing(rt, other)?) else {
         return Ok(false);
@@ -166,7 +166,7 @@ fn is_one_file<R: Files>(rt: &R, out: &str, other: &str) -> Result<bool, FileFau
     Ok(out.is_file() && is_same(&out, &other))
 }
 
-/// Whether both paths are of one name in one folder, and nothing stands there.
+/// Whether both paths are of one name in one folder, and nothing is there.
 fn is_one_name<R: Files>(rt: &R, out: &str, other: &str) -> Result<bool, FileFault> {
     let out = Path::new(out);
     let other = Path::new(other);
@@ -194,7 +194,7 @@ fn is_same(one: &Metadata, other: &Metadata) -> bool {
     one.dev() == other.dev() && one.ino() == other.ino()
 }
 
-/// What stands at a path, or where its links lead.
+/// What is at a path, or where its links lead.
 fn standing<R: Files>(rt: &R, path: &str) -> Result<Option<Metadata>, FileFault> {
     match fs::metadata(rt, path) {
         Ok(standing) => Ok(Some(standing)),

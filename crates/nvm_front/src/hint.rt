@@ -1,4 +1,4 @@
-//! What helps whoever reads a fault. It stands on the line below it, behind two spaces.
+//! What helps whoever reads a fault. It is on the line below it, after two spaces.
 use crate::content::Content;
 use crate::files::STANDARD;
 use nvm_geometry::GeometryFault;

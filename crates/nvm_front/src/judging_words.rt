@@ -4,7 +4,7 @@ use clap::{Arg, ArgAction, ArgMatches, Command, Error};
 use nvm_trace::Judging;
 use std::alloc::Global;
 
-/// How a verdict is told.
+/// How a verdict is printed.
 #[derive(Clone, Copy, Debug, PartialEq, Eq)]
 pub enum Telling {
     /// As lines for people.
@@ -39,7 +39,7 @@ pub fn read_audit(alloc: Global, words: &ArgMatches<'_>) -> Result<Option<AuditW
     }))
 }
 
-/// How a verdict is to be told.
+/// How a verdict is to be printed.
 pub fn telling_of(words: &ArgMatches<'_>) -> Telling {
     if words.get_flag("json") {
         Telling::Object
@@ -48,7 +48,7 @@ pub fn telling_of(words: &ArgMatches<'_>) -> Telling {
     }
 }
 
-/// The option that has a verdict told as an object.
+/// The option that has a verdict printed as an object.
 pub fn json<'a>(alloc: Global) -> Arg<'a> {
     Arg::new(alloc, "json")
         .long("json")

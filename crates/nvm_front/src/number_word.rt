@@ -1,4 +1,4 @@
-//! Numbers as the words of a command line write them: decimal, or hexadecimal behind `0x`, with `k`, `m` or `g` behind them for
+//! Numbers as the words of a command line write them: decimal, or hexadecimal after `0x`, with `k`, `m` or `g` after them for
 //! 1,024 and its powers.
 ghost use Rattle.std.specs.Prelude.{◌≡◌, ◌≤◌, ◌+◌, ◌*◌, IfOk};
 ghost use Rattle.nvm_front.specs.Numbers as spec;
@@ -12,7 +12,7 @@ pub enum NumberFault {
     OutOfRange,
 }
 
-/// The number that a word says, where it is one from `least` to `most`. A `+` may stand before it.
+/// The number that a word says, where it is one from `least` to `most`. A `+` may come before it.
 pub fn number(word: &[u8], least: u64, most: u64) -> Result<u64, NumberFault>
     ensures value { result ≡ spec.number least most word.now }
     ensures range { IfOk result (λ value. (least ≤ value) × (value ≤ most)) }
@@ -28,7 +28,7 @@ pub fn number(word: &[u8], least: u64, most: u64) -> Result<u64, NumberFault>
     }
 }
 
-/// How many times a number is taken by the letter behind it.
+/// How many times a number is taken by the letter after it.
 fn unit_of(word: &[u8]) -> u64
     ensures { result ≡ spec.unit_of word.now }
 {
@@ -43,7 +43,7 @@ fn unit_of(word: &[u8]) -> u64
     }
 }
 
-/// The word without the letter behind it and the `+` before it.
+/// The word without the letter after it and the `+` before it.
 fn body_of(word: &[u8]) -> &[u8]
     ensures { result.now ≡ spec.body_of word.now }
 {
@@ -59,7 +59,7 @@ fn body_of(word: &[u8]) -> &[u8]
     }
 }
 
-/// Whether `0x` stands before the digits.
+/// Whether `0x` comes before the digits.
 fn is_hexadecimal(body: &[u8]) -> bool
     ensures { result ≡ spec.is_hexadecimal body.now }
 {
@@ -117,7 +117,7 @@ fn is_numeral(radix: u64, digits: &[u8]) -> bool
     true
 }
 
-/// The number that the digits write, so many times, where 64 bits hold it.
+/// The number that the digits write, times `unit`, where 64 bits hold it.
 fn whole(radix: u64, digits: &[u8], unit: u64) -> Option<u64>
     requires radix { 1 ≤ radix }
     requires unit { 1 ≤ unit }

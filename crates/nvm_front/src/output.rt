@@ -7,7 +7,7 @@ use std::io::{BufWriter, ErrorKind, Printer, Write};
 use std::rt::Files;
 use std::{fs, io};
 
-/// So many bytes are gathered before the system is asked to write them.
+/// How many bytes are gathered before the system is asked to write them.
 const GATHERED: usize = 65_536;
 
 /// What a program writes, piece by piece: a file or standard output. It takes the same memory however much is
@@ -15,11 +15,11 @@ const GATHERED: usize = 65_536;
 ///
 /// A file appears whole or not at all. It is written beside its path and takes its place in
 /// [`finish`](Output::finish), so whoever opens the path before that, or after the program was killed, finds what
-/// stood there before. An output that is dropped unfinished is removed. A program that is killed leaves it behind, as
+/// was there before. An output that is dropped unfinished is removed. A program that is killed leaves it there, as
 /// `.nvm-unfinished-` and a number.
 ///
-/// What stands at the path as anything but a regular file (a device, a pipe, a socket, a link) is written as it
-/// stands and never replaced. So is a regular file that can be written but not replaced: its folder takes no other
+/// What is at the path as anything but a regular file (a device, a pipe, a socket, a link) is written as it
+/// is and never replaced. So is a regular file that can be written but not replaced: its folder takes no other
 /// file, its owner can't be given one, or it is a mount point. After a fault such a file, and standard output, may
 /// have a part of what was written.
 #[derive(Drop)]
@@ -42,7 +42,7 @@ impl<'a, R: Files + AllocGlobal + Print + Eprint> Output<'a, R> {
         }
     }
 
-    /// The file at a path, whatever its name is. How much of a file is written beside its path is told.
+    /// The file at a path, whatever its name is. How much of a file is written beside its path is shown.
     pub fn file(
         rt: &'a R,
         path: &'a str,
@@ -71,8 +71,8 @@ impl<'a, R: Files + AllocGlobal + Print + Eprint> Output<'a, R> {
 }
 
 impl<R: Files + Print + Eprint> Output<'_, R> {
-    /// Writes what is still gathered. Then a file that was written beside its path takes its place, once it stands
-    /// on the disk. After a fault nothing is left of it, and what stood at the path stays as it was.
+    /// Writes what is still gathered. Then a file that was written beside its path takes its place, once it is
+    /// on the disk. After a fault nothing is left of it, and what was at the path stays as it was.
     pub fn finish(self) -> Result<(), FileFault> {
         let Output {
             mut writer,
@@ -103,7 +103,7 @@ impl<R: Files + Print + Eprint> Write for Output<'_, R> {
     }
 }
 
-/// Where the bytes go, and who is told of them.
+/// Where the bytes go, and what shows how many there were.
 #[derive(Drop)]
 struct Target<'a, R: Files + Print + Eprint> {
     to: To<'a, R>,
@@ -157,7 +157,7 @@ impl<R: Files + Print + Eprint> Write for Target<'_, R> {
     }
 }
 
-/// A file to write, beside its path where it can be. A regular file that stands there must be one that can be
+/// A file to write, beside its path where it can be. A regular file that is there must be one that can be
 /// written.
 fn opened<'a, R: Files + AllocGlobal>(
     rt: &'a R,

@@ -2,13 +2,13 @@ use nvm_audit::Watcher;
 use nvm_unit::Gate;
 use std::sync::atomic::{AtomicBool, AtomicU32, Ordering};
 
-/// How many bytes a MiB has. Each MiB of bytes is told.
+/// How many bytes a MiB has. Each MiB of bytes is shown.
 const MIB: usize = 1 << 20;
 
-/// Of jobs, and of units, so many lines are told, or fewer, beside the first, which tells 0.
+/// The most lines that are shown of jobs, and of units, beside the first, which says 0.
 const LINES: u32 = 128;
 
-/// What is told of counts.
+/// What is counted.
 const JOBS: &str = "jobs done";
 
 const UNITS: &str = "units audited";
@@ -16,27 +16,27 @@ const UNITS: &str = "units audited";
 /// Goes to the front of a terminal's line and clears it.
 const CLEAR: &str = "\r\x1b[K";
 
-/// Tells how far long work is, where standard error is a terminal: on one line there, which each next one takes the place of, and
-/// which [`clear`](Progress::clear) takes away. Elsewhere it tells nothing.
+/// Shows how far long work is, where standard error is a terminal: on one line there, which each next one takes the place of, and
+/// which [`clear`](Progress::clear) takes away. Elsewhere it shows nothing.
 ///
-/// A job, a unit or a byte costs a look at a number. A line stands for many of them.
+/// A job, a unit or a byte costs a look at a number. There is one line for many of them.
 #[derive(Drop)]
 pub struct Progress<'a, R> {
     rt: &'a R,
     program: &'static str,
     /// Whether standard error is a terminal.
     is_shown: bool,
-    /// Whether the line stands there.
+    /// Whether the line is there.
     stands: AtomicBool,
     /// How many jobs or units there are, and how many of them are done.
     all: AtomicU32,
     done: AtomicU32,
-    /// A count is told whose bits under this mask are 0.
+    /// A count is shown whose bits under this mask are 0.
     mask: AtomicU32,
 }
 
 impl<'a, R> Progress<'a, R> {
-    /// What a program tells. `is_shown` says whether standard error is a terminal.
+    /// What a program shows. `is_shown` says whether standard error is a terminal.
     pub fn new(rt: &'a R, program: &'static str, is_shown: bool) -> Progress<'a, R> {
         Progress {
             rt,
@@ -49,7 +49,7 @@ impl<'a, R> Progress<'a, R> {
         }
     }
 
-    /// The gate of a run of which it tells.
+    /// The gate of a run that it shows.
     pub fn jobs(&self) -> JobProgress<'_, 'a, R> {
         JobProgress { progress: self }
     }
@@ -72,7 +72,7 @@ impl<R: Eprint> Progress<'_, R> {
         }
     }
 
-    /// How many MiB there are by these bytes, where they have reached one more and a line tells it.
+    /// How many MiB there are by these bytes, where they have reached one more and a line says it.
     fn mib_reached(&self, before: usize, count: usize) -> Option<usize> {
         let reached = before.saturating_add(count) / MIB;
         if self.is_shown && reached > before / MIB {
@@ -110,7 +110,7 @@ impl<R: Eprint> Progress<'_, R> {
         }
     }
 
-    /// Writes the line of so many jobs or units.
+    /// Writes the line of `done` jobs or units.
     fn tell(&self, done: u32, words: &str) {
         self.stands.store(true, Ordering::Relaxed);
         let (program, all) = (self.program, self.all.load(Ordering::Relaxed));
@@ -118,12 +118,12 @@ impl<R: Eprint> Progress<'_, R> {
     }
 }
 
-/// The lowest bits, so many that they are 0 in at most `LINES` of the numbers from 1 to `all`.
+/// A mask of the lowest bits that are all 0 in at most `LINES` of the numbers from 1 to `all`.
 fn mask_of(all: u32) -> u32 {
     all.div_ceil(LINES).next_power_of_two() - 1
 }
 
-/// Tells how far the jobs of a run are.
+/// Shows how far the jobs of a run are.
 #[derive(Drop)]
 pub struct JobProgress<'p, 'a, R> {
     progress: &'p Progress<'a, R>,

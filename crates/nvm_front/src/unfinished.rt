@@ -5,11 +5,11 @@ use std::path::{Path, PathBuf};
 use std::rt::Files;
 use std::{fs, io};
 
-/// So many names are tried for a file beside a path. Each tool that was killed may have left one behind.
+/// How many names are tried for a file beside a path. Each tool that was killed may have left one there.
 const NAMES: u32 = 65_536;
 
-/// A file that stands beside its path, in the same folder, until it is whole. Dropped before it has taken its
-/// place, it is removed, and what stands at the path stays as it was.
+/// A file that is beside its path, in the same folder, until it is whole. Dropped before it has taken its
+/// place, it is removed, and what is at the path stays as it was.
 pub struct Unfinished<'a, R: Files> {
     rt: &'a R,
     path: &'a str,
@@ -18,7 +18,7 @@ pub struct Unfinished<'a, R: Files> {
 
 impl<'a, R: Files + AllocGlobal> Unfinished<'a, R> {
     /// Makes the file, which nobody else has made, and opens it for writing. It gets the owner and the
-    /// permissions of the file that stands at the path, if there is one.
+    /// permissions of the file at the path, if there is one.
     pub fn new(
         rt: &'a R,
         path: &'a str,
@@ -61,8 +61,8 @@ impl<R: Files> Unfinished<'_, R> {
         lchown(self.rt, &self.beside, Some(of.uid()), Some(of.gid()))
     }
 
-    /// Gives the whole file its path, in one step: whoever opens the path finds what stood there before, or this.
-    /// Nothing can take the place of a file that is a mount point, so that is written as it stands. After
+    /// Gives the whole file its path, in one step: whoever opens the path finds what was there before, or this.
+    /// Nothing can take the place of a file that is a mount point, so that is written as it is. After
     /// an error the file beside it is gone.
     pub fn take_place(self) -> io::Result<()> {
         match fs::rename(self.rt, &self.beside, self.path) {

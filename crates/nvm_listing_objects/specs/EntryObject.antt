@@ -15,7 +15,7 @@ abbrev pub data_member : List ℕ → List ℕ
 data_member bytes = codes ",\"data\":\"" ++ (runs_text (runs bytes) ++ codes "\"")
 
 -- the data to compare with, and that to write
-abbrev pub pair_members : List ℕ → List ℕ → List ℕ
+unfoldable pub pair_members : List ℕ → List ℕ → List ℕ
 pair_members compare write =
     codes ",\"compare\":\"" ++ (runs_text (runs compare) ++ (codes "\",\"write\":\"" ++ (runs_text (runs write) ++ codes "\"")))
 

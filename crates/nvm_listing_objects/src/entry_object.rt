@@ -80,11 +80,12 @@ impl Display for DeedMembers<'_> {
                 compare,
                 write,
             } => {
-                let compare = RunsText(compare.as_slice());
-                let write = RunsText(write.as_slice());
+                let compare = compare.as_slice();
+                let write = write.as_slice();
+                let both = PairMembers { compare, write };
                 write!(
                     f,
-                    "\"deed\":\"pair\",\"lba\":{first},\"blocks\":{blocks},\"compare\":\"{compare}\",\"write\":\"{write}\""
+                    "\"deed\":\"pair\",\"lba\":{first},\"blocks\":{blocks}{both}"
                 )
             }
             Act::Deallocate { ranges, .. } => {
@@ -92,5 +93,23 @@ impl Display for DeedMembers<'_> {
                 write!(f, "\"deed\":\"deallocate\",\"ranges\":\"{ranges}\"")
             }
         }
+    }
+}
+
+/// The data that a pair compares with, and that it writes.
+#[derive(Clone, Copy)]
+struct PairMembers<'a> {
+    compare: &'a [u8],
+    write: &'a [u8],
+}
+
+impl Display for PairMembers<'_> {
+    ghost output = { λ both. Some (spec.pair_members both.compare.now both.write.now) };
+
+    #[tactic(auto, unfolding(crate::specs::EntryObject::pair_members))]
+    fn fmt<W: fmt::Write>(&self, f: &mut Formatter<W>) -> fmt::Result {
+        let compare = RunsText(self.compare);
+        let write = RunsText(self.write);
+        write!(f, ",\"compare\":\"{compare}\",\"write\":\"{write}\"")
     }
 }

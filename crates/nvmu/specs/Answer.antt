@@ -13,7 +13,7 @@ use Rattle.nvm_front.specs.declared.judging_words.Telling.TheVariants.{Lines, Ob
 use Rattle.nvmu.specs.declared.answer.Answer.{Answer}
 use Rattle.nvmu.specs.declared.answer.Answer.TheVariants.{Ran, Audited, Witnessed, Weighed}
 
--- how an audit is told
+-- how an audit is printed
 abbrev pub audit_text : Telling → Result Verdict AuditFault → List ℕ
 audit_text Lines = answer_line
 audit_text Object = answer_object

@@ -7,7 +7,7 @@ use Rattle.nvmu.specs.declared.answer.Answer.TheVariants.{Ran, Audited, Witnesse
 use Rattle.nvmu.specs.declared.words.Asked.{Asked}
 use Rattle.nvmu.specs.declared.words.Asked.TheVariants.{Run, Audit, Witness, Refute}
 
--- It is an answer of what was asked for: of files, told and judged as the words say.
+-- It is an answer of what was asked for: of files, judged and printed as the words say.
 abbrev pub IsAnswerTo : Asked → Answer → Type 0
 IsAnswerTo (Run settings out files) (Ran run) = IsShownOn settings (map (λ path. string_bytes path) files.items) run
 IsAnswerTo (Audit words) (Audited telling judged) = (telling ≡ words.telling) × IsJudgedFile judged

@@ -1,4 +1,4 @@
--- The first faults of the bytes that are judged, and what is said of files at paths. What stands in a file no definition can say, so there
+-- The first faults of the bytes that are judged, and what is said of files at paths. What is in a file no definition can say, so there
 -- the files' bytes are some.
 use Rattle.std.specs.Prelude.{◌⊎◌, ℕ, List, Result}
 use Rattle.nvm_argument.specs.Weighed.{IsWeighed, IsWeighFault}

@@ -1,4 +1,4 @@
--- The first fault of a run, and what a run shows of files at paths. What stands in a file no definition can say, so there the files'
+-- The first fault of a run, and what a run shows of files at paths. What is in a file no definition can say, so there the files'
 -- bytes are some, as many as there are files.
 use Rattle.std.specs.Prelude.{◌≡◌, ◌⊎◌, ℕ, List, length}
 use Rattle.nvm_audit.specs.RecordView.{RecordView}

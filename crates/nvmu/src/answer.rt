@@ -14,7 +14,7 @@ use std::io::Write;
 pub enum Answer {
     /// What a run shows.
     Ran(Shown),
-    /// How an audit ended, and how it is to be told.
+    /// How an audit ended, and how it is to be printed.
     Audited { telling: Telling, judged: Judged },
     /// What a record says of a trace.
     Witnessed(Witnessed),

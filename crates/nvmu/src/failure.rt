@@ -141,7 +141,7 @@ fn hint_of_refute(
     }
 }
 
-/// What stands for a host in a list. Hosts count from 1.
+/// The word for a host in a list. Hosts count from 1.
 fn of_host<T>(items: &[T], host: u16) -> Option<&T> {
     items.get(usize::from(host).checked_sub(1)?)
 }

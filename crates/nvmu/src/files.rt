@@ -79,7 +79,7 @@ pub fn read_pair<R: Files + AllocGlobal + Input + Eprint>(
     Ok((seen, held))
 }
 
-/// Refuses a path for the record at which one of the files to read stands or that standard output goes to, and `-`, before
+/// Refuses a path for the record at which one of the files to read is or that standard output goes to, and `-`, before
 /// anything is done.
 pub fn check_output<R: Files + AllocGlobal>(
     rt: &R,
@@ -110,7 +110,7 @@ pub fn check_output<R: Files + AllocGlobal>(
     }
 }
 
-/// Writes the file of a record. It appears whole or not at all: where it can't be written, what stood at the path stays as it was.
+/// Writes the file of a record. It appears whole or not at all: where it can't be written, what was at the path stays as it was.
 pub fn write_file<R: Files + AllocGlobal + Print + Eprint>(
     rt: &R,
     path: &str,

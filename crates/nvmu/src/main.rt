@@ -41,7 +41,7 @@ fn main(rt: HostRuntime) -> ExitCode {
 }
 
 /// Does what the words of the command line ask for, and gives the exit status: 0, 2 where a record isn't lawful or doesn't
-/// explain the trace, or an argument doesn't refute it, or 1 after a fault. The room of standard output is taken first, so that no memory is wanted for the text once the record of a run stands.
+/// explain the trace, or an argument doesn't refute it, or 1 after a fault. The room of standard output is taken first, so that no memory is wanted for the text once the record of a run is written.
 fn status_of<R: AllocGlobal + Env + Files + Input + Print + Eprint + Threads + Wait + Sync>(
     rt: &R,
     progress: &Progress<'_, R>,

@@ -50,7 +50,7 @@ const NUMBERS: [(&str, &str); 8] = [
 
 /// Reads the words after the program's name.
 ///
-/// Every option of `run` stands once. `--workers` takes 1 to 64, `--limit` 1 to 4,194,304, and one host file or more is named.
+/// Every option of `run` is given once. `--workers` takes 1 to 64, `--limit` 1 to 4,194,304, and one host file or more is named.
 /// `audit` names one record, `witness` a trace and a record, and `refute` a trace and an argument.
 pub fn read_words<'a>(alloc: Global, words: &'a [&'a str]) -> Result<Asked, WordFault>
     ensures { IfOk result IsAsked }

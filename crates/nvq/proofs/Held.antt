@@ -1,4 +1,4 @@
--- What is told of a file's bytes is told of the file at its path.
+-- What is said of a file's bytes is said of the file at its path.
 use Rattle.std.proofs.Common.{◌≡◌, ◌⊎◌, ℕ, List, Option, Err, inl, inr, sym, subst, ap, ◌∙◌}
 use Rattle.nvm_argument.specs.Reading.{argument_at}
 use Rattle.nvm_argument.specs.declared.argument_fault.ArgumentFault.{ArgumentFault}

@@ -1,5 +1,5 @@
--- What an audit tells of the record of a file, what a witness tells of the files of a trace and a record, and why nothing is told. What
--- stands in a file no definition can say, so its bytes are some.
+-- What an audit answers of the record of a file, what a witness answers of the files of a trace and a record, and why nothing is. What
+-- is in a file no definition can say, so its bytes are some.
 use Rattle.std.specs.Prelude.{◌≡◌, ◌⊎◌, ℕ, true, List, Result, Ok, codes, string_bytes}
 use Rattle.nvm_audit.specs.declared.audit_fault.AuditFault.{AuditFault}
 use Rattle.nvm_audit.specs.declared.verdict.Verdict.{Verdict}
@@ -26,7 +26,7 @@ use Rattle.nvq.specs.declared.auditing.WitnessedTrace.{WitnessedTrace}
 use Rattle.nvq.specs.declared.fault.Fault.{Fault}
 use Rattle.nvq.specs.declared.fault.Fault.TheVariants.{InputTwice}
 
--- how an audit is told
+-- how an audit is printed
 abbrev pub answer_told : Telling → Result Verdict AuditFault → List ℕ
 answer_told Lines = answer_line
 answer_told Object = answer_object

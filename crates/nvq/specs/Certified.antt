@@ -1,4 +1,4 @@
--- What is found out about the trace of a file and how it is told, and why nothing is. What stands in a file no definition can say, so
+-- What is found out about the trace of a file and how it is printed, and why nothing is. What is in a file no definition can say, so
 -- its bytes are some.
 use Rattle.std.specs.Prelude.{◌≡◌, ◌⊎◌, ℕ, List, String, Option, Some, None, codes, string_bytes}
 use Rattle.std.specs.Global.{Global}

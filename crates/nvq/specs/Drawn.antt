@@ -1,4 +1,4 @@
--- Which record is drawn, what its picture is, and why none is drawn. What stands in a file no definition can say, so what a command draws
+-- Which record is drawn, what its picture is, and why none is drawn. What is in a file no definition can say, so what a command draws
 -- is drawn of some bytes.
 use Rattle.std.specs.Prelude.{◌≡◌, ◌⊎◌, ◌<◌, ◌≤◌, ℕ, List, Option, Some, None, Ok, IfSome, string_bytes}
 use Rattle.nvm_geometry.specs.Boundaries.{units_of}

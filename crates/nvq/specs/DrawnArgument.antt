@@ -1,4 +1,4 @@
--- Which argument is drawn, what its picture is, and why none is drawn. What stands in a file no definition can say, so what a command draws
+-- Which argument is drawn, what its picture is, and why none is drawn. What is in a file no definition can say, so what a command draws
 -- is drawn of some bytes.
 use Rattle.std.specs.Prelude.{◌≡◌, ◌⊎◌, ℕ, String, List, Err, string_bytes}
 use Rattle.std.specs.Global.{Global}

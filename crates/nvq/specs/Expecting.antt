@@ -1,4 +1,4 @@
--- Why the expectations of a list can't be read, and what is told of those of a run.
+-- Why the expectations of a list can't be read, and what is printed of those of a run.
 use Rattle.std.specs.Prelude.{◌≡◌, ℕ, nat_lt, if◌then◌else◌, Bool, true, false, List, Option, Some, None, Err, length, string_bytes}
 use Rattle.std.specs.List.{Contains}
 use Rattle.nvm_audit.specs.LawfulRecord.{IsLawfulRecord}
@@ -25,7 +25,7 @@ IsExpectingFault paths (Expectation shown line expected) =
 IsExpectingFault paths NoMemory = Unit {0}
 IsExpectingFault paths fault = ⊥
 
--- What is told is the text of the expectations of the lists, beside the statuses of the record.
+-- What is printed is the text of the expectations of the lists, beside the statuses of the record.
 pub record IsCheckedOf (lists : Lists) (r : RecordView) (told : Checked) : Type 0 where
   pub checks : List Check
   pub of : AreChecksOf lists r checks
@@ -33,7 +33,7 @@ pub record IsCheckedOf (lists : Lists) (r : RecordView) (told : Checked) : Type 
   pub expectations : told.expectations ≡ length checks
   pub unmet : told.unmet ≡ unmet_count checks
 
--- Where that is asked, it is told of the expectations of some lists beside a lawful record, and else of none.
+-- Where that is asked, it is printed of the expectations of some lists beside a lawful record, and else of none.
 abbrev pub IsCheckedIf : Bool → Option Checked → Type 0
 IsCheckedIf false told = told ≡ None
 IsCheckedIf true None = ⊥

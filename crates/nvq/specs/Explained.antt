@@ -1,5 +1,5 @@
--- What is told of the bytes of a record's file, and of those of a trace's and a record's, and why nothing is. What stands in a file no
--- definition can say, so what a command tells is told of some bytes.
+-- The explanation of the bytes of a record's file, and of those of a trace's and a record's, and why there is none. What is in a file no
+-- definition can say, so what a command explains is some bytes.
 use Rattle.std.specs.Prelude.{◌≡◌, ◌⊎◌, ℕ, List, Result, Ok, string_bytes}
 use Rattle.nvm_audit.specs.LawfulRecord.{IsLawfulRecord}
 use Rattle.nvm_audit.specs.RecordChecks.{IsFirstFault}
@@ -31,7 +31,7 @@ pub record IsExplanationOfFile (file text : List ℕ) : Type 0 where
   pub lawful : IsLawfulRecord run → (verdict : Verdict) × IsVerdict run verdict × (text ≡ lawful_text run verdict)
   pub named : (fault : AuditFault) → IsFirstFault run fault → text ≡ fault_text run fault
 
--- It is what is told of what a witness answers of the trace and the record of two files.
+-- It is the explanation of what a witness answers of the trace and the record of two files.
 pub record IsStoryOfFiles (judging : Judging) (trace run text : List ℕ) : Type 0 where
   pub seen : TraceView
   pub seen_file : IsTraceFile trace seen
@@ -46,7 +46,7 @@ abbrev pub IsStoryFault : List ℕ → List ℕ → List ℕ → List ℕ → Fa
 IsStoryFault trace seen run held fault =
     IsFaultOfTraceIn trace seen fault ⊎ (((t : TraceView) × IsTraceFile seen t) × IsFaultOfRecordIn run held fault)
 
--- The text is told of what the words name.
+-- The text explains what the words name.
 abbrev pub IsTold : ExplainWords → List ℕ → Type 0
 IsTold (Record path) text = (file : List ℕ) × IsExplanationOfFile file text
 IsTold (Trace judging trace path) text = (seen : List ℕ) × (held : List ℕ) × IsStoryOfFiles judging seen held text

@@ -56,7 +56,7 @@ IsListFaultAs false false path size file e = IsFaultOfFile path size file e
 abbrev pub IsListFault : String Global → ℕ → List ℕ → Fault → Type 0
 IsListFault path size file e = IsListFaultAs (begins_as_record file) (begins_as_trace file) path size file e
 
--- The text is the objects of the record that a file holds, and behind them that of what an audit answers of it. What stands in the file
+-- The text is the objects of the record that a file holds, and after them that of what an audit answers of it. What is in the file
 -- no definition can say, so its bytes are some.
 pub record AreObjectsOfFile (text : List ℕ) : Type 0 where
   pub file : List ℕ

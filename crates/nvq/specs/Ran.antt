@@ -1,5 +1,5 @@
--- A run of command lists: each is the list of just the commands that its host file holds, and which of the engine's faults can be
--- told of such a run.
+-- A run of command lists: each is the list of exactly the commands that its host file holds, and which of the engine's faults can be
+-- that of such a run.
 use Rattle.std.specs.Prelude.{◌≡◌, ℕ, List, [], ◌∷◌, Ok}
 use Rattle.nvm_record.specs.HostFile.{IsHostFile}
 use Rattle.nvm_record.specs.declared.command.Command.{Command}
@@ -9,7 +9,7 @@ use Rattle.nvm_engine.specs.declared.fault.Fault.TheVariants as of_run
 use Rattle.nvq.specs.declared.fault.Fault.{Fault}
 use Rattle.nvq.specs.declared.fault.Fault.TheVariants.{Geometry, TooManyHosts, NoMemory}
 
--- The file is the host file of just the commands of the list.
+-- The file is the host file of exactly the commands of the list.
 abbrev pub IsFileOf : ℕ → List ℕ → List ℕ → Type 0
 IsFileOf size text file = (cs : List Command) × (commands size text ≡ Ok cs) × IsHostFile size file cs
 
@@ -20,7 +20,7 @@ AreFilesOf size [] (file ∷ files) = ⊥
 AreFilesOf size (text ∷ texts) [] = ⊥
 AreFilesOf size (text ∷ texts) (file ∷ files) = IsFileOf size text file × AreFilesOf size texts files
 
--- a fault of a run on host files, as the program tells it; no other comes of one
+-- a fault of a run on host files, as the program prints it; no other comes of one
 abbrev pub fault_of_run : FaultOfRun → Fault
 fault_of_run (of_run.Geometry fault) = Geometry fault
 fault_of_run of_run.TooManyHosts = TooManyHosts

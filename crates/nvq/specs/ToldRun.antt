@@ -1,4 +1,4 @@
--- What is told of a run of host files; for programs that is the objects of its commands, and that of its record's verdict behind them.
+-- What is printed of a run of host files; for programs that is the objects of its commands, and that of its record's verdict after them.
 use Rattle.std.specs.Prelude.{◌≡◌, ℕ, String, List, ◌++◌, Option, Some, None, string_bytes}
 use Rattle.std.specs.Global.{Global}
 use Rattle.nvm_audit.specs.RecordView.{RecordView}
@@ -20,13 +20,13 @@ pub record IsObjectText (r : RecordView) (text : List ℕ) : Type 0 where
   pub counted : IsVerdict r verdict
   pub whole : text ≡ objects ++ lawful_object verdict
 
--- Where the record is told as objects, this is their text, and else there is none.
+-- Where the record is printed as objects, this is their text, and else there is none.
 abbrev pub AreToldAs : Telling → RecordView → Option (String Global) → Type 0
 AreToldAs Lines r told = told ≡ None
 AreToldAs Object r None = ⊥
 AreToldAs Object r (Some text) = IsObjectText r (string_bytes text)
 
--- What is shown is a run of these host files, with these settings, and what is told is told of its record.
+-- What is shown is a run of these host files, with these settings, and what is printed is printed of its record.
 pub record IsToldRun (telling : Telling) (settings : Settings) (files : List (List ℕ)) (told : ToldRun) : Type 0 where
   pub shown : IsShown settings files told.shown
   pub objects : AreToldAs telling told.shown told.objects

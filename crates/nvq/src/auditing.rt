@@ -17,14 +17,14 @@ use std::alloc::{AllocError, Global};
 use std::rt::Files;
 use std::thread::Threads;
 
-/// What an audit tells of a record, and the exit status.
+/// What an audit answers of a record, and the exit status.
 #[derive(Drop)]
 pub struct AuditedRecord {
     pub text: Vec<u8>,
     pub status: u8,
 }
 
-/// What a witness tells of a trace and a record, and the exit status.
+/// What a witness answers of a trace and a record, and the exit status.
 #[derive(Drop)]
 pub struct WitnessedTrace {
     pub line: String,
@@ -46,7 +46,7 @@ pub fn run_audit<R: AllocGlobal + Files + Input + Print + Eprint + Threads + Syn
     Ok(status)
 }
 
-/// What an audit tells of the record at a path.
+/// What an audit answers of the record at a path.
 fn audited<R: AllocGlobal + Files + Input + Eprint + Threads + Sync>(
     rt: &R,
     telling: Telling,
@@ -93,7 +93,7 @@ fn all_audited<R: AllocGlobal + Files + Input + Eprint + Threads + Sync>(
     Ok(AuditedRecord { text, status })
 }
 
-/// How an audit is told.
+/// How an audit is printed.
 fn told(alloc: Global, telling: Telling, judged: &Judged) -> Result<Vec<u8>, NoMemory>
     ensures { IfOk result (λ text. text.items ≡ answer_told telling judged.now) }
 {
@@ -131,7 +131,7 @@ pub fn run_witness<R: AllocGlobal + Files + Input + Print + Eprint + Threads + S
     Ok(status)
 }
 
-/// What a witness tells of the trace at a path and the record at another.
+/// What a witness answers of the trace at a path and the record at another.
 fn witnessed<R: AllocGlobal + Files + Input + Eprint + Threads + Sync>(
     rt: &R,
     judging: Judging,

@@ -19,7 +19,7 @@ use std::alloc::Global;
 use std::rt::Files;
 use std::thread::Threads;
 
-/// What was found out about a trace, how it is told, and the exit status.
+/// What was found out about a trace, how it is printed, and the exit status.
 #[derive(Drop)]
 pub struct CertifiedTrace {
     pub certification: Certification,
@@ -141,7 +141,7 @@ fn certified<R: AllocGlobal + Files + Input + Eprint + Threads + Sync>(
     })
 }
 
-/// How the verdict is told.
+/// How the verdict is printed.
 fn told(
     alloc: Global,
     telling: Telling,

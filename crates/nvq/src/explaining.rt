@@ -29,7 +29,7 @@ pub fn run_explain<R: AllocGlobal + Files + Input + Print + Eprint + Threads + S
     write_bytes(rt, STANDARD, text.as_bytes(), progress)
 }
 
-/// What is told of what the words name.
+/// The explanation of what the words name.
 fn told<R: AllocGlobal + Files + Input + Eprint + Threads + Sync>(
     rt: &R,
     words: &ExplainWords,
@@ -48,7 +48,7 @@ fn told<R: AllocGlobal + Files + Input + Eprint + Threads + Sync>(
     }
 }
 
-/// What is told of the record at a path.
+/// The explanation of the record at a path.
 fn record_explained<R: AllocGlobal + Files + Input + Eprint + Threads + Sync>(
     rt: &R,
     path: &str,
@@ -61,7 +61,7 @@ fn record_explained<R: AllocGlobal + Files + Input + Eprint + Threads + Sync>(
     explained_of(rt, path, &held, progress)
 }
 
-/// What is told of the trace at a path, judged by the record at another. The two can't both be standard input.
+/// The explanation of the trace at a path, judged by the record at another. The two can't both be standard input.
 fn trace_explained<R: AllocGlobal + Files + Input + Eprint + Threads + Sync>(
     rt: &R,
     judging: Judging,
@@ -78,7 +78,7 @@ fn trace_explained<R: AllocGlobal + Files + Input + Eprint + Threads + Sync>(
     story_of(rt, judging, trace, &seen, record, &held)
 }
 
-/// What is told of the record in the bytes of a file that was read from a path, or the file's fault.
+/// The explanation of the record in the bytes of a file that was read from a path, or the file's fault.
 fn explained_of<R: AllocGlobal + Eprint + Threads + Sync>(
     rt: &R,
     path: &str,
@@ -92,7 +92,7 @@ fn explained_of<R: AllocGlobal + Eprint + Threads + Sync>(
     Ok(explain(rt, rt.alloc(), &run, progress)?)
 }
 
-/// What is told of the trace and the record in the bytes of two files that were read from these paths, or the fault of the trace's file, or
+/// The explanation of the trace and the record in the bytes of two files that were read from these paths, or the fault of the trace's file, or
 /// else of the record's.
 fn story_of<R: AllocGlobal + Threads + Sync>(
     rt: &R,

@@ -29,7 +29,7 @@ pub fn of_list(alloc: Global, fault: Fault, path: &str, list: &[u8]) -> Failure
     Failure::hinted(fault, hint)
 }
 
-/// The failure of a run of so many lists.
+/// The failure of a run of `count` lists.
 pub fn of_run(alloc: Global, fault: Fault, count: usize) -> Failure
     ensures { result.fault ≡ fault }
 {
@@ -84,7 +84,7 @@ pub fn of_trace(alloc: Global, fault: Fault, path: &str, file: &[u8]) -> Failure
     Failure::hinted(fault, hint)
 }
 
-/// The failure of a unit that the record at a path doesn't have, whose namespace has so many, or want of memory for the path.
+/// The failure of a unit that the record at a path doesn't have, whose namespace has `units`, or want of memory for the path.
 pub fn of_unit(alloc: Global, path: &str, unit: u16, units: u16) -> Failure
     ensures { IsNoUnit unit path.now result.fault }
 {

@@ -124,7 +124,7 @@ pub fn keep<R: AllocGlobal + Files + Print + Eprint>(
     }
 }
 
-/// Refuses a path to write at which the file to read stands, before anything is read. Below the fault stands why.
+/// Refuses a path to write at which the file to read is, before anything is read. The hint below the fault says why.
 pub fn check_output<R: Files + AllocGlobal>(
     rt: &R,
     out: &str,
@@ -177,7 +177,7 @@ fn unread(alloc: Global, path: &str, why: Option<&str>) -> Failure
     }
 }
 
-/// The failure of a file that can't be written, or want of memory for its path. Below the fault stands why.
+/// The failure of a file that can't be written, or want of memory for its path. The hint below the fault says why.
 pub fn unwritten(alloc: Global, path: &str, why: Option<&str>) -> Failure
     ensures { IsWriteFault path.now result.fault }
 {

@@ -81,7 +81,7 @@ fn check_outs<R: Files + AllocGlobal>(rt: &R, outs: &[String]) -> Result<(), Fai
     Ok(())
 }
 
-/// Refuses a path to which another list goes. Below the fault stands why.
+/// Refuses a path to which another list goes. The hint below the fault says why.
 fn check_apart<R: Files + AllocGlobal>(rt: &R, out: &str, other: &str) -> Result<(), Failure>
     ensures { IfErr result (λ failure. IsWriteFault out.now failure.fault) }
 {
@@ -92,7 +92,7 @@ fn check_apart<R: Files + AllocGlobal>(rt: &R, out: &str, other: &str) -> Result
     }
 }
 
-/// The lists of so many hosts, from host 1 on.
+/// The lists of `count` hosts, from host 1 on.
 fn lists_of(alloc: Global, load: &Load, count: u8) -> Result<Vec<String>, AllocError>
     ensures lists { IfOk result (λ texts. AreListsOfLoad load.now 1 (map (λ text. string_bytes text) texts.items)) }
     ensures each { IfOk result (λ texts. length texts.items ≡ count) }

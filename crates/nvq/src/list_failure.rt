@@ -8,7 +8,7 @@ use nvm_record::BlockSize;
 use nvm_wrong_lines::{WrongLine, wrong_lines};
 use std::alloc::{AllocError, Global};
 
-/// So many wrong lines are told behind the first at most.
+/// The most wrong lines that are named after the first.
 const TOLD: usize = 20;
 
 /// The failure of a list that was read from a path, whose commands are those of a list without expectations. What helps is what the file is
@@ -32,7 +32,7 @@ pub fn of_commands(
     Failure::hinted(fault, hint)
 }
 
-/// What helps where a line is no command: what the file is instead, or else the line and the wrong ones behind it.
+/// What helps where a line is no command: what the file is instead, or else the line and the wrong ones after it.
 fn wrong_commands(
     alloc: Global,
     path: &str,
@@ -70,7 +70,7 @@ fn with_others(
     joined(alloc, &lines)
 }
 
-/// The lines, each but the first behind a line feed and two spaces; `None` where there are none.
+/// The lines, each but the first after a line feed and two spaces; `None` where there are none.
 fn joined(alloc: Global, lines: &[String]) -> Result<Option<String>, AllocError> {
     if lines.is_empty() {
         return Ok(None);

@@ -25,7 +25,7 @@ pub fn run_list_objects<R: AllocGlobal + Files + Input + Print + Eprint + Thread
     write_bytes(rt, STANDARD, text.as_bytes(), progress)
 }
 
-/// The objects of the record at a path, and behind them that of its verdict.
+/// The objects of the record at a path, and after them that of its verdict.
 fn objects_listed<R: AllocGlobal + Files + Input + Eprint + Threads + Sync>(
     rt: &R,
     record: &str,

@@ -49,7 +49,7 @@ fn whole_unit(nabsn: u16) -> u16 {
     if nabsn == 0 { u16::MAX } else { nabsn }
 }
 
-/// A command with the options that say what the namespace is like. It has so many blocks where it isn't told.
+/// A command with the options that say what the namespace is like. The namespace has `blocks` blocks where no number is given.
 pub fn with_namespace<'a>(
     alloc: Global,
     command: Command<'a>,

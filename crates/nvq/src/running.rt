@@ -1,4 +1,4 @@
-//! `nvq run`: the commands of lists are done, and told beside the lists.
+//! `nvq run`: the commands of lists are done, and printed beside the lists.
 ghost use Rattle.std.specs.Prelude.{◌≡◌, ◌≤◌, ◌⊎◌, ℕ, List, IfOk, IfErr, length, map, string_bytes};
 ghost use Rattle.std.specs.List.{count_by};
 ghost use Rattle.nvm_engine.specs.Fault.{IsFirstRunFault};
@@ -39,7 +39,7 @@ const UNCHECKED: &str = "nvq: the lists have no expectation";
 
 /// Does the commands of the lists, keeps the record where that is asked for, and writes the lines to standard output, or the objects
 /// where these are asked for. After a fault before the first line nothing is written. The room of standard output is taken first, so
-/// that no memory is wanted for the lines once the record stands.
+/// that no memory is wanted for the lines once the record is written.
 ///
 /// The exit status is 0, or 2 if the expectations of the lists are checked and one isn't met.
 pub fn run_lists<R: AllocGlobal + Files + Input + Print + Eprint + Threads + Wait + Sync>(
@@ -220,7 +220,7 @@ fn processors<R: Threads>(rt: &R) -> Workers {
     }
 }
 
-/// Does the commands of the host files of lists, and makes the objects where these are told.
+/// Does the commands of the host files of lists, and makes the objects where these are asked for.
 fn told_of<R: AllocGlobal + Eprint + Threads + Wait + Sync>(
     rt: &R,
     telling: Telling,
@@ -274,7 +274,7 @@ fn done<R: AllocGlobal + Eprint + Threads + Wait + Sync>(
     }
 }
 
-/// The fault of a run, as the program tells it. What is assembled is a host file, so no fault is one of a file.
+/// The fault of a run, as the program prints it. What is assembled is a host file, so no fault is one of a file.
 fn told(fault: RunFault) -> Fault
     requires { IsToldFault fault }
     ensures { result ≡ fault_of_run fault }
@@ -289,7 +289,7 @@ fn told(fault: RunFault) -> Fault
     }
 }
 
-/// Writes the lines, or the objects where these are told, and what is said of expectations.
+/// Writes the lines, or the objects where these are asked for, and what is said of expectations.
 fn print<R: Files + Print + Eprint>(
     mut output: Output<'_, R>,
     told: &ToldRun,

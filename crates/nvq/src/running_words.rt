@@ -19,7 +19,7 @@ pub struct RunWords {
     pub record: Option<String>,
     /// Whether what the lists expect is checked.
     pub check: bool,
-    /// Whether the run is told as lines, or as objects of JSON.
+    /// Whether the run is printed as lines, or as objects of JSON.
     pub telling: Telling,
     /// The lists, host 1's first, at least one.
     pub lists: Vec<String>,

@@ -1,4 +1,4 @@
-//! What `nvq run` tells of a run. With `--json` that is the objects of its commands, and that of its record's verdict.
+//! What `nvq run` prints of a run. With `--json` that is the objects of its commands, and that of its record's verdict.
 ghost use Rattle.std.specs.Prelude.{◌≡◌, IfOk, string_bytes};
 ghost use Rattle.nvm_audit.specs.LawfulRecord.{IsLawfulRecord};
 ghost use Rattle.nvq.specs.ToldRun.{AreToldAs, IsObjectText};
@@ -10,7 +10,7 @@ use nvm_objects::record_objects;
 use nvm_record::NoMemory;
 use std::thread::Threads;
 
-/// What a run shows, and its objects, if it is told as objects.
+/// What a run shows, and its objects, if it is printed as objects.
 #[derive(Drop)]
 pub struct ToldRun {
     pub shown: Shown,
@@ -18,7 +18,7 @@ pub struct ToldRun {
 }
 
 impl ToldRun {
-    /// What is told of a run. The objects are whole before anything is written.
+    /// What is printed of a run. The objects are whole before anything is written.
     pub fn of<R: AllocGlobal + Eprint + Threads + Sync>(
         rt: &R,
         telling: Telling,
@@ -37,7 +37,7 @@ impl ToldRun {
     }
 }
 
-/// The objects of a record's commands, and behind them that of its verdict.
+/// The objects of a record's commands, and after them that of its verdict.
 fn object_text<R: AllocGlobal + Eprint + Threads + Sync>(
     rt: &R,
     run: &Record,

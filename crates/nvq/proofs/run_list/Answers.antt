@@ -3,7 +3,7 @@ use Rattle.nvq.specs.Listed.{IsListFault}
 use Rattle.nvq.specs.declared.fault.Fault.{Fault}
 use Rattle.nvq.proofs.run_list.Goals as goal
 
--- The file's fault is told as it is, with its path.
+-- The file's fault is returned as it is, with its path.
 pub returns-clause-fault : goal.returns-clause-fault
 returns-clause-fault g c =
     let path = c.in_ok-path.path in

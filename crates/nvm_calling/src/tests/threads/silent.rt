@@ -1,10 +1,10 @@
 //! Commands over two atomic units that never ended. A unit that is to leave one undone has taken all of its changes before.
-use super::trace::{narrow, record_of_changes, single, succeeded, trace_of};
+use super::trace::{explained, narrow, record_of_changes, single, succeeded, trace_of, unended};
 use crate::tests::filled;
 use nvm_audit::Record;
 use nvm_plan::Job;
 use nvm_record::{LbaRange, Op, Payload, ReadData, ranges_data};
-use nvm_trace::{Explained, Judging, Reads, Trace, TracedJob, WitnessFault, witness};
+use nvm_trace::{Explained, Judging, Reads, Trace, WitnessFault, witness};
 use std::alloc::Global;
 use std::sync::Wait;
 use std::test::Fail;
@@ -49,11 +49,8 @@ fn deallocated(alloc: Global, before: &[u64], first: u8, second: u8) -> Result<T
     for job in written(alloc, before)? {
         seen.push(succeeded(job, 10, None))?;
     }
-    seen.push(TracedJob {
-        job: deallocate(alloc, &[of_blocks(8, 2), of_blocks(3, 0), of_blocks(7, 2)])?,
-        began: 20,
-        ended: None,
-    })?;
+    let silent = deallocate(alloc, &[of_blocks(8, 2), of_blocks(3, 0), of_blocks(7, 2)])?;
+    seen.push(unended(silent, 20))?;
     let found = ReadData::new(halves(alloc, first, second, 1)?);
     seen.push(succeeded(single(Op::Read, 7, 1, Payload::empty()), 30, Some(found)))?;
     trace_of(alloc, narrow()?, Reads::Whole, seen)
@@ -86,24 +83,13 @@ fn found<R: Threads + Wait + Sync>(
     Ok(witness(rt, alloc, judging, &trace, &record))
 }
 
-/// The numbers of such a trace: with one reply that is excused.
-fn explained(jobs: u32, steps: u64) -> Explained {
-    Explained {
-        jobs,
-        units: 4,
-        steps,
-        excused: 1,
-        preparations: 0,
-    }
-}
-
 #[test]
 fn deallocate_is_done_in_its_second_unit_alone(rt: HostRuntime) -> Result<(), Fail> {
     let alloc = rt.alloc();
     let standard = found(&rt, alloc, Judging::Standard, &[0], 0x41, 0)?;
-    assert_eq!(rt; standard, Ok(explained(5, 6)));
+    assert_eq!(rt; standard, Ok(explained(5, 6, 1)));
     let strict = found(&rt, alloc, Judging::Strict, &[0], 0x41, 0)?;
-    assert_eq!(rt; strict, Ok(explained(5, 6)));
+    assert_eq!(rt; strict, Ok(explained(5, 6, 1)));
     // The Read has found something else.
     let other = found(&rt, alloc, Judging::Strict, &[0], 0, 0)?;
     assert_eq!(rt; other, Err(WitnessFault::ReplyDiffers { job: 5 }));
@@ -114,7 +100,7 @@ fn deallocate_is_done_in_its_second_unit_alone(rt: HostRuntime) -> Result<(), Fa
 fn deallocate_is_done_in_both_units(rt: HostRuntime) -> Result<(), Fail> {
     let alloc = rt.alloc();
     let both = found(&rt, alloc, Judging::Standard, &[], 0, 0)?;
-    assert_eq!(rt; both, Ok(explained(4, 6)));
+    assert_eq!(rt; both, Ok(explained(4, 6, 1)));
     Ok(())
 }
 
@@ -122,7 +108,7 @@ fn deallocate_is_done_in_both_units(rt: HostRuntime) -> Result<(), Fail> {
 fn deallocate_is_done_in_none(rt: HostRuntime) -> Result<(), Fail> {
     let alloc = rt.alloc();
     let none = found(&rt, alloc, Judging::Standard, &[0, 12], 0x41, 0x41)?;
-    assert_eq!(rt; none, Ok(explained(6, 6)));
+    assert_eq!(rt; none, Ok(explained(6, 6, 1)));
     Ok(())
 }
 
@@ -148,11 +134,7 @@ fn write_is_done_in_its_second_unit_alone(rt: HostRuntime) -> Result<(), Fail> {
     let first = single(Op::Write, 0, 0, filled(alloc, 0x43, 1)?);
     seen.push(succeeded(first, 10, None))?;
     let payload = Payload::new(alloc, halves(alloc, 0x41, 0x42, 2)?)?;
-    seen.push(TracedJob {
-        job: single(Op::Write, 6, 3, payload),
-        began: 20,
-        ended: None,
-    })?;
+    seen.push(unended(single(Op::Write, 6, 3, payload), 20))?;
     let read = single(Op::Read, 6, 3, Payload::empty());
     let data = ReadData::new(halves(alloc, 0, 0x42, 2)?);
     seen.push(succeeded(read, 30, Some(data)))?;
@@ -165,7 +147,7 @@ fn write_is_done_in_its_second_unit_alone(rt: HostRuntime) -> Result<(), Fail> {
     let record = record_of_changes(&rt, alloc, narrow()?, &jobs, 1)?;
     assert_eq!(rt;
         witness(&rt, alloc, Judging::Strict, &trace, &record),
-        Ok(explained(3, 4))
+        Ok(explained(3, 4, 1))
     );
     // By the standard it stands by blocks.
     assert_eq!(rt;

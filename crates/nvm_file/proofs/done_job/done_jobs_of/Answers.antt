@@ -1,28 +1,9 @@
-use Rattle.std.proofs.lemmas.Result.{err_from_is_err_and}
-use Rattle.nvm_file.specs.Inside.Rest.{left_of}
+use Rattle.std.proofs.Common.{rules}
 use Rattle.nvm_file.specs.DoneReading.{done_at}
-use Rattle.nvm_file.specs.Fields.{items_at}
-use Rattle.nvm_file.proofs.ItemLoops.{begins, goes_on, ends, is_done}
+use Rattle.nvm_file.proofs.ItemLoops.{items_given}
 use Rattle.nvm_file.proofs.done_job.done_jobs_of.Goals as goal
-
-pub loop-init : goal.loop-init
-loop-init c = rw c.in_ok-work.ensures.items (begins (λ _. done_at c.args.frame.now c.args.jobs.now) c.args.count (left_of c.args.from))
-
-pub returns-in_err-done : goal.returns-in_err-done
-returns-in_err-done c =
-    let p = err_from_is_err_and c.from_residual-in_err-done.result c.from_residual-in_err-done.ensures.1 in
-    rw (p.1, p.2)
-    (ends (λ _. done_at c.args.frame.now c.args.jobs.now) c.in_err-done.field-0.0 c.args.count c.loop.counter
-    (c.loop.work.items) (left_of c.loop.rest) (items_at (λ _. done_at c.args.frame.now c.args.jobs.now) 0 c.args.count (left_of c.args.from)) c.loop-test.true c.in_err-done.ensures c.loop.invariant)
-
-pub loop-preserved : goal.loop-preserved
-loop-preserved c =
-    rw c.in_ok-push.ensures.items
-    (goes_on (λ _. done_at c.args.frame.now c.args.jobs.now) c.args.count c.loop.counter (c.loop.work.items)
-    (left_of c.loop.rest) (c.in_ok-done.done) (left_of c.in_ok-done.after) (items_at (λ _. done_at c.args.frame.now c.args.jobs.now) 0 c.args.count (left_of c.args.from)) c.loop-test.true
-    c.in_ok-done.ensures c.loop.invariant)
 
 pub returns : goal.returns
 returns c =
-    is_done (λ _. done_at c.args.frame.now c.args.jobs.now) c.args.count c.loop.counter (c.loop.work.items) (left_of c.loop.rest)
-    (items_at (λ _. done_at c.args.frame.now c.args.jobs.now) 0 c.args.count (left_of c.args.from)) c.loop-test.false c.loop.invariant
+    items_given (λ _. done_at c.args.frame.now c.args.jobs.now) c.args.count c.args.from c.items_of.result c.items_of.ensures
+    (λ place rest one few met. search rules)

@@ -2,7 +2,7 @@ use Rattle.std.proofs.Common.{inl, inr}
 use Rattle.std.proofs.lemmas.Result.{err_from_is_err_and}
 use Rattle.nvq.proofs.argument_drawing.argued_of.Goals as goal
 
--- The argument's fault is told as it is.
+-- The argument's fault is returned as it is.
 pub returns-in_err-argument-clause-fault : goal.returns-in_err-argument-clause-fault
 returns-in_err-argument-clause-fault c =
     let p = err_from_is_err_and c.from_residual-in_err-argument.result c.from_residual-in_err-argument.ensures.1 in

@@ -2,7 +2,7 @@ use Rattle.std.proofs.Common.{inl, inr}
 use Rattle.std.proofs.lemmas.Result.{err_from_is_err_and}
 use Rattle.nvq.proofs.auditing.witnessed.Goals as goal
 
--- The trace's fault is told as it is.
+-- The trace's fault is returned as it is.
 pub returns-in_err-seen-clause-fault : goal.returns-in_err-seen-clause-fault
 returns-in_err-seen-clause-fault g c =
     let p = err_from_is_err_and c.from_residual-in_err-seen.result c.from_residual-in_err-seen.ensures.1 in

@@ -2,7 +2,7 @@ use Rattle.std.proofs.lemmas.Result.{err_from_is_err_and}
 use Rattle.nvq.proofs.Held.{picture_fault}
 use Rattle.nvq.proofs.drawing.run_draw.Goals as goal
 
--- What keeps the picture from being drawn is told as it is.
+-- What keeps the picture from being drawn is returned as it is.
 pub returns-in_err-picture-clause-fault : goal.returns-in_err-picture-clause-fault
 returns-in_err-picture-clause-fault g c =
     let p = err_from_is_err_and c.from_residual-in_err-picture.result c.from_residual-in_err-picture.ensures.1 in

@@ -2,7 +2,7 @@ use Rattle.std.proofs.lemmas.Result.{err_from_is_err_and}
 use Rattle.nvq.proofs.Held.{untold}
 use Rattle.nvq.proofs.explaining.run_explain.Goals as goal
 
--- What keeps the text from being known is told as it is.
+-- What keeps the text from being known is returned as it is.
 pub returns-in_err-text-clause-fault : goal.returns-in_err-text-clause-fault
 returns-in_err-text-clause-fault g c =
     let p = err_from_is_err_and c.from_residual.result c.from_residual.ensures.1 in
