@@ -1,40 +1,100 @@
 -- The fault of a file at one of several paths.
-use Rattle.std.proofs.Common.{◌≡◌, ℕ, ◌+◌, ◌<◌, ◌++◌, ◌∷◌, [], List, String, Option, Some, None, Err, length, map, take, get_or, string_bytes, sym, subst, ap, ◌∙◌}
+use Rattle.std.proofs.Common.{◌≡◌, ℕ, ◌+◌, ◌<◌, ◌++◌, ◌∷◌, [], List, String, length, map, take, get_or, string_bytes, sym, subst, ap, ◌∙◌}
 use Rattle.std.proofs.lemmas.List.{take_more, get_or-map, length-map}
 use Rattle.std.proofs.lemmas.List.Elements.{Contains-get_or}
 use Rattle.std.specs.Global.{Global}
 use Rattle.std.specs.List.{Contains}
-use Rattle.nvm_expect.specs.Expectations.{expectations}
-use Rattle.nvm_expect.specs.declared.fault.ExpectationFault.{ExpectationFault}
-use Rattle.nvq.specs.Expecting.{IsExpectationFault, IsExpectingFault, misexpected}
-use Rattle.nvq.specs.Fault.{IsOf}
-use Rattle.nvq.specs.Files.{IsReadFault, IsReadingFault, IsWriteFault, IsWritingFault, unread, unwritten}
+use Rattle.nvq.specs.Expecting.{IsExpectationFault, IsExpectingFault}
+use Rattle.nvq.specs.Files.{IsReadFault, IsReadingFault, IsWriteFault, IsWritingFault}
 use Rattle.nvq.specs.declared.fault.Fault.{Fault}
+use Rattle.nvq.specs.declared.fault.Fault.TheVariants as of
 
 contained : (paths : List (List ℕ)) (k : ℕ) (path shown : List ℕ) → k < length paths → get_or paths k path ≡ path → shown ≡ path
     → Contains paths shown
 contained paths k path shown lt is h = subst (Contains paths) (is ∙ sym h) (Contains-get_or paths k path lt)
 
--- What is of a thing of which one thing is said is of one of which another is said, where that follows.
-followed : {A : Type 0} (Said Other : A → Type 0) → ((a : A) → Said a → Other a) → (of : Option (Option A)) → IsOf Said of → IsOf Other of
-followed Said Other follows None h = h
-followed Said Other follows (Some None) h = h
-followed Said Other follows (Some (Some a)) h = follows a h
+pub reading_at : (paths : List (List ℕ)) (k : ℕ) (path : List ℕ) (fault : Fault) → k < length paths → get_or paths k path ≡ path
+    → IsReadFault path fault → IsReadingFault paths fault
+reading_at paths k path (of.CannotRead shown) lt is h = contained paths k path (string_bytes shown) lt is h
+reading_at paths k path of.NoMemory lt is h = tt
+reading_at paths k path (of.CannotWrite shown) lt is h = h
+reading_at paths k path (of.Line line expected) lt is h = h
+reading_at paths k path (of.ListLine shown line expected) lt is h = h
+reading_at paths k path (of.Expectation shown line expected) lt is h = h
+reading_at paths k path (of.TraceLine line expected) lt is h = h
+reading_at paths k path of.NoHead lt is h = h
+reading_at paths k path of.InputTwice lt is h = h
+reading_at paths k path of.RecordAmongLines lt is h = h
+reading_at paths k path of.ArgumentAmongLines lt is h = h
+reading_at paths k path (of.Geometry fault) lt is h = h
+reading_at paths k path of.TooManyHosts lt is h = h
+reading_at paths k path (of.BadName shown) lt is h = h
+reading_at paths k path (of.Truncated shown at) lt is h = h
+reading_at paths k path (of.TooMany shown) lt is h = h
+reading_at paths k path (of.UnknownVersion shown) lt is h = h
+reading_at paths k path (of.Trailing shown at) lt is h = h
+reading_at paths k path (of.BadValue shown at) lt is h = h
+reading_at paths k path (of.BeganAtZero shown at) lt is h = h
+reading_at paths k path (of.EndedBefore shown at) lt is h = h
+reading_at paths k path (of.NoUnit shown unit) lt is h = h
+reading_at paths k path (of.FactWrong shown fact) lt is h = h
+reading_at paths k path (of.NothingRefuted shown) lt is h = h
 
-module _ (paths : List (List ℕ)) (k : ℕ) (path : List ℕ) (fault : Fault) (lt : k < length paths) (is : get_or paths k path ≡ path) where
-  pub reading_at : IsReadFault path fault → IsReadingFault paths fault
-  reading_at h =
-      followed (λ shown. shown ≡ path) (λ shown. Contains paths shown) (λ shown h. contained paths k path shown lt is h) (unread fault) h
+-- the same of writing
+pub writing_at : (paths : List (List ℕ)) (k : ℕ) (path : List ℕ) (fault : Fault) → k < length paths → get_or paths k path ≡ path
+    → IsWriteFault path fault → IsWritingFault paths fault
+writing_at paths k path (of.CannotWrite shown) lt is h = contained paths k path (string_bytes shown) lt is h
+writing_at paths k path of.NoMemory lt is h = tt
+writing_at paths k path (of.CannotRead shown) lt is h = h
+writing_at paths k path (of.Line line expected) lt is h = h
+writing_at paths k path (of.ListLine shown line expected) lt is h = h
+writing_at paths k path (of.Expectation shown line expected) lt is h = h
+writing_at paths k path (of.TraceLine line expected) lt is h = h
+writing_at paths k path of.NoHead lt is h = h
+writing_at paths k path of.InputTwice lt is h = h
+writing_at paths k path of.RecordAmongLines lt is h = h
+writing_at paths k path of.ArgumentAmongLines lt is h = h
+writing_at paths k path (of.Geometry fault) lt is h = h
+writing_at paths k path of.TooManyHosts lt is h = h
+writing_at paths k path (of.BadName shown) lt is h = h
+writing_at paths k path (of.Truncated shown at) lt is h = h
+writing_at paths k path (of.TooMany shown) lt is h = h
+writing_at paths k path (of.UnknownVersion shown) lt is h = h
+writing_at paths k path (of.Trailing shown at) lt is h = h
+writing_at paths k path (of.BadValue shown at) lt is h = h
+writing_at paths k path (of.BeganAtZero shown at) lt is h = h
+writing_at paths k path (of.EndedBefore shown at) lt is h = h
+writing_at paths k path (of.NoUnit shown unit) lt is h = h
+writing_at paths k path (of.FactWrong shown fact) lt is h = h
+writing_at paths k path (of.NothingRefuted shown) lt is h = h
 
-  pub writing_at : IsWriteFault path fault → IsWritingFault paths fault
-  writing_at h =
-      followed (λ shown. shown ≡ path) (λ shown. Contains paths shown) (λ shown h. contained paths k path shown lt is h) (unwritten fault) h
-
-  pub expecting_at : (list : List ℕ) → IsExpectationFault path list fault → IsExpectingFault paths fault
-  expecting_at list h =
-      followed (λ (it : List ℕ × ExpectationFault). (it.0 ≡ path) × (expectations list ≡ Err it.1))
-      (λ it. Contains paths it.0 × ((list : List ℕ) × (expectations list ≡ Err it.1)))
-      (λ it h. (contained paths k path it.0 lt is h.0, (list, h.1))) (misexpected fault) h
+-- the same of an expectation
+pub expecting_at : (paths : List (List ℕ)) (k : ℕ) (path list : List ℕ) (fault : Fault) → k < length paths → get_or paths k path ≡ path
+    → IsExpectationFault path list fault → IsExpectingFault paths fault
+expecting_at paths k path list (of.Expectation shown line expected) lt is h = (contained paths k path (string_bytes shown) lt is h.0, (list, h.1))
+expecting_at paths k path list of.NoMemory lt is h = tt
+expecting_at paths k path list (of.CannotRead shown) lt is h = h
+expecting_at paths k path list (of.CannotWrite shown) lt is h = h
+expecting_at paths k path list (of.Line line expected) lt is h = h
+expecting_at paths k path list (of.ListLine shown line expected) lt is h = h
+expecting_at paths k path list (of.TraceLine line expected) lt is h = h
+expecting_at paths k path list of.NoHead lt is h = h
+expecting_at paths k path list of.InputTwice lt is h = h
+expecting_at paths k path list of.RecordAmongLines lt is h = h
+expecting_at paths k path list of.ArgumentAmongLines lt is h = h
+expecting_at paths k path list (of.Geometry fault) lt is h = h
+expecting_at paths k path list of.TooManyHosts lt is h = h
+expecting_at paths k path list (of.BadName shown) lt is h = h
+expecting_at paths k path list (of.Truncated shown at) lt is h = h
+expecting_at paths k path list (of.TooMany shown) lt is h = h
+expecting_at paths k path list (of.UnknownVersion shown) lt is h = h
+expecting_at paths k path list (of.Trailing shown at) lt is h = h
+expecting_at paths k path list (of.BadValue shown at) lt is h = h
+expecting_at paths k path list (of.BeganAtZero shown at) lt is h = h
+expecting_at paths k path list (of.EndedBefore shown at) lt is h = h
+expecting_at paths k path list (of.NoUnit shown unit) lt is h = h
+expecting_at paths k path list (of.FactWrong shown fact) lt is h = h
+expecting_at paths k path list (of.NothingRefuted shown) lt is h = h
 
 -- the bytes of the string at a place
 pub bytes_at : (paths : List (String Global)) (k : ℕ) (path : String Global) → k < length paths → get_or paths k path ≡ path

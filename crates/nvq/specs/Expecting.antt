@@ -7,27 +7,23 @@ use Rattle.nvm_expect.specs.CheckText.{checks_text, unmet_count}
 use Rattle.nvm_expect.specs.Checks.{Lists, AreChecksOf}
 use Rattle.nvm_expect.specs.Expectations.{expectations}
 use Rattle.nvm_expect.specs.declared.check.Check.{Check}
-use Rattle.nvm_expect.specs.declared.fault.ExpectationFault.{ExpectationFault}
 use Rattle.nvm_expect.specs.declared.fault.ExpectationFault.TheVariants.{Line}
-use Rattle.nvq.specs.Fault.{IsOf}
 use Rattle.nvq.specs.declared.checked.Checked.{Checked}
 use Rattle.nvq.specs.declared.fault.Fault.{Fault}
 use Rattle.nvq.specs.declared.fault.Fault.TheVariants.{Expectation, NoMemory}
 
--- the path of a list, and its first wrong expectation
-abbrev pub misexpected : Fault → Option (Option (List ℕ × ExpectationFault))
-misexpected (Expectation shown line expected) = Some (Some (string_bytes shown, Line line expected))
-misexpected NoMemory = Some None
-misexpected fault = None
-
 -- The first wrong expectation of the list at this path, or memory was refused.
 abbrev pub IsExpectationFault : List ℕ → List ℕ → Fault → Type 0
-IsExpectationFault path list fault = IsOf (λ it. (it.0 ≡ path) × (expectations list ≡ Err it.1)) (misexpected fault)
+IsExpectationFault path list (Expectation shown line expected) = (string_bytes shown ≡ path) × (expectations list ≡ Err (Line line expected))
+IsExpectationFault path list NoMemory = Unit {0}
+IsExpectationFault path list fault = ⊥
 
 -- The same of a list at one of these paths.
 abbrev pub IsExpectingFault : List (List ℕ) → Fault → Type 0
-IsExpectingFault paths fault =
-    IsOf (λ it. Contains paths it.0 × ((list : List ℕ) × (expectations list ≡ Err it.1))) (misexpected fault)
+IsExpectingFault paths (Expectation shown line expected) =
+    Contains paths (string_bytes shown) × ((list : List ℕ) × (expectations list ≡ Err (Line line expected)))
+IsExpectingFault paths NoMemory = Unit {0}
+IsExpectingFault paths fault = ⊥
 
 -- What is printed is the text of the expectations of the lists, beside the statuses of the record.
 pub record IsCheckedOf (lists : Lists) (r : RecordView) (told : Checked) : Type 0 where

@@ -1,5 +1,5 @@
 -- The faults of lists, of host files and of records, as the program prints them.
-use Rattle.std.specs.Prelude.{◌≡◌, ◌⊎◌, ℕ, String, List, Option, Some, None, Err, string_bytes}
+use Rattle.std.specs.Prelude.{◌≡◌, ◌⊎◌, ℕ, String, List, Err, string_bytes}
 use Rattle.std.specs.Global.{Global}
 use Rattle.nvm_record.specs.declared.host_fault.HostFault.{HostFault}
 use Rattle.nvm_record.specs.declared.host_fault.HostFault.TheVariants as of_file
@@ -20,12 +20,6 @@ use Rattle.nvm_trace_text.specs.declared.fault.TextFault.{TextFault}
 use Rattle.nvm_trace_text.specs.declared.fault.TextFault.TheVariants as of_text
 use Rattle.nvq.specs.declared.fault.Fault.{Fault}
 use Rattle.nvq.specs.declared.fault.Fault.TheVariants.{Line, TraceLine, NoHead, BadName, Truncated, TooMany, UnknownVersion, Trailing, BadValue, BeganAtZero, EndedBefore, NoMemory}
-
--- A fault of one kind is of a thing of which this is said, or of memory that was refused. Of a fault of another kind there is none.
-abbrev pub IsOf : {A : Type 0} → (A → Type 0) → Option (Option A) → Type 0
-IsOf Said None = ⊥
-IsOf Said (Some None) = Unit {0}
-IsOf Said (Some (Some thing)) = Said thing
 
 -- a list's fault has its line
 abbrev pub fault_of_list : ListFault → Fault

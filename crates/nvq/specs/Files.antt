@@ -1,41 +1,37 @@
 -- Why a file wasn't read, or not written.
-use Rattle.std.specs.Prelude.{◌≡◌, ◌⊎◌, ℕ, String, List, Option, Some, None, codes, string_bytes}
+use Rattle.std.specs.Prelude.{◌≡◌, ◌⊎◌, ℕ, String, List, codes, string_bytes}
 use Rattle.std.specs.Global.{Global}
 use Rattle.std.specs.List.{Contains}
 use Rattle.nvm_expect.specs.Expectations.{without_expectations}
 use Rattle.nvq.specs.Expecting.{IsExpectationFault}
-use Rattle.nvq.specs.Fault.{IsFaultOfList, IsFaultOfText, IsOf}
+use Rattle.nvq.specs.Fault.{IsFaultOfList, IsFaultOfText}
 use Rattle.nvq.specs.Listed.{IsListFault, Lists}
 use Rattle.nvq.specs.declared.fault.Fault.{Fault}
 use Rattle.nvq.specs.declared.fault.Fault.TheVariants.{CannotRead, CannotWrite, NoMemory}
 
--- the path of the file that couldn't be read
-abbrev pub unread : Fault → Option (Option (List ℕ))
-unread (CannotRead shown) = Some (Some (string_bytes shown))
-unread NoMemory = Some None
-unread fault = None
-
--- the path of the file that couldn't be written
-abbrev pub unwritten : Fault → Option (Option (List ℕ))
-unwritten (CannotWrite shown) = Some (Some (string_bytes shown))
-unwritten NoMemory = Some None
-unwritten fault = None
-
 -- The file at this path couldn't be read, or memory was refused.
 abbrev pub IsReadFault : List ℕ → Fault → Type 0
-IsReadFault path fault = IsOf (λ shown. shown ≡ path) (unread fault)
+IsReadFault path (CannotRead shown) = string_bytes shown ≡ path
+IsReadFault path NoMemory = Unit {0}
+IsReadFault path fault = ⊥
 
--- The same of the file at one of these paths.
+-- It is the fault of the file at one of these paths, or memory was refused.
 abbrev pub IsReadingFault : List (List ℕ) → Fault → Type 0
-IsReadingFault paths fault = IsOf (λ shown. Contains paths shown) (unread fault)
+IsReadingFault paths (CannotRead shown) = Contains paths (string_bytes shown)
+IsReadingFault paths NoMemory = Unit {0}
+IsReadingFault paths fault = ⊥
 
 -- The file at this path couldn't be written, or memory was refused.
 abbrev pub IsWriteFault : List ℕ → Fault → Type 0
-IsWriteFault path fault = IsOf (λ shown. shown ≡ path) (unwritten fault)
+IsWriteFault path (CannotWrite shown) = string_bytes shown ≡ path
+IsWriteFault path NoMemory = Unit {0}
+IsWriteFault path fault = ⊥
 
--- The same of a file at one of these paths.
+-- A file at one of these paths couldn't be written, or memory was refused.
 abbrev pub IsWritingFault : List (List ℕ) → Fault → Type 0
-IsWritingFault paths fault = IsOf (λ shown. Contains paths shown) (unwritten fault)
+IsWritingFault paths (CannotWrite shown) = Contains paths (string_bytes shown)
+IsWritingFault paths NoMemory = Unit {0}
+IsWritingFault paths fault = ⊥
 
 -- The list at this path couldn't be read, or else it is its first wrong expectation, or else the first fault of a list, or else the
 -- host file couldn't be written to `out`.

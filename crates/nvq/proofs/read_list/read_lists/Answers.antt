@@ -30,7 +30,7 @@ returns-in_err-split-clause-fault g c =
     let low : k < length all = subst (λ (n : ℕ). k < n) (sym (length-map paths (λ path. string_bytes path))) c.loop-path-test.true in
     let wrong : IsExpectationFault (string_bytes it) list fault =
     subst (λ (bytes : List ℕ). IsExpectationFault bytes list fault) c.as_str-path.ensures.value c.in_err-split.ensures.fault in
-    rw (p.1, p.2) (inr (expecting_at all k (string_bytes it) fault low (bytes_at paths k it c.loop-path-test.true (sym c.path-item.is)) list wrong))
+    rw (p.1, p.2) (inr (expecting_at all k (string_bytes it) list fault low (bytes_at paths k it c.loop-path-test.true (sym c.path-item.is)) wrong))
 
 pub loop-path-preserved : goal.loop-path-preserved
 loop-path-preserved g c =
