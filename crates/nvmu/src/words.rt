@@ -57,8 +57,8 @@ fn asked_of(alloc: Global, matches: &ArgMatches<'_>) -> Result<Option<Asked>, Wo
 {
     match matches.subcommand() {
         Some(("run", run)) => run_asked(alloc, run),
-        Some(("audit", words)) => Ok(read_audit(alloc, words)?.map(Asked::Audit)),
-        Some(("witness", words)) => Ok(read_witness(alloc, words)?.map(Asked::Witness)),
+        Some(("audit", words)) => audit_asked(alloc, words),
+        Some(("witness", words)) => witness_asked(alloc, words),
         Some(("refute", words)) => refute_asked(alloc, words),
         _ => Ok(None),
     }
@@ -85,6 +85,26 @@ fn run_asked(alloc: Global, run: &ArgMatches<'_>) -> Result<Option<Asked>, WordF
         record,
         files,
     }))
+}
+
+/// What `nvmu audit` is asked, or `None` where the path is missing.
+fn audit_asked(alloc: Global, words: &ArgMatches<'_>) -> Result<Option<Asked>, WordFault>
+    ensures { IfOk result (λ asked. IfSome asked IsAsked) }
+{
+    match read_audit(alloc, words)? {
+        Some(audit) => Ok(Some(Asked::Audit(audit))),
+        None => Ok(None),
+    }
+}
+
+/// What `nvmu witness` is asked, or `None` where a path is missing.
+fn witness_asked(alloc: Global, words: &ArgMatches<'_>) -> Result<Option<Asked>, WordFault>
+    ensures { IfOk result (λ asked. IfSome asked IsAsked) }
+{
+    match read_witness(alloc, words)? {
+        Some(witness) => Ok(Some(Asked::Witness(witness))),
+        None => Ok(None),
+    }
 }
 
 /// The options that are numbers, or `None` where one is missing.

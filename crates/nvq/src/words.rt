@@ -77,14 +77,34 @@ fn asked_of(alloc: Global, matches: &ArgMatches<'_>) -> Result<Option<Asked>, Wo
         Some(("assemble", words)) => assemble_asked(alloc, words),
         Some(("trace", words)) => trace_asked(alloc, words),
         Some(("list", words)) => list_asked(alloc, words),
-        Some(("run", words)) => Ok(read_run(alloc, words)?.map(Asked::Run)),
-        Some(("generate", words)) => Ok(read_generate(alloc, words)?.map(Asked::Generate)),
+        Some(("run", words)) => run_asked(alloc, words),
+        Some(("generate", words)) => generate_asked(alloc, words),
         Some(("audit", words)) => audit_asked(alloc, words),
-        Some(("witness", words)) => Ok(read_witness(alloc, words)?.map(Asked::Witness)),
-        Some(("certify", words)) => Ok(read_certify(alloc, words)?.map(Asked::Certify)),
-        Some(("explain", words)) => Ok(read_explain(alloc, words)?.map(Asked::Explain)),
-        Some(("draw", words)) => Ok(read_draw(alloc, words)?.map(Asked::Draw)),
+        Some(("witness", words)) => witness_asked(alloc, words),
+        Some(("certify", words)) => certify_asked(alloc, words),
+        Some(("explain", words)) => explain_asked(alloc, words),
+        Some(("draw", words)) => draw_asked(alloc, words),
         _ => Ok(None),
+    }
+}
+
+/// What `nvq run` is asked, or `None` where a value is missing.
+fn run_asked(alloc: Global, words: &ArgMatches<'_>) -> Result<Option<Asked>, WordFault>
+    ensures { IfOk result (λ asked. IfSome asked IsAsked) }
+{
+    match read_run(alloc, words)? {
+        Some(run) => Ok(Some(Asked::Run(run))),
+        None => Ok(None),
+    }
+}
+
+/// What `nvq generate` is asked, or `None` where a value is missing.
+fn generate_asked(alloc: Global, words: &ArgMatches<'_>) -> Result<Option<Asked>, WordFault>
+    ensures { IfOk result (λ asked. IfSome asked IsAsked) }
+{
+    match read_generate(alloc, words)? {
+        Some(generate) => Ok(Some(Asked::Generate(generate))),
+        None => Ok(None),
     }
 }
 
@@ -99,6 +119,46 @@ fn audit_asked(alloc: Global, words: &ArgMatches<'_>) -> Result<Option<Asked>, W
         Ok(Some(Asked::AuditAll(audit)))
     } else {
         Ok(Some(Asked::Audit(audit)))
+    }
+}
+
+/// What `nvq witness` is asked, or `None` where a path is missing.
+fn witness_asked(alloc: Global, words: &ArgMatches<'_>) -> Result<Option<Asked>, WordFault>
+    ensures { IfOk result (λ asked. IfSome asked IsAsked) }
+{
+    match read_witness(alloc, words)? {
+        Some(witness) => Ok(Some(Asked::Witness(witness))),
+        None => Ok(None),
+    }
+}
+
+/// What `nvq certify` is asked, or `None` where a value is missing.
+fn certify_asked(alloc: Global, words: &ArgMatches<'_>) -> Result<Option<Asked>, WordFault>
+    ensures { IfOk result (λ asked. IfSome asked IsAsked) }
+{
+    match read_certify(alloc, words)? {
+        Some(certify) => Ok(Some(Asked::Certify(certify))),
+        None => Ok(None),
+    }
+}
+
+/// What `nvq explain` is asked, or `None` where a path is missing.
+fn explain_asked(alloc: Global, words: &ArgMatches<'_>) -> Result<Option<Asked>, WordFault>
+    ensures { IfOk result (λ asked. IfSome asked IsAsked) }
+{
+    match read_explain(alloc, words)? {
+        Some(explain) => Ok(Some(Asked::Explain(explain))),
+        None => Ok(None),
+    }
+}
+
+/// What `nvq draw` is asked, or `None` where a path is missing.
+fn draw_asked(alloc: Global, words: &ArgMatches<'_>) -> Result<Option<Asked>, WordFault>
+    ensures { IfOk result (λ asked. IfSome asked IsAsked) }
+{
+    match read_draw(alloc, words)? {
+        Some(draw) => Ok(Some(Asked::Draw(draw))),
+        None => Ok(None),
     }
 }
 
