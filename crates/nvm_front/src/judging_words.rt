@@ -1,6 +1,7 @@
-//! The words of `audit` and `witness`, which both programs have.
+//! The words of `audit` and `witness`, which both programs have, and what other commands that judge have of them.
+use crate::arguments::{file_argument, flag};
 use crate::words::WordFault;
-use clap::{Arg, ArgAction, ArgMatches, Command, Error};
+use clap::{Arg, ArgMatches, Command, Error};
 use nvm_trace::Judging;
 use std::alloc::Global;
 
@@ -50,10 +51,11 @@ pub fn telling_of(words: &ArgMatches<'_>) -> Telling {
 
 /// The option that has a verdict printed as an object.
 pub fn json<'a>(alloc: Global) -> Arg<'a> {
-    Arg::new(alloc, "json")
-        .long("json")
-        .action(ArgAction::SetTrue)
-        .help("Prints the verdict as one object of JSON on a line, for programs")
+    flag(
+        alloc,
+        "json",
+        "Prints the verdict as one object of JSON on a line, for programs",
+    )
 }
 
 /// What the words of `witness` say, or `None` where a path is missing.
@@ -64,24 +66,49 @@ pub fn read_witness(
     let (Some(trace), Some(record)) = (words.get_str("trace"), words.get_str("record")) else {
         return Ok(None);
     };
-    let judging = if words.get_flag("strict") {
-        Judging::Strict
-    } else {
-        Judging::Standard
-    };
     Ok(Some(WitnessWords {
-        judging,
+        judging: judging_of(words),
         trace: String::from_str(alloc, trace)?,
         record: String::from_str(alloc, record)?,
     }))
 }
 
+/// By what a trace is to be judged.
+pub fn judging_of(words: &ArgMatches<'_>) -> Judging {
+    if words.get_flag("strict") {
+        Judging::Strict
+    } else {
+        Judging::Standard
+    }
+}
+
+/// The option that has a trace judged strictly.
+pub fn strict<'a>(alloc: Global) -> Arg<'a> {
+    flag(
+        alloc,
+        "strict",
+        "Takes each command as one step in an atomic unit, however many blocks it has",
+    )
+}
+
+/// The trace that is judged.
+pub fn trace<'a>(alloc: Global) -> Arg<'a> {
+    file_argument(
+        alloc,
+        "trace",
+        "TRACE",
+        "What the hosts of a device saw, or - for standard input",
+    )
+}
+
 /// The command `audit`.
 pub fn audit_command<'a>(alloc: Global) -> Result<Command<'a>, Error> {
-    let record = Arg::new(alloc, "record")
-        .required(true)
-        .value_name("REC")
-        .help("The record of a run, or - for standard input");
+    let record = file_argument(
+        alloc,
+        "record",
+        "REC",
+        "The record of a run, or - for standard input",
+    );
     let command = Command::new(alloc, "audit").about(
         "Says whether a record is lawful, and if not, what is its first fault",
     );
@@ -90,20 +117,14 @@ pub fn audit_command<'a>(alloc: Global) -> Result<Command<'a>, Error> {
 
 /// The command `witness`.
 pub fn witness_command<'a>(alloc: Global) -> Result<Command<'a>, Error> {
-    let strict = Arg::new(alloc, "strict")
-        .long("strict")
-        .action(ArgAction::SetTrue)
-        .help("Takes each command as one step in an atomic unit, however many blocks it has");
-    let trace = Arg::new(alloc, "trace")
-        .required(true)
-        .value_name("TRACE")
-        .help("What the hosts of a device saw, or - for standard input");
-    let record = Arg::new(alloc, "record")
-        .required(true)
-        .value_name("REC")
-        .help("The record that is to explain it, or - for standard input");
+    let record = file_argument(
+        alloc,
+        "record",
+        "REC",
+        "The record that is to explain it, or - for standard input",
+    );
     let command = Command::new(alloc, "witness").about(
         "Says whether a record explains a trace, and if not, what is the first fault",
     );
-    Ok(command.arg(strict)?.arg(trace)?.arg(record)?)
+    Ok(command.arg(strict(alloc))?.arg(trace(alloc))?.arg(record)?)
 }

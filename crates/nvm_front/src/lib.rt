@@ -6,6 +6,7 @@
 //! say what they hold, so few other functions here have one: `examples/check` holds the built programs to what they must say.
 #![tactic(auto)]
 
+mod arguments;
 mod content;
 mod failure;
 mod files;
@@ -15,10 +16,12 @@ mod number_options;
 mod number_word;
 mod output;
 mod progress;
+mod run_options;
 mod unfinished;
 mod version;
 mod words;
 
+pub use arguments::{file_argument, file_arguments, flag, path_given, path_option};
 pub use content::Content;
 pub use failure::{Failure, failed};
 pub use files::{
@@ -28,8 +31,8 @@ pub use hint::{
     VERSIONS, no_host_file, no_list, no_namespace, no_record, no_trace, other_block, refusal,
 };
 pub use judging_words::{
-    AuditWords, Telling, WitnessWords, audit_command, json, read_audit, read_witness, telling_of,
-    witness_command,
+    AuditWords, Telling, WitnessWords, audit_command, json, judging_of, read_audit, read_witness,
+    strict, telling_of, trace, witness_command,
 };
 pub use number_options::{
     Expected, number_given, number_of_16_bits, number_of_32_bits, number_of_64_bits, number_option,
@@ -38,5 +41,6 @@ pub use number_options::{
 pub use number_word::{NumberFault, number};
 pub use output::{Output, tell_unwritten};
 pub use progress::{JobProgress, Progress};
+pub use run_options::{limit, limit_given, nabo, nabsn, nsze, workers_given};
 pub use version::VERSION;
 pub use words::{WordFault, missing, owned, tell, texts_of, words_given};

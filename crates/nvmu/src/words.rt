@@ -2,14 +2,14 @@ ghost use Rattle.std.specs.Prelude.{IfOk, IfSome};
 ghost use Rattle.nvmu.specs.Words.{IsAsked};
 
 use crate::refute_words::{refute_asked, refute_command};
-use clap::{Arg, ArgAction, ArgMatches, Command, Error};
+use clap::{Arg, ArgMatches, Command, Error};
 use nvm_engine::{Settings, Workers};
 use nvm_front::{
-    AuditWords, VERSION, WitnessWords, WordFault, audit_command, missing, number_given,
-    number_of_16_bits, number_of_32_bits, number_of_64_bits, number_option, owned, read_audit,
-    read_witness, witness_command,
+    AuditWords, VERSION, WitnessWords, WordFault, audit_command, file_arguments, limit,
+    limit_given, missing, nabo, nabsn, nsze, number_of_16_bits, number_of_32_bits,
+    number_of_64_bits, number_option, owned, path_option, read_audit, read_witness,
+    witness_command, workers_given,
 };
-use nvm_store::Limit;
 use nvm_trace::Judging;
 use std::alloc::Global;
 
@@ -35,18 +35,6 @@ pub enum Asked {
         argument: String,
     },
 }
-
-/// The options that are numbers, each with its help.
-const NUMBERS: [(&str, &str); 8] = [
-    ("nsze", "Size of the namespace in logical blocks"),
-    ("block", "Size of a logical block in bytes: 512 or 4096"),
-    ("nabsn", "Atomic boundary size, zeroes-based: 0 is none"),
-    ("nabo", "Atomic boundary offset"),
-    ("nawun", "Atomic write unit, zeroes-based"),
-    ("nacwu", "Atomic compare and write unit, zeroes-based"),
-    ("workers", "Number of threads that do the commands, 1 to 64"),
-    ("limit", "Most changes of a unit, 1 to 4194304"),
-];
 
 /// Reads the words after the program's name.
 ///
@@ -131,14 +119,10 @@ fn settings_of(alloc: Global, run: &ArgMatches<'_>) -> Result<Option<Settings>, 
     ) else {
         return Ok(None);
     };
-    let (Some(workers), Some(limit)) = (
-        number_given(alloc, run, "workers", 1, 64)?,
-        number_given(alloc, run, "limit", 1, 4_194_304)?,
-    ) else {
+    let (Some(workers), Some(limit)) = (workers_given(alloc, run)?, limit_given(alloc, run)?) else {
         return Ok(None);
     };
-    let (Some(workers), Some(limit)) = (Workers::new(workers as u16), Limit::new(limit as u32))
-    else {
+    let Some(workers) = Workers::new(workers) else {
         return Ok(None);
     };
     Ok(Some(Settings {
@@ -177,22 +161,41 @@ fn program<'a>(alloc: Global) -> Result<Command<'a>, Error> {
 
 /// `nvmu run`.
 fn run_command<'a>(alloc: Global) -> Result<Command<'a>, Error> {
-    let mut command = Command::new(alloc, "run").about(
-        "Does the commands of the hosts' files, writes a record of that, and prints a line for each",
+    let command = Command::new(alloc, "run")
+        .about(
+            "Does the commands of the hosts' files, writes a record of that, and prints a line for each",
+        )
+        .arg(nsze(alloc).required(true))?
+        .arg(number(
+            alloc,
+            "block",
+            "Size of a logical block in bytes: 512 or 4096",
+        ))?
+        .arg(nabsn(alloc).required(true))?
+        .arg(nabo(alloc).required(true))?
+        .arg(number(alloc, "nawun", "Atomic write unit, zeroes-based"))?
+        .arg(number(
+            alloc,
+            "nacwu",
+            "Atomic compare and write unit, zeroes-based",
+        ))?
+        .arg(number(
+            alloc,
+            "workers",
+            "Number of threads that do the commands, 1 to 64",
+        ))?
+        .arg(limit(alloc).required(true))?;
+    let record = path_option(alloc, "record", "REC", "Where the record goes").required(true);
+    let files = file_arguments(
+        alloc,
+        "file",
+        "FILE",
+        "The host files, host 1 first; one may be - for standard input",
     );
-    for (name, help) in &NUMBERS {
-        command = command.arg(number_option(alloc, name, help).required(true))?;
-    }
-    let record = Arg::new(alloc, "record")
-        .long("record")
-        .required(true)
-        .value_name("REC")
-        .help("Where the record goes");
-    let file = Arg::new(alloc, "file")
-        .required(true)
-        .num_args(1..)
-        .action(ArgAction::Append)
-        .value_name("FILE")
-        .help("The host files, host 1 first; one may be - for standard input");
-    Ok(command.arg(record)?.arg(file)?)
+    Ok(command.arg(record)?.arg(files)?)
+}
+
+/// An option that has to be given a number.
+fn number<'a>(alloc: Global, name: &'a str, help: &'a str) -> Arg<'a> {
+    number_option(alloc, name, help).required(true)
 }

@@ -1,8 +1,11 @@
 //! The words of `nvq certify`.
-use clap::{Arg, ArgAction, ArgMatches, Command, Error};
-use nvm_front::{Telling, WordFault, json, number_of_32_bits, number_option, telling_of};
+use clap::{ArgMatches, Command, Error};
+use nvm_front::{
+    Telling, WordFault, json, judging_of, number_of_32_bits, number_option, path_given,
+    path_option, strict, telling_of, trace,
+};
 use nvm_trace::Judging;
-use std::alloc::{AllocError, Global};
+use std::alloc::Global;
 
 /// What the words of `nvq certify` say.
 #[derive(Drop)]
@@ -29,16 +32,11 @@ pub fn read_certify(
     ) else {
         return Ok(None);
     };
-    let record = path_of(alloc, words, "record")?;
-    let argument = path_of(alloc, words, "argument")?;
-    let judging = if words.get_flag("strict") {
-        Judging::Strict
-    } else {
-        Judging::Standard
-    };
+    let record = path_given(alloc, words, "record")?;
+    let argument = path_given(alloc, words, "argument")?;
     let trace = String::from_str(alloc, trace)?;
     Ok(Some(CertifyWords {
-        judging,
+        judging: judging_of(words),
         telling: telling_of(words),
         effort,
         record,
@@ -47,39 +45,23 @@ pub fn read_certify(
     }))
 }
 
-/// The path that an option names, if it is there.
-fn path_of(
-    alloc: Global,
-    words: &ArgMatches<'_>,
-    option: &str,
-) -> Result<Option<String>, AllocError> {
-    match words.get_str(option) {
-        Some(path) => Ok(Some(String::from_str(alloc, path)?)),
-        None => Ok(None),
-    }
-}
-
 /// `nvq certify`.
 pub fn certify_command<'a>(alloc: Global) -> Result<Command<'a>, Error> {
     let effort = number_option(alloc, "effort", "Most steps back in each unit").default_value(
         "20000",
     );
-    let strict = Arg::new(alloc, "strict")
-        .long("strict")
-        .action(ArgAction::SetTrue)
-        .help("Takes each command as one step in an atomic unit, however many blocks it has");
-    let record = Arg::new(alloc, "record")
-        .long("record")
-        .value_name("REC")
-        .help("Where the record that explains the trace goes");
-    let argument = Arg::new(alloc, "argument")
-        .long("argument")
-        .value_name("ARG")
-        .help("Where the argument that nothing explains it goes");
-    let trace = Arg::new(alloc, "trace")
-        .required(true)
-        .value_name("TRACE")
-        .help("What the hosts of a device saw, or - for standard input");
+    let record = path_option(
+        alloc,
+        "record",
+        "REC",
+        "Where the record that explains the trace goes",
+    );
+    let argument = path_option(
+        alloc,
+        "argument",
+        "ARG",
+        "Where the argument that nothing explains it goes",
+    );
     let command = Command::new(alloc, "certify").about(
         "Says whether a record explains a trace, or why none does",
     );
@@ -88,8 +70,8 @@ pub fn certify_command<'a>(alloc: Global) -> Result<Command<'a>, Error> {
             .arg(record)?
             .arg(argument)?
             .arg(effort)?
-            .arg(strict)?
+            .arg(strict(alloc))?
             .arg(json(alloc))?
-            .arg(trace)?,
+            .arg(trace(alloc))?,
     )
 }

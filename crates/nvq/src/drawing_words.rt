@@ -1,8 +1,10 @@
 //! The words of `nvq draw`.
-use crate::words::file;
-use clap::{Arg, ArgAction, ArgMatches, Command, Error};
+use clap::{ArgMatches, Command, Error};
 use nvm_draw::Window;
-use nvm_front::{WordFault, number_of_16_bits, number_of_32_bits, number_option};
+use nvm_front::{
+    WordFault, file_argument, judging_of, number_of_16_bits, number_of_32_bits, number_option,
+    path_given, path_option, strict,
+};
 use nvm_trace::Judging;
 use std::alloc::Global;
 
@@ -27,18 +29,10 @@ pub fn read_draw(alloc: Global, words: &ArgMatches<'_>) -> Result<Option<DrawWor
         unit: number_of_16_bits(alloc, words, "unit")?,
         from: number_of_32_bits(alloc, words, "from")?,
     };
-    let judging = if words.get_flag("strict") {
-        Judging::Strict
-    } else {
-        Judging::Standard
-    };
-    let argument = match words.get_str("argument") {
-        Some(path) => Some(String::from_str(alloc, path)?),
-        None => None,
-    };
+    let argument = path_given(alloc, words, "argument")?;
     Ok(Some(DrawWords {
         window,
-        judging,
+        judging: judging_of(words),
         argument,
         file: String::from_str(alloc, file)?,
         out: String::from_str(alloc, out)?,
@@ -52,29 +46,27 @@ pub fn draw_command<'a>(alloc: Global) -> Result<Command<'a>, Error> {
     );
     let unit = number_option(alloc, "unit", "First unit that is drawn, of 64").value_name("U");
     let from = number_option(alloc, "from", "First place that is drawn, of 64").value_name("P");
-    let argument = Arg::new(alloc, "argument")
-        .long("argument")
-        .value_name("ARG")
-        .help("Argument that is drawn, about the trace in FILE")
-        .conflicts_with("unit")?
-        .conflicts_with("from")?;
-    let strict = Arg::new(alloc, "strict")
-        .long("strict")
-        .action(ArgAction::SetTrue)
-        .help("Takes each command as one step in an atomic unit, however many blocks it has");
-    let read = file(
+    let argument = path_option(
+        alloc,
+        "argument",
+        "ARG",
+        "Argument that is drawn, about the trace in FILE",
+    )
+    .conflicts_with("unit")?
+    .conflicts_with("from")?;
+    let read = file_argument(
         alloc,
         "file",
         "FILE",
         "The record, or with --argument the trace, or - for standard input",
     );
-    let out = file(alloc, "out", "OUT", "The picture, or - for standard output");
+    let out = file_argument(alloc, "out", "OUT", "The picture, or - for standard output");
     Ok(
         command
             .arg(unit)?
             .arg(from)?
             .arg(argument)?
-            .arg(strict)?
+            .arg(strict(alloc))?
             .arg(read)?
             .arg(out)?,
     )

@@ -1,6 +1,6 @@
 //! The words of `nvq explain`.
-use clap::{Arg, ArgAction, ArgMatches, Command, Error};
-use nvm_front::WordFault;
+use clap::{Arg, ArgMatches, Command, Error};
+use nvm_front::{WordFault, file_argument, judging_of, strict};
 use nvm_trace::Judging;
 use std::alloc::Global;
 
@@ -32,13 +32,8 @@ pub fn read_explain(
         return Ok(Some(ExplainWords::Record { record: file }));
     };
     let record = String::from_str(alloc, record)?;
-    let judging = if words.get_flag("strict") {
-        Judging::Strict
-    } else {
-        Judging::Standard
-    };
     Ok(Some(ExplainWords::Trace {
-        judging,
+        judging: judging_of(words),
         trace: file,
         record,
     }))
@@ -46,15 +41,13 @@ pub fn read_explain(
 
 /// `nvq explain`.
 pub fn explain_command<'a>(alloc: Global) -> Result<Command<'a>, Error> {
-    let strict = Arg::new(alloc, "strict")
-        .long("strict")
-        .action(ArgAction::SetTrue)
-        .requires_arg("record")?
-        .help("Takes each command as one step in an atomic unit, however many blocks it has");
-    let file = Arg::new(alloc, "file")
-        .required(true)
-        .value_name("FILE")
-        .help("The record, or the trace where a record follows, or - for standard input");
+    let strict = strict(alloc).requires_arg("record")?;
+    let file = file_argument(
+        alloc,
+        "file",
+        "FILE",
+        "The record, or the trace where a record follows, or - for standard input",
+    );
     let record = Arg::new(alloc, "record").value_name("REC").help(
         "The record that is to explain the trace, or - for standard input",
     );

@@ -1,10 +1,11 @@
 //! The words of `nvq generate`.
 ghost use Rattle.std.specs.Prelude.{◌≤◌, IfOk, IfSome, length};
 
-use crate::namespace_words::{NamespaceWords, read_namespace, with_default, with_namespace};
-use clap::{Arg, ArgAction, ArgMatches, Command, Error};
+use crate::namespace_words::{NamespaceWords, read_namespace, with_namespace};
+use clap::{Arg, ArgMatches, Command, Error};
 use nvm_front::{
-    WordFault, number_given, number_of_16_bits, number_of_64_bits, number_option, owned,
+    WordFault, file_arguments, number_given, number_of_16_bits, number_of_64_bits, number_option,
+    owned,
 };
 use nvm_generate::Mix;
 use std::alloc::Global;
@@ -84,10 +85,22 @@ fn mix_of(alloc: Global, words: &ArgMatches<'_>) -> Result<Option<Mix>, WordFaul
 
 /// `nvq generate`.
 pub fn generate_command<'a>(alloc: Global) -> Result<Command<'a>, Error> {
+    let seed = number_option(alloc, "seed", "The same words and seed give the same lists");
+    let commands = number_option(
+        alloc,
+        "commands",
+        "Number of commands of each list, 1 to 65535",
+    );
+    let outs = file_arguments(
+        alloc,
+        "out",
+        "OUT",
+        "Where the lists go, host 1's first; one may be - for standard output",
+    );
     let command = Command::new(alloc, "generate")
         .about("Writes lists of commands that find bugs in devices, one for each host")
-        .arg(seed(alloc))?
-        .arg(commands(alloc))?;
+        .arg(seed.default_value("1"))?
+        .arg(commands.default_value("1000"))?;
     let command = with_namespace(alloc, command, "32")?
         .arg(weight(
             alloc,
@@ -101,33 +114,10 @@ pub fn generate_command<'a>(alloc: Global) -> Result<Command<'a>, Error> {
         .arg(weight(alloc, "zeroes", "3", "Weight of Write Zeroes"))?
         .arg(weight(alloc, "uncorrectable", "0", "Weight of Write Uncorrectable"))?
         .arg(weight(alloc, "deallocate", "2", "Weight of Deallocates"))?;
-    Ok(command.arg(outs(alloc))?)
-}
-
-fn seed<'a>(alloc: Global) -> Arg<'a> {
-    let seed = number_option(alloc, "seed", "The same words and seed give the same lists");
-    with_default(seed, "1")
-}
-
-fn commands<'a>(alloc: Global) -> Arg<'a> {
-    let commands = number_option(
-        alloc,
-        "commands",
-        "Number of commands of each list, 1 to 65535",
-    );
-    with_default(commands, "1000")
+    Ok(command.arg(outs)?)
 }
 
 /// How often a kind is asked for, relative to the others.
 fn weight<'a>(alloc: Global, name: &'a str, value: &'a str, help: &'a str) -> Arg<'a> {
-    with_default(number_option(alloc, name, help), value)
-}
-
-fn outs<'a>(alloc: Global) -> Arg<'a> {
-    Arg::new(alloc, "out")
-        .required(true)
-        .num_args(1..)
-        .action(ArgAction::Append)
-        .value_name("OUT")
-        .help("Where the lists go, host 1's first; one may be - for standard output")
+    number_option(alloc, name, help).default_value(value)
 }

@@ -1,8 +1,9 @@
 //! The words that say what the namespace is like, of `nvq run` and `nvq generate`.
 
-use crate::words::block;
 use clap::{Arg, ArgMatches, Command, Error};
-use nvm_front::{WordFault, number_of_16_bits, number_of_64_bits, number_option, size_given};
+use nvm_front::{
+    WordFault, nabo, nabsn, nsze, number_of_16_bits, number_of_64_bits, number_option, size_given,
+};
 use nvm_record::BlockSize;
 use std::alloc::Global;
 
@@ -55,49 +56,33 @@ pub fn with_namespace<'a>(
     command: Command<'a>,
     blocks: &'a str,
 ) -> Result<Command<'a>, Error> {
-    Ok(
-        command
-            .arg(with_default(nsze(alloc), blocks))?
-            .arg(block(alloc))?
-            .arg(with_default(nabsn(alloc), "7"))?
-            .arg(with_default(nabo(alloc), "0"))?
-            .arg(nawun(alloc))?
-            .arg(nacwu(alloc))?,
-    )
-}
-
-pub fn with_default<'a>(number: Arg<'a>, value: &'a str) -> Arg<'a> {
-    number.default_value(value)
-}
-
-fn nsze<'a>(alloc: Global) -> Arg<'a> {
-    number_option(alloc, "nsze", "Size of the namespace in logical blocks")
-}
-
-fn nabsn<'a>(alloc: Global) -> Arg<'a> {
-    number_option(
-        alloc,
-        "nabsn",
-        "Atomic boundary size, zeroes-based: 0 is none",
-    )
-}
-
-fn nabo<'a>(alloc: Global) -> Arg<'a> {
-    number_option(alloc, "nabo", "Atomic boundary offset")
-}
-
-fn nawun<'a>(alloc: Global) -> Arg<'a> {
-    number_option(
+    let nawun = number_option(
         alloc,
         "nawun",
         "Atomic write unit, zeroes-based [default: a whole unit]",
-    )
-}
-
-fn nacwu<'a>(alloc: Global) -> Arg<'a> {
-    number_option(
+    );
+    let nacwu = number_option(
         alloc,
         "nacwu",
         "Atomic compare and write unit, zeroes-based [default: a whole unit]",
+    );
+    Ok(
+        command
+            .arg(nsze(alloc).default_value(blocks))?
+            .arg(block(alloc))?
+            .arg(nabsn(alloc).default_value("7"))?
+            .arg(nabo(alloc).default_value("0"))?
+            .arg(nawun)?
+            .arg(nacwu)?,
     )
+}
+
+/// The option that says how large a block is.
+pub fn block<'a>(alloc: Global) -> Arg<'a> {
+    number_option(
+        alloc,
+        "block",
+        "Size of a logical block in bytes, 512 or 4096",
+    )
+    .default_value("512")
 }

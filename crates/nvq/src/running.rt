@@ -1,31 +1,27 @@
 //! `nvq run`: the commands of lists are done, and printed beside the lists.
-ghost use Rattle.std.specs.Prelude.{◌≡◌, ◌≤◌, ◌⊎◌, ℕ, List, IfOk, IfErr, length, map, string_bytes};
-ghost use Rattle.std.specs.List.{count_by};
+ghost use Rattle.std.specs.Prelude.{◌≡◌, ℕ, List, IfOk, IfErr};
 ghost use Rattle.nvm_engine.specs.Fault.{IsFirstRunFault};
 ghost use Rattle.nvm_engine.specs.Shown.{IsShown};
 ghost use Rattle.nvm_engine.specs.declared.fault.Fault.{Fault as FaultOfRun};
-ghost use Rattle.nvm_front.specs.Standard.{names_input};
-ghost use Rattle.nvq.specs.declared.fault.Fault.TheVariants.{NoMemory};
 ghost use Rattle.nvq.specs.Expecting.{IsStatusOfRun};
-ghost use Rattle.nvq.specs.Files.{IsWriteFault};
-ghost use Rattle.nvq.specs.Ran.{AreFilesOf, IsFileOf, IsToldFault, fault_of_run};
+ghost use Rattle.nvq.specs.Ran.{AreFilesOf, IsToldFault, fault_of_run};
 ghost use Rattle.nvq.specs.ToldRun.{IsToldRun};
-ghost use Rattle.nvq.specs.RunFaults.{FitNames, IsKeepingFault, IsLineFault, IsListsFault, IsNamesFault, IsSettingsOf};
+ghost use Rattle.nvq.specs.RunFaults.{IsSettingsOf};
 
 use crate::checked::{Checked, checked_of, status_of};
-use crate::failure::{Failure, of_run, plain};
+use crate::failure::{Failure, of_run};
 use crate::fault::Fault;
-use crate::files::{check_no_lines, check_output, keep, unmade};
-use crate::list_failure::of_commands;
+use crate::files::{keep, unmade};
+use crate::host_files::files_of;
 use crate::namespace_words::NamespaceWords;
-use crate::read_list::{ReadList, read_lists, texts_of};
+use crate::read_list::{read_lists, texts_of};
+use crate::run_paths::{check_record, names_fit};
 use crate::running_words::RunWords;
 use crate::told_run::ToldRun;
 use nvm_engine::{Fault as RunFault, Settings, Shown, Workers, execute_watched};
-use nvm_front::{FileFault, Output, Progress, STANDARD, Telling, is_input};
-use nvm_list::{ListFault, assemble};
-use nvm_record::{BlockSize, Payload};
-use std::alloc::{AllocError, Global};
+use nvm_front::{FileFault, Output, Progress, STANDARD, Telling};
+use nvm_record::Payload;
+use std::alloc::AllocError;
 use std::io::Write;
 use std::rt::Files;
 use std::sync::Wait;
@@ -85,97 +81,11 @@ fn tell_if_idle<R: Eprint>(rt: &R, shown: &Shown, checked: &Option<Checked>) {
     }
 }
 
-/// Standard input is named at most once, and standard output isn't the record's.
-fn names_fit(words: &RunWords) -> Result<(), Failure>
-    ensures fit { IfOk result (λ _. FitNames words.now.lists.items words.now.«record») }
-    ensures fault { IfErr result (λ failure. IsNamesFault words.now.lists.items words.now.«record» failure.fault) }
-{
-    if inputs_of(words.lists.as_slice()) > 1 {
-        return Err(plain(Fault::InputTwice));
-    }
-    match &words.record {
-        Some(path) if path.as_str() == STANDARD => Err(plain(Fault::RecordAmongLines)),
-        _ => Ok(()),
-    }
-}
-
-/// How many of the paths name standard input.
-fn inputs_of(paths: &[String]) -> usize
-    ensures { result ≡ count_by (λ path. names_input (string_bytes path)) paths.now }
-{
-    let mut count = 0;
-    for path in paths {
-        if is_input(path.as_str()) {
-            count += 1;
-        }
-    }
-    count
-}
-
-/// The record's path is none of the lists', and not that of standard output.
-fn check_record<R: Files + AllocGlobal>(rt: &R, words: &RunWords) -> Result<(), Failure>
-    ensures { IfErr result (λ failure. IsKeepingFault words.now.«record» failure.fault) }
-{
-    match &words.record {
-        Some(record) => check_place(rt, record.as_str(), words.lists.as_slice()),
-        None => Ok(()),
-    }
-}
-
-/// The record's path is none of the lists', and not that of standard output.
-fn check_place<R: Files + AllocGlobal>(rt: &R, path: &str, lists: &[String]) -> Result<(), Failure>
-    ensures { IfErr result (λ failure. IsWriteFault path.now failure.fault) }
-{
-    for list in lists {
-        check_output(rt, path, list.as_str(), "it is the list")?;
-    }
-    check_no_lines(rt, path)
-}
-
 /// Standard output, with its room.
 fn standard<R: AllocGlobal + Files + Print + Eprint>(rt: &R) -> Result<Output<'_, R>, AllocError> {
     match Output::standard(rt) {
         Ok(output) => Ok(output),
         Err(_) => Err(AllocError),
-    }
-}
-
-/// The host file of each list, in their order. The first that has a line that is no command is the fault, and what helps is said of
-/// that list.
-fn files_of(alloc: Global, size: BlockSize, lists: &[ReadList<'_>]) -> Result<Vec<Payload>, Failure>
-    ensures files { IfOk result (λ files. AreFilesOf size (map (λ list. list.text.items) lists.now) files.items) }
-    ensures fault { IfErr result (λ failure.
-        IsListsFault size (map (λ list. list.path.now) lists.now) (map (λ list. list.text.items) lists.now) failure.fault
-        ⊎ (failure.fault ≡ NoMemory)) }
-{
-    let mut files = Vec::with_capacity(alloc, lists.len())?;
-    for list in lists {
-        match host_file(alloc, list.path, &list.text, size) {
-            Ok(file) => files.push(file)?,
-            Err(fault) => {
-                return Err(of_commands(alloc, fault, list.path, &list.text, &list.text, size));
-            }
-        }
-    }
-    Ok(files)
-}
-
-/// The host file of the list at a path, or its first line that is no command.
-fn host_file(alloc: Global, path: &str, text: &[u8], size: BlockSize) -> Result<Payload, Fault>
-    ensures file { IfOk result (IsFileOf size text.now) }
-    ensures fault { IfErr result (λ fault. IsLineFault size path.now text.now fault ⊎ (fault ≡ NoMemory)) }
-{
-    match assemble(alloc, text, size) {
-        Ok(file) => Ok(Payload::new(alloc, file)?),
-        Err(ListFault::Line { line, expected }) => {
-            let path = String::from_str(alloc, path)?;
-            Err(Fault::ListLine {
-                path,
-                line,
-                expected,
-            })
-        }
-        Err(ListFault::NoMemory) => Err(Fault::NoMemory),
     }
 }
 

@@ -1,12 +1,15 @@
 //! The words of `nvq run`.
 ghost use Rattle.std.specs.Prelude.{◌≤◌, IfOk, IfSome, length};
 
-use crate::namespace_words::{NamespaceWords, read_namespace, with_default, with_namespace};
-use clap::{Arg, ArgAction, ArgMatches, Command, Error};
+use crate::namespace_words::{NamespaceWords, read_namespace, with_namespace};
+use clap::{ArgMatches, Command, Error};
 use nvm_engine::Workers;
-use nvm_front::{Telling, WordFault, number_given, number_option, owned, telling_of};
+use nvm_front::{
+    Telling, WordFault, file_arguments, flag, limit, limit_given, number_option, owned, path_given,
+    path_option, telling_of, workers_given,
+};
 use nvm_store::Limit;
-use std::alloc::{AllocError, Global};
+use std::alloc::Global;
 
 /// What the words of `nvq run` say: what the namespace is like, the numbers of the run, and the names of files.
 #[derive(Drop)]
@@ -31,25 +34,19 @@ pub fn read_run(alloc: Global, words: &ArgMatches<'_>) -> Result<Option<RunWords
 {
     let (Some(namespace), Some(limit), Some(paths)) = (
         read_namespace(alloc, words)?,
-        number_given(alloc, words, "limit", 1, 4_194_304)?,
+        limit_given(alloc, words)?,
         words.get_strs("list"),
     ) else {
-        return Ok(None);
-    };
-    let Some(limit) = Limit::new(limit as u32) else {
         return Ok(None);
     };
     if paths.is_empty() {
         return Ok(None);
     }
-    let workers = match number_given(alloc, words, "workers", 1, 64)? {
-        Some(count) => Workers::new(count as u16),
+    let workers = match workers_given(alloc, words)? {
+        Some(count) => Workers::new(count),
         None => None,
     };
-    let record = match words.get_str("record") {
-        Some(path) => Some(String::from_str(alloc, path)?),
-        None => None,
-    };
+    let record = path_given(alloc, words, "record")?;
     let lists = owned(alloc, paths)?;
     Ok(Some(RunWords {
         namespace,
@@ -67,59 +64,36 @@ pub fn run_command<'a>(alloc: Global) -> Result<Command<'a>, Error> {
     let command = Command::new(alloc, "run").about(
         "Does the commands of lists, and prints two lines for each",
     );
-    let command = with_namespace(alloc, command, "32768")?
-        .arg(workers(alloc))?
-        .arg(with_default(limit(alloc), "4194304"))?;
-    Ok(
-        command
-            .arg(record(alloc))?
-            .arg(check(alloc))?
-            .arg(json(alloc)?)?
-            .arg(lists(alloc))?,
-    )
-}
-
-fn workers<'a>(alloc: Global) -> Arg<'a> {
-    number_option(
+    let workers = number_option(
         alloc,
         "workers",
         "Number of threads that do the commands, 1 to 64 [default: the processors]",
+    );
+    let record = path_option(alloc, "record", "REC", "Where the record of the run goes");
+    let check = flag(
+        alloc,
+        "check",
+        "Checks what the lists expect, and ends with status 2 where that isn't met",
+    );
+    let json = flag(
+        alloc,
+        "json",
+        "Prints an object of JSON for each command and for the verdict, one a line, for programs",
     )
-}
-
-fn limit<'a>(alloc: Global) -> Arg<'a> {
-    number_option(alloc, "limit", "Most changes of a unit, 1 to 4194304")
-}
-
-fn record<'a>(alloc: Global) -> Arg<'a> {
-    Arg::new(alloc, "record")
-        .long("record")
-        .value_name("REC")
-        .help("Where the record of the run goes")
-}
-
-fn check<'a>(alloc: Global) -> Arg<'a> {
-    Arg::new(alloc, "check")
-        .long("check")
-        .action(ArgAction::SetTrue)
-        .help("Checks what the lists expect, and ends with status 2 where that isn't met")
-}
-
-fn json<'a>(alloc: Global) -> Result<Arg<'a>, AllocError> {
-    Arg::new(alloc, "json")
-        .long("json")
-        .action(ArgAction::SetTrue)
-        .help(
-            "Prints an object of JSON for each command and for the verdict, one a line, for programs",
-        )
-        .conflicts_with("check")
-}
-
-fn lists<'a>(alloc: Global) -> Arg<'a> {
-    Arg::new(alloc, "list")
-        .required(true)
-        .num_args(1..)
-        .action(ArgAction::Append)
-        .value_name("LIST")
-        .help("The command lists, host 1's first; one may be - for standard input")
+    .conflicts_with("check")?;
+    let lists = file_arguments(
+        alloc,
+        "list",
+        "LIST",
+        "The command lists, host 1's first; one may be - for standard input",
+    );
+    Ok(
+        with_namespace(alloc, command, "32768")?
+            .arg(workers)?
+            .arg(limit(alloc).default_value("4194304"))?
+            .arg(record)?
+            .arg(check)?
+            .arg(json)?
+            .arg(lists)?,
+    )
 }

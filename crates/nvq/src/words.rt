@@ -3,14 +3,17 @@ ghost use Rattle.nvq.specs.Words.{IsAsked};
 
 use crate::auditing_words::auditing_command;
 use crate::certifying_words::{CertifyWords, certify_command, read_certify};
+use crate::conversion_words::{
+    assemble_asked, assemble_command, list_asked, list_command, trace_asked, trace_command,
+};
 use crate::drawing_words::{DrawWords, draw_command, read_draw};
 use crate::explaining_words::{ExplainWords, explain_command, read_explain};
 use crate::generating_words::{GenerateWords, generate_command, read_generate};
 use crate::running_words::{RunWords, read_run, run_command};
-use clap::{Arg, ArgAction, ArgMatches, Command, Error};
+use clap::{ArgMatches, Command, Error};
 use nvm_front::{
-    AuditWords, VERSION, WitnessWords, WordFault, missing, number_option, read_audit, read_witness,
-    size_given, witness_command,
+    AuditWords, VERSION, WitnessWords, WordFault, missing, read_audit, read_witness,
+    witness_command,
 };
 use nvm_record::BlockSize;
 use std::alloc::Global;
@@ -85,49 +88,6 @@ fn asked_of(alloc: Global, matches: &ArgMatches<'_>) -> Result<Option<Asked>, Wo
     }
 }
 
-/// What `nvq assemble` is asked, or `None` where a value is missing.
-fn assemble_asked(alloc: Global, words: &ArgMatches<'_>) -> Result<Option<Asked>, WordFault>
-    ensures { IfOk result (λ asked. IfSome asked IsAsked) }
-{
-    let (Some(size), Some(list), Some(out)) = (
-        size_given(alloc, words)?,
-        words.get_str("list"),
-        words.get_str("out"),
-    ) else {
-        return Ok(None);
-    };
-    let list = String::from_str(alloc, list)?;
-    let out = String::from_str(alloc, out)?;
-    Ok(Some(Asked::Assemble { size, list, out }))
-}
-
-/// What `nvq trace` is asked, or `None` where a path is missing.
-fn trace_asked(alloc: Global, words: &ArgMatches<'_>) -> Result<Option<Asked>, WordFault>
-    ensures { IfOk result (λ asked. IfSome asked IsAsked) }
-{
-    let (Some(text), Some(out)) = (words.get_str("text"), words.get_str("out")) else {
-        return Ok(None);
-    };
-    let text = String::from_str(alloc, text)?;
-    let out = String::from_str(alloc, out)?;
-    Ok(Some(Asked::Trace { text, out }))
-}
-
-/// What `nvq list` is asked, or `None` where a value is missing.
-fn list_asked(alloc: Global, words: &ArgMatches<'_>) -> Result<Option<Asked>, WordFault>
-    ensures { IfOk result (λ asked. IfSome asked IsAsked) }
-{
-    let (Some(size), Some(file)) = (size_given(alloc, words)?, words.get_str("file")) else {
-        return Ok(None);
-    };
-    let file = String::from_str(alloc, file)?;
-    if words.get_flag("json") {
-        Ok(Some(Asked::ListObjects(file)))
-    } else {
-        Ok(Some(Asked::List { size, file }))
-    }
-}
-
 /// What `nvq run` is asked, or `None` where a value is missing.
 fn run_asked(alloc: Global, words: &ArgMatches<'_>) -> Result<Option<Asked>, WordFault>
     ensures { IfOk result (λ asked. IfSome asked IsAsked) }
@@ -144,6 +104,30 @@ fn generate_asked(alloc: Global, words: &ArgMatches<'_>) -> Result<Option<Asked>
 {
     match read_generate(alloc, words)? {
         Some(generate) => Ok(Some(Asked::Generate(generate))),
+        None => Ok(None),
+    }
+}
+
+/// What `nvq audit` is asked, or `None` where the path is missing.
+fn audit_asked(alloc: Global, words: &ArgMatches<'_>) -> Result<Option<Asked>, WordFault>
+    ensures { IfOk result (λ asked. IfSome asked IsAsked) }
+{
+    let Some(audit) = read_audit(alloc, words)? else {
+        return Ok(None);
+    };
+    if words.get_flag("all") {
+        Ok(Some(Asked::AuditAll(audit)))
+    } else {
+        Ok(Some(Asked::Audit(audit)))
+    }
+}
+
+/// What `nvq witness` is asked, or `None` where a path is missing.
+fn witness_asked(alloc: Global, words: &ArgMatches<'_>) -> Result<Option<Asked>, WordFault>
+    ensures { IfOk result (λ asked. IfSome asked IsAsked) }
+{
+    match read_witness(alloc, words)? {
+        Some(witness) => Ok(Some(Asked::Witness(witness))),
         None => Ok(None),
     }
 }
@@ -174,30 +158,6 @@ fn draw_asked(alloc: Global, words: &ArgMatches<'_>) -> Result<Option<Asked>, Wo
 {
     match read_draw(alloc, words)? {
         Some(draw) => Ok(Some(Asked::Draw(draw))),
-        None => Ok(None),
-    }
-}
-
-/// What `nvq audit` is asked, or `None` where the path is missing.
-fn audit_asked(alloc: Global, words: &ArgMatches<'_>) -> Result<Option<Asked>, WordFault>
-    ensures { IfOk result (λ asked. IfSome asked IsAsked) }
-{
-    let Some(audit) = read_audit(alloc, words)? else {
-        return Ok(None);
-    };
-    if words.get_flag("all") {
-        Ok(Some(Asked::AuditAll(audit)))
-    } else {
-        Ok(Some(Asked::Audit(audit)))
-    }
-}
-
-/// What `nvq witness` is asked, or `None` where a path is missing.
-fn witness_asked(alloc: Global, words: &ArgMatches<'_>) -> Result<Option<Asked>, WordFault>
-    ensures { IfOk result (λ asked. IfSome asked IsAsked) }
-{
-    match read_witness(alloc, words)? {
-        Some(witness) => Ok(Some(Asked::Witness(witness))),
         None => Ok(None),
     }
 }
@@ -247,66 +207,4 @@ fn with_judges<'a>(alloc: Global, program: Command<'a>) -> Result<Command<'a>, E
             .subcommand(explain)?
             .subcommand(draw)?,
     )
-}
-
-/// `nvq assemble`.
-fn assemble_command<'a>(alloc: Global) -> Result<Command<'a>, Error> {
-    let command = Command::new(alloc, "assemble").about("Makes a list into a host file");
-    let list = file(alloc, "list", "LIST", "The list, or - for standard input");
-    let out = file(
-        alloc,
-        "out",
-        "OUT",
-        "The host file, or - for standard output",
-    );
-    Ok(command.arg(block(alloc))?.arg(list)?.arg(out)?)
-}
-
-/// `nvq trace`.
-fn trace_command<'a>(alloc: Global) -> Result<Command<'a>, Error> {
-    let command = Command::new(alloc, "trace").about("Makes the text of a trace into its file");
-    let text = file(alloc, "text", "TEXT", "The text, or - for standard input");
-    let out = file(
-        alloc,
-        "out",
-        "OUT",
-        "The trace's file, or - for standard output",
-    );
-    Ok(command.arg(text)?.arg(out)?)
-}
-
-/// `nvq list`.
-fn list_command<'a>(alloc: Global) -> Result<Command<'a>, Error> {
-    let command = Command::new(alloc, "list").about(
-        "Lists the commands of a host file, a record, or a trace",
-    );
-    let json = Arg::new(alloc, "json")
-        .long("json")
-        .action(ArgAction::SetTrue)
-        .help("Prints a record as objects of JSON, one a line, for programs");
-    let file = file(
-        alloc,
-        "file",
-        "FILE",
-        "The host file, record or trace, or - for standard input",
-    );
-    Ok(command.arg(block(alloc))?.arg(json)?.arg(file)?)
-}
-
-/// The option that says how large a block is.
-pub fn block<'a>(alloc: Global) -> Arg<'a> {
-    number_option(
-        alloc,
-        "block",
-        "Size of a logical block in bytes, 512 or 4096",
-    )
-    .default_value("512")
-}
-
-/// A file that has to be named.
-pub fn file<'a>(alloc: Global, id: &'a str, name: &'a str, help: &'a str) -> Arg<'a> {
-    Arg::new(alloc, id)
-        .required(true)
-        .value_name(name)
-        .help(help)
 }

@@ -4,7 +4,7 @@ use Rattle.nvq.specs.Ran.{AreFilesOf, IsFileOf}
 use Rattle.nvq.specs.RunFaults.{IsLineFault, IsListsFault}
 use Rattle.nvq.specs.declared.fault.Fault.{Fault}
 use Rattle.nvq.proofs.HostFiles.{one_more, first_fault}
-use Rattle.nvq.proofs.running.files_of.Goals as goal
+use Rattle.nvq.proofs.host_files.files_of.Goals as goal
 
 pub loop-list-preserved : goal.loop-list-preserved
 loop-list-preserved c =

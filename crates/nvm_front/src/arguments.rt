@@ -1,0 +1,46 @@
+//! The kinds of arguments that commands take beside numbers.
+use clap::{Arg, ArgAction, ArgMatches};
+use std::alloc::{AllocError, Global};
+
+/// An option without a value.
+pub fn flag<'a>(alloc: Global, name: &'a str, help: &'a str) -> Arg<'a> {
+    Arg::new(alloc, name)
+        .long(name)
+        .action(ArgAction::SetTrue)
+        .help(help)
+}
+
+/// An option that names a file. Help calls the file `value`.
+pub fn path_option<'a>(alloc: Global, name: &'a str, value: &'a str, help: &'a str) -> Arg<'a> {
+    Arg::new(alloc, name)
+        .long(name)
+        .value_name(value)
+        .help(help)
+}
+
+/// A file that has to be named.
+pub fn file_argument<'a>(alloc: Global, id: &'a str, value: &'a str, help: &'a str) -> Arg<'a> {
+    Arg::new(alloc, id)
+        .required(true)
+        .value_name(value)
+        .help(help)
+}
+
+/// Files of which at least one has to be named.
+pub fn file_arguments<'a>(alloc: Global, id: &'a str, value: &'a str, help: &'a str) -> Arg<'a> {
+    file_argument(alloc, id, value, help)
+        .num_args(1..)
+        .action(ArgAction::Append)
+}
+
+/// The path that an argument names, or `None` where it isn't given.
+pub fn path_given(
+    alloc: Global,
+    words: &ArgMatches<'_>,
+    id: &str,
+) -> Result<Option<String>, AllocError> {
+    match words.get_str(id) {
+        Some(path) => Ok(Some(String::from_str(alloc, path)?)),
+        None => Ok(None),
+    }
+}
