@@ -1,3 +1,4 @@
+pub mod ItemLoops
 pub mod Numbers
 pub mod Pushed
 pub mod FactSpellings

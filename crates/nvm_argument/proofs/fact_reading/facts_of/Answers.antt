@@ -1,7 +1,7 @@
 use Rattle.std.proofs.lemmas.Result.{err_from_is_err_and}
 use Rattle.nvm_argument.specs.FactReading.{fact_at}
 use Rattle.nvm_file.specs.Fields.{items_at}
-use Rattle.nvm_file.proofs.ItemLoops.{begins, goes_on, ends, is_done}
+use Rattle.nvm_argument.proofs.ItemLoops.{begins, goes_on, ends, is_done}
 use Rattle.nvm_argument.proofs.fact_reading.facts_of.Goals as goal
 
 pub loop-init : goal.loop-init

@@ -1,5 +1,5 @@
 use Rattle.nvm_file.specs.Fields.{items_at}
-use Rattle.nvm_file.proofs.ItemLoops.{GoesOn}
+use Rattle.nvm_argument.proofs.ItemLoops.{GoesOn}
 use Rattle.nvm_argument.specs.FactReading.{fact_at}
 use Rattle.nvm_argument.proofs.fact_reading.facts_of.Given as goal
 
