@@ -1,4 +1,4 @@
-ghost use Rattle.std.specs.Prelude.{◌≡◌, OnOk};
+ghost use Rattle.std.specs.Prelude.{OnOk};
 ghost use Rattle.nvm_store.specs.History.{IsLawfulHistory};
 ghost use Rattle.nvm_store.specs.Place.{place_at};
 
@@ -9,15 +9,22 @@ use nvm_store::{ActRef, History, Look, Place, UnitBlocks, judge_look, replay};
 use std::alloc::Global;
 use std::test::Fail;
 
-/// The place of the 4 blocks from LBA 8.
-fn place(size: BlockSize) -> Place
-    ensures { result ≡ place_at 8 4 size }
+/// Adds the act on the 4 blocks from LBA 8.
+fn push_act(
+    alloc: Global,
+    size: BlockSize,
+    history: &mut History,
+    act: ActRef<'_>,
+) -> Result<(), Fail>
+    requires { IsLawfulHistory (place_at 8 4 size) history.old.items }
+    ensures { OnOk result (IsLawfulHistory (place_at 8 4 size) history.new.items) }
 {
-    Place {
+    let place = Place {
         first: 8,
         blocks: 4,
         size,
-    }
+    };
+    push(alloc, place, history, act)
 }
 
 /// Adds a Write of two blocks of this byte.
@@ -37,7 +44,7 @@ fn push_write(
         blocks: 2,
         payload: payload.lend(),
     };
-    push(alloc, place(size), history, write)
+    push_act(alloc, size, history, write)
 }
 
 /// Adds the Deallocate of the range on all 4 blocks.
@@ -56,7 +63,7 @@ fn push_deallocate(
         blocks: 4,
         ranges: ranges.lend(),
     };
-    push(alloc, place(size), history, deallocate)
+    push_act(alloc, size, history, deallocate)
 }
 
 /// What is told of a comparison of the block at the LBA with this byte, if the unit has the LBA.
@@ -119,12 +126,12 @@ fn replay_does_each_kind_of_act(rt: HostRuntime) -> Result<(), Fail> {
         first: 9,
         blocks: 1,
     };
-    push(alloc, place(size), &mut history, zeroes)?;
+    push_act(alloc, size, &mut history, zeroes)?;
     let mark = ActRef::Uncorrectable {
         first: 10,
         blocks: 1,
     };
-    push(alloc, place(size), &mut history, mark)?;
+    push_act(alloc, size, &mut history, mark)?;
     let compare = Payload::copy_of(alloc, &block(0))?;
     let write = Payload::copy_of(alloc, &block(2))?;
     let pair = ActRef::Pair {
@@ -133,7 +140,7 @@ fn replay_does_each_kind_of_act(rt: HostRuntime) -> Result<(), Fail> {
         compare: compare.lend(),
         write: write.lend(),
     };
-    push(alloc, place(size), &mut history, pair)?;
+    push_act(alloc, size, &mut history, pair)?;
     let unit = replay(alloc, 8, 4, size, &history)?;
     assert!(rt; has(&unit, 8, 1) && has(&unit, 9, 0) && has(&unit, 11, 2));
     assert_eq!(rt;
