@@ -188,7 +188,7 @@ class Test:
     before = {}
 
     def has_threads(self):
-        return "::threads::" in self.name
+        return "threads" in self.name.split("::")
 
     def thread_growths(self):
         return 0
