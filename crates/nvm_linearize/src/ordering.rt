@@ -72,6 +72,9 @@ pub fn linearize(
         return Ok(Ordering::Stuck(Stuck::new(unit.unit, unit.steps.len(), 0, around)));
     }
     let times = Times::new(alloc, unit, &board)?;
+    if let Some(around) = times.first_crossed(unit.steps.len()) {
+        return Ok(Ordering::Stuck(Stuck::new(unit.unit, unit.steps.len(), 0, around)));
+    }
     board.set_zones(alloc, &times.zones(alloc, &board)?)?;
     let timed_steps = by_beginning(alloc, unit, &times)?;
     let mut search = Search::new(alloc, unit.unit, &timed_steps, board, orders, effort)?;

@@ -92,6 +92,16 @@ impl Times {
         Ok(times)
     }
 
+    /// The first step that has to be done before it can be: its times have crossed, so there is no order.
+    pub fn first_crossed(&self, count: usize) -> Option<u32> {
+        for place in 0..to_u32(count) {
+            if self.from.at(place) > self.due.at(place) {
+                return Some(place);
+            }
+        }
+        None
+    }
+
     /// The step that alone puts the version, if there is such a one.
     fn writer(&self, version: u32) -> Option<u32> {
         let writer = self.sole.at(version);

@@ -16,8 +16,6 @@ mod replies;
 mod running;
 mod space;
 mod space_fault;
-#[cfg(test)]
-mod tests;
 mod under_way;
 
 pub use job_done::JobDone;
