@@ -1,0 +1,71 @@
+//! The program `nvm_rows`: makes the calls that standard input has, one a line, and prints what each answers.
+//!
+//! A line has a layer's word and then the call's. Empty lines and those that begin with `#` are printed as they stand.
+#![tactic(auto)]
+
+mod fault;
+mod geometry;
+mod words;
+
+use crate::fault::RowFault;
+use std::process::ExitCode;
+use std::sync::Wait;
+
+/// What rows leave to those after them.
+#[derive(Drop)]
+struct Grounds {}
+
+fn main(rt: HostRuntime) -> ExitCode {
+    let mut grounds = Grounds {};
+    let mut line = 0u64;
+    for row in rt.lines(rt.alloc()) {
+        line = line.saturating_add(1);
+        let Ok(row) = row else {
+            return ended(&rt, line, RowFault::NoMemory);
+        };
+        if let Err(fault) = printed(&rt, &mut grounds, row.as_str()) {
+            return ended(&rt, line, fault);
+        }
+    }
+    ExitCode::from(0)
+}
+
+/// Says of which line there is no answer, and why.
+fn ended<R: Eprint>(rt: &R, line: u64, fault: RowFault) -> ExitCode {
+    let why = match fault {
+        RowFault::Unread => "is no row",
+        RowFault::NoMemory => "has no memory",
+        RowFault::Unwritten => "can't be answered",
+    };
+    let _ = eprintln!(rt; "line {line} {why}");
+    ExitCode::from(1)
+}
+
+/// Prints a heading, or what a row's call answers.
+fn printed<R: AllocGlobal + Print + Wait>(
+    rt: &R,
+    grounds: &mut Grounds,
+    row: &str,
+) -> Result<(), RowFault> {
+    if row.is_empty() || row.starts_with('#') {
+        return rt.println(row).map_err(|_| RowFault::Unwritten);
+    }
+    let words: Vec<&str> = row.split_whitespace().collect(rt.alloc())?;
+    let answer = answer(rt, grounds, words.as_slice())?;
+    rt.println(answer.as_str()).map_err(|_| RowFault::Unwritten)
+}
+
+/// What the call of these words answers.
+fn answer<R: AllocGlobal + Wait>(
+    rt: &R,
+    _grounds: &mut Grounds,
+    words: &[&str],
+) -> Result<String, RowFault> {
+    let Some((layer, call)) = words.split_first() else {
+        return Err(RowFault::Unread);
+    };
+    match *layer {
+        "geometry" => geometry::answer(rt.alloc(), call),
+        _ => Err(RowFault::Unread),
+    }
+}
