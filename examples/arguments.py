@@ -21,8 +21,6 @@ PAIR_TEXT = """trace nsze 32 block 512 nabsn 7 nabo 0 nawun 7 nacwu 3 first 0 st
 21 30 1 3 read 7 2 = 0/00 1024*00
 """
 PAIR = bytes.fromhex("4e564131 0000 0200000000000000 05 01000000 00000000 0700000000000000 01 00000000 01000000")
-# Where its fields begin behind the name, and its end.
-FIELDS = (4, 6, 14, 15, 19, 23, 31, 32, 36, 40)
 NO_ARGUMENT = "is no argument, which begins with NVA1"
 
 
@@ -57,6 +55,101 @@ STALE = [
     (argument(0, SOURCE, FIRST, OVER, SECOND), "unrefuted FactWrong fact 0"),
     (argument(2, SOURCE, FIRST, OVER, SECOND), "unrefuted NothingRefuted fact -"),
     (argument(1), "unrefuted NothingRefuted fact -"),
+]
+
+
+STALE_TOLD = """contradiction unit 1 commands 3
+job 0 1 2 1 1 write 9 1 512*41 = 0/00
+job 1 3 4 1 1 write 9 1 512*42 = 0/00
+job 2 5 6 1 1 read 9 1 = 0/00 512*41
+job 1 stands before job 2: it had ended at 4, and job 2 began at 5
+job 1 stands before job 0: job 1 put something in LBA 9, stands before job 2, and job 2 found job 0's data there
+job 0 stands before job 1: it had ended at 2, and job 1 began at 3
+so job 0 stands before itself
+"""
+
+
+def time(earlier, later):
+    return fact(1, earlier, later)
+
+
+def source(writer, reader):
+    return fact(2, writer, reader, lba=0)
+
+
+def over(reader, writer, put):
+    return fact(3, reader, writer, lba=0, last=put)
+
+
+def first(reader, writer):
+    return fact(5, reader, writer, lba=0)
+
+
+def nobody(reader):
+    return fact(6, reader, lba=0)
+
+
+EXCUSED_HEAD = "trace nsze 16 block 512 nabsn 0 nabo 0 nawun 7 nacwu 3 first 0 start zeroes reads whole\n"
+# Commands on LBA 0. A Write, and then a Read of zeroes.
+LOST = "1 2 1 1 write 0 1 41 = 0/00\n3 4 1 1 read 0 1 = 0/00 00\n"
+# A stale Read, and after it a Write of the bytes that it found.
+WRITTEN_AGAIN = """1 2 1 1 write 0 1 41 = 0/00
+3 4 1 1 write 0 1 42 = 0/00
+5 6 1 1 read 0 1 = 0/00 41
+7 8 1 1 write 0 1 41 = 0/00
+"""
+# Two Writes of the same bytes, both overwritten before a Read that found them.
+OVERWRITTEN = """1 2 1 1 write 0 1 41 = 0/00
+1 3 2 1 write 0 1 41 = 0/00
+4 5 1 1 write 0 1 42 = 0/00
+6 7 1 1 read 0 1 = 0/00 41
+"""
+# Zeroes that a Read found after a Write of other bytes, and a Read after it that found those again.
+ZEROED = """1 2 1 1 write 0 1 41 = 0/00
+3 20 2 1 zeroes 0 1 = 0/00
+4 5 1 1 read 0 1 = 0/00 00
+6 7 1 1 read 0 1 = 0/00 41
+"""
+# Zeroes that were overwritten, and a Read after that which found zeroes.
+ZEROED_BEFORE = """1 2 1 1 zeroes 0 1 = 0/00
+3 4 1 1 write 0 1 41 = 0/00
+5 6 1 1 read 0 1 = 0/00 00
+"""
+# Commands, the facts of an argument about them, and what it comes to. Only an order that is noted already takes a command away from those that can
+# have put what was found.
+EXCUSED = [
+    (LOST, [time(0, 1), first(1, 0)], "refuted unit 0 facts 2"),
+    (WRITTEN_AGAIN, [time(2, 3), source(0, 2), time(0, 1), over(2, 1, 0), time(1, 2)], "refuted unit 0 facts 5"),
+    (WRITTEN_AGAIN, [source(0, 2)], "unrefuted FactWrong fact 0"),
+    (OVERWRITTEN, [time(0, 2), time(1, 2), time(2, 3), nobody(3)], "refuted unit 0 facts 4"),
+    (OVERWRITTEN, [time(0, 2), time(2, 3), nobody(3)], "unrefuted FactWrong fact 2"),
+    (OVERWRITTEN, [time(0, 2), time(1, 2), nobody(3)], "unrefuted FactWrong fact 2"),
+    (ZEROED, [time(0, 2), source(1, 2), time(2, 3), source(0, 3), time(0, 1), over(3, 1, 0)], "refuted unit 0 facts 6"),
+    (ZEROED, [source(1, 2)], "unrefuted FactWrong fact 0"),
+    (ZEROED_BEFORE, [time(0, 1), time(1, 2), first(2, 1)], "refuted unit 0 facts 3"),
+    (ZEROED_BEFORE, [time(0, 1), first(2, 1)], "unrefuted FactWrong fact 1"),
+]
+# A fact of each kind, about unit 258, where no two numbers are the same; where its fields begin behind the name, and its end.
+EACH = argument(
+    258,
+    fact(1, 1, 0x0403_0202),
+    fact(2, 3, 4, lba=0x0807_0605_0403_0205),
+    fact(3, 6, 7, lba=8, last=9),
+    fact(4, 10, 11, lba=12, last=13),
+    fact(5, 14, 15, lba=16),
+    fact(6, 17, lba=2**64 - 1),
+)
+FIELDS = (4, 6, 14, 15, 19, 23, 24, 28, 32, 40, 41, 45, 49, 57, 61, 62, 66, 70, 78, 82, 83, 87, 91, 99, 100, 104, 112)
+# What the file is refused for where other bytes stand at an offset: kinds that there are not, kinds of facts of other lengths, and other numbers of
+# facts. One of very many takes no memory.
+NO_FACTS = [
+    *((99, bytes([kind]), "bad value at 99") for kind in (0, 7, 255)),
+    (99, b"\2", "truncated at 108"),
+    (99, b"\1", "trailing at 108"),
+    (6, b"\5", "trailing at 99"),
+    (6, b"\7", "truncated at 112"),
+    (6, (2**32).to_bytes(8, "little"), "truncated at 112"),
+    (6, b"\xff" * 8, "truncated at 112"),
 ]
 
 
@@ -99,6 +192,11 @@ def arguments_weighed(run):
     for file, line in STALE:
         run.keep("stale.nva", file)
         run.expect(["nvmu", "refute", "stale.nvt", "stale.nva"], 0 if line.startswith("refuted") else 2, out=f"{line}\n")
+    run.expect(["nvq", "certify", "--argument", "found.nva", "stale.nvt"], 2, out=STALE_TOLD, files={"found.nva": argument(1, SECOND, UNDER, FIRST)})
+    for lines, facts, line in EXCUSED:
+        trace_of(run, "excused.nvt", f"{EXCUSED_HEAD}{lines}")
+        run.keep("excused.nva", argument(0, *facts))
+        run.expect(["nvmu", "refute", "excused.nvt", "excused.nva"], 0 if line.startswith("refuted") else 2, out=f"{line}\n")
     # Of a trace of which nothing is known at first no argument is taken.
     trace_of(run, "unknown.nvt", STALE_TEXT.replace("start zeroes", "start unknown"))
     run.keep("stale.nva", STALE[0][0])
@@ -110,18 +208,16 @@ def arguments_changed(run):
     trace_of(run, "pair.nvt", PAIR_TEXT)
     run.expect(["nvq", "certify", "--json", "--argument", "pair.nva", "pair.nvt"], 2, out=run.SOME, files={"pair.nva": PAIR})
     run.expect(["nvmu", "refute", "pair.nvt", "pair.nva"], out="refuted unit 0 facts 2\n")
-    for length in range(len(PAIR)):
-        run.keep("it", PAIR[:length])
+    for length in range(len(EACH)):
+        run.keep("it", EACH[:length])
         fault = f"truncated at {max(at for at in FIELDS if at <= length)}" if length >= 4 else "bad name"
         run.expect(["nvmu", "refute", "pair.nvt", "it"], 1, err=told(f"nvmu: argument: {fault}", f"it {NO_ARGUMENT}" if length < 4 else ""))
-    run.keep("it", PAIR + b"0")
-    run.expect(["nvmu", "refute", "pair.nvt", "it"], 1, err=f"nvmu: argument: trailing at {len(PAIR)}\n")
-    # A claim of 2^64 - 1 facts takes no memory.
-    run.keep("it", PAIR[:6] + b"\xff" * 8 + PAIR[14:])
-    run.expect(["nvmu", "refute", "pair.nvt", "it"], 1, err=f"nvmu: argument: truncated at {len(PAIR)}\n")
-    for kind in (0, 7, 255):
-        run.keep("it", PAIR[:31] + bytes([kind]) + PAIR[32:])
-        run.expect(["nvmu", "refute", "pair.nvt", "it"], 1, err="nvmu: argument: bad value at 31\n")
+    # The whole file can be read, and the trace has no such unit.
+    run.keep("it", EACH)
+    run.expect(["nvmu", "refute", "pair.nvt", "it"], 2, out="unrefuted NothingRefuted fact -\n")
+    for at, value, fault in [*NO_FACTS, (len(EACH), b"0", f"trailing at {len(EACH)}")]:
+        run.keep("it", EACH[:at] + value + EACH[at + len(value) :])
+        run.expect(["nvmu", "refute", "pair.nvt", "it"], 1, err=f"nvmu: argument: {fault}\n")
     for at in range(len(PAIR)):
         for mask in (0x01, 0x80, 0xFF):
             run.keep("it", PAIR[:at] + bytes([PAIR[at] ^ mask]) + PAIR[at + 1 :])

@@ -24,6 +24,7 @@ sys.path[:0] = [HERE, os.path.join(TOP, "sweep")]
 from all_orders import is_explained
 from devices import BUGS, CLEARED, STRICT, TORN, crossing, left, trace_of
 from host_files import compare, dataset, pair, read, uncorrectable, write, zeroes
+from model import READ, WRITE, Namespace
 from simulated import PLANTED, device_trace, small_trace
 from trace_files import seen_text, spelled, text_of
 from verdict_objects import text_of as text_of_object
@@ -72,8 +73,165 @@ def written(ended, *found, **more):
     return trace_of(sent(1, ended, write(0, 0x41), **more), *reads)
 
 
+def of_a_block(*jobs):
+    """A trace of Writes and Reads of one block: of each when it began and when it ended, what it is, and its byte."""
+    return trace_of(*(sent(began, ended, write(0, byte)) if asked == WRITE else sent(began, ended, read(0, 1), found=(byte,)) for began, ended, asked, byte in jobs))
+
+
+def explained_by(jobs, steps, preparations=0):
+    return f"{EXPLAINED} jobs {jobs} units 4 steps {steps} excused 0 preparations {preparations}\n"
+
+
+# A Write that never ended, over two units; one of three blocks, more than the standard keeps whole; and two Reads, the second of which found the first
+# one's data after another Write.
+TORN_AND_STALE = replace(
+    trace_of(
+        sent(1, None, zeroes(7, 2)),
+        sent(2, 9, write(0, 0x41, 0x41, 0x41)),
+        sent(3, 8, read(0, 2), found=(0x41, 0), host=2),
+        sent(10, 11, write(0, 0x42), host=2),
+        sent(12, 13, read(0, 1), found=(0x41,), host=3),
+    ),
+    namespace=Namespace(nabsn=7, nawun=1, nacwu=1),
+    by_blocks=True,
+)
+# A Read that found in the first of two units what began to be written when it had ended.
+FORESEEN = trace_of(sent(3, 4, read(7, 1), found=(0x41,)), sent(10, None, write(7, 0x41, 0x41)))
+
+
 # Traces, words of the command line, and how the verdict begins. Why stands above.
 BY_HAND = [
+    # Each command that is cut is named with the block or the unit of its piece.
+    (
+        TORN_AND_STALE,
+        (),
+        f"""{contradiction(3)}job 1 2 9 1 1 write 0 3 1536*41 = 0/00
+job 3 10 11 2 1 write 0 1 512*42 = 0/00
+job 4 12 13 3 1 read 0 1 = 0/00 512*41
+job 3 stands before job 4 block 0: it had ended at 11, and job 4 block 0 began at 12
+job 3 stands before job 1 block 0: job 3 put something in LBA 0, stands before job 4 block 0, and job 4 block 0 found job 1 block 0's data there
+job 1 block 0 stands before job 3: it had ended at 9, and job 3 began at 10
+so job 1 block 0 stands before itself
+""",
+    ),
+    (
+        TORN_AND_STALE,
+        (STRICT,),
+        f"""{contradiction(3)}job 1 2 9 1 1 write 0 3 1536*41 = 0/00
+job 3 10 11 2 1 write 0 1 512*42 = 0/00
+job 4 12 13 3 1 read 0 1 = 0/00 512*41
+job 3 stands before job 4: it had ended at 11, and job 4 began at 12
+job 3 stands before job 1: job 3 put something in LBA 0, stands before job 4, and job 4 found job 1's data there
+job 1 stands before job 3: it had ended at 9, and job 3 began at 10
+so job 1 stands before itself
+""",
+    ),
+    (
+        FORESEEN,
+        (STRICT,),
+        f"""{contradiction(2)}job 0 3 4 1 1 read 7 1 = 0/00 512*41
+job 1 10 - 1 1 write 7 2 1024*41
+job 1 in unit 0 stands before job 0: only job 1 in unit 0 can have put what job 0 found in LBA 7
+job 0 stands before job 1 in unit 0: it had ended at 4, and job 1 in unit 0 began at 10
+so job 0 stands before itself
+""",
+    ),
+    # A Read found the zeroes that were there at first when two Writes had ended, and the next Read found what the second put.
+    (of_a_block((1, 2, WRITE, 1), (3, 4, WRITE, 2), (5, 6, READ, 0), (7, 8, READ, 2)), (), contradiction(2)),
+    # What is known of the order of two Writes that overlap is what Reads found.
+    (of_a_block((1, 9, WRITE, 1), (1, 9, WRITE, 2), (2, 3, READ, 1), (4, 5, READ, 2), (6, 7, READ, 1)), (), CONTRADICTION),
+    (of_a_block((1, 2, WRITE, 1), (3, 9, WRITE, 2), (4, 5, READ, 2), (6, 7, READ, 1)), (), CONTRADICTION),
+    # So it is where the Reads have a hundred Writes of another block between them.
+    (
+        trace_of(
+            *of_a_block((1, 2, WRITE, 1), (3, 1000, WRITE, 2), (4, 5, READ, 2)).jobs,
+            *(sent(time, time, write(1, time)) for time in range(10, 110)),
+            *of_a_block((200, 201, READ, 1)).jobs,
+        ),
+        (),
+        CONTRADICTION,
+    ),
+    # Of two Writes of the bytes that the Read found one was overwritten before it began, and the other began after it had ended.
+    (of_a_block((1, 2, WRITE, 1), (3, 4, WRITE, 2), (5, 6, READ, 1), (7, 8, WRITE, 1)), (), CONTRADICTION),
+    # That the first Write's bytes were overwritten before the second Read is known only by what the first Read found. So they were the third
+    # Write's, and yet the last Read found the second one's.
+    (
+        of_a_block((1, 2, WRITE, 1), (3, 20, WRITE, 2), (4, 5, READ, 2), (6, 30, WRITE, 1), (7, 8, READ, 1), (9, 10, READ, 2)),
+        (),
+        CONTRADICTION,
+    ),
+    # The first zeroes were overwritten before the first Read, so what it found are the Deallocate's, which the second Read overlooked.
+    (
+        trace_of(sent(1, 2, write(0, 1)), sent(3, 20, dataset((0, 1))), *of_a_block((4, 5, READ, 0), (6, 7, READ, 1)).jobs),
+        (),
+        CONTRADICTION,
+    ),
+    # Two hosts' pairs both held on what a Write left, and a Write of four blocks is found torn.
+    (
+        trace_of(
+            sent(1, 2, write(0, 1)),
+            sent(3, 9, *pair(compare(0, 1), write(0, 2))),
+            sent(3, 9, *pair(compare(0, 1), write(0, 3)), host=2),
+        ),
+        (),
+        CONTRADICTION,
+    ),
+    (
+        trace_of(sent(1, 9, write(4, 1, 2, 3, 4)), sent(1, 9, write(4, 5, 6, 7, 8)), sent(1, 9, read(4, 4), found=(1, 2, 7, 8))),
+        (),
+        CONTRADICTION,
+    ),
+    # What overlaps is put into an order that explains all that was found, also over two units.
+    (
+        trace_of(
+            sent(1, 10, write(0, 1, 2)),
+            sent(2, 10, write(0, 3, 4)),
+            sent(3, 10, read(0, 2), found=(1, 2)),
+            sent(4, 10, read(0, 2), found=(3, 4)),
+            sent(5, 10, read(0, 2), found=(0, 0)),
+            sent(6, 11, *pair(compare(0, 1), write(0, 5))),
+        ),
+        (),
+        explained_by(6, 6),
+    ),
+    (
+        trace_of(
+            sent(1, 10, write(6, 0x41, 0x42, 0x43)),
+            sent(2, 9, write(7, 0x51)),
+            sent(3, 8, read(6, 2), found=(0x41, 0x42)),
+            sent(3, 12, read(6, 3), found=(0x41, 0x51, 0x43)),
+        ),
+        (),
+        explained_by(4, 7),
+    ),
+    # No step is taken back where what was found tells the order.
+    (
+        trace_of(
+            sent(1, 12, write(1, 0x41)),
+            sent(4, 8, read(0, 2), found=(0, 0), host=2),
+            sent(11, 18, write(1, 0x44), host=3),
+            sent(11, 20, write(0, 0x42, 0x43), host=4),
+            sent(17, 19, read(0, 2), found=(0x42, 0x44), host=2),
+        ),
+        ("--effort", "0"),
+        explained_by(5, 5),
+    ),
+    # What failed has its moment, too.
+    (
+        trace_of(
+            sent(1, 10, uncorrectable(0, 1)),
+            sent(1, 10, write(0, 0x41), host=2),
+            sent(1, 10, compare(0, 0x41), statuses=(MARKED,), host=3),
+            sent(11, 12, read(0, 1), found=(0x41,), host=3),
+            sent(13, 14, uncorrectable(7, 1)),
+            sent(15, 16, read(7, 2), statuses=(MARKED,), host=2),
+            sent(17, 18, write(7, 0x42)),
+            sent(19, 20, uncorrectable(8, 1)),
+            sent(21, 22, read(7, 2), statuses=(MARKED,), host=2),
+        ),
+        (),
+        explained_by(9, 10),
+    ),
     *((BUGS[name][0], (), UNKNOWN if count is None else contradiction(count)) for name, count in BUGS_SHOWN_BY.items()),
     # Nothing was done, and one Read found the zeroes that were there.
     (trace_of(), (), EXPLAINED),
@@ -113,7 +271,7 @@ BY_HAND = [
     (trace_of(sent(1, 3, write(0, 0x41)), sent(3, 4, compare(0, 0x41), statuses=(DIFFERS,))), (), EXPLAINED),
     # A Compare over two units fails in the one or in the other.
     (trace_of(sent(1, 2, write(8, 0x41)), sent(3, 4, compare(7, 0, 0), statuses=(DIFFERS,))), (), PERHAPS),
-    (trace_of(sent(1, 2, uncorrectable(8, 1)), sent(3, 4, read(7, 2), statuses=(MARKED,))), (), PERHAPS),
+    (trace_of(sent(1, 2, uncorrectable(8, 1)), sent(3, 4, read(7, 2), statuses=(MARKED,))), (), explained_by(2, 3)),
     (trace_of(sent(1, 2, read(7, 2), statuses=(MARKED,))), (), UNKNOWN),
     # Two Writes over two units in opposite orders: each unit keeps its own, and a record of it wants two workers.
     (
@@ -129,6 +287,7 @@ BY_HAND = [
     # What was there before is what a Read found, where it isn't known. It is one thing for all Reads, and nothing that is put later.
     (trace_of(sent(1, 2, read(0, 2), found=(0x41, 0x42)), sent(1, 2, read(0, 1), found=(0x41,)), unknown=True), (), EXPLAINED),
     (trace_of(sent(1, 2, read(0, 1), found=(0x41,)), sent(3, 4, read(0, 1), found=(0x42,)), unknown=True), (), UNKNOWN),
+    (trace_of(sent(1, 2, read(9, 2), found=(0x77, 0)), sent(3, 4, write(9, 0x78)), sent(5, 6, read(9, 1), found=(0x78,)), unknown=True), (), explained_by(3, 4, 1)),
     (trace_of(sent(1, 2, compare(0, 0x41), statuses=(DIFFERS,)), sent(3, 4, compare(0, 0), statuses=(DIFFERS,)), unknown=True), (), PERHAPS),
     # What a check refuses does nothing, and its success is a fault that no argument shows.
     (trace_of(sent(1, 2, read(40, 1), statuses=((0, 0x80),))), (), EXPLAINED),
@@ -185,7 +344,7 @@ def certified(folder, trace, words=()):
     with open(os.path.join(folder, kept), "wb") as file:
         file.write(spelled(trace))
     status, text = answer(folder, "nvq", "certify", *words, "--record", record, "--argument", argument, kept)
-    verdict = text.split()[0]
+    verdict, judging = text.split()[0], [it for it in words if it == STRICT]
     hold("status", status, STATUSES[verdict])
     hold("a record", os.path.exists(os.path.join(folder, record)), verdict == EXPLAINED)
     hold("an argument", os.path.exists(os.path.join(folder, argument)), verdict == CONTRADICTION)
@@ -193,7 +352,7 @@ def certified(folder, trace, words=()):
     hold("the object's status and text", (status, text_of_object(told)), (STATUSES[verdict], text))
     if verdict == EXPLAINED:
         hold("explained by some order", is_explained(trace, STRICT in words), True)
-        hold("witness", answer(folder, "nvmu", "witness", *words, kept, record), (0, text))
+        hold("witness", answer(folder, "nvmu", "witness", *judging, kept, record), (0, text))
         os.remove(os.path.join(folder, record))
         held_to_numbers(trace, text)
     elif verdict == CONTRADICTION:
@@ -202,7 +361,7 @@ def certified(folder, trace, words=()):
         lines = text.splitlines()
         facts = len(lines) - 1 - int(lines[0].split()[4]) - lines[-1].startswith("so ")
         line = f"refuted unit {lines[0].split()[2]} facts {facts}\n"
-        hold("refute", answer(folder, "nvmu", "refute", *words, kept, argument), (0, line))
+        hold("refute", answer(folder, "nvmu", "refute", *judging, kept, argument), (0, line))
         os.remove(os.path.join(folder, argument))
     return text
 

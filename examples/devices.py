@@ -157,6 +157,18 @@ UNITS = [
     (left(0, 0), (0, 1, 2, 3, 4, 5), {}, (), "explained jobs 5 units 4 steps 6 excused 1 preparations 0"),
     (left(0x41, 0), (0, 1, 2, 3, 4, 5), {}, (), unexplained("ReplyDiffers", 4)),
     (left(0x41, 0), (0, 1, 4, 2, 3, 5), {}, (), "explained jobs 5 units 4 steps 6 excused 1 preparations 0"),
+    # Its ranges may overlap, be empty, and lie in either unit.
+    (
+        trace_of(
+            *CLEARED[:2],
+            sent(5, None, dataset((8, 2), (3, 0), (7, 2))),
+            sent(21, 22, read(7, 2), found=(0x41, 0)),
+        ),
+        (0, 1, 2, 3, 4),
+        {2: -1},
+        (),
+        "explained jobs 4 units 4 steps 5 excused 1 preparations 0",
+    ),
     # So is a Write, strictly. By the standard each of its blocks may be done or not.
     (crossing(0x41, 0), (0, 1, 2, 3), {1: -1}, (STRICT,), "explained jobs 3 units 4 steps 3 excused 1 preparations 0"),
     (crossing(0, 0x41), (0, 1, 2, 3), {0: -1}, (STRICT,), "explained jobs 3 units 4 steps 3 excused 1 preparations 0"),
@@ -164,6 +176,14 @@ UNITS = [
     (crossing(0, 0x41), (0, 1, 2, 3), {0: -1}, (), "explained jobs 3 units 4 steps 3 excused 1 preparations 0"),
     (crossing(0x41, 0), (0, 1, 2, 3), {1: -1}, (), "explained jobs 3 units 4 steps 3 excused 1 preparations 0"),
     (crossing(0x41, 0, ended=2), (0, 2, 3, 1), {}, (), unexplained("TimeBack", 1, 1, 0)),
+    # One of more blocks than the standard keeps whole is done in any of its blocks.
+    (
+        Trace(Namespace(nabsn=7, nawun=1, nacwu=1), (sent(10, None, write(0, 0x41, 0x41, 0x41)), sent(20, 25, read(0, 3), found=(0x41, 0, 0)))),
+        (0, 1, 2, 3),
+        {1: -1, 2: -1},
+        (),
+        "explained jobs 2 units 4 steps 2 excused 1 preparations 0",
+    ),
     # A Read over two units finds each at a moment of its own, and one by blocks each block.
     (
         trace_of(sent(1, 9, write(7, 0x41)), sent(1, 9, write(8, 0x41)), sent(2, 8, read(7, 2), found=(0x41, 0))),
@@ -193,10 +213,36 @@ UNITS = [
 ]
 
 
+# What each status says of a Write: that it was done, that nothing was written, or neither. Those of the last line are Data Transfer Error, Command Abort
+# Requested, Namespace Not Ready, Write Fault, one of a vendor, and one of another type that has the number of a refusal.
+DONE, NOTHING, OPEN = "done", "nothing", "open"
+OF_WRITES = {
+    DONE: (SUCCESS,),
+    NOTHING: BEFORE,
+    OPEN: ((0, 6), MARKED, DIFFERS, (0, 4), (0, 7), (0, 0x82), (2, 0x80), (7, 0xFF), (1, 2)),
+}
+# What each two say of a pair: also that the comparison failed, and what can't be, since no step ends so here, or one says that the comparison held
+# and the other that it didn't.
+FAILED, NEVER = "failed", "never"
+OF_PAIRS = {
+    DONE: ((SUCCESS, SUCCESS),),
+    FAILED: ((DIFFERS, ABORTED),),
+    NEVER: ((MARKED, ABORTED), (SUCCESS, ABORTED), *((it, SUCCESS) for it in (DIFFERS, MARKED, (0, 6), (0, 4)))),
+    # The comparison failed, or the Write wasn't executed.
+    NOTHING: ((DIFFERS, (0, 6)), (MARKED, (0, 4)), ((0, 6), ABORTED), ((0, 0x14), ABORTED), (SUCCESS, (0, 0x14)), ((0, 4), (0, 0x80))),
+    # An error of the Write alone, or of both.
+    OPEN: ((SUCCESS, (0, 6)), (SUCCESS, (0, 4)), ((0, 6), (0, 6)), ((0, 0x14), (0, 6)), ((0, 4), (7, 0xFF))),
+}
+# How many replies are excused where the command was done, where its unit could take no change more, and where the comparison failed, or None where the
+# reply isn't that of the record.
+EXCUSED = {DONE: (0, None, None), FAILED: (None, None, 0), NOTHING: (None, 1, 1), OPEN: (1, 1, 1), NEVER: (None, None, None)}
+
+
 def devices(run):
     judge = Judge(run)
     moved_times(judge)
     other_replies(judge)
+    each_status(judge)
     errors_alone(judge)
     for trace, order, wants, words, line in UNITS:
         judge(trace, order, wants, words, line)
@@ -270,6 +316,19 @@ def other_replies(judge):
         judge(with_seen(IN_TURN, 1, data=bytes(data)), order, line=unexplained("ReplyDiffers", 1))
     for data in (None, bytes(512) * 3):
         judge(with_seen(IN_TURN, 10, data=data and data + b"\1" * 512), order, line=unexplained("ReplyDiffers", 10))
+
+
+def each_status(judge):
+    """A Write, or a pair that compares with zeroes, after a Write of another block or of the same, where the unit takes two changes or one."""
+    for says, each in [*OF_WRITES.items(), *OF_PAIRS.items()]:
+        for told in each:
+            is_pair = isinstance(told[0], tuple)
+            asked = pair(compare(0, 0), write(0, 0x42)) if is_pair else [write(0, 0x42)]
+            for place, (lba, limit) in enumerate(((1, 2), (1, 1), (0, 2))[: 2 + is_pair]):
+                jobs = (sent(10, 15, write(lba, 0x41)), sent(20, 25, *asked, statuses=told if is_pair else (told,)))
+                excused, steps = EXCUSED[says][place], 1 if limit == 1 else 2
+                line = unexplained("ReplyDiffers", 1) if excused is None else f"explained jobs 2 units 4 steps {steps} excused {excused} preparations 0"
+                judge(Trace(Namespace(nabsn=7, limit=limit), jobs), (0, 1), line=line)
 
 
 def errors_alone(judge):

@@ -49,6 +49,27 @@ HALF = Trace(
         Seen(1, UNENDED.jobs[2].body, 20, 25, SUCCESS, b"\x41" * 512 + bytes(512)),
     ),
 )
+# A Write of four blocks over two units that never ended, and a Read of it all; a record of its parts.
+BY_UNITS = recorded(SPACE, [file_of([write(6, 0x41, 0x41, cid=1), write(8, 0x42, 0x42, cid=1), read(6, 4, cid=2)])])
+HALVES = Trace(
+    SPACE,
+    (
+        Seen(1, jobs_of([file_of([write(6, 0x41, 0x41, 0x42, 0x42)])], 512)[0].body, 10),
+        Seen(1, BY_UNITS.jobs[2].body, 20, 25, SUCCESS, b"\x41" * 1024 + b"\x42" * 1024),
+    ),
+)
+# A Deallocate over two units that never ended, which the record has as one job.
+CLEARED_AT_ONCE = recorded(SPACE, [file_of([write(7, 0x41), dataset((8, 2), (3, 0), (7, 2))])])
+CLEARED = Trace(SPACE, (Seen(1, CLEARED_AT_ONCE.jobs[0].body, 1, 2, SUCCESS), Seen(1, CLEARED_AT_ONCE.jobs[1].body, 3)))
+# A Write of two blocks and a Read of them, which the record has as two jobs.
+SEEN_BY_BLOCKS = recorded(SPACE, [file_of([write(0, 0x41, 0x42), read(0, 1, cid=2), read(1, 1, cid=2)])])
+SEEN = Trace(
+    SPACE,
+    (
+        Seen(1, SEEN_BY_BLOCKS.jobs[0].body, 10, 15, SUCCESS),
+        Seen(1, jobs_of([file_of([read(0, 2, cid=2)])], 512)[0].body, 20, 25, SUCCESS, b"\x41" * 512 + b"\x42" * 512),
+    ),
+)
 # A pair whose comparison holds, and one whose comparison fails.
 HELD = recorded(SPACE, [file_of(pair(compare(0, 0), write(0, 0x55)))])
 PAIR = one(pair(compare(0, 1), write(0, 0x55)), Done(0, ((0, 0, FAILED),), ((2, 0x85), (0, 9))))
@@ -100,6 +121,13 @@ WITNESSED = [
     # A Write over two units that never ended, and a Read of what it did in the first.
     (HALF, UNENDED, explained(2, 3, 1), "--strict"),
     (with_seen(HALF, 0, ended=15, statuses=SUCCESS), UNENDED, unexplained("JobDiffers", 0), "--strict"),
+    # One of four blocks stands by its units strictly, and by its blocks by the standard. A Deallocate stands by its units.
+    (HALVES, BY_UNITS, explained(2, 4, 1), "--strict"),
+    (HALVES, BY_UNITS, unexplained("JobDiffers", 0)),
+    (CLEARED, CLEARED_AT_ONCE, unexplained("JobDiffers", 1)),
+    # A Read stands by its blocks only where the trace says so.
+    (SEEN, SEEN_BY_BLOCKS, unexplained("JobDiffers", 1)),
+    (replace(SEEN, by_blocks=True), SEEN_BY_BLOCKS, explained(2, 3)),
     # A pair.
     (as_recorded(PAIR), PAIR, explained(1, 1)),
     (with_seen(as_recorded(PAIR), 0, statuses=((2, 0x81), (0, 9))), PAIR, unexplained("ReplyDiffers", 0)),
@@ -145,6 +173,21 @@ WIDE = Trace(
 )
 
 
+# Comments, tabs, lines without words and other spellings, and how it is listed.
+SPELLED = """# by hand
+
+\ttrace nsze 32 block 512 nabsn 7 nabo 0 nawun 7 nacwu 3 first 64 start unknown reads by-blocks
+12 17 01 4 read 0 1 cid=4\t= 0/00\t41 # 512 bytes
+12 - 64 65535 write 31 1 500*00,12*ff
+20 21 2 0 compare 4 1 00 first + 7 write 4 1 55 second cid=7 = 2/85 0/09
+"""
+LISTED = """trace nsze 32 block 512 nabsn 7 nabo 0 nawun 7 nacwu 3 first 64 start unknown reads by-blocks
+12 17 1 4 read 0 1 = 0/00 512*41
+12 - 64 65535 write 31 1 500*00,12*ff
+20 21 2 0 compare 4 1 512*00 first + 7 write 4 1 512*55 second = 2/85 0/09
+"""
+
+
 def traces(run):
     run.keep("two.nvr", record_bytes(TWO))
     for trace in (TRACE, FOUND, LONG, WIDE, replace(WIDE, jobs=())):
@@ -153,6 +196,8 @@ def traces(run):
         run.expect(["nvq", "trace", "text", "kept.nvt"], files={"kept.nvt": spelled(trace)})
         run.expect(["nvq", "trace", "-", "-"], given=text.encode(), out=spelled(trace))
         run.expect(["nvq", "list", "kept.nvt"], out=text)
+    run.expect(["nvq", "trace", "-", "spelled.nvt"], given=SPELLED.encode())
+    run.expect(["nvq", "list", "spelled.nvt"], out=LISTED)
     for trace, record, line, *words in WITNESSED:
         run.keep("trace.nvt", spelled(trace))
         run.keep("record.nvr", record_bytes(record))
@@ -176,7 +221,9 @@ def faults_of_texts(run):
     for text, expected in (
         ("walk", HEAD),
         (head.replace("start zeroes", "start ones"), HEAD),
+        ("trace nsze 32", HEAD),
         (head.replace("nabo 0", "nabo 9"), "expected the numbers of a namespace: OffsetAboveBoundary"),
+        (head.replace("block 512", "block 513"), "expected the numbers of a namespace: BlockSize"),
     ):
         run.expect(["nvq", "trace", "-", "-"], 1, given=f"\n{text}\n".encode(), err=told(f"nvq: line 2: {expected}", the_line(text)))
     words = line.split()
@@ -191,6 +238,16 @@ def faults_of_texts(run):
     ):
         wrong = " ".join([*words[:at], word, *words[at + 1 :]])
         run.expect(["nvq", "trace", "-", "-"], 1, given=f"{head}\n{wrong}\n".encode(), err=told(f"nvq: line 2: {expected}", the_line(wrong)))
+    for wrong, expected in (
+        ("1 1 1 4 read 0 1 cid=5 = 0/00", "expected no cid= behind a command's identifier"),
+        ("1 1 1 4 read 0 0 = 0/00", "expected a number of blocks from 1 to 65536"),
+        ("1 1 1 4 read 0 1", "expected = and what came back, as in = 0/00"),
+        ("1 - 1 4 read 0 1 = 0/00", "expected no = behind what never ended"),
+        ("1 1 1 4 read 0 1 = 0/00 41 42", "expected nothing more in this line"),
+    ):
+        # Behind other lines, and before another wrong one.
+        err = told(f"nvq: line 4: {expected}", the_line(wrong))
+        run.expect(["nvq", "trace", "-", "-"], 1, given=f"{head}\n{line}\n\n{wrong}\nanother\n".encode(), err=err)
     for wrong, why in (
         ("2 1 1 4 zeroes 0 1 = 0/00", "it ended before it began"),
         ("1 2 1 4 zeroes 0 1 = 0/00 41", "it has data and isn't a Read, or data of another length than its blocks"),
