@@ -24,7 +24,7 @@ enum { PROPERTY_SET = 0x00, CONNECT = 0x01, PROPERTY_GET = 0x04 };
 
 /* Properties by their offsets, and the bits that are used of Controller Configuration and Controller Status. */
 enum { PROPERTY_CAP = 0x00, PROPERTY_VS = 0x08, PROPERTY_CC = 0x14, PROPERTY_CSTS = 0x1c };
-enum { CC_ENABLE = 1, CC_SHUTDOWN = 3 << 14, CC_ENTRY_SIZES = 6 << 16 | 4 << 20, CSTS_READY = 1, CSTS_FATAL = 2, CSTS_SHUT_DOWN = 2 << 2 };
+enum { CC_ENABLE = 1, CC_SHUTDOWN = 1 << 14, CC_SHUTDOWNS = 3 << 14, CC_ENTRY_SIZES = 6 << 16 | 4 << 20, CSTS_READY = 1, CSTS_FATAL = 2, CSTS_SHUT_DOWN = 2 << 2 };
 
 /* What Identify is asked for, in its byte 40 (CNS), and features, in byte 40 (FID). */
 enum { IDENTIFY_NAMESPACE = 0, IDENTIFY_CONTROLLER = 1, IDENTIFY_NAMESPACE_LIST = 2, IDENTIFY_DESCRIPTORS = 3 };
@@ -66,6 +66,9 @@ enum { PAGE_BYTES = 4096, ADMIN_IN_CAPSULE = 8192 };
 /* Byte 1 of an entry, beside FUSE: data is described by an SGL. The SGL is bytes 24 to 39, its length bytes 32 to 35, its type byte 39: in the
    capsule, or by Transport, which is R2T and C2HData. */
 enum { ENTRY_BY_SGL = 0x40, SGL_AT = 24, SGL_LENGTH = 32, SGL_TYPE = 39, SGL_IN_CAPSULE = 0x01, SGL_TRANSPORT = 0x5a };
+
+/* The subsystem that zalkvorn-target has, and zalkvorn-host asks for, where no other is named. */
+#define DEFAULT_SUBSYSTEM "nqn.2026-11.org.zalkvorn:one"
 
 /* Which way a command's data goes: the low bits of its opcode, or of its type where it is a Fabrics command. */
 enum { NO_DATA = 0, HOST_TO_CONTROLLER = 1, CONTROLLER_TO_HOST = 2 };
