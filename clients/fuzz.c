@@ -553,7 +553,7 @@ static bool try_submit(struct worker *w, struct space *s)
     struct command c = command_in(s, entries), d = command_in(s, entries + ZK_ENTRY_BYTES);
     if (!pair)
         d.called = 0;
-    size_t length = !pair && c.opcode == READ ? c.blocks * s->ns.block_size : c.called + d.called;
+    size_t length = zk_data_length(entries, pair ? 2 : 1, s->ns.block_size);
     if (length > ROOM) {
         /* There is no room for as much, so the length is wrong. */
         length = ROOM;

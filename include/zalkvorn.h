@@ -339,6 +339,21 @@ static inline int zk_record_or_null(struct zk_port *ports, size_t count, uint8_t
 #define zk_refute zk_refute_or_null
 #define zk_record zk_record_or_null
 
+/* The bytes of data for which zk_submit calls with `count` entries, 1 or 2, in a namespace of blocks of `block_size` bytes: neither more nor less. A host may send
+ * more with a Dataset Management, and Linux does: hand on the first of them. Any thread, any time. */
+static inline size_t zk_data_length(const uint8_t *entries, size_t count, uint32_t block_size)
+{
+    size_t length = 0;
+    for (const uint8_t *entry = entries; entry < entries + count * ZK_ENTRY_BYTES; entry += ZK_ENTRY_BYTES) {
+        size_t blocks = (size_t)(entry[48] | entry[49] << 8) + 1;
+        if (entry[0] == 0x01 || entry[0] == 0x05 || (entry[0] == 0x02 && count == 1))
+            length += blocks * block_size;
+        else if (entry[0] == 0x09)
+            length += (entry[40] + (size_t)1) * 16;
+    }
+    return length;
+}
+
 /* The command identifier, the status code type and the status code of a completion queue entry. */
 static inline uint16_t zk_cid(const uint8_t *completion)
 {
