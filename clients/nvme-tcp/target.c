@@ -221,7 +221,7 @@ int main(int words, char **word)
 {
     struct asked asked = {.address = "127.0.0.1", .service = "4420", .numbers = {32768, 512, 7, 0, 0, 0}};
     char where[64];
-    strcpy(identity.subsystem, "nqn.2026-11.org.zalkvorn:one");
+    strcpy(identity.subsystem, DEFAULT_SUBSYSTEM);
     read_words(&asked, words, word);
     if (zk_version() != ZK_VERSION) {
         fail("the library is of another version than its header", NULL);
