@@ -1,0 +1,1289 @@
+"use strict";
+
+// The page's parts, from what nvq-view put into it: the model of what is shown, its rows, its drawing, and what the reader does.
+(() => {
+  const page = JSON.parse(document.getElementById("data").textContent);
+  const isTrace = page.kind !== "record";
+  const BLOCK = page.namespace.block;
+  const byId = (id) => document.getElementById(id);
+
+  // Of each kind of command: its letter, its name and its color.
+  const KINDS = {
+    write: ["W", "Write", "--write"],
+    zeroes: ["Z", "Write Zeroes", "--zeroes"],
+    uncorrectable: ["U", "Write Uncorrectable", "--mark"],
+    pair: ["P", "Compare and Write", "--pair"],
+    dataset: ["D", "Dataset Management", "--deallocate"],
+    read: ["R", "Read", "--read"],
+    compare: ["C", "Compare", "--compare"],
+    other: ["O", "other command", "--other"],
+  };
+  const LOOKS = new Set(["read", "compare"]);
+
+  // ---- runs of bytes ----
+
+  /** Runs as a list of counts and bytes. */
+  function listOf(text) {
+    return text.split(",").map((run) => {
+      const [count, byte] = run.split("*");
+      return [Number(count), byte];
+    });
+  }
+
+  /** The runs of the block of this number in these runs, in one spelling. */
+  function blockOf(place, number) {
+    let skip = number * BLOCK;
+    let left = BLOCK;
+    const found = [];
+    for (const [count, byte] of listOf(page.runs[place])) {
+      const passed = Math.min(skip, count);
+      skip -= passed;
+      const taken = Math.min(left, count - passed);
+      if (taken > 0) {
+        const last = found[found.length - 1];
+        if (last && last[1] === byte) {
+          last[0] += taken;
+        } else {
+          found.push([taken, byte]);
+        }
+        left -= taken;
+      }
+      if (left === 0) {
+        break;
+      }
+    }
+    return found.map(([count, byte]) => `${count}*${byte}`).join(",");
+  }
+
+  const ZEROES = `${BLOCK}*00`;
+
+  /** Text with its runs in place of their numbers. */
+  function spelled(text) {
+    return text.replace(/#(\d+)/g, (_, place) => page.runs[place]);
+  }
+
+  function shortened(text, most) {
+    return text.length > most ? `${text.slice(0, most)}… (${text.length} letters)` : text;
+  }
+
+  // ---- commands ----
+
+  function parsed(text) {
+    const [name, ...words] = text.split(" ");
+    if (name === "dataset") {
+      const ranges = words[0].split(",").map((it) => it.split("+").map(Number));
+      return { name, ranges, data: null, deallocates: words.includes("deallocate") };
+    }
+    const data = words[2] && words[2].startsWith("#") ? Number(words[2].slice(1)) : null;
+    return { name, ranges: [[Number(words[0]), Number(words[1])]], data };
+  }
+
+  /** The number of the unit that has this LBA. */
+  function unitOf(lba) {
+    const { nabsn, nabo } = page.namespace;
+    if (nabsn === 0) {
+      return 0;
+    }
+    if (nabo === 0) {
+      return Math.floor(lba / (nabsn + 1));
+    }
+    return lba < nabo ? 0 : 1 + Math.floor((lba - nabo) / (nabsn + 1));
+  }
+
+  function firstOf(unit) {
+    const { nabsn, nabo } = page.namespace;
+    return unit === 0 || nabsn === 0 ? 0 : nabo === 0 ? unit * (nabsn + 1) : nabo + (unit - 1) * (nabsn + 1);
+  }
+
+  class Command {
+    constructor(told) {
+      Object.assign(this, { worker: null, parts: [], statuses: [], data: null, began: null, ended: null }, told);
+      this.bodies = this.sent.map((it) => parsed(it.command));
+      const { name } = this.bodies[0];
+      this.kind = this.sent.length === 2 ? "pair" : name in KINDS ? name : "other";
+      this.ranges = this.bodies[0].ranges;
+      this.cids = this.sent.map((it) => it.cid);
+      this.isNamed = false;
+      this.isRed = false;
+    }
+
+    get status() {
+      return this.statuses.join(" ") || (isTrace ? "no reply" : "not done");
+    }
+
+    get failed() {
+      return this.statuses.some((it) => it !== "0/00");
+    }
+
+    get short() {
+      const ranges = this.ranges.map(([lba, blocks]) => `${lba}+${blocks}`);
+      return ranges.length > 3 ? `${ranges.slice(0, 3).join(",")},…` : ranges.join(",");
+    }
+
+    get words() {
+      return this.sent.map((it) => spelled(it.command)).join(" + ");
+    }
+
+    /** Whether it is about the LBA. */
+    has(lba) {
+      return this.ranges.some(([first, blocks]) => lba >= first && lba < first + blocks);
+    }
+
+    isIn(unit) {
+      return this.ranges.some(([first, blocks]) => blocks > 0 && unitOf(first) <= unit && unit <= unitOf(first + blocks - 1));
+    }
+
+    /** What it puts in the block at this LBA, where it is a change that has it. */
+    puts(lba) {
+      const body = this.bodies[this.bodies.length - 1];
+      if (!this.has(lba) || LOOKS.has(this.kind) || this.kind === "other") {
+        return null;
+      }
+      if (this.kind === "uncorrectable") {
+        return "a mark";
+      }
+      return body.data === null ? ZEROES : blockOf(body.data, lba - body.ranges[0][0]);
+    }
+  }
+
+  const commands = page.commands.map((it) => new Command(it));
+  const entries = new Map(); // by unit, by place
+  for (const it of page.entries || []) {
+    if (!entries.has(it.unit)) {
+      entries.set(it.unit, []);
+    }
+    entries.get(it.unit)[it.place] = it;
+  }
+  for (const job of page.named || []) {
+    commands[job].isNamed = true;
+  }
+  if (page.fault && commands[page.fault.job]) {
+    commands[page.fault.job].isNamed = true;
+  }
+
+  /** To which command of the trace a job of the record belongs: its pieces come one after the other. */
+  function ownersOfPieces() {
+    const size = (ranges) => ranges.reduce((sum, [, blocks]) => sum + blocks, 0);
+    const owners = [];
+    for (const command of commands) {
+      const all = size(command.ranges);
+      let got = 0;
+      do {
+        const piece = page.pieces[owners.length];
+        if (!piece) {
+          break;
+        }
+        got += size(parsed(piece.sent[0].command).ranges);
+        owners.push(command);
+      } while (got < all);
+    }
+    return owners;
+  }
+
+  const owners = page.kind === "explained" ? ownersOfPieces() : commands;
+
+  // ---- the facts of an argument ----
+
+  function nameOf(piece) {
+    const part = "block" in piece ? ` block ${piece.block}` : "unit" in piece ? ` in unit ${piece.unit}` : "";
+    return `job ${piece.job}${part}`;
+  }
+
+  function factText(fact) {
+    const front = fact.before && `${nameOf(fact.before)} stands before ${nameOf(fact.after)}: `;
+    switch (fact.rule) {
+      case "time":
+        return `${front}it had ended at ${fact.ended}, before the other began at ${fact.began}`;
+      case "source":
+        return `${front}no other command can have put what it found in LBA ${fact.lba}`;
+      case "over":
+        return `${front}it found in LBA ${fact.lba} what ${nameOf(fact.source)} had put, which the other then overwrote`;
+      case "under":
+        return `${front}${nameOf(fact.reader)} came after both and found in LBA ${fact.lba} what the later one put`;
+      case "first":
+        return `${front}it found the zeroes in LBA ${fact.lba} that were there at first, and nobody can have left zeroes there since`;
+      default:
+        return `${nameOf(fact.reader)} found in LBA ${fact.lba} what nobody can have left there`;
+    }
+  }
+
+  /** The commands from which the facts lead in a circle, and the facts between them. */
+  function markCircle() {
+    const links = page.facts.map((it) => it.before && [it.before.job, it.after.job]);
+    const reached = (start, from, to) => {
+      const found = new Set([start]);
+      for (let grown = true; grown; ) {
+        grown = false;
+        for (const link of links) {
+          if (link && found.has(link[from]) && !found.has(link[to])) {
+            found.add(link[to]);
+            grown = true;
+          }
+        }
+      }
+      return found;
+    };
+    const last = page.facts[page.facts.length - 1];
+    const start = page.itself ? page.itself.job : last.reader.job;
+    const ahead = reached(start, 0, 1);
+    const back = reached(start, 1, 0);
+    for (const job of ahead) {
+      if (back.has(job)) {
+        commands[job].isRed = true;
+      }
+    }
+    page.facts.forEach((fact, place) => {
+      fact.isRed = Boolean(links[place]) && links[place].every((job) => commands[job].isRed);
+    });
+  }
+
+  if (page.kind === "contradiction") {
+    markCircle();
+  }
+
+  // ---- rows ----
+  // A row has items that don't overlap, by where they begin. An item has its command, where it begins and ends, and what it is.
+
+  const LANE = 30;
+  let rows = [];
+  let arrows = [];
+  let width = 1;
+  let axis = () => "";
+
+  function rowOf(label, kind, extra) {
+    return { label, kind, items: [], y: 0, ...extra };
+  }
+
+  /** The steps of a record in one order, in which workers' steps and units' histories keep theirs as far as they agree. */
+  function orderedSteps() {
+    const looksAt = new Map();
+    const queues = [];
+    const taken = new Set();
+    page.done.forEach((done) => {
+      const queue = (queues[done.worker] ||= []);
+      const parts = done.parts.length ? done.parts : [null];
+      for (const part of parts) {
+        const step = { done, part, job: done.job, entry: null, x: 0 };
+        if (part) {
+          const entry = (entries.get(part.unit) || [])[part.point];
+          if (part.result === "done" && entry && entry.job === done.job && entry.worker === done.worker) {
+            step.entry = entry;
+            taken.add(entry);
+          } else {
+            const at = `${part.unit} ${part.point}`;
+            looksAt.set(at, (looksAt.get(at) || 0) + 1);
+          }
+        }
+        queue.push(step);
+      }
+    });
+    const heads = queues.map(() => 0);
+    const counts = new Map();
+    const isReady = (step) => {
+      if (!step.part) {
+        return true;
+      }
+      const count = counts.get(step.part.unit) || 0;
+      return step.entry ? count === step.entry.place && !looksAt.get(`${step.part.unit} ${count}`) : count >= step.part.point;
+    };
+    const ordered = [];
+    const take = (worker) => {
+      const step = queues[worker][heads[worker]++];
+      step.x = ordered.length;
+      ordered.push(step);
+      if (step.entry) {
+        counts.set(step.part.unit, step.entry.place + 1);
+      } else if (step.part) {
+        const at = `${step.part.unit} ${step.part.point}`;
+        looksAt.set(at, looksAt.get(at) - 1);
+      }
+    };
+    for (;;) {
+      let best = -1;
+      let waiting = -1;
+      queues.forEach((queue, worker) => {
+        if (heads[worker] < queue.length) {
+          waiting = waiting < 0 || heads[worker] < heads[waiting] ? worker : waiting;
+          if (isReady(queue[heads[worker]]) && (best < 0 || heads[worker] < heads[best])) {
+            best = worker;
+          }
+        }
+      });
+      if (waiting < 0) {
+        break;
+      }
+      take(best < 0 ? waiting : best);
+    }
+    for (const history of entries.values()) {
+      for (const entry of history) {
+        if (entry && !taken.has(entry)) {
+          ordered.push({ done: null, part: null, job: entry.job, entry, x: ordered.length, alone: true });
+        }
+      }
+    }
+    return ordered;
+  }
+
+  /** Of a record: a lane for each worker and a row for each unit, in which a column is a step. */
+  function rowsOfRecord() {
+    const steps = orderedSteps();
+    const workers = new Map();
+    const units = new Map();
+    const isFaulty = ({ fault }, unit, place, job) => Boolean(fault) && fault.job === job && (fault.unit === null || fault.unit === undefined || (fault.unit === unit && fault.place === place));
+    let last = null;
+    for (const step of steps) {
+      const command = commands[step.job] || null;
+      if (step.done) {
+        if (!workers.has(step.done.worker)) {
+          workers.set(step.done.worker, rowOf(`worker ${step.done.worker}`, "worker"));
+        }
+        const lane = workers.get(step.done.worker);
+        last = lane.items[lane.items.length - 1];
+        if (last && last.done === step.done) {
+          last.x1 = step.x + 0.9;
+        } else {
+          lane.items.push({ command, job: step.job, done: step.done, x0: step.x, x1: step.x + 0.9, look: false });
+        }
+      }
+      const unit = step.part ? step.part.unit : step.entry ? step.entry.unit : null;
+      if (unit !== null) {
+        const place = step.part ? step.part.point : step.entry.place;
+        if (!units.has(unit)) {
+          units.set(unit, rowOf(`unit ${unit} LBA ${firstOf(unit)}`, "unit", { unit }));
+        }
+        const item = { command, job: step.job, x0: step.x, x1: step.x + 0.9, entry: step.entry, part: step.part, look: !step.entry };
+        item.bad = isFaulty(page, unit, place, step.job);
+        item.last = Boolean(page.change && step.entry && page.change.unit === unit && page.change.place === place);
+        units.get(unit).items.push(item);
+        if (item.bad) {
+          units.get(unit).bad = true;
+        }
+      }
+    }
+    for (const unit of entries.keys()) {
+      if (!units.has(unit)) {
+        units.set(unit, rowOf(`unit ${unit} LBA ${firstOf(unit)}`, "unit", { unit }));
+      }
+    }
+    const sorted = (map) => [...map.keys()].sort((one, other) => one - other).map((key) => map.get(key));
+    for (const row of units.values()) {
+      row.items.sort((one, other) => one.x0 - other.x0);
+    }
+    width = Math.max(steps.length, 1);
+    axis = (x) => (Number.isInteger(x) && x < width ? `step ${x}` : "");
+    rows = [...sorted(workers), ...sorted(units)];
+    arrows = [];
+  }
+
+  const compareTimes = (one, other) => one.length - other.length || (one < other ? -1 : one > other ? 1 : 0);
+
+  /** Where times lie: at their rank among those of these commands, or true to scale. */
+  function scaleOf(shown, isClock) {
+    const times = [...new Set(shown.flatMap((it) => (it.ended === null ? [it.began] : [it.began, it.ended])))].sort(compareTimes);
+    if (isClock) {
+      const first = BigInt(times[0] || "0");
+      const span = Number(BigInt(times[times.length - 1] || "1") - first) || 1;
+      const units = Math.max(times.length, 1);
+      return { at: (time) => (Number(BigInt(time) - first) / span) * units, end: units, text: (x) => String(first + BigInt(Math.round((x / units) * span))), gap: 0 };
+    }
+    const ranks = new Map(times.map((it, place) => [it, place]));
+    return { at: (time) => ranks.get(time), end: times.length, text: (x) => (Number.isInteger(x) ? times[x] || "" : ""), gap: 0.85 };
+  }
+
+  /** Of a trace: lanes by host, as many as it has commands under way together, and for a record that explains it the units' orders. */
+  function rowsOfTrace() {
+    const shown = byId("only").checked ? commands.filter((it) => it.isNamed) : commands;
+    const scale = scaleOf(shown, byId("clock").checked);
+    const hosts = new Map();
+    for (const command of [...shown].sort((one, other) => compareTimes(one.began, other.began) || one.job - other.job)) {
+      const x0 = scale.at(command.began);
+      const x1 = command.ended === null ? scale.end + 0.5 : scale.at(command.ended) + scale.gap;
+      if (!hosts.has(command.host)) {
+        hosts.set(command.host, []);
+      }
+      const lanes = hosts.get(command.host);
+      let lane = lanes.find((it) => it.items[it.items.length - 1].x1 <= x0);
+      if (!lane) {
+        lane = rowOf(lanes.length ? "" : `host ${command.host}`, "host");
+        lanes.push(lane);
+      }
+      const item = { command, job: command.job, x0, x1: Math.max(x1, x0), look: false, bad: command.isRed };
+      lane.items.push(item);
+      command.item = item;
+    }
+    rows = [...hosts.keys()].sort((one, other) => one - other).flatMap((host) => hosts.get(host));
+    width = scale.end + 0.5;
+    axis = scale.text;
+    arrows = [];
+    if (page.kind === "explained") {
+      rows.push(...unitsOfTrace(scale));
+    }
+    if (page.kind === "contradiction") {
+      arrows = page.facts.flatMap((fact, place) => (fact.before ? [{ number: place + 1, from: commands[fact.before.job], to: commands[fact.after.job], isRed: fact.isRed }] : []));
+    }
+  }
+
+  /** The order of each unit's steps by the record. A step is drawn where it can be at the earliest: after those before it, and in its command's time. */
+  function unitsOfTrace(scale) {
+    const looks = new Map();
+    const made = new Set();
+    for (const done of page.done) {
+      for (const part of done.parts) {
+        const entry = (entries.get(part.unit) || [])[part.point];
+        if (part.result === "done" && entry && entry.job === done.job) {
+          made.add(entry);
+          continue;
+        }
+        const of = looks.get(part.unit) || new Map();
+        looks.set(part.unit, of);
+        of.set(part.point, [...(of.get(part.point) || []), { done, part }]);
+      }
+    }
+    const numbers = new Set([...entries.keys(), ...looks.keys()]);
+    return [...numbers].sort((one, other) => one - other).map((unit) => {
+      const row = rowOf(`unit ${unit} LBA ${firstOf(unit)}`, "unit", { unit });
+      const history = entries.get(unit) || [];
+      let x = -1;
+      const put = (job, entry, part) => {
+        const command = owners[job] || null;
+        x = Math.max(x, command && command.item ? command.item.x0 : -1);
+        row.items.push({ command, job: command ? command.job : null, x0: x, x1: x + 0.16, entry, part, look: !entry });
+        x += 0.18;
+      };
+      for (let place = 0; place <= history.length; place += 1) {
+        for (const { done, part } of (looks.get(unit) || new Map()).get(place) || []) {
+          put(done.job, null, part);
+        }
+        if (history[place]) {
+          put(history[place].job, history[place], null);
+        }
+      }
+      width = Math.max(width, Math.min(x, scale.end + 2));
+      return row;
+    });
+  }
+
+  function layOut() {
+    for (const command of commands) {
+      command.item = null;
+    }
+    if (isTrace) {
+      rowsOfTrace();
+    } else {
+      rowsOfRecord();
+    }
+    // Arrows want room between lanes.
+    const room = arrows.length ? 40 : 0;
+    let y = room ? 34 : 0;
+    let before = null;
+    for (const row of rows) {
+      y += before && (before.kind !== row.kind || (row.kind === "host" && row.label)) ? 8 : 0;
+      row.y = y;
+      y += LANE + room;
+      before = row;
+    }
+    view.height = y;
+    for (const row of rows) {
+      for (const item of row.items) {
+        item.row = row;
+        if (item.command && !item.command.item) {
+          item.command.item = item;
+        }
+      }
+    }
+  }
+
+  // ---- what is in view ----
+
+  const LEFT = 120;
+  const TOP = 22;
+  const view = { x: 0, k: 40, top: 0, height: 0 };
+  let picked = null;
+  let matching = null; // the commands that the filters let through, or null for all
+
+  const chart = byId("chart");
+  const canvas = byId("canvas");
+  const room = () => ({ w: Math.max(chart.clientWidth - LEFT, 50), h: Math.max(chart.clientHeight - TOP, 30) });
+
+  function keepInside() {
+    const { w, h } = room();
+    view.k = Math.min(Math.max(view.k, w / (width + 1) / 2), 400);
+    view.x = Math.min(Math.max(view.x, -1.2), Math.max(width - (w * 0.3) / view.k, -1.2));
+    view.top = Math.min(Math.max(view.top, 0), Math.max(view.height - h * 0.6, 0));
+  }
+
+  function zoom(by, at) {
+    const x = view.x + at / view.k;
+    view.k *= by;
+    keepInside();
+    view.x = x - at / view.k;
+    changed();
+  }
+
+  function showAll() {
+    view.k = room().w / (width + 1);
+    view.x = -0.5;
+    view.top = 0;
+    changed();
+  }
+
+  /** Brings items into view, as large as they fit and can be read. */
+  function show(items) {
+    const first = Math.min(...items.map((it) => it.x0));
+    const last = Math.max(...items.map((it) => it.x1));
+    const { w, h } = room();
+    view.k = Math.min(Math.max(w / (last - first + 1.5), 24), 110);
+    view.x = (first + last) / 2 - w / view.k / 2;
+    if ((last - first) * view.k > w) {
+      view.x = first - 1;
+    }
+    const ys = items.map((it) => it.row.y);
+    const middle = (Math.min(...ys) + Math.max(...ys) + LANE) / 2;
+    view.top = Math.max(...ys) + LANE < h ? 0 : middle - h / 2;
+    changed();
+  }
+
+  function showVerdict() {
+    const bad = rows.flatMap((row) => row.items.filter((it) => it.bad || it.last));
+    const named = commands.filter((it) => it.isNamed && it.item).map((it) => it.item);
+    const items = page.kind === "contradiction" ? named : bad.length ? bad : named;
+    if (items.length) {
+      show(items);
+    } else {
+      view.k = Math.max(room().w / (width + 1), isTrace ? 18 : 30);
+      view.x = -0.5;
+      changed();
+    }
+  }
+
+  function bring(item) {
+    const { w, h } = room();
+    const x = (item.x0 - view.x) * view.k;
+    if (x < 0 || x > w - 40) {
+      view.x = item.x0 - w / view.k / 2;
+    }
+    if (item.row.y < view.top || item.row.y + LANE > view.top + h) {
+      view.top = item.row.y - h / 2;
+    }
+  }
+
+  // ---- drawing: a list of shapes, which the canvas draws and a file keeps ----
+
+  const color = (name) => getComputedStyle(document.documentElement).getPropertyValue(name).trim();
+
+  function firstAt(items, x) {
+    let low = 0;
+    let high = items.length;
+    while (low < high) {
+      const middle = (low + high) >> 1;
+      if (items[middle].x1 < x) {
+        low = middle + 1;
+      } else {
+        high = middle;
+      }
+    }
+    return low;
+  }
+
+  const isDim = (command) => matching !== null && !(command && matching.has(command));
+
+  function textOf(item, w) {
+    const { command } = item;
+    const letter = item.look && item.part ? { looked: "", failed: "F", "no-memory": "M", full: "L", done: "!" }[item.part.result] || KINDS[command ? command.kind : "other"][0] : KINDS[command ? command.kind : "other"][0];
+    const texts = [letter];
+    if (command) {
+      texts.push(`${letter} ${item.job}`, `${letter} ${item.job}  ${command.short}`, `${letter} job ${item.job}  ${command.short}  ${command.status}`);
+    }
+    return texts.filter((it) => it.length * 6.6 + 8 <= w).pop() || "";
+  }
+
+  /** The shape of an item: boxes are changes, and looks in units' rows are rounded and open. */
+  function shapesOf(item, x, y, w, colors, shapes) {
+    const command = item.command;
+    const tint = colors[command ? command.kind : "other"];
+    const isPicked = picked && command === picked;
+    const alpha = isDim(command) ? 0.18 : 1;
+    const isOpen = isTrace && command && command.ended === null && item.row.kind === "host";
+    const look = item.row.kind === "unit" ? item.look : command && LOOKS.has(command.kind);
+    shapes.push({ is: "box", x, y: y + 4, w: Math.max(w, 1.5), h: LANE - 8, fill: look ? colors.back : tint, edge: tint, alpha, round: look ? 8 : 2, wide: 1.5, dash: isOpen ? "4 3" : "" });
+    if (isPicked) {
+      shapes.push({ is: "box", x: x - 2, y: y + 2, w: Math.max(w, 1.5) + 4, h: LANE - 4, fill: "", edge: colors.pick, alpha: 1, round: 4, wide: 2, dash: "" });
+    }
+    if (item.bad || item.last || (command && command.isRed && item.row.kind !== "unit")) {
+      shapes.push({ is: "box", x: x - 4, y, w: Math.max(w, 1.5) + 8, h: LANE, fill: "", edge: item.last && !item.bad ? colors.last : colors.bad, alpha: 1, round: 5, wide: 2.5, dash: item.last && !item.bad ? "6 3" : "" });
+    }
+    const text = w >= 12 ? textOf(item, w) : "";
+    if (text) {
+      shapes.push({ is: "text", x: x + 4, y: y + LANE / 2 + 4, text, fill: look ? colors.text : colors.back, alpha, weight: command && command.failed ? "700" : "400" });
+    }
+    if (command && command.failed && w >= 26 && item.row.kind !== "unit") {
+      shapes.push({ is: "line", x: x + w - 9, y: y + 8, x2: x + w - 3, y2: y + 14, edge: look ? tint : colors.back, wide: 1.5, alpha }, { is: "line", x: x + w - 3, y: y + 8, x2: x + w - 9, y2: y + 14, edge: look ? tint : colors.back, wide: 1.5, alpha });
+    }
+  }
+
+  function shapesOfRow(row, y, w, colors, shapes) {
+    const from = view.x;
+    const to = view.x + w / view.k;
+    let drawn = -2;
+    for (let place = firstAt(row.items, from); place < row.items.length && row.items[place].x0 <= to; place += 1) {
+      const item = row.items[place];
+      const x = LEFT + (item.x0 - view.x) * view.k;
+      const end = LEFT + (item.x1 - view.x) * view.k;
+      const counts = item.bad || item.last || (item.command && (item.command === picked || item.command.isNamed));
+      if (end - drawn < 1 && !counts) {
+        continue;
+      }
+      const left = Math.max(x, LEFT - 10);
+      shapesOf(item, left, y, Math.min(end, LEFT + w + 10) - left, colors, shapes);
+      drawn = Math.max(drawn, end);
+    }
+  }
+
+  function shapesOfArrows(colors, shapes) {
+    arrows.forEach((arrow, place) => {
+      const [one, other] = [arrow.from.item, arrow.to.item];
+      if (!one || !other) {
+        return;
+      }
+      const isSame = one.row === other.row;
+      const end = (item, isFrom) => {
+        const x = LEFT + ((item.x0 + item.x1) / 2 - view.x) * view.k + ((place % 5) - 2) * 9;
+        const down = isSame ? place % 2 === 0 : (isFrom ? other : one).row.y > item.row.y;
+        return [x, TOP + item.row.y - view.top + (down ? LANE - 3 : 3)];
+      };
+      const [x, y] = end(one, true);
+      const [x2, y2] = end(other, false);
+      const edge = arrow.isRed ? colors.bad : colors.quiet;
+      const bend = isSame ? (place % 2 === 0 ? 52 : -52) : 0;
+      const middle = [(x + x2) / 2, (y + y2) / 2 + bend];
+      shapes.push({ is: "curve", x, y, cx: middle[0], cy: middle[1], x2, y2, edge, wide: 2, alpha: 1 });
+      const angle = Math.atan2(y2 - middle[1], x2 - middle[0]);
+      const tip = (turn) => [x2 - 9 * Math.cos(angle + turn), y2 - 9 * Math.sin(angle + turn)];
+      shapes.push({ is: "area", points: [[x2, y2], tip(0.4), tip(-0.4)], fill: edge, alpha: 1 });
+      // Where a quarter of the curve is behind.
+      const at = [0.5625 * x + 0.375 * middle[0] + 0.0625 * x2, 0.5625 * y + 0.375 * middle[1] + 0.0625 * y2];
+      shapes.push({ is: "box", x: at[0] - 9, y: at[1] - 9, w: 18, h: 18, fill: colors.back, edge, alpha: 1, round: 9, wide: 1.5, dash: "" });
+      shapes.push({ is: "text", x: at[0] - 3.5 * String(arrow.number).length, y: at[1] + 4, text: String(arrow.number), fill: edge, alpha: 1, weight: "700" });
+    });
+  }
+
+  function shapesInView() {
+    const { w, h } = room();
+    const colors = { back: color("--back"), text: color("--text"), quiet: color("--quiet"), line: color("--line"), band: color("--band"), bad: color("--bad"), last: color("--last"), pick: color("--pick") };
+    for (const [kind, [, , name]] of Object.entries(KINDS)) {
+      colors[kind] = color(name);
+    }
+    const shapes = [];
+    const shown = rows.filter((row) => row.y + LANE >= view.top && row.y <= view.top + h);
+    shown.forEach((row) => {
+      const y = TOP + row.y - view.top;
+      if (row.kind === "unit" || row.kind === "worker") {
+        shapes.push({ is: "box", x: LEFT, y, w, h: LANE, fill: colors.band, edge: "", alpha: 1, round: 0, wide: 0, dash: "" });
+      }
+      shapes.push({ is: "line", x: LEFT, y: y + LANE, x2: LEFT + w, y2: y + LANE, edge: colors.line, wide: 1, alpha: 0.6 });
+    });
+    shown.forEach((row) => shapesOfRow(row, TOP + row.y - view.top, w, colors, shapes));
+    shapesOfArrows(colors, shapes);
+    shapes.push({ is: "box", x: 0, y: 0, w: LEFT + w, h: TOP, fill: colors.back, edge: "", alpha: 1, round: 0, wide: 0, dash: "" });
+    shapes.push({ is: "box", x: 0, y: 0, w: LEFT - 2, h: TOP + h, fill: colors.back, edge: "", alpha: 1, round: 0, wide: 0, dash: "" });
+    const every = Math.max(1, 2 ** Math.ceil(Math.log2(96 / view.k)));
+    for (let x = Math.max(Math.ceil(view.x / every) * every, 0); x <= view.x + w / view.k && x <= width; x += every) {
+      shapes.push({ is: "text", x: LEFT + (x - view.x) * view.k, y: 15, text: axis(x), fill: colors.quiet, alpha: 1, weight: "400" });
+    }
+    shown.forEach((row) => shapes.push({ is: "text", x: 8, y: TOP + row.y - view.top + 19, text: row.label, fill: row.bad ? colors.bad : colors.quiet, alpha: 1, weight: row.bad ? "700" : "400", label: true }));
+    return { shapes, w: LEFT + w, h: TOP + h, shown, back: colors.back };
+  }
+
+  function drawOn(context, shape) {
+    context.globalAlpha = shape.alpha;
+    context.setLineDash(shape.dash ? shape.dash.split(" ").map(Number) : []);
+    context.lineWidth = shape.wide || 1;
+    context.beginPath();
+    if (shape.is === "box") {
+      context.roundRect(shape.x, shape.y, Math.max(shape.w, 0.5), shape.h, Math.min(shape.round, shape.w / 2));
+    } else if (shape.is === "line") {
+      context.moveTo(shape.x, shape.y);
+      context.lineTo(shape.x2, shape.y2);
+    } else if (shape.is === "curve") {
+      context.moveTo(shape.x, shape.y);
+      context.quadraticCurveTo(shape.cx, shape.cy, shape.x2, shape.y2);
+    } else if (shape.is === "area") {
+      shape.points.forEach(([x, y], place) => (place ? context.lineTo(x, y) : context.moveTo(x, y)));
+      context.closePath();
+    } else {
+      context.font = `${shape.weight} 12px system-ui, sans-serif`;
+      context.fillStyle = shape.fill;
+      context.fillText(shape.text, shape.x, shape.y);
+      return;
+    }
+    if (shape.fill) {
+      context.fillStyle = shape.fill;
+      context.fill();
+    }
+    if (shape.edge) {
+      context.strokeStyle = shape.edge;
+      context.stroke();
+    }
+  }
+
+  function draw() {
+    const ratio = window.devicePixelRatio || 1;
+    const { shapes, w, h, shown } = shapesInView();
+    if (canvas.width !== Math.round(w * ratio) || canvas.height !== Math.round(h * ratio)) {
+      canvas.width = Math.round(w * ratio);
+      canvas.height = Math.round(h * ratio);
+    }
+    const context = canvas.getContext("2d");
+    context.setTransform(ratio, 0, 0, ratio, 0, 0);
+    context.clearRect(0, 0, w, h);
+    for (const shape of shapes) {
+      if (!shape.label) {
+        drawOn(context, shape);
+      }
+    }
+    byId("labels").replaceChildren(
+      ...shown.map((row) => {
+        const it = document.createElement("div");
+        it.textContent = row.label;
+        it.className = row.bad ? "bad" : "";
+        it.style.top = `${TOP + row.y - view.top + 6}px`;
+        it.style.visibility = row.y + 6 < view.top ? "hidden" : "visible";
+        return it;
+      }),
+    );
+  }
+
+  let isAwaited = false;
+  function changed() {
+    keepInside();
+    if (!isAwaited) {
+      isAwaited = true;
+      requestAnimationFrame(() => {
+        isAwaited = false;
+        draw();
+        keepPlace();
+      });
+    }
+  }
+
+  /** What is in view as an SVG file. */
+  function svgOf() {
+    const { shapes, w, h, back } = shapesInView();
+    const escaped = (text) => text.replace(/&/g, "&amp;").replace(/</g, "&lt;").replace(/"/g, "&quot;");
+    const paint = (it) => `fill="${it.fill || "none"}" stroke="${it.edge || "none"}" stroke-width="${it.wide || 0}" opacity="${it.alpha}"${it.dash ? ` stroke-dasharray="${it.dash}"` : ""}`;
+    const lines = shapes.map((it) => {
+      switch (it.is) {
+        case "box":
+          return `<rect x="${it.x}" y="${it.y}" width="${Math.max(it.w, 0.5)}" height="${it.h}" rx="${it.round}" ${paint(it)}/>`;
+        case "line":
+          return `<path d="M${it.x} ${it.y}L${it.x2} ${it.y2}" ${paint(it)}/>`;
+        case "curve":
+          return `<path d="M${it.x} ${it.y}Q${it.cx} ${it.cy} ${it.x2} ${it.y2}" ${paint({ ...it, fill: "" })}/>`;
+        case "area":
+          return `<path d="M${it.points.map((point) => point.join(" ")).join("L")}Z" ${paint(it)}/>`;
+        default:
+          return `<text x="${it.x}" y="${it.y}" fill="${it.fill}" opacity="${it.alpha}" font-weight="${it.weight}">${escaped(it.text)}</text>`;
+      }
+    });
+    const front = `<svg xmlns="http://www.w3.org/2000/svg" width="${w}" height="${h}" font-family="sans-serif" font-size="12"><title>${escaped(page.verdict)}</title><rect width="100%" height="100%" fill="${back}"/>`;
+    return [front, ...lines, "</svg>"].join("\n");
+  }
+
+  function save() {
+    const link = document.createElement("a");
+    link.href = URL.createObjectURL(new Blob([svgOf()], { type: "image/svg+xml" }));
+    link.download = "nvq-view.svg";
+    link.click();
+    setTimeout(() => URL.revokeObjectURL(link.href), 1000);
+  }
+
+  // ---- who wrote what was read ----
+
+  /** The answers of the blocks, one line for blocks in a row with the same answer. */
+  function grouped(answers) {
+    const lines = [];
+    for (const [lba, text] of answers) {
+      const last = lines[lines.length - 1];
+      if (last && last.text === text && last.to === lba - 1) {
+        last.to = lba;
+      } else {
+        lines.push({ from: lba, to: lba, text });
+      }
+    }
+    return lines.map(({ from, to, text }) => `LBA ${from}${to > from ? ` to ${to}` : ""}: ${text}`);
+  }
+
+  /** By a record: the last entry before the point of a look that changed the block. */
+  function writersByRecord(command) {
+    const answers = [];
+    for (const part of command.parts) {
+      const history = entries.get(part.unit) || [];
+      for (const [first, blocks] of command.ranges) {
+        for (let lba = first; lba < first + blocks; lba += 1) {
+          if (unitOf(lba) === part.unit) {
+            let place = Math.min(part.point, history.length) - 1;
+            while (place >= 0 && !(history[place] && changes(history[place], lba))) {
+              place -= 1;
+            }
+            answers.push([lba, place < 0 ? "the zeroes of the beginning" : `job ${history[place].job} (unit ${part.unit} place ${place})`]);
+          }
+        }
+      }
+    }
+    return grouped(answers);
+  }
+
+  function changes(entry, lba) {
+    if (entry.ranges) {
+      return entry.ranges.split(",").some((it) => {
+        const [first, blocks] = it.split("+").map(Number);
+        return lba >= first && lba < first + blocks;
+      });
+    }
+    return lba >= entry.lba && lba < entry.lba + entry.blocks;
+  }
+
+  /** By a trace: the commands that can have put these bytes into the block. */
+  function writersByContent(command) {
+    const answers = [];
+    const [first, blocks] = command.ranges[0];
+    for (let number = 0; number < Math.min(blocks, 256); number += 1) {
+      const lba = first + number;
+      const found = blockOf(command.data, number);
+      const writers = commands.filter((it) => it.puts(lba) === found && it !== command);
+      const start = found === ZEROES && page.namespace.start === "zeroes" ? ["the zeroes of the beginning"] : [];
+      const texts = [...writers.slice(0, 4).map((it) => `job ${it.job}`), ...(writers.length > 4 ? [`${writers.length - 4} others`] : []), ...start];
+      answers.push([lba, texts.join(" or ") || "nobody in this trace"]);
+    }
+    return grouped(answers);
+  }
+
+  // ---- details ----
+
+  function element(name, text, kind) {
+    const it = document.createElement(name);
+    it.textContent = text;
+    if (kind) {
+      it.className = kind;
+    }
+    return it;
+  }
+
+  /** Text in which each job that is there can be clicked. */
+  function linked(name, text, kind) {
+    const it = element(name, "", kind);
+    for (const part of text.split(/(job \d+)/)) {
+      const job = /^job (\d+)$/.exec(part);
+      if (job && commands[Number(job[1])]) {
+        const link = element("a", part);
+        link.tabIndex = 0;
+        link.role = "link";
+        link.addEventListener("click", () => pick(commands[Number(job[1])], true));
+        link.addEventListener("keydown", (event) => event.key === "Enter" && pick(commands[Number(job[1])], true));
+        it.append(link);
+      } else {
+        it.append(part);
+      }
+    }
+    return it;
+  }
+
+  function detailsOf(command) {
+    const list = document.createElement("dl");
+    const add = (name, text, kind) => list.append(element("dt", name), linked("dd", text, kind));
+    add("command", shortened(command.words, 600), "words");
+    add("host, CID", `${command.host}, ${command.cids.join(" and ")}`);
+    add("status", command.status);
+    if (isTrace) {
+      add("time", `${command.began} to ${command.ended === null ? "no end that was seen" : command.ended}`);
+      const together = command.ended === null ? null : commands.filter((it) => it !== command && compareTimes(it.began, command.ended) <= 0 && (it.ended === null || compareTimes(command.began, it.ended) <= 0)).length;
+      if (together !== null) {
+        add("under way", `${together} other commands for a time`);
+      }
+    } else if (command.worker !== null) {
+      add("worker", String(command.worker));
+      add("parts", command.parts.map((it) => `unit ${it.unit} point ${it.point} ${it.result}`).join("; ") || "none");
+    }
+    if (command.data !== null) {
+      add("data", shortened(page.runs[command.data], 600), "words");
+      for (const line of command.kind === "read" ? (isTrace ? writersByContent(command) : writersByRecord(command)) : []) {
+        add("written by", line);
+      }
+    }
+    return list;
+  }
+
+  function pick(command, bringsIntoView) {
+    picked = command;
+    const box = byId("details");
+    if (!command) {
+      box.replaceChildren(element("p", "Click a command, or a row of the table.", "quiet"));
+    } else {
+      box.replaceChildren(element("h2", `job ${command.job}: ${KINDS[command.kind][1]} ${command.short}`), detailsOf(command));
+      if (bringsIntoView && command.item) {
+        bring(command.item);
+      }
+    }
+    fillTable(bringsIntoView);
+    changed();
+  }
+
+  // ---- filters and the table ----
+
+  const ROW = 22;
+  let listed = commands;
+
+  function filter() {
+    const form = new FormData(byId("filters"));
+    const words = Object.fromEntries([...form].map(([name, value]) => [name, value.trim().toLowerCase()]).filter(([, value]) => value));
+    const tests = {
+      job: (it, value) => String(it.job) === value,
+      host: (it, value) => String(it.host) === value,
+      cid: (it, value) => it.cids.some((cid) => String(cid) === value),
+      unit: (it, value) => it.isIn(Number(value)),
+      lba: (it, value) => it.has(Number(value)),
+      kind: (it, value) => it.kind === value,
+      status: (it, value) => it.statuses.includes(value),
+      text: (it, value) => `${it.words} ${it.status} ${it.data === null ? "" : page.runs[it.data]}`.toLowerCase().includes(value),
+    };
+    const names = Object.keys(words);
+    listed = names.length ? commands.filter((it) => names.every((name) => tests[name](it, words[name]))) : commands;
+    matching = names.length ? new Set(listed) : null;
+    byId("count").textContent = names.length ? `${listed.length} of ${commands.length}` : `${commands.length} commands`;
+    byId("table").scrollTop = 0;
+    fillTable(false);
+    if (words.job && listed.length === 1) {
+      pick(listed[0], true);
+    }
+    changed();
+  }
+
+  function cellsOf(command) {
+    const where = isTrace ? `${command.began} – ${command.ended === null ? "" : command.ended}` : command.worker === null ? "" : `worker ${command.worker}`;
+    const data = command.data === null ? "" : page.runs[command.data].slice(0, 80);
+    return [`${command.job}`, `${command.host}`, command.cids.join(" "), where, `${KINDS[command.kind][0]} ${KINDS[command.kind][1]}`, command.words.slice(0, 160), command.status, data];
+  }
+
+  function rowElement(cells, kind, role) {
+    const it = element("div", "", `row ${kind}`);
+    it.role = "row";
+    it.append(
+      ...cells.map((text) => {
+        const cell = element("span", text);
+        cell.role = role;
+        return cell;
+      }),
+    );
+    return it;
+  }
+
+  /** The rows of the table that are in view, and room for the others. */
+  function fillTable(bringsIntoView) {
+    const table = byId("table");
+    if (bringsIntoView && picked) {
+      const place = listed.indexOf(picked);
+      if (place >= 0 && (place * ROW < table.scrollTop || (place + 3) * ROW > table.scrollTop + table.clientHeight)) {
+        table.scrollTop = Math.max(place * ROW - table.clientHeight / 2, 0);
+      }
+    }
+    const first = Math.max(Math.floor(table.scrollTop / ROW) - 5, 0);
+    const last = Math.min(first + Math.ceil(table.clientHeight / ROW) + 12, listed.length);
+    const head = rowElement(["job", "host", "CID", isTrace ? "began – ended" : "worker", "kind", "command", "status", "data"], "head", "columnheader");
+    const space = element("div", "");
+    space.style.height = `${(listed.length - 0) * ROW}px`;
+    const shown = [];
+    for (let place = first; place < last; place += 1) {
+      const command = listed[place];
+      const row = rowElement(cellsOf(command), `${command.isNamed ? "named" : ""} ${command === picked ? "picked" : ""}`, "cell");
+      row.style.top = `${(place + 1) * ROW}px`;
+      row.setAttribute("aria-rowindex", String(place + 2));
+      row.addEventListener("click", () => pick(command, true));
+      shown.push(row);
+    }
+    table.setAttribute("aria-rowcount", String(listed.length + 1));
+    table.replaceChildren(head, space, ...shown);
+  }
+
+  function step(by) {
+    const place = picked ? listed.indexOf(picked) : -1;
+    const next = listed[Math.min(Math.max(place + by, 0), listed.length - 1)];
+    if (next) {
+      pick(next, true);
+    }
+  }
+
+  // ---- the place in the page's address ----
+
+  function keepPlace() {
+    const words = [`x=${view.x.toFixed(2)}`, `k=${view.k.toFixed(2)}`, `top=${Math.round(view.top)}`];
+    if (picked) {
+      words.unshift(`job=${picked.job}`);
+    }
+    if (byId("only").checked) {
+      words.push("only=1");
+    }
+    try {
+      history.replaceState(null, "", `#${words.join("&")}`);
+    } catch {
+      // A page without an address of its own keeps no place.
+    }
+  }
+
+  function takePlace(words) {
+    if (words.has("only")) {
+      byId("only").checked = words.get("only") === "1";
+      layOut();
+    }
+    const job = words.get("job");
+    if (job !== null && commands[Number(job)]) {
+      pick(commands[Number(job)], true);
+    }
+    for (const name of ["x", "k", "top"]) {
+      const value = Number(words.get(name));
+      if (words.has(name) && Number.isFinite(value)) {
+        view[name] = value;
+      }
+    }
+    changed();
+  }
+
+  // ---- what the reader does ----
+
+  function itemAt(event) {
+    const box = chart.getBoundingClientRect();
+    const x = view.x + (event.clientX - box.left - LEFT) / view.k;
+    const y = event.clientY - box.top - TOP + view.top;
+    if (event.clientX - box.left < LEFT) {
+      return null;
+    }
+    const row = rows.find((it) => y >= it.y && y < it.y + LANE);
+    const slack = 4 / view.k;
+    const item = row && row.items[firstAt(row.items, x - slack)];
+    return item && item.x0 <= x + slack ? item : null;
+  }
+
+  function hintOf(item) {
+    const { command, entry, part } = item;
+    const place = entry ? `unit ${entry.unit} place ${entry.place}\n` : part && item.row.kind === "unit" ? `unit ${part.unit} point ${part.point} ${part.result}\n` : "";
+    const marks = item.last ? "the last change before the fault\n" : item.bad && !isTrace ? "the first fault\n" : "";
+    return command ? `${marks}${place}job ${command.job} host ${command.host} cid ${command.cids.join(" ")}\n${shortened(command.words, 200)}\n${command.status}` : `${marks}${place}a preparation`;
+  }
+
+  function listen() {
+    const pointers = new Map();
+    let start = null;
+    let spread = 0;
+    chart.addEventListener("wheel", (event) => {
+      event.preventDefault();
+      const box = chart.getBoundingClientRect();
+      if (event.shiftKey || Math.abs(event.deltaX) > Math.abs(event.deltaY)) {
+        view.x += (event.deltaX || event.deltaY) / view.k;
+        changed();
+      } else if (event.altKey) {
+        view.top += event.deltaY;
+        changed();
+      } else {
+        zoom(Math.exp(-event.deltaY / 400), Math.max(event.clientX - box.left - LEFT, 0));
+      }
+    }, { passive: false });
+    chart.addEventListener("pointerdown", (event) => {
+      pointers.set(event.pointerId, event);
+      start = { x: event.clientX, y: event.clientY, moved: false };
+      spread = 0;
+    });
+    window.addEventListener("pointermove", (event) => {
+      if (!pointers.has(event.pointerId)) {
+        hover(event);
+        return;
+      }
+      const before = pointers.get(event.pointerId);
+      pointers.set(event.pointerId, event);
+      if (pointers.size === 2) {
+        const [one, other] = [...pointers.values()];
+        const now = Math.hypot(one.clientX - other.clientX, one.clientY - other.clientY);
+        if (spread) {
+          zoom(now / spread, (one.clientX + other.clientX) / 2 - chart.getBoundingClientRect().left - LEFT);
+        }
+        spread = now;
+        return;
+      }
+      if (start && Math.hypot(event.clientX - start.x, event.clientY - start.y) > 4) {
+        start.moved = true;
+        chart.classList.add("moved");
+      }
+      if (start && start.moved) {
+        view.x -= (event.clientX - before.clientX) / view.k;
+        view.top -= event.clientY - before.clientY;
+        changed();
+      }
+    });
+    window.addEventListener("pointerup", (event) => {
+      if (pointers.delete(event.pointerId) && start && !start.moved) {
+        const item = itemAt(event);
+        pick(item && item.command, false);
+      }
+      chart.classList.remove("moved");
+    });
+    window.addEventListener("pointercancel", (event) => pointers.delete(event.pointerId));
+    chart.addEventListener("pointerleave", () => {
+      byId("hint").hidden = true;
+    });
+    const keys = {
+      ArrowLeft: () => (view.x -= 60 / view.k), ArrowRight: () => (view.x += 60 / view.k), ArrowUp: () => (view.top -= LANE), ArrowDown: () => (view.top += LANE),
+      "+": () => zoom(1.3, room().w / 2), "=": () => zoom(1.3, room().w / 2), "-": () => zoom(1 / 1.3, room().w / 2), 0: showAll, v: showVerdict,
+      n: () => step(1), p: () => step(-1), Escape: () => pick(null, false), Home: () => (view.x = -1), End: () => (view.x = width),
+    }; // prettier-ignore
+    chart.addEventListener("keydown", (event) => {
+      const deed = keys[event.key] || keys[event.key.toLowerCase()];
+      if (deed && !event.ctrlKey && !event.metaKey) {
+        event.preventDefault();
+        deed();
+        changed();
+      }
+    });
+    byId("table").addEventListener("scroll", () => fillTable(false));
+    byId("table").addEventListener("keydown", (event) => {
+      const by = { ArrowDown: 1, ArrowUp: -1, PageDown: 10, PageUp: -10 }[event.key];
+      if (by) {
+        event.preventDefault();
+        step(by);
+      }
+    });
+    byId("filters").addEventListener("input", filter);
+    byId("filters").addEventListener("submit", (event) => event.preventDefault());
+    byId("filters").addEventListener("reset", () => setTimeout(filter));
+    byId("closer").addEventListener("click", () => zoom(1.5, room().w / 2));
+    byId("wider").addEventListener("click", () => zoom(1 / 1.5, room().w / 2));
+    byId("whole").addEventListener("click", showAll);
+    byId("place").addEventListener("click", showVerdict);
+    byId("save").addEventListener("click", save);
+    for (const name of ["only", "clock"]) {
+      byId(name).addEventListener("change", () => {
+        layOut();
+        showVerdict();
+      });
+    }
+    window.addEventListener("resize", changed);
+    window.addEventListener("hashchange", () => takePlace(new URLSearchParams(location.hash.slice(1))));
+    matchMedia("(prefers-color-scheme: dark)").addEventListener("change", () => {
+      fillKey();
+      changed();
+    });
+  }
+
+  function hover(event) {
+    const box = chart.getBoundingClientRect();
+    const isInside = event.clientX >= box.left && event.clientX < box.right && event.clientY >= box.top && event.clientY < box.bottom;
+    const item = isInside ? itemAt(event) : null;
+    const hint = byId("hint");
+    hint.hidden = !item;
+    if (item) {
+      hint.textContent = hintOf(item);
+      hint.style.left = `${Math.min(event.clientX - box.left + 12, Math.max(box.width - 430, 0))}px`;
+      hint.style.top = `${Math.min(event.clientY - box.top + 14, Math.max(box.height - 90, 0))}px`;
+    }
+  }
+
+  // ---- the verdict, in words ----
+
+  function headline() {
+    const numbers = Object.fromEntries([...page.verdict.matchAll(/(\w+) (\d+)/g)].map((it) => [it[1], it[2]]));
+    const refused = numbers.refused && numbers.refused !== "0" ? `, ${numbers.refused} refused for want of memory` : "";
+    switch (page.verdict.split(" ")[0]) {
+      case "lawful":
+        return `Lawful: ${numbers.jobs} jobs made ${numbers.changes} changes in ${numbers.units} units${refused}`;
+      case "unlawful":
+        return `Not lawful: ${page.fault.fault} at job ${page.fault.job}${page.fault.unit === null || page.fault.unit === undefined ? "" : `, unit ${page.fault.unit}, place ${page.fault.place}`}`;
+      case "explained":
+        return `Explained: an order of ${numbers.steps} steps in ${numbers.units} units gives what the hosts of ${numbers.jobs} commands saw${numbers.excused === "0" ? "" : `, ${numbers.excused} excused`}`;
+      default:
+        return `Contradiction: no order of these ${page.named.length} commands in unit ${page.unit} gives what their hosts saw`;
+    }
+  }
+
+  function fillWhy() {
+    const why = byId("why");
+    if (page.kind === "contradiction") {
+      const list = document.createElement("ol");
+      page.facts.forEach((fact) => list.append(linked("li", factText(fact), fact.isRed ? "bad" : "")));
+      why.append(element("h2", "Why"), list, linked("p", page.itself ? `So ${nameOf(page.itself)} stands before itself.` : "This alone is the contradiction.", "bad"));
+      why.append(element("p", "Judged by the profile that nvq certify holds a device to (its manual page says which).", "quiet"));
+      return;
+    }
+    const list = document.createElement("ul");
+    page.lines.slice(0, 200).forEach((line) => list.append(linked("li", shortened(line, 400), /^(first difference|the step gives)/.test(line) ? "bad" : /^last change/.test(line) ? "last" : "")));
+    why.append(element("h2", page.fault ? "What is wrong" : "What was found"), list);
+  }
+
+  function fillKey() {
+    const list = document.createElement("ul");
+    const used = new Set(commands.map((it) => it.kind));
+    for (const [kind, [letter, name, tint]] of Object.entries(KINDS)) {
+      if (used.has(kind)) {
+        const it = document.createElement("li");
+        const look = LOOKS.has(kind);
+        const svg = document.createElementNS("http://www.w3.org/2000/svg", "svg");
+        svg.setAttribute("width", "22");
+        svg.setAttribute("height", "16");
+        const box = document.createElementNS("http://www.w3.org/2000/svg", "rect");
+        for (const [attribute, value] of Object.entries({ x: 1, y: 1, width: 20, height: 14, rx: look ? 7 : 2, fill: look ? "none" : color(tint), stroke: color(tint) })) {
+          box.setAttribute(attribute, String(value));
+        }
+        svg.append(box);
+        it.append(svg, `${letter} ${name}`);
+        list.append(it);
+      }
+    }
+    const marks = ["× and bold: a status that isn't 0/00"];
+    if (page.kind === "contradiction") {
+      marks.push("an arrow: the first of two is before the other, by the fact of that number", "red: what would be before itself");
+    } else if (page.kind === "explained") {
+      marks.push("units: the order that the record gives; a step is drawn where it can be at the earliest");
+    } else {
+      marks.push("a column: one step, in an order that workers and units keep", "units: boxes are changes by place; open ones looked there, F failed, M no memory, L full", "red ring: the first fault; violet, dashed: the last change before it");
+    }
+    byId("key").replaceChildren(element("h2", "Key"), list, ...marks.map((it) => element("p", it, "quiet")));
+  }
+
+  function begin() {
+    for (const done of isTrace ? [] : page.done) {
+      const command = commands[done.job];
+      if (command && command.worker === null) {
+        Object.assign(command, { worker: done.worker, parts: done.parts, statuses: done.statuses, data: done.data });
+      }
+    }
+    const title = byId("verdict");
+    title.textContent = headline();
+    title.className = page.kind === "contradiction" || page.fault ? "bad" : "";
+    document.title = `${page.files.join(", ")}: ${page.verdict}`;
+    const { nsze, nabsn, nabo, nawun, nacwu } = page.namespace;
+    const units = nabsn ? `units of ${nabsn + 1} blocks${nabo ? ` from LBA ${nabo} on` : ""}` : "no boundaries";
+    const more = isTrace ? `, start ${page.namespace.start}, reads ${page.namespace.reads}` : `, ${page.namespace.workers} workers`;
+    byId("about").textContent = `${page.files.join(", ")}: ${page.verdict} · ${nsze} blocks of ${BLOCK} bytes, ${units}, NAWUN ${nawun}, NACWU ${nacwu}${more}`;
+    const kinds = byId("filters").elements.kind;
+    for (const [kind, [, name]] of Object.entries(KINDS)) {
+      const option = element("option", name);
+      option.value = kind;
+      kinds.append(option);
+    }
+    byId("only-label").hidden = page.kind !== "contradiction";
+    byId("only").checked = page.kind === "contradiction";
+    byId("scale-label").hidden = !isTrace;
+    layOut();
+    fillWhy();
+    fillKey();
+    filter();
+    listen();
+    const place = new URLSearchParams(location.hash.slice(1));
+    showVerdict();
+    if (place.size) {
+      takePlace(place);
+    } else if (page.fault && commands[page.fault.job]) {
+      pick(commands[page.fault.job], false);
+    }
+    draw();
+    document.documentElement.dataset.painted = String(Math.round(performance.now()));
+  }
+
+  begin();
+})();
