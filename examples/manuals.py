@@ -44,7 +44,7 @@ EXITS = {
             "witness: the record explains the trace.",
             "certify: a record explains the trace.",
             "run: the commands were done; with --check they ended as the lists expect.",
-            "explain, draw: also where the record is unlawful.",
+            "explain: also where the record is unlawful.",
         ),
         (FAULT,),
         (
@@ -68,19 +68,18 @@ EXAMPLES = {
     "nvq": (
         ("Do the commands of a list in their order, and keep a record of that:", ["nvq run --workers 1 --record own.nvr own.list"]),
         (
-            "Say whether the record is lawful, what is wrong with it or in it, and draw it:",
-            ["nvq audit own.nvr", "nvq explain own.nvr", "nvq draw own.nvr own.svg"],
+            "Say whether the record is lawful, and what is wrong with it or in it:",
+            ["nvq audit own.nvr", "nvq explain own.nvr"],
         ),
         (
             "Say whether a record explains what the hosts of a device saw, and keep that:",
             ["nvq trace own.txt own.nvt", "nvq certify --record found.nvr own.nvt"],
         ),
         (
-            "Keep the argument that nothing explains it, and draw that:",
+            "Keep the argument that nothing explains it:",
             [
                 "nvq trace wrong.txt wrong.nvt",
                 "nvq certify --argument wrong.nva wrong.nvt",
-                "nvq draw --argument wrong.nva wrong.nvt wrong.svg",
             ],
         ),
         (
@@ -162,7 +161,7 @@ ANSWERS = {
         "run --record ": "",
         "run --record out/a.nvr --re": "--record",
         "list --js": "--json",
-        "draw --json": "",
+        "explain --json": "",
     },
 }
 # Reads the script and completes the words behind it, of which the first is the program's name.

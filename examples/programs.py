@@ -16,8 +16,6 @@ sys.path.insert(0, os.path.join(TOP, "sweep"))
 
 from arguments import arguments
 from devices import devices
-from drawn import pictures
-from drawn_arguments import drawn_arguments
 from explained import explained
 from faulty import faulty
 from forged import forged, spoiled
@@ -399,9 +397,9 @@ def words_of_unit_bench(run):
         run.expect(["unit_bench", "run", "0", "1", name], 1, err="unit_bench: no host file\n")
 
 
-TABLES = [lists, wrong_lists, words_of_nvq, listings, listed_objects, lists_run, lists_expected, objects_run, lists_generated, explained, pictures, outs_of_nvq, words_of_nvmu, files_of_nvmu, files_that_stop, several_workers]
+TABLES = [lists, wrong_lists, words_of_nvq, listings, listed_objects, lists_run, lists_expected, objects_run, lists_generated, explained, outs_of_nvq, words_of_nvmu, files_of_nvmu, files_that_stop, several_workers]
 TABLES += [versions, standard_input, files_of_another_kind, outs_that_are_read]
-TABLES += [traces, words_of_certify, records_of_certify, arguments, drawn_arguments, devices, outs_of_nvmu, shown_nowhere, progress, runs, rows, forged, spoiled, faulty, two_owners, words_of_unit_bench]
+TABLES += [traces, words_of_certify, records_of_certify, arguments, devices, outs_of_nvmu, shown_nowhere, progress, runs, rows, forged, spoiled, faulty, two_owners, words_of_unit_bench]
 
 
 # What a table runs that runs something else than both programs for people.

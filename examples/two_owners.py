@@ -30,9 +30,7 @@ def record_of_two_owners():
 
 
 def two_owners(run):
-    """Holds the file to that record, its audit to the second pair's entry, which doesn't succeed behind the first, and its picture to
-    two-owners.svg."""
+    """Holds the file to that record, its audit to the second pair's entry, which doesn't succeed after the first."""
     file = content("two-owners.nvr")
     run.hold("examples/two-owners.nvr", file, spelled(record_of_two_owners()))
     audited(run, file, "unlawful EntryWrong job 1 unit 0 place 1")
-    run.expect(["nvq", "draw", "forged", "-"], out=content("two-owners.svg").decode())

@@ -196,7 +196,6 @@ NEAR = {
     "nvmu witnes a b": "witness",
     "nvq run --worker=1 a": "--workers",
     "nvq audit --jason a": "--json",
-    "nvq draw --units 1 a b": "--unit",
     "nvmu run --nzse=1 a": "--nsze",
 }
 

@@ -234,7 +234,7 @@ int zk_refute(const uint8_t *trace, size_t trace_length, const uint8_t *argument
  * refused is in it, and what zk_read_now answered is not. `ports` are all ports of one namespace, open, in the order in which zk_open
  * had them, and none has a command pending. They stay open and as they are: the run may go on, and be recorded again. The record is
  * audited before it is given, by the audit that zk_audit makes; write the bytes to a file, and `nvmu audit`, `nvq explain` and
- * `nvq draw` read it.
+ * `nvq-view` read it.
  * ZK_DONE: the file stands in the front of `bytes`, and `*length` is how long it is.
  * ZK_SHORT_ROOM: the room is shorter than the file. `*length` is how long that is, and nothing else is written. So a first call with a
  * `room` of 0 asks for the length; it takes as much time and memory as the call that gives the record.

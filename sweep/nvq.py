@@ -1,9 +1,8 @@
-"""The runs of the program nvq that are swept: a host file as a list of commands, and back; the listing of a record, its explanation and
-its picture; and lists that are run."""
+"""The runs of the program nvq that are swept: a host file as a list of commands, and back; the listing of a record and its explanation; and
+lists that are run."""
 
 import os
 import re
-import subprocess
 from dataclasses import replace
 
 from auditor import verdict
@@ -19,7 +18,7 @@ from record_listing import record_listing
 from record_objects import spelled_object, verdict_object
 from recorded import recorded
 from records import spelled
-from witnesses import certified, contradictions, explained, judged, of_text
+from witnesses import certified, explained, judged, of_text
 
 # What is expected at the front of a list's line.
 NO_COMMAND = "expected write, read, compare, zeroes, uncorrectable, dataset, or op- and another opcode in two hexadecimal digits"
@@ -34,7 +33,6 @@ lawful jobs 2 units 4 changes 0 refused 0
 unmet 1 2 op-7f expected 0/00 got 0/01
 expectations 2 unmet 1
 """
-PROGRAM = os.path.join(os.path.dirname(os.path.dirname(os.path.realpath(__file__))), "crates", "nvq", "out", "nvq")
 
 
 def listing(file, block):
@@ -93,11 +91,6 @@ unit 0 place 0 worker 0 job 0 write 0 1 511*41,1*01
 """
 
 
-def picture(words):
-    """What the program draws where it has all memory, which examples/drawn.py holds to a model."""
-    return subprocess.run([PROGRAM, "draw", *words, "-"], stdout=subprocess.PIPE, check=True).stdout
-
-
 def asked():
     return [
         write(0, 0x41, 0x42),
@@ -124,10 +117,6 @@ def runs(folder):
 
     def objects(record):
         return listing_objects(record) + spelled_object(verdict_object(verdict(record)))
-
-    def drawn(name, *words):
-        units = len(of_hosts.namespace.units())
-        return done(name, ["draw", *words, "out.svg"], files={"out.svg": picture(words)}, units=units)
 
     def fault(name, line, *given, hint="", **more):
         return Run(name, "nvq", list(given), 1, err=told(f"nvq: {line}", hint), **more)
@@ -203,11 +192,6 @@ def runs(folder):
         done("a record with a wrong entry is explained", ["explain", wrong_entry], WRONG_ENTRY, units=4),
         done("a record with a wrong comparison is explained", ["explain", wrong_comparison], WRONG_COMPARISON, units=4),
         fault("a cut record to explain", f"{cut_record}: truncated at {len(spelled_record) - 1}", "explain", cut_record),
-        drawn("a record is drawn", record),
-        drawn("a part of an unlawful record is drawn", "--unit", "0", "--from", "1", kept("spoiled", of_one_unit)),
-        drawn("a record of the first version is drawn", first),
-        fault("a unit that a record doesn't have", f"{record}: no unit 4", "draw", "--unit=4", record, "out.svg", hint="units in the record: 4, counted from 0"),
-        fault("a record that can't be drawn", f"{cut_record}: truncated at {len(spelled_record) - 1}", "draw", cut_record, "out.svg"),
         fault("a wrong line", "line 3: expected data of 512 bytes and not of 511", "assemble", wrong, "out", hint=the_line("write 0 1 511*41")),
         fault("a missing list", f"cannot read {missing}", "assemble", missing, "out", hint=MISSING),
         fault("a host file for a list", f"line 1: {NO_COMMAND}", "assemble", file, "out", hint=no_list(file, host)),
@@ -226,7 +210,6 @@ def runs(folder):
         *certified(kept),
         *explained(kept),
         *judged(kept),
-        *contradictions(kept),
         done("lists are generated", ["generate", "--commands", "30", "out-1", "out-2"], files=loads),
         fault("numbers of no namespace to generate for", "geometry: Size", "generate", "--nsze", "0", "out", hint=GEOMETRY["Size"]),
         ran("lists that are run", [plain, file_of([read(0, 2), dataset((0, 1))])]),

@@ -130,27 +130,6 @@ def judged(kept):
     ]
 
 
-def contradictions(kept):
-    """The cases of nvq which draw an argument."""
-    trace, argument = kept("drawn.nvt", spelled(with_seen(TRACE, 1, data=b"\x43" * 512))), kept("drawn.nva", NOBODY)
-    wrong, nothing, cut = kept("wrong.nva", NOBODY[:-1] + b"\1"), kept("nothing.nva", NOBODY[:6] + bytes(8)), kept("cut.nva", NOBODY[:-1])
-    drawing = [NVQ, "draw", "--argument", argument, trace, "-"]
-    picture = subprocess.run(drawing, stdout=subprocess.PIPE, check=True).stdout
-
-    def words(file):
-        return ["draw", "--argument", file, trace, "out.svg"]
-
-    def fault(name, file, line):
-        return Run(name, "nvq", words(file), 1, err=f"nvq: {file}: {line}\n", before={"out.svg": b"old"})
-
-    return [
-        Run("an argument is drawn", "nvq", words(argument), out="", files={"out.svg": picture}),
-        fault("a wrong fact to draw", wrong, "unrefuted FactWrong fact 0"),
-        fault("no fact to draw", nothing, "unrefuted NothingRefuted"),
-        fault("a cut argument to draw", cut, f"truncated at {len(NOBODY) - 8}"),
-    ]
-
-
 def line_of(trace, number):
     """The line of a trace's job in its text."""
     return text_of(trace).splitlines(keepends=True)[1 + number]

@@ -3,7 +3,7 @@ _nvq() {
     local IFS=$' \t\n' word=${COMP_WORDS[COMP_CWORD]} before=${COMP_WORDS[COMP_CWORD - 1]} options='' valued=''
     COMPREPLY=()
     if [ "$COMP_CWORD" -eq 1 ] || [ "${COMP_WORDS[1]}" = help ]; then
-        COMPREPLY=($(compgen -W "run generate assemble trace list audit witness certify explain draw help -h --help -V --version" -- "$word"))
+        COMPREPLY=($(compgen -W "run generate assemble trace list audit witness certify explain help -h --help -V --version" -- "$word"))
         return
     fi
     case ${COMP_WORDS[1]} in
@@ -42,10 +42,6 @@ _nvq() {
     explain)
         options="--strict -h --help"
         valued=""
-        ;;
-    draw)
-        options="--unit --from --argument --strict -h --help"
-        valued="--unit --from --argument"
         ;;
     esac
     # Where nothing is answered bash takes files: for an argument, and for what an option wants.

@@ -1,13 +1,8 @@
 -- What is said of a file's bytes is said of the file at its path.
-use Rattle.std.proofs.Common.{◌≡◌, ◌⊎◌, ℕ, List, Option, Err, inl, inr, sym, subst, ap, ◌∙◌}
-use Rattle.nvm_argument.specs.Reading.{argument_at}
-use Rattle.nvm_argument.specs.declared.argument_fault.ArgumentFault.{ArgumentFault}
-use Rattle.nvm_argument.specs.declared.argument_fault.ArgumentFault.TheVariants.{NoMemory}
+use Rattle.std.proofs.Common.{◌≡◌, ◌⊎◌, ℕ, List, inl, inr, sym, subst}
 use Rattle.nvq.specs.Audited.{IsUnwitnessed}
-use Rattle.nvq.specs.Drawn.{IsPictureFault, IsDrawingFault}
-use Rattle.nvq.specs.DrawnArgument.{IsFaultOfArgumentIn, IsToldOfArgument}
 use Rattle.nvq.specs.Explained.{IsExplainingFault, IsStoryFault, IsUntold}
-use Rattle.nvq.specs.Fault.{IsFaultOfRecordAt, IsFaultOfRecordIn, IsFaultOfTraceAt, IsFaultOfTraceIn, fault_of_argument}
+use Rattle.nvq.specs.Fault.{IsFaultOfRecordAt, IsFaultOfRecordIn, IsFaultOfTraceAt, IsFaultOfTraceIn}
 use Rattle.nvq.specs.Files.{IsReadFault}
 use Rattle.nvq.specs.declared.explaining_words.ExplainWords.{ExplainWords}
 use Rattle.nvq.specs.declared.explaining_words.ExplainWords.TheVariants.{Record, Trace}
@@ -30,15 +25,3 @@ story_fault trace seen run held fault (inr is) = inr (inr (record_fault run held
 pub untold : (words : ExplainWords) (fault : Fault) → IsUntold words fault → IsExplainingFault words fault
 untold (Record path) fault is = inl is
 untold (Trace judging trace path) fault is = inl is
-
-pub picture_fault : (unit : Option ℕ) (path file out : List ℕ) (fault : Fault) → IsPictureFault unit path file fault
-    → IsDrawingFault unit path out fault
-picture_fault unit path file out fault (inl is) = inl (record_fault path file fault is)
-picture_fault unit path file out fault (inr (run, holds, is)) = inr (inl (file, run, holds, is))
-
-pub argument_fault : (path file : List ℕ) (of : ArgumentFault) (fault : Fault) → (argument_at file ≡ Err of) ⊎ (of ≡ NoMemory)
-    → IsToldOfArgument path of fault → IsFaultOfArgumentIn path file fault
-argument_fault path file of fault (inl is) told = inr (of, is, told)
-argument_fault path file of fault (inr none) (inl is) = inl is
-argument_fault path file of fault (inr none) (inr (shown, at, is)) =
-    inl (is ∙ ap (λ (f : ArgumentFault). fault_of_argument shown f) none)

@@ -36,9 +36,6 @@ reading_at paths k path (of.Trailing shown at) lt is h = h
 reading_at paths k path (of.BadValue shown at) lt is h = h
 reading_at paths k path (of.BeganAtZero shown at) lt is h = h
 reading_at paths k path (of.EndedBefore shown at) lt is h = h
-reading_at paths k path (of.NoUnit shown unit) lt is h = h
-reading_at paths k path (of.FactWrong shown fact) lt is h = h
-reading_at paths k path (of.NothingRefuted shown) lt is h = h
 
 -- the same of writing
 pub writing_at : (paths : List (List ℕ)) (k : ℕ) (path : List ℕ) (fault : Fault) → k < length paths → get_or paths k path ≡ path
@@ -64,9 +61,6 @@ writing_at paths k path (of.Trailing shown at) lt is h = h
 writing_at paths k path (of.BadValue shown at) lt is h = h
 writing_at paths k path (of.BeganAtZero shown at) lt is h = h
 writing_at paths k path (of.EndedBefore shown at) lt is h = h
-writing_at paths k path (of.NoUnit shown unit) lt is h = h
-writing_at paths k path (of.FactWrong shown fact) lt is h = h
-writing_at paths k path (of.NothingRefuted shown) lt is h = h
 
 -- the same of an expectation
 pub expecting_at : (paths : List (List ℕ)) (k : ℕ) (path list : List ℕ) (fault : Fault) → k < length paths → get_or paths k path ≡ path
@@ -92,9 +86,6 @@ expecting_at paths k path list (of.Trailing shown at) lt is h = h
 expecting_at paths k path list (of.BadValue shown at) lt is h = h
 expecting_at paths k path list (of.BeganAtZero shown at) lt is h = h
 expecting_at paths k path list (of.EndedBefore shown at) lt is h = h
-expecting_at paths k path list (of.NoUnit shown unit) lt is h = h
-expecting_at paths k path list (of.FactWrong shown fact) lt is h = h
-expecting_at paths k path list (of.NothingRefuted shown) lt is h = h
 
 -- the bytes of the string at a place
 pub bytes_at : (paths : List (String Global)) (k : ℕ) (path : String Global) → k < length paths → get_or paths k path ≡ path

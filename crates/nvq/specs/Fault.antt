@@ -13,8 +13,6 @@ use Rattle.nvm_file.specs.declared.record_fault.RecordFault.TheVariants as of_re
 use Rattle.nvm_file.specs.TraceReading.{trace_at}
 use Rattle.nvm_file.specs.declared.trace_file_fault.TraceFileFault.{TraceFileFault}
 use Rattle.nvm_file.specs.declared.trace_file_fault.TraceFileFault.TheVariants as of_trace
-use Rattle.nvm_argument.specs.declared.argument_fault.ArgumentFault.{ArgumentFault}
-use Rattle.nvm_argument.specs.declared.argument_fault.ArgumentFault.TheVariants as of_argument
 use Rattle.nvm_trace_text.specs.Texts.{IsTextFault}
 use Rattle.nvm_trace_text.specs.declared.fault.TextFault.{TextFault}
 use Rattle.nvm_trace_text.specs.declared.fault.TextFault.TheVariants as of_text
@@ -51,14 +49,6 @@ fault_of_trace path (of_trace.BadValue at) = BadValue path at
 fault_of_trace path (of_trace.BeganAtZero at) = BeganAtZero path at
 fault_of_trace path (of_trace.EndedBefore at) = EndedBefore path at
 fault_of_trace path of_trace.NoMemory = NoMemory
-
--- an argument's fault has its path
-abbrev pub fault_of_argument : String Global → ArgumentFault → Fault
-fault_of_argument path of_argument.BadName = BadName path
-fault_of_argument path (of_argument.Truncated at) = Truncated path at
-fault_of_argument path (of_argument.Trailing at) = Trailing path at
-fault_of_argument path (of_argument.BadValue at) = BadValue path at
-fault_of_argument path of_argument.NoMemory = NoMemory
 
 -- the fault of a trace's text has its line, if it has one
 abbrev pub fault_of_text : TextFault → Fault

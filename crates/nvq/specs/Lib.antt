@@ -1,7 +1,5 @@
 pub mod Audited
 pub mod Certified
-pub mod Drawn
-pub mod DrawnArgument
 pub mod Explained
 pub mod Fault
 pub mod Expecting

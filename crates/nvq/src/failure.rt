@@ -1,5 +1,4 @@
 ghost use Rattle.std.specs.Prelude.{◌≡◌};
-ghost use Rattle.nvq.specs.Drawn.{IsNoUnit};
 
 use crate::fault::Fault;
 use nvm_front::{VERSIONS, no_host_file, no_list, no_namespace, no_record, no_trace, other_block};
@@ -84,16 +83,6 @@ pub fn of_trace(alloc: Global, fault: Fault, path: &str, file: &[u8]) -> Failure
     Failure::hinted(fault, hint)
 }
 
-/// The failure of a unit that the record at a path doesn't have, whose namespace has `units`, or want of memory for the path.
-pub fn of_unit(alloc: Global, path: &str, unit: u16, units: u16) -> Failure
-    ensures { IsNoUnit unit path.now result.fault }
-{
-    match String::from_str(alloc, path) {
-        Ok(path) => Failure::hinted(Fault::NoUnit { path, unit }, units_there(alloc, units)),
-        Err(error) => Failure::from(error),
-    }
-}
-
 /// The failure of a trace's text that was read from a path. What helps is what the file is instead, or else the line.
 pub fn of_text(alloc: Global, fault: Fault, path: &str, text: &[u8]) -> Failure
     ensures { result.fault ≡ fault }
@@ -121,11 +110,6 @@ fn wrong_line(
 /// Which versions of records are known.
 fn versions(alloc: Global) -> Result<Option<String>, AllocError> {
     Ok(Some(String::from_str(alloc, VERSIONS)?))
-}
-
-/// How many units a record has.
-fn units_there(alloc: Global, units: u16) -> Result<Option<String>, AllocError> {
-    Ok(Some(format!(in alloc; "units in the record: {units}, counted from 0")?))
 }
 
 fn too_many(alloc: Global, count: usize) -> Result<Option<String>, AllocError> {

@@ -1,8 +1,7 @@
 ghost use Rattle.std.specs.Prelude.{◌≡◌};
 ghost use Rattle.nvq.specs.declared.fault.Fault.TheVariants.{NoMemory};
-ghost use Rattle.nvq.specs.Fault.{fault_of_argument, fault_of_list, fault_of_file, fault_of_record, fault_of_text, fault_of_trace};
+ghost use Rattle.nvq.specs.Fault.{fault_of_list, fault_of_file, fault_of_record, fault_of_text, fault_of_trace};
 
-use nvm_argument::ArgumentFault;
 use nvm_expect::Expected as Unexpected;
 use nvm_file::{RecordFault, TraceFileFault};
 use nvm_geometry::GeometryFault;
@@ -114,23 +113,6 @@ pub enum Fault {
         path: String,
         at: u64,
     },
-    /// The namespace of the record doesn't have the unit of which the picture should begin.
-    #[error("{path}: no unit {unit}")]
-    NoUnit {
-        path: String,
-        unit: u16,
-    },
-    /// The argument's fact of this number, counted from 0, isn't given by its rule and the facts before it. It is the first such.
-    #[error("{path}: unrefuted FactWrong fact {fact}")]
-    FactWrong {
-        path: String,
-        fact: usize,
-    },
-    /// The argument's facts don't contradict each other, or are about another trace.
-    #[error("{path}: unrefuted NothingRefuted")]
-    NothingRefuted {
-        path: String,
-    },
     /// Memory was asked for and refused.
     #[error("no memory")]
     NoMemory,
@@ -175,19 +157,6 @@ impl Fault {
             TraceFileFault::BeganAtZero { at } => Fault::BeganAtZero { path, at },
             TraceFileFault::EndedBefore { at } => Fault::EndedBefore { path, at },
             TraceFileFault::NoMemory => Fault::NoMemory,
-        }
-    }
-
-    /// The fault of an argument's file.
-    pub fn of_argument(path: String, fault: ArgumentFault) -> Fault
-        ensures { result ≡ fault_of_argument path fault }
-    {
-        match fault {
-            ArgumentFault::BadName => Fault::BadName { path },
-            ArgumentFault::Truncated { at } => Fault::Truncated { path, at },
-            ArgumentFault::Trailing { at } => Fault::Trailing { path, at },
-            ArgumentFault::BadValue { at } => Fault::BadValue { path, at },
-            ArgumentFault::NoMemory => Fault::NoMemory,
         }
     }
 }

@@ -1,12 +1,10 @@
 //! The program `nvq`: runs lists of commands, which people write or a seed gives, makes them into host files, lists those, records and
-//! traces, makes the text of traces into files, judges records and traces, and explains and draws records. It draws why nothing explains a
-//! trace, too.
+//! traces, makes the text of traces into files, judges records and traces, and explains records.
 #![tactic(auto)]
 
 ghost use Rattle.std.specs.Prelude.{IfErr, IfOk, string_bytes};
 ghost use Rattle.nvq.specs.Files.{IsAssemblingFault, IsListingFault, IsOfListedFile};
 
-mod argument_drawing;
 mod auditing;
 mod auditing_words;
 mod certifying;
@@ -14,8 +12,6 @@ mod certifying_words;
 mod checked;
 mod conversion;
 mod conversion_words;
-mod drawing;
-mod drawing_words;
 mod explaining;
 mod explaining_words;
 mod failure;
@@ -35,11 +31,9 @@ mod told_run;
 mod tracing;
 mod words;
 
-use crate::argument_drawing::run_draw_argument;
 use crate::auditing::{run_audit, run_audit_all, run_witness};
 use crate::certifying::run_certify;
 use crate::conversion::{file_of, list_of};
-use crate::drawing::run_draw;
 use crate::explaining::run_explain;
 use crate::failure::{Failure, of_file};
 use crate::files::{bytes_of, check_output, write_bytes};
@@ -118,16 +112,6 @@ fn run<R: AllocGlobal + Files + Input + Print + Eprint + Threads + Wait + Sync>(
         }
         Asked::Certify(words) => return run_certify(rt, &words, progress),
         Asked::Explain(words) => run_explain(rt, &words, progress)?,
-        Asked::Draw(words) => {
-            let (file, out) = (words.file.as_str(), words.out.as_str());
-            match &words.argument {
-                Some(argument) => {
-                    let argument = argument.as_str();
-                    run_draw_argument(rt, words.judging, file, argument, out, progress)?;
-                }
-                None => run_draw(rt, words.window, file, out, progress)?,
-            }
-        }
     }
     Ok(0)
 }

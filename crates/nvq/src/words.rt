@@ -6,7 +6,6 @@ use crate::certifying_words::{CertifyWords, certify_command, read_certify};
 use crate::conversion_words::{
     assemble_asked, assemble_command, list_asked, list_command, trace_asked, trace_command,
 };
-use crate::drawing_words::{DrawWords, draw_command, read_draw};
 use crate::explaining_words::{ExplainWords, explain_command, read_explain};
 use crate::generating_words::{GenerateWords, generate_command, read_generate};
 use crate::running_words::{RunWords, read_run, run_command};
@@ -53,8 +52,6 @@ pub enum Asked {
     Certify(CertifyWords),
     /// `nvq explain`: explain a record, or whether it explains a trace.
     Explain(ExplainWords),
-    /// `nvq draw`: draw a record, or why nothing explains a trace.
-    Draw(DrawWords),
 }
 
 /// Reads the words after the program's name. A block has 512 bytes where no size is given, and a run and a load have one list or more.
@@ -83,7 +80,6 @@ fn asked_of(alloc: Global, matches: &ArgMatches<'_>) -> Result<Option<Asked>, Wo
         Some(("witness", words)) => witness_asked(alloc, words),
         Some(("certify", words)) => certify_asked(alloc, words),
         Some(("explain", words)) => explain_asked(alloc, words),
-        Some(("draw", words)) => draw_asked(alloc, words),
         _ => Ok(None),
     }
 }
@@ -152,23 +148,13 @@ fn explain_asked(alloc: Global, words: &ArgMatches<'_>) -> Result<Option<Asked>,
     }
 }
 
-/// What `nvq draw` is asked, or `None` where a path is missing.
-fn draw_asked(alloc: Global, words: &ArgMatches<'_>) -> Result<Option<Asked>, WordFault>
-    ensures { IfOk result (λ asked. IfSome asked IsAsked) }
-{
-    match read_draw(alloc, words)? {
-        Some(draw) => Ok(Some(Asked::Draw(draw))),
-        None => Ok(None),
-    }
-}
-
 /// The command line of the program.
 fn program<'a>(alloc: Global) -> Result<Command<'a>, Error> {
     let program = Command::new(alloc, "nvq")
         .bin_name("nvq")?
         .version(VERSION)
         .about(
-            "Runs lists of NVM commands, generates such lists, makes them into host files, lists those, records and traces, judges records and traces, and explains and draws records",
+            "Runs lists of NVM commands, generates such lists, makes them into host files, lists those, records and traces, judges records and traces, and explains records",
         )
         .no_binary_name(true)
         .subcommand_required(true);
@@ -192,19 +178,17 @@ fn with_makers<'a>(alloc: Global, program: Command<'a>) -> Result<Command<'a>, E
     )
 }
 
-/// With the commands that judge, explain and draw.
+/// With the commands that judge and explain.
 fn with_judges<'a>(alloc: Global, program: Command<'a>) -> Result<Command<'a>, Error> {
     let audit = auditing_command(alloc)?;
     let witness = witness_command(alloc)?;
     let certify = certify_command(alloc)?;
     let explain = explain_command(alloc)?;
-    let draw = draw_command(alloc)?;
     Ok(
         program
             .subcommand(audit)?
             .subcommand(witness)?
             .subcommand(certify)?
-            .subcommand(explain)?
-            .subcommand(draw)?,
+            .subcommand(explain)?,
     )
 }

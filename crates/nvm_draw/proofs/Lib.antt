@@ -1,4 +1,0 @@
-pub mod Chains
-pub mod Room
-pub mod ByNumber
-pub mod UsedUnits

@@ -1,0 +1,236 @@
+#!/usr/bin/env python3
+"""Looks at the pages of nvq-view in a browser, Debian's chromium without a window: what a reader finds there, and what filters and jumps do.
+
+A page is opened in a frame of a page of ours, which asks for things as a reader would and writes down what is there then. Where there is no browser, nothing is
+looked at, and that is said. As a program it prints how many rows held.
+"""
+
+import json
+import os
+import re
+import shutil
+import subprocess
+import sys
+import tempfile
+
+HERE = os.path.dirname(os.path.realpath(__file__))
+TOP = os.path.dirname(HERE)
+VIEW = os.path.join(TOP, "nvq-view")
+NVQ = os.path.join(TOP, "crates", "nvq", "out", "nvq")
+SECONDS = 90
+
+HEAD = "trace nsze 32 block 512 nabsn 7 nabo 0 nawun 7 nacwu 3 first 0 start {start} reads whole\n"
+STALE = HEAD.format(start="zeroes") + (
+    "1 2 1 1 write 9 1 41 = 0/00\n3 4 1 2 write 9 1 42 = 0/00\n5 6 2 1 read 9 1 = 0/00 512*41\n7 - 2 2 write 20 1 43\n"
+)
+FRESH = STALE.replace("= 0/00 512*41", "= 0/00 512*42")
+# A Read and a Write that are under way together: each may be first.
+OPEN = HEAD.format(start="unknown") + "1 9 1 1 write 0 2 55 = 0/00\n2 8 2 7 compare 0 1 55 = 2/85\n10 11 2 8 dataset 0+1 deallocate = 0/00\n"
+
+# What the reader does, and what is written down: the text of elements, and how many there are.
+HARNESS = """<!doctype html><meta charset="utf-8"><iframe id="page" style="width:1300px;height:900px"></iframe><pre id="said"></pre><script>
+const frame = document.getElementById("page"), said = {};
+window.addEventListener("error", (event) => { said.error = event.message; });
+const put = () => { document.getElementById("said").textContent = JSON.stringify(said); };
+frame.addEventListener("load", () => setTimeout(() => {
+  const page = frame.contentDocument, of = (it) => [...page.querySelectorAll(it)].map((e) => e.textContent);
+  frame.contentWindow.addEventListener("error", (event) => { said.error = event.message; });
+  said.painted = page.documentElement.dataset.painted || null;
+  said.verdict = page.getElementById("verdict").textContent;
+  said.why = of("#why li, #why p");
+  said.labels = of("#labels div");
+  said.named = of("#table .named span:first-child");
+  said.details = of("#details h2");
+  said.only = page.getElementById("only").checked;
+  const form = page.getElementById("filters"), count = () => page.getElementById("count").textContent;
+  said.filtered = {};
+  for (const [name, value] of WORDS) {
+    form.elements[name].value = value;
+    form.dispatchEvent(new Event("input"));
+    said.filtered[name] = [count(), of("#table .row span:first-child").slice(1)];
+    form.elements[name].value = "";
+  }
+  form.dispatchEvent(new Event("input"));
+  said.all = count();
+  form.elements.job.value = "JOB";
+  form.dispatchEvent(new Event("input"));
+  said.jumped = of("#details h2")[0];
+  said.fields = of("#details dt, #details dd");
+  said.hash = frame.contentWindow.location.hash;
+  page.getElementById("chart").dispatchEvent(new KeyboardEvent("keydown", { key: "n" }));
+  said.stepped = of("#details h2")[0];
+  page.getElementById("chart").dispatchEvent(new KeyboardEvent("keydown", { key: "0" }));
+  put();
+}, 300));
+frame.src = "PAGE";
+</script>"""
+
+
+class Rows:
+    """How many rows held, and which didn't."""
+
+    def __init__(self):
+        self.passed = self.failed = 0
+
+    def hold(self, what, found, wanted):
+        if found == wanted:
+            self.passed += 1
+        else:
+            self.failed += 1
+            print(f"viewed: {what}: {found!r}, and not {wanted!r}")
+
+    def has(self, what, found, wanted):
+        self.hold(f"{what}: {wanted!r} in {found!r}", wanted in found, True)
+
+
+def browser():
+    return next(filter(None, map(shutil.which, ("chromium", "chromium-browser", "google-chrome"))), None)
+
+
+def environment():
+    return {**os.environ, "NVQ": NVQ}
+
+
+def written(words):
+    """The exit status of nvq-view, and its line."""
+    done = subprocess.run([VIEW, *words], stdin=subprocess.DEVNULL, capture_output=True, text=True, env=environment(), check=False)
+    return done.returncode, done.stdout + done.stderr
+
+
+def looked(folder, page, words, job):
+    """What is found in the page where these filters are set one by one, and then a job is asked for."""
+    harness = HARNESS.replace("PAGE", page).replace("WORDS", json.dumps(words)).replace("JOB", str(job))
+    path = os.path.join(folder, "harness.html")
+    with open(path, "w", encoding="utf-8") as file:
+        file.write(harness)
+    flags = ["--headless=new", "--no-sandbox", "--disable-gpu", "--allow-file-access-from-files", "--virtual-time-budget=6000", f"--user-data-dir={folder}/profile"]
+    done = subprocess.run([browser(), *flags, "--dump-dom", f"file://{path}"], capture_output=True, text=True, timeout=SECONDS, check=False)
+    found = re.search(r'<pre id="said">(.*?)</pre>', done.stdout, re.DOTALL)
+    if not found or not found[1]:
+        return {}
+    told = found[1].replace("&lt;", "<").replace("&gt;", ">").replace("&amp;", "&")
+    return json.loads(told)
+
+
+def record(rows, folder):
+    status, told = written([os.path.join(HERE, "two-owners.nvr"), os.path.join(folder, "page.html")])
+    rows.hold("the page of a record", (status, told), (0, ""))
+    said = looked(folder, "page.html", [["kind", "read"], ["lba", "0"], ["lba", "9"], ["status", "2/85"]], 3)
+    rows.hold("an error in it", said.get("error"), None)
+    rows.hold("its verdict", said.get("verdict"), "Not lawful: EntryWrong at job 1, unit 0, place 1")
+    rows.hold("its marked job", said.get("named"), ["1"])
+    rows.hold("its rows", said.get("labels"), ["worker 0", "unit 0 LBA 0"])
+    rows.has("why", said.get("why", []), "first difference: LBA 0 byte 0 compared 00 held 01")
+    rows.hold("the job in view", said.get("details"), ["job 1: Compare and Write 0+1"])
+    rows.hold("Reads alone", said.get("filtered", {}).get("kind"), ["2 of 4", ["2", "3"]])
+    rows.hold("another LBA", said.get("filtered", {}).get("lba"), ["0 of 4", []])
+    rows.hold("another status", said.get("filtered", {}).get("status"), ["0 of 4", []])
+    rows.hold("without filters", said.get("all"), "4 commands")
+    rows.hold("a jump", said.get("jumped"), "job 3: Read 0+1")
+    rows.has("who wrote what was read", said.get("fields", []), "LBA 0: job 1 (unit 0 place 1)")
+    rows.has("a link with its place", said.get("hash", ""), "job=")
+
+
+def traces(rows, folder):
+    def kept(name, text):
+        path = os.path.join(folder, name)
+        with open(path, "w", encoding="utf-8") as file:
+            file.write(text)
+        return path
+
+    page = os.path.join(folder, "page.html")
+    rows.hold("the page of a contradiction", written([kept("stale.txt", STALE), page]), (0, ""))
+    said = looked(folder, "page.html", [["host", "2"], ["cid", "1"], ["unit", "2"], ["text", "512*42"]], 2)
+    rows.hold("an error in it", said.get("error"), None)
+    rows.hold("its verdict", said.get("verdict"), "Contradiction: no order of these 3 commands in unit 1 gives what their hosts saw")
+    rows.hold("its commands alone are shown", said.get("only"), True)
+    rows.hold("its marked commands", said.get("named"), ["0", "1", "2"])
+    rows.hold("its lanes", said.get("labels"), ["host 1", "host 2"])
+    rows.hold("a fact for each number", len(said.get("why", [])) >= 3, True)
+    rows.hold("one host", said.get("filtered", {}).get("host"), ["2 of 4", ["2", "3"]])
+    rows.hold("one CID", said.get("filtered", {}).get("cid"), ["2 of 4", ["0", "2"]])
+    rows.hold("one unit", said.get("filtered", {}).get("unit"), ["1 of 4", ["3"]])
+    rows.hold("some data", said.get("filtered", {}).get("text"), ["1 of 4", ["1"]])
+    rows.has("who can have written what was read", said.get("fields", []), "LBA 9: job 0")
+    rows.hold("the next command", said.get("stepped", "")[:5], "job 2")
+
+    rows.hold("the page of an explained trace", written([kept("fresh.txt", FRESH), page]), (0, ""))
+    said = looked(folder, "page.html", [["kind", "write"]], 3)
+    rows.hold("an error in it", said.get("error"), None)
+    rows.has("its verdict", said.get("verdict", ""), "Explained: an order of ")
+    rows.has("a row for a unit", said.get("labels", []), "unit 1 LBA 8")
+    rows.has("no end", said.get("fields", []), "7 to no end that was seen")
+
+    rows.hold("the page of a trace from unknown blocks", written([kept("open.txt", OPEN), page]), (0, ""))
+    said = looked(folder, "page.html", [["status", "2/85"]], 1)
+    rows.hold("an error in it", said.get("error"), None)
+    rows.hold("a failed Compare", said.get("filtered", {}).get("status"), ["1 of 3", ["1"]])
+
+
+def markup(rows, folder):
+    """A name that would be markup is text, in the page's title and in its line."""
+    name = os.path.join(folder, "<img src=x onerror=alert(1)>\"'&.nvr")
+    shutil.copy(os.path.join(HERE, "two-owners.nvr"), name)
+    inside = os.path.join(folder, "a<b")
+    os.mkdir(inside)
+    page = os.path.join(folder, "page.html")
+    rows.hold("a page of a file with such a name", written([name, page]), (0, ""))
+    with open(page, encoding="utf-8") as file:
+        text = file.read()
+    rows.hold("no such element", "<img" in text, False)
+    closing = os.path.join(folder, "closing")
+    os.makedirs(os.path.join(closing, "<"))
+    odd = os.path.join(closing, "<", "script>.nvr")
+    shutil.copy(os.path.join(HERE, "two-owners.nvr"), odd)
+    rows.hold("a page of a file whose path ends a script", written([odd, page]), (0, ""))
+    said = looked(folder, "page.html", [], 0)
+    rows.hold("its verdict", said.get("verdict"), "Not lawful: EntryWrong at job 1, unit 0, place 1")
+
+
+def refused(rows, folder):
+    """What no page is written of: the line, and that nothing is there."""
+    page = os.path.join(folder, "none.html")
+    host_file, stale = os.path.join(HERE, "lock-1.nvq"), os.path.join(folder, "stale.txt")
+    fresh, argument, trace = (os.path.join(folder, it) for it in ("fresh.txt", "stale.nva", "stale.nvt"))
+    subprocess.run([NVQ, "trace", stale, trace], check=True)
+    subprocess.run([NVQ, "certify", "--argument", argument, trace], stdout=subprocess.DEVNULL, check=False)
+    missing = os.path.join(folder, "missing")
+    two = os.path.join(HERE, "two-owners.nvr")
+    wrong = os.path.join(folder, "wrong.txt")
+    with open(wrong, "w", encoding="utf-8") as file:
+        file.write(STALE.replace("1 2 1 1", "0 2 1 1"))
+    for words, line in (
+        ([missing, page], f"{missing}: No such file or directory"),
+        ([host_file, page], f"{host_file}: no record, trace or argument; nvq list takes host files, and nvq run command lists"),
+        ([argument, page], "an argument is about a trace: nvq-view TRACE ARGUMENT OUT"),
+        ([two, stale, page], "a record is given alone, or after a trace: nvq-view TRACE RECORD OUT"),
+        ([fresh, argument, page], f"{argument}: nvq certify doesn't find this argument about the trace, but: explained; without it, nvq-view shows that"),
+        ([stale, two, page], f"{two}: unexplained JobDiffers job 0 unit - place -: nvq explain TRACE RECORD says why"),
+        ([wrong, page], f"{wrong}: line 2: expected a time from 1 at which it began"),
+        (["--strict", two, page], "--strict is of traces"),
+        ([two], "expected [--strict] FILE [FILE] OUT; --help says more"),
+        ([two, os.path.join(missing, "out.html")], f"{missing}/out.html: No such file or directory"),
+    ):
+        rows.hold(f"nvq-view {' '.join(map(os.path.basename, words))}", written(words), (1, f"nvq-view: {line}\n"))
+    rows.hold("no page is there", os.path.exists(page), False)
+    rows.hold("the page of the argument that is found", written([trace, argument, page])[0], 0)
+
+
+def tried():
+    """How many rows held, and how many didn't."""
+    if not browser():
+        print("viewed: left out, since there is no chromium: the pages of nvq-view weren't looked at")
+        return 0, 0
+    rows = Rows()
+    for look in (record, traces, markup):
+        with tempfile.TemporaryDirectory(prefix="viewed-") as folder:
+            look(rows, folder)
+            if look is traces:
+                refused(rows, folder)
+    return rows.passed, rows.failed
+
+
+if __name__ == "__main__":
+    held, wrong = tried()
+    print(f"{held} passed, {wrong} failed")
+    sys.exit(1 if wrong or not held else 0)
