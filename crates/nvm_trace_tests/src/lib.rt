@@ -1,4 +1,4 @@
-//! Tests of `nvm_refute`, `nvm_argument`, `nvm_trace_text`, `nvm_certify`, `nvm_certify_text`, `nvm_timeline` and `nvm_story`, which reach them by
+//! Tests of `nvm_refute`, `nvm_argument`, `nvm_trace_text`, `nvm_certify`, `nvm_certify_text` and `nvm_story`, which reach them by
 //! what they make public. And [`calling`], with a caller of `nvm_certify`.
 #![tactic(auto)]
 
@@ -14,7 +14,6 @@ mod refute;
 #[cfg(test)]
 mod story;
 #[cfg(test)]
-mod timeline;
 #[cfg(test)]
 mod trace_text;
 #[cfg(test)]
