@@ -39,10 +39,6 @@ pub record IsAuditedFile (telling : Telling) (told : AuditedRecord) : Type 0 whe
   pub text : told.text.items ≡ answer_told telling answer
   pub status : told.status ≡ answer_status answer
 
--- It is the status of an audit of a file's record, of which this is printed.
-abbrev pub IsStatusOfAudit : Telling → ℕ → Type 0
-IsStatusOfAudit telling status = (told : AuditedRecord) × IsAuditedFile telling told × (status ≡ told.status)
-
 -- The text and the status are those of all that is wrong in a file's record, or of its verdict.
 pub record AreFaultsOfFile (told : AuditedRecord) : Type 0 where
   pub file : List ℕ
@@ -52,10 +48,6 @@ pub record AreFaultsOfFile (told : AuditedRecord) : Type 0 where
   pub found : AreFaults run faults
   pub text : told.text.items ≡ faults_text faults
   pub status : told.status ≡ faults_status faults
-
--- It is the status of all that is wrong in a file's record, of which this is printed.
-abbrev pub IsStatusOfFaults : ℕ → Type 0
-IsStatusOfFaults status = (told : AuditedRecord) × AreFaultsOfFile told × (status ≡ told.status)
 
 -- The record couldn't be read, or else it is its first fault, or else the text couldn't be written.
 abbrev pub IsAuditingFault : List ℕ → Fault → Type 0
@@ -69,10 +61,6 @@ pub record AreWitnessedFiles (judging : Judging) (told : WitnessedTrace) : Type 
   pub witnessed : IsWitnessed judging seen held answer
   pub line : string_bytes told.line ≡ witness_line answer
   pub status : told.status ≡ witness_status answer
-
--- It is the status of what a witness answers of two files, of which the line is printed.
-abbrev pub IsStatusOfWitness : Judging → ℕ → Type 0
-IsStatusOfWitness judging status = (told : WitnessedTrace) × AreWitnessedFiles judging told × (status ≡ told.status)
 
 -- Both paths name standard input.
 abbrev pub IsInputTwice : List ℕ → List ℕ → Fault → Type 0

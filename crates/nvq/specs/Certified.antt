@@ -31,10 +31,6 @@ pub record IsCertifiedFile (judging : Judging) (telling : Telling) (told : Certi
   pub text : string_bytes told.text ≡ told_as telling judging seen told.certification
   pub status : told.status ≡ certification_status told.certification
 
--- It is the status of a verdict on the trace of a file, of which this is printed.
-abbrev pub IsStatusOfFile : Judging → Telling → ℕ → Type 0
-IsStatusOfFile judging telling status = (told : CertifiedTrace) × IsCertifiedFile judging telling told × (status ≡ told.status)
-
 -- The record would go to standard output, or couldn't be written to its path.
 abbrev pub IsRecordFault : Option (String Global) → Fault → Type 0
 IsRecordFault (Some path) fault = ((fault ≡ RecordAmongLines) × (string_bytes path ≡ codes "-")) ⊎ IsWriteFault (string_bytes path) fault

@@ -51,10 +51,6 @@ abbrev pub IsTold : ExplainWords → List ℕ → Type 0
 IsTold (Record path) text = (file : List ℕ) × IsExplanationOfFile file text
 IsTold (Trace judging trace path) text = (seen : List ℕ) × (held : List ℕ) × IsStoryOfFiles judging seen held text
 
--- What the words name is explained.
-abbrev pub IsOfExplained : ExplainWords → Type 0
-IsOfExplained words = (text : List ℕ) × IsTold words text
-
 -- What the words name couldn't be read, or else it is the first fault of a file, or both are standard input.
 abbrev pub IsUntold : ExplainWords → Fault → Type 0
 IsUntold (Record path) fault = IsReadFault (string_bytes path) fault ⊎ IsFaultOfRecordAt (string_bytes path) fault

@@ -5,7 +5,7 @@ use Rattle.std.specs.List.{Contains}
 use Rattle.nvm_expect.specs.Expectations.{without_expectations}
 use Rattle.nvq.specs.Expecting.{IsExpectationFault}
 use Rattle.nvq.specs.Fault.{IsFaultOfList, IsFaultOfText}
-use Rattle.nvq.specs.Listed.{IsListFault, Lists}
+use Rattle.nvq.specs.Listed.{IsListFault}
 use Rattle.nvq.specs.declared.fault.Fault.{Fault}
 use Rattle.nvq.specs.declared.fault.Fault.TheVariants.{CannotRead, CannotWrite, NoMemory}
 
@@ -45,10 +45,6 @@ IsAssemblingFault size list out fault =
 abbrev pub IsTracingFault : List ℕ → List ℕ → Fault → Type 0
 IsTracingFault text out fault =
     IsReadFault text fault ⊎ (((bytes : List ℕ) × IsFaultOfText bytes fault) ⊎ IsWriteFault out fault)
-
--- A file is listed: a record, or else a trace, or else a host file.
-abbrev pub IsOfListedFile : ℕ → Type 0
-IsOfListedFile size = (file : List ℕ) × (text : List ℕ) × Lists size file text
 
 -- It is the fault of the file at this path, as what it begins as.
 abbrev pub IsListedFault : ℕ → List ℕ → Fault → Type 0

@@ -2,7 +2,7 @@
 //! `nvq audit --all`, which prints one for each unit in which something is wrong.
 ghost use Rattle.std.specs.Prelude.{◌≡◌, ◌⊎◌, IfOk, IfErr};
 ghost use Rattle.nvm_engine.specs.VerdictLine.{answer_line};
-ghost use Rattle.nvq.specs.Audited.{AreFaultsOfFile, AreWitnessedFiles, answer_told, IsAuditedFile, IsAuditingFault, IsStatusOfAudit, IsStatusOfFaults, IsStatusOfWitness, IsUnwitnessed, IsWitnessingFault};
+ghost use Rattle.nvq.specs.Audited.{AreFaultsOfFile, AreWitnessedFiles, answer_told, IsAuditedFile, IsAuditingFault, IsUnwitnessed, IsWitnessingFault};
 ghost use Rattle.nvq.specs.Fault.{IsFaultOfRecordAt};
 ghost use Rattle.nvq.specs.Files.{IsReadFault};
 
@@ -38,7 +38,6 @@ pub fn run_audit<R: AllocGlobal + Files + Input + Print + Eprint + Threads + Syn
     record: &str,
     progress: &Progress<'_, R>,
 ) -> Result<u8, Failure>
-    ensures status { IfOk result (IsStatusOfAudit telling) }
     ensures fault { IfErr result (λ failure. IsAuditingFault «record».now failure.fault) }
 {
     let AuditedRecord { text, status } = audited(rt, telling, record, progress)?;
@@ -69,7 +68,6 @@ pub fn run_audit_all<R: AllocGlobal + Files + Input + Print + Eprint + Threads +
     record: &str,
     progress: &Progress<'_, R>,
 ) -> Result<u8, Failure>
-    ensures status { IfOk result IsStatusOfFaults }
     ensures fault { IfErr result (λ failure. IsAuditingFault «record».now failure.fault) }
 {
     let AuditedRecord { text, status } = all_audited(rt, record, progress)?;
@@ -123,7 +121,6 @@ pub fn run_witness<R: AllocGlobal + Files + Input + Print + Eprint + Threads + S
     record: &str,
     progress: &Progress<'_, R>,
 ) -> Result<u8, Failure>
-    ensures status { IfOk result (IsStatusOfWitness judging) }
     ensures fault { IfErr result (λ failure. IsWitnessingFault trace.now «record».now failure.fault) }
 {
     let WitnessedTrace { line, status } = witnessed(rt, judging, trace, record, progress)?;

@@ -1,6 +1,6 @@
 //! `nvq certify`: whether a record explains a trace, or why none does.
 ghost use Rattle.std.specs.Prelude.{◌≡◌, ◌⊎◌, IfOk, IfErr, string_bytes};
-ghost use Rattle.nvq.specs.Certified.{IsArgumentFault, IsCertifiedFile, IsCertifyingFault, IsKeptFault, IsRecordFault, IsStatusOfFile, told_as};
+ghost use Rattle.nvq.specs.Certified.{IsArgumentFault, IsCertifiedFile, IsCertifyingFault, IsKeptFault, IsRecordFault, told_as};
 ghost use Rattle.nvq.specs.Fault.{IsFaultOfTraceAt};
 ghost use Rattle.nvq.specs.Files.{IsReadFault, IsWriteFault};
 
@@ -34,7 +34,6 @@ pub fn run_certify<R: AllocGlobal + Files + Input + Print + Eprint + Threads + S
     words: &CertifyWords,
     progress: &Progress<'_, R>,
 ) -> Result<u8, Failure>
-    ensures status { IfOk result (IsStatusOfFile words.now.judging words.now.telling) }
     ensures fault { IfErr result (λ failure. IsCertifyingFault words.now failure.fault) }
 {
     check_record(rt, words)?;

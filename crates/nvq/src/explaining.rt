@@ -1,7 +1,7 @@
 //! `nvq explain`: what is wrong with a record, or what there is in a lawful one; and why a record explains a trace or doesn't.
 ghost use Rattle.std.specs.Prelude.{◌⊎◌, ℕ, List, IfOk, IfErr, string_bytes};
 ghost use Rattle.nvq.specs.Audited.{IsUnwitnessed};
-ghost use Rattle.nvq.specs.Explained.{IsExplainingFault, IsExplanationOfFile, IsOfExplained, IsStoryFault, IsStoryOfFiles, IsTold, IsUntold};
+ghost use Rattle.nvq.specs.Explained.{IsExplainingFault, IsExplanationOfFile, IsStoryFault, IsStoryOfFiles, IsTold, IsUntold};
 ghost use Rattle.nvq.specs.Fault.{IsFaultOfRecordAt, IsFaultOfRecordIn};
 ghost use Rattle.nvq.specs.Files.{IsReadFault};
 
@@ -22,7 +22,6 @@ pub fn run_explain<R: AllocGlobal + Files + Input + Print + Eprint + Threads + S
     words: &ExplainWords,
     progress: &Progress<'_, R>,
 ) -> Result<(), Failure>
-    ensures told { IfOk result (λ _. IsOfExplained words.now) }
     ensures fault { IfErr result (λ failure. IsExplainingFault words.now failure.fault) }
 {
     let text = told(rt, words, progress)?;

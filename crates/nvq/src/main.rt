@@ -2,8 +2,8 @@
 //! traces, makes the text of traces into files, judges records and traces, and explains records.
 #![tactic(auto)]
 
-ghost use Rattle.std.specs.Prelude.{IfErr, IfOk, string_bytes};
-ghost use Rattle.nvq.specs.Files.{IsAssemblingFault, IsListingFault, IsOfListedFile};
+ghost use Rattle.std.specs.Prelude.{IfErr, string_bytes};
+ghost use Rattle.nvq.specs.Files.{IsAssemblingFault, IsListingFault};
 
 mod auditing;
 mod auditing_words;
@@ -145,7 +145,6 @@ fn run_list<R: AllocGlobal + Files + Input + Print + Eprint>(
     file: String,
     progress: &Progress<'_, R>,
 ) -> Result<(), Failure>
-    ensures listed { IfOk result (λ _. IsOfListedFile size) }
     ensures fault { IfErr result (λ failure. IsListingFault size (string_bytes file) failure.fault) }
 {
     let bytes = Payload::new(rt.alloc(), bytes_of(rt, file.as_str(), progress)?)?;
