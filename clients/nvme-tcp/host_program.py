@@ -1,0 +1,21 @@
+"""Where the programs of this folder are, and how zalkvorn-host is compiled."""
+
+import os
+import subprocess
+
+HERE = os.path.dirname(os.path.realpath(__file__))
+TOP = os.path.dirname(os.path.dirname(HERE))
+WORDS = ["-std=c11", "-D_POSIX_C_SOURCE=200809L", "-O2", "-Wall", "-Wextra", "-Werror", "-pthread", "-I", f"{TOP}/include"]
+SANITIZED = ["-O1", "-g", "-fsanitize=address,undefined", "-fno-sanitize-recover=all"]
+SOURCES = [f"{HERE}/{name}.c" for name in ("host", "controller", "queue", "list", "pdu")]
+NVQ = os.environ.get("NVQ", f"{TOP}/nvq")
+
+
+def compile_host(path, more=()):
+    """Compiles zalkvorn-host to the path."""
+    subprocess.run([os.environ.get("CC", "gcc"), *WORDS, *more, "-o", path, *SOURCES], check=True)
+
+
+def nvq_is_built():
+    """Whether nvq is a program that keeps what it writes: `./nvq` without ./build doesn't."""
+    return NVQ != f"{TOP}/nvq" or subprocess.run([f"{TOP}/build", "--is-built"]).returncode == 0
