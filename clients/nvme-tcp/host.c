@@ -507,7 +507,7 @@ static void read_lists(const struct identity *it, char **paths)
     uint64_t room = asked.first < it->blocks ? it->blocks - asked.first : 0, most = room < MOST_BLOCKS ? room : MOST_BLOCKS;
     window.blocks = asked.blocks ? asked.blocks : end ? end : 1;
     if (window.blocks > most) {
-        fail("the window has %" PRIu64 " blocks from LBA %" PRIu64 ", and %s", window.blocks, asked.first, window.blocks > room ? "the namespace ends before" : "a trace has at most 65536");
+        fail("the window has %" PRIu64 " blocks from LBA %" PRIu64 ", and %s", window.blocks, asked.first, window.blocks > room ? "the namespace ends before: --nsze says how many" : "a trace has at most 65536");
     }
     for (unsigned place = 0; place < host_count && window.blocks < room; place++) {
         if (hosts[place].list.end > window.blocks) {

@@ -275,7 +275,7 @@ class Connection:
             "type": lambda: b"\x0c" + spelled(RESPONSE)[1:],
             "header": lambda: spelled(RESPONSE)[:2] + b"\x20" + spelled(RESPONSE)[3:],
             "short": lambda: spelled(RESPONSE)[:4] + pack("<I", 4) + spelled(RESPONSE)[8:],
-            "long": lambda: spelled(C2H_DATA)[:4] + pack("<I", 0xFFFFFFF0) + spelled(C2H_DATA)[8:],
+            "long": lambda: (it := spelled(C2H_DATA, b"", bytes(8), terms=self.terms))[:4] + pack("<I", 0xFFFFFFF0) + it[8:],
             "cid": lambda: spelled(RESPONSE, pack("<QHHHH", 0, 0, 1, cid ^ 0x5555, 0), terms=self.terms),
             "twice": lambda: 2 * spelled(RESPONSE, pack("<QHHHH", 0, 0, 1, cid, 0), terms=self.terms),
             "past-end": lambda: spelled(C2H_DATA, pack("<HHII", cid, 0, 0, size + 512), found + bytes(512), terms=self.terms),
