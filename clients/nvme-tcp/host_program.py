@@ -12,7 +12,10 @@ NVQ = os.environ.get("NVQ", f"{TOP}/nvq")
 
 
 def compile_host(path, more=()):
-    """Compiles zalkvorn-host to the path."""
+    """Compiles zalkvorn-host to the path, where it isn't there as the sources now are."""
+    newest = max(os.path.getmtime(f"{HERE}/{name}") for name in os.listdir(HERE) if name.endswith((".c", ".h")))
+    if os.path.exists(path) and os.path.getmtime(path) > newest:
+        return
     subprocess.run([os.environ.get("CC", "gcc"), *WORDS, *more, "-o", path, *SOURCES], check=True)
 
 
