@@ -24,8 +24,8 @@ BUGS = {
     "lost": "a Write isn't done, now and then",
     "late": "a Write is answered before it is done, now and then",
 }
-# Wrong PDUs, each instead of or after what a Read, or a Write by R2T, is answered with.
-FAULTS = ("type", "header", "short", "long", "cid", "twice", "past-end", "gap", "read-r2t", "r2t-past-end", "write-data", "header-digest", "data-digest", "cut", "close", "silence", "terms")
+# Wrong PDUs, each in place of what a Read, or a Write by R2T, is answered with; "any" changes bytes of any PDU now and then.
+FAULTS = ("type", "header", "short", "long", "cid", "twice", "past-end", "gap", "read-r2t", "r2t-past-end", "write-data", "header-digest", "data-digest", "cut", "close", "silence", "terms", "any")
 SUCCESS_STATUS, INVALID_FIELD, INVALID_OPCODE, ABORTED, OUT_OF_RANGE, DIFFERS = 0x000, 0x002, 0x001, 0x009, 0x080, 0x285
 IN_CAPSULE, PART = 4096, 8192
 
@@ -141,7 +141,12 @@ class Connection:
         self.waiting, self.first, self.enabled = {}, None, 0
 
     def send(self, *pdu, **how):
-        self.to_send += spelled(*pdu, **how, terms=self.terms)
+        it, chance = bytearray(spelled(*pdu, **how, terms=self.terms)), self.target.chance
+        if self.asked.fault == "any" and not chance.randrange(50):
+            for _ in range(chance.randrange(1, 4)):
+                place = chance.randrange(min(len(it), chance.choice((8, 24, len(it)))))
+                it[place : place + chance.randrange(2)] = bytes(chance.choice((0, 1, 255, chance.randrange(256))) for _ in range(chance.choice((0, 1, 1, 1, 9))))
+        self.to_send += it
 
     def take(self):
         """Takes each whole PDU that came."""
