@@ -553,7 +553,10 @@ static bool try_submit(struct worker *w, struct space *s)
     struct command c = command_in(s, entries), d = command_in(s, entries + ZK_ENTRY_BYTES);
     if (!pair)
         d.called = 0;
-    size_t length = zk_data_length(entries, pair ? 2 : 1, s->ns.block_size);
+    size_t length = !pair && c.opcode == READ ? c.blocks * s->ns.block_size : c.called + d.called;
+    size_t told_by_header = zk_data_length(entries, pair ? 2 : 1, s->ns.block_size);
+    if (told_by_header != length)
+        return wrong(w, "zk_data_length", entries, told_by_header, length);
     if (length > ROOM) {
         /* There is no room for as much, so the length is wrong. */
         length = ROOM;
