@@ -1,6 +1,7 @@
-"""Where the programs of this folder are, and how zalkvorn-host is compiled."""
+"""Where the programs of this folder are, and how zalkvorn-host and zalkvorn-target are compiled."""
 
 import os
+import shutil
 import subprocess
 
 HERE = os.path.dirname(os.path.realpath(__file__))
@@ -17,6 +18,13 @@ def compile_host(path, more=()):
     if os.path.exists(path) and os.path.getmtime(path) > newest:
         return
     subprocess.run([os.environ.get("CC", "gcc"), *WORDS, *more, "-o", path, *SOURCES], check=True)
+
+
+def compile_target(path, library, more=()):
+    """Compiles zalkvorn-target to the path, with the library for C."""
+    sources = sorted(f"{HERE}/{name}" for name in os.listdir(HERE) if name.startswith("target") and name.endswith(".c"))
+    kit = os.path.dirname(os.path.dirname(os.path.realpath(shutil.which("rt"))))
+    subprocess.run([os.environ.get("CC", "gcc"), *WORDS, *more, "-o", path, *sources, f"{HERE}/pdu.c", library, f"{kit}/c/liblibc_c.a"], check=True)
 
 
 def nvq_is_built():

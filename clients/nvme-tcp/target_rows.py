@@ -6,6 +6,7 @@ status, and to right ones their data.
 """
 
 import sys
+import time
 
 from bare_host import *
 
@@ -370,6 +371,18 @@ class Rows:
         except Lost:
             pass
 
+    def silence(self):
+        """A controller ends when its host is silent for longer than it said, and not while it sends Keep Alive."""
+        (silent, _), (heard, _) = admin(self.address, keep_alive=100), admin(self.address, keep_alive=1500)
+        for _ in range(5):
+            time.sleep(0.7)
+            hold("Keep Alive in time", heard.do(entry_of(KEEP_ALIVE))[0], 0)
+        try:
+            silent.more()
+        except (Lost, TimeoutError) as why:
+            hold("a host that is silent", type(why), Lost)
+        heard.close()
+
     def discovery(self):
         queue, _ = admin(self.address, DISCOVERY)
         status, _, page = queue.do(entry_of(IDENTIFY, length=4096, at40_1=1))
@@ -423,7 +436,7 @@ def main():
     if len(sys.argv) != 2:
         sys.exit(__doc__)
     rows = Rows(sys.argv[1])
-    for part in (rows.before_icreq, rows.before_connect, rows.digests, rows.h2c_data, rows.queue_limits, rows.statuses, rows.connects, rows.admins, rows.discovery, rows.pieces, rows.all_queues):
+    for part in (rows.before_icreq, rows.before_connect, rows.digests, rows.h2c_data, rows.queue_limits, rows.statuses, rows.connects, rows.admins, rows.silence, rows.discovery, rows.pieces, rows.all_queues):
         part()
     print(f"{rows.count} rows, each answered as it must be")
 
