@@ -17,7 +17,9 @@
  *
  * Commands: Write (01h), Read (02h), Write Uncorrectable (04h), Compare (05h), Write Zeroes (08h) and Dataset Management
  * (09h), and Compare and Write as a fused pair. NSID is 1. Any other opcode, Flush too, ends with status 0/01: a
- * controller answers Flush itself, since nothing is cached here. PRINFO, PSDT, FUA, LR and DEAC are not looked at.
+ * controller answers Flush itself, with 0/00 where its NSID is 1 or FFFFFFFFh, since nothing is cached here. Abort needs no
+ * call: a command is done by zk_submit, or by the next zk_poll that finds its unit free, so the answer is that it wasn't
+ * aborted. PRINFO, PSDT, FUA, LR and DEAC are not looked at.
  * A status is written T/CC, status code type and status code: 0/00 is Successful Completion, 0/06 is Internal Error,
  * 2/81 is Unrecovered Read Error.
  */
@@ -163,8 +165,11 @@ int zk_poll(struct zk_port *port, uint8_t *data, size_t data_length, uint8_t *co
 
 /* Writes the Identify Namespace data structure of the port's namespace: NSZE, NAWUN, NACWU, NABSN and NABO at their
  * places, and bit 1 of NSFEAT, which says that the namespace has atomic limits of its own. All other bytes are 0, and
- * yours to set: NCAP, NUSE and the LBA format among them. A NAWUN or NACWU of 0 stands for AWUN or ACWU of the controller
- * there, so report 0 in those. `data` is ZK_IDENTIFY_BYTES long.
+ * yours to set: NCAP and NUSE (bytes 8 and 16), which are NSZE; bits 2:0 of DLFEAT (byte 33), 001b, since deallocated blocks
+ * read as 0; LBADS of LBA format 0 (byte 130), 9 or 12; and where you have them, bit 0 of NMIC (byte 30) for several
+ * controllers, and NGUID or EUI64 (bytes 104 and 120). NAWUPF and NABSPF stay 0: nothing outlives a power failure. A NAWUN or
+ * NACWU of 0 stands for AWUN or ACWU of the controller there, so report 0 in those. The page never changes: a controller whose
+ * admin queue has no port asks once after zk_open, and keeps it. `data` is ZK_IDENTIFY_BYTES long.
  * ZK_DONE. ZK_NOT_OPEN, ZK_BAD_LENGTH: nothing was written.
  * Threads: as zk_submit. */
 int zk_identify(struct zk_port *port, uint8_t *data, size_t data_length);

@@ -74,6 +74,14 @@ class Beside(threading.Thread):
             assert told == ([(2, 0), (3, 0)] if held or other == data else [(2, 0x285), (3, 0x009)]), told
 
 
+def keep_off(data, at):
+    """Keeps an entry that stands there off the blocks of the host beside: its LBA is below 16,384, and its blocks are at most 8,192."""
+    if len(data) >= at + 50:
+        data[at + 41] &= 0x3F
+        data[at + 42 : at + 48] = bytes(6)
+        data[at + 49] &= 0x1F
+
+
 class Fuzzer(threading.Thread):
     """Connections with broken PDUs, one after another."""
 
@@ -132,6 +140,7 @@ class Fuzzer(threading.Thread):
             kind, fields, data = chance.choice([ICREQ, H2C_TERM, RESPONSE, C2H_DATA, R2T]), bytearray(16), b""
         if chance.random() < 0.2:
             self.spoil(fields, 0)
+            keep_off(fields, 0)
         return bytearray(spelled(kind, bytes(fields), data, LAST if kind == H2C_DATA and chance.random() < 0.8 else 0, host.terms))
 
     def spoil(self, data, least):
@@ -166,6 +175,8 @@ class Fuzzer(threading.Thread):
                 pdu += chance.randbytes(chance.randrange(1, 40))
             elif draw < 0.18:
                 pdu += bytes(pdu)
+            if draw < 0.09:
+                keep_off(pdu, 8)
             out.insert(chance.randrange(len(out) + 1) if chance.random() < 0.1 else len(out), pdu)
         return b"".join(out)
 
