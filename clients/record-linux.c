@@ -32,6 +32,8 @@
 #include <time.h>
 #include <unistd.h>
 
+#include "identify.h"
+
 /* Limits of a trace's namespace and of its hosts. */
 enum { MOST_BLOCKS = 65536, MOST_UNITS = 4096, MOST_HOSTS = 64, MOST_COMMANDS = 4194304 };
 
@@ -88,6 +90,7 @@ static struct {
 static int target = -1;
 static unsigned char *mapped;
 static uint32_t namespace_id;
+static struct head head;
 static pthread_barrier_t together;
 static pthread_mutex_t ended_lock = PTHREAD_MUTEX_INITIALIZER;
 static pthread_cond_t ended_one;
@@ -111,9 +114,12 @@ static const char USAGE[] =
     "  --commands N       how many commands all threads do together, at most 4194304 (4000)\n"
     "  --writes PERCENT   how many commands are Writes (50)\n"
     "  --whole PERCENT    how many have all blocks of their unit (75)\n"
-    "  --others PERCENT   with nvme, how many are Compares of what was read last, Write Zeroes and Deallocates (0)\n"
+    "  --others PERCENT   with nvme, how many are Compares of what was read last, Write Zeroes and Deallocates (0);\n"
+    "                     nvq certify expects zeroes after a Deallocate, where a device may keep the data or read FFh\n"
     "  --start WORD       zeroes: the window is filled with zero bytes first (the default); unknown: it is left as it is\n"
-    "  --reads WORD       what a Read is held to: whole, or by-blocks. By default whole, and with nvme by-blocks\n"
+    "  --reads WORD       what a Read is held to: whole, or by-blocks. By default whole, and with nvme by-blocks, since\n"
+    "                     the standard lets a Read find Writes of its blocks half done. But by-blocks hides a Write that\n"
+    "                     the device has to keep whole, and that a Read finds half done\n"
     "  --seed N           the same seed asks for the same commands (1)\n"
     "  --timeout SECONDS  after that, commands that haven't ended are told as such (60)\n"
     "\n"
@@ -450,9 +456,8 @@ static void print_trace(FILE *out, struct host *hosts) {
         odd += hosts[number].odd_count;
     }
     qsort(all, count, sizeof *all, by_begin);
-    uint32_t last = asked.unit_blocks - 1;
-    fprintf(out, "trace nsze %u block %u nabsn %u nabo 0 nawun %u nacwu %u first %" PRIu64 " start %s reads %s\n",
-            asked.units * asked.unit_blocks, asked.block, last, last, last, asked.first, asked.start, asked.reads);
+    fprintf(out, "trace nsze %u block %u nabsn %u nabo %u nawun %u nacwu %u first %" PRIu64 " start %s reads %s\n",
+            asked.units * asked.unit_blocks, asked.block, head.nabsn, head.nabo, head.nawun, head.nacwu, asked.first, asked.start, asked.reads);
     for (size_t place = 0; place < count; place++) {
         print_command(out, &all[place]);
     }
@@ -464,9 +469,21 @@ static void print_trace(FILE *out, struct host *hosts) {
             count, asked.hosts, seconds, errors, unended, odd);
 }
 
-/* Asks an NVMe device for its namespace, and refuses one on which the window can't be. */
+/* Asks an NVMe device for a page of Identify: 0 is its namespace's, 1 its controller's. */
+static void ask(unsigned char *page, uint32_t which) {
+    struct nvme_passthru_cmd words = {
+        .opcode = IDENTIFY, .nsid = which ? 0 : namespace_id, .addr = (uintptr_t)page, .data_len = PAGE, .cdw10 = which,
+    };
+    int status = ioctl(target, NVME_IOCTL_ADMIN_CMD, &words);
+    if (status != 0) {
+        fail("%s can't be identified: %s", asked.target, status < 0 ? strerror(errno) : "the device refuses it");
+    }
+}
+
+/* Asks an NVMe device for its namespace and its controller, and refuses one on which the window can't be. The trace's head has what
+   they promise. */
 static void identify(void) {
-    static unsigned char told[4096] __attribute__((aligned(4096)));
+    static unsigned char space[PAGE] __attribute__((aligned(PAGE))), controller[PAGE] __attribute__((aligned(PAGE)));
     struct stat standing;
     if (fstat(target, &standing) != 0 || !S_ISCHR(standing.st_mode)) {
         fail("%s is no NVMe character device, as /dev/ng0n1 is; for a file or a block device there are --mode direct, buffered and mmap",
@@ -477,34 +494,32 @@ static void identify(void) {
         fail("%s is no NVMe namespace: %s", asked.target, number < 0 ? strerror(errno) : "it has no number");
     }
     namespace_id = (uint32_t)number;
-    struct nvme_passthru_cmd words = {.opcode = IDENTIFY, .nsid = namespace_id, .addr = (uintptr_t)told, .data_len = sizeof told};
-    int status = ioctl(target, NVME_IOCTL_ADMIN_CMD, &words);
-    if (status != 0) {
-        fail("%s can't be identified: %s", asked.target, status < 0 ? strerror(errno) : "the device refuses it");
+    ask(space, 0);
+    ask(controller, 1);
+    struct identified it = identified_by(space, controller);
+    uint32_t blocks = asked.units * asked.unit_blocks;
+    if (it.shift > 31 || 1u << it.shift != asked.block) {
+        fail("%s has blocks of 2 to the power of %u bytes: --block says %u", asked.target, it.shift, asked.block);
     }
-    uint64_t size;
-    uint16_t nawun, nabsn, nabo, metadata;
-    unsigned format = (told[26] & 15) | (told[26] >> 1 & 48);
-    memcpy(&size, told, 8);
-    memcpy(&nawun, told + 34, 2);
-    memcpy(&nabsn, told + 40, 2);
-    memcpy(&nabo, told + 42, 2);
-    memcpy(&metadata, told + 128 + 4 * format, 2);
-    unsigned shift = told[128 + 4 * format + 2];
-    if (shift > 31 || 1u << shift != asked.block) {
-        fail("%s has blocks of 2 to the power of %u bytes: --block says %u", asked.target, shift, asked.block);
+    if (it.metadata != 0) {
+        fail("%s has %u bytes of metadata with each block", asked.target, it.metadata);
     }
-    if (metadata != 0) {
-        fail("%s has %u bytes of metadata with each block", asked.target, metadata);
+    if (asked.first > it.blocks || blocks > it.blocks - asked.first) {
+        fail("%s has %" PRIu64 " blocks, and the window ends behind them", asked.target, it.blocks);
     }
-    if (asked.first > size || asked.units * asked.unit_blocks > size - asked.first) {
-        fail("%s has %" PRIu64 " blocks, and the window ends behind them", asked.target, size);
+    head = head_of(&it, asked.first, blocks);
+    if (head.units > MOST_UNITS) {
+        fail("%s has a boundary each %u blocks, %u units in the window, and a trace has at most %u: take less --units", asked.target,
+             head.nabsn + 1, head.units, MOST_UNITS);
     }
-    bool is_promised = (told[24] & 2) && nawun + 1u >= asked.unit_blocks;
-    bool is_apart = nabsn && ((nabsn + 1u) % asked.unit_blocks || (asked.first + nabsn + 1u - nabo) % asked.unit_blocks);
-    if (!is_promised || is_apart) {
-        fprintf(stderr, "record-linux: note: the namespace (NSFEAT bit 1: %u, NAWUN %u, NABSN %u, NABO %u) doesn't promise to keep Writes of %u blocks whole\n",
-                told[24] >> 1 & 1, nawun, nabsn, nabo, asked.unit_blocks);
+    if (head.nawun != it.nawun || head.nacwu != it.nacwu) {
+        fprintf(stderr, "record-linux: note: the namespace advertises NAWUN %u and NACWU %u; the head has %u and %u, since NABSN is %u\n", it.nawun,
+                it.nacwu, head.nawun, head.nacwu, head.nabsn);
+    }
+    bool is_apart = head.units > 1 && ((head.nabsn + 1) % asked.unit_blocks || head.nabo % asked.unit_blocks);
+    if (head.nawun + 1 < asked.unit_blocks || is_apart) {
+        fprintf(stderr, "record-linux: note: the device promises to keep Writes of %u blocks whole within its boundaries (NABSN %u, NABO %u), and not those of %u\n",
+                head.nawun + 1, it.nabsn, it.nabo, asked.unit_blocks);
     }
 }
 
@@ -525,6 +540,11 @@ static void open_target(void) {
     if (target < 0) {
         const char *why = asked.mode == DIRECT && errno == EINVAL ? "its file system doesn't take O_DIRECT" : strerror(errno);
         fail("cannot open %s: %s", asked.target, why);
+    }
+    /* What is no NVMe namespace is held to its units: each Write is one step there. */
+    head = (struct head){.nabsn = asked.unit_blocks - 1, .nawun = asked.unit_blocks - 1, .nacwu = asked.unit_blocks - 1, .units = asked.units};
+    if (strcmp(asked.reads, "by-blocks") == 0) {
+        fprintf(stderr, "record-linux: note: with --reads by-blocks a Write that a Read finds half done isn't noticed\n");
     }
     if (asked.mode == NVME) {
         identify();

@@ -208,8 +208,8 @@ int zk_audit(const uint8_t *bytes, size_t length, char *line, size_t room);
 
 /* Judges a trace, which is what the hosts of any device sent and saw, by a record of what the device may have done inside. Where the record
  * explains it, each atomic unit behaved as a store that does one step at a time, each between the beginning and the end of its command. With
- * `strict` each command is one step in each unit; without it, a Write that the standard lets a device tear may be. Judge a record by the `strict`
- * under which it was made. `trace` is the whole file, as `nvq trace` or a test bench of yours writes it, and `record` that of a record, of either
+ * `strict` each command is one step in each unit; without it, a Write that the standard lets a device tear may be. A deallocated block is zeroes in
+ * each record, where by the standard a device may also keep its data or read it as FFh. Judge a record by the `strict` under which it was made. `trace` is the whole file, as `nvq trace` or a test bench of yours writes it, and `record` that of a record, of either
  * version, as `nvq certify --record` writes it; docs/FORMATS.md has the fields of both. `line` is as in zk_audit.
  * ZK_DONE: the record explains the trace, and the line has its numbers, as `nvmu witness` prints them. Look at the number after `excused`: it counts
  * the jobs that never ended, or ended with a reply that does not say what was done:
@@ -225,8 +225,9 @@ int zk_witness(const uint8_t *trace, size_t trace_length, const uint8_t *record,
 
 /* Judges a trace by an argument that no record explains it: a list of facts, each of which follows from the trace and those before it, until they
  * contradict each other. `trace`, `strict` and `line` are as in zk_witness, and `argument` is the whole file, as `nvq certify --argument` writes it.
- * ZK_DONE: no record explains the trace, so the device is wrong, as far as it is held to `strict` or the standard. The line has the atomic unit
- * and how many facts there are, as `nvmu refute` prints them:
+ * ZK_DONE: no record explains the trace, so the device is none of this profile. By the standard, as yet, it need not be wrong: it may keep a
+ * deallocated block's data, for one, which no record does ("What a contradiction says" in docs/FORMATS.md has all cases). The line has the atomic
+ * unit and how many facts there are, as `nvmu refute` prints them:
  *     refuted unit 0 facts 5
  * ZK_UNREFUTED: the argument does not show that, and the line says why. Nothing is known of the trace:
  *     unrefuted FactWrong fact 2
