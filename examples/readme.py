@@ -27,6 +27,7 @@ APART = {
     "clients/": None,  # clients/check runs these, and clients/check-nbd and clients/check-soak take long or want packages
     "apt-get ": None,  # clients/check-nbd says what it lacks
     "nbdkit ": None,  # clients/check-nbd runs it
+    "./zalkvorn-target": None,  # clients/check-tcp compiles and runs it
 }
 
 
