@@ -170,8 +170,9 @@ class Stream:
         return near + ((sequence - self.base - near + (1 << 31)) & 0xFFFFFFFF) - (1 << 31)
 
     def assemble(self, notes, name):
-        """Puts the bytes together: `bytes`, where holes are zeroes; `starts`, the places at which a piece or a hole begins, and for each its time, or `None` of a hole."""
-        pieces, high, differ = [], 0, 0
+        """Puts the bytes together: `bytes`, where holes are zeroes; `starts`, the places at which a piece or a hole begins, and for each its time, or `None` of a hole, and whether it came late: when later bytes
+        had been seen, so that it may have been sent before without being seen. `fronts` are the places of the others, which are seen in the order in which they were sent."""
+        pieces, high, differ, self.fronts, self.front_times = [], 0, 0, [], []
         for segment in self.segments:
             begin = self.place_of(segment.sequence, high)
             data = segment.data if begin >= 0 else segment.data[-begin:]
@@ -183,22 +184,26 @@ class Stream:
                 continue
             if not data or (len(data) == 1 and begin == high - 1):  # a probe whether the other side is alive has a byte of no meaning
                 continue
-            differ += put(pieces, begin, data, segment.time)
-            high = max(high, begin + len(data))
+            late = min(len(data), max(0, high - begin))
+            if late:
+                differ += put(pieces, begin, data[:late], segment.time, True)
+            if late < len(data):
+                put(pieces, begin + late, data[late:], segment.time, False)
+                self.fronts.append(begin + late), self.front_times.append(segment.time)
+                high = begin + len(data)
         near, told = 0, 0
         for number in self.acknowledged:
             near = self.place_of(number, near)
             told = max(told, near)
         end = max(high, min(told, high + FAR) if self.fin is None else min(told, self.fin))
-        self.bytes, self.starts, self.times, at = bytearray(end), [], [], 0
-        for begin, data, time in pieces:
+        self.bytes, self.starts, self.times, self.late, at = bytearray(end), [], [], [], 0
+        for begin, data, time, late in [*pieces, (end, b"", None, False)]:
             if begin > at:
-                self.starts.append(at), self.times.append(None)
-            self.bytes[begin : begin + len(data)] = data
-            self.starts.append(begin), self.times.append(time)
+                self.starts.append(at), self.times.append(None), self.late.append(True)
+            if data:
+                self.bytes[begin : begin + len(data)] = data
+                self.starts.append(begin), self.times.append(time), self.late.append(late)
             at = begin + len(data)
-        if end > at:
-            self.starts.append(at), self.times.append(None)
         if differ:
             notes.append(f"{name}: {differ} bytes were sent again with other values, and the first ones are taken")
 
@@ -206,22 +211,30 @@ class Stream:
         """The times of the pieces that bytes lie in, with `None` for holes."""
         return self.times[bisect_right(self.starts, begin) - 1 : bisect_left(self.starts, end)]
 
+    def not_before(self, at):
+        """A time before which the byte at this place wasn't sent; `None` where nothing was seen before it."""
+        piece = bisect_right(self.starts, at) - 1
+        if 0 <= piece < len(self.late) and not self.late[piece]:
+            return self.times[piece]
+        front = bisect_left(self.fronts, at) - 1
+        return self.front_times[front] if front >= 0 else None
 
-def put(pieces, begin, data, time):
+
+def put(pieces, begin, data, time, late):
     """Puts what isn't there yet among the pieces, and says how many bytes were there with other values."""
     end, differ = begin + len(data), 0
     if not pieces or pieces[-1][0] + len(pieces[-1][1]) <= begin:
-        pieces.append((begin, data, time))
+        pieces.append((begin, data, time, late))
         return 0
     index = max(0, bisect_right(pieces, begin, key=lambda it: it[0]) - 1)
     at, more = begin, []
     while at < end and index < len(pieces):
-        there, kept, _ = pieces[index]
+        there, kept, *_ = pieces[index]
         if there + len(kept) > at:
             if there >= end:
                 break
             if there > at:
-                more.append((at, data[at - begin : there - begin], time))
+                more.append((at, data[at - begin : there - begin], time, late))
                 at = there
             until = min(end, there + len(kept))
             same = bytes(kept[at - there : until - there]), bytes(data[at - begin : until - begin])
@@ -229,7 +242,7 @@ def put(pieces, begin, data, time):
             at = until
         index += 1
     if at < end:
-        more.append((at, data[at - begin :], time))
+        more.append((at, data[at - begin :], time, late))
     for piece in more:
         insort(pieces, piece, key=lambda it: it[0])
     return differ

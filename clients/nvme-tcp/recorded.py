@@ -150,9 +150,10 @@ def capture_of(parts, style):
 
 
 def disturbed(parts, chance):
-    """The same segments, of which some come out of order, again, or again as one with what is before them."""
+    """The same segments, of which in the second half some come out of order, again, or again as one with what is before them. What comes out of order may have been sent long
+    before, which could hide the quiet moment after a fill."""
     parts = list(parts)
-    for place in range(1, len(parts)):
+    for place in range(len(parts) // 2, len(parts)):
         one, other = parts[place - 1], parts[place]
         if not (one.data and other.data) or (one.connection, one.is_host) != (other.connection, other.is_host):
             continue
@@ -161,7 +162,7 @@ def disturbed(parts, chance):
             parts[place - 1], parts[place] = replace(other, time=one.time), replace(one, time=other.time)
         elif what == 1 and (one.sequence + len(one.data)) & 0xFFFFFFFF == other.sequence:
             parts[place] = replace(other, sequence=one.sequence, data=one.data + other.data)
-    again = [(place, part) for place, part in enumerate(parts) if part.data and not chance.randrange(20)]
+    again = [(place, part) for place, part in enumerate(parts) if place >= len(parts) // 2 and part.data and not chance.randrange(20)]
     for place, part in reversed(again):
         later = min(len(parts) - 1, place + chance.randrange(1, 9))
         parts.insert(later + 1, replace(part, time=parts[later].time))
