@@ -69,6 +69,9 @@ enum turn connection_turn(struct connection *connection);
 /* Ends it, at any time. False while a command is pending in its port: then its turns go on until TURN_ENDED. */
 bool connection_end(struct connection *connection);
 
+/* Ends its queue for a fault of the host's: what is ready is dropped, and a terminating PDU is the last that is sent. */
+void connection_terminate(struct connection *connection, struct pdu_fault fault);
+
 /* Forgets requests for asynchronous events, which a reset of the controller ends. */
 void connection_drop_event_requests(struct connection *connection);
 

@@ -10,8 +10,8 @@
 #include <unistd.h>
 
 /* A command that is pending is polled after the other connections' turns and a yield, and then each time this timer has gone: the unit that it waits for is another
-   thread's for the time of a call. In nanoseconds. */
-enum { POLL_AFTER = 50000 };
+   thread's for the time of a call, so a thread that waited to be woken by the other would cost both more. In nanoseconds. */
+enum { POLL_AFTER = 10000 };
 /* How often deadlines are looked at, in milliseconds, and how many events are taken at a time. */
 enum { LOOK_EVERY = 500, EVENTS = 64 };
 
