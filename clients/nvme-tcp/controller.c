@@ -47,18 +47,8 @@ static int ask_for_queues(struct queue *admin, unsigned count, uint32_t *given)
     return status;
 }
 
-/* The namespace's limit, or the controller's, where the namespace has none of its own. */
-static uint16_t limit(const uint8_t *space, size_t at, const uint8_t *controller, size_t instead)
-{
-    uint16_t own = space[NAMESPACE_NSFEAT] & 2 ? (uint16_t)little(space + at, 2) : 0;
-    return own ? own : (uint16_t)little(controller + instead, 2);
-}
-
 static void note(struct identity *it, uint64_t capabilities, const uint8_t *controller, const uint8_t *space)
 {
-    bool has_own = space[NAMESPACE_NSFEAT] & 2;
-    unsigned format = (space[NAMESPACE_FLBAS] & 15) | (space[NAMESPACE_FLBAS] >> 1 & 48);
-    const uint8_t *lbaf = space + NAMESPACE_LBAF + 4 * format;
     unsigned page = 12 + (capabilities >> 48 & 15), mdts = controller[CONTROLLER_MDTS];
     uint64_t capsule = little(controller + CONTROLLER_IOCCSZ, 4) * 16;
     uint16_t oncs = (uint16_t)little(controller + CONTROLLER_ONCS, 2);
@@ -69,15 +59,11 @@ static void note(struct identity *it, uint64_t capabilities, const uint8_t *cont
     for (size_t length = strlen(it->model); length && it->model[length - 1] == ' '; length--) {
         it->model[length - 1] = 0;
     }
-    it->blocks = little(space + NAMESPACE_NSZE, 8);
-    it->block = little(lbaf, 2) || lbaf[2] < 9 || lbaf[2] > 16 ? 0 : 1u << lbaf[2];
+    it->space = identified_by(space, controller);
+    it->block = it->space.metadata || it->space.shift < 9 || it->space.shift > 16 ? 0 : 1u << it->space.shift;
     it->most = mdts && page + mdts < 32 ? 1u << (page + mdts) : UINT32_MAX;
     it->in_capsule = capsule > ZK_ENTRY_BYTES && capsule < 16 << 20 && !little(controller + CONTROLLER_ICDOFF, 2) ? (uint32_t)(capsule - ZK_ENTRY_BYTES) : 0;
     it->entries = (uint32_t)(capabilities & 0xffff) + 1;
-    it->nawun = limit(space, NAMESPACE_NAWUN, controller, CONTROLLER_AWUN);
-    it->nacwu = limit(space, NAMESPACE_NACWU, controller, CONTROLLER_ACWU);
-    it->nabsn = has_own ? (uint16_t)little(space + NAMESPACE_NABSN, 2) : 0;
-    it->nabo = has_own ? (uint16_t)little(space + NAMESPACE_NABO, 2) : 0;
     it->has_compare = oncs & HAS_COMPARE;
     it->has_uncorrectable = oncs & HAS_UNCORRECTABLE;
     it->has_dataset = oncs & HAS_DATASET;

@@ -2,18 +2,18 @@
 #ifndef CONTROLLER_H
 #define CONTROLLER_H
 
+#include "../identify.h"
 #include "queue.h"
 
-/* What a controller says of itself and of a namespace. Numbers are as they are advertised: limits are zeroes-based. */
+/* What a controller says of itself and of a namespace. */
 struct identity {
     char model[41];
-    uint64_t blocks;     /* of the namespace */
+    struct identified space;
     uint32_t block;      /* bytes of one; 0 where there is metadata, or no such size */
     uint32_t most;       /* bytes of a command's data */
     uint32_t in_capsule; /* bytes of data in the capsule of an I/O queue */
     uint32_t entries;    /* of a queue at most */
     uint32_t queues;     /* I/O queues that it gives */
-    uint16_t nawun, nacwu, nabsn, nabo; /* the namespace's, or the controller's where the namespace has none */
     bool has_compare, has_zeroes, has_dataset, has_uncorrectable, has_pairs;
     uint8_t dlfeat;      /* what a deallocated block reads as: 1 is zero bytes */
 };

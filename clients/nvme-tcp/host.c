@@ -265,46 +265,29 @@ static void fill(struct queue *queue)
     free(zeroes);
 }
 
-/* What a trace is judged by. */
-struct judged {
-    uint32_t nabsn, nabo, nawun, nacwu;
-};
-
-static uint32_t told(int wanted, uint16_t said)
+/* The numbers of the trace's head: what the device says, or the words do. */
+static struct head judged_by(struct identified it)
 {
-    return wanted >= 0 ? (uint32_t)wanted : said;
+    const struct {
+        int asked;
+        uint32_t *said;
+    } each[] = {{asked.nabsn, &it.nabsn}, {asked.nabo, &it.nabo}, {asked.nawun, &it.nawun}, {asked.nacwu, &it.nacwu}};
+    for (size_t place = 0; place < sizeof each / sizeof *each; place++) {
+        if (each[place].asked >= 0) {
+            *each[place].said = (uint32_t)each[place].asked;
+        }
+    }
+    struct head head = head_of(&it, window.first, (uint32_t)window.blocks);
+    if (head.units > MOST_UNITS) {
+        fail("the window has %" PRIu32 " atomic units, and a trace at most %d: --nsze makes it smaller", head.units, MOST_UNITS);
+    }
+    if (head.nawun != it.nawun || head.nacwu != it.nacwu) {
+        fprintf(stderr, "zalkvorn-host: note: NAWUN %" PRIu32 " and NACWU %" PRIu32 " are %" PRIu32 " and %" PRIu32 " in the trace, since NABSN is %" PRIu32 "\n", it.nawun, it.nacwu, head.nawun, head.nacwu, head.nabsn);
+    }
+    return head;
 }
 
-/* A limit that a boundary keeps below it, and says so where it does. */
-static uint32_t below(const char *name, uint32_t limit, uint32_t nabsn)
-{
-    if (!nabsn || limit <= nabsn) {
-        return limit;
-    }
-    fprintf(stderr, "zalkvorn-host: %s %" PRIu32 " is above NABSN %" PRIu32 ", which stands in its place in the trace\n", name, limit, nabsn);
-    return nabsn;
-}
-
-/* The limits as a trace can have them: boundaries as they lie in the window. */
-static struct judged judged_by(const struct identity *it)
-{
-    struct judged by = {.nabsn = told(asked.nabsn, it->nabsn)};
-    uint64_t period = by.nabsn + 1ull, offset = told(asked.nabo, it->nabo);
-    if (by.nabsn) {
-        by.nabo = (uint32_t)((offset % period + period - window.first % period) % period);
-    } else if (offset) {
-        fprintf(stderr, "zalkvorn-host: NABO %" PRIu64 " is without a NABSN, and 0 stands in its place in the trace\n", offset);
-    }
-    by.nawun = below("NAWUN", told(asked.nawun, it->nawun), by.nabsn);
-    by.nacwu = below("NACWU", told(asked.nacwu, it->nacwu), by.nabsn);
-    uint64_t units = by.nabsn && window.blocks > by.nabo ? (window.blocks - by.nabo + period - 1) / period + (by.nabo != 0) : 1;
-    if (units > MOST_UNITS) {
-        fail("the window has %" PRIu64 " atomic units, and a trace at most %d: --nsze makes it smaller", units, MOST_UNITS);
-    }
-    return by;
-}
-
-static void print_trace(FILE *out, const struct judged *by)
+static void print_trace(FILE *out, const struct head *by)
 {
     fprintf(out, "trace nsze %" PRIu64 " block %" PRIu32 " nabsn %" PRIu32 " nabo %" PRIu32 " nawun %" PRIu32 " nacwu %" PRIu32 " first %" PRIu64 " start %s reads %s\n", window.blocks, window.block,
             by->nabsn, by->nabo, by->nawun, by->nacwu, window.first, asked.fills ? "zeroes" : "unknown", asked.reads);
@@ -465,8 +448,8 @@ static void read_words(int words, char **word)
 /* Prints what the device is like, for scripts. */
 static void print_identity(const struct identity *it)
 {
-    printf("model %s\nblocks %" PRIu64 "\nblock %" PRIu32 "\nmost %" PRIu32 "\nqueues %" PRIu32 "\nentries %" PRIu32 "\n", it->model, it->blocks, it->block, it->most, it->queues, it->entries);
-    printf("nabsn %u\nnabo %u\nnawun %u\nnacwu %u\n", it->nabsn, it->nabo, it->nawun, it->nacwu);
+    printf("model %s\nblocks %" PRIu64 "\nblock %" PRIu32 "\nmost %" PRIu32 "\nqueues %" PRIu32 "\nentries %" PRIu32 "\n", it->model, it->space.blocks, it->block, it->most, it->queues, it->entries);
+    printf("nabsn %" PRIu32 "\nnabo %" PRIu32 "\nnawun %" PRIu32 "\nnacwu %" PRIu32 "\n", it->space.nabsn, it->space.nabo, it->space.nawun, it->space.nacwu);
     printf("compare %d\npairs %d\nzeroes %d\nuncorrectable %d\ndataset %d\ndlfeat %u\n", it->has_compare, it->has_pairs, it->has_zeroes, it->has_uncorrectable, it->has_dataset, it->dlfeat);
     if (fflush(stdout) != 0) {
         fail("standard output can't be written");
@@ -504,7 +487,7 @@ static void read_lists(const struct identity *it, char **paths)
         }
         end = list->end > end ? list->end : end;
     }
-    uint64_t room = asked.first < it->blocks ? it->blocks - asked.first : 0, most = room < MOST_BLOCKS ? room : MOST_BLOCKS;
+    uint64_t room = asked.first < it->space.blocks ? it->space.blocks - asked.first : 0, most = room < MOST_BLOCKS ? room : MOST_BLOCKS;
     window.blocks = asked.blocks ? asked.blocks : end ? end : 1;
     if (window.blocks > most) {
         fail("the window has %" PRIu64 " blocks from LBA %" PRIu64 ", and %s", window.blocks, asked.first, window.blocks > room ? "the namespace ends before: --nsze says how many" : "a trace has at most 65536");
@@ -595,7 +578,7 @@ int main(int words, char **word)
         return 0;
     }
     read_lists(it, word + optind + 1);
-    struct judged by = judged_by(it);
+    struct head by = judged_by(it->space);
     announce(it);
     FILE *out = strcmp(asked.out, "-") ? fopen(asked.out, "w") : stdout;
     if (!out) {

@@ -38,23 +38,15 @@ enum {
     CONTROLLER_VERSION = 80,
     CONTROLLER_ONCS = 520,
     CONTROLLER_FUSES = 522,
-    CONTROLLER_AWUN = 526,
-    CONTROLLER_ACWU = 532,
     CONTROLLER_IOCCSZ = 1792,
     CONTROLLER_ICDOFF = 1800
 };
 
-/* The Identify Namespace page by offsets. */
+/* The Identify Namespace page by offsets, beside what identify.h takes from it. */
 enum {
     NAMESPACE_NSZE = 0,
-    NAMESPACE_NSFEAT = 24, /* bit 1: the namespace's own atomic limits count */
-    NAMESPACE_FLBAS = 26,
     NAMESPACE_DLFEAT = 33, /* bits 2:0: what a deallocated block reads as; 1 is zero bytes */
-    NAMESPACE_NAWUN = 34,
-    NAMESPACE_NACWU = 38,
-    NAMESPACE_NABSN = 40,
-    NAMESPACE_NABO = 42,
-    NAMESPACE_LBAF = 128 /* 4 bytes each: metadata in 2, the shift of a block's size, relative performance */
+    NAMESPACE_LBAF = 128   /* 4 bytes each: metadata in 2, the shift of a block's size, relative performance */
 };
 
 /* The data of Connect. */
