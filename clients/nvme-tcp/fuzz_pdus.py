@@ -2,7 +2,7 @@
 """Sends broken PDUs of a seed to a zalkvorn-target of its own, while another host of it writes, reads and does pairs: each of its commands must end as it must. At the end
 the target has as many files open as before, gives all its queues at once, and its record of all that is lawful.
 
-    fuzz_pdus.py [--seconds N] [--seed N] TARGET [OPTION..]         TARGET is the built program, and may have sanitizers
+    fuzz_pdus.py [--seconds N] [--seed N] TARGET [OPTION..]     TARGET is the built program, and may have sanitizers; its blocks have 512 bytes
 """
 
 import argparse
