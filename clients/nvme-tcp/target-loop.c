@@ -157,11 +157,13 @@ static void *serve(void *given)
     bool pends = false, has_yielded = false;
     uint64_t looked = 0;
     for (;;) {
-        bool goes_on = give_turns(loop, &pends), stops = atomic_load(&loop->stops);
-        if (stops && loop->all) {
+        bool stops = atomic_load(&loop->stops);
+        if (stops) {
+            take_arrived(loop);
             end_late(loop, true);
-            goes_on = goes_on || !pends;
-        } else if (stops) {
+        }
+        bool goes_on = give_turns(loop, &pends);
+        if (stops && !loop->all) {
             return NULL;
         }
         take_events(loop, timeout_after(loop, goes_on, pends, &has_yielded));
