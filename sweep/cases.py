@@ -23,8 +23,8 @@ GIVEN_FOR_MEMORY = re.compile(r'"(nvmu|nvq|unit_bench): no memory"|(Err|Some)\((
 
 # How a run is called that had the memory for its commands, and none for a thread.
 WITHOUT_A_THREAD = "without a thread"
-# How a test ended that was left by `?`, or in which an assertion showed that a call wanted memory, or neither.
-LEFT, CALL_REFUSED, PASSED = "no memory", "by the call", "passed"
+# How a test ended, or any program: for want of memory, or well.
+LEFT, PASSED = "no memory", "passed"
 
 
 @dataclass
@@ -34,6 +34,7 @@ class End:
     err: str
     files: dict  # the bytes of each file that it left, by the file's name
     growths: int
+    asks_for_less: bool = False  # the growth behind the last refused one was for as many bytes or fewer
 
     def said(self):
         return self.status, self.out, self.err, self.files
@@ -201,11 +202,7 @@ class Test:
         return end.status == 0 and end.out.endswith("test result: ok\n") and not end.err
 
     def refused(self, end, whole, refusals):
-        ended = self.ended(end)
-        return ended if ended == PASSED else LEFT
-
-    def ended(self, end):
-        """How it ended in a word: it passed, it was left by `?` for want of memory, or an assertion shows that a call wanted it."""
+        """It passed, it was left by `?` for want of memory, or an assertion shows that a call wanted it."""
         if self.is_passed(end):
             return PASSED
         error = re.match(r"error: .*\b(AllocError|AllocFailed|NoMemory|OutOfMemory)\b.*\n.*\n\Z", end.err)
@@ -214,40 +211,10 @@ class Test:
         if end.status == 101 and re.match(r'(error: ")?there was no memory"?\n', end.err):
             return LEFT
         sides = re.search(r"^ *left: (.*)\n *right: (.*)$", end.err, re.M)
-        if sides and end.status == -signal.SIGABRT:
-            if GIVEN_FOR_MEMORY.fullmatch(sides[1]):
-                return CALL_REFUSED
+        if sides and end.status == -signal.SIGABRT and GIVEN_FOR_MEMORY.fullmatch(sides[1]):
+            return LEFT
         raise ValueError("the test fails by something else than want of memory")
 
     def amiss(self, ends):
         """What is wrong of the ends of all runs together, which are counted by their words, or None."""
-        return None
-
-
-@dataclass
-class RefusalTest(Test):
-    """A test of nvm_refusal_tests, or of a module `refusals` elsewhere, by whose end one can tell whether a call owned up to a refusal.
-
-    It makes its own things first, and leaves by `?` where there is no memory for one. Then it makes its call, and an assertion shows
-    what that gave. So it can't pass where a growth was refused, unless the call answered success in place of want of memory: that is wrong.
-    Only in the module `always` it may pass, since the call can do without what it asked for, as an audit without a thread. At least
-    one refusal has to come to the call.
-
-    In the module `no_memory` the calls take no memory. Then each growth is one for the test's own things, and it has to be left by `?`
-    wherever one is refused: neither may it pass, nor may a call want memory."""
-
-    def is_in(self, module):
-        return module in self.name.split("::")
-
-    def refused(self, end, whole, refusals):
-        ended = self.ended(end)
-        if ended == PASSED and not self.is_in("always"):
-            raise ValueError("the test passes, though a growth was refused")
-        if ended == CALL_REFUSED and self.is_in("no_memory"):
-            raise ValueError("a call takes memory")
-        return ended
-
-    def amiss(self, ends):
-        if not self.is_in("no_memory") and not ends[CALL_REFUSED]:
-            return "no refusal came to the call"
         return None

@@ -8,7 +8,7 @@ from dataclasses import replace
 from auditor import verdict
 from audits import spoiled
 from cases import Recording, Run
-from hints import FOLDER, GEOMETRY, IS_LIST, MISSING, VERSIONS, no_host_file, no_list, other_block, the_line, told
+from hints import FOLDER, GEOMETRY, IS_LIST, IS_OTHER_LIST, MISSING, VERSIONS, no_host_file, no_list, other_block, the_line, told
 from host_files import compare, dataset, file_of, pair, read, uncorrectable, unknown, write, zeroes
 from listing_objects import listing_objects
 from loads import Load, generated
@@ -169,6 +169,8 @@ def runs(folder):
     compared = recorded(Namespace(nabsn=7), [file_of([write(0, 0x41), compare(0, 0x42)])])
     found_equal = replace(compared, done=((compared.done[0][0], replace(compared.done[0][1], statuses=((0, 0),))),))
     wrong_comparison = kept("wrong-comparison", spelled(found_equal))
+    wrong_kind, wrong_count = kept("wrong-kind", short[:36] + b"\x09" + short[37:]), kept("wrong-count", short[:1215] + b"\xee" + short[1216:])
+    trace = kept("a-trace.nvt", b"NVT1")
     loads = {f"out-{host}": generated(Load(commands=30), host).encode() for host in (1, 2)}
     return [
         done("a list is assembled", ["assemble", list_, "out.nvq"], files={"out.nvq": host}),
@@ -193,6 +195,8 @@ def runs(folder):
         done("a record with a wrong comparison is explained", ["explain", wrong_comparison], WRONG_COMPARISON, units=4),
         fault("a cut record to explain", f"{cut_record}: truncated at {len(spelled_record) - 1}", "explain", cut_record),
         fault("a wrong line", "line 3: expected data of 512 bytes and not of 511", "assemble", wrong, "out", hint=the_line("write 0 1 511*41")),
+        fault("a record for a list", f"line 1: {NO_COMMAND}", "assemble", record, "out", hint=no_list(record, spelled_record)),
+        fault("a trace for a list", f"line 1: {NO_COMMAND}", "assemble", trace, "out", hint=f"{trace} is a trace: nvq list {trace} shows it"),
         fault("a missing list", f"cannot read {missing}", "assemble", missing, "out", hint=MISSING),
         fault("a host file for a list", f"line 1: {NO_COMMAND}", "assemble", file, "out", hint=no_list(file, host)),
         fault("a list that is written over", f"cannot write {list_}", "assemble", list_, list_, hint=IS_LIST),
@@ -204,6 +208,8 @@ def runs(folder):
         fault("a cut record", f"{cut_record}: truncated at {len(spelled_record) - 1}", "list", cut_record),
         fault("a byte more than a record", f"{more}: trailing at {len(spelled_record)}", "list", more),
         fault("no workers", f"{no_workers}: bad value at 28", "list", no_workers, hint="it is the number of workers"),
+        fault("a job of no kind", f"{wrong_kind}: bad value at 36", "list", wrong_kind, hint="it is the kind of job 0"),
+        fault("too many entries", f"{wrong_count}: bad value at 1215", "list", wrong_count, hint="it is the number of entries of unit 1"),
         fault("a record of a later version", f"{later}: unknown version", "list", later, hint=VERSIONS),
         fault("a missing file", f"cannot read {missing}", "list", missing, hint=MISSING),
         *of_text(kept),
@@ -211,6 +217,7 @@ def runs(folder):
         *explained(kept),
         *judged(kept),
         done("lists are generated", ["generate", "--commands", "30", "out-1", "out-2"], files=loads),
+        fault("two lists in one file", "cannot write out", "generate", "out", "out", hint=IS_OTHER_LIST),
         fault("numbers of no namespace to generate for", "geometry: Size", "generate", "--nsze", "0", "out", hint=GEOMETRY["Size"]),
         ran("lists that are run", [plain, file_of([read(0, 2), dataset((0, 1))])]),
         ran("a list that is run and a record before", [plain], **{Recording.name: b"old"}),

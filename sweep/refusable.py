@@ -1,21 +1,45 @@
-"""The calls of crates that can be made to refuse, for want of memory, as sweep/refusals does it."""
+"""The public calls of crates that can be made to refuse, for want of memory, as sweep/refusals does it."""
 
 import os
 import re
 from dataclasses import dataclass
 
 TOP = os.path.dirname(os.path.dirname(os.path.realpath(__file__)))
-# Errors that are nothing but want of memory.
-WANT = {"NoMemory": "std::alloc::AllocError", "AllocError": "std::alloc::AllocError"}
-
-
-# What these answer for want of memory, which is no error of a Result.
-ANSWERS = {
-    ("nvm_unit", "Unit::change"): "Changed::NoMemory { point: 0 }",
-    ("nvm_unit", "Unit::try_change"): "Ok(Changed::NoMemory { point: 0 })",
-    ("nvm_unit", "Unit::poll_change"): "Some(Changed::NoMemory { point: 0 })",
-    ("nvm_run", "run"): "Err(crate::run_fault::RunFailed { fault: crate::run_fault::RunFault::NoMemory, jobs })",
+# Errors that are nothing but want of memory, and that of a writer.
+WANT = {
+    "NoMemory": "std::alloc::AllocError",
+    "AllocError": "std::alloc::AllocError",
+    "io::Result": "std::io::Error::from(std::io::ErrorKind::OutOfMemory)",
 }
+
+# What a space reports of a job for want of memory, where no check refuses the job.
+NO_PART = "crate::job_done::JobDone::of_no_part(alloc, job)"
+IS_READY = "matches!(nvm_plan::plan(&self.geometry, job), nvm_plan::Plan::Ready)"
+# What these answer for want of memory, which is no error of a Result that could be made of its name alone, and where they may.
+ANSWERS = {
+    ("nvm_unit", "Unit::change"): ("Changed::NoMemory { point: 0 }", ""),
+    ("nvm_unit", "Unit::try_change"): ("Ok(Changed::NoMemory { point: 0 })", ""),
+    ("nvm_unit", "Unit::poll_change"): ("Some(Changed::NoMemory { point: 0 })", ""),
+    ("nvm_space", "Space::run_job"): (NO_PART, IS_READY),
+    ("nvm_space", "Space::begin_job"): (f"Progress::Done({NO_PART})", IS_READY),
+    ("nvm_space", "Space::poll_job"): (f"Progress::Done({NO_PART})", ""),
+    ("nvm_trace", "Trace::push"): ("Err(std::alloc::AllocFailed { value: job })", ""),
+    ("nvm_run", "run"): ("Err(crate::run_fault::RunFailed { fault: crate::run_fault::RunFault::NoMemory, jobs })", ""),
+}
+# Calls that no program makes, and who does.
+LEFT_OUT = {
+    ("nvm_text", "append"): "nobody",
+    ("nvm_text", "write_line"): "nobody",
+    ("nvm_text", "write_name"): "nobody",
+    ("nvm_text", "write_status"): "nobody",
+    ("nvm_report", "push_numbered"): "nobody",
+    ("nvm_engine", "execute"): "tests of nvm_thread_tests",
+    ("nvm_engine", "audit_bytes"): "tests of nvm_thread_tests",
+    ("nvm_engine", "judge_alone"): "nvm_c",
+    ("nvm_engine", "witness_record_alone"): "nvm_c",
+}
+# An end whose refusal the programs can't tell by what they say: a hint that isn't there, or for which there was no memory.
+UNTOLD = ("nvm_front", "other_block", "Ok(None)")
 
 
 @dataclass
@@ -28,6 +52,8 @@ class Refusal:
     begin: int  # where its body begins, or the `Ok` of that end
     end: int  # where that `Ok` ends, or the same
     answer: str
+    where: str = ""  # what must hold besides, or nothing
+    is_end: bool = False
 
 
 def text_of(path):
@@ -80,6 +106,8 @@ def closing(text, at):
 
 def error_of(signature):
     """The type of the error, where what is answered is a Result."""
+    if re.search(r"-> io::Result<", signature):
+        return "io::Result"
     answered = re.search(r"-> (?:Option<)?Result<(.*?)>{1,2}\s*$", signature, re.S)
     named = answered and re.search(r"(\w+)$", answered[1].rstrip(" ,\n"))
     return named and named[1]
@@ -115,8 +143,8 @@ def ends_of(text, begin, end):
             yield at, last
 
 
-def refusals_of(crate, word):
-    """The refusals of the crate's calls whose names have the word, and the calls whose error can't be made."""
+def refusals_of(crate, word=""):
+    """The refusals of the crate's calls whose names have the word, and the calls whose error isn't want of memory."""
     public, left = made_public(crate), []
     refusals = []
     for path in sources_of(crate):
@@ -125,8 +153,11 @@ def refusals_of(crate, word):
             called = f"{owner}::{name}" if owner else name
             if not is_public or (owner or name) not in public or word not in called:
                 continue
+            if (crate, called) in LEFT_OUT:
+                left.append(f"{crate}: {called}: it is called by {LEFT_OUT[crate, called]}")
+                continue
             if (crate, called) in ANSWERS:
-                refusals.append(Refusal(crate, place, called, begin, begin, ANSWERS[crate, called]))
+                refusals.append(Refusal(crate, place, called, begin, begin, *ANSWERS[crate, called]))
                 continue
             error = error_of(signature)
             if not error:
@@ -137,12 +168,14 @@ def refusals_of(crate, word):
                 continue
             is_option = bool(re.search(r"-> Option<", signature))
             answer = f"Some(Err({value}))" if is_option else f"Err({value})"
+            refusals.append(Refusal(crate, place, called, begin, begin, answer))
             ends = [] if is_option else list(ends_of(text, begin, end))
             if len(ends) < 2:
-                refusals.append(Refusal(crate, place, called, begin, begin, answer))
                 continue
             for number, (at, last) in enumerate(ends, 1):
+                if (crate, called, text[at:last]) == UNTOLD:
+                    continue
                 line = text.count("\n", 0, at) + 1
                 told = f"{called}, end {number} of {len(ends)}, line {line}: {' '.join(text[at:last].split())[:60]}"
-                refusals.append(Refusal(crate, place, told, at, last, answer))
+                refusals.append(Refusal(crate, place, told, at, last, answer, is_end=True))
     return refusals, left

@@ -7,8 +7,9 @@
  * isn't, all from REFUSE_FROM on are. Aligned allocations aren't known here: a program that makes them
  * can't be run with this.
  *
- * GROWTHS names a file of at least 8 bytes that takes the number of growths, refused ones too. It is
- * mapped, and not written at the end, so that it is right after a crash as well. */
+ * GROWTHS names a file of at least 24 bytes that takes three numbers: of growths, refused ones too; of
+ * the bytes that the last refused one asked for; and of those that the next one did. It is mapped, and
+ * not written at the end, so that it is right after a crash as well. */
 #define _GNU_SOURCE
 #include <dlfcn.h>
 #include <errno.h>
@@ -26,12 +27,17 @@ typedef struct {
     _Alignas(16) size_t size;
 } Head;
 
-static uint64_t before_main, *count = &before_main, first = UINT64_MAX, last = UINT64_MAX;
+static uint64_t before_main[3], *numbers = before_main, first = UINT64_MAX, last = UINT64_MAX;
 
 static int is_refused(size_t size)
 {
-    uint64_t number = __atomic_add_fetch(count, 1, __ATOMIC_SEQ_CST);
-    return (first <= number && number <= last) || size > SIZE_MAX - sizeof(Head);
+    uint64_t number = __atomic_add_fetch(&numbers[0], 1, __ATOMIC_SEQ_CST);
+    int is_first_to_last = first <= number && number <= last;
+    if (is_first_to_last)
+        numbers[1] = size;
+    else if (number == last + 1)
+        numbers[2] = size;
+    return is_first_to_last || size > SIZE_MAX - sizeof(Head);
 }
 
 static void *block_of(Head *head, size_t size)
@@ -76,10 +82,10 @@ static int counted_main(int words, char **word, char **environment)
 {
     const char *from = getenv("REFUSE_FROM"), *to = getenv("REFUSE_TO"), *file = getenv("GROWTHS");
     int opened = file ? open(file, O_RDWR | O_CLOEXEC) : -1;
-    void *mapped = mmap(NULL, sizeof *count, PROT_READ | PROT_WRITE, MAP_SHARED, opened, 0);
+    void *mapped = mmap(NULL, sizeof before_main, PROT_READ | PROT_WRITE, MAP_SHARED, opened, 0);
     if (mapped == MAP_FAILED)
         abort();
-    count = mapped;
+    numbers = mapped;
     first = from ? strtoull(from, NULL, 10) : UINT64_MAX;
     last = to ? strtoull(to, NULL, 10) : UINT64_MAX;
     return own_main(words, word, environment);

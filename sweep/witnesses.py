@@ -13,7 +13,7 @@ from record_explaining import lawful_explanation
 from recorded import recorded
 from records import record_of as parsed
 from records import spelled as record_bytes
-from trace_files import in_turn, no_trace, spelled, text_of, with_seen
+from trace_files import Seen, Trace, in_turn, no_trace, spelled, text_of, with_seen
 
 RECORD = recorded(Namespace(nabsn=7), [file_of([write(0, 0x41), read(0, 1), *pair(compare(0, 0x41), write(0, 0x42)), zeroes(9, 2), read(7, 2)])])
 TRACE = in_turn(RECORD)
@@ -130,6 +130,26 @@ def judged(kept):
     ]
 
 
+def on_a_block(*steps, **more):
+    """A trace of Writes and Reads of block 0 of a unit of 8, each by a host of its own: of each, when it began and ended, the command, and
+    the byte that fills the data of a Read."""
+    space = Namespace(nsze=8, nabsn=7)
+    jobs = recorded(space, [file_of([command for _, _, command, _ in steps])]).jobs
+    seen = (
+        Seen(host, job.body, began, ended, ((0, 0),), None if byte is None else bytes([byte]) * 512)
+        for host, (job, (began, ended, _, byte)) in enumerate(zip(jobs, steps), 1)
+    )
+    return Trace(space, tuple(seen), **more)
+
+
+# The second Read's writer is a block's last one, and the first found what was there before both.
+STALE = on_a_block((1, 2, write(0, 1), None), (3, 4, write(0, 2), None), (5, 6, read(0, 1), 0), (7, 8, read(0, 1), 2))
+# Of three Writes at once two leave the same.
+TWICE = on_a_block(*((1, 10, write(0, it), None) for it in (1, 2, 1)), (11, 12, read(0, 1), 2), (13, 14, read(0, 1), 1), (15, 16, read(0, 1), 2))
+# What was there first isn't known, and can't have been both.
+UNSETTLED = on_a_block((1, 2, read(0, 1), 1), (3, 4, read(0, 1), 2), unknown=True)
+
+
 def line_of(trace, number):
     """The line of a trace's job in its text."""
     return text_of(trace).splitlines(keepends=True)[1 + number]
@@ -148,6 +168,22 @@ def certified(kept):
         '"facts":[{"rule":"nobody","before":null,"after":null,"lba":0,"reader":{"job":1}}],"itself":null}\n'
     )
     record, before = {"record": record_of(right)}, {"record": b"old"}
+    unsettled = "unknown unit 0 placed 0 steps 2\nneither an order of all its steps nor an argument that there is none was found: a higher --effort may find one\n"
+    stale = (
+        f"contradiction unit 0 commands 2\njob 0 {line_of(STALE, 0)}job 2 {line_of(STALE, 2)}"
+        "job 2 stands before job 0: job 2 found the zeroes there that were in LBA 0 at first, and nobody can have left zeroes there\n"
+        "job 0 stands before job 2: it had ended at 2, and job 2 began at 5\nso job 0 stands before itself\n"
+    )
+    twice = (
+        f"contradiction unit 0 commands 5\n{''.join(f'job {it} {line_of(TWICE, it)}' for it in range(5))}"
+        "job 0 stands before job 3: it had ended at 10, and job 3 began at 11\n"
+        "job 0 stands before job 1: job 0 put something in LBA 0, stands before job 3, and job 3 found job 1's data there\n"
+        "job 2 stands before job 3: it had ended at 10, and job 3 began at 11\n"
+        "job 2 stands before job 1: job 2 put something in LBA 0, stands before job 3, and job 3 found job 1's data there\n"
+        "job 1 stands before job 4: it had ended at 10, and job 4 began at 13\n"
+        "job 4 stands before job 1: job 1 put something in LBA 0 after job 2, whose data job 4 found there\n"
+        "so job 4 stands before itself\n"
+    )
 
     def done(name, trace, out, *words, status=0, **more):
         return Run(name, "nvq", ["certify", *words, trace], status, out=out, **more)
@@ -162,6 +198,9 @@ def certified(kept):
         done("a trace that nothing explains", not_explained, contradiction, "--record", "record", status=2, before=before, units=UNITS),
         done("an argument that nothing explains a trace", not_explained, contradiction, "--argument", "it", status=2, units=UNITS, files={"it": NOBODY}),
         done("an argument, and a file before", not_explained, contradiction, "--argument", "it", status=2, units=UNITS, files={"it": NOBODY}, before={"it": b"old"}),
+        done("a Read of the first zeroes after two Writes", kept("stale.nvt", spelled(STALE)), stale, status=2, units=1),
+        done("Reads of three Writes that no order gives", kept("twice.nvt", spelled(TWICE)), twice, status=2, units=1),
+        done("a trace of which neither is found", kept("unsettled.nvt", spelled(UNSETTLED)), unsettled, status=3, units=1),
         done("an object of a trace that nothing explains", not_explained, contradiction_object, "--json", status=2, units=UNITS),
         fault("a cut trace to certify", f"{cut}: truncated at {len(spelled(TRACE)) - 1024}", cut),
         fault("a missing trace to certify", f"cannot read {missing}", missing, hint=MISSING),
