@@ -131,7 +131,7 @@ uint16_t identify_page(const struct connection *connection, const uint8_t *entry
 /* The subsystem, at the address to which the host has connected. */
 static void discovery_page(const struct connection *connection, uint8_t *whole)
 {
-    enum { RECORD = 1024, TCP = 3, IPV4 = 1, IPV6 = 2, NVM_SUBSYSTEM = 2, NO_SECURE_CHANNEL = 2, MAY_HAVE_NO_FLOW_CONTROL = 4, ADMIN_ENTRIES = 32 };
+    enum { RECORD = 1024, TCP = 3, IPV4 = 1, IPV6 = 2, NVM_SUBSYSTEM = 2, MAY_HAVE_NO_FLOW_CONTROL = 4, ADMIN_ENTRIES = 32 };
     struct sockaddr_storage here = {0};
     socklen_t length = sizeof here;
     char address[256] = "", service[32] = "";
@@ -143,7 +143,7 @@ static void discovery_page(const struct connection *connection, uint8_t *whole)
     record[0] = TCP;
     record[1] = here.ss_family == AF_INET6 ? IPV6 : IPV4;
     record[2] = NVM_SUBSYSTEM;
-    record[3] = NO_SECURE_CHANNEL | MAY_HAVE_NO_FLOW_CONTROL;
+    record[3] = MAY_HAVE_NO_FLOW_CONTROL;
     put_little(record + 4, 2, 1); /* a port's number */
     put_little(record + 6, 2, ANY_CONTROLLER);
     put_little(record + 8, 2, ADMIN_ENTRIES);
