@@ -1,6 +1,6 @@
 #!/usr/bin/env python3
 """An NVMe/TCP controller for tests, with a planted bug or without one, and with wrong PDUs where they are asked for. It serves one namespace in memory, for
-zalkvorn-host and what is like it: it has no discovery, no keep alive and no events.
+zalkvorn-host and Linux's host: it has no discovery and no events.
 
     lying_target.py --bug torn              prints its address, and serves until its standard input ends
 
@@ -232,13 +232,19 @@ class Connection:
             if entry[40] == 1:
                 page[24:64] = b"lying_target.py".ljust(40)
                 page[77] = asked.mdts
+                pack_into("<HI", page, 78, 1, 0x10400)  # the controller's number, and its version
+                pack_into("<H", page, 320, 10)  # keep alive
+                pack_into("<BBHI", page, 512, 0x66, 0x44, 128, 1)  # sizes of entries, commands of a queue, namespaces
                 pack_into("<HHH", page, 520, 0b1101, 1, 0)
-                pack_into("<I", page, 1792, (64 + IN_CAPSULE) // 16)
+                pack_into("<I", page, 536, 1)  # SGLs
+                pack_into("<II", page, 1792, (64 + IN_CAPSULE) // 16, 1)
             elif entry[40] == 0 and unpack_from("<I", entry, 4)[0] == 1:
                 pack_into("<QQQ", page, 0, asked.nsze, asked.nsze, asked.nsze)
                 page[24], page[33], page[130] = 2, 1, asked.block.bit_length() - 1
                 pack_into("<HHHHH", page, 34, asked.nawun, 0, asked.nacwu, asked.nabsn, asked.nabo)
-            else:
+            elif entry[40] == 2:
+                pack_into("<I", page, 0, 1)
+            elif entry[40] != 3:
                 status = 0x00B
             found = bytes(page)
         elif opcode == SET_FEATURES and entry[40] == 7:
