@@ -250,7 +250,9 @@ def lists(run):
     run.expect(["nvq", "list", "-"], given=file_of([dataset(*ranges, attributes=7)]), out=f"dataset {words} deallocate\n")
     # The identifier goes round after 65,535, and no more than 65,536 commands are taken.
     many = "# many\n" + "read 0 1\n" * 65_536
-    assembled(many, out=file_of([read(0, 1, cid=place % 65_536) for place in range(1, 65_537)]))
+    most = file_of([read(0, 1, cid=place % 65_536) for place in range(1, 65_537)])
+    assembled(many, out=most)
+    run.expect(["nvq", "list", "-"], given=most, out="read 0 1\n" * 65_536)
     assembled(f"{many}# no command\n\nwalk\n", status=1, err=told("nvq: line 65540: expected no more than 65536 commands", the_line("walk")))
     # Where a character ends behind the front of a line that is shown, it isn't; nor is what isn't plain text.
     for line, hint in (

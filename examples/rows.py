@@ -38,6 +38,14 @@ lawful jobs 1 units 4 changes 0 refused 0
 1 2 read 0/00 512*00,2048*42,512*00
 lawful jobs 2 units 4 changes 2 refused 0
 """),
+    "a Write over the first three units, which begin at an offset": (
+        {"nabo": 4},
+        [[equal(write, 2, 12, 0x42), read(0, 16)]],
+        """1 1 write 0/00
+1 2 read 0/00 1024*00,6144*42,1024*00
+lawful jobs 2 units 5 changes 3 refused 0
+""",
+    ),
     "a pair": ({}, [[*both(4, 4, 0, 0x55), read(7, 2)]], """1 1 compare 0/00
 1 2 write 0/00
 1 3 read 0/00 512*55,512*00
