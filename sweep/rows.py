@@ -26,7 +26,7 @@ TAKES_NONE = re.compile(
     r"|unit \w+ \w+ compare [^;]* = at .*|.* = (?:full|newer|busy|failed|not free)\b.*|unit close = .*"
     # A Read that doesn't wait and isn't answered, and jobs that a check refuses or that have no parts.
     r"|space \w+ now .* = (?:crosses|out of range)"
-    r"|space \w+ (?:run|poll) .* = (?!0/00|0/06)[0-9a-f]/[0-9a-f]{2}(?: [0-9a-f]/[0-9a-f]{2})?"
+    r"|space \w+ (?:run|poll) .* = 0/(?!00|06)[0-9a-f]{2}(?: 0/[0-9a-f]{2})?"
     r"|space \w+ (?:run|poll) dataset (?!.*deallocate).*"
 )
 
