@@ -34,10 +34,17 @@ class Target:
         return len(os.listdir(f"/proc/{self.process.pid}/fd"))
 
     def end(self):
-        """The status with which it ends, and its last line."""
+        """The status with which it ends, and what it prints."""
         self.process.send_signal(signal.SIGTERM)
         out, _ = self.process.communicate(timeout=300)
         return self.process.returncode, out
+
+    def __enter__(self):
+        return self
+
+    def __exit__(self, *_what):
+        self.process.kill()
+        self.process.wait()
 
 
 class Beside(threading.Thread):
@@ -251,8 +258,7 @@ def main():
     words.add_argument("--seed", type=int, default=int.from_bytes(os.urandom(4), "little"))
     asked, target_words = words.parse_known_args()
     until = time.monotonic() + asked.seconds
-    with tempfile.TemporaryDirectory(prefix="fuzz-pdus-") as folder:
-        target = Target(target_words, folder)
+    with tempfile.TemporaryDirectory(prefix="fuzz-pdus-") as folder, Target(target_words, folder) as target:
         before = target.files()
         beside = Beside(target.address, asked.seed)
         fuzzers = [Fuzzer(target.address, asked.seed * 16 + place, until) for place in range(3)]
@@ -285,8 +291,8 @@ def left_behind(target, before):
         if time.monotonic() > late:
             return [f"the target has {target.files()} files open, and not {before}"]
         time.sleep(0.05)
-    queue, controller = admin(target.address)
     try:
+        queue, controller = admin(target.address)
         queues = [io_queue(target.address, controller, number) for number in range(1, 65)]
     except AssertionError as status:
         return [f"not all queues are there afterwards: {status}"]
