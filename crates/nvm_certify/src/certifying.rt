@@ -19,7 +19,7 @@ use std::alloc::{AllocError, Global};
 use std::thread::Threads;
 
 /// How often a unit is searched.
-const MOST_SEARCHES: u32 = 8;
+const MOST_SEARCHES: u32 = 64;
 
 /// The piece of which the fault is, if it is of one of so many.
 fn piece_of(fault: WitnessFault, pieces: usize) -> Option<u32> {
@@ -191,7 +191,37 @@ fn search_units<'t, R: Threads + Sync>(
     Ok(())
 }
 
-/// Has looks fail in later units that met one without an order. Says whether there was such a look.
+/// Has looks fail in another unit that were held to have failed in this one, which has no order: those that were under way where the search
+/// stopped, or else all. Says whether there was one.
+fn skip_in(
+    geometry: &Geometry,
+    owners: &[Owner<'_>],
+    unit: &UnitSteps,
+    stuck: Stuck,
+    failing: &mut Failing,
+) -> bool {
+    let (from, to) = match unit.steps.get(stuck.around as usize) {
+        Some(step) => (step.began, step.ended),
+        None => (0, u64::MAX),
+    };
+    let mut some = false;
+    for step in &unit.steps {
+        if step.reply.is_failure() && step.began <= to && step.ended >= from {
+            some = failing.skip_unit(geometry, owners, step.piece) || some;
+        }
+    }
+    if some {
+        return true;
+    }
+    for step in &unit.steps {
+        if step.reply.is_failure() {
+            some = failing.skip_unit(geometry, owners, step.piece) || some;
+        }
+    }
+    some
+}
+
+/// The same of each unit that has no order.
 fn skip_stuck(
     geometry: &Geometry,
     owners: &[Owner<'_>],
@@ -200,8 +230,8 @@ fn skip_stuck(
 ) -> bool {
     let mut some = false;
     for ordering in found {
-        if let UnitOrdering::Stuck(steps, _) = ordering {
-            some = failing.skip_units(geometry, owners, steps.unit) || some;
+        if let UnitOrdering::Stuck(unit, stuck) = ordering {
+            some = skip_in(geometry, owners, unit, *stuck, failing) || some;
         }
     }
     some
@@ -209,9 +239,9 @@ fn skip_stuck(
 
 /// Whether a record explains the trace, and else whether an argument shows that none does.
 ///
-/// It searches for an order of each unit's steps, at most `effort` steps back in each search. Reads, Compares and pairs that failed are put
+/// It searches for an order of each unit's steps, at most `effort` steps back before it has one more than ever before. Reads, Compares and pairs that failed are put
 /// into the orders that were found; those that have no place there are a part of the next search of their units. Of one over several
-/// units it isn't known in which it failed: where a unit has no order, the next search takes another one. There are up to 8 searches of a
+/// units it isn't known in which it failed: where a unit has no order, the next search takes another one. There are up to 64 searches of a
 /// unit. Where one finds no order, an argument is looked for there. Where nothing was known of the blocks at first, each search is
 /// made with up to two guesses of what they held, and each guess has as many steps back.
 ///
@@ -256,7 +286,7 @@ pub fn certify<R: Threads + Sync>(
             }
             continue;
         }
-        let placing = Placing::new(alloc, &found)?;
+        let placing = Placing::new(alloc, &found, &failing)?;
         if placing.unplaced.is_empty() {
             let orders = placing.into_orders(alloc, found)?;
             return verdict_by(rt, alloc, judging, trace, &owners, &orders);

@@ -33,7 +33,7 @@ fn order_by_derived(
 
 /// An order of the unit's steps in which each reply is right and that keeps the times, if the search finds one.
 ///
-/// It takes at most `effort` steps back. Where that isn't enough, it derives which steps have to be done before which, and takes as many
+/// It takes at most `effort` steps back before it has one more in order than ever before. Where that isn't enough, it derives which steps have to be done before which, and takes as many
 /// back again, or where nothing was known of the blocks at first with another guess of that.
 /// `fresh` is the value of bytes that no command is expected to have found or put.
 pub fn order_of(

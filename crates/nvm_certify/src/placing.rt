@@ -2,7 +2,7 @@
 use crate::aside::LookPlace;
 use crate::finding::{OrderedStep, UnitOrder, UnitOrdering};
 use nvm_record::NoMemory;
-use nvm_steps::to_u32;
+use nvm_steps::{Failing, to_u32};
 use std::alloc::Global;
 
 /// That a look comes into a unit's order. Such are ordered as they stand there.
@@ -23,11 +23,18 @@ pub struct Placing {
     insertions: Vec<Insertion>,
     /// The pieces that have no place.
     pub unplaced: Vec<u32>,
+    /// Those that were put in order by a search and fail in a unit before, by rising number.
+    earlier: Vec<u32>,
 }
 
 impl Placing {
-    /// Each look fails in the first of its units in which it can, if it goes on in those before.
-    pub fn new(alloc: Global, found: &Vec<UnitOrdering<'_>>) -> Result<Placing, NoMemory> {
+    /// Each look fails in the first of its units in which it can, if it goes on in those before. One that a search put in order goes on until it
+    /// comes to that unit, if it can.
+    pub fn new(
+        alloc: Global,
+        found: &Vec<UnitOrdering<'_>>,
+        failing: &Failing,
+    ) -> Result<Placing, NoMemory> {
         let mut places = Vec::new(alloc);
         for ordering in found {
             if let UnitOrdering::Ordered(_, looks) = ordering {
@@ -40,6 +47,7 @@ impl Placing {
         let mut placing = Placing {
             insertions: Vec::new(alloc),
             unplaced: Vec::new(alloc),
+            earlier: Vec::new(alloc),
         };
         let mut begin = 0usize;
         for k in 0..places.len() {
@@ -48,7 +56,8 @@ impl Placing {
                 None => true,
             };
             if is_last {
-                placing.place(&places[begin.min(k)..k + 1])?;
+                let is_searched = failing.is_searched(places[k].piece);
+                placing.place(&places[begin.min(k)..k + 1], is_searched)?;
                 begin = k.saturating_add(1);
             }
         }
@@ -56,14 +65,19 @@ impl Placing {
         Ok(placing)
     }
 
-    /// Places a look, whose places in its units these are.
-    fn place(&mut self, places: &[LookPlace]) -> Result<(), NoMemory> {
+    /// Places a look, whose places in its units these are, or, where a search put it in order, in the units before the one in which it fails.
+    fn place(&mut self, places: &[LookPlace], is_searched: bool) -> Result<(), NoMemory> {
         let before = self.insertions.len();
+        let mut goes_on = is_searched;
         for place in places {
             let (after, passes) = match (place.fails, place.passes) {
+                (_, Some(after)) if is_searched => (after, true),
                 (Some(after), _) => (after, false),
                 (None, Some(after)) => (after, true),
-                (None, None) => break,
+                (None, None) => {
+                    goes_on = false;
+                    break;
+                }
             };
             self.insertions.push(Insertion {
                 unit: place.unit,
@@ -73,8 +87,14 @@ impl Placing {
                 passes,
             })?;
             if !passes {
+                if is_searched {
+                    self.earlier.push(place.piece)?;
+                }
                 return Ok(());
             }
+        }
+        if goes_on {
+            return Ok(());
         }
         self.insertions.truncate(before);
         if let Some(place) = places.first() {
@@ -114,14 +134,16 @@ impl Placing {
             Some(insertion) => insertion.unit == order.unit,
             None => false,
         };
-        if !has_looks {
+        if !has_looks && self.earlier.is_empty() {
             return Ok(order);
         }
         let UnitOrder { unit, first, steps } = order;
         let mut all = Vec::with_capacity(alloc, steps.len())?;
         for k in 0..steps.len() {
             self.put_looks(unit, to_u32(k), next, &mut all)?;
-            all.push(steps[k])?;
+            if steps[k].is_success || self.earlier.binary_search(&steps[k].piece).is_err() {
+                all.push(steps[k])?;
+            }
         }
         self.put_looks(unit, u32::MAX, next, &mut all)?;
         Ok(UnitOrder {

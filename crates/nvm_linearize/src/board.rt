@@ -1,11 +1,14 @@
 mod guesses;
+mod queues;
 mod turns;
 mod versions;
 mod wants;
 
+use crate::board::queues::{Queues, Waiting};
 use crate::board::turns::VersionTurns;
 use crate::board::versions::Versions;
-use crate::times::Zone;
+use crate::search::key;
+use crate::times::{Timed, Zone};
 pub use guesses::Guess;
 use nvm_record::NoMemory;
 use nvm_steps::{Cell, Numbers, Reply, Span, UnitStep, UnitSteps};
@@ -27,10 +30,16 @@ pub struct Board {
     hopes: Numbers,
     /// Of each block, how many failed looks at it aren't in order yet.
     watched: Numbers,
+    /// By the ends of their commands, the steps that have to find each version.
+    finders: Queues,
+    /// By the beginnings of their commands, the steps that put each version where something else may be.
+    putters: Queues,
     /// The versions that were put over, the last one at the end.
     over: Vec<u32>,
     /// What the blocks hold at first, where that isn't zero bytes.
     pub first: Vec<Cell>,
+    /// Of what the blocks hold now: each block has a part in it.
+    pub state: u64,
 }
 
 impl Board {
@@ -51,8 +60,11 @@ impl Board {
             writers: Numbers::new(alloc, count, 0)?,
             hopes: Numbers::new(alloc, count, 0)?,
             watched: Numbers::new(alloc, blocks, 0)?,
+            finders: Queues::new(alloc, 0, 0, &mut Vec::new(alloc))?,
+            putters: Queues::new(alloc, 0, 0, &mut Vec::new(alloc))?,
             over: Vec::new(alloc),
             first: Vec::new(alloc),
+            state: 0,
             versions,
         };
         for block in 0..board.versions.block_count() {
@@ -97,6 +109,39 @@ impl Board {
             }
         }
         self.turns = VersionTurns::new(alloc, &self.versions, &later)?;
+        Ok(())
+    }
+
+    /// Takes these steps' times: by them it is known who waits for a version, and who may still put it.
+    pub fn set_queues(&mut self, alloc: Global, steps: &[Timed]) -> Result<(), NoMemory> {
+        let mut finding = Vec::new(alloc);
+        let mut putting = Vec::new(alloc);
+        let mut cells = 0u32;
+        for timed in steps {
+            let step = &timed.step;
+            cells = cells.max(step.found.to).max(step.put.to);
+            if step.reply == Reply::Done {
+                for cell in step.found.places() {
+                    finding.push(Waiting {
+                        version: self.versions.of_cell(cell),
+                        time: step.ended,
+                        cell,
+                    })?;
+                }
+            }
+            for cell in step.put.places() {
+                if !self.finds(step, cell) {
+                    putting.push(Waiting {
+                        version: self.versions.of_cell(cell),
+                        time: step.began,
+                        cell,
+                    })?;
+                }
+            }
+        }
+        let versions = self.versions.count() as usize;
+        self.finders = Queues::new(alloc, versions, cells as usize, &mut finding)?;
+        self.putters = Queues::new(alloc, versions, cells as usize, &mut putting)?;
         Ok(())
     }
 
@@ -189,11 +234,17 @@ impl Board {
     /// Does the step.
     pub fn do_step(&mut self, step: &UnitStep) -> Result<(), NoMemory> {
         self.settle(step);
+        for place in step.found.places() {
+            self.finders.take(place);
+        }
         for place in step.put.places() {
+            self.putters.take(place);
             let block = self.versions.block_of_cell(place);
             let version = self.versions.of_cell(place);
-            self.over.push(self.now.at(block))?;
+            let before = self.now.at(block);
+            self.over.push(before)?;
             self.now.put(block, version);
+            self.state ^= key(block, before) ^ key(block, version);
             if !self.finds(step, place) {
                 self.writers.decrement(version);
             }
@@ -210,10 +261,16 @@ impl Board {
             };
             let version = self.versions.of_cell(place);
             self.turns.put_back(version);
-            self.now.put(self.versions.block_of_cell(place), before);
+            let block = self.versions.block_of_cell(place);
+            self.now.put(block, before);
+            self.state ^= key(block, before) ^ key(block, version);
             if !self.finds(step, place) {
                 self.writers.increment(version);
             }
+            self.putters.put_back(place);
+        }
+        for place in step.found.places().rev() {
+            self.finders.put_back(place);
         }
         self.expect(step);
     }

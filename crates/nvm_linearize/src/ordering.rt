@@ -77,6 +77,7 @@ pub fn linearize(
     }
     board.set_zones(alloc, &times.zones(alloc, &board)?)?;
     let timed_steps = by_beginning(alloc, unit, &times)?;
+    board.set_queues(alloc, &timed_steps)?;
     let mut search = Search::new(alloc, unit.unit, &timed_steps, board, orders, effort)?;
     if search.run()? {
         Ok(Ordering::Ordered(search.into_order()?))

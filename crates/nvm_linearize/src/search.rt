@@ -1,10 +1,13 @@
 mod candidates;
 mod choices;
+mod memory;
 
 use crate::board::Board;
 use crate::line::Line;
 use crate::ordering::{Order, Stuck};
 use crate::search::choices::{Choice, Turn};
+use crate::search::memory::Memory;
+pub use crate::search::memory::key;
 use crate::times::Timed;
 use nvm_record::NoMemory;
 use nvm_steps::{Orders, PlaceSet, UnitStep, to_u32};
@@ -26,6 +29,11 @@ struct Deadline {
     ended: u64,
     step: u32,
 }
+
+/// Beside a step's place, in a state: blocks and versions are below.
+const PLACED: u32 = u32::MAX;
+/// How often as many steps may be taken back.
+const MOST_GAINS: u64 = 100;
 
 /// A search for an order of a unit's steps.
 #[derive(Drop)]
@@ -57,8 +65,16 @@ pub struct Search<'u> {
     candidates: Vec<u32>,
     /// The step among them whose command ended first.
     urgent: u32,
-    /// How many steps may still be taken back.
+    /// Of the steps in order, whichever came first: each has a part in it.
+    state: u64,
+    /// The states that lead to no order.
+    failed: Memory,
+    /// How many steps may be taken back before one more is in order than ever before.
     effort: u32,
+    /// How many of these are left.
+    left_back: u32,
+    /// How many may be taken back in all.
+    left_in_all: u64,
     stuck: Stuck,
 }
 
@@ -91,7 +107,11 @@ impl<'u> Search<'u> {
             choices: Vec::new(alloc),
             candidates: Vec::new(alloc),
             urgent: 0,
+            state: 0,
+            failed: Memory::new(alloc),
             effort,
+            left_back: effort,
+            left_in_all: u64::from(effort).saturating_mul(MOST_GAINS),
             stuck: Stuck::new(unit, steps.len(), 0, 0),
         };
         for place in 0..steps.len() {
@@ -135,6 +155,7 @@ impl<'u> Search<'u> {
             return Ok(());
         };
         self.board.do_step(step)?;
+        self.state ^= key(place, PLACED);
         self.placed.push(PlacedStep {
             step: place,
             latest: self.latest,
@@ -173,6 +194,7 @@ impl<'u> Search<'u> {
             return;
         };
         self.board.undo_step(step);
+        self.state ^= key(last.step, PLACED);
         self.latest = last.latest;
         if step.is_needed() {
             self.needed.put_back(last.step);
@@ -209,9 +231,12 @@ impl<'u> Search<'u> {
         Ok(())
     }
 
-    /// Notes how far the search came.
+    /// Notes how far the search came. Where that is further than before, it may take as many steps back again.
     fn note_stuck(&mut self) {
         let placed = to_u32(self.placed.len());
+        if placed > self.stuck.placed {
+            self.left_back = self.effort;
+        }
         if placed >= self.stuck.placed {
             let around = match self.steps.get(self.urgent as usize) {
                 Some(timed) => timed.place,

@@ -1,7 +1,7 @@
 //! Looks that failed: how a try deals with each, and in which of its units it is held to have failed. Which unit it was isn't known.
 use crate::changes::Changes;
 use crate::lbas::lbas_in;
-use crate::numbers::{Numbers, to_u32};
+use crate::numbers::Numbers;
 use crate::unit_steps::Reply;
 use nvm_geometry::Geometry;
 use nvm_plan::{job_part_count, job_units};
@@ -12,7 +12,8 @@ use std::alloc::Global;
 /// What a try holds of the looks that failed.
 ///
 /// At first each is set aside: it is put into the order that a search found for the other steps. One that has no place there is put in
-/// order by the search itself from then on, as one that failed in a certain unit.
+/// order by the search itself from then on, as one that failed in a certain unit. In the units before that it is still set aside: what it
+/// finds there is read off their orders.
 #[derive(Drop)]
 pub struct Failing {
     /// Of each piece, 1 where the search puts it in order.
@@ -53,11 +54,15 @@ impl Failing {
         }
     }
 
-    /// Has the search put the piece in order from now on.
+    /// Has the search put the piece in order from now on. Where it did, and the look has no place in a unit before, it is held to have failed in
+    /// the next one.
     pub fn search(&mut self, geometry: &Geometry, owners: &[Owner<'_>], piece: u32) {
         let Some(owner) = owners.get(piece as usize) else {
             return;
         };
+        if self.is_searched(piece) {
+            self.skips.increment(piece);
+        }
         self.searched.put(piece, 1);
         if job_part_count(geometry, &owner.whole.job) > 1 {
             self.has_several = true;
@@ -65,25 +70,18 @@ impl Failing {
         self.change_units(geometry, owner);
     }
 
-    /// Holds of each look that the search puts in order and that met this unit and others that it failed in a later unit than was held
-    /// before. Says whether there was one.
-    pub fn skip_units(&mut self, geometry: &Geometry, owners: &[Owner<'_>], unit: u16) -> bool {
-        let mut some = false;
-        for place in 0..owners.len() {
-            let piece = to_u32(place);
-            if !self.is_searched(piece) {
-                continue;
-            }
-            let owner = &owners[place];
-            if job_part_count(geometry, &owner.whole.job) > 1
-                && lbas_in(geometry, owner, unit).is_some()
-            {
-                self.skips.increment(piece);
-                self.change_units(geometry, owner);
-                some = true;
-            }
+    /// Holds of a look that the search puts in order and that met several units that it failed in the next of them than was held before.
+    /// Says whether it is such a look.
+    pub fn skip_unit(&mut self, geometry: &Geometry, owners: &[Owner<'_>], piece: u32) -> bool {
+        let Some(owner) = owners.get(piece as usize) else {
+            return false;
+        };
+        if !self.is_searched(piece) || job_part_count(geometry, &owner.whole.job) < 2 {
+            return false;
         }
-        some
+        self.skips.increment(piece);
+        self.change_units(geometry, owner);
+        true
     }
 
     /// The units that have to be searched, or searched again. They are taken for searched from then on.
@@ -102,7 +100,8 @@ impl Failing {
         Ok(units)
     }
 
-    /// The unit in which the search has a look fail: of those in which it may have, the one after those that are skipped, or the last.
+    /// The unit in which the search has a look fail: of those in which it may have, the one after those that are skipped, and after the
+    /// last one the first again.
     pub fn unit_of(
         &self,
         geometry: &Geometry,
@@ -113,19 +112,27 @@ impl Failing {
     ) -> Option<u16> {
         let mut first = None;
         let mut found = None;
+        let mut count = 0u32;
         let mut left = self.skips.at(piece);
-        for unit in job_units(geometry, &owner.whole.job) {
-            if let Some(on) = lbas_in(geometry, owner, unit) {
-                first = first.or(Some(unit));
-                if changes.may_fail(owner, on, reply) {
-                    found = Some(unit);
-                    if left == 0 {
-                        return found;
+        for _ in 0..2 {
+            for unit in job_units(geometry, &owner.whole.job) {
+                if let Some(on) = lbas_in(geometry, owner, unit) {
+                    first = first.or(Some(unit));
+                    if changes.may_fail(owner, on, reply) {
+                        found = Some(unit);
+                        if left == 0 {
+                            return found;
+                        }
+                        left -= 1;
+                        count = count.saturating_add(1);
                     }
-                    left -= 1;
                 }
             }
+            if count == 0 {
+                return first;
+            }
+            left %= count;
         }
-        found.or(first)
+        found
     }
 }

@@ -64,8 +64,7 @@ fn put_aside(
     Ok(())
 }
 
-/// Puts a look that failed at the end of the pieces of its units, up to that in which it failed. Before that it found blocks without a
-/// mark, which a Compare found equal.
+/// Puts a look that failed at the end of those pieces of its unit that the search puts in order. In the units before that it is set aside.
 fn put_failed(
     units: &mut Vec<UnitPieces>,
     geometry: &Geometry,
@@ -80,11 +79,9 @@ fn put_failed(
         if failing == Some(unit) {
             return put_piece(units, unit, failed);
         }
-        let before = UnitPiece {
-            reply: Reply::Done,
-            ..failed
-        };
-        put_piece(units, unit, before)?;
+        if let Some(pieces) = units.get_mut(unit as usize) {
+            pieces.aside.push(failed)?;
+        }
     }
     Ok(())
 }

@@ -48,7 +48,7 @@ pub fn read_certify(
 /// `nvq certify`.
 pub fn certify_command<'a>(alloc: Global) -> Result<Command<'a>, Error> {
     let effort = number_option(alloc, "effort", "Most steps back in each unit").default_value(
-        "20000",
+        "200000",
     );
     let record = path_option(
         alloc,

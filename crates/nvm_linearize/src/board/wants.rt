@@ -16,23 +16,30 @@ impl Board {
         false
     }
 
-    /// Whether the step puts something over a version that another step still has to find, and none can put again.
+    /// Whether the step puts something over a version that another step still has to find, and that none can put again in time for it.
     pub fn loses(&self, step: &UnitStep) -> bool {
         let mut own = step.found.from;
         for place in step.put.places() {
             let now = self.now_at(place);
-            let is_own = step.reply == Reply::Done
-                && own < step.found.to
-                && self.versions.of_cell(own) == now;
+            let found = if own < step.found.to { Some(own) } else { None };
             own = own.saturating_add(1);
-            if self.versions.of_cell(place) != now
-                && self.readers.at(now) > u32::from(is_own)
-                && self.writers.at(now) == 0
-            {
+            if self.versions.of_cell(place) != now && self.is_needed_before(now, found) {
                 return true;
             }
         }
         false
+    }
+
+    /// Whether a step has to find the version, other than by this cell, before any can put it again.
+    fn is_needed_before(&self, version: u32, cell: Option<u32>) -> bool {
+        match (
+            self.finders.first_but(version, cell),
+            self.putters.first_but(version, None),
+        ) {
+            (Some(due), Some(again)) => due < again,
+            (Some(_), None) => true,
+            (None, _) => false,
+        }
     }
 
     /// Whether a step has to find the version, or would have to if it is in order.

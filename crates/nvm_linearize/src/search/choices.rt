@@ -14,6 +14,8 @@ pub struct Turn {
     end: usize,
     /// Which of them was taken last.
     choice: usize,
+    /// The state.
+    state: u64,
 }
 
 /// A step that could be next, in the order in which such steps are tried.
@@ -108,6 +110,10 @@ impl<'u> Search<'u> {
 
     /// Makes a turn of the choices that there are, and takes the first. Says whether there was one.
     pub fn turn(&mut self) -> Result<bool, NoMemory> {
+        let state = self.state ^ self.board.state;
+        if self.failed.has(state) {
+            return Ok(false);
+        }
         let new = self.choices()?;
         if new.is_empty() {
             return Ok(false);
@@ -121,6 +127,7 @@ impl<'u> Search<'u> {
             from: choice,
             end: self.choices.len(),
             choice,
+            state,
         })?;
         self.take_choice(choice)
     }
@@ -133,10 +140,11 @@ impl<'u> Search<'u> {
             };
             for _ in turn.placed..self.placed.len() {
                 self.take_back();
-                if self.effort == 0 {
+                if self.left_back == 0 || self.left_in_all == 0 {
                     return Ok(false);
                 }
-                self.effort -= 1;
+                self.left_back -= 1;
+                self.left_in_all -= 1;
             }
             let choice = turn.choice.saturating_add(1);
             if choice < turn.end {
@@ -144,6 +152,7 @@ impl<'u> Search<'u> {
                 return self.take_choice(choice);
             }
             self.choices.truncate(turn.from);
+            self.failed.note(turn.state)?;
         }
         Ok(false)
     }
