@@ -1,3 +1,0 @@
-//! Which growths are those of threads changes from run to run.
-mod audits;
-mod runs;
