@@ -261,10 +261,11 @@ class Connection:
 
     @property
     def name(self):
-        return f"{spelled(self.client)} to {spelled(self.server)}"
+        return f"{address_of(self.client)} to {address_of(self.server)}"
 
 
-def spelled(end):
+def address_of(end):
+    """An end of a connection as text."""
     address, port = end
     if len(address) == 4:
         return f"{'.'.join(map(str, address))}:{port}"

@@ -146,7 +146,7 @@ uint32_t pdu_begin(uint8_t *pdu, enum pdu_type type, uint8_t flags, const struct
 {
     const struct shape *shape = &SHAPES[type];
     bool header_digest = shape->has_digests && terms->header_digest, data_digest = shape->has_digests && terms->data_digest && data_length;
-    uint32_t begin = shape->header + (header_digest ? PDU_DIGEST : 0);
+    uint32_t begin = shape->header + (header_digest ? (uint32_t)PDU_DIGEST : 0);
     if (data_length) {
         uint32_t step = 4 * (terms->alignment + 1u);
         begin = (begin + step - 1) / step * step;
