@@ -236,8 +236,6 @@ def numbers_of_options(run, words):
         (["generate", "--deallocate=64k", "out"], "expected a number from 0 to 65535"),
         (["generate", "--seed=0x1ffffffffffffffff", "out"], f"expected a number from 0 to {LAST}"),
         (["certify", "--effort=4g", "missing"], "expected a number from 0 to 4294967295"),
-        (["draw", "--unit=64k", "missing", "out"], "expected a number from 0 to 65535"),
-        (["draw", "--from=4k4", "missing", "out"], NUMBER),
     ):
         option, said = given[1].removeprefix("--").split("=")
         run.expect(["nvq", *given], 1, err=no_number(option, said, expected_there))
