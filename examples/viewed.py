@@ -27,6 +27,12 @@ FRESH = STALE.replace("= 0/00 512*41", "= 0/00 512*42")
 # A Read and a Write that are under way together: each may be first.
 OPEN = HEAD.format(start="unknown") + "1 9 1 1 write 0 2 55 = 0/00\n2 8 2 7 compare 0 1 55 = 2/85\n10 11 2 8 dataset 0+1 deallocate = 0/00\n"
 
+# Zeroes are put in LBA 9 again and again, then other bytes; and a Read finds zeroes: all that put zeroes has a part in why it can't have.
+LONG = HEAD.format(start="zeroes") + (
+    "".join(f"{10 * it} {10 * it + 5} 1 {it} zeroes 8 8 = 0/00\n" for it in range(1, 13))
+    + "130 135 2 1 write 9 1 42 = 0/00\n140 145 2 2 read 9 1 = 0/00 512*00\n150 155 1 20 write 20 1 43 = 0/00\n"
+)
+
 # What the reader does, and what is written down: the text of elements, and how many there are.
 HARNESS = """<!doctype html><meta charset="utf-8"><iframe id="page" style="width:1300px;height:900px"></iframe><pre id="said"></pre><script>
 const frame = document.getElementById("page"), said = {};
@@ -41,7 +47,12 @@ frame.addEventListener("load", () => setTimeout(() => {
   said.labels = of("#labels div");
   said.named = of("#table .named span:first-child");
   said.details = of("#details h2");
-  said.only = page.getElementById("only").checked;
+  said.only = page.getElementById("only").value;
+  said.choices = of("#only option");
+  said.seen = page.getElementById("seen").textContent;
+  said.facts = of("#why > ol > li");
+  said.folded = of("#why details:not([open]) li");
+  said.selected = of('#table [aria-selected="true"] span:first-child');
   const form = page.getElementById("filters"), count = () => page.getElementById("count").textContent;
   said.filtered = {};
   for (const [name, value] of WORDS) {
@@ -56,6 +67,15 @@ frame.addEventListener("load", () => setTimeout(() => {
   form.dispatchEvent(new Event("input"));
   said.jumped = of("#details h2")[0];
   said.fields = of("#details dt, #details dd");
+  said.shown = page.getElementById("only").value;
+  frame.contentWindow.dispatchEvent(new Event("beforeprint"));
+  said.printed = of("#printed text");
+  frame.contentWindow.dispatchEvent(new Event("afterprint"));
+  said.unprinted = of("#printed svg");
+  form.elements.job.value = "";
+  form.dispatchEvent(new Event("input"));
+  page.getElementById("only").value = said.only;
+  page.getElementById("only").dispatchEvent(new Event("change"));
   said.hash = frame.contentWindow.location.hash;
   page.getElementById("chart").dispatchEvent(new KeyboardEvent("keydown", { key: "n" }));
   said.stepped = of("#details h2")[0];
@@ -120,6 +140,16 @@ def record(rows, folder):
     rows.hold("its verdict", said.get("verdict"), "Not lawful: EntryWrong at job 1, unit 0, place 1")
     rows.hold("its marked job", said.get("named"), ["1"])
     rows.hold("its rows", said.get("labels"), ["worker 0", "unit 0 LBA 0"])
+    first = (
+        "job 1 (Compare and Write 0+1) compared 00 in byte 0 of LBA 0, which held 01: job 0 had changed that block last. "
+        "It was answered 0/00 0/00, and not 2/85 0/09."
+    )
+    rows.hold("what is wrong, in a sentence", said.get("why", [""])[0], first)
+    rows.has("what else the record has, folded", said.get("folded", []), "worker 0 job 1 unit 0 point 1 done")
+    rows.hold("how much is in view", said.get("seen"), "2 of 2 rows · 4 of 4 boxes in view")
+    rows.hold("the fault in the table", said.get("selected"), ["1"])
+    rows.has("on paper", said.get("printed", []), "unit 0 LBA 0")
+    rows.hold("after that", said.get("unprinted"), [])
     rows.has("why", said.get("why", []), "first difference: LBA 0 byte 0 compared 00 held 01")
     rows.hold("the job in view", said.get("details"), ["job 1: Compare and Write 0+1"])
     rows.hold("Reads alone", said.get("filtered", {}).get("kind"), ["2 of 4", ["2", "3"]])
@@ -143,7 +173,11 @@ def traces(rows, folder):
     said = looked(folder, "page.html", [["host", "2"], ["cid", "1"], ["unit", "2"], ["text", "512*42"]], 2)
     rows.hold("an error in it", said.get("error"), None)
     rows.hold("its verdict", said.get("verdict"), "Contradiction: no order of these 3 commands in unit 1 gives what their hosts saw")
-    rows.hold("its commands alone are shown", said.get("only"), True)
+    rows.hold("its commands alone are shown", said.get("only"), "named")
+    rows.hold("how much is in view", said.get("seen"), "2 of 2 rows · 3 of 3 boxes in view · 1 other command left out")
+    found = "job 2 (Read 9+1) found 512*41 in LBA 9. By their times, the last there before it is job 1 (Write 9+1), which put 512*42. 1 command that put the same had ended before job 1 began."
+    rows.hold("what was found, in a sentence", said.get("why", [""])[0], found)
+    rows.hold("what found it, in view", said.get("details"), ["job 2: Read 9+1"])
     rows.hold("its marked commands", said.get("named"), ["0", "1", "2"])
     rows.hold("its lanes", said.get("labels"), ["host 1", "host 2"])
     rows.hold("a fact for each number", len(said.get("why", [])) >= 3, True)
@@ -151,7 +185,7 @@ def traces(rows, folder):
     rows.hold("one CID", said.get("filtered", {}).get("cid"), ["2 of 4", ["0", "2"]])
     rows.hold("one unit", said.get("filtered", {}).get("unit"), ["1 of 4", ["3"]])
     rows.hold("some data", said.get("filtered", {}).get("text"), ["1 of 4", ["1"]])
-    rows.has("who can have written what was read", said.get("fields", []), "LBA 9: job 0")
+    rows.has("who can have written what was read", said.get("fields", []), "LBA 9: job 0 put the same, but by their times only job 1 can be the last there")
     rows.hold("the next command", said.get("stepped", "")[:5], "job 2")
 
     rows.hold("the page of an explained trace", written([kept("fresh.txt", FRESH), page]), (0, ""))
@@ -159,7 +193,24 @@ def traces(rows, folder):
     rows.hold("an error in it", said.get("error"), None)
     rows.has("its verdict", said.get("verdict", ""), "Explained: an order of ")
     rows.has("a row for a unit", said.get("labels", []), "unit 1 LBA 8")
+    rows.hold("all are shown", said.get("choices"), [])
     rows.has("no end", said.get("fields", []), "7 to no end that was seen")
+
+    said = looked(folder, "page.html", [], 2)
+    rows.has("who wrote what was read, by the record", said.get("fields", []), "LBA 9: job 1 (unit 1 place 1)")
+
+    rows.hold("the page of a long contradiction", written([kept("long.txt", LONG), page]), (0, ""))
+    said = looked(folder, "page.html", [], 14)
+    rows.hold("an error in it", said.get("error"), None)
+    rows.hold("the choices", said.get("choices"), ["the 3 that matter most", "the 14 that the verdict names", "all 15"])
+    rows.hold("few commands at first", said.get("seen"), "2 of 2 rows · 3 of 3 boxes in view · 12 other commands left out")
+    rows.hold("the facts that close the circle", len(said.get("facts", [])), 2)
+    rows.hold("all facts, folded", len(said.get("folded", [])) > 20, True)
+    told = said.get("why", [""])[0]
+    rows.has("the Write before the Read", told, "the last there before it is job 12 (Write 9+1), which put 512*42.")
+    rows.has("the others", told, "12 commands that put the same had ended before job 12 began.")
+    rows.has("N keeps among those that are shown", said.get("stepped", ""), "Write Zeroes 8+8")
+    rows.hold("a jump to a command that isn't shown", (said.get("jumped"), said.get("shown")), ("job 14: Write 20+1", "all"))
 
     rows.hold("the page of a trace from unknown blocks", written([kept("open.txt", OPEN), page]), (0, ""))
     said = looked(folder, "page.html", [["status", "2/85"]], 1)

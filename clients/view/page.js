@@ -62,6 +62,14 @@
     return text.replace(/#(\d+)/g, (_, place) => page.runs[place]);
   }
 
+  const grouping = (number) => number.toLocaleString("en-US");
+  const many = (number, noun) => `${grouping(number)} ${noun}${number === 1 ? "" : "s"}`;
+
+  /** A line with its long runs cut, and said so. */
+  function brief(line) {
+    return line.replace(/\S{64,}/g, (word) => `${word.slice(0, 40)}… (${word.length} letters)`);
+  }
+
   function shortened(text, most) {
     return text.length > most ? `${text.slice(0, most)}… (${text.length} letters)` : text;
   }
@@ -133,12 +141,25 @@
       return this.ranges.some(([first, blocks]) => blocks > 0 && unitOf(first) <= unit && unit <= unitOf(first + blocks - 1));
     }
 
-    /** What it puts in the block at this LBA, where it is a change that has it. */
+    get title() {
+      return `${KINDS[this.kind][1]} ${this.short}`;
+    }
+
+    /** Whether it can have changed the block at this LBA: a Compare that failed changes nothing. */
+    changes(lba) {
+      return !LOOKS.has(this.kind) && this.kind !== "other" && !this.statuses.includes("2/85") && this.has(lba);
+    }
+
+    /** What it found in the block at this LBA, where it says so. */
+    finds(lba) {
+      const isEqual = (this.kind === "compare" || this.kind === "pair") && this.statuses[0] === "0/00";
+      const place = this.kind === "read" ? this.data : isEqual ? this.bodies[0].data : null;
+      return place === null || !this.has(lba) ? null : blockOf(place, lba - this.ranges[0][0]);
+    }
+
+    /** What it puts in the block at this LBA, if it changes it. */
     puts(lba) {
       const body = this.bodies[this.bodies.length - 1];
-      if (!this.has(lba) || LOOKS.has(this.kind) || this.kind === "other") {
-        return null;
-      }
       if (this.kind === "uncorrectable") {
         return "a mark";
       }
@@ -191,56 +212,75 @@
 
   function factText(fact) {
     const front = fact.before && `${nameOf(fact.before)} stands before ${nameOf(fact.after)}: `;
+    const [one, other, reader] = ["before", "after", "reader"].map((it) => fact[it] && nameOf(fact[it]));
     switch (fact.rule) {
       case "time":
-        return `${front}it had ended at ${fact.ended}, before the other began at ${fact.began}`;
+        return `${front}${one} had ended at ${fact.ended}, and ${other} began at ${fact.began}`;
       case "source":
-        return `${front}no other command can have put what it found in LBA ${fact.lba}`;
+        return `${front}only ${one} can have put what ${other} found in LBA ${fact.lba}`;
       case "over":
-        return `${front}it found in LBA ${fact.lba} what ${nameOf(fact.source)} had put, which the other then overwrote`;
+        return `${front}${other} put something in LBA ${fact.lba} after ${nameOf(fact.source)}, whose data ${one} found there`;
       case "under":
-        return `${front}${nameOf(fact.reader)} came after both and found in LBA ${fact.lba} what the later one put`;
+        return `${front}${one} put something in LBA ${fact.lba}, stands before ${reader}, and ${reader} found there what ${other} had put`;
       case "first":
-        return `${front}it found the zeroes in LBA ${fact.lba} that were there at first, and nobody can have left zeroes there since`;
+        return `${front}${one} found in LBA ${fact.lba} the zeroes that were there at first, and nobody can have left zeroes there`;
       default:
-        return `${nameOf(fact.reader)} found in LBA ${fact.lba} what nobody can have left there`;
+        return `${reader} found in LBA ${fact.lba} what nobody can have left there`;
     }
   }
 
-  /** The commands from which the facts lead in a circle, and the facts between them. */
-  function markCircle() {
-    const links = page.facts.map((it) => it.before && [it.before.job, it.after.job]);
-    const reached = (start, from, to) => {
-      const found = new Set([start]);
-      for (let grown = true; grown; ) {
-        grown = false;
-        for (const link of links) {
-          if (link && found.has(link[from]) && !found.has(link[to])) {
-            found.add(link[to]);
-            grown = true;
-          }
+  /** The fewest facts that lead from this piece of a job back to itself. */
+  function circleOf(start) {
+    const ways = new Map([[nameOf(start), []]]);
+    for (const [name, way] of ways) {
+      for (const fact of page.facts.filter((it) => it.before && nameOf(it.before) === name)) {
+        const next = nameOf(fact.after);
+        if (next === nameOf(start)) {
+          return [...way, fact];
+        }
+        if (!ways.has(next)) {
+          ways.set(next, [...way, fact]);
         }
       }
-      return found;
-    };
-    const last = page.facts[page.facts.length - 1];
-    const start = page.itself ? page.itself.job : last.reader.job;
-    const ahead = reached(start, 0, 1);
-    const back = reached(start, 1, 0);
-    for (const job of ahead) {
-      if (back.has(job)) {
-        commands[job].isRed = true;
-      }
     }
-    page.facts.forEach((fact, place) => {
-      fact.isRed = Boolean(links[place]) && links[place].every((job) => commands[job].isRed);
-    });
+    return [];
   }
 
-  if (page.kind === "contradiction") {
-    markCircle();
+  const compareTimes = (one, other) => one.length - other.length || (one < other ? -1 : one > other ? 1 : 0);
+
+  /** The commands that can be the last that changed the block before this one saw it, by their times alone, and whether none need have. */
+  function lastChanges(reader, lba) {
+    const all = commands.filter((it) => it !== reader && it.changes(lba));
+    const sure = all.filter((it) => it.statuses.length && !it.failed && it.ended !== null && compareTimes(it.ended, reader.began) < 0);
+    const latest = sure.reduce((most, it) => (most === null || compareTimes(it.began, most) > 0 ? it.began : most), null);
+    const isOver = (it) => it.ended !== null && latest !== null && compareTimes(it.ended, latest) < 0;
+    const last = all.filter((it) => !isOver(it) && (reader.ended === null || compareTimes(it.began, reader.ended) <= 0));
+    return { last, isFirst: sure.length === 0 };
   }
 
+  /** Of a contradiction: the facts that close the circle, what was found against the order of time, and the commands of both. */
+  function gistOf() {
+    const final = page.facts[page.facts.length - 1];
+    const circle = page.itself ? circleOf(page.itself) : [final];
+    const seen = new Map();
+    for (const fact of circle.filter((it) => it.rule !== "time")) {
+      const { job } = fact.reader || (fact.rule === "source" ? fact.after : fact.before);
+      seen.set(`${job} ${fact.lba}`, { reader: commands[job], lba: fact.lba });
+    }
+    const jobs = new Set(circle.flatMap((it) => [it.before, it.after, it.reader, it.source].filter(Boolean).map((piece) => piece.job)));
+    const findings = [...seen.values()].map((it) => ({ ...it, found: it.reader.finds(it.lba), ...lastChanges(it.reader, it.lba) })).filter((it) => it.found !== null);
+    for (const { last } of findings) {
+      last.slice(0, 4).forEach((it) => jobs.add(it.job));
+    }
+    const isLong = page.facts.length > 8 && jobs.size < page.named.length;
+    const marked = isLong ? circle : page.facts;
+    const rings = new Set(circle.flatMap((it) => [it.before, it.after].filter(Boolean).map((piece) => piece.job)));
+    rings.forEach((job) => (commands[job].isRed = true));
+    marked.filter((it) => circle.includes(it)).forEach((it) => (it.isRed = true));
+    return { circle, findings, jobs, isLong, reader: findings.length ? findings[0].reader : commands[page.named[0]] };
+  }
+
+  const gist = page.kind === "contradiction" ? gistOf() : null;
   // ---- rows ----
   // A row has items that don't overlap, by where they begin. An item has its command, where it begins and ends, and what it is.
 
@@ -260,7 +300,8 @@
     const queues = [];
     const taken = new Set();
     page.done.forEach((done) => {
-      const queue = (queues[done.worker] ||= []);
+      queues[done.worker] = queues[done.worker] || [];
+      const queue = queues[done.worker];
       const parts = done.parts.length ? done.parts : [null];
       for (const part of parts) {
         const step = { done, part, job: done.job, entry: null, x: 0 };
@@ -375,8 +416,6 @@
     arrows = [];
   }
 
-  const compareTimes = (one, other) => one.length - other.length || (one < other ? -1 : one > other ? 1 : 0);
-
   /** Where times lie: at their rank among those of these commands, or true to scale. */
   function scaleOf(shown, isClock) {
     const times = [...new Set(shown.flatMap((it) => (it.ended === null ? [it.began] : [it.began, it.ended])))].sort(compareTimes);
@@ -390,9 +429,11 @@
     return { at: (time) => ranks.get(time), end: times.length, text: (x) => (Number.isInteger(x) ? times[x] || "" : ""), gap: 0.85 };
   }
 
+  const isShown = (command) => ({ gist: gist && gist.jobs.has(command.job), named: command.isNamed }[byId("only").value] ?? true);
+
   /** Of a trace: lanes by host, as many as it has commands under way together, and for a record that explains it the units' orders. */
   function rowsOfTrace() {
-    const shown = byId("only").checked ? commands.filter((it) => it.isNamed) : commands;
+    const shown = commands.filter(isShown);
     const scale = scaleOf(shown, byId("clock").checked);
     const hosts = new Map();
     for (const command of [...shown].sort((one, other) => compareTimes(one.began, other.began) || one.job - other.job)) {
@@ -419,7 +460,7 @@
       rows.push(...unitsOfTrace(scale));
     }
     if (page.kind === "contradiction") {
-      arrows = page.facts.flatMap((fact, place) => (fact.before ? [{ number: place + 1, from: commands[fact.before.job], to: commands[fact.after.job], isRed: fact.isRed }] : []));
+      arrows = page.facts.flatMap((fact, place) => (fact.before ? [{ number: place + 1, from: commands[fact.before.job], to: commands[fact.after.job], isRed: fact.isRed, isFaint: gist.isLong && !fact.isRed }] : []));
     }
   }
 
@@ -503,7 +544,8 @@
 
   const chart = byId("chart");
   const canvas = byId("canvas");
-  const room = () => ({ w: Math.max(chart.clientWidth - LEFT, 50), h: Math.max(chart.clientHeight - TOP, 30) });
+  let paper = null; // the size of the drawing while the page is printed, and what was in view
+  const room = () => paper || ({ w: Math.max(chart.clientWidth - LEFT, 50), h: Math.max(chart.clientHeight - TOP, 30) });
 
   function keepInside() {
     const { w, h } = room();
@@ -550,7 +592,8 @@
     if (items.length) {
       show(items);
     } else {
-      view.k = Math.max(room().w / (width + 1), isTrace ? 18 : 30);
+      // Wide enough for the numbers of a record's jobs.
+      view.k = Math.max(room().w / (width + 1), isTrace ? 18 : 26 + 7.5 * String(commands.length).length);
       view.x = -0.5;
       changed();
     }
@@ -614,7 +657,7 @@
     }
     const text = w >= 12 ? textOf(item, w) : "";
     if (text) {
-      shapes.push({ is: "text", x: x + 4, y: y + LANE / 2 + 4, text, fill: look ? colors.text : colors.back, alpha, weight: command && command.failed ? "700" : "400" });
+      shapes.push({ is: "text", x: x + 4, y: y + LANE / 2 + 4, text, fill: look ? colors.text : command && command.kind === "zeroes" ? "#16171a" : colors.back, alpha, weight: command && command.failed ? "700" : "400" });
     }
     if (command && command.failed && w >= 26 && item.row.kind !== "unit") {
       shapes.push({ is: "line", x: x + w - 9, y: y + 8, x2: x + w - 3, y2: y + 14, edge: look ? tint : colors.back, wide: 1.5, alpha }, { is: "line", x: x + w - 3, y: y + 8, x2: x + w - 9, y2: y + 14, edge: look ? tint : colors.back, wide: 1.5, alpha });
@@ -625,45 +668,70 @@
     const from = view.x;
     const to = view.x + w / view.k;
     let drawn = -2;
+    let hidden = 0;
     for (let place = firstAt(row.items, from); place < row.items.length && row.items[place].x0 <= to; place += 1) {
       const item = row.items[place];
       const x = LEFT + (item.x0 - view.x) * view.k;
       const end = LEFT + (item.x1 - view.x) * view.k;
       const counts = item.bad || item.last || (item.command && (item.command === picked || item.command.isNamed));
       if (end - drawn < 1 && !counts) {
+        hidden += 1;
         continue;
       }
       const left = Math.max(x, LEFT - 10);
       shapesOf(item, left, y, Math.min(end, LEFT + w + 10) - left, colors, shapes);
       drawn = Math.max(drawn, end);
     }
+    return hidden;
+  }
+
+  /** How much of all is in view, and what is too narrow to be drawn there. */
+  function seenText(shown, h, w, hidden) {
+    const lanes = rows.filter((row) => row.kind !== "unit");
+    const here = shown.filter((row) => row.kind !== "unit").reduce((sum, { items }) => sum + Math.max(firstAt(items, view.x + w / view.k) - firstAt(items, view.x) + 1, 0), 0);
+    const all = lanes.reduce((sum, { items }) => sum + items.length, 0);
+    const full = shown.filter((row) => row.y >= view.top - 4 && row.y + LANE <= view.top + h).length;
+    const texts = [`${grouping(full)} of ${many(rows.length, "row")}`, `${grouping(Math.min(here, all))} of ${many(all, "box").replace(/xs$/, "xes")} in view`];
+    if (all < commands.length) {
+      texts.push(`${many(commands.length - all, "other command")} left out`);
+    }
+    return [...texts, ...(hidden ? [`${grouping(hidden)} too narrow to draw: zoom in`] : [])].join(" · ");
   }
 
   function shapesOfArrows(colors, shapes) {
+    const ofPicked = arrows.filter((it) => it.from === picked || it.to === picked);
+    const isFew = ofPicked.length <= 8;
     arrows.forEach((arrow, place) => {
       const [one, other] = [arrow.from.item, arrow.to.item];
       if (!one || !other) {
         return;
       }
       const isSame = one.row === other.row;
+      const isBack = other.x0 < one.x0; // in one row, back is below and forth above
       const end = (item, isFrom) => {
         const x = LEFT + ((item.x0 + item.x1) / 2 - view.x) * view.k + ((place % 5) - 2) * 9;
-        const down = isSame ? place % 2 === 0 : (isFrom ? other : one).row.y > item.row.y;
+        const down = isSame ? isBack : (isFrom ? other : one).row.y > item.row.y;
         return [x, TOP + item.row.y - view.top + (down ? LANE - 3 : 3)];
       };
       const [x, y] = end(one, true);
       const [x2, y2] = end(other, false);
       const edge = arrow.isRed ? colors.bad : colors.quiet;
-      const bend = isSame ? (place % 2 === 0 ? 52 : -52) : 0;
+      const isFaint = arrow.isFaint && !(isFew && ofPicked.includes(arrow));
+      const alpha = isFaint ? 0.3 : 1;
+      const bend = isSame ? (isBack ? 52 : -52) : 0;
       const middle = [(x + x2) / 2, (y + y2) / 2 + bend];
-      shapes.push({ is: "curve", x, y, cx: middle[0], cy: middle[1], x2, y2, edge, wide: 2, alpha: 1 });
+      shapes.push({ is: "curve", x, y, cx: middle[0], cy: middle[1], x2, y2, edge, wide: isFaint ? 1 : 2, alpha });
       const angle = Math.atan2(y2 - middle[1], x2 - middle[0]);
       const tip = (turn) => [x2 - 9 * Math.cos(angle + turn), y2 - 9 * Math.sin(angle + turn)];
-      shapes.push({ is: "area", points: [[x2, y2], tip(0.4), tip(-0.4)], fill: edge, alpha: 1 });
+      shapes.push({ is: "area", points: [[x2, y2], tip(0.4), tip(-0.4)], fill: edge, alpha });
+      if (isFaint) {
+        return;
+      }
       // Where a quarter of the curve is behind.
       const at = [0.5625 * x + 0.375 * middle[0] + 0.0625 * x2, 0.5625 * y + 0.375 * middle[1] + 0.0625 * y2];
-      shapes.push({ is: "box", x: at[0] - 9, y: at[1] - 9, w: 18, h: 18, fill: colors.back, edge, alpha: 1, round: 9, wide: 1.5, dash: "" });
-      shapes.push({ is: "text", x: at[0] - 3.5 * String(arrow.number).length, y: at[1] + 4, text: String(arrow.number), fill: edge, alpha: 1, weight: "700" });
+      const half = 5 + 4 * String(arrow.number).length;
+      shapes.push({ is: "box", x: at[0] - half, y: at[1] - 9, w: 2 * half, h: 18, fill: colors.back, edge, alpha: 1, round: 9, wide: 1.5, dash: "" });
+      shapes.push({ is: "text", x: at[0] - 4 * String(arrow.number).length, y: at[1] + 4, text: String(arrow.number), fill: edge, alpha: 1, weight: "700" });
     });
   }
 
@@ -682,7 +750,7 @@
       }
       shapes.push({ is: "line", x: LEFT, y: y + LANE, x2: LEFT + w, y2: y + LANE, edge: colors.line, wide: 1, alpha: 0.6 });
     });
-    shown.forEach((row) => shapesOfRow(row, TOP + row.y - view.top, w, colors, shapes));
+    const hidden = shown.reduce((sum, row) => sum + shapesOfRow(row, TOP + row.y - view.top, w, colors, shapes), 0);
     shapesOfArrows(colors, shapes);
     shapes.push({ is: "box", x: 0, y: 0, w: LEFT + w, h: TOP, fill: colors.back, edge: "", alpha: 1, round: 0, wide: 0, dash: "" });
     shapes.push({ is: "box", x: 0, y: 0, w: LEFT - 2, h: TOP + h, fill: colors.back, edge: "", alpha: 1, round: 0, wide: 0, dash: "" });
@@ -690,8 +758,9 @@
     for (let x = Math.max(Math.ceil(view.x / every) * every, 0); x <= view.x + w / view.k && x <= width; x += every) {
       shapes.push({ is: "text", x: LEFT + (x - view.x) * view.k, y: 15, text: axis(x), fill: colors.quiet, alpha: 1, weight: "400" });
     }
+    shapes.push({ is: "text", x: 8, y: 15, text: isTrace ? (byId("clock").checked ? "time" : "time, as ordered") : "", fill: colors.quiet, alpha: 1, weight: "400" });
     shown.forEach((row) => shapes.push({ is: "text", x: 8, y: TOP + row.y - view.top + 19, text: row.label, fill: row.bad ? colors.bad : colors.quiet, alpha: 1, weight: row.bad ? "700" : "400", label: true }));
-    return { shapes, w: LEFT + w, h: TOP + h, shown, back: colors.back };
+    return { shapes, w: LEFT + w, h: TOP + h, shown, back: colors.back, seen: seenText(shown, h, w, hidden) };
   }
 
   function drawOn(context, shape) {
@@ -728,7 +797,8 @@
 
   function draw() {
     const ratio = window.devicePixelRatio || 1;
-    const { shapes, w, h, shown } = shapesInView();
+    const { shapes, w, h, shown, seen } = shapesInView();
+    byId("seen").textContent = seen;
     if (canvas.width !== Math.round(w * ratio) || canvas.height !== Math.round(h * ratio)) {
       canvas.width = Math.round(w * ratio);
       canvas.height = Math.round(h * ratio);
@@ -785,8 +855,21 @@
           return `<text x="${it.x}" y="${it.y}" fill="${it.fill}" opacity="${it.alpha}" font-weight="${it.weight}">${escaped(it.text)}</text>`;
       }
     });
-    const front = `<svg xmlns="http://www.w3.org/2000/svg" width="${w}" height="${h}" font-family="sans-serif" font-size="12"><title>${escaped(page.verdict)}</title><rect width="100%" height="100%" fill="${back}"/>`;
+    const front = `<svg xmlns="http://www.w3.org/2000/svg" viewBox="0 0 ${w} ${h}" width="${w}" height="${h}" font-family="sans-serif" font-size="12"><title>${escaped(page.verdict)}</title><rect width="100%" height="100%" fill="${back}"/>`;
     return [front, ...lines, "</svg>"].join("\n");
+  }
+
+  /** Paper has no canvas of the window's size: it gets the shapes, in light colors, of as many rows as a sheet has. */
+  function print(isOn) {
+    if (isOn) {
+      paper = { w: Math.max(room().w, 880), h: Math.min(view.height + LANE, 900), top: view.top };
+      view.top = view.height + LANE <= 900 ? 0 : view.top;
+    } else if (paper) {
+      view.top = paper.top;
+      paper = null;
+    }
+    document.documentElement.toggleAttribute("data-print", isOn);
+    byId("printed").innerHTML = isOn ? svgOf() : "";
   }
 
   function save() {
@@ -816,16 +899,19 @@
   /** By a record: the last entry before the point of a look that changed the block. */
   function writersByRecord(command) {
     const answers = [];
-    for (const part of command.parts) {
+    const parts = isTrace ? page.done.filter((it) => owners[it.job] === command).flatMap((it) => it.parts) : command.parts;
+    const first = isTrace && page.namespace.start !== "zeroes" ? "what was there at first" : "the zeroes of the beginning";
+    for (const part of parts) {
       const history = entries.get(part.unit) || [];
-      for (const [first, blocks] of command.ranges) {
-        for (let lba = first; lba < first + blocks; lba += 1) {
+      for (const [from, blocks] of command.ranges) {
+        for (let lba = from; lba < from + blocks; lba += 1) {
           if (unitOf(lba) === part.unit) {
             let place = Math.min(part.point, history.length) - 1;
             while (place >= 0 && !(history[place] && changes(history[place], lba))) {
               place -= 1;
             }
-            answers.push([lba, place < 0 ? "the zeroes of the beginning" : `job ${history[place].job} (unit ${part.unit} place ${place})`]);
+            const owner = place < 0 ? null : owners[history[place].job];
+            answers.push([lba, place < 0 ? first : owner ? `job ${owner.job} (unit ${part.unit} place ${place})` : first]);
           }
         }
       }
@@ -843,19 +929,25 @@
     return lba >= entry.lba && lba < entry.lba + entry.blocks;
   }
 
-  /** By a trace: the commands that can have put these bytes into the block. */
+  const MOST = 64;
+
+  /** By a trace: the commands that put these bytes into the block, and whether their times let them be the last. */
   function writersByContent(command) {
     const answers = [];
     const [first, blocks] = command.ranges[0];
-    for (let number = 0; number < Math.min(blocks, 256); number += 1) {
-      const lba = first + number;
-      const found = blockOf(command.data, number);
-      const writers = commands.filter((it) => it.puts(lba) === found && it !== command);
-      const start = found === ZEROES && page.namespace.start === "zeroes" ? ["the zeroes of the beginning"] : [];
-      const texts = [...writers.slice(0, 4).map((it) => `job ${it.job}`), ...(writers.length > 4 ? [`${writers.length - 4} others`] : []), ...start];
-      answers.push([lba, texts.join(" or ") || "nobody in this trace"]);
+    for (let lba = first; lba < first + Math.min(blocks, MOST); lba += 1) {
+      const found = command.finds(lba);
+      const { last, isFirst } = lastChanges(command, lba);
+      const listed = (them) => [...them.slice(0, 4).map((it) => `job ${it.job}`), ...(them.length > 4 ? ["others"] : [])];
+      const texts = listed(last.filter((it) => it.puts(lba) === found));
+      if (isFirst && (page.namespace.start !== "zeroes" || found === ZEROES)) {
+        texts.push(page.namespace.start === "zeroes" ? "the zeroes of the beginning" : "what was there at first");
+      }
+      const others = commands.filter((it) => it !== command && it.changes(lba) && it.puts(lba) === found);
+      const against = `by their times only ${listed(last).join(" or ") || "nobody"} can be the last there`;
+      answers.push([lba, texts.join(" or ") || (others.length ? `${listed(others).join(" or ")} put the same, but ${against}` : `nobody in this trace put that, and ${against}`)]);
     }
-    return grouped(answers);
+    return [...grouped(answers), ...(blocks > MOST ? [`${many(blocks - MOST, "more block")} not looked up`] : [])];
   }
 
   // ---- details ----
@@ -906,20 +998,25 @@
     }
     if (command.data !== null) {
       add("data", shortened(page.runs[command.data], 600), "words");
-      for (const line of command.kind === "read" ? (isTrace ? writersByContent(command) : writersByRecord(command)) : []) {
-        add("written by", line);
-      }
+    }
+    if (command.ranges.length === 1 && command.ranges[0][1] && command.finds(command.ranges[0][0]) !== null) {
+      const byRecord = page.kind !== "contradiction";
+      (byRecord ? writersByRecord(command) : writersByContent(command)).forEach((line) => add("written by", line));
     }
     return list;
   }
 
   function pick(command, bringsIntoView) {
     picked = command;
+    if (command && !isShown(command)) {
+      byId("only").value = "all";
+      layOut();
+    }
     const box = byId("details");
     if (!command) {
       box.replaceChildren(element("p", "Click a command, or a row of the table.", "quiet"));
     } else {
-      box.replaceChildren(element("h2", `job ${command.job}: ${KINDS[command.kind][1]} ${command.short}`), detailsOf(command));
+      box.replaceChildren(element("h2", `job ${command.job}: ${command.title}`), detailsOf(command));
       if (bringsIntoView && command.item) {
         bring(command.item);
       }
@@ -949,7 +1046,7 @@
     const names = Object.keys(words);
     listed = names.length ? commands.filter((it) => names.every((name) => tests[name](it, words[name]))) : commands;
     matching = names.length ? new Set(listed) : null;
-    byId("count").textContent = names.length ? `${listed.length} of ${commands.length}` : `${commands.length} commands`;
+    byId("count").textContent = names.length ? `${grouping(listed.length)} of ${grouping(commands.length)}` : many(commands.length, "command");
     byId("table").scrollTop = 0;
     fillTable(false);
     if (words.job && listed.length === 1) {
@@ -959,9 +1056,10 @@
   }
 
   function cellsOf(command) {
+    const cut = (text, most) => (text.length > most ? `${text.slice(0, most)}…` : text);
     const where = isTrace ? `${command.began} – ${command.ended === null ? "" : command.ended}` : command.worker === null ? "" : `worker ${command.worker}`;
-    const data = command.data === null ? "" : page.runs[command.data].slice(0, 80);
-    return [`${command.job}`, `${command.host}`, command.cids.join(" "), where, `${KINDS[command.kind][0]} ${KINDS[command.kind][1]}`, command.words.slice(0, 160), command.status, data];
+    const data = command.data === null ? "" : cut(page.runs[command.data], 80);
+    return [`${command.job}`, `${command.host}`, command.cids.join(" "), where, `${KINDS[command.kind][0]} ${KINDS[command.kind][1]}`, cut(command.words, 160), command.status, data];
   }
 
   function rowElement(cells, kind, role) {
@@ -994,19 +1092,22 @@
     const shown = [];
     for (let place = first; place < last; place += 1) {
       const command = listed[place];
-      const row = rowElement(cellsOf(command), `${command.isNamed ? "named" : ""} ${command === picked ? "picked" : ""}`, "cell");
+      const row = rowElement(cellsOf(command), `${command.isNamed ? "named" : ""} ${command === picked ? "picked" : ""}`, "gridcell");
+      row.id = `row-${command.job}`;
+      row.setAttribute("aria-selected", String(command === picked));
       row.style.top = `${(place + 1) * ROW}px`;
       row.setAttribute("aria-rowindex", String(place + 2));
       row.addEventListener("click", () => pick(command, true));
       shown.push(row);
     }
+    table.setAttribute("aria-activedescendant", picked ? `row-${picked.job}` : "");
     table.setAttribute("aria-rowcount", String(listed.length + 1));
     table.replaceChildren(head, space, ...shown);
   }
 
-  function step(by) {
-    const place = picked ? listed.indexOf(picked) : -1;
-    const next = listed[Math.min(Math.max(place + by, 0), listed.length - 1)];
+  function step(by, among) {
+    const place = picked ? among.indexOf(picked) : -1;
+    const next = among[Math.min(Math.max(place + by, 0), among.length - 1)];
     if (next) {
       pick(next, true);
     }
@@ -1019,8 +1120,8 @@
     if (picked) {
       words.unshift(`job=${picked.job}`);
     }
-    if (byId("only").checked) {
-      words.push("only=1");
+    if (gist) {
+      words.push(`only=${byId("only").value}`);
     }
     try {
       history.replaceState(null, "", `#${words.join("&")}`);
@@ -1031,8 +1132,9 @@
 
   function takePlace(words) {
     if (words.has("only")) {
-      byId("only").checked = words.get("only") === "1";
+      byId("only").value = words.get("only");
       layOut();
+      showVerdict();
     }
     const job = words.get("job");
     if (job !== null && commands[Number(job)]) {
@@ -1066,7 +1168,7 @@
     const { command, entry, part } = item;
     const place = entry ? `unit ${entry.unit} place ${entry.place}\n` : part && item.row.kind === "unit" ? `unit ${part.unit} point ${part.point} ${part.result}\n` : "";
     const marks = item.last ? "the last change before the fault\n" : item.bad && !isTrace ? "the first fault\n" : "";
-    return command ? `${marks}${place}job ${command.job} host ${command.host} cid ${command.cids.join(" ")}\n${shortened(command.words, 200)}\n${command.status}` : `${marks}${place}a preparation`;
+    return command ? `${marks}${place}job ${command.job} host ${command.host} cid ${command.cids.join(" ")}\n${shortened(command.words, 200)}\n${command.status}${command.data === null ? "" : ` ${shortened(page.runs[command.data], 120)}`}` : `${marks}${place}a preparation`;
   }
 
   function listen() {
@@ -1131,7 +1233,7 @@
     const keys = {
       ArrowLeft: () => (view.x -= 60 / view.k), ArrowRight: () => (view.x += 60 / view.k), ArrowUp: () => (view.top -= LANE), ArrowDown: () => (view.top += LANE),
       "+": () => zoom(1.3, room().w / 2), "=": () => zoom(1.3, room().w / 2), "-": () => zoom(1 / 1.3, room().w / 2), 0: showAll, v: showVerdict,
-      n: () => step(1), p: () => step(-1), Escape: () => pick(null, false), Home: () => (view.x = -1), End: () => (view.x = width),
+      n: () => step(1, listed.filter(isShown)), p: () => step(-1, listed.filter(isShown)), Escape: () => pick(null, false), Home: () => (view.x = -1), End: () => (view.x = width),
     }; // prettier-ignore
     chart.addEventListener("keydown", (event) => {
       const deed = keys[event.key] || keys[event.key.toLowerCase()];
@@ -1146,7 +1248,7 @@
       const by = { ArrowDown: 1, ArrowUp: -1, PageDown: 10, PageUp: -10 }[event.key];
       if (by) {
         event.preventDefault();
-        step(by);
+        step(by, listed);
       }
     });
     byId("filters").addEventListener("input", filter);
@@ -1164,6 +1266,8 @@
       });
     }
     window.addEventListener("resize", changed);
+    window.addEventListener("beforeprint", () => print(true));
+    window.addEventListener("afterprint", () => print(false));
     window.addEventListener("hashchange", () => takePlace(new URLSearchParams(location.hash.slice(1))));
     matchMedia("(prefers-color-scheme: dark)").addEventListener("change", () => {
       fillKey();
@@ -1187,7 +1291,7 @@
   // ---- the verdict, in words ----
 
   function headline() {
-    const numbers = Object.fromEntries([...page.verdict.matchAll(/(\w+) (\d+)/g)].map((it) => [it[1], it[2]]));
+    const numbers = Object.fromEntries([...page.verdict.matchAll(/(\w+) (\d+)/g)].map((it) => [it[1], grouping(Number(it[2]))]));
     const refused = numbers.refused && numbers.refused !== "0" ? `, ${numbers.refused} refused for want of memory` : "";
     switch (page.verdict.split(" ")[0]) {
       case "lawful":
@@ -1197,22 +1301,84 @@
       case "explained":
         return `Explained: an order of ${numbers.steps} steps in ${numbers.units} units gives what the hosts of ${numbers.jobs} commands saw${numbers.excused === "0" ? "" : `, ${numbers.excused} excused`}`;
       default:
-        return `Contradiction: no order of these ${page.named.length} commands in unit ${page.unit} gives what their hosts saw`;
+        return `Contradiction: no order of these ${many(page.named.length, "command")} in unit ${page.unit} gives what their hosts saw`;
     }
   }
 
   function fillWhy() {
     const why = byId("why");
-    if (page.kind === "contradiction") {
-      const list = document.createElement("ol");
-      page.facts.forEach((fact) => list.append(linked("li", factText(fact), fact.isRed ? "bad" : "")));
-      why.append(element("h2", "Why"), list, linked("p", page.itself ? `So ${nameOf(page.itself)} stands before itself.` : "This alone is the contradiction.", "bad"));
-      why.append(element("p", "Judged by the profile that nvq certify holds a device to (its manual page says which).", "quiet"));
+    const listed = (name, items) => {
+      const list = document.createElement(name);
+      list.append(...items);
+      return list;
+    };
+    const folded = (text, list) => {
+      const it = document.createElement("details");
+      it.append(element("summary", text), list);
+      return it;
+    };
+    if (gist) {
+      const items = (facts) =>
+        facts.map((fact) => {
+          const it = linked("li", factText(fact), fact.isRed ? "bad" : "");
+          it.value = page.facts.indexOf(fact) + 1;
+          return it;
+        });
+      why.append(element("h2", "Why"), ...gist.findings.map((it) => linked("p", findingText(it))));
+      why.append(listed("ol", items(gist.isLong ? gist.circle : page.facts)), linked("p", page.itself ? `So ${nameOf(page.itself)} stands before itself.` : "This alone is the contradiction.", "bad"));
+      if (gist.isLong) {
+        why.append(folded(`All ${many(page.facts.length, "fact")} of the argument`, listed("ol", items(page.facts))));
+      }
+      why.append(element("p", "This holds the device to the profile of nvq certify. The standard lets a device do more: Zalkvorn's docs/STANDARD.md says what.", "quiet"));
       return;
     }
-    const list = document.createElement("ul");
-    page.lines.slice(0, 200).forEach((line) => list.append(linked("li", shortened(line, 400), /^(first difference|the step gives)/.test(line) ? "bad" : /^last change/.test(line) ? "last" : "")));
-    why.append(element("h2", page.fault ? "What is wrong" : "What was found"), list);
+    const kindOf = (line) => (/^(first difference|the step gives)/.test(line) ? "bad" : /^last change/.test(line) ? "last" : "");
+    const items = (lines) => lines.map((line) => linked("li", brief(line), kindOf(line)));
+    const lines = page.lines.slice(0, 200);
+    const more = page.lines.length > lines.length ? [element("li", `${many(page.lines.length - lines.length, "more line")}: nvq explain prints them`, "quiet")] : [];
+    if (!page.fault) {
+      why.append(element("h2", isTrace ? "The record that explains it" : "What was found"), listed("ul", [...items(lines), ...more]));
+      return;
+    }
+    const isMain = (line, place) => place === 0 || /^recorded:/.test(line) || kindOf(line);
+    why.append(element("h2", "What is wrong"), linked("p", faultText(), "bad"), listed("ul", items(lines.filter(isMain))));
+    why.append(folded("What the record has there", listed("ul", [...items(lines.filter((line, place) => !isMain(line, place))), ...more])));
+  }
+
+  /** What the job of the fault did, in a sentence, and who changed that block last; nothing where the lines don't say so. */
+  function faultText() {
+    const of = (pattern) => page.lines.map((line) => pattern.exec(line)).find(Boolean);
+    const command = commands[page.fault.job];
+    const at = of(/^first difference: LBA (\d+) byte (\d+) (\w+) (\w+) (\w+) (\w+)$/);
+    const gives = of(/^the step gives: status ([^a-z]+)/);
+    if (!command || !at) {
+      return "";
+    }
+    const [, lba, byte, said, one, was, other] = at;
+    const last = page.change ? (entries.get(page.change.unit) || [])[page.change.place] : null;
+    const job = `job ${command.job} (${command.title})`;
+    const front = said === "compared" ? `${job} compared ${one}` : `Of ${job} is recorded ${one}`;
+    const where = { held: "which held", given: "where its unit's history gives", sent: "where its host sent" }[was];
+    const texts = [`${front} in byte ${byte} of LBA ${lba}, ${where} ${other}${last ? `: job ${last.job} had changed that block last` : ""}.`];
+    if (gives && gives[1].trim() !== command.status) {
+      texts.push(`It was answered ${command.status}, and not ${gives[1].trim()}.`);
+    }
+    return texts.join(" ");
+  }
+
+  /** What a command found, and what it can have found. */
+  function findingText({ reader, lba, found, last, isFirst }) {
+    const told = (it) => `job ${it.job} (${it.title}), which put ${brief(it.puts(lba))}`;
+    const front = `job ${reader.job} (${reader.title}) found ${brief(found)} in LBA ${lba}.`;
+    const others = commands.filter((it) => it.isNamed && it !== reader && it.puts(lba) === found && !last.includes(it));
+    if (last.length !== 1 || isFirst) {
+      const texts = [...last.slice(0, 4).map(told), ...(last.length > 4 ? [many(last.length - 4, "other")] : []), ...(isFirst ? ["nobody"] : [])];
+      return `${front} By their times, the last there before it can be ${texts.join(", or ")}.`;
+    }
+    const before = others.filter((it) => it.ended !== null && compareTimes(it.ended, last[0].began) < 0).length;
+    const after = others.filter((it) => reader.ended !== null && compareTimes(it.began, reader.ended) > 0).length;
+    const texts = [...(before ? [` ${many(before, "command")} that put the same had ended before job ${last[0].job} began.`] : []), ...(after ? [` ${many(after, "command")} that put the same began after job ${reader.job} had ended.`] : [])];
+    return `${front} By their times, the last there before it is ${told(last[0])}.${texts.join("")}`;
   }
 
   function fillKey() {
@@ -1234,15 +1400,19 @@
         list.append(it);
       }
     }
-    const marks = ["× and bold: a status that isn't 0/00"];
+    const some = commands[0] ? [`${KINDS[commands[0].kind][0]} 7 8+4: job 7, 4 blocks from LBA 8`] : [];
+    const marks = [...some, "filled: it changes blocks; open and round: it looks at them", "× and bold: a status that isn't 0/00", ...(isTrace && commands.some((it) => it.ended === null) ? ["dashed: no end was seen"] : [])];
     if (page.kind === "contradiction") {
-      marks.push("an arrow: the first of two is before the other, by the fact of that number", "red: what would be before itself");
+      marks.push("an arrow: the first of two is before the other, by the fact of that number", "red: what would be before itself", ...(gist.isLong ? ["thin: the other facts; of a command that is clicked they are shown whole, where they are at most 8"] : []));
     } else if (page.kind === "explained") {
       marks.push("units: the order that the record gives; a step is drawn where it can be at the earliest");
     } else {
       marks.push("a column: one step, in an order that workers and units keep", "units: boxes are changes by place; open ones looked there, F failed, M no memory, L full", "red ring: the first fault; violet, dashed: the last change before it");
     }
-    byId("key").replaceChildren(element("h2", "Key"), list, ...marks.map((it) => element("p", it, "quiet")));
+    const more = document.createElement("ul");
+    more.append(...marks.map((it) => element("li", it)));
+    more.className = "quiet";
+    byId("key").replaceChildren(element("h2", "Key"), list, more);
   }
 
   function begin() {
@@ -1258,7 +1428,7 @@
     document.title = `${page.files.join(", ")}: ${page.verdict}`;
     const { nsze, nabsn, nabo, nawun, nacwu } = page.namespace;
     const units = nabsn ? `units of ${nabsn + 1} blocks${nabo ? ` from LBA ${nabo} on` : ""}` : "no boundaries";
-    const more = isTrace ? `, start ${page.namespace.start}, reads ${page.namespace.reads}` : `, ${page.namespace.workers} workers`;
+    const more = isTrace ? `, start ${page.namespace.start}, reads ${page.namespace.reads}` : `, ${many(page.namespace.workers, "worker")}`;
     byId("about").textContent = `${page.files.join(", ")}: ${page.verdict} · ${nsze} blocks of ${BLOCK} bytes, ${units}, NAWUN ${nawun}, NACWU ${nacwu}${more}`;
     const kinds = byId("filters").elements.kind;
     for (const [kind, [, name]] of Object.entries(KINDS)) {
@@ -1266,8 +1436,11 @@
       option.value = kind;
       kinds.append(option);
     }
-    byId("only-label").hidden = page.kind !== "contradiction";
-    byId("only").checked = page.kind === "contradiction";
+    byId("only-label").hidden = !gist;
+    if (gist) {
+      const choices = [["all", `all ${grouping(commands.length)}`], ["named", `the ${grouping(page.named.length)} that the verdict names`], ...(gist.isLong ? [["gist", `the ${grouping(gist.jobs.size)} that matter most`]] : [])];
+      byId("only").append(...choices.reverse().map(([value, text]) => new Option(text, value)));
+    }
     byId("scale-label").hidden = !isTrace;
     layOut();
     fillWhy();
@@ -1276,10 +1449,12 @@
     listen();
     const place = new URLSearchParams(location.hash.slice(1));
     showVerdict();
+    if (gist || (page.fault && commands[page.fault.job])) {
+      pick(gist ? gist.reader : commands[page.fault.job], false);
+      fillTable(true);
+    }
     if (place.size) {
       takePlace(place);
-    } else if (page.fault && commands[page.fault.job]) {
-      pick(commands[page.fault.job], false);
     }
     draw();
     document.documentElement.dataset.painted = String(Math.round(performance.now()));
