@@ -12,7 +12,7 @@ HERE = os.path.dirname(os.path.realpath(__file__))
 TOP = os.path.dirname(HERE)
 
 sys.dont_write_bytecode = True
-sys.path.insert(0, os.path.join(TOP, "sweep"))
+sys.path[:0] = [HERE, os.path.join(TOP, "sweep")]
 
 from arguments import arguments
 from devices import devices
