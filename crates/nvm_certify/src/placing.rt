@@ -27,6 +27,23 @@ pub struct Placing {
     earlier: Vec<u32>,
 }
 
+/// After how many of the unit's steps the look has its place, and whether it goes on there: if it can both fail and go on, as is asked.
+fn outcome_at(place: &LookPlace, goes_on: bool) -> Option<(u32, bool)> {
+    let fails = match place.fails {
+        Some(after) => Some((after, false)),
+        None => None,
+    };
+    let passes = match place.passes {
+        Some(after) => Some((after, true)),
+        None => None,
+    };
+    if goes_on {
+        passes.or(fails)
+    } else {
+        fails.or(passes)
+    }
+}
+
 impl Placing {
     /// Each look fails in the first of its units in which it can, if it goes on in those before. One that a search put in order goes on until it
     /// comes to that unit, if it can.
@@ -70,14 +87,9 @@ impl Placing {
         let before = self.insertions.len();
         let mut goes_on = is_searched;
         for place in places {
-            let (after, passes) = match (place.fails, place.passes) {
-                (_, Some(after)) if is_searched => (after, true),
-                (Some(after), _) => (after, false),
-                (None, Some(after)) => (after, true),
-                (None, None) => {
-                    goes_on = false;
-                    break;
-                }
+            let Some((after, passes)) = outcome_at(place, is_searched) else {
+                goes_on = false;
+                break;
             };
             self.insertions.push(Insertion {
                 unit: place.unit,
