@@ -2,7 +2,7 @@
 //! the same record, and prints the same lines, to the byte. bench/plainly builds it by `rustc` and measures `nvmu` beside it:
 //!
 //!     rustc -C opt-level=3 -C codegen-units=1 --edition 2021 -o plain bench/plain.rs
-//!     plain run --nsze N --block N --nabsn N --nabo N --nawun N --nacwu N --workers N --limit N --record REC FILE..
+//!     plain run --nsze N --block N --nabsn N --nabo N --nawun N --nacwu N --workers N --limit N --out REC FILE..
 //!     plain audit REC
 //!
 //! Commands are slices of the files, which are read once. The blocks are one zeroed allocation, cut into units, each behind a mutex.
@@ -1555,13 +1555,13 @@ enum Asked {
 const USAGE: &str = "\
 The plain engine beside nvmu, without a proof.
 
-  plain run --nsze N --block N --nabsn N --nabo N --nawun N --nacwu N --workers N --limit N --record REC [--unaudited] FILE..
+  plain run --nsze N --block N --nabsn N --nabo N --nawun N --nacwu N --workers N --limit N --out REC [--unaudited] FILE..
   plain audit [--json] REC
 
-FILE and REC are those of nvmu; - is standard input. --unaudited counts what the last line tells, and audits nothing.
+FILE and REC are those of nvmu; - is standard input, and --record another name of --out. --unaudited counts what the last line tells, and audits nothing.
 ";
 
-const OPTIONS: [&str; 9] = ["nsze", "block", "nabsn", "nabo", "nawun", "nacwu", "workers", "limit", "record"];
+const OPTIONS: [&str; 9] = ["nsze", "block", "nabsn", "nabo", "nawun", "nacwu", "workers", "limit", "out"];
 
 fn asked(words: &[String]) -> Result<Asked, String> {
     let (name, rest) = words.split_first().ok_or("expected run or audit; --help says more")?;
@@ -1593,6 +1593,7 @@ fn asked(words: &[String]) -> Result<Asked, String> {
             "unaudited" if name == "run" && is_audited && value.is_none() => is_audited = false,
             "json" if name == "audit" && !is_object && value.is_none() => is_object = true,
             _ => {
+                let option = if option == "record" { "out" } else { option };
                 let place = OPTIONS.iter().position(|known| *known == option && name == "run");
                 let place = place.ok_or(format!("{word} is no option"))?;
                 let value = value.or_else(|| left.next().cloned()).ok_or(format!("{word} has no value"))?;
@@ -1631,7 +1632,7 @@ fn asked(words: &[String]) -> Result<Asked, String> {
         limit: number("limit", 1, 4_194_304)? as u32,
     };
     let workers = number("workers", 1, 64)? as usize;
-    Ok(Asked::Run { space, workers, out: value("record")?, files, is_audited })
+    Ok(Asked::Run { space, workers, out: value("out")?, files, is_audited })
 }
 
 /// What a word says, decimal or hexadecimal after `0x`, times 2^10, 2^20 or 2^30 with `k`, `m` or `g` at its end.
@@ -1663,8 +1664,25 @@ fn read_file(path: &str) -> Result<&'static [u8], String> {
     };
     match bytes {
         Ok(bytes) => Ok(bytes.leak()),
+        Err(error) if error.kind() == io::ErrorKind::OutOfMemory => Err("no memory".to_string()),
         Err(_) => Err(format!("cannot read {path}")),
     }
+}
+
+/// The bytes of each host's file. Standard input is one host's file, and no second one's.
+fn read_files(paths: &[String]) -> Result<Vec<&'static [u8]>, String> {
+    let mut is_taken = false;
+    let mut files = Vec::new();
+    for path in paths {
+        if path == "-" || path == "/dev/stdin" {
+            if is_taken {
+                return Err(format!("cannot read {path}"));
+            }
+            is_taken = true;
+        }
+        files.push(read_file(path)?);
+    }
+    Ok(files)
 }
 
 /// Whether one regular file stands at both paths.
@@ -1675,16 +1693,13 @@ fn is_one_file(path: &str, other: &str) -> bool {
     }
 }
 
-/// Refuses paths of which no run can come: one that is read and written, standard input twice.
-fn check_paths(out: &str, files: &[String]) -> Result<(), String> {
+/// Refuses a path for the record of what is read, and of what standard output goes to.
+fn check_out(out: &str, files: &[String]) -> Result<(), String> {
     let read = |path: &String| is_one_file(out, if path == "-" { "/dev/stdin" } else { path });
     if out == "-" || files.iter().any(read) || is_one_file(out, "/dev/stdout") {
         return Err(format!("cannot write {out}"));
     }
-    match files.iter().filter(|path| *path == "-" || *path == "/dev/stdin").nth(1) {
-        Some(path) => Err(format!("cannot read {path}")),
-        None => Ok(()),
-    }
+    Ok(())
 }
 
 /// Writes a record beside its path, and gives it its path once it is on the disk. What is no regular file, and what stands in a
@@ -1743,7 +1758,7 @@ fn beside(path: &str) -> io::Result<Option<(PathBuf, File)>> {
 // ---------------------------------------------------------------- the program
 
 fn record_of(space: Namespace, workers: usize, paths: &[String]) -> Result<Record, String> {
-    let files = paths.iter().map(|path| read_file(path)).collect::<Result<Vec<_>, _>>()?;
+    let files = read_files(paths)?;
     if files.len() > MOST_HOSTS {
         return Err("too many hosts".to_string());
     }
@@ -1774,10 +1789,10 @@ fn done(asked: Asked) -> Result<i32, String> {
             Ok(status)
         }
         Asked::Run { space, workers, out, files, is_audited } => {
-            check_paths(&out, &files)?;
             let record = record_of(space, workers, &files)?;
             let found = if is_audited { audit(&record) } else { record.done_jobs() };
             let found = found.unwrap_or_else(|fault| panic!("the run isn't lawful: {}", fault.line()));
+            check_out(&out, &files)?;
             write_file(&out, &record).map_err(|_| format!("cannot write {out}"))?;
             told(print_lines(&record, &found, &record.lawful()))?;
             exit(0)

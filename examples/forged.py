@@ -172,10 +172,10 @@ def audited(run, file, told=None, **how):
     run.keep("forged", file)
     out, err, named = f"{line}\n", "", ""
     if status == 1:
-        hint = of_record(line, "forged", file)
-        out, err = "", hinted(line, hint)
-        # nvq names the field, too.
-        named = hinted(line.replace("nvmu: record:", "nvq: forged:"), f"it is {field}" if field else hint)
+        out, err = "", f"{line}\n"
+        # nvq tells what helps, too.
+        hint = f"it is {field}" if field else of_record(line, "forged", file)
+        named = hinted(line.replace("nvmu: record:", "nvq: forged:"), hint)
     for words, said in ((["nvmu", "audit", "forged"], err), (["nvq", "audit", "forged"], named)):
         run.expect(words, status, out=out, err=said, files={"forged": file}, **how)
         if told is not None:

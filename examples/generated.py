@@ -11,7 +11,7 @@ from records import record_of
 # The options of a load each.
 LOADS = [
     {},
-    {"seed": 2},
+    {"seed": 2, "deallocate": 2},
     {"seed": 2**64 - 1, "commands": 1},
     {"nsze": 1, "commands": 300},
     {"nsze": 61, "nabsn": 9, "nabo": 4, "nawun": 6, "nacwu": 3},

@@ -92,7 +92,7 @@ EXAMPLES = {
             "Make a host file of a list, do its commands, and keep a record of that:",
             [
                 "nvq assemble own.list own.nvq",
-                "nvmu run --nsze 32 --block 512 --nabsn 7 --nabo 0 --nawun 7 --nacwu 7 --workers 1 --limit 100 --record own.nvr own.nvq",
+                "nvmu run --nsze 32 --block 512 --nabsn 7 --nabo 0 --nawun 7 --nacwu 7 --workers 1 --limit 100 --out own.nvr own.nvq",
             ],
         ),
         ("Say whether the record is lawful, by an object of JSON:", ["nvmu audit --json own.nvr"]),
@@ -146,8 +146,8 @@ CASE = """\
 ANSWERS = {
     "nvmu": {
         "--v": "--version",
-        "run --limit --r": "",
-        "run --limit 1 --r": "--record",
+        "run --limit --o": "",
+        "run --limit 1 --o": "--out",
         "refute --": "--strict --help",
         "list --": "",
     },
@@ -197,7 +197,7 @@ class Help:
         about, _, rest = f"\n{text}".partition("\nUsage:")
         usage, _, rest = rest.partition("\n\n")
         self.about, self.usage = " ".join(about.split()), " ".join(usage.split())
-        self.commands, self.arguments, self.options = [], [], []
+        self.commands, self.arguments, self.options, self.more = [], [], [], []
         sections = {"Commands:": self.commands, "Arguments:": self.arguments, "Options:": self.options}
         for line in rest.splitlines():
             if BEGINS.match(line):
@@ -205,8 +205,10 @@ class Help:
                 items.append(Item(head, said.strip()))
             elif line.startswith(" "):
                 items[-1].said = f"{items[-1].said} {line.strip()}".strip()
-            elif line:
+            elif line in sections:
                 items = sections[line]
+            elif line:
+                self.more.append(line)
 
 
 def roff(text):
@@ -262,6 +264,7 @@ def manual(name, whole, commands):
     for it in whole.commands:
         page = commands[it.head]
         lines += [f".SS {roff(it.head)}", *sentence(page.about if page else it.said)]
+        lines += [line for text in (page.more if page else ()) for line in (".PP", *paragraph(text))]
         lines += listed(page.arguments + page.options) if page else []
     lines += [".SH OPTIONS", *listed(whole.options), ".SH EXIT STATUS"]
     for status, (first, *others) in enumerate(EXITS[name]):

@@ -77,7 +77,7 @@ def several(run):
     """Where several workers do the commands, the objects are those of the record that is kept."""
     names = [f"load-{host}" for host in range(1, 5)]
     for seed in random.Random(7).sample(range(2**32), 3):
-        run.expect(["nvq", "generate", "--seed", str(seed), "--commands", "200", *names])
+        run.expect(["nvq", "generate", "--seed", str(seed), "--commands", "200", "--deallocate", "2", *names])
         asked = words(*names, nsze=32, workers=4, record="kept")
         objects = run.output([*asked, "--json"])
         run.hold(f"the objects of load {seed}", objects, record_objects(record_of(run.kept("kept"))))

@@ -12,8 +12,6 @@ import threading
 from hints import (
     FOLDER,
     FORBIDDEN,
-    GEOMETRY,
-    IS_HOST_FILE,
     IS_LIST,
     IS_OUTPUT,
     LOOP,
@@ -21,7 +19,6 @@ from hints import (
     NO_FOLDER,
     NO_READER,
     NO_SPACE,
-    STANDARD_OUT,
     TOO_LARGE,
     told,
 )
@@ -172,7 +169,8 @@ def outs(run, program, words, whole):
     """Holds a program that writes a file, of these words and the file's path, to the table."""
 
     def fault(out, hint):
-        return {"status": 1, "err": told(f"{program}: cannot write {out}", hint)}
+        # What helps is told by nvq alone.
+        return {"status": 1, "err": told(f"{program}: cannot write {out}", hint if program == "nvq" else "")}
 
     folder = os.path.join(run.folder, "outs")
     open_folder = {"": ("drwxr-xr-x", None)}
@@ -244,15 +242,12 @@ def outs_of_nvmu(run):
     # A run that ends in a fault leaves REC as it was, and makes none.
     run.keep("kept", OLD)
     run.keep("cut.nvq", LONG_FILE[:700])
-    for options, line, hint in (
-        (OPTIONS, "host 1: truncated at 644", ""),
-        ({**OPTIONS, "nsze": 0}, "geometry: Size", GEOMETRY["Size"]),
-    ):
+    for options, line in ((OPTIONS, "host 1: truncated at 644"), ({**OPTIONS, "nsze": 0}, "geometry: Size")):
         for out in ("kept", "unmade"):
-            run.expect(run_words(options, "cut.nvq", out=out), 1, err=told(f"nvmu: {line}", hint), files={"kept": OLD})
+            run.expect(run_words(options, "cut.nvq", out=out), 1, err=f"nvmu: {line}\n", files={"kept": OLD})
         run.hold("no record", os.path.exists(os.path.join(run.folder, "unmade")), False)
     # Files are read, and their faults told, before REC is looked for.
-    run.expect(run_words(OPTIONS, "missing", out="missing/record"), 1, err=told("nvmu: cannot read missing", MISSING))
+    run.expect(run_words(OPTIONS, "missing", out="missing/record"), 1, err="nvmu: cannot read missing\n")
 
 
 def without_output():
@@ -280,7 +275,7 @@ def shown_nowhere(run):
     ]
     for how, hint in ways:
         run.keep("record", b"old")
-        line = told("nvmu: cannot write standard output", hint)
+        line = "nvmu: cannot write standard output\n"
         for words, name in ((run_words(OPTIONS, "long.nvq"), "record"), (["nvmu", "audit", "audited"], "audited")):
             run.hold(f"{words} with {how}", run.status_of(words, **how), (1, line.encode()))
             run.hold(f"{name} with {how}", run.kept(name), spelled(record))
@@ -304,25 +299,24 @@ def outs_that_are_read(run):
     os.symlink("read.nvq", os.path.join(run.folder, "soft"))
     files = {"read.nvq": content}
     for out in ("read.nvq", "./read.nvq", os.path.join(run.folder, "read.nvq"), "hard", "soft"):
-        err = told(f"nvmu: cannot write {out}", IS_HOST_FILE)
-        run.expect(run_words(OPTIONS, "other.nvq", "read.nvq", out=out), 1, err=err, files=files)
-        # It is told before anything is read.
-        run.expect(run_words(OPTIONS, "missing", "read.nvq", out=out), 1, err=err, files=files)
+        run.expect(run_words(OPTIONS, "other.nvq", "read.nvq", out=out), 1, err=f"nvmu: cannot write {out}\n", files=files)
+        # What is wrong with the files is told before.
+        run.expect(run_words(OPTIONS, "missing", "read.nvq", out=out), 1, err="nvmu: cannot read missing\n", files=files)
     with open(os.path.join(run.folder, "read.nvq"), "rb") as given:
         words = run_words(OPTIONS, "-", out="hard")
         found = run.status_of(words, stdin=given)
-        run.hold(f"{words}", found, (1, told("nvmu: cannot write hard", IS_HOST_FILE).encode()))
-    run.expect(run_words(OPTIONS, "read.nvq", out="-"), 1, err=told("nvmu: cannot write -", STANDARD_OUT))
+        run.hold(f"{words}", found, (1, b"nvmu: cannot write hard\n"))
+    run.expect(run_words(OPTIONS, "read.nvq", out="-"), 1, err="nvmu: cannot write -\n")
     run.hold("no file of that name", os.path.exists(os.path.join(run.folder, "-")), False)
     # Nor is the record written over the lines, where standard output goes to a file. It may go to a device.
     for words, line in (
-        (run_words(OPTIONS, "read.nvq", out="shown"), "nvmu: cannot write shown"),
-        (run_words(OPTIONS, "read.nvq", out="./shown"), "nvmu: cannot write ./shown"),
-        (["nvq", "run", "--record", "shown", "read.list"], "nvq: cannot write shown"),
+        (run_words(OPTIONS, "read.nvq", out="shown"), "nvmu: cannot write shown\n"),
+        (run_words(OPTIONS, "read.nvq", out="./shown"), "nvmu: cannot write ./shown\n"),
+        (["nvq", "run", "--record", "shown", "read.list"], told("nvq: cannot write shown", IS_OUTPUT)),
     ):
         with open(os.path.join(run.folder, "shown"), "wb") as shown:
             found = run.status_of(words, stdout=shown)
-        run.hold(f"{words} > shown", (found, run.kept("shown")), ((1, told(line, IS_OUTPUT).encode()), b""))
+        run.hold(f"{words} > shown", (found, run.kept("shown")), ((1, line.encode()), b""))
     with open("/dev/null", "wb") as nowhere:
         run.hold("twice nowhere", run.status_of(run_words(OPTIONS, "read.nvq", out="/dev/null"), stdout=nowhere), (0, b""))
     # A device is no file that is read.

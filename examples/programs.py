@@ -34,6 +34,7 @@ from runs import runs
 from trace_files import spelled, text_of, with_seen
 from traces import TRACE, traces
 from two_owners import two_owners
+from unbuilt import unbuilt
 from words import (
     SEVERAL,
     files_of_another_kind,
@@ -401,11 +402,11 @@ def words_of_unit_bench(run):
 
 TABLES = [lists, wrong_lists, words_of_nvq, listings, listed_objects, lists_run, lists_expected, objects_run, lists_generated, explained, outs_of_nvq, words_of_nvmu, files_of_nvmu, files_that_stop, several_workers]
 TABLES += [versions, standard_input, files_of_another_kind, outs_that_are_read]
-TABLES += [traces, words_of_certify, records_of_certify, arguments, devices, outs_of_nvmu, shown_nowhere, progress, runs, rows, forged, spoiled, faulty, two_owners, words_of_unit_bench]
+TABLES += [traces, words_of_certify, records_of_certify, arguments, devices, outs_of_nvmu, shown_nowhere, progress, runs, rows, forged, spoiled, faulty, two_owners, words_of_unit_bench, unbuilt]
 
 
 # What a table runs that runs something else than both programs for people.
-OTHERS = {words_of_unit_bench: {"unit_bench"}}
+OTHERS = {words_of_unit_bench: {"unit_bench"}, unbuilt: set()}
 
 
 def tried(lacking=()):

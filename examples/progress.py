@@ -10,7 +10,7 @@ TOP = os.path.dirname(os.path.dirname(os.path.realpath(__file__)))
 MIB = 1 << 20
 # Goes to the front of a terminal's line and clears it.
 CLEAR = b"\r\x1b[K"
-OPTIONS = "--nsze 65536 --block 512 --nabsn 15 --nabo 0 --nawun 15 --nacwu 3 --workers 2 --limit 100 --record record".split()
+OPTIONS = "--nsze 65536 --block 512 --nabsn 15 --nabo 0 --nawun 15 --nacwu 3 --workers 2 --limit 100 --out record".split()
 RUN = ["nvmu", "run", *OPTIONS, "long.nvq"]
 # So many commands, of which 64 write 64 KiB each; and so many units are in the namespace.
 JOBS, UNITS = 364, 4_096

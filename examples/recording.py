@@ -10,7 +10,7 @@ OPTIONS = {"nsze": 33, "block": 512, "nabsn": 9, "nabo": 4, "nawun": 7, "nacwu":
 
 
 def run_words(options, *files, out="record", left_out=None):
-    given = {**options, "record": out}
+    given = {**options, "out": out}
     return ["nvmu", "run", *(f"--{name}={given[name]}" for name in given if name != left_out), *files]
 
 

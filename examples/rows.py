@@ -1,9 +1,11 @@
-"""Runs that were worked out by hand, each with all that is printed of it: commands, lines and verdict.
+"""Runs that were worked out by hand, each with all that is printed of it: commands, lines and verdict; and each fault of words, files
+and records, with its one line.
 
 The namespace has 32 blocks of 512 bytes in units of eight, and pairs have up to four blocks, where nothing else is said.
 """
 
 import os
+import resource
 
 from host_files import compare, dataset, file_of, pair, read, uncorrectable, unknown, write, zeroes
 from recording import ran, run_words
@@ -46,6 +48,9 @@ lawful jobs 2 units 4 changes 2 refused 0
 lawful jobs 2 units 5 changes 3 refused 0
 """,
     ),
+    "blocks of 4096 bytes": ({"nabsn": 0, "block": 4096}, [[read(31, 1)]], """1 1 read 0/00 4096*00
+lawful jobs 1 units 1 changes 0 refused 0
+"""),
     "a pair": ({}, [[*both(4, 4, 0, 0x55), read(7, 2)]], """1 1 compare 0/00
 1 2 write 0/00
 1 3 read 0/00 512*55,512*00
@@ -80,6 +85,23 @@ lawful jobs 2 units 4 changes 1 refused 0
 1 2 compare 0/0a
 lawful jobs 2 units 4 changes 0 refused 0
 """),
+    "an unknown opcode between a first and a second": (
+        {},
+        [[compare(0, 0, **FIRST), unknown(0, 1, **SECOND), write(0, 0x61, **SECOND)]],
+        """1 1 compare 0/0a
+1 2 op-7f 0/01
+1 3 write 0/0a
+lawful jobs 3 units 4 changes 0 refused 0
+""",
+    ),
+    "a pair of two namespaces": ({}, [pair(compare(0, 0), write(1, 0x61, nsid=2))], """1 1 compare 0/0b
+1 2 write 0/09
+lawful jobs 1 units 4 changes 0 refused 0
+"""),
+    "a pair past the end": ({}, [both(31, 2, 0, 0x61)], """1 1 compare 0/80
+1 2 write 0/09
+lawful jobs 1 units 4 changes 0 refused 0
+"""),
     "pairs that are none": (
         {},
         [[*pair(compare(0, 0), write(1, 0x62)), *pair(write(0, 0x62), write(0, 0x62))]],
@@ -105,6 +127,28 @@ lawful jobs 1 units 4 changes 0 refused 0
 lawful jobs 5 units 4 changes 2 refused 0
 """,
     ),
+    "a mark, and zeroes in its place": (
+        {},
+        [[uncorrectable(7, 1), read(6, 3), equal(compare, 6, 3, 0), zeroes(7, 1), equal(compare, 6, 3, 0), read(6, 3)]],
+        """1 1 uncorrectable 0/00
+1 2 read 2/81
+1 3 compare 2/81
+1 4 zeroes 0/00
+1 5 compare 0/00
+1 6 read 0/00 1536*00
+lawful jobs 6 units 4 changes 2 refused 0
+""",
+    ),
+    "a Compare whose first part decides": ({}, [[write(7, 0x41), uncorrectable(8, 1), equal(compare, 7, 2, 0)]], """1 1 write 0/00
+1 2 uncorrectable 0/00
+1 3 compare 2/85
+lawful jobs 3 units 4 changes 2 refused 0
+"""),
+    "a Compare of one part, in which the mark decides": ({}, [[write(6, 0x41), uncorrectable(7, 1), equal(compare, 6, 2, 0)]], """1 1 write 0/00
+1 2 uncorrectable 0/00
+1 3 compare 2/81
+lawful jobs 3 units 4 changes 2 refused 0
+"""),
     "a full history": ({"limit": 1}, [[write(0, 0x41), write(1, 0x42), read(0, 2)]], """1 1 write 0/00
 1 2 write 0/06
 1 3 read 0/00 512*41,512*00
@@ -230,6 +274,109 @@ lawful jobs 2 units 4 changes 1 refused 0
 """),
 }
 
+# Files of hosts and of records, by their names. `missing` isn't there.
+WRITE_AND_READ = file_of([write(0, 0x41), read(0, 1)])
+TWO_WRITES = file_of([write(0, 0x41), write(1, 0x42)])
+MANY_READS = b"NVQ1" + file_of([read(0, 1)])[4:] * 65_536
+FILES = {
+    "good": WRITE_AND_READ,
+    "empty": b"",
+    "wrong": b"NVQ2",
+    "cut": TWO_WRITES[:700],
+    "many": MANY_READS,
+    "more": MANY_READS + b"0",
+    "no.nvr": b"NVQ1",
+    "later.nvr": b"NVR3",
+}
+# The numbers of a namespace: NSZE, the bytes of a block, NABSN, NABO, NAWUN, NACWU.
+NUMBERS = ("nsze", "block", "nabsn", "nabo", "nawun", "nacwu")
+NO_NAMESPACES = {
+    (0, 512, 0, 0, 0, 0): "Size",
+    (32, 1024, 0, 0, 0, 0): "BlockSize",
+    (32, 512, 0, 1, 0, 0): "OffsetWithoutBoundary",
+    (32, 512, 7, 8, 0, 0): "OffsetAboveBoundary",
+    (32, 512, 7, 0, 8, 0): "WriteUnitAboveBoundary",
+    (32, 512, 7, 0, 7, 8): "PairUnitAboveBoundary",
+    (65_536, 512, 1, 0, 0, 0): "TooManyUnits",
+}
+NO_BLOCKS = {"nsze": 0}
+# What is asked for, and the one line that is on standard error then. The first faults are those of one thing; then two
+# are there each time, and the one that is looked for first is told.
+FAULTS = {
+    "a file that isn't there": (run_words(OPTIONS, "missing"), "cannot read missing"),
+    "a record that isn't there": (["nvmu", "audit", "missing"], "cannot read missing"),
+    "a record in no folder": (run_words(OPTIONS, "good", out="missing/record"), "cannot write missing/record"),
+    "65 hosts": (run_words(OPTIONS, *["good"] * 65), "too many hosts"),
+    "an empty host file": (run_words(OPTIONS, "empty"), "host 1: bad name"),
+    "another name of a second host file": (run_words(OPTIONS, "good", "wrong"), "host 2: bad name"),
+    "a host file cut in a Write's data": (run_words(OPTIONS, "cut"), "host 1: truncated at 644"),
+    "a byte behind 65536 commands": (run_words(OPTIONS, "more"), "host 1: too many commands"),
+    "a host file for a record": (["nvmu", "audit", "no.nvr"], "record: bad name"),
+    "a record of a third version": (["nvmu", "audit", "later.nvr"], "record: unknown version"),
+    "a cut record": (["nvmu", "audit", "cut.nvr"], "record: truncated at 24"),
+    "a byte behind a record": (["nvmu", "audit", "longer.nvr"], "record: trailing at 1775"),
+    "a record of no workers": (["nvmu", "audit", "idle.nvr"], "record: bad value at 28"),
+    "a missing file, and too many": (run_words(OPTIONS, *["good"] * 64, "missing"), "cannot read missing"),
+    "too many hosts, and no namespace": (run_words({**OPTIONS, **NO_BLOCKS}, *["good"] * 65), "too many hosts"),
+    "no namespace, and no host file": (run_words({**OPTIONS, **NO_BLOCKS}, "empty"), "geometry: Size"),
+    "two wrong host files": (run_words(OPTIONS, "cut", "empty"), "host 1: truncated at 644"),
+    "no host file, and no place for the record": (run_words(OPTIONS, "empty", out="missing/record"), "host 1: bad name"),
+    "no host file, and the record in its place": (run_words(OPTIONS, "empty", out="empty"), "host 1: bad name"),
+}
+
+
+def faults(run):
+    """Each fault's line is all that is printed, the status is 1, and what stood where the record goes stays."""
+    for name, content in FILES.items():
+        run.keep(name, content)
+    ran(run, OPTIONS, "good")
+    record = run.kept("record")
+    for name, content in (
+        ("cut.nvr", record[:26]),
+        ("longer.nvr", record + b"0"),
+        ("idle.nvr", record[:28] + bytes(2) + record[30:]),
+        ("record", b"old"),
+    ):
+        run.keep(name, content)
+    for words, line in FAULTS.values():
+        run.expect(words, 1, err=f"nvmu: {line}\n", files={"record": b"old"})
+    for numbers, fault in NO_NAMESPACES.items():
+        words = run_words({**OPTIONS, **dict(zip(NUMBERS, numbers))}, "good")
+        run.expect(words, 1, err=f"nvmu: geometry: {fault}\n", files={"record": b"old"})
+    # The command line is looked at first, and its faults are in the words of clap.
+    run.refuse(run_words({**OPTIONS, "workers": 65}, "missing"))
+    run.refuse(run_words({**OPTIONS, "limit": MOST_LIMIT[2] + 1}, "good"))
+    # A file that is larger than the memory which the program may have.
+    with open(os.path.join(run.folder, "large"), "wb") as large:
+        large.truncate(2 * MEMORY)
+    for words in (run_words(OPTIONS, "large"), ["nvmu", "audit", "large"]):
+        run.expect(words, 1, err="nvmu: no memory\n", files={"record": b"old"}, preexec_fn=little_memory)
+    os.remove(os.path.join(run.folder, "large"))
+    cuts(run)
+
+
+# So many bytes of memory a child with `little_memory` may have.
+MEMORY = 128 << 20
+
+
+def little_memory():
+    resource.setrlimit(resource.RLIMIT_AS, (MEMORY, MEMORY))
+
+
+def cuts(run):
+    """The host file of a Write and a Read, cut to each length."""
+    for length in range(len(WRITE_AND_READ) + 1):
+        run.keep("front", WRITE_AND_READ[:length])
+        starts = [at for at in (4, 68, 580, 644) if at <= length]
+        lines = {4: 0, 580: 1, 644: 2}.get(length)
+        if lines is None:
+            fault = f"truncated at {starts[-1]}" if starts else "bad name"
+            run.expect(run_words(OPTIONS, "front"), 1, err=f"nvmu: host 1: {fault}\n")
+        else:
+            told = ["1 1 write 0/00", "1 2 read 0/00 512*41"][:lines]
+            told.append(f"lawful jobs {lines} units 4 changes {min(lines, 1)} refused 0")
+            run.expect(run_words(OPTIONS, "front"), out="".join(f"{line}\n" for line in told))
+
 
 def rows(run):
     for title, (changed, hosts, told) in ROWS.items():
@@ -237,11 +384,23 @@ def rows(run):
         for name, asked in zip(names, hosts):
             run.keep(name, file_of(asked))
         ran(run, {**OPTIONS, **changed}, *names, told=told)
-    run.keep("row-1", file_of([write(0, 0x41), write(1, 0x42)])[:700])
-    run.keep("record", b"old")
-    run.expect(run_words(OPTIONS, "row-1"), 1, err="nvmu: host 1: truncated at 644\n", files={"record": b"old"})
-    run.refuse(run_words({**OPTIONS, "limit": MOST_LIMIT[2] + 1}, "row-1"))
+    faults(run)
+    run.expect(["nvmu", "run", *PLACED], out=ROWS["a Write and a Read"][2])
+    most(run)
     units(run)
+
+
+# Each option apart from its value, and the record's place before the files.
+PLACED = "--nsze 32 --block 512 --nabsn 7 --nabo 0 --nawun 7 --nacwu 3 --workers 1 --limit 100 --out record good".split()
+
+
+def most(run):
+    """As many units as there can be, and as many commands as a host can have."""
+    run.keep("none", file_of([]))
+    numbers = dict(zip(NUMBERS, (65_536, 512, 15, 0, 15, 15)))
+    ran(run, {**OPTIONS, **numbers}, "none", told="lawful jobs 0 units 4096 changes 0 refused 0\n")
+    lines = "".join(f"1 1 read 0/00 512*00\n" for _ in range(65_536))
+    run.expect(run_words(OPTIONS, "many"), out=f"{lines}lawful jobs 65536 units 4 changes 0 refused 0\n")
 
 
 def one_core():

@@ -4,8 +4,6 @@ The namespace has 32 blocks of 512 bytes in units of eight, or 65,536 in units o
 to four blocks.
 """
 
-from hints import no_host_file
-from hints import told as hinted
 from recording import ran, run_words
 
 OPTIONS = {"nsze": 32, "block": 512, "nabsn": 7, "nabo": 0, "nawun": 7, "nacwu": 3, "workers": 1, "limit": 100}
@@ -257,8 +255,7 @@ def runs(run):
     whole = run.kept("whole.nvq")
     for length, fault in CUTS:
         run.keep("cut.nvq", whole[:length])
-        hint = no_host_file("cut.nvq", whole[:length]) if fault == "bad name" else ""
-        run.expect(run_words(OPTIONS, "empty.nvq", "cut.nvq"), 1, err=hinted(f"nvmu: host 2: {fault}", hint))
+        run.expect(run_words(OPTIONS, "empty.nvq", "cut.nvq"), 1, err=f"nvmu: host 2: {fault}\n")
     for length, lines in CUTS_LINES.items():
         run.keep("cut.nvq", whole[:length])
         ran(run, OPTIONS, "empty.nvq", "cut.nvq", lines=lines)

@@ -270,7 +270,7 @@ def faults_of_files(run):
         fault = "bad name" if at == 0 else f"truncated at {at}"
         if field:
             run.keep("cut.nvt", whole[: at + len(field) - 1])
-            run.expect(["nvmu", "witness", "cut.nvt", "two.nvr"], 1, err=run.SOME if at == 0 else f"nvmu: trace: {fault}\n")
+            run.expect(["nvmu", "witness", "cut.nvt", "two.nvr"], 1, err=f"nvmu: trace: {fault}\n")
         at += len(field)
     run.keep("cut.nvt", whole + b"\0")
     run.expect(["nvmu", "witness", "cut.nvt", "two.nvr"], 1, err=f"nvmu: trace: trailing at {len(whole)}\n")
@@ -304,14 +304,9 @@ def faults_of_files(run):
     run.keep("bad.nvr", b"NVR2")
     run.expect(["nvmu", "witness", "whole.nvt", "bad.nvr"], 1, err="nvmu: record: truncated at 4\n")
     run.expect(["nvq", "witness", "whole.nvt", "bad.nvr"], 1, err="nvq: bad.nvr: truncated at 4\n")
-    for program in ("nvmu", "nvq"):
-        for names in (["missing", "two.nvr"], ["whole.nvt", "missing"]):
-            run.expect([program, "witness", *names], 1, err=told(f"{program}: cannot read missing", MISSING))
+    for names in (["missing", "two.nvr"], ["whole.nvt", "missing"]):
+        run.expect(["nvmu", "witness", *names], 1, err="nvmu: cannot read missing\n")
+        run.expect(["nvq", "witness", *names], 1, err=told("nvq: cannot read missing", MISSING))
     for names in (["-", "-"], ["/dev/stdin", "-"]):
         run.expect(["nvq", "witness", *names], 1, given=whole, err="nvq: standard input is named twice\n")
-    run.expect(
-        ["nvmu", "witness", "-", "-"],
-        1,
-        given=whole,
-        err=told("nvmu: cannot read -", "standard input is the trace, and can't be the record, too"),
-    )
+    run.expect(["nvmu", "witness", "-", "-"], 1, given=whole, err="nvmu: cannot read -\n")

@@ -4,7 +4,6 @@ from dataclasses import replace
 
 from auditor import verdict
 from cases import Run
-from hints import MISSING, of_record, told
 from model import Namespace
 from recorded import recorded
 from records import record_of, spelled
@@ -27,7 +26,7 @@ def audits(kept, missing, files, none):
         """The audit of a record, or of a file that is none."""
         path = kept(f"record-{name}", file)
         if fault:
-            return Run(name, "nvmu", ["audit", path], 1, err=told(f"nvmu: record: {fault}", of_record(fault, path, file)))
+            return Run(name, "nvmu", ["audit", path], 1, err=f"nvmu: record: {fault}\n")
         record = record_of(file)
         line = verdict(record)
         status, units = 0 if line.startswith("lawful") else 2, len(record.namespace.units())
@@ -54,5 +53,5 @@ def audits(kept, missing, files, none):
         audited("no record", files[0], "bad name"),
         audited("a record of a later version", b"NVR3", "unknown version"),
         audited("no workers", done[:28] + bytes(2) + done[30:], "bad value at 28"),
-        Run("a missing record", "nvmu", ["audit", missing], 1, err=told(f"nvmu: cannot read {missing}", MISSING)),
+        Run("a missing record", "nvmu", ["audit", missing], 1, err=f"nvmu: cannot read {missing}\n"),
     ]

@@ -1,4 +1,4 @@
-"""What the programs say below the line of a fault, behind two spaces, so that whoever reads it knows what to do."""
+"""What nvq says below the line of a fault, behind two spaces, so that whoever reads it knows what to do."""
 
 MISSING = "there is no such file or folder"
 FORBIDDEN = "its permissions forbid that"
@@ -9,9 +9,6 @@ TOO_LARGE = "it would be larger than a file may be"
 LOOP = "its links lead to themselves"
 NO_READER = "its reader has ended"
 VERSIONS = "the fourth byte of a record is 1 or 2"
-STANDARD_TWICE = "standard input is one host's file, and no second one's"
-STANDARD_OUT = "standard output has the lines: name a file, ./- for one of this name"
-IS_HOST_FILE = "it is one of the host files"
 IS_LIST = "it is the list"
 IS_OTHER_LIST = "the list of another host goes there"
 IS_OUTPUT = "standard output goes there, with the lines"
@@ -34,10 +31,6 @@ def told(line, hint=""):
 def the_line(text, *others):
     """What is said of a wrong line, and of other wrong ones of a list."""
     return "\n  ".join([f"the line is: {text[:100]}", *others])
-
-
-def many_hosts(count):
-    return f"there are {count} host files, and at most 64 can be"
 
 
 def other_block(size):

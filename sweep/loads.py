@@ -9,7 +9,7 @@ WORD = 2**64 - 1
 # The polynomial of a jump of xoshiro256++ over 2^128 words, as its authors publish it.
 JUMP = (0x180EC6D33CFD0ABA, 0xD5A61266F0C9392C, 0xA9582618E03FC9AA, 0x39ABDC4529B1661C)
 KINDS = ("write", "compare", "pair", "zeroes", "uncorrectable", "deallocate", "read")
-WEIGHTS = {"write": 40, "read": 40, "compare": 5, "pair": 10, "zeroes": 3, "uncorrectable": 0, "deallocate": 2}
+WEIGHTS = {"write": 40, "read": 40, "compare": 5, "pair": 10, "zeroes": 3, "uncorrectable": 0, "deallocate": 0}
 MOST_BLOCKS = 256
 
 

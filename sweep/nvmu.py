@@ -5,18 +5,6 @@ import random
 
 from audits import audits
 from cases import Recording, Run
-from hints import (
-    FOLDER,
-    GEOMETRY,
-    IS_HOST_FILE,
-    MISSING,
-    STANDARD_OUT,
-    STANDARD_TWICE,
-    many_hosts,
-    no_host_file,
-    other_block,
-    told,
-)
 from host_files import compare, dataset, file_of, mixed, pair, read, uncorrectable, unknown, write, zeroes
 from model import Namespace
 from witnesses import witnesses
@@ -35,7 +23,7 @@ def words(paths, out=Recording.name, **changed):
     options = {"nsze": 32, "block": 512, "nabsn": 0, "nabo": 0, "nawun": 7, "nacwu": 3, "workers": 1, "limit": 100}
     options.update(changed)
     given = [word for name in options for word in (f"--{name}", str(options[name]))]
-    return ["run", *given, "--record", out, *paths]
+    return ["run", *given, "--out", out, *paths]
 
 
 def single_commands():
@@ -225,9 +213,8 @@ def runs(folder):
         model = Recording(Namespace(**changed), files, workers)
         return Run(name, "nvmu", words(paths, workers=workers, **changed), before=before, model=model)
 
-    def fault(name, line, paths, hides_wants=False, hint="", **changed):
-        err = told(f"nvmu: {line}", hint)
-        return Run(name, "nvmu", words(paths, **changed), 1, err=err, before=BEFORE, hides_wants=hides_wants)
+    def fault(name, line, paths, hides_wants=False, **changed):
+        return Run(name, "nvmu", words(paths, **changed), 1, err=f"nvmu: {line}\n", before=BEFORE, hides_wants=hides_wants)
 
     def refused(name, given, status=1):
         return Run(name, "nvmu", given, status)
@@ -268,23 +255,23 @@ def runs(folder):
         lines("two workers and no commands", [none], 2),
         lines("no commands", [none]),
         lines("no commands of two hosts", [none, none]),
-        fault("an empty file", "host 1: bad name", [empty], hint=no_host_file(empty, b"")),
-        fault("a list for a host file", "host 1: bad name", [text], hint=no_host_file(text, LIST)),
-        fault("blocks of another size", "host 1: truncated at 68", [small], hint=other_block(512), block=4096),
-        fault("standard input twice", "cannot read -", ["-", "-"], hint=STANDARD_TWICE),
-        fault("a record to standard output", "cannot write -", [whole], hint=STANDARD_OUT, out="-"),
-        fault("a record over a host file", f"cannot write {whole}", [nothing, whole], hint=IS_HOST_FILE, out=whole),
+        fault("an empty file", "host 1: bad name", [empty]),
+        fault("a list for a host file", "host 1: bad name", [text]),
+        fault("blocks of another size", "host 1: truncated at 68", [small], block=4096),
+        fault("standard input twice", "cannot read -", ["-", "-"]),
+        fault("a record to standard output", "cannot write -", [whole], True, out="-"),
+        fault("a record over a host file", f"cannot write {whole}", [nothing, whole], True, out=whole),
         fault("a truncated file", "host 1: truncated at 644", [cut], hides_wants=True),
         fault("too many commands", "host 1: too many commands", [many], hides_wants=True),
         fault("a second host's truncated file", "host 2: truncated at 644", [whole, cut, empty], hides_wants=True),
-        fault("sixty-five hosts", "too many hosts", [nothing] * 65, hint=many_hosts(65), nsze=0),
-        fault("a missing file", f"cannot read {missing}", [missing], hint=MISSING),
-        fault("a second file that is missing", f"cannot read {missing}", [empty, missing], hint=MISSING, nsze=0),
-        fault("a folder", f"cannot read {folder}", [folder], hint=FOLDER),
-        fault("no blocks", "geometry: Size", [empty], hint=GEOMETRY["Size"], nsze=0),
-        fault("blocks of 1000 bytes", "geometry: BlockSize", [whole], hint=GEOMETRY["BlockSize"], block=1000),
-        fault("too many units", "geometry: TooManyUnits", [whole], hint=GEOMETRY["TooManyUnits"], nsze=65_536, nabsn=1, nawun=1, nacwu=1),
-        fault("a record that can't be written", "cannot write missing/record", [whole], True, MISSING, out="missing/record"),
+        fault("sixty-five hosts", "too many hosts", [nothing] * 65, nsze=0),
+        fault("a missing file", f"cannot read {missing}", [missing]),
+        fault("a second file that is missing", f"cannot read {missing}", [empty, missing], nsze=0),
+        fault("a folder", f"cannot read {folder}", [folder]),
+        fault("no blocks", "geometry: Size", [empty], nsze=0),
+        fault("blocks of 1000 bytes", "geometry: BlockSize", [whole], block=1000),
+        fault("too many units", "geometry: TooManyUnits", [whole], nsze=65_536, nabsn=1, nawun=1, nacwu=1),
+        fault("a record that can't be written", "cannot write missing/record", [whole], True, out="missing/record"),
         *audits(kept, missing, [served, pairs(), ranges()], none),
         *witnesses(kept),
         refused("help on the witness", ["witness", "--help"], 0),

@@ -117,8 +117,3 @@ def with_seen(trace, number, **changed):
     jobs = list(trace.jobs)
     jobs[number] = replace(jobs[number], **changed)
     return replace(trace, jobs=tuple(jobs))
-
-
-def no_trace(path, content):
-    """What stands below the line of a file that is no trace, as far as it is swept."""
-    return f"{path} is empty, and a trace begins with NVT1" if not content else f"{path} is no trace, which begins with NVT1"

@@ -13,7 +13,7 @@ from record_explaining import lawful_explanation
 from recorded import recorded
 from records import record_of as parsed
 from records import spelled as record_bytes
-from trace_files import Seen, Trace, in_turn, no_trace, spelled, text_of, with_seen
+from trace_files import Seen, Trace, in_turn, spelled, text_of, with_seen
 
 RECORD = recorded(Namespace(nabsn=7), [file_of([write(0, 0x41), read(0, 1), *pair(compare(0, 0x41), write(0, 0x42)), zeroes(9, 2), read(7, 2)])])
 TRACE = in_turn(RECORD)
@@ -31,9 +31,9 @@ def witnesses(kept):
         path = kept(f"trace-{name}", spelled(trace))
         return Run(name, "nvmu", ["witness", *words, path, record], 0 if line.startswith("explained") else 2, out=f"{line}\n", units=UNITS)
 
-    def fault(name, file, line, hint=""):
+    def fault(name, file, line):
         path = kept(f"trace-{name}", file)
-        return Run(name, "nvmu", ["witness", path, record], 1, err=told(f"nvmu: trace: {line}", no_trace(path, file) if hint else ""))
+        return Run(name, "nvmu", ["witness", path, record], 1, err=f"nvmu: trace: {line}\n")
 
     def refuted(name, argument, status, **more):
         path, file = kept("refuted.nvt", spelled(with_seen(TRACE, 1, data=b"\x43" * 512))), kept(f"argument-{name}", argument)
@@ -49,8 +49,8 @@ def witnesses(kept):
         judged("a reply that differs", with_seen(TRACE, 1, data=b"\x42" * 512), "unexplained ReplyDiffers job 1 unit - place -"),
         judged("a time that goes back", with_seen(TRACE, 2, began=1, ended=2), "unexplained TimeBack job 2 unit 0 place 1"),
         fault("a cut trace", whole[:-1], f"truncated at {len(whole) - 1024}"),
-        fault("no trace", record_bytes(RECORD)[:2], "bad name", True),
-        Run("a missing trace", "nvmu", ["witness", missing, record], 1, err=told(f"nvmu: cannot read {missing}", MISSING)),
+        fault("no trace", record_bytes(RECORD)[:2], "bad name"),
+        Run("a missing trace", "nvmu", ["witness", missing, record], 1, err=f"nvmu: cannot read {missing}\n"),
         Run("no record of a trace", "nvmu", ["witness", record], 1),
     ]
 

@@ -8,8 +8,8 @@ _nvmu() {
     fi
     case ${COMP_WORDS[1]} in
     run)
-        options="--nsze --block --nabsn --nabo --nawun --nacwu --workers --limit --record -h --help"
-        valued="--nsze --block --nabsn --nabo --nawun --nacwu --workers --limit --record"
+        options="--nsze --block --nabsn --nabo --nawun --nacwu --workers --limit --out -h --help"
+        valued="--nsze --block --nabsn --nabo --nawun --nacwu --workers --limit --out"
         ;;
     audit)
         options="--json -h --help"

@@ -1,16 +1,13 @@
-//! The front of a program: the words of its command line, files and standard streams, what is said where words
-//! ask for nothing that can be done, and what helps whoever reads a fault. A file that is written appears whole or not at
-//! all ([`Output`]).
+//! The front of a program: the words of its command line, files and standard streams, and what is said where words
+//! ask for nothing that can be done. A file that is written appears whole or not at all ([`Output`]).
 //!
 //! Options that take a number read it by [`number`], whose contract says which words are which numbers. Of files and streams no clause can
 //! say what they hold, so few other functions here have one: `examples/check` holds the built programs to what they must say.
 #![tactic(auto)]
 
 mod arguments;
-mod content;
 mod failure;
 mod files;
-mod hint;
 mod judging_words;
 mod number_options;
 mod number_word;
@@ -22,13 +19,9 @@ mod version;
 mod words;
 
 pub use arguments::{file_argument, file_arguments, flag, path_given, path_option};
-pub use content::Content;
-pub use failure::{Failure, failed};
+pub use failure::failed;
 pub use files::{
     FileFault, STANDARD, is_input, is_one_output, is_output, is_read, read_input, write, write_run,
-};
-pub use hint::{
-    VERSIONS, no_host_file, no_list, no_namespace, no_record, no_trace, other_block, refusal,
 };
 pub use judging_words::{
     AuditWords, Telling, WitnessWords, audit_command, json, judging_of, read_audit, read_witness,
@@ -39,8 +32,8 @@ pub use number_options::{
     size_given,
 };
 pub use number_word::{NumberFault, number};
-pub use output::{Output, tell_unwritten};
+pub use output::Output;
 pub use progress::{JobProgress, Progress};
 pub use run_options::{limit, limit_given, nabo, nabsn, nsze, workers_given};
 pub use version::VERSION;
-pub use words::{WordFault, missing, owned, tell, texts_of, words_given};
+pub use words::{UNWRITTEN, WordFault, missing, owned, tell, texts_of, words_given};

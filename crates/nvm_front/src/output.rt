@@ -1,5 +1,4 @@
 use crate::files::{FileFault, STANDARD};
-use crate::hint::refusal;
 use crate::progress::Progress;
 use crate::unfinished::Unfinished;
 use std::fs::{OpenFile, OpenOptions};
@@ -187,12 +186,4 @@ fn is_refused_there(kind: ErrorKind) -> bool {
             | ErrorKind::NotFound
             | ErrorKind::InvalidFilename
     )
-}
-
-/// Says on standard error that standard output couldn't be written, and why, where the system says so.
-pub fn tell_unwritten<R: Eprint>(rt: &R, program: &str, kind: ErrorKind) {
-    let _ = match refusal(kind) {
-        Some(why) => eprintln!(rt; "{program}: cannot write standard output\n  {why}"),
-        None => eprintln!(rt; "{program}: cannot write standard output"),
-    };
 }

@@ -1,7 +1,6 @@
 ghost use Rattle.std.specs.Prelude.{◌≡◌, IfOk, length};
 
 use crate::number_options::Expected;
-use crate::output::tell_unwritten;
 use clap::error::ErrorKind;
 use clap::{Command, Error};
 use std::alloc::{AllocError, AllocFailed, Global};
@@ -92,21 +91,26 @@ pub fn missing(command: &mut Command<'_>) -> WordFault {
     }
 }
 
+/// The fault where standard output couldn't be written.
+pub const UNWRITTEN: &str = "cannot write standard output";
+
 /// Says what is wrong with the words on standard error, or gives what they ask for on standard output, as help. Gives the exit
-/// status: 0 where they asked for that and had it, and else 1. For want of memory the program's one line says so.
-pub fn tell<R: AllocGlobal + Print + Eprint>(rt: &R, program: &str, fault: WordFault) -> u8 {
+/// status: 0 where they asked for that and had it, and else 1. For want of memory the program's one line says so. Where standard
+/// output doesn't take it, nothing is said yet: the error is why.
+pub fn tell<R: AllocGlobal + Print + Eprint>(
+    rt: &R,
+    program: &str,
+    fault: WordFault,
+) -> Result<u8, io::ErrorKind> {
     match fault {
-        WordFault::Words(error) if error.use_stderr() => {
-            let _ = error.print(rt);
-            1
-        }
-        WordFault::Words(error) => match error.print(rt) {
-            Ok(()) => 0,
-            Err(error) => {
-                tell_unwritten(rt, program, error.kind());
-                1
+        WordFault::Words(error) => {
+            let is_fault = error.use_stderr();
+            match error.print(rt) {
+                Ok(()) => Ok(u8::from(is_fault)),
+                Err(_) if is_fault => Ok(1),
+                Err(error) => Err(error.kind()),
             }
-        },
+        }
         WordFault::Value {
             option,
             word,
@@ -115,15 +119,15 @@ pub fn tell<R: AllocGlobal + Print + Eprint>(rt: &R, program: &str, fault: WordF
             let _ = eprintln!(rt;
                 "error: invalid value '{word}' for '--{option}': {expected}\n\nFor more information, try '--help'."
             );
-            1
+            Ok(1)
         }
         WordFault::NotText => {
             let _ = rt.eprintln("error: invalid UTF-8 was detected in one or more arguments");
-            1
+            Ok(1)
         }
         WordFault::NoMemory => {
             let _ = eprintln!(rt; "{program}: no memory");
-            1
+            Ok(1)
         }
     }
 }

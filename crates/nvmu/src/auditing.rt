@@ -4,7 +4,7 @@ ghost use Rattle.nvm_engine.specs.Judged.{IsJudged};
 ghost use Rattle.nvm_engine.specs.Witnessed.{IsWitnessed};
 ghost use Rattle.nvmu.specs.Judged.{AreWitnessedFiles, IsAuditFault, IsJudgedFile, IsJudgeFaultOn, IsWitnessFault, IsWitnessFaultOn};
 
-use crate::failure::{Failure, of_audit, of_witness};
+use crate::fault::Fault;
 use crate::files::{bytes_of, read_pair};
 use nvm_engine::{Judged, Witnessed, audit_bytes_watched, witness_bytes};
 use nvm_front::Progress;
@@ -18,27 +18,26 @@ pub fn audited<R: AllocGlobal + Files + Input + Eprint + Threads + Sync>(
     rt: &R,
     path: &str,
     progress: &Progress<'_, R>,
-) -> Result<Judged, Failure>
+) -> Result<Judged, Fault>
     ensures judged { IfOk result IsJudgedFile }
-    ensures fault { IfErr result (λ failure. IsJudgeFaultOn path.now failure.fault) }
+    ensures fault { IfErr result (IsJudgeFaultOn path.now) }
 {
     let bytes = bytes_of(rt, path, progress)?;
-    judged_of(rt, path, &bytes, progress)
+    judged_of(rt, &bytes, progress)
 }
 
-/// Audits the bytes of a record, which were read from this path.
+/// Audits the bytes of a record.
 fn judged_of<R: AllocGlobal + Eprint + Threads + Sync>(
     rt: &R,
-    path: &str,
     bytes: &Payload,
     progress: &Progress<'_, R>,
-) -> Result<Judged, Failure>
+) -> Result<Judged, Fault>
     ensures judged { IfOk result (IsJudged bytes.now) }
-    ensures fault { IfErr result (λ failure. IsAuditFault bytes.now failure.fault) }
+    ensures fault { IfErr result (IsAuditFault bytes.now) }
 {
     match audit_bytes_watched(rt, rt.alloc(), bytes, progress) {
         Ok(judged) => Ok(judged),
-        Err(fault) => Err(of_audit(rt.alloc(), fault, path, bytes)),
+        Err(fault) => Err(Fault::Engine(fault)),
     }
 }
 
@@ -49,28 +48,26 @@ pub fn witnessed<R: AllocGlobal + Files + Input + Eprint + Threads + Sync>(
     trace: &str,
     record: &str,
     progress: &Progress<'_, R>,
-) -> Result<Witnessed, Failure>
+) -> Result<Witnessed, Fault>
     ensures witnessed { IfOk result (AreWitnessedFiles judging) }
-    ensures fault { IfErr result (λ failure. IsWitnessFaultOn trace.now «record».now failure.fault) }
+    ensures fault { IfErr result (IsWitnessFaultOn trace.now «record».now) }
 {
-    let why = "standard input is the trace, and can't be the record, too";
-    let (seen, held) = read_pair(rt, trace, record, why, progress)?;
-    witnessed_of(rt, judging, (trace, record), &seen, &held)
+    let (seen, held) = read_pair(rt, trace, record, progress)?;
+    witnessed_of(rt, judging, &seen, &held)
 }
 
-/// Judges the bytes of a trace by those of a record, which were read from these paths.
+/// Judges the bytes of a trace by those of a record.
 fn witnessed_of<R: AllocGlobal + Threads + Sync>(
     rt: &R,
     judging: Judging,
-    paths: (&str, &str),
     seen: &Payload,
     held: &Payload,
-) -> Result<Witnessed, Failure>
+) -> Result<Witnessed, Fault>
     ensures witnessed { IfOk result (IsWitnessed judging seen.now held.now) }
-    ensures fault { IfErr result (λ failure. IsWitnessFault seen.now held.now failure.fault) }
+    ensures fault { IfErr result (IsWitnessFault seen.now held.now) }
 {
     match witness_bytes(rt, rt.alloc(), judging, seen, held) {
         Ok(witnessed) => Ok(witnessed),
-        Err(fault) => Err(of_witness(rt.alloc(), fault, (paths.0, seen), (paths.1, held))),
+        Err(fault) => Err(Fault::Engine(fault)),
     }
 }

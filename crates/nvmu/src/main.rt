@@ -8,7 +8,6 @@ ghost use Rattle.nvmu.specs.Asked.{IsAnswerTo};
 
 mod answer;
 mod auditing;
-mod failure;
 mod fault;
 mod files;
 mod refute_words;
@@ -18,14 +17,14 @@ mod words;
 
 use crate::answer::Answer;
 use crate::auditing::{audited, witnessed};
-use crate::failure::Failure;
+use crate::fault::Fault;
 use crate::refuting::refuted;
 use crate::running::recorded;
 use crate::words::{Asked, read_words};
 use nvm_front::{
-    FileFault, Output, Progress, WordFault, failed, tell, tell_unwritten, texts_of, words_given,
+    FileFault, Output, Progress, UNWRITTEN, WordFault, failed, tell, texts_of, words_given,
 };
-use std::alloc::{AllocError, Global};
+use std::alloc::Global;
 use std::io::IsTerminal;
 use std::process::ExitCode;
 use std::rt::{Env, Files};
@@ -49,9 +48,12 @@ fn status_of<R: AllocGlobal + Env + Files + Input + Print + Eprint + Threads + W
     match asked(rt) {
         Ok(asked) => match Output::standard(rt) {
             Ok(output) => done(rt, &asked, output, progress),
-            Err(_) => failed(rt, NAME, Failure::from(AllocError)),
+            Err(_) => failed(rt, NAME, Fault::NoMemory),
         },
-        Err(fault) => tell(rt, NAME, fault),
+        Err(fault) => match tell(rt, NAME, fault) {
+            Ok(status) => status,
+            Err(_) => failed(rt, NAME, UNWRITTEN),
+        },
     }
 }
 
@@ -76,7 +78,7 @@ fn done<R: AllocGlobal + Files + Input + Print + Eprint + Threads + Wait + Sync>
             let written = print(rt.alloc(), &answer, output);
             ended(rt, &answer, written)
         }
-        Err(failure) => failed(rt, NAME, failure),
+        Err(fault) => failed(rt, NAME, fault),
     }
 }
 
@@ -85,16 +87,16 @@ fn answer_to<R: AllocGlobal + Files + Input + Print + Eprint + Threads + Wait + 
     rt: &R,
     asked: &Asked,
     progress: &Progress<'_, R>,
-) -> Result<Answer, Failure>
+) -> Result<Answer, Fault>
     ensures { IfOk result (IsAnswerTo asked.now) }
 {
     match asked {
         Asked::Run {
             settings,
-            record,
+            out,
             files,
         } => {
-            let shown = recorded(rt, settings, record.as_str(), files.as_slice(), progress)?;
+            let shown = recorded(rt, settings, out.as_str(), files.as_slice(), progress)?;
             Ok(Answer::Ran(shown))
         }
         Asked::Audit(words) => {
@@ -134,10 +136,7 @@ fn ended<R: Eprint>(rt: &R, answer: &Answer, written: Result<(), FileFault>) -> 
 {
     match written {
         Ok(()) => answer.status(),
-        Err(FileFault::NoMemory) => failed(rt, NAME, Failure::from(AllocError)),
-        Err(FileFault::Refused(kind)) => {
-            tell_unwritten(rt, NAME, kind);
-            1
-        }
+        Err(FileFault::NoMemory) => failed(rt, NAME, Fault::NoMemory),
+        Err(FileFault::Refused(_)) => failed(rt, NAME, UNWRITTEN),
     }
 }

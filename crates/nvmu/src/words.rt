@@ -20,7 +20,7 @@ pub enum Asked {
     Run {
         settings: Settings,
         /// Where the record goes.
-        record: String,
+        out: String,
         /// The host files, at least one.
         files: Vec<String>,
     },
@@ -68,9 +68,9 @@ fn asked_of(alloc: Global, matches: &ArgMatches<'_>) -> Result<Option<Asked>, Wo
 fn run_asked(alloc: Global, run: &ArgMatches<'_>) -> Result<Option<Asked>, WordFault>
     ensures { IfOk result (λ asked. IfSome asked IsAsked) }
 {
-    let (Some(settings), Some(record), Some(paths)) = (
+    let (Some(settings), Some(out), Some(paths)) = (
         settings_of(alloc, run)?,
-        run.get_str("record"),
+        run.get_str("out"),
         run.get_strs("file"),
     ) else {
         return Ok(None);
@@ -78,11 +78,11 @@ fn run_asked(alloc: Global, run: &ArgMatches<'_>) -> Result<Option<Asked>, WordF
     if paths.is_empty() {
         return Ok(None);
     }
-    let record = String::from_str(alloc, record)?;
+    let out = String::from_str(alloc, out)?;
     let files = owned(alloc, paths)?;
     Ok(Some(Asked::Run {
         settings,
-        record,
+        out,
         files,
     }))
 }
@@ -185,14 +185,15 @@ fn run_command<'a>(alloc: Global) -> Result<Command<'a>, Error> {
             "Number of threads that do the commands, 1 to 64",
         ))?
         .arg(limit(alloc).required(true))?;
-    let record = path_option(alloc, "record", "REC", "Where the record goes").required(true);
+    let out = path_option(alloc, "out", "REC", "Where the record goes").required(true);
+    let out = out.visible_alias("record")?;
     let files = file_arguments(
         alloc,
         "file",
         "FILE",
         "The host files, host 1 first; one may be - for standard input",
     );
-    Ok(command.arg(record)?.arg(files)?)
+    Ok(command.arg(out)?.arg(files)?)
 }
 
 /// An option that has to be given a number.

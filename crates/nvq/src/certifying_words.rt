@@ -62,9 +62,11 @@ pub fn certify_command<'a>(alloc: Global) -> Result<Command<'a>, Error> {
         "ARG",
         "Where the argument that nothing explains it goes",
     );
-    let command = Command::new(alloc, "certify").about(
-        "Says whether a record explains a trace, or why none does",
-    );
+    let command = Command::new(alloc, "certify")
+        .about("Says whether a record explains a trace, or why none does")
+        .after_help(
+            "A contradiction is one of Zalkvorn's profile: it expects zeroes in a deallocated block, where by the standard a device may keep the data or read FFh.",
+        );
     Ok(
         command
             .arg(record)?

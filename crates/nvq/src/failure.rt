@@ -1,13 +1,70 @@
 ghost use Rattle.std.specs.Prelude.{◌≡◌};
+ghost use Rattle.nvq.specs.declared.fault.Fault.TheVariants.{NoMemory};
 
 use crate::fault::Fault;
-use nvm_front::{VERSIONS, no_host_file, no_list, no_namespace, no_record, no_trace, other_block};
+use crate::hint::{
+    VERSIONS, no_host_file, no_list, no_namespace, no_record, no_trace, other_block,
+};
 use nvm_record::{BlockSize, Payload};
 use nvm_where::field_told;
-use std::alloc::{AllocError, Global};
+use std::alloc::{AllocError, AllocFailed, Global};
+use std::fmt;
 
-/// Why the program writes nothing, and what helps.
-pub type Failure = nvm_front::Failure<Fault>;
+/// Why the program writes nothing, and what helps whoever reads it. It prints the fault's line, and the hint on the next line
+/// after two spaces.
+#[derive(Debug, Drop)]
+pub struct Failure {
+    pub fault: Fault,
+    pub hint: Option<String>,
+}
+
+impl Failure {
+    /// A fault, and what helps with it. A hint for which there was no memory is left out.
+    pub fn hinted(fault: Fault, hint: Result<Option<String>, AllocError>) -> Failure
+        ensures { result.fault ≡ fault }
+    {
+        match hint {
+            Ok(hint) => Failure { fault, hint },
+            Err(_) => Failure { fault, hint: None },
+        }
+    }
+
+    /// A fault, and why it came, where that is known. A hint for which there is no memory is left out.
+    pub fn because(alloc: Global, fault: Fault, why: Option<&str>) -> Failure
+        ensures { result.fault ≡ fault }
+    {
+        let hint = match why {
+            Some(why) => String::from_str(alloc, why).map(Some),
+            None => Ok(None),
+        };
+        Failure::hinted(fault, hint)
+    }
+}
+
+impl fmt::Display for Failure {
+    fn fmt<W: fmt::Write>(&self, f: &mut fmt::Formatter<W>) -> fmt::Result {
+        match &self.hint {
+            Some(hint) => write!(f, "{}\n  {hint}", self.fault),
+            None => write!(f, "{}", self.fault),
+        }
+    }
+}
+
+impl From<AllocError> for Failure {
+    ghost from_gives = { λ _ failure. failure.fault ≡ NoMemory };
+
+    fn from(_e: AllocError) -> Failure {
+        plain(Fault::NoMemory)
+    }
+}
+
+impl<T: Drop> From<AllocFailed<T>> for Failure {
+    ghost from_gives = { λ _ failure. failure.fault ≡ NoMemory };
+
+    fn from(_e: AllocFailed<T>) -> Failure {
+        plain(Fault::NoMemory)
+    }
+}
 
 /// A fault with which nothing helps but its line.
 pub fn plain(fault: Fault) -> Failure

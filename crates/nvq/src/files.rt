@@ -8,10 +8,10 @@ ghost use Rattle.nvq.specs.Files.{IsReadFault, IsWriteFault};
 use crate::conversion::{record_of, trace_of};
 use crate::failure::{Failure, of_record, of_trace, plain};
 use crate::fault::Fault;
+use crate::hint::refusal;
 use nvm_audit::Record;
 use nvm_front::{
-    FileFault, Progress, STANDARD, is_input, is_output, is_read, read_input, refusal, write,
-    write_run,
+    FileFault, Progress, STANDARD, is_input, is_output, is_read, read_input, write, write_run,
 };
 use nvm_record::Payload;
 use nvm_trace::Trace;

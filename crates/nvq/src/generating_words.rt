@@ -113,7 +113,12 @@ pub fn generate_command<'a>(alloc: Global) -> Result<Command<'a>, Error> {
         .arg(weight(alloc, "pair", "10", "Weight of fused Compares and Writes"))?
         .arg(weight(alloc, "zeroes", "3", "Weight of Write Zeroes"))?
         .arg(weight(alloc, "uncorrectable", "0", "Weight of Write Uncorrectable"))?
-        .arg(weight(alloc, "deallocate", "2", "Weight of Deallocates"))?;
+        .arg(weight(
+            alloc,
+            "deallocate",
+            "0",
+            "Weight of Deallocates: certify expects zeroes after one, where a device may keep the data or read FFh",
+        ))?;
     Ok(command.arg(outs)?)
 }
 

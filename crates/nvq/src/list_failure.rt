@@ -3,7 +3,7 @@ ghost use Rattle.std.specs.Prelude.{◌≡◌};
 
 use crate::failure::{Failure, line_of};
 use crate::fault::Fault;
-use nvm_front::no_list;
+use crate::hint::no_list;
 use nvm_record::BlockSize;
 use nvm_wrong_lines::{WrongLine, wrong_lines};
 use std::alloc::{AllocError, Global};

@@ -10,6 +10,7 @@ mod auditing_words;
 mod certifying;
 mod certifying_words;
 mod checked;
+mod content;
 mod conversion;
 mod conversion_words;
 mod explaining;
@@ -19,6 +20,7 @@ mod fault;
 mod files;
 mod generating;
 mod generating_words;
+mod hint;
 mod host_files;
 mod list_failure;
 mod listing;
@@ -36,8 +38,9 @@ use crate::certifying::run_certify;
 use crate::conversion::{file_of, list_of};
 use crate::explaining::run_explain;
 use crate::failure::{Failure, of_file};
-use crate::files::{bytes_of, check_output, write_bytes};
+use crate::files::{bytes_of, check_output, unwritten, write_bytes};
 use crate::generating::run_generate;
+use crate::hint::refusal;
 use crate::list_failure::of_commands;
 use crate::listing::run_list_objects;
 use crate::read_list::split_list;
@@ -75,7 +78,10 @@ fn status_of<R: AllocGlobal + Env + Files + Input + Print + Eprint + Threads + W
                 Err(failure) => failed(rt, NAME, failure),
             }
         }
-        Err(fault) => tell(rt, NAME, fault),
+        Err(fault) => match tell(rt, NAME, fault) {
+            Ok(status) => status,
+            Err(kind) => failed(rt, NAME, unwritten(rt.alloc(), "standard output", refusal(kind))),
+        },
     }
 }
 
