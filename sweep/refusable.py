@@ -28,6 +28,7 @@ ANSWERS = {
 }
 # Calls that no program makes, and who does.
 LEFT_OUT = {
+    ("nvm_record", "Payload::copy_of"): "nvm_c",
     ("nvm_text", "append"): "nobody",
     ("nvm_text", "write_line"): "nobody",
     ("nvm_text", "write_name"): "nobody",
