@@ -1,4 +1,4 @@
-"""Holds the pages for makers to their callers: crates/NAME/CALLING.md to a module of crates/nvm_calling, or of calling in crates/nvm_trace_tests.
+"""Holds the pages for makers to their callers: crates/NAME/CALLING.md to a module of crates/nvm_calling.
 
 A page names its module in a line of its own, and shows the module's file in the block of code after that line, to the byte. Each
 such module is shown by one page, that of the library after which it is named. The page's links must lead somewhere.
@@ -9,8 +9,7 @@ import re
 
 HERE = os.path.dirname(os.path.realpath(__file__))
 CRATES = os.path.join(os.path.dirname(HERE), "crates")
-# Where callers are, and the file that names them.
-CALLERS = {"nvm_calling/src": "nvm_calling/src/lib.rt", "nvm_trace_tests/src/calling": "nvm_trace_tests/src/calling.rt"}
+CALLERS = "nvm_calling/src"
 SHOWN = re.compile(r"^\[crates/([\w/]+)/(\w+)\.rt\]\(\.\./\1/\2\.rt\):\n\n```rust\n(.*?)^```$", re.MULTILINE | re.DOTALL)
 LINK = re.compile(r"\]\(([^)#]+)\)")
 
@@ -21,11 +20,11 @@ def text_of(*path):
 
 
 def modules():
-    """The modules that pages show, each after its folder: those that are public."""
-    return [(callers, module) for callers, file in CALLERS.items() for module in re.findall(r"^pub mod (\w+);$", text_of(CRATES, file), re.MULTILINE)]
+    """The modules that pages show: those that are public."""
+    return re.findall(r"^pub mod (\w+);$", text_of(CRATES, CALLERS, "main.rt"), re.MULTILINE)
 
 
-def fault_of(callers, module):
+def fault_of(module):
     """What is wrong with the page of a module, or None."""
     folder = os.path.join(CRATES, f"nvm_{module}")
     try:
@@ -33,9 +32,9 @@ def fault_of(callers, module):
     except FileNotFoundError:
         return "there is no page"
     shown = SHOWN.findall(page)
-    if [names for *names, _ in shown] != [[callers, module]]:
+    if [names for *names, _ in shown] != [[CALLERS, module]]:
         return "the page doesn't show just its caller"
-    if shown[0][2] != text_of(CRATES, callers, f"{module}.rt"):
+    if shown[0][2] != text_of(CRATES, CALLERS, f"{module}.rt"):
         return "the page shows another caller than is proved"
     for link in LINK.findall(SHOWN.sub("", page)):
         if not os.path.exists(os.path.join(folder, link)):
@@ -45,7 +44,7 @@ def fault_of(callers, module):
 
 def held():
     """How many pages are as they must be, and how many aren't."""
-    found = [(module, fault_of(callers, module)) for callers, module in modules()]
+    found = [(module, fault_of(module)) for module in modules()]
     faults = [(module, fault) for module, fault in found if fault]
     for module, fault in faults:
         print(f"nvm_{module}/CALLING.md: {fault}")

@@ -1,4 +1,4 @@
-use Rattle.std.proofs.Common.{◌≡◌, ◌<◌, ℕ, length, get_or, refl, arith}
+use Rattle.std.proofs.Common.{◌≡◌, length, get_or, refl, arith}
 use Rattle.std.proofs.lemmas.Result.{IfOk-weaker}
 use Rattle.nvm_plan.specs.Jobs.{commands_of}
 use Rattle.nvm_plan.specs.declared.job.Body.{Body}

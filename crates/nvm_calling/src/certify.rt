@@ -1,7 +1,7 @@
 ghost use Rattle.std.specs.Prelude.{◌≡◌, IfOk};
 ghost use Rattle.nvm_audit.specs.RecordView.{RecordView};
 ghost use Rattle.nvm_trace.specs.ExplainedBy.{IsExplainedBy};
-ghost use Rattle.nvm_trace_tests.specs.declared.calling.certify.Conformance.TheVariants.{Linearizable, Contradictory};
+ghost use Rattle.nvm_calling.specs.declared.certify.Conformance.TheVariants.{Linearizable, Contradictory};
 
 use nvm_certify::{Certification, certify};
 use nvm_record::NoMemory;

@@ -1,0 +1,153 @@
+//! Calls on commands, on the parts of one, on a unit and on ports.
+use crate::space::PolledRead;
+use crate::{generate, geometry, plan, record, space, store, unit};
+use anyhow::{Context, Result, bail, ensure};
+use nvm_geometry::Geometry;
+use nvm_plan::{Body, Job, fits};
+use nvm_record::{BlockSize, Op, Payload, push_spelling};
+use nvm_space::{Progress, Space};
+use nvm_store::{ActRef, Answer, Limit, Place, UnitBlocks};
+use nvm_unit::Unit;
+use std::alloc::Global;
+use std::sync::Wait;
+
+/// Blocks of this byte.
+fn filled(alloc: Global, byte: u8, blocks: u8) -> Result<Payload> {
+    let bytes = vec![in alloc; byte; usize::from(blocks) * 512]?;
+    Ok(Payload::new(alloc, bytes)?)
+}
+
+/// Whether just this data was read.
+fn is_read(answer: &Answer, data: &Payload) -> bool {
+    match answer {
+        Answer::Payload(read) => read.as_slice() == data.as_slice(),
+        Answer::Status(_) => false,
+    }
+}
+
+/// Of a Flush and the last job's command, as a host sends them.
+pub fn taken(rt: &(impl AllocGlobal + Print), namespace: Geometry, jobs: &[Job]) -> Result<()> {
+    let (alloc, size) = (rt.alloc(), namespace.block_size());
+    let job = jobs.last().context("there is no job")?;
+    let Body::Single(read) = &job.body else {
+        bail!("the last job is a pair");
+    };
+    let mut flush = read.clone()?;
+    flush.op = Op::Other(0);
+    let mut sent = Vec::new(alloc);
+    push_spelling(&mut sent, &flush)?;
+    push_spelling(&mut sent, read)?;
+    let sent = Payload::new(alloc, sent)?;
+    let flush = record::take_command(alloc, 3, &sent, size)?;
+    println!(rt; "take_command: {:?} {:?}", flush.command.op, flush.flushed)?;
+    let read = record::take_command(alloc, 3, &flush.rest, size)?;
+    let of_host_1 = vec![in alloc; read.command]?;
+    let of_host_2 = vec![in alloc; flush.command]?;
+    for planned in plan::planned_jobs(alloc, &namespace, of_host_1, of_host_2)? {
+        println!(rt; "planned_jobs: {} {:?}", planned.job.host, planned.plan)?;
+    }
+    let load = generate::load_without_pairs(alloc, namespace, 7, 30, 1)?;
+    println!(rt; "load_without_pairs: {} jobs", load.len())?;
+    Ok(())
+}
+
+/// Of a Write of LBAs 6 to 9.
+pub fn cut(rt: &(impl AllocGlobal + Print), namespace: Geometry) -> Result<()> {
+    let alloc = rt.alloc();
+    let data = filled(alloc, 0x41, 4)?;
+    let is_whole = data.len() == 4 * namespace.block_size().bytes() as usize;
+    ensure!(
+        is_whole && namespace.in_range(6, 4),
+        "the Write can't be cut"
+    );
+    for part in geometry::write_parts(alloc, namespace, 6, 4, &data)? {
+        println!(rt; "write_parts: {:?}, {}", part.piece, part.payload.len())?;
+    }
+    Ok(())
+}
+
+/// Of the blocks of a unit from LBA 8 on.
+pub fn stored(rt: &(impl AllocGlobal + Print)) -> Result<()> {
+    let alloc = rt.alloc();
+    let (zeroes, data) = (filled(alloc, 0, 2)?, filled(alloc, 0x41, 2)?);
+    let unit = UnitBlocks::zeroed(alloc, 8, 8, BlockSize::BYTES_512)?;
+    let pair = ActRef::Pair {
+        first: 9,
+        blocks: 2,
+        compare: zeroes.lend(),
+        write: data.lend(),
+    };
+    ensure!(unit.covers(pair), "the pair lies elsewhere");
+    let done = store::pair_and_read(alloc, &unit, 9, 2, &zeroes, &data)?;
+    let is_read = is_read(&done.read, &data);
+    println!(rt; "pair_and_read: {:?} {is_read}", done.statuses)?;
+    Ok(())
+}
+
+/// Of a new unit from LBA 8 on, and its only pass.
+pub fn written(rt: &(impl AllocGlobal + Print + Wait), limit: Limit, waits: bool) -> Result<()> {
+    let alloc = rt.alloc();
+    let data = filled(alloc, 0x41, 2)?;
+    let place = Place {
+        first: 8,
+        blocks: 8,
+        size: BlockSize::BYTES_512,
+    };
+    let (unit, mut passes) = Unit::new(alloc, 1, place, 1, limit)?;
+    let act = ActRef::Write {
+        first: 9,
+        blocks: 2,
+        payload: data.lend(),
+    };
+    ensure!(unit.covers(act), "the Write lies elsewhere");
+    if waits {
+        let done = unit::write_and_read(rt, alloc, &unit, &mut passes[0], 0, 9, 2, &data);
+        let read = done.read.ok().context("there was no memory")?;
+        let is_read = is_read(&read.answer, &data);
+        println!(rt; "write_and_read: {:?} {is_read}", done.write)?;
+    } else {
+        let done = unit::try_write_and_look(alloc, &unit, &mut passes[0], 0, 9, 2, &data);
+        let read = done.read.ok().context("there was no memory")?;
+        let is_read = is_read(&read.answer, &data);
+        println!(rt; "try_write_and_look: {:?} {is_read}", done.write)?;
+    }
+    Ok(())
+}
+
+/// Of ports that do the first job, a Write of LBAs 6 to 9 in two units, and poll Reads of it.
+pub fn polled(
+    rt: &(impl AllocGlobal + Print + Wait),
+    namespace: Geometry,
+    limit: Limit,
+    jobs: &[Job],
+) -> Result<()> {
+    let alloc = rt.alloc();
+    let job = jobs.first().context("there is no job")?;
+    ensure!(fits(&namespace, job), "the job doesn't fit");
+    let alone = space::job_alone(rt, alloc, namespace, limit, job)?;
+    println!(rt; "job_alone: {:?}", alone.done)?;
+    println!(rt; "job_alone: {} units", alone.histories.len())?;
+    let (space, mut ports) = Space::new(alloc, namespace, 2, limit)?;
+    let Some(mut poller) = ports.pop() else {
+        bail!("there is no second port");
+    };
+    let Some(mut writer) = ports.pop() else {
+        bail!("there is no first port");
+    };
+    let begun = space.begin_job(alloc, 0, job);
+    let Progress::Done(done) = space::poll_turn(alloc, &space, &mut writer, job, begun) else {
+        bail!("another port changes a unit");
+    };
+    println!(rt; "poll_turn: {done:?}")?;
+    let crossing = space::poll_read(alloc, &space, &mut poller, 6, 4);
+    let early = space::poll_read(alloc, &space, &mut poller, 6, 1);
+    println!(rt; "poll_read: {crossing:?} {early:?}")?;
+    space.refresh(rt, &mut poller, 0);
+    let PolledRead::Answered(read) = space::poll_read(alloc, &space, &mut poller, 6, 1) else {
+        bail!("there was no memory");
+    };
+    let data = read.payload.context("the Read failed")?;
+    let is_read = is_read(&Answer::Payload(data), &filled(alloc, 0x41, 1)?);
+    println!(rt; "poll_read: {is_read} {}", read.point)?;
+    Ok(())
+}

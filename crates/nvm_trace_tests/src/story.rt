@@ -1,2 +1,0 @@
-//! Stories that were written by hand.
-mod threads;
