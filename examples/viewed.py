@@ -146,7 +146,7 @@ def record(rows, folder):
     )
     rows.hold("what is wrong, in a sentence", said.get("why", [""])[0], first)
     rows.has("what else the record has, folded", said.get("folded", []), "worker 0 job 1 unit 0 point 1 done")
-    rows.hold("how much is in view", said.get("seen"), "2 of 2 rows · 4 of 4 boxes in view")
+    rows.hold("how much is in view", said.get("seen"), "2 of 2 rows · 8 of 8 boxes in view")
     rows.hold("the fault in the table", said.get("selected"), ["1"])
     rows.has("on paper", said.get("printed", []), "unit 0 LBA 0")
     rows.hold("after that", said.get("unprinted"), [])
@@ -175,7 +175,7 @@ def traces(rows, folder):
     rows.hold("its verdict", said.get("verdict"), "Contradiction: no order of these 3 commands in unit 1 gives what their hosts saw")
     rows.hold("its commands alone are shown", said.get("only"), "named")
     rows.hold("how much is in view", said.get("seen"), "2 of 2 rows · 3 of 3 boxes in view · 1 other command left out")
-    found = "job 2 (Read 9+1) found 512*41 in LBA 9. By their times, the last there before it is job 1 (Write 9+1), which put 512*42. 1 command that put the same had ended before job 1 began."
+    found = "job 2 (Read 9+1) found 512*41 in LBA 9. By their times, the last to change it before is job 1 (Write 9+1), which put 512*42. 1 command that put the same had ended before job 1 began."
     rows.hold("what was found, in a sentence", said.get("why", [""])[0], found)
     rows.hold("what found it, in view", said.get("details"), ["job 2: Read 9+1"])
     rows.hold("its marked commands", said.get("named"), ["0", "1", "2"])
@@ -207,7 +207,7 @@ def traces(rows, folder):
     rows.hold("the facts that close the circle", len(said.get("facts", [])), 2)
     rows.hold("all facts, folded", len(said.get("folded", [])) > 20, True)
     told = said.get("why", [""])[0]
-    rows.has("the Write before the Read", told, "the last there before it is job 12 (Write 9+1), which put 512*42.")
+    rows.has("the Write before the Read", told, "the last to change it before is job 12 (Write 9+1), which put 512*42.")
     rows.has("the others", told, "12 commands that put the same had ended before job 12 began.")
     rows.has("N keeps among those that are shown", said.get("stepped", ""), "Write Zeroes 8+8")
     rows.hold("a jump to a command that isn't shown", (said.get("jumped"), said.get("shown")), ("job 14: Write 20+1", "all"))

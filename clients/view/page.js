@@ -687,15 +687,20 @@
 
   /** How much of all is in view, and what is too narrow to be drawn there. */
   function seenText(shown, h, w, hidden) {
-    const lanes = rows.filter((row) => row.kind !== "unit");
-    const here = shown.filter((row) => row.kind !== "unit").reduce((sum, { items }) => sum + Math.max(firstAt(items, view.x + w / view.k) - firstAt(items, view.x) + 1, 0), 0);
-    const all = lanes.reduce((sum, { items }) => sum + items.length, 0);
+    const right = view.x + w / view.k;
+    const hereOf = ({ items }) => {
+      const end = firstAt(items, right);
+      return end - firstAt(items, view.x) + (end < items.length && items[end].x0 <= right ? 1 : 0);
+    };
+    const here = shown.reduce((sum, row) => sum + hereOf(row), 0);
+    const all = rows.reduce((sum, { items }) => sum + items.length, 0);
+    const left = commands.length - (gist ? { gist: gist.jobs.size, named: page.named.length }[byId("only").value] ?? commands.length : commands.length);
     const full = shown.filter((row) => row.y >= view.top - 4 && row.y + LANE <= view.top + h).length;
-    const texts = [`${grouping(full)} of ${many(rows.length, "row")}`, `${grouping(Math.min(here, all))} of ${many(all, "box").replace(/xs$/, "xes")} in view`];
-    if (all < commands.length) {
-      texts.push(`${many(commands.length - all, "other command")} left out`);
+    const texts = [`${grouping(full)} of ${many(rows.length, "row")}`, `${grouping(here)} of ${grouping(all)} ${all === 1 ? "box" : "boxes"} in view`];
+    if (left > 0) {
+      texts.push(`${many(left, "other command")} left out`);
     }
-    return [...texts, ...(hidden ? [`${grouping(hidden)} too narrow to draw: zoom in`] : [])].join(" · ");
+    return [...texts, ...(hidden ? [`${grouping(hidden)} of these too narrow to draw: zoom in`] : [])].join(" · ");
   }
 
   function shapesOfArrows(colors, shapes) {
@@ -1341,7 +1346,8 @@
       return;
     }
     const isMain = (line, place) => place === 0 || /^recorded:/.test(line) || kindOf(line);
-    why.append(element("h2", "What is wrong"), linked("p", faultText(), "bad"), listed("ul", items(lines.filter(isMain))));
+    const told = faultText();
+    why.append(element("h2", "What is wrong"), ...(told ? [linked("p", told, "bad")] : []), listed("ul", items(lines.filter(isMain))));
     why.append(folded("What the record has there", listed("ul", [...items(lines.filter((line, place) => !isMain(line, place))), ...more])));
   }
 
@@ -1373,12 +1379,12 @@
     const others = commands.filter((it) => it.isNamed && it !== reader && it.puts(lba) === found && !last.includes(it));
     if (last.length !== 1 || isFirst) {
       const texts = [...last.slice(0, 4).map(told), ...(last.length > 4 ? [many(last.length - 4, "other")] : []), ...(isFirst ? ["nobody"] : [])];
-      return `${front} By their times, the last there before it can be ${texts.join(", or ")}.`;
+      return `${front} By their times, the last to change it before can be ${texts.join(", or ")}.`;
     }
     const before = others.filter((it) => it.ended !== null && compareTimes(it.ended, last[0].began) < 0).length;
     const after = others.filter((it) => reader.ended !== null && compareTimes(it.began, reader.ended) > 0).length;
     const texts = [...(before ? [` ${many(before, "command")} that put the same had ended before job ${last[0].job} began.`] : []), ...(after ? [` ${many(after, "command")} that put the same began after job ${reader.job} had ended.`] : [])];
-    return `${front} By their times, the last there before it is ${told(last[0])}.${texts.join("")}`;
+    return `${front} By their times, the last to change it before is ${told(last[0])}.${texts.join("")}`;
   }
 
   function fillKey() {
