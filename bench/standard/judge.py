@@ -110,7 +110,7 @@ class Table:
     def __init__(self, head, reads, deallocated):
         self.head, self.reads = head, reads
         zeroes, ones = bytes(head["block"]), b"\xff" * head["block"]
-        self.zeroes = value(zeroes)
+        self.zeroes = zeroes
         self.deallocated = {"zeroes": value(zeroes), "ones": value(ones), "either": value(zeroes, ones)}[deallocated]
 
     def existing(self, command):
@@ -129,7 +129,7 @@ class Table:
         return [self.point(job, {}, one, **how) if put else self.point(job, one, {}, **how) for one in made]
 
     def values(self, command):
-        made = command.data or [MARK if command.name == "uncorrectable" else next(iter(self.zeroes.values))] * command.count
+        made = command.data or [MARK if command.name == "uncorrectable" else self.zeroes] * command.count
         return {block: value(made[block - command.first]) for block in self.existing(command)}
 
     def write(self, job, command, status):
@@ -188,8 +188,11 @@ class Table:
         values = {block: ANYTHING for block in named}
         return [self.each(job, values, True, sure=False, late=late, kind="any number")]
 
+    def elsewhere(self, command):
+        return any(option.startswith("nsid=") and option != "nsid=1" for option in command.options)
+
     def single(self, job, command, status, named):
-        if any(option.startswith("nsid=") and option != "nsid=1" for option in command.options):
+        if self.elsewhere(command):
             return [[]]
         if command.name in ("write", "zeroes", "uncorrectable"):
             return self.write(job, command, status)
@@ -224,8 +227,8 @@ class Table:
         if len(job.commands) == 1:
             return self.single(job, job.commands[0], statuses[0], named)
         one, two = job.commands
-        nsids = [option for part in job.commands for option in part.options if option.startswith("nsid=") and option != "nsid=1"]
-        if (one.name, two.name, one.first, one.count) == ("compare", "write", two.first, two.count) and not nsids:
+        same = (one.name, two.name, one.first, one.count) == ("compare", "write", two.first, two.count)
+        if same and not any(map(self.elsewhere, job.commands)):
             return self.pair(job, one, two, *statuses)
         halves = [job._replace(number=(job.number, half)) for half in (0, 1)]
         both = [self.single(half, part, status, named) for half, part, status in zip(halves, job.commands, statuses)]

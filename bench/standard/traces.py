@@ -73,7 +73,8 @@ class Device:
         return self.bug == bug and self.maybe(70)
 
     def existing(self, command):
-        return [block for block in range(command["first"], command["first"] + command["count"]) if block < len(self.blocks)]
+        first = command["first"]
+        return [block for block in range(first, first + command["count"]) if block < len(self.blocks)]
 
     def unit(self, block):
         nabsn, nabo = self.head["nabsn"], self.head["nabo"]
@@ -160,10 +161,12 @@ class Device:
 
     def write(self, command, began):
         name, blocks = command["name"], self.existing(command)
-        made = lambda block: command["data"][block - command["first"]] if name == "write" else "00" if name == "zeroes" else MARK
+        fixed = {"zeroes": "00", "uncorrectable": MARK}
+        made = lambda block: fixed[name] if name in fixed else command["data"][block - command["first"]]
         fate = self.fate({"done": 76, "before": 6, "error": 7, "host": 7, "never": 4})
         if fate == "done":
-            entry = self.is_within(command, self.head["nawun"]) and (name == "write" or self.reads in ("atomic-all", "whole"))
+            meant = name == "write" or self.reads in ("atomic-all", "whole")
+            entry = meant and self.is_within(command, self.head["nawun"])
             torn = self.wrong("tears_a_write")
             if self.wrong("zeroes_in_part") and name == "zeroes":
                 blocks = blocks[1:]
@@ -232,7 +235,8 @@ class Device:
         yield [status], None
 
     def dataset(self, command, began):
-        named = sorted({b for first, count in command["ranges"] for b in range(first, first + count) if b < len(self.blocks)})
+        ranges = [range(first, first + count) for first, count in command["ranges"]]
+        named = sorted({block for one in ranges for block in one if block < len(self.blocks)})
         fate = self.fate({"0/00": 80, "error": 6, "host": 5, "never": 4, "none": 5})
         if fate == "none" or not command["deallocate"]:
             self.used.add("Dataset Management that does nothing")
@@ -294,7 +298,8 @@ class Device:
         within = self.is_within(command, self.head["nacwu"])
         fate = self.fate({"done": 62, "refused": 8, "write fails": 10, "host wrote": 5, "both fail": 10, "never": 5})
         if fate == "refused":
-            yield self.chance.choice([["0/14", "0/09"], ["0/80", "0/09"], ["0/02", "0/02"], ["0/06", "0/09"], ["3/70", "0/09"]]), None
+            told = ["0/14 0/09", "0/80 0/09", "0/02 0/02", "0/06 0/09", "3/70 0/09"]
+            yield self.chance.choice(told).split(), None
             return
         yield
         if within and fate == "done" and not self.wrong("pair_in_two_moments"):
@@ -336,7 +341,8 @@ class Device:
             if second == "3/70":
                 yield from self.each(began, done[cut:], made, False)
         elif fate == "both fail":
-            first, second = self.chance.choice(["0/06", "2/80", "0/09", *HOST]), self.chance.choice(["0/06", "2/80", *HOST])
+            first = self.chance.choice(["0/06", "2/80", "0/09", *HOST])
+            second = self.chance.choice(["0/06", "2/80", *HOST])
             late = first in HOST or second in HOST
             yield from self.each(began, done[:cut] if late else done, made, False)
             yield [first, second], None
@@ -407,7 +413,7 @@ def steps(chance, device, load, together):
         time += chance.choice([0, 1, 1, 2])
         if waiting and len(running) < together and (not running or chance.random() < 0.35):
             command = waiting.pop(0)
-            seen.append(dict(began=max(1, time - wider()), ended=None, command=command, statuses=None, data=None))
+            seen.append(dict(began=max(1, time - wider()), ended=None, command=command))
             running.append((seen[-1], device.run(command, time)))
             continue
         one = chance.choice(running + late)
@@ -450,9 +456,10 @@ def line(one):
     if command["name"] == "dataset":
         said = "dataset " + ",".join(f"{first}+{count}" for first, count in command["ranges"])
         said += " deallocate" * command["deallocate"]
-    if one["statuses"] is None:
+    if one["ended"] is None:
         return f"{one['began']} - 1 0 {said}"
-    return f"{one['began']} {one['ended']} 1 0 {said} = {' '.join(one['statuses'])}" + (f" {runs(one['data'])}" if one["data"] else "")
+    told = one["statuses"] + ([runs(one["data"])] if one["data"] else [])
+    return f"{one['began']} {one['ended']} 1 0 {said} = {' '.join(told)}"
 
 
 def generated(seed, bug=None):
