@@ -669,7 +669,14 @@
     const to = view.x + w / view.k;
     let drawn = -2;
     let hidden = 0;
-    for (let place = firstAt(row.items, from); place < row.items.length && row.items[place].x0 <= to; place += 1) {
+    const earlier = firstAt(row.items, from);
+    if (row.items.length && (earlier === row.items.length || row.items[earlier].x0 > to)) {
+      const later = row.items.length - earlier;
+      const text = [...(earlier ? [`◂ ${grouping(earlier)} earlier`] : []), ...(later ? [`${grouping(later)} later ▸`] : [])].join("   ");
+      shapes.push({ is: "text", x: LEFT + 8, y: y + LANE / 2 + 4, text, fill: colors.quiet, alpha: 1, weight: "400" });
+      return 0;
+    }
+    for (let place = earlier; place < row.items.length && row.items[place].x0 <= to; place += 1) {
       const item = row.items[place];
       const x = LEFT + (item.x0 - view.x) * view.k;
       const end = LEFT + (item.x1 - view.x) * view.k;
@@ -724,7 +731,8 @@
       const isFaint = arrow.isFaint && !(isFew && ofPicked.includes(arrow));
       const alpha = isFaint ? 0.3 : 1;
       const bend = isSame ? (isBack ? 52 : -52) : 0;
-      const middle = [(x + x2) / 2, (y + y2) / 2 + bend];
+      const lean = isSame ? 0 : one.row.y < other.row.y ? 30 : -30; // down and up lie apart
+      const middle = [(x + x2) / 2 + lean, (y + y2) / 2 + bend];
       shapes.push({ is: "curve", x, y, cx: middle[0], cy: middle[1], x2, y2, edge, wide: isFaint ? 1 : 2, alpha });
       const angle = Math.atan2(y2 - middle[1], x2 - middle[0]);
       const tip = (turn) => [x2 - 9 * Math.cos(angle + turn), y2 - 9 * Math.sin(angle + turn)];
