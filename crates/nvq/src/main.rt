@@ -80,7 +80,11 @@ fn status_of<R: AllocGlobal + Env + Files + Input + Print + Eprint + Threads + W
         }
         Err(fault) => match tell(rt, NAME, fault) {
             Ok(status) => status,
-            Err(kind) => failed(rt, NAME, unwritten(rt.alloc(), "standard output", refusal(kind))),
+            Err(kind) => failed(
+                rt,
+                NAME,
+                unwritten(rt.alloc(), "standard output", refusal(kind)),
+            ),
         },
     }
 }
