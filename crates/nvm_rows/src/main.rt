@@ -4,9 +4,13 @@
 #![tactic(auto)]
 
 mod fault;
+mod file;
 mod geometry;
 mod job;
+mod plan;
+mod record;
 mod spaces;
+mod store;
 mod units;
 mod words;
 
@@ -17,12 +21,14 @@ use std::sync::Wait;
 /// What rows leave to those after them.
 #[derive(Drop)]
 struct Grounds {
+    store: Option<store::Ground>,
     unit: units::Opened,
     space: spaces::Opened,
 }
 
 fn main(rt: HostRuntime) -> ExitCode {
     let mut grounds = Grounds {
+        store: None,
         unit: units::Opened::Nothing,
         space: spaces::Opened::Nothing,
     };
@@ -74,7 +80,11 @@ fn answer<R: AllocGlobal + Wait>(
         return Err(RowFault::Unread);
     };
     match *layer {
+        "record" => record::answer(rt.alloc(), call),
         "geometry" => geometry::answer(rt.alloc(), call),
+        "store" => store::answered(rt.alloc(), &mut grounds.store, call),
+        "plan" => plan::answer(rt.alloc(), call),
+        "file" => file::answer(rt.alloc(), call),
         "unit" => units::answer(rt, rt.alloc(), &mut grounds.unit, call),
         "space" => spaces::answer(rt, rt.alloc(), &mut grounds.space, call),
         _ => Err(RowFault::Unread),

@@ -27,8 +27,12 @@ pub fn byte(word: &str) -> Result<u8, RowFault> {
     }
 }
 
-/// Bytes: runs of equal ones, as `512*41`, and bytes of two digits each, as `4e565131`, with a comma between any two; `-` has none.
+/// Bytes: runs of equal ones, as `512*41`, and bytes of two digits each, as `4e565131`, with a comma between any two. `-` has none,
+/// and `@28+4,12+0` has those that name these ranges.
 pub fn bytes(alloc: Global, word: &str) -> Result<Payload, RowFault> {
+    if let Some(named) = word.strip_prefix('@') {
+        return ranges(alloc, named);
+    }
     let mut bytes = Vec::new(alloc);
     if word != "-" {
         for piece in word.split(',') {
@@ -80,19 +84,17 @@ fn append_digits(bytes: &mut Vec<u8>, digits: &str) -> Result<(), RowFault> {
     }
 }
 
-/// The data of ranges, each a first LBA and a number of blocks, as `28+4,12+0`; `-` has none.
-pub fn ranges(alloc: Global, word: &str) -> Result<Payload, RowFault> {
+/// The bytes that name ranges.
+fn ranges(alloc: Global, word: &str) -> Result<Payload, RowFault> {
     let mut ranges = Vec::new(alloc);
-    if word != "-" {
-        for piece in word.split(',') {
-            ranges.push(range(piece)?)?;
-        }
+    for piece in word.split(',') {
+        ranges.push(range(piece)?)?;
     }
     Ok(ranges_data(alloc, &ranges)?)
 }
 
 /// The range of a first LBA and a number of blocks, as `28+4`.
-pub fn range(word: &str) -> Result<LbaRange, RowFault> {
+fn range(word: &str) -> Result<LbaRange, RowFault> {
     let Some((first, blocks)) = word.split_once('+') else {
         return Err(RowFault::Unread);
     };

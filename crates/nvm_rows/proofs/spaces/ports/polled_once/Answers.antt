@@ -1,4 +1,4 @@
-use Rattle.std.proofs.Common.{ℕ, subst}
+use Rattle.std.proofs.Common.{subst}
 use Rattle.nvm_unit.specs.Ends.{views_of}
 use Rattle.nvm_space.specs.Progress.{IsProgress}
 use Rattle.nvm_space.specs.declared.under_way.Progress.{Progress}

@@ -9,7 +9,13 @@ use Rattle.nvm_store.specs.History.{replay_of, CanFollow}
 use Rattle.nvm_store.specs.HistoryEntry.{HistoryEntry}
 use Rattle.nvm_store.specs.declared.place.Place.{Place}
 use Rattle.nvm_store.specs.Place.{IsCovered}
-use Rattle.nvm_tests.proofs.pushing.push.Goals as goal
+use Rattle.nvm_rows.proofs.store.push.Goals as goal
+
+-- The history is as it was.
+pub returns-in_err-push : goal.returns-in_err-push
+returns-in_err-push c =
+    let same : c.push.new.self.items ≡ c.args.history.now.items = search rules in
+    rw same c.requires.lawful
 
 pub returns : goal.returns
 returns c =
@@ -21,14 +27,14 @@ returns c =
     let place : LiesAt at unit = search rules in
     let held : Holds unit (replay_of at.size history) = search rules in
     let covered : Covers unit op = search rules in
-    let success : IsSuccess c.judge.result = search rules in
-    let told : c.judge.result ≡ statuses_of op (replay_of at.size history) = c.judge.ensures (replay_of at.size history) held in
+    let success : IsSuccess c.judge-statuses.result = search rules in
+    let answered : c.judge-statuses.result ≡ statuses_of op (replay_of at.size history) = c.judge-statuses.ensures (replay_of at.size history) held in
     let same : operation_of c.in_ok-act.act ≡ op = c.in_ok-act.ensures in
     let is_act : IsAct op.deed = c.acts_and_looks.ensures.acts c.args.act in
     let follows : CanFollow at history entry = record {
       act = rw same is_act;
       covered = rw same (subst (λ (p : Place). IsCovered p op) place covered);
-      succeeds = rw (same, sym told) success;
+      succeeds = rw (same, sym answered) success;
     } in
     let items : c.push.new.self.items ≡ history ++ entry ∷ [] = search rules in
     rw items ((c.lawful_with_one_more.ensures at history entry).1 (c.requires.lawful, follows))

@@ -1,2 +1,0 @@
-//! Trees of each number of levels, and copies that share them.
-mod blocks;
