@@ -121,7 +121,7 @@ pub fn run_witness<R: AllocGlobal + Files + Input + Print + Eprint + Threads + S
     record: &str,
     progress: &Progress<'_, R>,
 ) -> Result<u8, Failure>
-    ensures fault { IfErr result (λ failure. IsWitnessingFault trace.now «record».now failure.fault) }
+    ensures { IfErr result (λ failure. IsWitnessingFault trace.now «record».now failure.fault) }
 {
     let WitnessedTrace { line, status } = witnessed(rt, judging, trace, record, progress)?;
     write_bytes(rt, STANDARD, line.as_bytes(), progress)?;

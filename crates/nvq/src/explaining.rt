@@ -22,7 +22,7 @@ pub fn run_explain<R: AllocGlobal + Files + Input + Print + Eprint + Threads + S
     words: &ExplainWords,
     progress: &Progress<'_, R>,
 ) -> Result<(), Failure>
-    ensures fault { IfErr result (λ failure. IsExplainingFault words.now failure.fault) }
+    ensures { IfErr result (λ failure. IsExplainingFault words.now failure.fault) }
 {
     let text = told(rt, words, progress)?;
     write_bytes(rt, STANDARD, text.as_bytes(), progress)

@@ -155,7 +155,7 @@ fn run_list<R: AllocGlobal + Files + Input + Print + Eprint>(
     file: String,
     progress: &Progress<'_, R>,
 ) -> Result<(), Failure>
-    ensures fault { IfErr result (λ failure. IsListingFault size (string_bytes file) failure.fault) }
+    ensures { IfErr result (λ failure. IsListingFault size (string_bytes file) failure.fault) }
 {
     let bytes = Payload::new(rt.alloc(), bytes_of(rt, file.as_str(), progress)?)?;
     let path = String::from_str(rt.alloc(), file.as_str())?;

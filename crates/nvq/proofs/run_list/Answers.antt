@@ -4,8 +4,8 @@ use Rattle.nvq.specs.declared.fault.Fault.{Fault}
 use Rattle.nvq.proofs.run_list.Goals as goal
 
 -- The file's fault is returned as it is, with its path.
-pub returns-clause-fault : goal.returns-clause-fault
-returns-clause-fault g c =
+pub returns : goal.returns
+returns g c =
     let path = c.in_ok-path.path in
     let bytes : List ℕ = c.in_ok-bytes.bytes in
     let is = subst (λ (fault : Fault). IsListFault path c.args.size bytes fault) (sym c.of_file.ensures) c.in-Err.ensures.fault in
