@@ -5,6 +5,9 @@
 
 mod fault;
 mod geometry;
+mod job;
+mod spaces;
+mod units;
 mod words;
 
 use crate::fault::RowFault;
@@ -13,10 +16,16 @@ use std::sync::Wait;
 
 /// What rows leave to those after them.
 #[derive(Drop)]
-struct Grounds {}
+struct Grounds {
+    unit: units::Opened,
+    space: spaces::Opened,
+}
 
 fn main(rt: HostRuntime) -> ExitCode {
-    let mut grounds = Grounds {};
+    let mut grounds = Grounds {
+        unit: units::Opened::Nothing,
+        space: spaces::Opened::Nothing,
+    };
     let mut line = 0u64;
     for row in rt.lines(rt.alloc()) {
         line = line.saturating_add(1);
@@ -58,7 +67,7 @@ fn printed<R: AllocGlobal + Print + Wait>(
 /// What the call of these words answers.
 fn answer<R: AllocGlobal + Wait>(
     rt: &R,
-    _grounds: &mut Grounds,
+    grounds: &mut Grounds,
     words: &[&str],
 ) -> Result<String, RowFault> {
     let Some((layer, call)) = words.split_first() else {
@@ -66,6 +75,8 @@ fn answer<R: AllocGlobal + Wait>(
     };
     match *layer {
         "geometry" => geometry::answer(rt.alloc(), call),
+        "unit" => units::answer(rt, rt.alloc(), &mut grounds.unit, call),
+        "space" => spaces::answer(rt, rt.alloc(), &mut grounds.space, call),
         _ => Err(RowFault::Unread),
     }
 }

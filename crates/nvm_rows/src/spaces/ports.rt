@@ -1,0 +1,149 @@
+//! Calls of one port.
+ghost use Rattle.std.specs.Prelude.{◌≡◌};
+ghost use Rattle.nvm_plan.specs.Fits.{FitsNamespace};
+ghost use Rattle.nvm_space.specs.Ports.{IsPortOf};
+
+use crate::fault::RowFault;
+use crate::job::{NUMBER, entries_text, job};
+use crate::spaces::answers::{done_text, read_text};
+use crate::words::number;
+use nvm_plan::{Job, fits};
+use nvm_space::{JobDone, Port, Progress, Space};
+use nvm_unit::{Kept, Open};
+use std::alloc::Global;
+use std::sync::Wait;
+
+/// What the call of a port answers.
+pub fn called<K: Kept>(
+    rt: &impl Wait,
+    alloc: Global,
+    space: &Space<K>,
+    port: &mut Port<K>,
+    call: &[&str],
+) -> Result<String, RowFault>
+    requires { IsPortOf space.now port.old }
+    ensures of { IsPortOf space.now port.new }
+    ensures number { port.new.number ≡ port.old.number }
+{
+    match call {
+        ["refresh", unit] => refreshed(rt, alloc, space, port, number(unit)?),
+        ["now", slba, blocks] => read(alloc, space, port, number(slba)?, number(blocks)?),
+        ["run", of @ ..] => run(rt, alloc, space, port, &job(alloc, of)?),
+        ["poll", of @ ..] => polled(alloc, space, port, &job(alloc, of)?),
+        _ => Err(RowFault::Unread),
+    }
+}
+
+fn refreshed<K: Kept>(
+    rt: &impl Wait,
+    alloc: Global,
+    space: &Space<K>,
+    port: &mut Port<K>,
+    unit: u16,
+) -> Result<String, RowFault>
+    requires { IsPortOf space.now port.old }
+    ensures of { IsPortOf space.now port.new }
+    ensures number { port.new.number ≡ port.old.number }
+{
+    if unit >= space.geometry().units() {
+        return Err(RowFault::Unread);
+    }
+    space.refresh(rt, port, unit);
+    Ok(String::from_str(alloc, "refreshed")?)
+}
+
+/// What a Read is answered that never waits.
+fn read<K: Kept>(
+    alloc: Global,
+    space: &Space<K>,
+    port: &mut Port<K>,
+    slba: u64,
+    blocks: u32,
+) -> Result<String, RowFault>
+    requires { IsPortOf space.now port.old }
+    ensures of { IsPortOf space.now port.new }
+    ensures number { port.new.number ≡ port.old.number }
+{
+    if blocks == 0 || !space.versions() {
+        return Err(RowFault::Unread);
+    }
+    read_text(alloc, space.read_now(alloc, port, slba, blocks))
+}
+
+fn run<K: Kept>(
+    rt: &impl Wait,
+    alloc: Global,
+    space: &Space<K>,
+    port: &mut Port<K>,
+    job: &Job,
+) -> Result<String, RowFault>
+    requires { IsPortOf space.now port.old }
+    ensures of { IsPortOf space.now port.new }
+    ensures number { port.new.number ≡ port.old.number }
+{
+    if !fits(&space.geometry(), job) {
+        return Err(RowFault::Unread);
+    }
+    done_text(alloc, &space.run_job(rt, alloc, port, NUMBER, job, &Open))
+}
+
+/// What a job is answered that is begun and polled once.
+fn polled<K: Kept>(
+    alloc: Global,
+    space: &Space<K>,
+    port: &mut Port<K>,
+    job: &Job,
+) -> Result<String, RowFault>
+    requires { IsPortOf space.now port.old }
+    ensures of { IsPortOf space.now port.new }
+    ensures number { port.new.number ≡ port.old.number }
+{
+    if !fits(&space.geometry(), job) {
+        return Err(RowFault::Unread);
+    }
+    match polled_once(alloc, space, port, job) {
+        Some(done) => done_text(alloc, &done),
+        None => Ok(String::from_str(alloc, "pending")?),
+    }
+}
+
+fn polled_once<K: Kept>(
+    alloc: Global,
+    space: &Space<K>,
+    port: &mut Port<K>,
+    job: &Job,
+) -> Option<JobDone>
+    requires of { IsPortOf space.now port.old }
+    requires fits { FitsNamespace space.now.namespace job.now }
+    ensures of { IsPortOf space.now port.new }
+    ensures number { port.new.number ≡ port.old.number }
+{
+    match space.begin_job(alloc, NUMBER, job) {
+        Progress::Done(done) => Some(done),
+        Progress::Pending(under_way) => {
+            match space.poll_job(alloc, port, job, under_way, &Open) {
+                Progress::Done(done) => Some(done),
+                Progress::Pending(_) => None,
+            }
+        }
+    }
+}
+
+/// The history of the unit that the port finds.
+pub fn history(
+    rt: &impl Wait,
+    alloc: Global,
+    space: &Space,
+    port: &mut Port,
+    unit: u16,
+) -> Result<String, RowFault>
+    requires { IsPortOf space.now port.old }
+    ensures of { IsPortOf space.now port.new }
+    ensures number { port.new.number ≡ port.old.number }
+{
+    if unit >= space.geometry().units() {
+        return Err(RowFault::Unread);
+    }
+    let history = space.history(rt, alloc, port, unit)?;
+    entries_text(alloc, &history)
+}
