@@ -1,4 +1,4 @@
-use Rattle.std.proofs.Common.{◌≡◌, ℕ, List, [], ◌∷◌, ◌++◌, length, length-append, sym, ap, ◌∙◌, subst, arith}
+use Rattle.std.proofs.Common.{◌≡◌, ℕ, ◌+◌, List, [], ◌∷◌, ◌++◌, length, length-append, sym, ap, ◌∙◌, subst, arith}
 use Rattle.nvm_record.specs.Lists.{IsAt}
 use Rattle.nvm_space.specs.Ports.{PortState, IsPortOf, AreAllPortsOf}
 use Rattle.nvm_space.specs.Spaces.{SpaceName}
