@@ -1,46 +1,28 @@
-//! Answers of a space in words. One that says that memory was refused is no answer.
+//! Answers of a space in words.
 use crate::fault::RowFault;
-use nvm_plan::{Completions, Part, PartResult};
-use nvm_record::{ReadData, Status, Statuses};
+use nvm_plan::Completions;
+use nvm_record::{ReadData, Statuses};
 use nvm_report::result_word;
 use nvm_space::{JobDone, ReadAnswer, ReadNow};
 use nvm_text::{RunsText, StatusText, StatusesText};
 use std::alloc::Global;
 
-/// The statuses of a job, then each part that it lists, and its data.
+/// The statuses of a job, then unit, point and end of each part that it lists, and its data.
 pub fn done_text(alloc: Global, done: &JobDone) -> Result<String, RowFault> {
-    let (first, statuses, data) = match &done.completions {
-        Completions::One(one) => (one.status, Statuses::One(one.status), &one.payload),
+    let (statuses, data) = match &done.completions {
+        Completions::One(one) => (Statuses::One(one.status), &one.payload),
         Completions::Two(compare, write) => (
-            compare.status,
             Statuses::Two(compare.status, write.status),
             &compare.payload,
         ),
     };
-    if done.parts.is_empty() && first == Status::INTERNAL_ERROR {
-        return Err(RowFault::NoMemory);
-    }
     let mut text = format!(in alloc; "{}", StatusesText(statuses))?;
-    push_parts(&mut text, &done.parts)?;
-    push_data(&mut text, data)?;
-    Ok(text)
-}
-
-/// Appends unit, point and end of each part.
-fn push_parts(text: &mut String, parts: &[Part]) -> Result<(), RowFault> {
-    for part in parts {
-        let Part {
-            unit,
-            point,
-            result,
-        } = *part;
-        if result == PartResult::NoMemory {
-            return Err(RowFault::NoMemory);
-        }
-        let ended = result_word(result);
+    for part in &done.parts {
+        let (unit, point, ended) = (part.unit, part.point, result_word(part.result));
         write!(text, "; unit {unit} at {point} {ended}")?;
     }
-    Ok(())
+    push_data(&mut text, data)?;
+    Ok(text)
 }
 
 fn push_data(text: &mut String, data: &Option<ReadData>) -> Result<(), RowFault> {
@@ -69,6 +51,6 @@ pub fn read_text(alloc: Global, read: Result<ReadAnswer, ReadNow>) -> Result<Str
         Err(ReadNow::OutOfRange) => Ok(String::from_str(alloc, "out of range")?),
         Err(ReadNow::Crosses) => Ok(String::from_str(alloc, "crosses")?),
         Err(ReadNow::Newer { count }) => Ok(format!(in alloc; "newer with {count}")?),
-        Err(ReadNow::NoMemory { .. }) => Err(RowFault::NoMemory),
+        Err(ReadNow::NoMemory { point }) => Ok(format!(in alloc; "no memory at {point}")?),
     }
 }

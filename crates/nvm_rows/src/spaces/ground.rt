@@ -103,7 +103,10 @@ impl<K: Kept> Ground<K> {
             first,
             second,
         } = self;
-        closed(alloc, space, first, second)
+        let mut ports = Vec::with_capacity(alloc, 2)?;
+        ports.push(first)?;
+        ports.push(second)?;
+        space.close(alloc, ports)
     }
 }
 
@@ -139,21 +142,4 @@ fn dealt<K: Kept>(
         return Err(RowFault::Unread);
     };
     Ok((space, first, second))
-}
-
-/// What is kept of the whole history of each unit.
-fn closed<K: Kept>(
-    alloc: Global,
-    space: Space<K>,
-    first: Port<K>,
-    second: Port<K>,
-) -> Result<Vec<K>, NoMemory>
-    requires of { IsPortOf space first × IsPortOf space second }
-    requires count { space.ports ≡ 2 }
-    requires numbers { (first.number ≡ 0) × (second.number ≡ 1) }
-{
-    let mut ports = Vec::with_capacity(alloc, 2)?;
-    ports.push(first)?;
-    ports.push(second)?;
-    space.close(alloc, ports)
 }

@@ -28,9 +28,8 @@ pub fn called<K: Kept>(
     match call {
         ["refresh", unit] => refreshed(rt, alloc, space, port, number(unit)?),
         ["now", slba, blocks] => read(alloc, space, port, number(slba)?, number(blocks)?),
-        ["run", of @ ..] => run(rt, alloc, space, port, &job(alloc, of)?),
-        ["poll", of @ ..] => polled(alloc, space, port, &job(alloc, of)?),
-        _ => Err(RowFault::Unread),
+        [call, of @ ..] => done(rt, alloc, space, port, call, of),
+        [] => Err(RowFault::Unread),
     }
 }
 
@@ -70,40 +69,30 @@ fn read<K: Kept>(
     read_text(alloc, space.read_now(alloc, port, slba, blocks))
 }
 
-fn run<K: Kept>(
+/// What a job is answered that is run, or begun and polled once.
+fn done<K: Kept>(
     rt: &impl Wait,
     alloc: Global,
     space: &Space<K>,
     port: &mut Port<K>,
-    job: &Job,
+    call: &str,
+    of: &[&str],
 ) -> Result<String, RowFault>
     requires { IsPortOf space.now port.old }
     ensures of { IsPortOf space.now port.new }
     ensures number { port.new.number ≡ port.old.number }
 {
-    if !fits(&space.geometry(), job) {
+    let job = job(alloc, of)?;
+    if !fits(&space.geometry(), &job) {
         return Err(RowFault::Unread);
     }
-    done_text(alloc, &space.run_job(rt, alloc, port, NUMBER, job, &Open))
-}
-
-/// What a job is answered that is begun and polled once.
-fn polled<K: Kept>(
-    alloc: Global,
-    space: &Space<K>,
-    port: &mut Port<K>,
-    job: &Job,
-) -> Result<String, RowFault>
-    requires { IsPortOf space.now port.old }
-    ensures of { IsPortOf space.now port.new }
-    ensures number { port.new.number ≡ port.old.number }
-{
-    if !fits(&space.geometry(), job) {
-        return Err(RowFault::Unread);
-    }
-    match polled_once(alloc, space, port, job) {
-        Some(done) => done_text(alloc, &done),
-        None => Ok(String::from_str(alloc, "pending")?),
+    match call {
+        "run" => done_text(alloc, &space.run_job(rt, alloc, port, NUMBER, &job, &Open)),
+        "poll" => match polled_once(alloc, space, port, &job) {
+            Some(done) => done_text(alloc, &done),
+            None => Ok(String::from_str(alloc, "pending")?),
+        },
+        _ => Err(RowFault::Unread),
     }
 }
 
@@ -144,6 +133,5 @@ pub fn history(
     if unit >= space.geometry().units() {
         return Err(RowFault::Unread);
     }
-    let history = space.history(rt, alloc, port, unit)?;
-    entries_text(alloc, &history)
+    entries_text(alloc, space.history(rt, alloc, port, unit))
 }

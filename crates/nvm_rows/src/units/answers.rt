@@ -1,8 +1,8 @@
-//! Answers of a unit in words. One that says that memory was refused is no answer.
+//! Answers of a unit in words.
 use crate::fault::RowFault;
 use nvm_store::Answer;
 use nvm_text::{RunsText, StatusText, StatusesText};
-use nvm_unit::{Busy, Changed, LookFault, ObserveFault, Observed};
+use nvm_unit::{Changed, LookFault, ObserveFault, Observed};
 use std::alloc::Global;
 
 pub fn changed_text(alloc: Global, changed: Changed) -> Result<String, RowFault> {
@@ -12,22 +12,8 @@ pub fn changed_text(alloc: Global, changed: Changed) -> Result<String, RowFault>
             let statuses = StatusesText(statuses);
             Ok(format!(in alloc; "failed at {point}: {statuses}")?)
         }
-        Changed::NoMemory { .. } => Err(RowFault::NoMemory),
+        Changed::NoMemory { point } => Ok(format!(in alloc; "no memory at {point}")?),
         Changed::Full { point } => Ok(format!(in alloc; "full at {point}")?),
-    }
-}
-
-pub fn tried_text(alloc: Global, tried: Result<Changed, Busy>) -> Result<String, RowFault> {
-    match tried {
-        Ok(changed) => changed_text(alloc, changed),
-        Err(Busy { word }) => Ok(format!(in alloc; "busy with word {word}")?),
-    }
-}
-
-pub fn polled_text(alloc: Global, polled: Option<Changed>) -> Result<String, RowFault> {
-    match polled {
-        Some(changed) => changed_text(alloc, changed),
-        None => Ok(String::from_str(alloc, "not free")?),
     }
 }
 
@@ -37,29 +23,19 @@ pub fn observed_text(
 ) -> Result<String, RowFault> {
     match observed {
         Ok(observed) => answer_text(alloc, observed.clone()?),
-        Err(ObserveFault::NoMemory { .. }) => Err(RowFault::NoMemory),
-    }
-}
-
-pub fn polled_look_text(
-    alloc: Global,
-    polled: Option<Result<Observed, ObserveFault>>,
-) -> Result<String, RowFault> {
-    match polled {
-        Some(observed) => observed_text(alloc, observed),
-        None => Ok(String::from_str(alloc, "not free")?),
+        Err(ObserveFault::NoMemory { point }) => Ok(format!(in alloc; "no memory at {point}")?),
     }
 }
 
 pub fn looked_text(alloc: Global, looked: Result<Observed, LookFault>) -> Result<String, RowFault> {
     match looked {
-        Ok(observed) => answer_text(alloc, observed.clone()?),
+        Ok(observed) => answer_text(alloc, observed),
         Err(LookFault::Newer { count }) => Ok(format!(in alloc; "newer with {count}")?),
-        Err(LookFault::NoMemory { .. }) => Err(RowFault::NoMemory),
+        Err(LookFault::NoMemory { point }) => Ok(format!(in alloc; "no memory at {point}")?),
     }
 }
 
-/// The point, and the data or the status. Of each answer a copy is printed.
+/// The point, and the data or the status.
 fn answer_text(alloc: Global, observed: Observed) -> Result<String, RowFault> {
     let Observed { point, answer } = observed;
     match answer {

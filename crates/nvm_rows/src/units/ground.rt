@@ -5,7 +5,7 @@ ghost use Rattle.nvm_unit.specs.Passes.{IsPassOf};
 
 use crate::fault::RowFault;
 use crate::job::entries_text;
-use crate::units::passes::{Counting, called};
+use crate::units::passes::{Counting, asked};
 use nvm_record::{BlockSize, NoMemory};
 use nvm_store::{History, Limit, Place};
 use nvm_unit::{Count, Kept, Pass, Unit};
@@ -64,12 +64,11 @@ impl Ground<History> {
         alloc: Global,
         pass: &str,
     ) -> Result<String, RowFault> {
-        let history = match pass {
-            "0" => self.unit.history(rt, alloc, &mut self.first)?,
-            "1" => self.unit.history(rt, alloc, &mut self.second)?,
-            _ => return Err(RowFault::Unread),
-        };
-        entries_text(alloc, &history)
+        match pass {
+            "0" => entries_text(alloc, self.unit.history(rt, alloc, &mut self.first)),
+            "1" => entries_text(alloc, self.unit.history(rt, alloc, &mut self.second)),
+            _ => Err(RowFault::Unread),
+        }
     }
 }
 
@@ -104,7 +103,15 @@ impl<K: Kept> Ground<K> {
                 let calls = self.gate.calls();
                 Ok(format!(in alloc; "calls {calls}")?)
             }
-            ["0", call, of @ ..] => called(
+            ["0", "refresh"] => {
+                self.unit.refresh(rt, &mut self.first);
+                Ok(String::from_str(alloc, "refreshed")?)
+            }
+            ["1", "refresh"] => {
+                self.unit.refresh(rt, &mut self.second);
+                Ok(String::from_str(alloc, "refreshed")?)
+            }
+            ["0", call, of @ ..] => asked(
                 rt,
                 alloc,
                 &self.unit,
@@ -114,7 +121,7 @@ impl<K: Kept> Ground<K> {
                 call,
                 of,
             ),
-            ["1", call, of @ ..] => called(
+            ["1", call, of @ ..] => asked(
                 rt,
                 alloc,
                 &self.unit,
@@ -137,7 +144,10 @@ impl<K: Kept> Ground<K> {
             versions: _,
             gate: _,
         } = self;
-        closed(alloc, unit, first, second)
+        let mut passes = Vec::with_capacity(alloc, 2)?;
+        passes.push(first)?;
+        passes.push(second)?;
+        Ok(unit.close(passes))
     }
 }
 
@@ -180,21 +190,4 @@ fn dealt<K: Kept>(
         return Err(RowFault::Unread);
     };
     Ok((unit, first, second))
-}
-
-/// What is kept of the whole history of the unit.
-fn closed<K: Kept>(
-    alloc: Global,
-    unit: Unit<K>,
-    first: Pass<K>,
-    second: Pass<K>,
-) -> Result<K, NoMemory>
-    requires of { IsPassOf unit first × IsPassOf unit second }
-    requires count { unit.bounds.passes ≡ 2 }
-    requires numbers { (first.view.number ≡ 0) × (second.view.number ≡ 1) }
-{
-    let mut passes = Vec::with_capacity(alloc, 2)?;
-    passes.push(first)?;
-    passes.push(second)?;
-    Ok(unit.close(passes))
 }

@@ -8,13 +8,11 @@ ghost use Rattle.nvm_unit.specs.Passes.{IsPassOf};
 
 use crate::fault::RowFault;
 use crate::job::{NUMBER, job};
-use crate::units::answers::{
-    changed_text, looked_text, observed_text, polled_look_text, polled_text, tried_text,
-};
+use crate::units::answers::{changed_text, looked_text, observed_text};
 use nvm_geometry::Geometry;
-use nvm_plan::{Job, LentPart, fits, job_part_in};
+use nvm_plan::{LentPart, fits, job_part_in};
 use nvm_store::{ActRef, Look};
-use nvm_unit::{Gate, Kept, Open, Pass, Unit};
+use nvm_unit::{Busy, Gate, Kept, Open, Pass, Unit};
 use std::alloc::Global;
 use std::sync::Wait;
 use std::sync::atomic::{AtomicU64, Ordering};
@@ -47,8 +45,8 @@ impl Gate for Counting {
     fn after_job(&self, _job: u32) {}
 }
 
-/// What the call of a pass answers.
-pub fn called<K: Kept>(
+/// What is answered to the part of a job in the unit. The job's namespace has another unit, so that ranges may leave this one.
+pub fn asked<K: Kept>(
     rt: &impl Wait,
     alloc: Global,
     unit: &Unit<K>,
@@ -63,37 +61,14 @@ pub fn called<K: Kept>(
     ensures of { IsPassOf unit.now pass.new }
     ensures number { pass.new.view.number ≡ pass.old.view.number }
 {
-    if call == "refresh" {
-        unit.refresh(rt, pass);
-        return Ok(String::from_str(alloc, "refreshed")?);
-    }
     let job = job(alloc, of)?;
-    asked(rt, alloc, unit, pass, versions, gate, call, &job)
-}
-
-/// What is answered to the job's part in the unit. Its namespace has another unit, so that ranges may leave this one.
-fn asked<K: Kept>(
-    rt: &impl Wait,
-    alloc: Global,
-    unit: &Unit<K>,
-    pass: &mut Pass<K>,
-    versions: bool,
-    gate: &Counting,
-    call: &str,
-    job: &Job,
-) -> Result<String, RowFault>
-    requires of { IsPassOf unit.now pass.old }
-    requires versions { unit.now.versions ≡ versions }
-    ensures of { IsPassOf unit.now pass.new }
-    ensures number { pass.new.view.number ≡ pass.old.view.number }
-{
     let Ok(namespace) = Geometry::new(16, 512, 7, 0, 7, 7) else {
         return Err(RowFault::Unread);
     };
-    if !fits(&namespace, job) {
+    if !fits(&namespace, &job) {
         return Err(RowFault::Unread);
     }
-    match job_part_in(&namespace, job, 0) {
+    match job_part_in(&namespace, &job, 0) {
         Some(LentPart::Act(act)) => changed(rt, alloc, unit, pass, gate, call, act),
         Some(LentPart::Look(look)) => looked(rt, alloc, unit, pass, versions, call, look),
         None => Err(RowFault::Unread),
@@ -119,8 +94,14 @@ fn changed<K: Kept>(
     }
     match call {
         "change" => changed_text(alloc, unit.change(rt, alloc, pass, NUMBER, act, gate)),
-        "try" => tried_text(alloc, unit.try_change(alloc, pass, NUMBER, act, gate)),
-        "poll" => polled_text(alloc, unit.poll_change(alloc, pass, NUMBER, act, gate)),
+        "try" => match unit.try_change(alloc, pass, NUMBER, act, gate) {
+            Ok(changed) => changed_text(alloc, changed),
+            Err(Busy { word }) => Ok(format!(in alloc; "busy with word {word}")?),
+        },
+        "poll" => match unit.poll_change(alloc, pass, NUMBER, act, gate) {
+            Some(changed) => changed_text(alloc, changed),
+            None => Ok(String::from_str(alloc, "not free")?),
+        },
         _ => Err(RowFault::Unread),
     }
 }
@@ -145,7 +126,10 @@ fn looked<K: Kept>(
     }
     match call {
         "observe" => observed_text(alloc, unit.observe(rt, alloc, pass, look)),
-        "poll" => polled_look_text(alloc, unit.poll_observe(alloc, pass, look, &Open)),
+        "poll" => match unit.poll_observe(alloc, pass, look, &Open) {
+            Some(observed) => observed_text(alloc, observed),
+            None => Ok(String::from_str(alloc, "not free")?),
+        },
         "look" if versions => looked_text(alloc, unit.look(alloc, pass, look)),
         _ => Err(RowFault::Unread),
     }

@@ -9,4 +9,3 @@ poll_job-requires-clause-under_way g c =
     let views = views_of c.args.port.now.passes in
     let known = subst (λ (p : Progress). IsProgress c.args.space.now.namespace c.args.space.now.lists 5 c.args.job.now views views p) c.in-Pending.is (c.begin_job.ensures views) in
     (views, known.1)
-
