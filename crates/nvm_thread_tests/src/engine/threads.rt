@@ -1,6 +1,7 @@
 //! Runs by workers, and audits of their records.
 mod hosts;
 
+use crate::holding::comes_to;
 use nvm_engine::{Fault, Judged, Settings, Shown, Workers, audit_bytes, execute};
 use nvm_file::{RecordFault, write_record};
 use nvm_record::{Command, Fuse, Op, Payload, host_bytes};
@@ -10,7 +11,7 @@ use std::alloc::Global;
 use std::sync::Wait;
 use std::sync::atomic::{AtomicU64, Ordering};
 use std::test::Fail;
-use std::thread::{Threads, yield_now};
+use std::thread::Threads;
 
 /// What is shown of a run of the host's file.
 const TEXT: &[u8; 72] =
@@ -20,9 +21,6 @@ const TEXT: &[u8; 72] =
 const LONG_TEXT: &[u8; 161] = b"1 1 write 0/00\n  write  0 1 41: Successful Completion (0x0)\n\
 1 2 write 0/00\n  write 8 1 42: Successful Completion (0x0)\n\
 lawful jobs 2 units 4 changes 2 refused 0\n";
-
-/// A change waits so many turns at most.
-const MOST_TURNS: u32 = 1_000_000;
 
 /// Holds the unit of job 0, whose change is about to be put back, until job 1 is done, and notes whether it saw that.
 #[derive(Drop)]
@@ -36,12 +34,8 @@ impl Gate for Holding {
         if job != 0 {
             return;
         }
-        for _turn in 0..MOST_TURNS {
-            if self.done.load(Ordering::SeqCst) == 1 {
-                self.seen.store(1, Ordering::SeqCst);
-                return;
-            }
-            yield_now();
+        if comes_to(&self.done, 1) {
+            self.seen.store(1, Ordering::SeqCst);
         }
     }
 

@@ -1,15 +1,12 @@
 //! Units that are audited at one time.
 use super::super::audited::lawful;
 use super::super::{Fitting, single};
+use crate::holding::comes_to;
 use nvm_audit::{AuditFault, Watcher, audit_watched};
 use nvm_record::{Op, Payload};
 use nvm_unit::Open;
-use std::hint::spin_loop;
 use std::sync::atomic::{AtomicU64, Ordering};
 use std::test::Fail;
-
-/// A thread waits so many turns at most.
-const MOST_TURNS: u32 = 100_000_000;
 
 /// Keeps the thread that is first done with a unit until a second unit is audited.
 #[derive(Drop)]
@@ -26,12 +23,8 @@ impl Watcher for Meeting {
         if self.audited.fetch_add(1, Ordering::SeqCst) > 0 {
             return;
         }
-        for _turn in 0..MOST_TURNS {
-            if self.audited.load(Ordering::SeqCst) > 1 {
-                self.seen.store(1, Ordering::SeqCst);
-                return;
-            }
-            spin_loop();
+        if comes_to(&self.audited, 2) {
+            self.seen.store(1, Ordering::SeqCst);
         }
     }
 }

@@ -5,16 +5,13 @@ ghost use Rattle.nvm_audit.specs.declared.version.Version.TheVariants.{Two};
 
 use super::super::audited::{lawful, verdict_of};
 use super::super::{Fitting, done_of, single, successes};
+use crate::holding::comes_to;
 use nvm_plan::Job;
 use nvm_record::{Op, Payload};
 use nvm_unit::Gate;
 use std::alloc::Global;
-use std::hint::spin_loop;
 use std::sync::atomic::{AtomicU64, Ordering};
 use std::test::Fail;
-
-/// A change waits so many turns at most.
-const MOST_TURNS: u32 = 100_000_000;
 
 /// Holds the unit of job 0, whose change is about to be put back, until so many other jobs are done, or one of them.
 #[derive(Drop)]
@@ -63,12 +60,8 @@ impl Gate for Holding {
         if job > 0 {
             return;
         }
-        for _turn in 0..MOST_TURNS {
-            if self.done.load(Ordering::SeqCst) >= self.others {
-                self.seen.store(1, Ordering::SeqCst);
-                return;
-            }
-            spin_loop();
+        if comes_to(&self.done, self.others) {
+            self.seen.store(1, Ordering::SeqCst);
         }
     }
 

@@ -1,0 +1,2 @@
+//! A space with several threads.
+mod threads;

@@ -1,0 +1,4 @@
+//! Several threads on one unit.
+mod changing;
+mod held;
+mod looking;

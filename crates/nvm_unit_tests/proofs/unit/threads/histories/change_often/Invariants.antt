@@ -1,6 +1,0 @@
-use Rattle.std.proofs.Common.{◌≡◌}
-use Rattle.nvm_unit.specs.Passes.{IsPassOf}
-use Rattle.nvm_unit_tests.proofs.unit.threads.histories.change_often.Given as goal
-
-abbrev pub invariant-loop-job : goal.invariant-loop-job
-invariant-loop-job g l = IsPassOf l.unit l.pass × (l.pass.view.number ≡ l.fn.pass.view.number)
