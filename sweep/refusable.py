@@ -29,11 +29,6 @@ ANSWERS = {
 # Calls that no program makes, and who does.
 LEFT_OUT = {
     ("nvm_record", "Payload::copy_of"): "nvm_c",
-    ("nvm_text", "append"): "nobody",
-    ("nvm_text", "write_line"): "nobody",
-    ("nvm_text", "write_name"): "nobody",
-    ("nvm_text", "write_status"): "nobody",
-    ("nvm_report", "push_numbered"): "nobody",
     ("nvm_engine", "execute"): "tests of nvm_thread_tests",
     ("nvm_engine", "audit_bytes"): "tests of nvm_thread_tests",
     ("nvm_engine", "judge_alone"): "nvm_c",

@@ -1,15 +1,15 @@
 ghost use Rattle.std.specs.Prelude.{IfOk, IfSome};
 ghost use Rattle.nvm_certify.specs.Certified.{IsCertified};
 
-use crate::certification::{Certification, Reached};
+use crate::certification::Certification;
 use crate::finding::{UnitOrder, UnitOrdering, orderings_of_units};
 use crate::placing::Placing;
 use crate::record_bytes::RecordDraft;
+use crate::stuck::{first_stuck, skip_stuck};
 use crate::workers::workers_of;
 use nvm_audit::Record;
 use nvm_derive::argument_for;
 use nvm_file::{RecordFault, read_record};
-use nvm_geometry::Geometry;
 use nvm_linearize::Stuck;
 use nvm_record::{NoMemory, Payload};
 use nvm_refute::{Argument, RefuteFault, refute};
@@ -128,20 +128,6 @@ fn contradiction_in(
     Ok(None)
 }
 
-/// How far the search came in the first unit that has no order, if there is one.
-fn first_stuck(found: &Vec<UnitOrdering<'_>>) -> Option<Reached> {
-    for ordering in found {
-        if let UnitOrdering::Stuck(_, stuck) = ordering {
-            return Some(Reached {
-                unit: stuck.unit,
-                placed: stuck.placed,
-                steps: stuck.steps,
-            });
-        }
-    }
-    None
-}
-
 /// The verdict by a record of these orders.
 fn verdict_by<'t, R: Threads + Sync>(
     rt: &R,
@@ -189,52 +175,6 @@ fn search_units<'t, R: Threads + Sync>(
         }
     }
     Ok(())
-}
-
-/// Has looks fail in another unit that were held to have failed in this one, which has no order: those that were under way where the search
-/// stopped, or else all. Says whether there was one.
-fn skip_in(
-    geometry: &Geometry,
-    owners: &[Owner<'_>],
-    unit: &UnitSteps,
-    stuck: Stuck,
-    failing: &mut Failing,
-) -> bool {
-    let (from, to) = match unit.steps.get(stuck.around as usize) {
-        Some(step) => (step.began, step.ended),
-        None => (0, u64::MAX),
-    };
-    let mut some = false;
-    for step in &unit.steps {
-        if step.reply.is_failure() && step.began <= to && step.ended >= from {
-            some = failing.skip_unit(geometry, owners, step.piece) || some;
-        }
-    }
-    if some {
-        return true;
-    }
-    for step in &unit.steps {
-        if step.reply.is_failure() {
-            some = failing.skip_unit(geometry, owners, step.piece) || some;
-        }
-    }
-    some
-}
-
-/// The same of each unit that has no order.
-fn skip_stuck(
-    geometry: &Geometry,
-    owners: &[Owner<'_>],
-    found: &Vec<UnitOrdering<'_>>,
-    failing: &mut Failing,
-) -> bool {
-    let mut some = false;
-    for ordering in found {
-        if let UnitOrdering::Stuck(unit, stuck) = ordering {
-            some = skip_in(geometry, owners, unit, *stuck, failing) || some;
-        }
-    }
-    some
 }
 
 /// Whether a record explains the trace, and else whether an argument shows that none does.

@@ -13,6 +13,7 @@ mod finding;
 mod ordering;
 mod placing;
 mod record_bytes;
+mod stuck;
 mod workers;
 
 pub use certification::{Certification, Reached};

@@ -11,7 +11,7 @@ use crate::form::Form;
 use crate::under_line::{take_said, write_under};
 use nvm_plan::{Body, Job};
 use nvm_record::{Command, ReadData, Status, Statuses};
-use nvm_text::write_told;
+use nvm_text::write_line;
 use std::io;
 use std::io::Write;
 
@@ -62,6 +62,6 @@ fn write_command<W: Write>(
     ensures left { lists_say lists.new ≡ after_next (lists_say lists.old) host }
 {
     let said = take_said(lists, host);
-    write_told(writer, command.op, host, command.cid, status, payload)?;
+    write_line(writer, command.op, host, command.cid, status, payload)?;
     write_under(writer, form, said, status)
 }

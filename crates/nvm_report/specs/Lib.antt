@@ -1,4 +1,3 @@
-pub mod Numbered
 pub mod HeadLines
 pub mod JobLines
 pub mod EntryLines

@@ -11,7 +11,6 @@ mod entry_lines;
 mod head_lines;
 mod job_lines;
 mod listing;
-mod numbered;
 
 pub use changes::last_change;
 pub use done_lines::{push_done, push_part, result_word};
@@ -19,4 +18,3 @@ pub use entry_lines::{ActText, push_entry};
 pub use head_lines::push_namespace;
 pub use job_lines::push_body;
 pub use listing::list_record;
-pub use numbered::push_numbered;

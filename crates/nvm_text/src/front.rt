@@ -1,15 +1,10 @@
 //! What comes before the data of a line.
-ghost use Rattle.std.specs.Prelude.{◌≡◌, ◌+◌, ◌≤◌, ◌++◌, OnErr, OnOk, codes, length};
-ghost use Rattle.std.specs.Io.KnownBytes.{Appends};
-ghost use Rattle.nvm_write.specs.Handed.{TakesFront};
+ghost use Rattle.std.specs.Prelude.{◌≡◌, ◌+◌, ◌≤◌, ◌++◌, codes, length};
 ghost use Rattle.nvm_text.specs.Lines.{identifiers, name_of, status_text};
 
 use crate::name::word_of;
 use crate::piece::Piece;
 use nvm_record::{Op, Status};
-use nvm_write::hand;
-use std::io;
-use std::io::Write;
 
 /// Host, command identifier, name and status.
 pub fn front_of(op: Op, host: u16, cid: u16, status: Status) -> Piece
@@ -56,25 +51,4 @@ fn put_status(piece: &mut Piece, status: Status)
     piece.put_hex2(status.sc);
     piece.put_byte(b'/');
     piece.put_decimal(u64::from(status.sct));
-}
-
-/// Writes the name of an operation: `write`, `read`, `uncorrectable`, `compare`, `zeroes` or `dataset`,
-/// and `op-` with two hexadecimal digits for another opcode.
-pub fn write_name<W: Write>(writer: &mut W, op: Op) -> io::Result<()>
-    ensures whole { OnOk result (Appends (W.contents writer.old) (W.contents writer.new) (name_of op)) }
-    ensures front { OnErr result (TakesFront (W.contents writer.old) (W.contents writer.new) (name_of op)) }
-{
-    let mut name = Piece::new();
-    put_name(&mut name, op);
-    hand(writer, name.as_slice())
-}
-
-/// Writes a status as `<type>/<code>`, the code as two hexadecimal digits.
-pub fn write_status<W: Write>(writer: &mut W, status: Status) -> io::Result<()>
-    ensures whole { OnOk result (Appends (W.contents writer.old) (W.contents writer.new) (status_text status)) }
-    ensures front { OnErr result (TakesFront (W.contents writer.old) (W.contents writer.new) (status_text status)) }
-{
-    let mut text = Piece::new();
-    put_status(&mut text, status);
-    hand(writer, text.as_slice())
 }

@@ -5,12 +5,11 @@
 //! it has taken a front of the text and nothing else. Most pieces are short, so hand it a [`BufWriter`](std::io::BufWriter) where each write costs.
 //!
 //! [`OpName`], [`StatusText`], [`StatusesText`], [`RunsText`] and [`HexByte`] are displayed as the same texts, so that other crates
-//! write a line by one `write!`. [`append`] adds what is displayed to a text and leaves the text as it was where memory is refused.
+//! write a line by one `write!`.
 //!
 //! Texts that were written by hand are in `examples/programs.py`, which holds the built programs to them.
 #![tactic(auto)]
 
-mod appending;
 mod digit;
 mod front;
 mod hex_byte;
@@ -22,10 +21,8 @@ mod piece;
 mod run;
 mod status;
 
-pub use appending::append;
-pub use front::{write_name, write_status};
 pub use hex_byte::HexByte;
-pub use line::{write_line, write_told};
+pub use line::write_line;
 pub use name::OpName;
 pub use number::write_decimal;
 pub use piece::Piece;

@@ -6,32 +6,14 @@ ghost use Rattle.nvm_text.specs.Lines.{payload_text};
 
 use crate::front::front_of;
 use crate::run::write_runs;
-use nvm_record::{Completion, Op, ReadData, Status};
+use nvm_record::{Op, ReadData, Status};
 use nvm_write::hand;
 use std::io;
 use std::io::Write;
 
-/// Writes the line of a command that asked for `op`: `<host> <cid> <name> <type>/<code>`, and where
-/// the completion has data, a space and the data as runs.
-pub fn write_line<W: Write>(writer: &mut W, op: Op, completion: &Completion) -> io::Result<()>
-    ensures whole { OnOk result
-        (Appends (W.contents writer.old) (W.contents writer.new) (spec.line op completion.now)) }
-    ensures front { OnErr result
-        (TakesFront (W.contents writer.old) (W.contents writer.new) (spec.line op completion.now)) }
-{
-    write_told(
-        writer,
-        op,
-        completion.host,
-        completion.cid,
-        completion.status,
-        &completion.payload,
-    )
-}
-
-/// Writes the line of a command that asked for `op`, by what is reported to its host. It is that of the completion of these
-/// parts, of which the data is only lent.
-pub fn write_told<W: Write>(
+/// Writes the line of a command that asked for `op`, by the parts of its completion: `<host> <cid> <name> <type>/<code>`, and where
+/// there is data, a space and the data as runs.
+pub fn write_line<W: Write>(
     writer: &mut W,
     op: Op,
     host: u16,

@@ -3,7 +3,7 @@ use Rattle.nvm_write.specs.Handed.{TakesFront}
 use Rattle.nvm_write.proofs.Taking.{behind, first_of, on_err, on_err_then}
 use Rattle.nvm_text.specs.Lines.{identifiers, name_of, payload_text, status_text}
 use Rattle.nvm_text.proofs.TextPieces.{after_four}
-use Rattle.nvm_text.proofs.line.write_told.Goals as goal
+use Rattle.nvm_text.proofs.line.write_line.Goals as goal
 
 pub returns-in_err-hand-clause-front : goal.returns-in_err-hand-clause-front
 returns-in_err-hand-clause-front g c =
