@@ -125,7 +125,7 @@ def tried():
     for page in pages():
         with tempfile.TemporaryDirectory(prefix="readme-") as folder:
             os.mkdir(os.path.join(folder, "out"))
-            for name in ("crates", "examples", "first-run", "build", "nvq", "nvq-view", "nvmu"):
+            for name in ("crates", "crates.txt", "HANDLES", "VERSION", "clients", "docs", "examples", "build", "compile", "nvq", "nvq-view", "nvmu"):
                 os.symlink(os.path.join(TOP, name), os.path.join(folder, name))
             right, wrong = held(page, folder)
         for it in wrong:

@@ -16,7 +16,8 @@ from records import MOST_LIMIT, record_of, spelled
 
 LAST = 2**64 - 1
 # What `--version` prints behind the program's name.
-VERSION = "0.1.0"
+with open(os.path.join(os.path.dirname(os.path.dirname(os.path.realpath(__file__))), "VERSION")) as file:
+    VERSION = file.read().strip()
 # What is expected at the front of a list's line.
 NO_COMMAND = "expected write, read, compare, zeroes, uncorrectable, dataset, or op- and another opcode in two hexadecimal digits"
 # Boundaries at 4, 14 and 24.

@@ -9,7 +9,9 @@ TOP = os.path.dirname(os.path.dirname(HERE))
 WORDS = ["-std=c11", "-D_POSIX_C_SOURCE=200809L", "-O2", "-Wall", "-Wextra", "-Werror", "-pthread", "-I", f"{TOP}/include"]
 SANITIZED = ["-O1", "-g", "-fsanitize=address,undefined", "-fno-sanitize-recover=all"]
 SOURCES = [f"{HERE}/{name}.c" for name in ("host", "controller", "queue", "list", "pdu")]
-NVQ = os.environ.get("NVQ", f"{TOP}/nvq")
+# Where these are installed there are no crates, and the programs are on the path.
+IS_INSTALLED = not os.path.isfile(f"{TOP}/crates.txt")
+NVQ = os.environ.get("NVQ") or (shutil.which("nvq") or "nvq" if IS_INSTALLED else f"{TOP}/nvq")
 
 
 def compile_host(path, more=()):
@@ -20,6 +22,14 @@ def compile_host(path, more=()):
     subprocess.run([os.environ.get("CC", "gcc"), *WORDS, *more, "-o", path, *SOURCES], check=True)
 
 
+def host_in(folder):
+    """Where zalkvorn-host is: on the path where it is installed, and else in the folder, as it is compiled now."""
+    if IS_INSTALLED:
+        return shutil.which("zalkvorn-host") or "zalkvorn-host"
+    compile_host(f"{folder}/zalkvorn-host")
+    return f"{folder}/zalkvorn-host"
+
+
 def compile_target(path, library, more=()):
     """Compiles zalkvorn-target to the path, with the library for C."""
     sources = sorted(f"{HERE}/{name}" for name in os.listdir(HERE) if name.startswith("target") and name.endswith(".c"))
@@ -28,5 +38,5 @@ def compile_target(path, library, more=()):
 
 
 def nvq_is_built():
-    """Whether nvq is a program that keeps what it writes: `./nvq` without ./build doesn't."""
+    """Whether nvq is the proved program, or one that NVQ names: `./nvq` without ./build is slower, and has checks in the place of proofs."""
     return NVQ != f"{TOP}/nvq" or subprocess.run([f"{TOP}/build", "--is-built"]).returncode == 0
