@@ -14,10 +14,11 @@ import tempfile
 
 TOP = os.path.dirname(os.path.dirname(os.path.realpath(__file__)))
 FAULTS = ("nvq: ", "nvmu: ")
-COMMANDS = ("./", "crates/", "examples/", "edits/", "bench/", "sweep/", "mkdir ", "printf ", "cat > ", "sed -i ", "cp ", "(cd ", "rt ", "git ", "nvq ", "nvmu ", "gcc ", "clients/", "apt-get ", "nbdkit ")
+COMMANDS = ("./", "crates/", "examples/", "edits/", "bench/", "sweep/", "mkdir ", "printf ", "cat > ", "sed 's", "sed -i ", "cp ", "(cd ", "rt ", "git ", "nvq ", "nvq-view ", "nvmu ", "zalkvorn-", "gcc ", "clients/", "apt-get ", "nbdkit ")
 # What isn't run as it stands, and what is run in its place: a word of itself, or nothing.
 APART = {
     "./test": None,  # the gate, which calls this
+    "./package": None,  # clients/check-package tries what it makes
     "./build": None,  # the gate has proved and built all that it would
     "(cd crates/unit_bench &&": None,  # the gate has built it, and another build would prove it again
     "bench/": "--help",  # these take minutes
@@ -29,6 +30,7 @@ APART = {
     "nbdkit ": None,  # clients/check-nbd runs it
     "./zalkvorn-target": None,  # clients/check-tcp compiles and runs it
 }
+NOT_APART = ("clients/junit ",)
 
 
 def blocks(text):
@@ -60,7 +62,7 @@ def shown(text):
 
 def key_of(line):
     """By which word of APART the line isn't run as it stands."""
-    return next((it for it in APART if line.startswith(it)), None)
+    return next((it for it in APART if line.startswith(it) and not line.startswith(NOT_APART)), None)
 
 
 def is_apart(block):

@@ -97,7 +97,7 @@ struct zk_port {
 
 /* What a namespace advertises. NABSN, NAWUN and NACWU are 0's based values, as in Identify Namespace; a NABSN of 0 is
  * no boundary, and then NABO is 0. Else NABO, NAWUN and NACWU are at most NABSN. A namespace has 1 to 65,536 blocks of
- * 512 or 4,096 bytes and at most 4,096 atomic units. */
+ * 512 or 4,096 bytes, so 256 MiB at most, and at most 4,096 atomic units. */
 struct zk_namespace {
     uint64_t nsze;       /* blocks */
     uint32_t block_size; /* bytes of a block */
