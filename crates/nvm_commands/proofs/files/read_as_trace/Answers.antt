@@ -1,0 +1,12 @@
+use Rattle.std.proofs.lemmas.Result.{IfErr-weaker, IfOk-weaker}
+use Rattle.nvm_commands.proofs.Held.{trace_fault}
+use Rattle.nvm_commands.proofs.files.read_as_trace.Goals as goal
+
+pub returns-clause-trace : goal.returns-clause-trace
+returns-clause-trace g c =
+    IfOk-weaker c.trace_in.result _ _ (λ trace is. (c.in_ok-bytes.bytes, is)) c.trace_in.ensures.trace
+
+pub returns-clause-fault : goal.returns-clause-fault
+returns-clause-fault g c =
+    IfErr-weaker c.trace_in.result _ _ (λ failure is. trace_fault c.args.path.now c.in_ok-bytes.bytes failure.fault is)
+    c.trace_in.ensures.fault

@@ -1,0 +1,77 @@
+-- What an audit answers of the record of a file, what a witness answers of the files of a trace and a record, and why nothing is. What
+-- is in a file no definition can say, so its bytes are some.
+use Rattle.std.specs.Prelude.{◌≡◌, ◌⊎◌, ℕ, true, List, Result, Ok, codes, string_bytes}
+use Rattle.nvm_audit.specs.declared.audit_fault.AuditFault.{AuditFault}
+use Rattle.nvm_audit.specs.declared.verdict.Verdict.{Verdict}
+use Rattle.nvm_audit.specs.RecordView.{RecordView}
+use Rattle.nvm_engine.specs.Judged.{IsJudged}
+use Rattle.nvm_engine.specs.VerdictLine.{answer_line, answer_status}
+use Rattle.nvm_engine.specs.VerdictObject.{answer_object}
+use Rattle.nvm_trace_text.specs.WitnessLine.{witness_line}
+use Rattle.nvm_engine.specs.Witnessed.{IsWitnessed, witness_status}
+use Rattle.nvm_faults.specs.AllFaults.{AreFaults}
+use Rattle.nvm_faults.specs.FaultsText.{faults_text, faults_status}
+use Rattle.nvm_faults.specs.declared.faults.Faults.{Faults}
+use Rattle.nvm_file.specs.Reading.{record_at}
+use Rattle.nvm_front.specs.Standard.{names_input}
+use Rattle.nvm_front.specs.declared.judging_words.Telling.{Telling}
+use Rattle.nvm_front.specs.declared.judging_words.Telling.TheVariants.{Lines, Object}
+use Rattle.nvm_trace.specs.declared.explained.Explained.{Explained}
+use Rattle.nvm_trace.specs.declared.judging.Judging.{Judging}
+use Rattle.nvm_trace.specs.declared.witness_fault.WitnessFault.{WitnessFault}
+use Rattle.nvm_commands.specs.Fault.{IsFaultOfRecordAt, IsFaultOfTraceAt}
+use Rattle.nvm_commands.specs.Files.{IsReadFault, IsWriteFault}
+use Rattle.nvm_commands.specs.declared.auditing.AuditedRecord.{AuditedRecord}
+use Rattle.nvm_commands.specs.declared.auditing.WitnessedTrace.{WitnessedTrace}
+use Rattle.nvm_commands.specs.declared.fault.Fault.{Fault}
+use Rattle.nvm_commands.specs.declared.fault.Fault.TheVariants.{InputTwice}
+
+-- how an audit is printed
+abbrev pub answer_told : Telling → Result Verdict AuditFault → List ℕ
+answer_told Lines = answer_line
+answer_told Object = answer_object
+
+-- The text and the status are those of what an audit answers of a file's record.
+pub record IsAuditedFile (telling : Telling) (told : AuditedRecord) : Type 0 where
+  pub file : List ℕ
+  pub answer : Result Verdict AuditFault
+  pub judged : IsJudged file answer
+  pub text : told.text.items ≡ answer_told telling answer
+  pub status : told.status ≡ answer_status answer
+
+-- The text and the status are those of all that is wrong in a file's record, or of its verdict.
+pub record AreFaultsOfFile (told : AuditedRecord) : Type 0 where
+  pub file : List ℕ
+  pub run : RecordView
+  pub holds : record_at file ≡ Ok run
+  pub faults : Faults
+  pub found : AreFaults run faults
+  pub text : told.text.items ≡ faults_text faults
+  pub status : told.status ≡ faults_status faults
+
+-- The record couldn't be read, or else it is its first fault, or else the text couldn't be written.
+abbrev pub IsAuditingFault : List ℕ → Fault → Type 0
+IsAuditingFault run fault = (IsReadFault run fault ⊎ IsFaultOfRecordAt run fault) ⊎ IsWriteFault (codes "-") fault
+
+-- The line and the status are those of what a witness answers of the files of a trace and of a record.
+pub record AreWitnessedFiles (judging : Judging) (told : WitnessedTrace) : Type 0 where
+  pub seen : List ℕ
+  pub held : List ℕ
+  pub answer : Result Explained WitnessFault
+  pub witnessed : IsWitnessed judging seen held answer
+  pub line : string_bytes told.line ≡ witness_line answer
+  pub status : told.status ≡ witness_status answer
+
+-- Both paths name standard input.
+abbrev pub IsInputTwice : List ℕ → List ℕ → Fault → Type 0
+IsInputTwice trace run fault = (fault ≡ InputTwice) × (names_input trace ≡ true) × (names_input run ≡ true)
+
+-- Both are standard input, or the trace or the record couldn't be read, or else it is the first fault of the one or the other.
+abbrev pub IsUnwitnessed : List ℕ → List ℕ → Fault → Type 0
+IsUnwitnessed trace run fault =
+    IsInputTwice trace run fault
+    ⊎ ((IsReadFault trace fault ⊎ IsFaultOfTraceAt trace fault) ⊎ (IsReadFault run fault ⊎ IsFaultOfRecordAt run fault))
+
+-- That, or else the line couldn't be written.
+abbrev pub IsWitnessingFault : List ℕ → List ℕ → Fault → Type 0
+IsWitnessingFault trace run fault = IsUnwitnessed trace run fault ⊎ IsWriteFault (codes "-") fault

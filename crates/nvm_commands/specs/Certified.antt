@@ -1,0 +1,52 @@
+-- What is found out about the trace of a file and how it is printed, and why nothing is. What is in a file no definition can say, so
+-- its bytes are some.
+use Rattle.std.specs.Prelude.{◌≡◌, ◌⊎◌, ℕ, List, String, Option, Some, None, codes, string_bytes}
+use Rattle.std.specs.Global.{Global}
+use Rattle.nvm_certify.specs.Certified.{IsCertified}
+use Rattle.nvm_certify.specs.declared.certification.Certification.{Certification}
+use Rattle.nvm_certify_text.specs.Verdict.{certification_text, certification_status}
+use Rattle.nvm_certify_text.specs.VerdictObject.{certification_object}
+use Rattle.nvm_file.specs.TraceFile.{IsTraceFile}
+use Rattle.nvm_front.specs.declared.judging_words.Telling.{Telling}
+use Rattle.nvm_front.specs.declared.judging_words.Telling.TheVariants.{Lines, Object}
+use Rattle.nvm_trace.specs.TraceView.{TraceView}
+use Rattle.nvm_trace.specs.declared.judging.Judging.{Judging}
+use Rattle.nvm_commands.specs.Fault.{IsFaultOfTraceAt}
+use Rattle.nvm_commands.specs.Files.{IsReadFault, IsWriteFault}
+use Rattle.nvm_commands.specs.declared.certifying.CertifiedTrace.{CertifiedTrace}
+use Rattle.nvm_commands.specs.declared.certifying_words.CertifyWords.{CertifyWords}
+use Rattle.nvm_commands.specs.declared.fault.Fault.{Fault}
+use Rattle.nvm_commands.specs.declared.fault.Fault.TheVariants.{ArgumentAmongLines, RecordAmongLines}
+
+abbrev pub told_as : Telling → Judging → TraceView → Certification → List ℕ
+told_as Lines = certification_text
+told_as Object = certification_object
+
+-- The verdict is one on the trace of a file, and so are its text and its status.
+pub record IsCertifiedFile (judging : Judging) (telling : Telling) (told : CertifiedTrace) : Type 0 where
+  pub file : List ℕ
+  pub seen : TraceView
+  pub seen_file : IsTraceFile file seen
+  pub verdict : IsCertified judging seen told.certification
+  pub text : string_bytes told.text ≡ told_as telling judging seen told.certification
+  pub status : told.status ≡ certification_status told.certification
+
+-- The record would go to standard output, or couldn't be written to its path.
+abbrev pub IsRecordFault : Option (String Global) → Fault → Type 0
+IsRecordFault (Some path) fault = ((fault ≡ RecordAmongLines) × (string_bytes path ≡ codes "-")) ⊎ IsWriteFault (string_bytes path) fault
+IsRecordFault None fault = ⊥
+
+-- The same of the argument.
+abbrev pub IsArgumentFault : Option (String Global) → Fault → Type 0
+IsArgumentFault (Some path) fault = ((fault ≡ ArgumentAmongLines) × (string_bytes path ≡ codes "-")) ⊎ IsWriteFault (string_bytes path) fault
+IsArgumentFault None fault = ⊥
+
+-- It is the fault of a file that is to be kept.
+abbrev pub IsKeptFault : CertifyWords → Fault → Type 0
+IsKeptFault words fault = IsRecordFault words.record fault ⊎ IsArgumentFault words.argument fault
+
+-- What was found couldn't be kept, or the trace couldn't be read, or else it is its first fault, or else the text couldn't be written.
+abbrev pub IsCertifyingFault : CertifyWords → Fault → Type 0
+IsCertifyingFault words fault =
+    IsKeptFault words fault
+    ⊎ ((IsReadFault (string_bytes words.trace) fault ⊎ IsFaultOfTraceAt (string_bytes words.trace) fault) ⊎ IsWriteFault (codes "-") fault)

@@ -1,0 +1,149 @@
+//! `nvq audit` and `nvq witness`: whether a record is lawful, and whether it explains a trace. Each prints one line, but for
+//! `nvq audit --all`, which prints one for each unit in which something is wrong.
+ghost use Rattle.std.specs.Prelude.{◌≡◌, ◌⊎◌, IfOk, IfErr};
+ghost use Rattle.nvm_engine.specs.VerdictLine.{answer_line};
+ghost use Rattle.nvm_commands.specs.Audited.{AreFaultsOfFile, AreWitnessedFiles, answer_told, IsAuditedFile, IsAuditingFault, IsUnwitnessed, IsWitnessingFault};
+ghost use Rattle.nvm_commands.specs.Fault.{IsFaultOfRecordAt};
+ghost use Rattle.nvm_commands.specs.Files.{IsReadFault};
+
+use crate::failure::Failure;
+use crate::files::{check_apart, read_as_record, read_as_trace, write_bytes};
+use nvm_engine::{Judged, judge_watched, witness_record};
+use nvm_faults::all_faults;
+use nvm_front::{Progress, STANDARD, Telling};
+use nvm_record::NoMemory;
+use nvm_trace::Judging;
+use std::alloc::{AllocError, Global};
+use std::rt::Files;
+use std::thread::Threads;
+
+/// What an audit answers of a record, and the exit status.
+#[derive(Drop)]
+pub struct AuditedRecord {
+    pub text: Vec<u8>,
+    pub status: u8,
+}
+
+/// What a witness answers of a trace and a record, and the exit status.
+#[derive(Drop)]
+pub struct WitnessedTrace {
+    pub line: String,
+    pub status: u8,
+}
+
+/// Audits the record at a path, prints the verdict or the first fault, and gives the exit status.
+pub fn run_audit<R: AllocGlobal + Files + Input + Print + Eprint + Threads + Sync>(
+    rt: &R,
+    telling: Telling,
+    record: &str,
+    progress: &Progress<'_, R>,
+) -> Result<u8, Failure>
+    ensures fault { IfErr result (λ failure. IsAuditingFault «record».now failure.fault) }
+{
+    let AuditedRecord { text, status } = audited(rt, telling, record, progress)?;
+    write_bytes(rt, STANDARD, &text, progress)?;
+    Ok(status)
+}
+
+/// What an audit answers of the record at a path.
+fn audited<R: AllocGlobal + Files + Input + Eprint + Threads + Sync>(
+    rt: &R,
+    telling: Telling,
+    record: &str,
+    progress: &Progress<'_, R>,
+) -> Result<AuditedRecord, Failure>
+    ensures audited { IfOk result (IsAuditedFile telling) }
+    ensures fault { IfErr result (λ failure. IsReadFault «record».now failure.fault ⊎ IsFaultOfRecordAt «record».now failure.fault) }
+{
+    let run = read_as_record(rt, record, progress)?;
+    let judged = judge_watched(rt, rt.alloc(), &run, progress)?;
+    let text = told(rt.alloc(), telling, &judged)?;
+    let status = judged.status();
+    Ok(AuditedRecord { text, status })
+}
+
+/// Audits the record at a path, prints the verdict or all that is wrong in it, and gives the exit status.
+pub fn run_audit_all<R: AllocGlobal + Files + Input + Print + Eprint + Threads + Sync>(
+    rt: &R,
+    record: &str,
+    progress: &Progress<'_, R>,
+) -> Result<u8, Failure>
+    ensures fault { IfErr result (λ failure. IsAuditingFault «record».now failure.fault) }
+{
+    let AuditedRecord { text, status } = all_audited(rt, record, progress)?;
+    write_bytes(rt, STANDARD, &text, progress)?;
+    Ok(status)
+}
+
+/// All that is wrong in the record at a path, or its verdict.
+fn all_audited<R: AllocGlobal + Files + Input + Eprint + Threads + Sync>(
+    rt: &R,
+    record: &str,
+    progress: &Progress<'_, R>,
+) -> Result<AuditedRecord, Failure>
+    ensures audited { IfOk result AreFaultsOfFile }
+    ensures fault { IfErr result (λ failure. IsReadFault «record».now failure.fault ⊎ IsFaultOfRecordAt «record».now failure.fault) }
+{
+    let run = read_as_record(rt, record, progress)?;
+    let faults = all_faults(rt, rt.alloc(), &run, progress)?;
+    let text = faults.text(rt.alloc())?.into_bytes();
+    let status = faults.status();
+    Ok(AuditedRecord { text, status })
+}
+
+/// How an audit is printed.
+fn told(alloc: Global, telling: Telling, judged: &Judged) -> Result<Vec<u8>, NoMemory>
+    ensures { IfOk result (λ text. text.items ≡ answer_told telling judged.now) }
+{
+    match telling {
+        Telling::Lines => line_of(alloc, judged),
+        Telling::Object => Ok(judged.object(alloc)?.into_bytes()),
+    }
+}
+
+/// The line of an audit.
+fn line_of(alloc: Global, judged: &Judged) -> Result<Vec<u8>, NoMemory>
+    ensures { IfOk result (λ line. line.items ≡ answer_line judged.now) }
+{
+    let mut line = Vec::new(alloc);
+    match judged.write_line(&mut line) {
+        Ok(()) => Ok(line),
+        Err(_) => Err(AllocError),
+    }
+}
+
+/// Judges the trace at a path by the record at another, prints the line of that, and gives the exit status. The two can't both be
+/// standard input.
+pub fn run_witness<R: AllocGlobal + Files + Input + Print + Eprint + Threads + Sync>(
+    rt: &R,
+    judging: Judging,
+    trace: &str,
+    record: &str,
+    progress: &Progress<'_, R>,
+) -> Result<u8, Failure>
+    ensures { IfErr result (λ failure. IsWitnessingFault trace.now «record».now failure.fault) }
+{
+    let WitnessedTrace { line, status } = witnessed(rt, judging, trace, record, progress)?;
+    write_bytes(rt, STANDARD, line.as_bytes(), progress)?;
+    Ok(status)
+}
+
+/// What a witness answers of the trace at a path and the record at another.
+fn witnessed<R: AllocGlobal + Files + Input + Eprint + Threads + Sync>(
+    rt: &R,
+    judging: Judging,
+    trace: &str,
+    record: &str,
+    progress: &Progress<'_, R>,
+) -> Result<WitnessedTrace, Failure>
+    ensures witnessed { IfOk result (AreWitnessedFiles judging) }
+    ensures fault { IfErr result (λ failure. IsUnwitnessed trace.now «record».now failure.fault) }
+{
+    check_apart(trace, record)?;
+    let seen = read_as_trace(rt, trace, progress)?;
+    let held = read_as_record(rt, record, progress)?;
+    let witnessed = witness_record(rt, rt.alloc(), judging, &seen, &held)?;
+    let line = witnessed.line(rt.alloc())?;
+    let status = witnessed.status();
+    Ok(WitnessedTrace { line, status })
+}

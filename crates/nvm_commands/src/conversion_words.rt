@@ -1,0 +1,97 @@
+//! The words of the commands that convert a file: `nvq assemble`, `nvq trace` and `nvq list`.
+ghost use Rattle.std.specs.Prelude.{IfOk, IfSome};
+ghost use Rattle.nvm_commands.specs.Words.{IsAsked};
+
+use crate::namespace_words::block;
+use crate::words::Asked;
+use clap::{ArgMatches, Command, Error};
+use nvm_front::{WordFault, file_argument, flag, size_given};
+use std::alloc::Global;
+
+/// What `nvq assemble` is asked, or `None` where a value is missing.
+pub fn assemble_asked(alloc: Global, words: &ArgMatches<'_>) -> Result<Option<Asked>, WordFault>
+    ensures { IfOk result (λ asked. IfSome asked IsAsked) }
+{
+    let (Some(size), Some(list), Some(out)) = (
+        size_given(alloc, words)?,
+        words.get_str("list"),
+        words.get_str("out"),
+    ) else {
+        return Ok(None);
+    };
+    let list = String::from_str(alloc, list)?;
+    let out = String::from_str(alloc, out)?;
+    Ok(Some(Asked::Assemble { size, list, out }))
+}
+
+/// What `nvq trace` is asked, or `None` where a path is missing.
+pub fn trace_asked(alloc: Global, words: &ArgMatches<'_>) -> Result<Option<Asked>, WordFault>
+    ensures { IfOk result (λ asked. IfSome asked IsAsked) }
+{
+    let (Some(text), Some(out)) = (words.get_str("text"), words.get_str("out")) else {
+        return Ok(None);
+    };
+    let text = String::from_str(alloc, text)?;
+    let out = String::from_str(alloc, out)?;
+    Ok(Some(Asked::Trace { text, out }))
+}
+
+/// What `nvq list` is asked, or `None` where a value is missing.
+pub fn list_asked(alloc: Global, words: &ArgMatches<'_>) -> Result<Option<Asked>, WordFault>
+    ensures { IfOk result (λ asked. IfSome asked IsAsked) }
+{
+    let (Some(size), Some(file)) = (size_given(alloc, words)?, words.get_str("file")) else {
+        return Ok(None);
+    };
+    let file = String::from_str(alloc, file)?;
+    if words.get_flag("json") {
+        Ok(Some(Asked::ListObjects(file)))
+    } else {
+        Ok(Some(Asked::List { size, file }))
+    }
+}
+
+/// `nvq assemble`.
+pub fn assemble_command<'a>(alloc: Global) -> Result<Command<'a>, Error> {
+    let command = Command::new(alloc, "assemble").about("Makes a list into a host file");
+    let list = file_argument(alloc, "list", "LIST", "The list, or - for standard input");
+    let out = file_argument(
+        alloc,
+        "out",
+        "OUT",
+        "The host file, or - for standard output",
+    );
+    Ok(command.arg(block(alloc))?.arg(list)?.arg(out)?)
+}
+
+/// `nvq trace`.
+pub fn trace_command<'a>(alloc: Global) -> Result<Command<'a>, Error> {
+    let command = Command::new(alloc, "trace").about("Makes the text of a trace into its file");
+    let text = file_argument(alloc, "text", "TEXT", "The text, or - for standard input");
+    let out = file_argument(
+        alloc,
+        "out",
+        "OUT",
+        "The trace's file, or - for standard output",
+    );
+    Ok(command.arg(text)?.arg(out)?)
+}
+
+/// `nvq list`.
+pub fn list_command<'a>(alloc: Global) -> Result<Command<'a>, Error> {
+    let command = Command::new(alloc, "list").about(
+        "Lists the commands of a host file, a record, or a trace",
+    );
+    let json = flag(
+        alloc,
+        "json",
+        "Prints a record as objects of JSON, one a line, for programs",
+    );
+    let file = file_argument(
+        alloc,
+        "file",
+        "FILE",
+        "The host file, record or trace, or - for standard input",
+    );
+    Ok(command.arg(block(alloc))?.arg(json)?.arg(file)?)
+}

@@ -1,0 +1,110 @@
+//! `nvq explain`: what is wrong with a record, or what there is in a lawful one; and why a record explains a trace or doesn't.
+ghost use Rattle.std.specs.Prelude.{◌⊎◌, ℕ, List, IfOk, IfErr, string_bytes};
+ghost use Rattle.nvm_commands.specs.Audited.{IsUnwitnessed};
+ghost use Rattle.nvm_commands.specs.Explained.{IsExplainingFault, IsExplanationOfFile, IsStoryFault, IsStoryOfFiles, IsTold, IsUntold};
+ghost use Rattle.nvm_commands.specs.Fault.{IsFaultOfRecordAt, IsFaultOfRecordIn};
+ghost use Rattle.nvm_commands.specs.Files.{IsReadFault};
+
+use crate::explaining_words::ExplainWords;
+use crate::failure::Failure;
+use crate::files::{bytes_of, check_apart, record_in, trace_in, write_bytes};
+use nvm_explain::explain;
+use nvm_front::{Progress, STANDARD};
+use nvm_record::Payload;
+use nvm_story::witness_story;
+use nvm_trace::Judging;
+use std::rt::Files;
+use std::thread::Threads;
+
+/// Explains what the words name, on standard output.
+pub fn run_explain<R: AllocGlobal + Files + Input + Print + Eprint + Threads + Sync>(
+    rt: &R,
+    words: &ExplainWords,
+    progress: &Progress<'_, R>,
+) -> Result<(), Failure>
+    ensures { IfErr result (λ failure. IsExplainingFault words.now failure.fault) }
+{
+    let text = told(rt, words, progress)?;
+    write_bytes(rt, STANDARD, text.as_bytes(), progress)
+}
+
+/// The explanation of what the words name.
+fn told<R: AllocGlobal + Files + Input + Eprint + Threads + Sync>(
+    rt: &R,
+    words: &ExplainWords,
+    progress: &Progress<'_, R>,
+) -> Result<String, Failure>
+    ensures told { IfOk result (λ text. IsTold words.now (string_bytes text)) }
+    ensures fault { IfErr result (λ failure. IsUntold words.now failure.fault) }
+{
+    match words {
+        ExplainWords::Record { record } => record_explained(rt, record.as_str(), progress),
+        ExplainWords::Trace {
+            judging,
+            trace,
+            record,
+        } => trace_explained(rt, *judging, trace.as_str(), record.as_str(), progress),
+    }
+}
+
+/// The explanation of the record at a path.
+fn record_explained<R: AllocGlobal + Files + Input + Eprint + Threads + Sync>(
+    rt: &R,
+    path: &str,
+    progress: &Progress<'_, R>,
+) -> Result<String, Failure>
+    ensures text { IfOk result (λ text. (file : List ℕ) × IsExplanationOfFile file (string_bytes text)) }
+    ensures fault { IfErr result (λ failure. IsReadFault path.now failure.fault ⊎ IsFaultOfRecordAt path.now failure.fault) }
+{
+    let held = Payload::new(rt.alloc(), bytes_of(rt, path, progress)?)?;
+    explained_of(rt, path, &held, progress)
+}
+
+/// The explanation of the trace at a path, judged by the record at another. The two can't both be standard input.
+fn trace_explained<R: AllocGlobal + Files + Input + Eprint + Threads + Sync>(
+    rt: &R,
+    judging: Judging,
+    trace: &str,
+    record: &str,
+    progress: &Progress<'_, R>,
+) -> Result<String, Failure>
+    ensures story { IfOk result (λ text. (seen : List ℕ) × (held : List ℕ) × IsStoryOfFiles judging seen held (string_bytes text)) }
+    ensures fault { IfErr result (λ failure. IsUnwitnessed trace.now «record».now failure.fault) }
+{
+    check_apart(trace, record)?;
+    let seen = Payload::new(rt.alloc(), bytes_of(rt, trace, progress)?)?;
+    let held = Payload::new(rt.alloc(), bytes_of(rt, record, progress)?)?;
+    story_of(rt, judging, trace, &seen, record, &held)
+}
+
+/// The explanation of the record in the bytes of a file that was read from a path, or the file's fault.
+fn explained_of<R: AllocGlobal + Eprint + Threads + Sync>(
+    rt: &R,
+    path: &str,
+    file: &Payload,
+    progress: &Progress<'_, R>,
+) -> Result<String, Failure>
+    ensures text { IfOk result (λ text. IsExplanationOfFile file.now (string_bytes text)) }
+    ensures fault { IfErr result (λ failure. IsFaultOfRecordIn path.now file.now failure.fault) }
+{
+    let run = record_in(rt.alloc(), path, file)?;
+    Ok(explain(rt, rt.alloc(), &run, progress)?)
+}
+
+/// The explanation of the trace and the record in the bytes of two files that were read from these paths, or the fault of the trace's file, or
+/// else of the record's.
+fn story_of<R: AllocGlobal + Threads + Sync>(
+    rt: &R,
+    judging: Judging,
+    trace: &str,
+    seen: &Payload,
+    record: &str,
+    held: &Payload,
+) -> Result<String, Failure>
+    ensures story { IfOk result (λ text. IsStoryOfFiles judging seen.now held.now (string_bytes text)) }
+    ensures fault { IfErr result (λ failure. IsStoryFault «trace».now seen.now «record».now held.now failure.fault) }
+{
+    let seen = trace_in(rt.alloc(), trace, seen)?;
+    let held = record_in(rt.alloc(), record, held)?;
+    Ok(witness_story(rt, rt.alloc(), judging, &seen, &held)?)
+}

@@ -1,0 +1,202 @@
+ghost use Rattle.std.specs.Prelude.{◌≡◌};
+ghost use Rattle.nvm_commands.specs.declared.fault.Fault.TheVariants.{NoMemory};
+
+use crate::fault::Fault;
+use crate::hint::{
+    VERSIONS, no_host_file, no_list, no_namespace, no_record, no_trace, other_block,
+};
+use nvm_record::{BlockSize, Payload};
+use nvm_where::field_told;
+use std::alloc::{AllocError, AllocFailed, Global};
+use std::fmt;
+
+/// Why the program writes nothing, and what helps whoever reads it. It prints the fault's line, and the hint on the next line
+/// after two spaces.
+#[derive(Debug, Drop)]
+pub struct Failure {
+    pub fault: Fault,
+    pub hint: Option<String>,
+}
+
+impl Failure {
+    /// A fault, and what helps with it. A hint for which there was no memory is left out.
+    pub fn hinted(fault: Fault, hint: Result<Option<String>, AllocError>) -> Failure
+        ensures { result.fault ≡ fault }
+    {
+        match hint {
+            Ok(hint) => Failure { fault, hint },
+            Err(_) => Failure { fault, hint: None },
+        }
+    }
+
+    /// A fault, and why it came, where that is known. A hint for which there is no memory is left out.
+    pub fn because(alloc: Global, fault: Fault, why: Option<&str>) -> Failure
+        ensures { result.fault ≡ fault }
+    {
+        let hint = match why {
+            Some(why) => String::from_str(alloc, why).map(Some),
+            None => Ok(None),
+        };
+        Failure::hinted(fault, hint)
+    }
+}
+
+impl fmt::Display for Failure {
+    fn fmt<W: fmt::Write>(&self, f: &mut fmt::Formatter<W>) -> fmt::Result {
+        match &self.hint {
+            Some(hint) => write!(f, "{}\n  {hint}", self.fault),
+            None => write!(f, "{}", self.fault),
+        }
+    }
+}
+
+impl From<AllocError> for Failure {
+    ghost from_gives = { λ _ failure. failure.fault ≡ NoMemory };
+
+    fn from(_e: AllocError) -> Failure {
+        plain(Fault::NoMemory)
+    }
+}
+
+impl<T: Drop> From<AllocFailed<T>> for Failure {
+    ghost from_gives = { λ _ failure. failure.fault ≡ NoMemory };
+
+    fn from(_e: AllocFailed<T>) -> Failure {
+        plain(Fault::NoMemory)
+    }
+}
+
+/// A fault with which nothing helps but its line.
+pub fn plain(fault: Fault) -> Failure
+    ensures { result.fault ≡ fault }
+{
+    Failure { fault, hint: None }
+}
+
+/// The failure of a list that was read from a path, which has a wrong expectation. What helps is what the file is instead, or else the
+/// line.
+pub fn of_list(alloc: Global, fault: Fault, path: &str, list: &[u8]) -> Failure
+    ensures { result.fault ≡ fault }
+{
+    let hint = match fault {
+        Fault::Expectation { line, .. } => wrong_line(alloc, path, list, line),
+        _ => Ok(None),
+    };
+    Failure::hinted(fault, hint)
+}
+
+/// The failure of a run of `count` lists.
+pub fn of_run(alloc: Global, fault: Fault, count: usize) -> Failure
+    ensures { result.fault ≡ fault }
+{
+    let hint = match &fault {
+        Fault::Geometry(fault) => String::from_str(alloc, no_namespace(*fault)).map(Some),
+        Fault::TooManyHosts => too_many(alloc, count),
+        _ => Ok(None),
+    };
+    Failure::hinted(fault, hint)
+}
+
+/// The failure of a file that was read from a path and should be listed.
+pub fn of_file(alloc: Global, fault: Fault, path: &str, file: &Payload, size: BlockSize) -> Failure
+    ensures { result.fault ≡ fault }
+{
+    let hint = match fault {
+        Fault::BadName { .. } => no_host_file(alloc, path, file.as_slice()).map(Some),
+        Fault::UnknownVersion { .. } => versions(alloc),
+        Fault::BadValue { at, .. }
+        | Fault::BeganAtZero { at, .. }
+        | Fault::EndedBefore { at, .. } => { field_told(alloc, file.as_slice(), at) }
+        Fault::Truncated { .. } | Fault::TooMany { .. } => other_block(alloc, file, size.bytes()),
+        _ => Ok(None),
+    };
+    Failure::hinted(fault, hint)
+}
+
+/// The failure of a file that was read from a path and should be a record.
+pub fn of_record(alloc: Global, fault: Fault, path: &str, file: &[u8]) -> Failure
+    ensures { result.fault ≡ fault }
+{
+    let hint = match fault {
+        Fault::BadName { .. } => no_record(alloc, path, file).map(Some),
+        Fault::UnknownVersion { .. } => versions(alloc),
+        Fault::BadValue { at, .. } => field_told(alloc, file, at),
+        _ => Ok(None),
+    };
+    Failure::hinted(fault, hint)
+}
+
+/// The failure of a file that was read from a path and should be a trace.
+pub fn of_trace(alloc: Global, fault: Fault, path: &str, file: &[u8]) -> Failure
+    ensures { result.fault ≡ fault }
+{
+    let hint = match fault {
+        Fault::BadName { .. } => no_trace(alloc, path, file).map(Some),
+        Fault::BadValue { at, .. }
+        | Fault::BeganAtZero { at, .. }
+        | Fault::EndedBefore { at, .. } => { field_told(alloc, file, at) }
+        _ => Ok(None),
+    };
+    Failure::hinted(fault, hint)
+}
+
+/// The failure of a trace's text that was read from a path. What helps is what the file is instead, or else the line.
+pub fn of_text(alloc: Global, fault: Fault, path: &str, text: &[u8]) -> Failure
+    ensures { result.fault ≡ fault }
+{
+    let hint = match fault {
+        Fault::TraceLine { line, .. } => wrong_line(alloc, path, text, line),
+        _ => Ok(None),
+    };
+    Failure::hinted(fault, hint)
+}
+
+/// What helps where a line of text is wrong: what the file is instead, or else the line.
+fn wrong_line(
+    alloc: Global,
+    path: &str,
+    list: &[u8],
+    line: u64,
+) -> Result<Option<String>, AllocError> {
+    match no_list(alloc, path, list)? {
+        None => line_of(alloc, list, line),
+        told => Ok(told),
+    }
+}
+
+/// Which versions of records are known.
+fn versions(alloc: Global) -> Result<Option<String>, AllocError> {
+    Ok(Some(String::from_str(alloc, VERSIONS)?))
+}
+
+fn too_many(alloc: Global, count: usize) -> Result<Option<String>, AllocError> {
+    Ok(Some(format!(in alloc; "there are {count} lists, and at most 64 can be run")?))
+}
+
+/// The front of a list's line, from the first that is no blank. Lines count from 1. `None` where it isn't plain text.
+pub fn line_of(alloc: Global, list: &[u8], number: u64) -> Result<Option<String>, AllocError> {
+    let mut lines = list.split(|byte| *byte == b'\n');
+    let Some(line) = lines.nth(number.saturating_sub(1) as usize) else {
+        return Ok(None);
+    };
+    match str::from_utf8(line.trim_ascii()) {
+        Ok(line) if !line.is_empty() && !line.chars().any(|letter| letter.is_control()) => {
+            let shown = front_of(line);
+            Ok(Some(format!(in alloc; "the line is: {shown}")?))
+        }
+        _ => Ok(None),
+    }
+}
+
+/// So many bytes of a line are shown at most.
+const SHOWN: usize = 100;
+
+/// As much of a line as is shown, whole characters.
+fn front_of(line: &str) -> &str {
+    for less in 0..4 {
+        if let Some(front) = line.get(..SHOWN - less) {
+            return front;
+        }
+    }
+    line
+}

@@ -1,0 +1,188 @@
+ghost use Rattle.std.specs.Prelude.{◌≡◌, ◌⊎◌, ℕ, List, Ok, IfOk, IfErr};
+ghost use Rattle.nvm_file.specs.Reading.{record_at};
+ghost use Rattle.nvm_file.specs.TraceFile.{IsTraceFile};
+ghost use Rattle.nvm_commands.specs.Audited.{IsInputTwice};
+ghost use Rattle.nvm_commands.specs.Fault.{IsFaultOfRecordAt, IsFaultOfRecordIn, IsFaultOfTraceAt, IsFaultOfTraceIn};
+ghost use Rattle.nvm_commands.specs.Files.{IsReadFault, IsWriteFault};
+
+use crate::conversion::{record_of, trace_of};
+use crate::failure::{Failure, of_record, of_trace, plain};
+use crate::fault::Fault;
+use crate::hint::refusal;
+use nvm_audit::Record;
+use nvm_front::{
+    FileFault, Progress, STANDARD, is_input, is_output, is_read, read_input, write, write_run,
+};
+use nvm_record::Payload;
+use nvm_trace::Trace;
+use std::alloc::{AllocError, Global};
+use std::rt::Files;
+
+/// The bytes of a file, or of standard input. Want of memory isn't the file's fault.
+pub fn bytes_of<R: Files + AllocGlobal + Input + Eprint>(
+    rt: &R,
+    path: &str,
+    progress: &Progress<'_, R>,
+) -> Result<Vec<u8>, Failure>
+    ensures { IfErr result (λ failure. IsReadFault path.now failure.fault) }
+{
+    match read_input(rt, path, progress) {
+        Ok(bytes) => Ok(bytes),
+        Err(FileFault::NoMemory) => Err(Failure::from(AllocError)),
+        Err(FileFault::Refused(kind)) => Err(unread(rt.alloc(), path, refusal(kind))),
+    }
+}
+
+/// The record at a path, or on standard input.
+pub fn read_as_record<R: Files + AllocGlobal + Input + Eprint>(
+    rt: &R,
+    path: &str,
+    progress: &Progress<'_, R>,
+) -> Result<Record, Failure>
+    ensures run { IfOk result (λ run. (file : List ℕ) × (record_at file ≡ Ok run)) }
+    ensures fault { IfErr result (λ failure. IsReadFault path.now failure.fault ⊎ IsFaultOfRecordAt path.now failure.fault) }
+{
+    let bytes = Payload::new(rt.alloc(), bytes_of(rt, path, progress)?)?;
+    record_in(rt.alloc(), path, &bytes)
+}
+
+/// The record in the bytes of a file that was read from a path, or the file's fault and what helps.
+pub fn record_in(alloc: Global, path: &str, file: &Payload) -> Result<Record, Failure>
+    ensures run { IfOk result (λ run. record_at file.now ≡ Ok run) }
+    ensures fault { IfErr result (λ failure. IsFaultOfRecordIn path.now file.now failure.fault) }
+{
+    let named = String::from_str(alloc, path)?;
+    match record_of(alloc, named, file) {
+        Ok(run) => Ok(run),
+        Err(fault) => Err(of_record(alloc, fault, path, file.as_slice())),
+    }
+}
+
+/// The trace at a path, or on standard input.
+pub fn read_as_trace<R: Files + AllocGlobal + Input + Eprint>(
+    rt: &R,
+    path: &str,
+    progress: &Progress<'_, R>,
+) -> Result<Trace, Failure>
+    ensures trace { IfOk result (λ trace. (file : List ℕ) × IsTraceFile file trace) }
+    ensures fault { IfErr result (λ failure. IsReadFault path.now failure.fault ⊎ IsFaultOfTraceAt path.now failure.fault) }
+{
+    let bytes = Payload::new(rt.alloc(), bytes_of(rt, path, progress)?)?;
+    trace_in(rt.alloc(), path, &bytes)
+}
+
+/// The trace in the bytes of a file that was read from a path, or the file's fault and what helps.
+pub fn trace_in(alloc: Global, path: &str, file: &Payload) -> Result<Trace, Failure>
+    ensures trace { IfOk result (IsTraceFile file.now) }
+    ensures fault { IfErr result (λ failure. IsFaultOfTraceIn path.now file.now failure.fault) }
+{
+    let named = String::from_str(alloc, path)?;
+    match trace_of(alloc, named, file) {
+        Ok(trace) => Ok(trace),
+        Err(fault) => Err(of_trace(alloc, fault, path, file.as_slice())),
+    }
+}
+
+/// Refuses to read standard input as a trace and as its record, before anything is read.
+pub fn check_apart(trace: &str, record: &str) -> Result<(), Failure>
+    ensures { IfErr result (λ failure. IsInputTwice trace.now «record».now failure.fault) }
+{
+    if is_input(trace) && is_input(record) {
+        Err(plain(Fault::InputTwice))
+    } else {
+        Ok(())
+    }
+}
+
+/// Writes bytes to a file, or to standard output.
+pub fn write_bytes<R: Files + AllocGlobal + Print + Eprint>(
+    rt: &R,
+    path: &str,
+    bytes: &[u8],
+    progress: &Progress<'_, R>,
+) -> Result<(), Failure>
+    ensures { IfErr result (λ failure. IsWriteFault path.now failure.fault) }
+{
+    match write(rt, path, bytes, progress) {
+        Ok(()) => Ok(()),
+        Err(fault) => Err(unmade(rt.alloc(), path, fault)),
+    }
+}
+
+/// Writes the record's file. It appears whole or not at all.
+pub fn keep<R: AllocGlobal + Files + Print + Eprint>(
+    rt: &R,
+    path: &str,
+    run: &Record,
+    progress: &Progress<'_, R>,
+) -> Result<(), Failure>
+    ensures { IfErr result (λ failure. IsWriteFault path.now failure.fault) }
+{
+    match write_run(rt, path, run, progress) {
+        Ok(()) => Ok(()),
+        Err(fault) => Err(unmade(rt.alloc(), path, fault)),
+    }
+}
+
+/// Refuses a path to write at which the file to read is, before anything is read. The hint below the fault says why.
+pub fn check_output<R: Files + AllocGlobal>(
+    rt: &R,
+    out: &str,
+    read: &str,
+    why: &str,
+) -> Result<(), Failure>
+    ensures { IfErr result (λ failure. IsWriteFault out.now failure.fault) }
+{
+    if out == STANDARD {
+        return Ok(());
+    }
+    match is_read(rt, out, read) {
+        Ok(false) => Ok(()),
+        Ok(true) => Err(unwritten(rt.alloc(), out, Some(why))),
+        Err(_) => Err(Failure::from(AllocError)),
+    }
+}
+
+/// Refuses a path to write that is the file which standard output goes to, before anything is written.
+pub fn check_no_lines<R: Files + AllocGlobal>(rt: &R, out: &str) -> Result<(), Failure>
+    ensures { IfErr result (λ failure. IsWriteFault out.now failure.fault) }
+{
+    match is_output(rt, out) {
+        Ok(false) => Ok(()),
+        Ok(true) => {
+            let why = Some("standard output goes there, with the lines");
+            Err(unwritten(rt.alloc(), out, why))
+        }
+        Err(_) => Err(Failure::from(AllocError)),
+    }
+}
+
+/// The failure of what couldn't be written to a path.
+pub fn unmade(alloc: Global, path: &str, fault: FileFault) -> Failure
+    ensures { IsWriteFault path.now result.fault }
+{
+    match fault {
+        FileFault::NoMemory => Failure::from(AllocError),
+        FileFault::Refused(kind) => unwritten(alloc, path, refusal(kind)),
+    }
+}
+
+/// The failure of a file that can't be read, or want of memory for its path.
+fn unread(alloc: Global, path: &str, why: Option<&str>) -> Failure
+    ensures { IsReadFault path.now result.fault }
+{
+    match String::from_str(alloc, path) {
+        Ok(path) => Failure::because(alloc, Fault::CannotRead { path }, why),
+        Err(error) => Failure::from(error),
+    }
+}
+
+/// The failure of a file that can't be written, or want of memory for its path. The hint below the fault says why.
+pub fn unwritten(alloc: Global, path: &str, why: Option<&str>) -> Failure
+    ensures { IsWriteFault path.now result.fault }
+{
+    match String::from_str(alloc, path) {
+        Ok(path) => Failure::because(alloc, Fault::CannotWrite { path }, why),
+        Err(error) => Failure::from(error),
+    }
+}

@@ -1,0 +1,34 @@
+//! What the program `nvq` does: it runs lists of commands, which people write or a seed gives, makes them into host files, lists those, records and
+//! traces, makes the text of traces into files, judges records and traces, and explains records.
+#![tactic(auto)]
+
+mod auditing;
+mod auditing_words;
+mod certifying;
+mod certifying_words;
+mod checked;
+mod commands;
+mod content;
+mod conversion;
+mod conversion_words;
+mod explaining;
+mod explaining_words;
+mod failure;
+mod fault;
+mod files;
+mod generating;
+mod generating_words;
+mod hint;
+mod host_files;
+mod list_failure;
+mod listing;
+mod namespace_words;
+mod read_list;
+mod run_paths;
+mod running;
+mod running_words;
+mod told_run;
+mod tracing;
+mod words;
+
+pub use commands::{NVQ, status_of};

@@ -1,0 +1,94 @@
+//! Command lists as they are read, without what they expect, and that.
+ghost use Rattle.std.specs.Prelude.{◌≡◌, ◌⊎◌, IfOk, IfErr, Ok, map, string_bytes};
+ghost use Rattle.nvm_expect.specs.Expectations as spec;
+ghost use Rattle.nvm_commands.specs.Expecting.{IsExpectationFault, IsExpectingFault};
+ghost use Rattle.nvm_commands.specs.Files.{IsReadingFault};
+
+use crate::failure::{Failure, of_list};
+use crate::fault::Fault;
+use crate::files::bytes_of;
+use nvm_expect::{ExpectationFault, expectations, without_expectations};
+use nvm_front::Progress;
+use nvm_record::Status;
+use std::alloc::{AllocError, Global};
+use std::rt::Files;
+
+/// A list as it was read.
+#[derive(Drop)]
+pub struct ReadList<'a> {
+    pub path: &'a str,
+    /// The list without its expectations.
+    pub text: Vec<u8>,
+    /// What each command expects, in their order.
+    pub expectations: Vec<Option<Status>>,
+}
+
+/// The lists at the paths, in their order. The first that can't be read, or has a wrong expectation, is the fault.
+pub fn read_lists<'a, R: AllocGlobal + Files + Input + Eprint>(
+    rt: &R,
+    paths: &'a [String],
+    progress: &Progress<'_, R>,
+) -> Result<Vec<ReadList<'a>>, Failure>
+    ensures paths { IfOk result (λ lists. map (λ list. list.path.now) lists.items
+        ≡ map (λ path. string_bytes path) paths.now) }
+    ensures fault { IfErr result (λ failure. IsReadingFault (map (λ path. string_bytes path) paths.now) failure.fault
+        ⊎ IsExpectingFault (map (λ path. string_bytes path) paths.now) failure.fault) }
+{
+    let mut lists = Vec::with_capacity(rt.alloc(), paths.len())?;
+    for path in paths {
+        let path = path.as_str();
+        let bytes = bytes_of(rt, path, progress)?;
+        let split = split_list(rt.alloc(), path, &bytes)?;
+        lists.push(ReadList {
+            path,
+            text: split.commands,
+            expectations: split.expectations,
+        })?;
+    }
+    Ok(lists)
+}
+
+/// The texts of lists, as borrowed bytes.
+pub fn texts_of<'a>(alloc: Global, lists: &'a [ReadList<'_>]) -> Result<Vec<&'a [u8]>, AllocError> {
+    let mut texts = Vec::with_capacity(alloc, lists.len())?;
+    for list in lists {
+        texts.push(list.text.as_slice())?;
+    }
+    Ok(texts)
+}
+
+/// A list without its expectations, and these.
+#[derive(Drop)]
+pub struct SplitList {
+    pub commands: Vec<u8>,
+    /// What each command expects, in their order.
+    pub expectations: Vec<Option<Status>>,
+}
+
+/// The list that was read from a path, without its expectations, and these. The first wrong one is the fault, and what helps is
+/// said of it.
+pub fn split_list(alloc: Global, path: &str, list: &[u8]) -> Result<SplitList, Failure>
+    ensures commands { IfOk result (λ split. split.commands.items ≡ spec.without_expectations list.now) }
+    ensures expectations { IfOk result (λ split. spec.expectations list.now ≡ Ok split.expectations.items) }
+    ensures fault { IfErr result (λ failure. IsExpectationFault path.now list.now failure.fault) }
+{
+    match expectations(alloc, list) {
+        Ok(expectations) => {
+            let commands = without_expectations(alloc, list)?;
+            Ok(SplitList {
+                commands,
+                expectations,
+            })
+        }
+        Err(ExpectationFault::Line { line, expected }) => {
+            let named = String::from_str(alloc, path)?;
+            let fault = Fault::Expectation {
+                path: named,
+                line,
+                expected,
+            };
+            Err(of_list(alloc, fault, path, list))
+        }
+        Err(ExpectationFault::NoMemory) => Err(Failure::from(AllocError)),
+    }
+}

@@ -1,0 +1,194 @@
+ghost use Rattle.std.specs.Prelude.{IfOk, IfSome};
+ghost use Rattle.nvm_commands.specs.Words.{IsAsked};
+
+use crate::auditing_words::auditing_command;
+use crate::certifying_words::{CertifyWords, certify_command, read_certify};
+use crate::conversion_words::{
+    assemble_asked, assemble_command, list_asked, list_command, trace_asked, trace_command,
+};
+use crate::explaining_words::{ExplainWords, explain_command, read_explain};
+use crate::generating_words::{GenerateWords, generate_command, read_generate};
+use crate::running_words::{RunWords, read_run, run_command};
+use clap::{ArgMatches, Command, Error};
+use nvm_front::{
+    AuditWords, VERSION, WitnessWords, WordFault, missing, read_audit, read_witness,
+    witness_command,
+};
+use nvm_record::BlockSize;
+use std::alloc::Global;
+
+/// What the words of the command line ask for.
+#[derive(Drop)]
+pub enum Asked {
+    /// `nvq assemble`: make a list into a host file.
+    Assemble {
+        size: BlockSize,
+        list: String,
+        out: String,
+    },
+    /// `nvq trace`: make the text of a trace into its file.
+    Trace {
+        text: String,
+        out: String,
+    },
+    /// `nvq list`: list a host file, a record or a trace.
+    List {
+        size: BlockSize,
+        file: String,
+    },
+    /// `nvq list --json`: list the record at a path as objects.
+    ListObjects(String),
+    /// `nvq run`: do the commands of lists, host 1's first.
+    Run(RunWords),
+    /// `nvq generate`: write the lists of a load.
+    Generate(GenerateWords),
+    /// `nvq audit`: say whether a record is lawful.
+    Audit(AuditWords),
+    /// `nvq audit --all`: say whether it is, or all that is wrong in it.
+    AuditAll(AuditWords),
+    /// `nvq witness`: say whether a record explains a trace.
+    Witness(WitnessWords),
+    /// `nvq certify`: say whether a record explains a trace, or why none does.
+    Certify(CertifyWords),
+    /// `nvq explain`: explain a record, or whether it explains a trace.
+    Explain(ExplainWords),
+}
+
+/// Reads the words after the program's name. A block has 512 bytes where no size is given, and a run and a load have one list or more.
+pub fn read_words<'a>(alloc: Global, words: &'a [&'a str]) -> Result<Asked, WordFault>
+    ensures { IfOk result IsAsked }
+{
+    let mut command = program(alloc)?;
+    let matches = command.try_get_matches_from_mut(words)?;
+    match asked_of(alloc, &matches)? {
+        Some(asked) => Ok(asked),
+        None => Err(missing(&mut command)),
+    }
+}
+
+/// What the matches ask for, or `None` where something is missing.
+fn asked_of(alloc: Global, matches: &ArgMatches<'_>) -> Result<Option<Asked>, WordFault>
+    ensures { IfOk result (λ asked. IfSome asked IsAsked) }
+{
+    match matches.subcommand() {
+        Some(("assemble", words)) => assemble_asked(alloc, words),
+        Some(("trace", words)) => trace_asked(alloc, words),
+        Some(("list", words)) => list_asked(alloc, words),
+        Some(("run", words)) => run_asked(alloc, words),
+        Some(("generate", words)) => generate_asked(alloc, words),
+        Some(("audit", words)) => audit_asked(alloc, words),
+        Some(("witness", words)) => witness_asked(alloc, words),
+        Some(("certify", words)) => certify_asked(alloc, words),
+        Some(("explain", words)) => explain_asked(alloc, words),
+        _ => Ok(None),
+    }
+}
+
+/// What `nvq run` is asked, or `None` where a value is missing.
+fn run_asked(alloc: Global, words: &ArgMatches<'_>) -> Result<Option<Asked>, WordFault>
+    ensures { IfOk result (λ asked. IfSome asked IsAsked) }
+{
+    match read_run(alloc, words)? {
+        Some(run) => Ok(Some(Asked::Run(run))),
+        None => Ok(None),
+    }
+}
+
+/// What `nvq generate` is asked, or `None` where a value is missing.
+fn generate_asked(alloc: Global, words: &ArgMatches<'_>) -> Result<Option<Asked>, WordFault>
+    ensures { IfOk result (λ asked. IfSome asked IsAsked) }
+{
+    match read_generate(alloc, words)? {
+        Some(generate) => Ok(Some(Asked::Generate(generate))),
+        None => Ok(None),
+    }
+}
+
+/// What `nvq audit` is asked, or `None` where the path is missing.
+fn audit_asked(alloc: Global, words: &ArgMatches<'_>) -> Result<Option<Asked>, WordFault>
+    ensures { IfOk result (λ asked. IfSome asked IsAsked) }
+{
+    let Some(audit) = read_audit(alloc, words)? else {
+        return Ok(None);
+    };
+    if words.get_flag("all") {
+        Ok(Some(Asked::AuditAll(audit)))
+    } else {
+        Ok(Some(Asked::Audit(audit)))
+    }
+}
+
+/// What `nvq witness` is asked, or `None` where a path is missing.
+fn witness_asked(alloc: Global, words: &ArgMatches<'_>) -> Result<Option<Asked>, WordFault>
+    ensures { IfOk result (λ asked. IfSome asked IsAsked) }
+{
+    match read_witness(alloc, words)? {
+        Some(witness) => Ok(Some(Asked::Witness(witness))),
+        None => Ok(None),
+    }
+}
+
+/// What `nvq certify` is asked, or `None` where a value is missing.
+fn certify_asked(alloc: Global, words: &ArgMatches<'_>) -> Result<Option<Asked>, WordFault>
+    ensures { IfOk result (λ asked. IfSome asked IsAsked) }
+{
+    match read_certify(alloc, words)? {
+        Some(certify) => Ok(Some(Asked::Certify(certify))),
+        None => Ok(None),
+    }
+}
+
+/// What `nvq explain` is asked, or `None` where a path is missing.
+fn explain_asked(alloc: Global, words: &ArgMatches<'_>) -> Result<Option<Asked>, WordFault>
+    ensures { IfOk result (λ asked. IfSome asked IsAsked) }
+{
+    match read_explain(alloc, words)? {
+        Some(explain) => Ok(Some(Asked::Explain(explain))),
+        None => Ok(None),
+    }
+}
+
+/// The command line of the program.
+fn program<'a>(alloc: Global) -> Result<Command<'a>, Error> {
+    let program = Command::new(alloc, "nvq")
+        .bin_name("nvq")?
+        .version(VERSION)
+        .about(
+            "Runs lists of NVM commands, generates such lists, makes them into host files, lists those, records and traces, judges records and traces, and explains records",
+        )
+        .no_binary_name(true)
+        .subcommand_required(true);
+    with_judges(alloc, with_makers(alloc, program)?)
+}
+
+/// With the commands that do, make and list.
+fn with_makers<'a>(alloc: Global, program: Command<'a>) -> Result<Command<'a>, Error> {
+    let run = run_command(alloc)?;
+    let generate = generate_command(alloc)?;
+    let assemble = assemble_command(alloc)?;
+    let trace = trace_command(alloc)?;
+    let list = list_command(alloc)?;
+    Ok(
+        program
+            .subcommand(run)?
+            .subcommand(generate)?
+            .subcommand(assemble)?
+            .subcommand(trace)?
+            .subcommand(list)?,
+    )
+}
+
+/// With the commands that judge and explain.
+fn with_judges<'a>(alloc: Global, program: Command<'a>) -> Result<Command<'a>, Error> {
+    let audit = auditing_command(alloc)?;
+    let witness = witness_command(alloc)?;
+    let certify = certify_command(alloc)?;
+    let explain = explain_command(alloc)?;
+    Ok(
+        program
+            .subcommand(audit)?
+            .subcommand(witness)?
+            .subcommand(certify)?
+            .subcommand(explain)?,
+    )
+}
