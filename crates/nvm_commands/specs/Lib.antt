@@ -6,6 +6,7 @@ pub mod Expecting
 pub mod Files
 pub mod Generated
 pub mod Listed
+pub mod Nvmu
 pub mod Ran
 pub mod RunFaults
 pub mod ToldRun

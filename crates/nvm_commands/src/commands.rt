@@ -26,7 +26,7 @@ pub const NVQ: &str = "nvq";
 
 /// Does what the words of the command line ask for, and gives the exit status: 0, that of a verdict, or 1 after a
 /// fault.
-pub fn status_of<R: AllocGlobal + Env + Files + Input + Print + Eprint + Threads + Wait + Sync>(
+pub fn nvq_status<R: AllocGlobal + Env + Files + Input + Print + Eprint + Threads + Wait + Sync>(
     rt: &R,
     progress: &Progress<'_, R>,
 ) -> u8 {

@@ -1,5 +1,5 @@
-//! What the program `nvq` does: it runs lists of commands, which people write or a seed gives, makes them into host files, lists those, records and
-//! traces, makes the text of traces into files, judges records and traces, and explains records.
+//! What the programs `nvq` and `nvmu` do. `nvq` runs lists of commands, which people write or a seed gives, makes them into host files, lists those,
+//! records and traces, makes the text of traces into files, judges records and traces, and explains records. `nvmu` runs host files, and judges.
 #![tactic(auto)]
 
 mod auditing;
@@ -23,6 +23,7 @@ mod host_files;
 mod list_failure;
 mod listing;
 mod namespace_words;
+mod nvmu;
 mod read_list;
 mod run_paths;
 mod running;
@@ -31,4 +32,5 @@ mod told_run;
 mod tracing;
 mod words;
 
-pub use commands::{NVQ, status_of};
+pub use commands::{NVQ, nvq_status};
+pub use nvmu::{NVMU, nvmu_status};

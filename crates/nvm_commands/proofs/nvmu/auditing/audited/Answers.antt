@@ -1,0 +1,7 @@
+use Rattle.std.proofs.Common.{inr}
+use Rattle.std.proofs.lemmas.Result.{IfErr-weaker}
+use Rattle.nvm_commands.proofs.nvmu.auditing.audited.Goals as goal
+
+-- The fault is that of the bytes that were read.
+pub returns-clause-fault : goal.returns-clause-fault
+returns-clause-fault g c = IfErr-weaker c.judged_of.result _ _ (λ failure first. inr (_, first)) c.judged_of.ensures.fault

@@ -1,0 +1,134 @@
+//! What the program `nvmu` does: it reads the words of its command line and the hosts' files, has their commands done by workers, and
+//! writes the record of that and its text. Or it audits a record, or judges a trace by one or by an argument.
+
+ghost use Rattle.std.specs.Prelude.{◌≡◌, IfOk};
+ghost use Rattle.nvm_commands.specs.Nvmu.Answer.{ended_status, status_of as status_after};
+ghost use Rattle.nvm_commands.specs.Nvmu.Asked.{IsAnswerTo};
+
+mod answer;
+mod auditing;
+mod fault;
+mod files;
+mod refute_words;
+mod refuting;
+mod running;
+mod words;
+
+use crate::nvmu::answer::Answer;
+use crate::nvmu::auditing::{audited, witnessed};
+use crate::nvmu::fault::Fault;
+use crate::nvmu::refuting::refuted;
+use crate::nvmu::running::recorded;
+use crate::nvmu::words::{Asked, read_words};
+use nvm_front::{
+    FileFault, Output, Progress, UNWRITTEN, WordFault, failed, tell, texts_of, words_given,
+};
+use std::alloc::Global;
+use std::rt::{Env, Files};
+use std::sync::Wait;
+use std::thread::Threads;
+
+/// What the program is called in its lines.
+pub const NVMU: &str = "nvmu";
+
+/// Does what the words of the command line ask for, and gives the exit status: 0, 2 where a record isn't lawful or doesn't
+/// explain the trace, or an argument doesn't refute it, or 1 after a fault. The room of standard output is taken first, so that no memory is wanted for the text once the record of a run is written.
+pub fn nvmu_status<R: AllocGlobal + Env + Files + Input + Print + Eprint + Threads + Wait + Sync>(
+    rt: &R,
+    progress: &Progress<'_, R>,
+) -> u8 {
+    match asked(rt) {
+        Ok(asked) => match Output::standard(rt) {
+            Ok(output) => done(rt, &asked, output, progress),
+            Err(_) => failed(rt, NVMU, Fault::NoMemory),
+        },
+        Err(fault) => match tell(rt, NVMU, fault) {
+            Ok(status) => status,
+            Err(_) => failed(rt, NVMU, UNWRITTEN),
+        },
+    }
+}
+
+/// What the words after the program's name ask for.
+fn asked<R: AllocGlobal + Env>(rt: &R) -> Result<Asked, WordFault> {
+    let words = words_given(rt)?;
+    let texts = texts_of(rt.alloc(), words.as_slice())?;
+    read_words(rt.alloc(), texts.as_slice())
+}
+
+/// Does what is asked, writes the answer to standard output, and gives the exit status.
+fn done<R: AllocGlobal + Files + Input + Print + Eprint + Threads + Wait + Sync>(
+    rt: &R,
+    asked: &Asked,
+    output: Output<'_, R>,
+    progress: &Progress<'_, R>,
+) -> u8 {
+    let answer = answer_to(rt, asked, progress);
+    progress.clear();
+    match answer {
+        Ok(answer) => {
+            let written = print(rt.alloc(), &answer, output);
+            ended(rt, &answer, written)
+        }
+        Err(fault) => failed(rt, NVMU, fault),
+    }
+}
+
+/// Does what is asked. What was read is handed on as it is.
+fn answer_to<R: AllocGlobal + Files + Input + Print + Eprint + Threads + Wait + Sync>(
+    rt: &R,
+    asked: &Asked,
+    progress: &Progress<'_, R>,
+) -> Result<Answer, Fault>
+    ensures { IfOk result (IsAnswerTo asked.now) }
+{
+    match asked {
+        Asked::Run {
+            settings,
+            out,
+            files,
+        } => {
+            let shown = recorded(rt, settings, out.as_str(), files.as_slice(), progress)?;
+            Ok(Answer::Ran(shown))
+        }
+        Asked::Audit(words) => {
+            let judged = audited(rt, words.record.as_str(), progress)?;
+            let telling = words.telling;
+            Ok(Answer::Audited { telling, judged })
+        }
+        Asked::Witness(words) => {
+            let (trace, record) = (words.trace.as_str(), words.record.as_str());
+            let witnessed = witnessed(rt, words.judging, trace, record, progress)?;
+            Ok(Answer::Witnessed(witnessed))
+        }
+        Asked::Refute {
+            judging,
+            trace,
+            argument,
+        } => {
+            let weighed = refuted(rt, *judging, trace.as_str(), argument.as_str(), progress)?;
+            Ok(Answer::Weighed(weighed))
+        }
+    }
+}
+
+/// Writes the answer.
+fn print<R: Files + Print + Eprint>(
+    alloc: Global,
+    answer: &Answer,
+    mut output: Output<'_, R>,
+) -> Result<(), FileFault> {
+    answer.write(alloc, &mut output)?;
+    output.finish()
+}
+
+/// The exit status: the answer's where all of it was written, or else 1, with a line that says so.
+fn ended<R: Eprint>(rt: &R, answer: &Answer, written: Result<(), FileFault>) -> u8
+    ensures { result ≡ ended_status written (status_after answer.now) }
+{
+    match written {
+        Ok(()) => answer.status(),
+        Err(FileFault::NoMemory) => failed(rt, NVMU, Fault::NoMemory),
+        Err(FileFault::Refused(_)) => failed(rt, NVMU, UNWRITTEN),
+    }
+}

@@ -1,0 +1,58 @@
+ghost use Rattle.std.specs.Prelude.{◌≡◌, ℕ, List, OnOk};
+ghost use Rattle.std.specs.Io.KnownBytes.{Appends};
+ghost use Rattle.nvm_commands.specs.Nvmu.Answer.{IsTextOf, status_of};
+
+use nvm_argument::Weighed;
+use nvm_engine::{Judged, Shown, Witnessed};
+use nvm_front::Telling;
+use std::alloc::Global;
+use std::io;
+use std::io::Write;
+
+/// What the program answers on standard output.
+#[derive(Drop)]
+pub enum Answer {
+    /// What a run shows.
+    Ran(Shown),
+    /// How an audit ended, and how it is to be printed.
+    Audited { telling: Telling, judged: Judged },
+    /// What a record says of a trace.
+    Witnessed(Witnessed),
+    /// What an argument says of a trace.
+    Weighed(Weighed),
+}
+
+impl Answer {
+    /// The exit status once it is written: 0, or 2 where a record isn't lawful or doesn't explain the trace, or an argument
+    /// doesn't refute it.
+    pub fn status(&self) -> u8
+        ensures { result ≡ status_of self.now }
+    {
+        match self {
+            Answer::Ran(_) => 0,
+            Answer::Audited { judged, .. } => judged.status(),
+            Answer::Witnessed(witnessed) => witnessed.status(),
+            Answer::Weighed(weighed) => weighed.status(),
+        }
+    }
+
+    /// Writes its text. The text of a run takes no memory.
+    pub fn write<W: Write>(&self, alloc: Global, writer: &mut W) -> io::Result<()>
+        ensures { OnOk result ((text : List ℕ) × IsTextOf self.now text
+            × Appends (W.contents writer.old) (W.contents writer.new) text) }
+    {
+        match self {
+            Answer::Ran(shown) => shown.write_text(writer),
+            Answer::Audited {
+                telling: Telling::Lines,
+                judged,
+            } => judged.write_line(writer),
+            Answer::Audited {
+                telling: Telling::Object,
+                judged,
+            } => writer.write_all(judged.object(alloc)?.as_bytes()),
+            Answer::Witnessed(witnessed) => writer.write_all(witnessed.line(alloc)?.as_bytes()),
+            Answer::Weighed(weighed) => writer.write_all(weighed.line(alloc)?.as_bytes()),
+        }
+    }
+}

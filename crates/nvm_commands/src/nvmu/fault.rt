@@ -1,0 +1,43 @@
+ghost use Rattle.std.specs.Prelude.{◌≡◌};
+ghost use Rattle.nvm_commands.specs.declared.nvmu.fault.Fault.TheVariants.{NoMemory};
+
+use nvm_argument::WeighFault;
+use nvm_engine::Fault as EngineFault;
+use std::alloc::{AllocError, AllocFailed};
+use thiserror::Error;
+
+/// Why the program answers nothing. Each prints its one line, without the program's name.
+#[derive(Debug, Drop, Error)]
+pub enum Fault {
+    /// A file couldn't be read.
+    #[error("cannot read {path}")]
+    CannotRead { path: String },
+    /// The record couldn't be written.
+    #[error("cannot write {path}")]
+    CannotWrite { path: String },
+    /// The options, a host file, a record or a trace isn't one, or memory was refused.
+    #[error("{0}")]
+    Engine(EngineFault),
+    /// A trace or an argument isn't one, or memory was refused.
+    #[error("{0}")]
+    Weigh(WeighFault),
+    /// Memory was asked for and refused, outside the engine and the weighing of an argument.
+    #[error("no memory")]
+    NoMemory,
+}
+
+impl From<AllocError> for Fault {
+    ghost from_gives = { λ _ e. e ≡ NoMemory };
+
+    fn from(_e: AllocError) -> Fault {
+        Fault::NoMemory
+    }
+}
+
+impl<T: Drop> From<AllocFailed<T>> for Fault {
+    ghost from_gives = { λ _ e. e ≡ NoMemory };
+
+    fn from(_e: AllocFailed<T>) -> Fault {
+        Fault::NoMemory
+    }
+}

@@ -1,7 +1,0 @@
-use Rattle.std.proofs.Common.{inr}
-use Rattle.std.proofs.lemmas.Result.{IfErr-weaker}
-use Rattle.nvmu.proofs.auditing.witnessed.Goals as goal
-
--- The fault is that of the bytes that were read.
-pub returns-clause-fault : goal.returns-clause-fault
-returns-clause-fault g c = IfErr-weaker c.witnessed_of.result _ _ (λ failure first. inr (_, _, first)) c.witnessed_of.ensures.fault
