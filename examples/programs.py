@@ -164,13 +164,6 @@ dataset 7+2
 compare 0 2 63*01,64*02,65*03,128*07,129*08,1*09,574*0a
 """
 
-BENCH = "unit_bench: expected unit, versions, mutex, looks or ports, 1 to 1024 units, 1 to 63 threads, 1 to 4194304 changes or looks, 1 to 65536 blocks, "
-BENCH += "or run, 0 or 15 to 65535 for the boundary, 1 to 64 workers, a host file\n"
-NO_BENCH = ["", "unit 1 1 1", "unit 1 1 1 1 1", "lock 1 1 1 1", "unit 0 1 1 1", "unit 1025 1 1 1", "unit 1 64 1 1"]
-NO_BENCH += ["run 0 0 file", "run 0 65 file", "run 65536 1 file", "run 1 1 file", "run 0 1", "run 0 1 file 1"]
-NO_BENCH += ["unit 1 1 4194305 1", "unit 1 1 1 65537", "unit 1 1 1 x", "unit 1 1 0 1", "mutex 1 0 1 1", "mutex 1 1 1 0"]
-BENCHES = ["unit 2 3 101 5", "mutex 2 3 101 5", "unit 1 1 1 1", "mutex 1024 63 1 1", "mutex 1 1 1 65536", "looks 2 3 101 5", "looks 1 1 1 1"]
-
 
 class Programs:
     """Runs the built programs in a folder of its own, and counts the runs that ended as they must."""
@@ -384,29 +377,13 @@ def records_of_certify(run):
     run.expect(["nvmu", "witness", "right.nvt", "right.nvr"], out=EXPLAINED)
 
 
-def words_of_unit_bench(run):
-    for given in NO_BENCH:
-        run.expect(["unit_bench", *given.split()], 1, err=BENCH)
-    for given in BENCHES:
-        target, _units, _threads, number, _blocks = given.split()
-        run.expect(["unit_bench", *given.split()], out=f"{'looks' if target == 'looks' else 'changes'} {number}\n", err=SOME)
-    commands = [command for commands, _lines in SEVERAL.values() for command in commands(0)]
-    run.keep("measured", file_of(commands))
-    for boundary in (0, 15):
-        for workers in (1, 2, 64):
-            run.expect(["unit_bench", "run", str(boundary), str(workers), "measured"], out=f"jobs {len(SEVERAL)}\n", err=SOME)
-    run.keep("no-file", b"NVQ2")
-    for name in ("absent", "no-file"):
-        run.expect(["unit_bench", "run", "0", "1", name], 1, err="unit_bench: no host file\n")
-
-
 TABLES = [lists, wrong_lists, words_of_nvq, listings, listed_objects, lists_run, lists_expected, objects_run, lists_generated, explained, outs_of_nvq, words_of_nvmu, files_of_nvmu, files_that_stop, several_workers]
 TABLES += [versions, standard_input, files_of_another_kind, outs_that_are_read]
-TABLES += [traces, words_of_certify, records_of_certify, arguments, devices, outs_of_nvmu, shown_nowhere, progress, runs, rows, forged, spoiled, faulty, two_owners, words_of_unit_bench, unbuilt]
+TABLES += [traces, words_of_certify, records_of_certify, arguments, devices, outs_of_nvmu, shown_nowhere, progress, runs, rows, forged, spoiled, faulty, two_owners, unbuilt]
 
 
 # What a table runs that runs something else than both programs for people.
-OTHERS = {words_of_unit_bench: {"unit_bench"}, unbuilt: set()}
+OTHERS = {unbuilt: set()}
 
 
 def tried(lacking=()):

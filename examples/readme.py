@@ -20,7 +20,6 @@ APART = {
     "./test": None,  # the gate, which calls this
     "./package": None,  # clients/check-package tries what it makes
     "./build": None,  # the gate has proved and built all that it would
-    "(cd crates/unit_bench &&": None,  # the gate has built it, and another build would prove it again
     "bench/": "--help",  # these take minutes
     "edits/try": "--help",
     "rt try": None,  # using.py does what that page says

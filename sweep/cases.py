@@ -18,7 +18,7 @@ from recorded import jobs_of, recorded, wants_of
 from records import RecordFault, record_of, spelled
 
 # How an assertion prints the want of memory that a call gave.
-GIVEN_FOR_MEMORY = re.compile(r'"(nvmu|nvq|unit_bench): no memory"|(Err|Some)\((NoMemory|AllocError|AllocFailed \{ \.\. \})\)')
+GIVEN_FOR_MEMORY = re.compile(r'"(nvmu|nvq): no memory"|(Err|Some)\((NoMemory|AllocError|AllocFailed \{ \.\. \})\)')
 
 
 # How a run is called that had the memory for its commands, and none for a thread.

@@ -5,10 +5,9 @@ import os
 import calls
 import nvmu
 import nvq
-import unit_bench
 
 CRATES = os.path.join(os.path.dirname(os.path.dirname(os.path.realpath(__file__))), "crates")
-RUNS = {"nvmu": nvmu.runs, "nvq": nvq.runs, "nvm_calling": calls.calls, "nvm_rows": calls.groups, "unit_bench": unit_bench.runs}
+RUNS = {"nvmu": nvmu.runs, "nvq": nvq.runs, "nvm_calling": calls.calls, "nvm_rows": calls.groups}
 # Growths aren't refused to this one.
 UNREFUSED = "nvm_calling"
 

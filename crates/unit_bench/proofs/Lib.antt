@@ -1,3 +1,0 @@
-mod Newcomers
-mod Reading
-pub mod AllPorts

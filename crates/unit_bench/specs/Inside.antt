@@ -1,3 +1,0 @@
--- What only the program itself cites.
-pub mod Runs
-pub mod Words
