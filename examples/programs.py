@@ -15,7 +15,9 @@ sys.dont_write_bytecode = True
 sys.path[:0] = [HERE, os.path.join(TOP, "sweep")]
 
 from arguments import arguments
+from crowds import crowds
 from devices import devices
+from entries import entries
 from explained import explained
 from faulty import faulty
 from forged import forged, spoiled
@@ -379,7 +381,7 @@ def records_of_certify(run):
 
 TABLES = [lists, wrong_lists, words_of_nvq, listings, listed_objects, lists_run, lists_expected, objects_run, lists_generated, explained, outs_of_nvq, words_of_nvmu, files_of_nvmu, files_that_stop, several_workers]
 TABLES += [versions, standard_input, files_of_another_kind, outs_that_are_read]
-TABLES += [traces, words_of_certify, records_of_certify, arguments, devices, outs_of_nvmu, shown_nowhere, progress, runs, rows, forged, spoiled, faulty, two_owners, unbuilt]
+TABLES += [traces, words_of_certify, records_of_certify, arguments, devices, outs_of_nvmu, shown_nowhere, progress, runs, rows, crowds, entries, forged, spoiled, faulty, two_owners, unbuilt]
 
 
 # What a table runs that runs something else than both programs for people.

@@ -268,6 +268,26 @@ lawful jobs 5 units 4 changes 2 refused 0
 1 3 read 0/00 512*41
 lawful jobs 3 units 4 changes 2 refused 1
 """),
+    "the last blocks of a unit of 3,000, and then all": (
+        {"nsze": 3000, "nabsn": 0},
+        [[write(2996, 1, 2, 3), zeroes(2997, 3), uncorrectable(2998, 1), read(2996, 2), read(2996, 4), zeroes(0, 3000), read(0, 3000)]],
+        """1 1 write 0/00
+1 2 zeroes 0/00
+1 3 uncorrectable 0/00
+1 4 read 0/00 512*01,512*00
+1 5 read 2/81
+1 6 zeroes 0/00
+1 7 read 0/00 1536000*00
+lawful jobs 7 units 1 changes 4 refused 0
+""",
+    ),
+    "ranges over 4,096 units of two blocks, which overlap, from the back": (
+        {"nsze": 8192, "nabsn": 1, "nawun": 1, "nacwu": 1},
+        [[dataset((4000, 4192), (9, 0), (1, 4100), (0, 1))]],
+        """1 1 dataset 0/00
+lawful jobs 1 units 4096 changes 4096 refused 0
+""",
+    ),
     "the highest limit": ({"limit": MOST_LIMIT[2]}, [[write(0, 0x41), read(0, 1)]], """1 1 write 0/00
 1 2 read 0/00 512*41
 lawful jobs 2 units 4 changes 1 refused 0
