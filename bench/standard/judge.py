@@ -171,14 +171,12 @@ class Table:
     def dataset(self, job, command, status):
         if "deallocate" not in command.options or status in ((0, 0x01), (0, 0x0B)):
             return [[]]
-        named = {
-            block
-            for first, count in command.ranges
-            for block in range(first, min(first + count, self.head["nsze"]))
-        }
         over = math.inf if kind(status) == "host" else job.ended
-        values = {block: self.deallocated for block in named}
-        return [self.each(job, values, True, sure=False, late=True, over=over, kind="deallocate")]
+        points = []
+        for first, count in command.ranges:
+            values = {block: self.deallocated for block in range(first, min(first + count, self.head["nsze"]))}
+            points += self.each(job, values, True, sure=False, late=True, over=over, kind="deallocate")
+        return [points]
 
     def unknown(self, job, command, status, named):
         silent = ("op-00", "op-0c", "op-0d", "op-0e", "op-11", "op-15")
