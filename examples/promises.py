@@ -25,14 +25,16 @@ def texts_of(*parts):
 
 def is_there(name, sources, everywhere):
     """Whether the clause, or what else stands in that column, is there."""
-    if re.search(r"\.(rt|antt|py|json)$", name) or name in os.listdir(f"{TOP}/crates"):
+    if re.search(r"\.(rt|antt|py|json)$", name):
+        return bool(glob.glob(f"{TOP}/**/{name}", recursive=True))
+    if name in os.listdir(f"{TOP}/crates"):
         return True
     called, _, clause = name.partition(".")
     called = called.split("::")[-1]
     if clause:
         # A clause of a function, or a field of a definition.
         return bool(re.search(rf"\b{called}\b", sources) and re.search(rf"\bensures {clause}\b|\b{clause} :", sources))
-    return bool(re.search(rf"{KINDS}{called}\b|^(?:abbrev )?(?:pub )?{called} :|^{called}\b|ghost {called}\b", sources + everywhere, re.MULTILINE)) or called in sources
+    return bool(re.search(rf"{KINDS}{called}\b|^(?:abbrev )?(?:pub )?{called} :|^{called}\b|ghost {called}\b", sources + everywhere, re.MULTILINE) or re.search(rf"\b{called}\b", sources))
 
 
 def faults():

@@ -27,11 +27,11 @@ def in_units(lines):
             continue
         if head is None:
             head = dict(zip(words[1::2], words[2::2]))
-            size, offset = int(head["nabsn"]) + 1, int(head["nabo"])
+            size, offset, nsze = int(head["nabsn"]) + 1, int(head["nabo"]), int(head["nsze"])
             continue
         unit_of = lambda lba: 0 if size == 1 or lba < offset else 1 + (lba - offset) // size
         ended = LASTS if words[1] == "-" else int(words[1])
-        met = {unit for first, blocks in ranges_in(words[4:]) if blocks for unit in range(unit_of(first), unit_of(first + blocks - 1) + 1)}
+        met = {unit for first, blocks in ranges_in(words[4:]) if blocks for unit in range(unit_of(first), unit_of(min(first + blocks, nsze) - 1) + 1)}
         for unit in met:
             found[unit].append((int(words[0]), ended, count))
         count += 1
