@@ -1,0 +1,10 @@
+pub mod Standing
+pub mod Timely
+pub mod Latest
+pub mod Setting
+pub mod Blocks
+pub mod Eaches
+pub mod First
+pub mod Noting
+pub mod Present
+pub mod Tied

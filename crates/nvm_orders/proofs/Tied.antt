@@ -1,0 +1,42 @@
+-- What the rows of a whole order say of entries beside tied points.
+use Rattle.std.proofs.Common.{◌≡◌, ◌≢◌, ℕ, ◌+◌, ◌-◌, ◌<◌, true, false, List, Some, All, length, slice_get, sym, subst, ◌∙◌, arith}
+use Rattle.std.proofs.lemmas.Option.{slice_get_within}
+use Rattle.nvm_points.specs.PointView.{PointView, TableView}
+use Rattle.nvm_points.specs.declared.point.Presence.TheVariants.{Repeated}
+use Rattle.nvm_orders.specs.Clauses.{KeepsTied}
+use Rattle.nvm_orders.specs.Explanation.{IsPlacedRight}
+use Rattle.nvm_orders.specs.Inside.Done.{IsRowOf}
+use Rattle.nvm_orders.specs.Inside.Right.{KeepsTiedOne, StaysOut}
+use Rattle.nvm_orders.specs.OrderView.{OrderView, PlacedView}
+use Rattle.nvm_orders.specs.Places.{StandsAt, HasBlock, IsDoneAt}
+use Rattle.nvm_orders.proofs.Present.{done_low, done_row}
+use Rattle.nvm_orders.proofs.Standing.{some_same}
+
+same_its : (t : TableView) (o : OrderView) (i n : ℕ) (p : PlacedView) (q q' : PointView) → StandsAt t o i p q' → p.point ≡ n
+    → slice_get t.points n ≡ Some q → q' ≡ q
+same_its t o i n p q q' s is its =
+    let its' : slice_get t.points n ≡ Some q' = subst (λ (m : ℕ). slice_get t.points m ≡ Some q') is s.its in
+    some_same q' q (sym its' ∙ its)
+
+pub untied_one : (t : TableView) (o : OrderView) (n : ℕ) (q : PointView) → slice_get t.points n ≡ Some q → q.tied ≡ false → KeepsTiedOne t o n
+untied_one t o n q its untied i j k x y p p' q0 q' less more s tied is has s' put each hasx hasy done =
+    let e : q0 ≡ q = same_its t o i n p q q0 s is its in
+    let tied' : q.tied ≡ true = subst (λ (r : PointView). r.tied ≡ true) e tied in cc
+
+pub tied_one : (t : TableView) (o : OrderView) (n : ℕ) (q : PointView) (row : List ℕ) → All (IsPlacedRight t) o.placed → slice_get t.points n ≡ Some q
+    → q.presence ≢ Repeated → IsRowOf o (length o.placed) n q row → ((j : ℕ) → StaysOut t o row q.first j) → KeepsTiedOne t o n
+tied_one t o n q row right its ne is out i j k x y p p' q0 q' less more s tied at has s' put each hasx hasy done =
+    let donex : IsDoneAt o n x i = record { p = p; placed = s.placed; its = at; block = has } in
+    let lx = done_low t o n x i q right its donex in
+    let ly = done_low t o n y k q right its done in
+    let wx = done_row o n x i q row is ne donex in
+    let wy = done_row o n y k q row is ne done in
+    let bx : x ≡ q.first + (x - q.first) = omega (arith, lx) in
+    let by' : y ≡ q.first + (y - q.first) = omega (arith, ly) in
+    out j p' q' s' put each (x - q.first) (y - q.first) (subst (HasBlock p') bx hasx) (subst (HasBlock p') by' hasy)
+    (λ none. absurd (omega (arith, none, wx))) (omega (arith, wx, less)) (omega (arith, wy, more))
+
+pub tied_all : (t : TableView) (o : OrderView) → ((n : ℕ) → n < length t.points → KeepsTiedOne t o n) → KeepsTied t o
+tied_all t o each i j k n x y p p' q q' less more s tied is has s' put entry hasx hasy done =
+    let inside : p.point < length t.points = slice_get_within t.points p.point q s.its in
+    each n (omega (arith, inside, is)) i j k x y p p' q q' less more s tied is has s' put entry hasx hasy done

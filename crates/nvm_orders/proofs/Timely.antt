@@ -1,0 +1,41 @@
+-- One more position of an order that keeps time.
+use Rattle.std.proofs.Common.{ℕ, ◌+◌, ◌<◌, ◌≤◌, inl, inr, IfSome, length, max, subst, arith}
+use Rattle.nvm_points.specs.PointView.{PointView, TableView}
+use Rattle.nvm_orders.specs.Clauses.{KeepsTime}
+use Rattle.nvm_orders.specs.Inside.Timely.{KeepsTimeTo, BeganBy}
+use Rattle.nvm_orders.specs.OrderView.{OrderView, PlacedView}
+use Rattle.nvm_orders.specs.Places.{StandsAt}
+use Rattle.nvm_orders.proofs.Standing.{earlier_or_last, same_point, within, in_time}
+
+-- what is before the last position is in time there
+at_last : (t : TableView) (o : OrderView) (k time : ℕ) (p0 : PlacedView) (q0 : PointView) → StandsAt t o k p0 q0
+    → IfSome q0.until (λ w. time ≤ w) → BeganBy t o k time
+    → (i : ℕ) (p p' : PlacedView) (q q' : PointView) → i < k → StandsAt t o i p q → StandsAt t o k p' q'
+    → IfSome q'.until (λ w. q.from ≤ w)
+at_last t o k time p0 q0 s0 intime began i p p' q q' less s s' =
+    subst (λ (r : PointView). IfSome r.until (λ w. q.from ≤ w)) (same_point t o k p0 p' q0 q' s0 s')
+    (in_time q0.until q.from time (began i p q less s) intime)
+
+pub keeps_more : (t : TableView) (o : OrderView) (k time : ℕ) (p0 : PlacedView) (q0 : PointView) → StandsAt t o k p0 q0
+    → IfSome q0.until (λ w. time ≤ w) → BeganBy t o k time → KeepsTimeTo t o k → KeepsTimeTo t o (k + 1)
+keeps_more t o k time p0 q0 s0 intime began kept i j p p' q q' less below s s' =
+    elim (earlier_or_last j k below) [
+      | inl h ↦ kept i j p p' q q' less h s s'
+      | inr e ↦
+          at_last t o k time p0 q0 s0 intime began i p p' q q' (omega (arith, less, e)) s
+          (subst (λ (m : ℕ). StandsAt t o m p' q') e s')
+    ]
+
+pub began_more : (t : TableView) (o : OrderView) (k time : ℕ) (p0 : PlacedView) (q0 : PointView) → StandsAt t o k p0 q0
+    → BeganBy t o k time → BeganBy t o (k + 1) (max q0.from time)
+began_more t o k time p0 q0 s0 began i p q below s =
+    elim (earlier_or_last i k below) [
+      | inl h ↦ let old : q.from ≤ time = began i p q h s in omega arith
+      | inr e ↦
+          subst (λ (r : PointView). r.from ≤ max q0.from time) (same_point t o k p0 p q0 q s0 (subst (λ (m : ℕ). StandsAt t o m p q) e s))
+          (omega arith)
+    ]
+
+pub keeps_all : (t : TableView) (o : OrderView) (k : ℕ) → length o.placed ≤ k → KeepsTimeTo t o k → KeepsTime t o
+keeps_all t o k long kept i j p p' q q' less s s' =
+    let inside = within t o j p' q' s' in kept i j p p' q q' less (omega (arith, inside, long)) s s'

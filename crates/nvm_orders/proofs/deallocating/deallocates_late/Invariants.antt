@@ -1,0 +1,11 @@
+use Rattle.nvm_points.specs.PointView.{seen_table}
+use Rattle.nvm_orders.specs.Inside.Latest.{AreLatest, KeepsDeallocatesTo}
+use Rattle.nvm_orders.specs.OrderView.{seen_order}
+use Rattle.nvm_orders.proofs.deallocating.deallocates_late.Given as goal
+
+abbrev pub invariant-loop-position : goal.invariant-loop-position
+invariant-loop-position l =
+    record {
+      latest_are : AreLatest (seen_table l.points) (seen_order l.order) l.position l.latest.items;
+      kept : KeepsDeallocatesTo (seen_table l.points) (seen_order l.order) l.position;
+    }

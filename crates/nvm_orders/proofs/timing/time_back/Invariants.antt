@@ -1,0 +1,12 @@
+use Rattle.nvm_points.specs.PointView.{seen_table}
+use Rattle.nvm_orders.specs.Inside.Timely.{KeepsTimeTo, BeganBy}
+use Rattle.nvm_orders.specs.OrderView.{seen_order}
+use Rattle.nvm_orders.proofs.timing.time_back.Given as goal
+
+-- Up to here the order keeps time, and no command of it began after this time.
+abbrev pub invariant-loop-position : goal.invariant-loop-position
+invariant-loop-position l =
+    record {
+      kept : KeepsTimeTo (seen_table l.points) (seen_order l.order) l.position;
+      began : BeganBy (seen_table l.points) (seen_order l.order) l.position l.latest;
+    }
