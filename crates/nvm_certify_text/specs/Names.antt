@@ -1,9 +1,9 @@
 -- How a text names the pieces of a trace's commands (own): by the number of the command in the trace, and what of it the piece is.
-use Rattle.std.specs.Prelude.{ℕ, List, [], ◌++◌, map, Option, Some, None, slice_get, codes, decimal}
+use Rattle.std.specs.Prelude.{ℕ, List, map, Option, Some, None, slice_get}
 use Rattle.std.specs.List.{enumerate_from, flat_map}
 use Rattle.nvm_geometry.specs.Namespace.{Namespace}
 use Rattle.nvm_trace.specs.declared.cut.Cut.{Cut}
-use Rattle.nvm_trace.specs.declared.cut.Cut.TheVariants.{Whole, Block, InUnit}
+use Rattle.nvm_trace.specs.declared.cut.Cut.TheVariants.{Whole}
 use Rattle.nvm_trace.specs.declared.judging.Judging.{Judging}
 use Rattle.nvm_trace.specs.declared.reads.Reads.{Reads}
 use Rattle.nvm_trace.specs.declared.traced_job.TracedJob.{TracedJob}
@@ -29,11 +29,3 @@ name_if number (Some name) = name
 -- the name of the piece of this number; one that the trace hasn't is called as if it were a job of this number
 unfoldable pub name_at : List PieceName → ℕ → PieceName
 name_at ns number = name_if number (slice_get ns number)
-
-abbrev pub cut_text : Cut → List ℕ
-cut_text Whole = []
-cut_text (Block k) = codes " block " ++ decimal k
-cut_text (InUnit unit) = codes " in unit " ++ decimal unit
-
-unfoldable pub name_text : PieceName → List ℕ
-name_text name = codes "job " ++ (decimal name.job ++ cut_text name.cut)

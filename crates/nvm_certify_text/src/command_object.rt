@@ -1,9 +1,7 @@
 //! A command or a fused pair of a trace as an object of JSON.
-ghost use Rattle.std.specs.Prelude.{◌≡◌, ◌++◌, OnOk, Some, string_bytes};
-ghost use Rattle.nvm_certify_text.specs.CommandObjects as spec;
 
 use crate::values::NumberValue;
-use nvm_objects::{DataValue, SentObjects, StatusStrings};
+use nvm_listing::{DataValue, SentObjects, StatusStrings};
 use nvm_record::NoMemory;
 use nvm_trace::{Ending, TracedJob};
 use nvm_trace_text::time_of;
@@ -15,13 +13,11 @@ use std::fmt::{Display, Formatter};
 struct ReplyMembers<'a>(&'a Option<Ending>);
 
 impl Display for ReplyMembers<'_> {
-    ghost output = { λ members. Some (spec.reply_members members.0.now) };
-
     fn fmt<W: fmt::Write>(&self, f: &mut Formatter<W>) -> fmt::Result {
         match self.0 {
             Some(ending) => {
                 let statuses = StatusStrings(ending.statuses);
-                let data = DataValue(&ending.payload);
+                let data = DataValue(ending.payload.as_ref());
                 write!(f, "\"statuses\":[{statuses}],\"data\":{data}")
             }
             None => f.write_str("\"statuses\":[],\"data\":null"),
@@ -30,14 +26,11 @@ impl Display for ReplyMembers<'_> {
 }
 
 /// Appends the object of the job of this number.
-#[tactic(auto, unfolding(crate::specs::CommandObjects::command_object))]
 pub(crate) fn push_command_object(
     text: &mut String,
     number: usize,
     job: &TracedJob,
-) -> Result<(), NoMemory>
-    ensures { OnOk result (string_bytes text.new ≡ string_bytes text.old ++ spec.command_object (number, job.now)) }
-{
+) -> Result<(), NoMemory> {
     let began = job.began;
     let ended = NumberValue(time_of(&job.ended));
     let host = job.job.host;

@@ -1,5 +1,5 @@
 //! What a fact says, and by which rule.
-ghost use Rattle.std.specs.Prelude.{◌≡◌, ◌++◌, OnOk, Some, string_bytes};
+ghost use Rattle.std.specs.Prelude.{◌≡◌};
 ghost use Rattle.nvm_certify_text.specs.Facts as spec;
 
 use crate::naming::{PieceName, name_at};
@@ -16,9 +16,6 @@ use std::fmt::{Display, Formatter};
 struct OrderText(Option<Order>);
 
 impl Display for OrderText {
-    ghost output = { λ text. Some (spec.order_text text.0) };
-
-    #[tactic(auto, unfolding(crate::specs::Facts::order_text))]
     fn fmt<W: fmt::Write>(&self, f: &mut Formatter<W>) -> fmt::Result {
         match self.0 {
             Some(order) => write!(f, "{} stands before {}: ", order.before, order.after),
@@ -56,9 +53,7 @@ pub fn push_fact(
     names: &[PieceName],
     jobs: &[TracedJob],
     fact: Fact,
-) -> Result<(), NoMemory>
-    ensures { OnOk result (string_bytes text.new ≡ string_bytes text.old ++ spec.fact_line names.now jobs.now fact) }
-{
+) -> Result<(), NoMemory> {
     let order = OrderText(order_of(names, fact));
     match fact {
         Fact::Time { earlier, later } => {

@@ -1,6 +1,4 @@
 //! A fact as an object of JSON.
-ghost use Rattle.std.specs.Prelude.{◌≡◌, ◌++◌, OnOk, Some, string_bytes};
-ghost use Rattle.nvm_certify_text.specs.FactObjects as spec;
 
 use crate::fact_line::{began_at, ended_at};
 use crate::naming::{PieceName, name_at};
@@ -17,9 +15,6 @@ use std::fmt::{Display, Formatter};
 pub(crate) struct PieceObject(pub(crate) PieceName);
 
 impl Display for PieceObject {
-    ghost output = { λ piece. Some (spec.piece_object piece.0) };
-
-    #[tactic(auto, unfolding(crate::specs::FactObjects::piece_object))]
     fn fmt<W: fmt::Write>(&self, f: &mut Formatter<W>) -> fmt::Result {
         let job = self.0.job;
         match self.0.cut {
@@ -35,9 +30,6 @@ impl Display for PieceObject {
 pub(crate) struct PieceValue(pub(crate) Option<PieceName>);
 
 impl Display for PieceValue {
-    ghost output = { λ value. Some (spec.piece_or_null value.0) };
-
-    #[tactic(auto, unfolding(crate::specs::FactObjects::piece_or_null))]
     fn fmt<W: fmt::Write>(&self, f: &mut Formatter<W>) -> fmt::Result {
         match self.0 {
             Some(name) => write!(f, "{}", PieceObject(name)),
@@ -51,9 +43,6 @@ impl Display for PieceValue {
 struct OrderMembers(Option<Order>);
 
 impl Display for OrderMembers {
-    ghost output = { λ members. Some (spec.order_members members.0) };
-
-    #[tactic(auto, unfolding(crate::specs::FactObjects::order_members))]
     fn fmt<W: fmt::Write>(&self, f: &mut Formatter<W>) -> fmt::Result {
         match self.0 {
             Some(order) => {
@@ -72,9 +61,7 @@ pub(crate) fn push_fact_object(
     names: &[PieceName],
     jobs: &[TracedJob],
     fact: Fact,
-) -> Result<(), NoMemory>
-    ensures { OnOk result (string_bytes text.new ≡ string_bytes text.old ++ spec.fact_object names.now jobs.now fact) }
-{
+) -> Result<(), NoMemory> {
     let order = OrderMembers(order_of(names, fact));
     match fact {
         Fact::Time { earlier, later } => {

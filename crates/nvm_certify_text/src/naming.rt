@@ -1,5 +1,5 @@
 //! How the pieces of a trace's commands are named.
-ghost use Rattle.std.specs.Prelude.{◌≡◌, ◌++◌, IfOk, OnOk, Some, map};
+ghost use Rattle.std.specs.Prelude.{◌≡◌, ◌++◌, IfOk, OnOk, map};
 ghost use Rattle.std.specs.List.{range_with_len};
 ghost use Rattle.nvm_plan.specs.JobPart.{job_units as units_of_job};
 ghost use Rattle.nvm_trace.specs.declared.cut.Cut.TheVariants.{Block, InUnit};
@@ -21,9 +21,6 @@ pub struct PieceName {
 }
 
 impl Display for PieceName {
-    ghost output = { λ name. Some (spec.name_text name) };
-
-    #[tactic(auto, unfolding(crate::specs::Names::name_text))]
     fn fmt<W: fmt::Write>(&self, f: &mut Formatter<W>) -> fmt::Result {
         let job = self.job;
         match self.cut {

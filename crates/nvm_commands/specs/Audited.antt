@@ -9,9 +9,8 @@ use Rattle.nvm_engine.specs.VerdictLine.{answer_line, answer_status}
 use Rattle.nvm_engine.specs.VerdictObject.{answer_object}
 use Rattle.nvm_trace_text.specs.WitnessLine.{witness_line}
 use Rattle.nvm_engine.specs.Witnessed.{IsWitnessed, witness_status}
-use Rattle.nvm_faults.specs.AllFaults.{AreFaults}
-use Rattle.nvm_faults.specs.FaultsText.{faults_text, faults_status}
-use Rattle.nvm_faults.specs.declared.faults.Faults.{Faults}
+use Rattle.nvm_listing.specs.AllFaults.{AreFaults, faults_status}
+use Rattle.nvm_listing.specs.declared.faults.Faults.{Faults}
 use Rattle.nvm_file.specs.Reading.{record_at}
 use Rattle.nvm_front.specs.Standard.{names_input}
 use Rattle.nvm_front.specs.declared.judging_words.Telling.{Telling}
@@ -39,14 +38,13 @@ pub record IsAuditedFile (telling : Telling) (told : AuditedRecord) : Type 0 whe
   pub text : told.text.items ≡ answer_told telling answer
   pub status : told.status ≡ answer_status answer
 
--- The text and the status are those of all that is wrong in a file's record, or of its verdict.
+-- The status is that of all that is wrong in a file's record, or of its verdict.
 pub record AreFaultsOfFile (told : AuditedRecord) : Type 0 where
   pub file : List ℕ
   pub run : RecordView
   pub holds : record_at file ≡ Ok run
   pub faults : Faults
   pub found : AreFaults run faults
-  pub text : told.text.items ≡ faults_text faults
   pub status : told.status ≡ faults_status faults
 
 -- The record couldn't be read, or else it is its first fault, or else the text couldn't be written.

@@ -1,14 +1,10 @@
--- What is found out about the trace of a file and how it is printed, and why nothing is. What is in a file no definition can say, so
+-- What is found out about the trace of a file, and why nothing is. What is in a file no definition can say, so
 -- its bytes are some.
 use Rattle.std.specs.Prelude.{◌≡◌, ◌⊎◌, ℕ, List, String, Option, Some, None, codes, string_bytes}
 use Rattle.std.specs.Global.{Global}
 use Rattle.nvm_certify.specs.Certified.{IsCertified}
-use Rattle.nvm_certify.specs.declared.certification.Certification.{Certification}
-use Rattle.nvm_certify_text.specs.Verdict.{certification_text, certification_status}
-use Rattle.nvm_certify_text.specs.VerdictObject.{certification_object}
+use Rattle.nvm_certify_text.specs.Verdict.{certification_status}
 use Rattle.nvm_file.specs.TraceFile.{IsTraceFile}
-use Rattle.nvm_front.specs.declared.judging_words.Telling.{Telling}
-use Rattle.nvm_front.specs.declared.judging_words.Telling.TheVariants.{Lines, Object}
 use Rattle.nvm_trace.specs.TraceView.{TraceView}
 use Rattle.nvm_trace.specs.declared.judging.Judging.{Judging}
 use Rattle.nvm_commands.specs.Fault.{IsFaultOfTraceAt}
@@ -18,17 +14,12 @@ use Rattle.nvm_commands.specs.declared.certifying_words.CertifyWords.{CertifyWor
 use Rattle.nvm_commands.specs.declared.fault.Fault.{Fault}
 use Rattle.nvm_commands.specs.declared.fault.Fault.TheVariants.{ArgumentAmongLines, RecordAmongLines}
 
-abbrev pub told_as : Telling → Judging → TraceView → Certification → List ℕ
-told_as Lines = certification_text
-told_as Object = certification_object
-
--- The verdict is one on the trace of a file, and so are its text and its status.
-pub record IsCertifiedFile (judging : Judging) (telling : Telling) (told : CertifiedTrace) : Type 0 where
+-- The verdict is one on the trace of a file, and so is its status.
+pub record IsCertifiedFile (judging : Judging) (told : CertifiedTrace) : Type 0 where
   pub file : List ℕ
   pub seen : TraceView
   pub seen_file : IsTraceFile file seen
   pub verdict : IsCertified judging seen told.certification
-  pub text : string_bytes told.text ≡ told_as telling judging seen told.certification
   pub status : told.status ≡ certification_status told.certification
 
 -- The record would go to standard output, or couldn't be written to its path.

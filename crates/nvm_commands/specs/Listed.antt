@@ -13,8 +13,6 @@ use Rattle.nvm_engine.specs.VerdictObject.{answer_object}
 use Rattle.nvm_file.specs.Reading.{record_at}
 use Rattle.nvm_file.specs.TraceFile.{IsTraceFile}
 use Rattle.nvm_list.specs.Listing.{listing}
-use Rattle.nvm_listing_objects.specs.ListingObjects.{listing_objects}
-use Rattle.nvm_report.specs.RecordListing.{record_listing}
 use Rattle.nvm_trace.specs.TraceView.{TraceView}
 use Rattle.nvm_trace_text.specs.Listing.{text_of}
 use Rattle.nvm_commands.specs.Fault.{IsFaultOfFile, IsFaultOfRecord, IsFaultOfTrace}
@@ -26,9 +24,9 @@ begins_as_record file = bytes_eq (take 3 file) (codes "NVR")
 abbrev pub begins_as_trace : List ℕ → Bool
 begins_as_trace file = bytes_eq (take 3 file) (codes "NVT")
 
--- The text lists the record that the file holds.
-abbrev pub ListsRecord : List ℕ → List ℕ → Type 0
-ListsRecord file text = (run : RecordView) × (record_at file ≡ Ok run) × (text ≡ record_listing run)
+-- The file holds a record.
+abbrev pub HoldsRecord : List ℕ → Type 0
+HoldsRecord file = (run : RecordView) × (record_at file ≡ Ok run)
 
 -- The text lists the commands of the host file.
 abbrev pub ListsCommands : ℕ → List ℕ → List ℕ → Type 0
@@ -38,9 +36,9 @@ ListsCommands size file text = (cs : List Command) × IsHostFile size file cs ×
 abbrev pub ListsTrace : List ℕ → List ℕ → Type 0
 ListsTrace file text = (t : TraceView) × IsTraceFile file t × (text ≡ text_of t)
 
--- The text lists what the file holds: a record, or else a trace, or else a host file.
+-- The file holds a record, or else a trace, or else a host file, and of the latter two the text lists what it holds.
 abbrev pub ListsAs : Bool → Bool → ℕ → List ℕ → List ℕ → Type 0
-ListsAs true trace size file text = ListsRecord file text
+ListsAs true trace size file text = HoldsRecord file
 ListsAs false true size file text = ListsTrace file text
 ListsAs false false size file text = ListsCommands size file text
 
@@ -56,12 +54,13 @@ IsListFaultAs false false path size file e = IsFaultOfFile path size file e
 abbrev pub IsListFault : String Global → ℕ → List ℕ → Fault → Type 0
 IsListFault path size file e = IsListFaultAs (begins_as_record file) (begins_as_trace file) path size file e
 
--- The text is the objects of the record that a file holds, and after them that of what an audit answers of it. What is in the file
--- no definition can say, so its bytes are some.
+-- The text ends with the object of what an audit answers of the record that a file holds. What is in the file no definition can say,
+-- so its bytes are some.
 pub record AreObjectsOfFile (text : List ℕ) : Type 0 where
   pub file : List ℕ
   pub run : RecordView
   pub holds : record_at file ≡ Ok run
   pub answer : Result Verdict AuditFault
   pub judged : IsJudgedAs run answer
-  pub whole : text ≡ listing_objects run ++ answer_object answer
+  pub objects : List ℕ
+  pub whole : text ≡ objects ++ answer_object answer

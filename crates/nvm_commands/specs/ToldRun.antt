@@ -1,4 +1,4 @@
--- What is printed of a run of host files; for programs that is the objects of its commands, and that of its record's verdict after them.
+-- What is printed of a run of host files; for programs that ends with the object of its record's verdict.
 use Rattle.std.specs.Prelude.{◌≡◌, ℕ, String, List, ◌++◌, Option, Some, None, string_bytes}
 use Rattle.std.specs.Global.{Global}
 use Rattle.nvm_audit.specs.RecordView.{RecordView}
@@ -9,13 +9,11 @@ use Rattle.nvm_engine.specs.VerdictObject.{lawful_object}
 use Rattle.nvm_engine.specs.declared.settings.Settings.{Settings}
 use Rattle.nvm_front.specs.declared.judging_words.Telling.{Telling}
 use Rattle.nvm_front.specs.declared.judging_words.Telling.TheVariants.{Lines, Object}
-use Rattle.nvm_objects.specs.Objects.{AreObjectsOf}
 use Rattle.nvm_commands.specs.declared.told_run.ToldRun.{ToldRun}
 
--- The text is printed of the record. The verdict's object is that of an audit of the record.
+-- The text is printed of the record. The verdict's object, which comes after those of the answers, is that of an audit of the record.
 pub record IsObjectText (r : RecordView) (text : List ℕ) : Type 0 where
   pub objects : List ℕ
-  pub of : AreObjectsOf r objects
   pub verdict : Verdict
   pub counted : IsVerdict r verdict
   pub whole : text ≡ objects ++ lawful_object verdict

@@ -9,8 +9,8 @@ ghost use Rattle.nvm_commands.specs.Files.{IsReadFault};
 use crate::failure::Failure;
 use crate::files::{check_apart, read_as_record, read_as_trace, write_bytes};
 use nvm_engine::{Judged, judge_watched, witness_record};
-use nvm_faults::all_faults;
 use nvm_front::{Progress, STANDARD, Telling};
+use nvm_listing::{all_faults, list_faults};
 use nvm_record::NoMemory;
 use nvm_trace::Judging;
 use std::alloc::{AllocError, Global};
@@ -86,7 +86,7 @@ fn all_audited<R: AllocGlobal + Files + Input + Eprint + Threads + Sync>(
 {
     let run = read_as_record(rt, record, progress)?;
     let faults = all_faults(rt, rt.alloc(), &run, progress)?;
-    let text = faults.text(rt.alloc())?.into_bytes();
+    let text = list_faults(rt.alloc(), &faults)?.into_bytes();
     let status = faults.status();
     Ok(AuditedRecord { text, status })
 }

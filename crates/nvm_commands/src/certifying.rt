@@ -1,6 +1,6 @@
 //! `nvq certify`: whether a record explains a trace, or why none does.
-ghost use Rattle.std.specs.Prelude.{◌≡◌, ◌⊎◌, IfOk, IfErr, string_bytes};
-ghost use Rattle.nvm_commands.specs.Certified.{IsArgumentFault, IsCertifiedFile, IsCertifyingFault, IsKeptFault, IsRecordFault, told_as};
+ghost use Rattle.std.specs.Prelude.{◌⊎◌, IfOk, IfErr, string_bytes};
+ghost use Rattle.nvm_commands.specs.Certified.{IsArgumentFault, IsCertifiedFile, IsCertifyingFault, IsKeptFault, IsRecordFault};
 ghost use Rattle.nvm_commands.specs.Fault.{IsFaultOfTraceAt};
 ghost use Rattle.nvm_commands.specs.Files.{IsReadFault, IsWriteFault};
 
@@ -119,7 +119,7 @@ fn certified<R: AllocGlobal + Files + Input + Eprint + Threads + Sync>(
     words: &CertifyWords,
     progress: &Progress<'_, R>,
 ) -> Result<CertifiedTrace, Failure>
-    ensures certified { IfOk result (IsCertifiedFile words.now.judging words.now.telling) }
+    ensures certified { IfOk result (IsCertifiedFile words.now.judging) }
     ensures fault { IfErr result (λ failure. IsReadFault (string_bytes words.now.trace) failure.fault
         ⊎ IsFaultOfTraceAt (string_bytes words.now.trace) failure.fault) }
 {
@@ -147,9 +147,7 @@ fn told(
     judging: Judging,
     trace: &Trace,
     certification: &Certification,
-) -> Result<String, NoMemory>
-    ensures { IfOk result (λ text. string_bytes text ≡ told_as telling judging «trace».now certification.now) }
-{
+) -> Result<String, NoMemory> {
     match telling {
         Telling::Lines => certification_text(alloc, judging, trace, certification),
         Telling::Object => certification_object(alloc, judging, trace, certification),

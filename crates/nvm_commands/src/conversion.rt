@@ -3,14 +3,14 @@ ghost use Rattle.nvm_file.specs.Reading.{record_at};
 ghost use Rattle.nvm_file.specs.TraceFile.{IsTraceFile};
 ghost use Rattle.nvm_list.specs.Lists.{assembled};
 ghost use Rattle.nvm_commands.specs.Fault.{IsFaultOfList, IsFaultOfFile, IsFaultOfRecord, IsFaultOfTrace};
-ghost use Rattle.nvm_commands.specs.Listed.{begins_as_record, begins_as_trace, IsListFault, Lists, ListsCommands, ListsRecord, ListsTrace};
+ghost use Rattle.nvm_commands.specs.Listed.{begins_as_record, begins_as_trace, IsListFault, HoldsRecord, Lists, ListsCommands, ListsTrace};
 
 use crate::fault::Fault;
 use nvm_audit::Record;
 use nvm_file::{read_record, read_trace};
 use nvm_list::{assemble, list_file};
+use nvm_listing::list_record;
 use nvm_record::{BlockSize, Payload};
-use nvm_report::list_record;
 use nvm_trace::Trace;
 use nvm_trace_text::text_of_trace;
 use std::alloc::Global;
@@ -79,7 +79,7 @@ pub fn trace_of(alloc: Global, path: String, file: &Payload) -> Result<Trace, Fa
 
 /// The list of the record at a path, or the file's fault.
 fn list_of_record(alloc: Global, path: String, file: &Payload) -> Result<String, Fault>
-    ensures list { IfOk result (λ list. ListsRecord file.now (string_bytes list)) }
+    ensures held { IfOk result (λ _. HoldsRecord file.now) }
     ensures fault { IfErr result (IsFaultOfRecord path file.now) }
 {
     let run = record_of(alloc, path, file)?;

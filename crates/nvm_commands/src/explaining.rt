@@ -1,7 +1,7 @@
 //! `nvq explain`: what is wrong with a record, or what there is in a lawful one; and why a record explains a trace or doesn't.
-ghost use Rattle.std.specs.Prelude.{◌⊎◌, ℕ, List, IfOk, IfErr, string_bytes};
+ghost use Rattle.std.specs.Prelude.{◌⊎◌, IfErr};
 ghost use Rattle.nvm_commands.specs.Audited.{IsUnwitnessed};
-ghost use Rattle.nvm_commands.specs.Explained.{IsExplainingFault, IsExplanationOfFile, IsStoryFault, IsStoryOfFiles, IsTold, IsUntold};
+ghost use Rattle.nvm_commands.specs.Explained.{IsExplainingFault, IsStoryFault, IsUntold};
 ghost use Rattle.nvm_commands.specs.Fault.{IsFaultOfRecordAt, IsFaultOfRecordIn};
 ghost use Rattle.nvm_commands.specs.Files.{IsReadFault};
 
@@ -34,8 +34,7 @@ fn told<R: AllocGlobal + Files + Input + Eprint + Threads + Sync>(
     words: &ExplainWords,
     progress: &Progress<'_, R>,
 ) -> Result<String, Failure>
-    ensures told { IfOk result (λ text. IsTold words.now (string_bytes text)) }
-    ensures fault { IfErr result (λ failure. IsUntold words.now failure.fault) }
+    ensures { IfErr result (λ failure. IsUntold words.now failure.fault) }
 {
     match words {
         ExplainWords::Record { record } => record_explained(rt, record.as_str(), progress),
@@ -53,8 +52,7 @@ fn record_explained<R: AllocGlobal + Files + Input + Eprint + Threads + Sync>(
     path: &str,
     progress: &Progress<'_, R>,
 ) -> Result<String, Failure>
-    ensures text { IfOk result (λ text. (file : List ℕ) × IsExplanationOfFile file (string_bytes text)) }
-    ensures fault { IfErr result (λ failure. IsReadFault path.now failure.fault ⊎ IsFaultOfRecordAt path.now failure.fault) }
+    ensures { IfErr result (λ failure. IsReadFault path.now failure.fault ⊎ IsFaultOfRecordAt path.now failure.fault) }
 {
     let held = Payload::new(rt.alloc(), bytes_of(rt, path, progress)?)?;
     explained_of(rt, path, &held, progress)
@@ -68,8 +66,7 @@ fn trace_explained<R: AllocGlobal + Files + Input + Eprint + Threads + Sync>(
     record: &str,
     progress: &Progress<'_, R>,
 ) -> Result<String, Failure>
-    ensures story { IfOk result (λ text. (seen : List ℕ) × (held : List ℕ) × IsStoryOfFiles judging seen held (string_bytes text)) }
-    ensures fault { IfErr result (λ failure. IsUnwitnessed trace.now «record».now failure.fault) }
+    ensures { IfErr result (λ failure. IsUnwitnessed trace.now «record».now failure.fault) }
 {
     check_apart(trace, record)?;
     let seen = Payload::new(rt.alloc(), bytes_of(rt, trace, progress)?)?;
@@ -84,8 +81,7 @@ fn explained_of<R: AllocGlobal + Eprint + Threads + Sync>(
     file: &Payload,
     progress: &Progress<'_, R>,
 ) -> Result<String, Failure>
-    ensures text { IfOk result (λ text. IsExplanationOfFile file.now (string_bytes text)) }
-    ensures fault { IfErr result (λ failure. IsFaultOfRecordIn path.now file.now failure.fault) }
+    ensures { IfErr result (λ failure. IsFaultOfRecordIn path.now file.now failure.fault) }
 {
     let run = record_in(rt.alloc(), path, file)?;
     Ok(explain(rt, rt.alloc(), &run, progress)?)
@@ -101,8 +97,7 @@ fn story_of<R: AllocGlobal + Threads + Sync>(
     record: &str,
     held: &Payload,
 ) -> Result<String, Failure>
-    ensures story { IfOk result (λ text. IsStoryOfFiles judging seen.now held.now (string_bytes text)) }
-    ensures fault { IfErr result (λ failure. IsStoryFault «trace».now seen.now «record».now held.now failure.fault) }
+    ensures { IfErr result (λ failure. IsStoryFault «trace».now seen.now «record».now held.now failure.fault) }
 {
     let seen = trace_in(rt.alloc(), trace, seen)?;
     let held = record_in(rt.alloc(), record, held)?;

@@ -9,7 +9,7 @@ use crate::failure::Failure;
 use crate::files::{read_as_record, write_bytes};
 use nvm_engine::judge_watched;
 use nvm_front::{Progress, STANDARD};
-use nvm_listing_objects::list_as_objects;
+use nvm_listing::list_as_objects;
 use std::rt::Files;
 use std::thread::Threads;
 

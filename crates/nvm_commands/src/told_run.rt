@@ -6,7 +6,7 @@ ghost use Rattle.nvm_commands.specs.ToldRun.{AreToldAs, IsObjectText};
 use nvm_audit::Record;
 use nvm_engine::{Shown, judge_watched};
 use nvm_front::{Progress, Telling};
-use nvm_objects::record_objects;
+use nvm_listing::{answers, answers_as_objects};
 use nvm_record::NoMemory;
 use std::thread::Threads;
 
@@ -37,7 +37,7 @@ impl ToldRun {
     }
 }
 
-/// The objects of a record's commands, and after them that of its verdict.
+/// The objects of the answers of a record's commands, and after them that of its verdict.
 fn object_text<R: AllocGlobal + Eprint + Threads + Sync>(
     rt: &R,
     run: &Record,
@@ -46,7 +46,8 @@ fn object_text<R: AllocGlobal + Eprint + Threads + Sync>(
     requires { IsLawfulRecord run.now }
     ensures { IfOk result (λ text. IsObjectText run.now (string_bytes text)) }
 {
-    let mut text = record_objects(rt.alloc(), run)?;
+    let answers = answers(rt.alloc(), run)?;
+    let mut text = answers_as_objects(rt.alloc(), &answers)?;
     let judged = judge_watched(rt, rt.alloc(), run, progress)?;
     let verdict = judged.object(rt.alloc())?;
     text.push_str(verdict.as_str())?;

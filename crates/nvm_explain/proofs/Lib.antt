@@ -1,6 +1,9 @@
+pub mod Changed
 pub mod Covering
 pub mod Few
 pub mod Meeting
+pub mod Places
+pub mod Ranges
 pub mod Seen
 pub mod Successes
 pub mod Telling

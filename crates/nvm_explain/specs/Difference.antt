@@ -1,9 +1,6 @@
--- Where data first differs from other data, and how that is said.
-use Rattle.std.specs.Prelude.{ℕ, ◌+◌, ◌/◌, ◌%◌, ◌==◌, ◌&&◌, nat_le, if◌then◌else◌, List, [], ◌∷◌, ◌++◌, length, Option, Some, None, codes, decimal}
-use Rattle.nvm_store.specs.HistoryEntry.{HistoryEntry}
-use Rattle.nvm_text.specs.Lines.{hex2}
+-- Where data first differs from other data.
+use Rattle.std.specs.Prelude.{ℕ, ◌+◌, ◌/◌, ◌%◌, ◌==◌, ◌&&◌, nat_le, if◌then◌else◌, List, [], ◌∷◌, length, Option, Some, None}
 use Rattle.nvm_explain.specs.declared.difference.Difference.{Difference}
-use Rattle.nvm_explain.specs.LastChange.{last_change_line}
 use Rattle.nvm_explain.specs.RecordedData.{most_blocks}
 
 -- The first byte that differs, if one does. There are `at` bytes before these, and the first of all is of block `first`.
@@ -19,13 +16,8 @@ abbrev pub difference_of : ℕ → ℕ → List ℕ → List ℕ → Option Diff
 difference_of first size bytes others =
     if length bytes == length others && nat_le first most_blocks then difference_from first size 0 bytes others else None
 
--- in which block the byte is, at which offset there, what it is, and what the other is, each after the words for it
-unfoldable pub byte_line : List ℕ → List ℕ → Difference → List ℕ
-byte_line words others found =
-    codes "first difference: LBA " ++ (decimal found.lba
-    ++ (codes " byte " ++ (decimal found.offset
-    ++ (words ++ (hex2 found.byte ++ (others ++ (hex2 found.other ++ codes "\n")))))))
-
--- the byte that differs, and which of the unit's entries before changed its block last
-abbrev pub difference_lines : List ℕ → List ℕ → ℕ → List HistoryEntry → Difference → List ℕ
-difference_lines words others unit before found = byte_line words others found ++ last_change_line unit before found.lba
+-- the first byte of recorded data that differs from what is given, where both are there
+abbrev pub read_difference : ℕ → ℕ → Option (List ℕ) → Option (List ℕ) → Option Difference
+read_difference first size None given = None
+read_difference first size (Some payload) None = None
+read_difference first size (Some payload) (Some given) = difference_of first size payload given

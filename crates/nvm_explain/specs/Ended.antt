@@ -1,11 +1,10 @@
--- What is said of how jobs ended: with which statuses, and how many jobs with each.
-use Rattle.std.specs.Prelude.{ℕ, ◌==◌, ◌&&◌, ◌++◌, if◌then◌else◌, Bool, false, List, [], ◌∷◌, codes, decimal, count_by, flat_map, map}
+-- With which statuses jobs ended, and how many jobs with each.
+use Rattle.std.specs.Prelude.{ℕ, ◌==◌, ◌&&◌, ◌++◌, if◌then◌else◌, Bool, false, List, [], ◌∷◌, count_by, flat_map, map}
 use Rattle.std.specs.List.{list_any, sum_by}
 use Rattle.nvm_record.specs.declared.status.Status.{Status}
 use Rattle.nvm_record.specs.declared.status.Statuses.{Statuses}
 use Rattle.nvm_record.specs.declared.status.Statuses.TheVariants.{One, Two}
 use Rattle.nvm_audit.specs.RecordedJob.{RecordedJob}
-use Rattle.nvm_text.specs.Lines.{statuses_text}
 use Rattle.nvm_explain.specs.Once.{once}
 
 abbrev pub same_status : Status → Status → Bool
@@ -29,19 +28,6 @@ different_statuses done = once same_statuses (all_statuses done)
 -- how many jobs ended with these
 abbrev pub jobs_with : Statuses → List (List RecordedJob) → ℕ
 jobs_with statuses done = sum_by (λ work. count_by (λ d. same_statuses d.statuses statuses) work) done
-
--- how many jobs ended with these statuses
-unfoldable pub ended_line : Statuses → ℕ → List ℕ
-ended_line statuses jobs = codes "status " ++ (statuses_text statuses ++ (codes " jobs " ++ (decimal jobs ++ codes "\n")))
-
--- how many jobs ended with each of these
-abbrev pub ended_with : List (List RecordedJob) → List Statuses → List ℕ
-ended_with done [] = []
-ended_with done (statuses ∷ more) = ended_line statuses (jobs_with statuses done) ++ ended_with done more
-
--- how many jobs ended with which statuses
-abbrev pub ended_lines : List (List RecordedJob) → List ℕ
-ended_lines done = ended_with done (different_statuses done)
 
 -- these are among those that were met
 abbrev pub is_met : List Statuses → Statuses → Bool

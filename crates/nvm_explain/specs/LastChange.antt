@@ -1,19 +1,21 @@
--- What is said of a block: the entry that changed it last.
-use Rattle.std.specs.Prelude.{ℕ, List, ◌++◌, Option, Some, None, codes, decimal}
+-- Which entry of a history changed some blocks last.
+use Rattle.std.specs.Prelude.{ℕ, ◌+◌, if◌then◌else◌, List, [], ◌∷◌, Bool, Option, Some, None}
+use Rattle.std.specs.List.{list_any, range_with_len}
+use Rattle.std.specs.Option.{option_or}
+use Rattle.nvm_record.specs.declared.lba_range.LbaRange.{LbaRange}
+use Rattle.nvm_record.specs.Step.{Operation, reaches}
 use Rattle.nvm_store.specs.HistoryEntry.{HistoryEntry}
-use Rattle.nvm_report.specs.EntryLines.{entry_line}
-use Rattle.nvm_report.specs.LastChange.{last_change}
 
--- the unit's entry at its place, or that there is none
-abbrev pub change_text : ℕ → Option (ℕ × HistoryEntry) → List ℕ
-change_text unit None = codes "none\n"
-change_text unit (Some found) = entry_line unit found.0 found.1
+-- The operation reaches one of the blocks.
+abbrev pub reaches_one : LbaRange → Operation → Bool
+reaches_one range op = list_any (reaches op) (range_with_len range.first range.blocks)
 
--- of which block it is said
-unfoldable pub change_head : ℕ → List ℕ
-change_head lba = codes "last change of LBA " ++ (decimal lba ++ codes ": ")
+-- the last of these entries that changes one of the blocks, if one does, with its place; the first is at `place`
+abbrev pub last_change_from : LbaRange → ℕ → List HistoryEntry → Option (ℕ × HistoryEntry)
+last_change_from range place [] = None
+last_change_from range place (entry ∷ entries) =
+    option_or (last_change_from range (place + 1) entries) (if reaches_one range entry.operation then Some (place, entry) else None)
 
--- which of the unit's first entries changed the block of this LBA last, or that none did
-unfoldable pub last_change_line : ℕ → List HistoryEntry → ℕ → List ℕ
-last_change_line unit entries lba =
-    change_head lba ++ change_text unit (last_change (record { first = lba; blocks = 1 }) entries)
+-- the last of a history's first entries that changes one of the blocks, if one does, with its place
+abbrev pub last_change : LbaRange → List HistoryEntry → Option (ℕ × HistoryEntry)
+last_change range entries = last_change_from range 0 entries

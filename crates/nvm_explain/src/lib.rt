@@ -8,7 +8,7 @@
 #![tactic(auto)]
 
 mod around;
-mod back_story;
+mod changes;
 mod comparison;
 mod difference;
 mod doing;
@@ -22,10 +22,10 @@ mod looked_up;
 mod meaning;
 mod most;
 mod part_story;
+mod passed;
 mod recorded_data;
 mod shape_fault;
 mod shape_story;
-mod spot_text;
 mod summary;
 mod unit_at;
 mod unit_counts;

@@ -1,13 +1,8 @@
 //! What each fault of a record means.
-ghost use Rattle.std.specs.Prelude.{◌≡◌};
-ghost use Rattle.nvm_explain.specs.Meaning as spec;
-
 use nvm_audit::AuditFault;
 
 /// What is after the fault's name in the line that says what it means. Want of memory means nothing of a record.
-pub(crate) fn sense(fault: AuditFault) -> &'static str
-    ensures { result.now ≡ spec.sense fault }
-{
+pub(crate) fn sense(fault: AuditFault) -> &'static str {
     match fault {
         AuditFault::JobMissing { .. } => ": no worker did the job.\n",
         AuditFault::JobTwice { .. } => ": the job was done more than once.\n",

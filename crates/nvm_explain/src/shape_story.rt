@@ -1,22 +1,16 @@
-ghost use Rattle.std.specs.Prelude.{◌≡◌, ◌++◌, OnOk, string_bytes};
-ghost use Rattle.nvm_plan.specs.Checks.{refusal_of};
-ghost use Rattle.nvm_explain.specs.ShapeStory as spec;
-
 use crate::doing::done_of;
 use crate::looked_up::job_of;
 use crate::shape_fault::{ShapeFault, shape_fault};
 use nvm_audit::Record;
 use nvm_geometry::Geometry;
+use nvm_listing::result_word;
 use nvm_plan::{Job, Kind, Plan, plan, ready_job_units};
 use nvm_record::NoMemory;
-use nvm_report::result_word;
 use nvm_text::StatusesText;
 
 /// Appends with which statuses a check refuses the job, or in which units it has a part, and what is first wrong with what was done
 /// of it.
-pub(crate) fn push_shape(text: &mut String, run: &Record, number: u32) -> Result<(), NoMemory>
-    ensures { OnOk result (string_bytes text.new ≡ string_bytes text.old ++ spec.shape_story run.now number) }
-{
+pub(crate) fn push_shape(text: &mut String, run: &Record, number: u32) -> Result<(), NoMemory> {
     let Some(job) = job_of(run, number) else {
         return Ok(());
     };
@@ -31,10 +25,7 @@ pub(crate) fn push_shape(text: &mut String, run: &Record, number: u32) -> Result
 }
 
 /// Appends with which statuses a check refuses the job, or in which units it has a part.
-fn push_plan(text: &mut String, geometry: &Geometry, job: &Job) -> Result<(), NoMemory>
-    ensures { OnOk result (string_bytes text.new
-        ≡ string_bytes text.old ++ spec.plan_line geometry.now job.now (refusal_of geometry.now job.now)) }
-{
+fn push_plan(text: &mut String, geometry: &Geometry, job: &Job) -> Result<(), NoMemory> {
     match plan(geometry, job) {
         Plan::Refused(statuses) => {
             let statuses = StatusesText(statuses);
@@ -51,10 +42,7 @@ fn push_plan(text: &mut String, geometry: &Geometry, job: &Job) -> Result<(), No
 }
 
 /// Appends what is wrong, and what is due.
-#[tactic(auto, unfolding(crate::specs::ShapeStory::shape_line))]
-fn push_fault(text: &mut String, fault: ShapeFault) -> Result<(), NoMemory>
-    ensures { OnOk result (string_bytes text.new ≡ string_bytes text.old ++ spec.shape_line fault) }
-{
+fn push_fault(text: &mut String, fault: ShapeFault) -> Result<(), NoMemory> {
     match fault {
         ShapeFault::UnitWrong {
             unit,
@@ -121,9 +109,7 @@ fn push_fault(text: &mut String, fault: ShapeFault) -> Result<(), NoMemory>
 }
 
 /// The words for how a part of this kind can end.
-fn ends_of(kind: Kind) -> &'static str
-    ensures { result.now ≡ spec.ends_of kind }
-{
+fn ends_of(kind: Kind) -> &'static str {
     match kind {
         Kind::Act => "done no-memory full",
         Kind::Pair => "done failed no-memory full",

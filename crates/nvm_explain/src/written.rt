@@ -1,12 +1,10 @@
 //! What is said of an entry that writes other data than its job.
-ghost use Rattle.std.specs.Prelude.{◌≡◌, ◌++◌, None, Some, MatchOption, OnOk, slice_get, string_bytes};
+ghost use Rattle.std.specs.Prelude.{◌≡◌, None, Some, MatchOption};
 ghost use Rattle.nvm_plan.specs.LentPart.{part_operation_of};
-ghost use Rattle.nvm_record.specs.Step.{Operation};
 ghost use Rattle.nvm_store.specs.Act.{operation_of};
-ghost use Rattle.nvm_explain.specs.IfAny.{if_any};
 ghost use Rattle.nvm_explain.specs.Written as spec;
 
-use crate::difference::{difference_of, push_byte};
+use crate::difference::{Difference, difference_of, push_byte};
 use crate::looked_up::job_of;
 use nvm_audit::Record;
 use nvm_plan::{LentPart, job_part_in};
@@ -21,41 +19,29 @@ pub(crate) fn push_written(
     number: u32,
     unit: u16,
     entry: &Entry,
-) -> Result<(), NoMemory>
-    ensures { OnOk result (string_bytes text.new ≡ string_bytes text.old
-        ++ if_any (slice_get run.now.jobs number) (spec.written_line run.now.namespace unit entry.now.operation)) }
-{
+) -> Result<(), NoMemory> {
     let Some(job) = job_of(run, number) else {
         return Ok(());
     };
-    match job_part_in(&run.geometry, job, unit) {
-        Some(part) => push_apart(text, run.geometry.block_size(), &entry.act, &part),
+    let Some(part) = job_part_in(&run.geometry, job, unit) else {
+        return Ok(());
+    };
+    match written_apart(run.geometry.block_size(), &entry.act, &part) {
+        Some(found) => push_byte(text, " recorded ", " sent ", found),
         None => Ok(()),
     }
 }
 
-/// Appends the first byte that an act writes otherwise than a part.
-fn push_apart(
-    text: &mut String,
-    size: BlockSize,
-    act: &Act,
-    part: &LentPart<'_>,
-) -> Result<(), NoMemory>
-    ensures { OnOk result (string_bytes text.new ≡ string_bytes text.old
-        ++ spec.apart_line size (operation_of act.now) (part_operation_of part.now)) }
+/// The first byte that an act writes otherwise than a part, where both write the same number of blocks from one LBA.
+fn written_apart(size: BlockSize, act: &Act, part: &LentPart<'_>) -> Option<Difference>
+    ensures { result ≡ spec.written_apart size (operation_of act.now) (part_operation_of part.now) }
 {
-    let Some((first, bytes)) = written_by(act) else {
-        return Ok(());
-    };
-    let Some((other, sent)) = sent_by(part) else {
-        return Ok(());
-    };
-    if first != other {
-        return Ok(());
-    }
-    match difference_of(first, size, bytes, sent) {
-        Some(found) => push_byte(text, " recorded ", " sent ", found),
-        None => Ok(()),
+    let (first, bytes) = written_by(act)?;
+    let (other, sent) = sent_by(part)?;
+    if first == other {
+        difference_of(first, size, bytes, sent)
+    } else {
+        None
     }
 }
 

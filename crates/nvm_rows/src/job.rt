@@ -1,9 +1,9 @@
 //! Jobs as rows ask for them, and what was answered as rows have it.
 use crate::fault::RowFault;
 use nvm_list::{ListFault, read_list};
+use nvm_listing::ActText;
 use nvm_plan::{Job, jobs};
 use nvm_record::{BlockSize, Command, NoMemory};
-use nvm_report::ActText;
 use nvm_store::History;
 use std::alloc::Global;
 

@@ -5,8 +5,8 @@ use crate::fault::RowFault;
 use crate::job::job;
 use crate::words::geometry;
 use nvm_geometry::Geometry;
+use nvm_listing::ActText;
 use nvm_plan::{Job, LentPart, fits, job_part_count, job_part_in, job_units};
-use nvm_report::ActText;
 use nvm_store::Look;
 use std::alloc::Global;
 

@@ -1,4 +1,4 @@
--- A late step is told, with one against it.
+-- A late step is found, with one against it.
 use Rattle.std.proofs.Common.{◌≡◌, ℕ, zero, suc, List, [], ◌∷◌, Bool, true, false, if◌then◌else◌, Option, Some, None, Contains, refl, sym, ap, subst, ◌∙◌, arith}
 use Rattle.std.proofs.lemmas.Bool.{and_from, and_parts, eqb-true, eq-eqb, ltb-true, lt-ltb}
 use mathlib.Core.Option.{some-injective}
@@ -9,13 +9,13 @@ use Rattle.nvm_trace.specs.declared.judging.Judging.{Judging}
 use Rattle.nvm_trace.specs.declared.step.Step.{Step}
 use Rattle.nvm_trace.specs.FirstFault.{IsFirstBack}
 use Rattle.nvm_trace.specs.Order.{Precedes}
-use Rattle.nvm_trace.specs.Pieces.{Piece, pieces, wholes}
+use Rattle.nvm_trace.specs.Pieces.{wholes}
 use Rattle.nvm_trace.specs.Steps.{steps_of}
 use Rattle.nvm_trace.specs.Timely.{HadEnded}
 use Rattle.nvm_trace.specs.TraceView.{TraceView}
 use Rattle.nvm_trace.proofs.Places.{none_stands, placed}
-use Rattle.nvm_story.specs.Ordering.{had_ended, is_against, is_at, late_lines, late_or, step_against, time_story}
-use Rattle.nvm_story.specs.Told.{IsOfLate}
+use Rattle.nvm_story.specs.Ordering.{had_ended, is_against, is_at, late_among, late_or, late_pair, step_against}
+use Rattle.nvm_story.specs.Late.{IsOfLate}
 
 had_ended_true : (ended : Option ℕ) (time : ℕ) → had_ended ended time ≡ true → HadEnded ended time
 had_ended_true None time h = absurd cc
@@ -69,47 +69,46 @@ found_if late (x ∷ steps) (suc i) s at is = by (is_against late x) (found_if l
     by true later = (x, refl)
     by false later = later
 
--- What is told of a step and of one that was found against it.
-of_found : (ps : List Piece) (all : List Step) (late f : Step) (others : List ℕ) → Contains all late → step_against late all ≡ Some f
-    → IsOfLate ps all (late_or ps late others (Some f))
-of_found ps all late f others there e =
+-- A step, and one that was found against it.
+of_found : (all : List Step) (late f : Step) (others : Option (Step × Step)) → Contains all late → step_against late all ≡ Some f
+    → IsOfLate all (late_or late others (Some f))
+of_found all late f others there e =
     let found = found_is late all f e in
     let is = against_is late f found.1 in
-    record { late = late; late_there = there; earlier = f; earlier_there = found.0; before = is.0; ended = is.1; told = refl }
+    record { late = late; late_there = there; earlier = f; earlier_there = found.0; before = is.0; ended = is.1; is = refl }
 
-told_late : (ps : List Piece) (all steps : List Step) (job : ℕ) (spot : Spot) (i : ℕ) (late earlier : Step) → IsAt steps i late
+found_late : (all steps : List Step) (job : ℕ) (spot : Spot) (i : ℕ) (late earlier : Step) → IsAt steps i late
     → is_at job spot late ≡ true → Contains all earlier → is_against late earlier ≡ true
-    → ((s : Step) → Contains steps s → Contains all s) → IsOfLate ps all (late_lines ps all job spot steps)
-told_late ps all [] job spot i late earlier at is has against within = absurd (none_stands i late at)
-told_late ps all (x ∷ steps) job spot zero late earlier at is has against within =
+    → ((s : Step) → Contains steps s → Contains all s) → IsOfLate all (late_among all job spot steps)
+found_late all [] job spot i late earlier at is has against within = absurd (none_stands i late at)
+found_late all (x ∷ steps) job spot zero late earlier at is has against within =
     let same : late ≡ x = sym (some-injective x late at) in
     let place = placed all earlier has in
     let found = found_if x all place.0 earlier place.1 (subst (λ (y : Step). is_against y earlier ≡ true) same against) in
     by (is_at job spot x) (subst (λ (y : Step). is_at job spot y ≡ true) same is) (step_against x all) refl found.0 found.1
   where
     by : (b : Bool) → b ≡ true → (o : Option Step) → step_against x all ≡ o → (f : Step) → o ≡ Some f
-        → IsOfLate ps all (if b then late_or ps x (late_lines ps all job spot steps) o else late_lines ps all job spot steps)
+        → IsOfLate all (if b then late_or x (late_among all job spot steps) o else late_among all job spot steps)
     by true same None e f some = absurd cc
-    by true same (Some f) e g some = of_found ps all x f (late_lines ps all job spot steps) (within x (0, omega arith, refl)) e
+    by true same (Some f) e g some = of_found all x f (late_among all job spot steps) (within x (0, omega arith, refl)) e
     by false same o e f some = absurd cc
-told_late ps all (x ∷ steps) job spot (suc i) late earlier at is has against within =
+found_late all (x ∷ steps) job spot (suc i) late earlier at is has against within =
     by (is_at job spot x) (step_against x all) refl
-    (told_late ps all steps job spot i late earlier at is has against (λ s there. within s (behind x steps s there)))
+    (found_late all steps job spot i late earlier at is has against (λ s there. within s (behind x steps s there)))
   where
-    by : (b : Bool) → (o : Option Step) → step_against x all ≡ o → IsOfLate ps all (late_lines ps all job spot steps)
-        → IsOfLate ps all (if b then late_or ps x (late_lines ps all job spot steps) o else late_lines ps all job spot steps)
+    by : (b : Bool) → (o : Option Step) → step_against x all ≡ o → IsOfLate all (late_among all job spot steps)
+        → IsOfLate all (if b then late_or x (late_among all job spot steps) o else late_among all job spot steps)
     by true None e later = later
-    by true (Some f) e later = of_found ps all x f (late_lines ps all job spot steps) (within x (0, omega arith, refl)) e
+    by true (Some f) e later = of_found all x f (late_among all job spot steps) (within x (0, omega arith, refl)) e
     by false o e later = later
 
-pub first_is_told : (judging : Judging) (t : TraceView) (r : RecordView) (job : ℕ) (spot : Spot) → IsFirstBack judging t r job spot
-    → IsOfLate (pieces judging t) (steps_of (wholes judging t) r.done)
-    (time_story (pieces judging t) (steps_of (wholes judging t) r.done) job spot)
-first_is_told judging t r job spot back =
+pub first_is_found : (judging : Judging) (t : TraceView) (r : RecordView) (job : ℕ) (spot : Spot) → IsFirstBack judging t r job spot
+    → IsOfLate (steps_of (wholes judging t) r.done) (late_pair (steps_of (wholes judging t) r.done) job spot)
+first_is_found judging t r job spot back =
     let steps = steps_of (wholes judging t) r.done in
     let late = back.first.late in
     let is = back.first.is in
-    told_late (pieces judging t) steps steps job spot back.place late is.earlier back.first.there
+    found_late steps steps job spot back.place late is.earlier back.first.there
     (and_from _ _ (eq-eqb late.job job back.job_is)
     (and_from _ _ (eq-eqb late.unit spot.unit back.unit_is) (eq-eqb late.point spot.place back.point_is)))
     is.shown (against_from late is.earlier is.before is.ended) (λ s has. has)

@@ -1,6 +1,2 @@
-pub mod Meaning
-pub mod Namespaces
-pub mod Jobs
 pub mod Ordering
-pub mod Told
-pub mod Story
+pub mod Late

@@ -1,7 +1,4 @@
 //! What a trace and a record have as the job of a number.
-ghost use Rattle.std.specs.Prelude.{◌≡◌, ◌++◌, OnOk, Some, map, slice_get, string_bytes};
-ghost use Rattle.nvm_trace.specs.Pieces.{piece};
-ghost use Rattle.nvm_story.specs.Jobs as spec;
 
 use nvm_audit::Record;
 use nvm_explain::push_job as push_recorded_job;
@@ -17,8 +14,6 @@ use std::fmt::{Display, Formatter};
 struct CutText(Cut);
 
 impl Display for CutText {
-    ghost output = { λ text. Some (spec.cut_text text.0) };
-
     fn fmt<W: fmt::Write>(&self, f: &mut Formatter<W>) -> fmt::Result {
         match self.0 {
             Cut::Whole => Ok(()),
@@ -33,10 +28,7 @@ pub(crate) fn push_traced(
     text: &mut String,
     pieces: &[Owner<'_>],
     number: u32,
-) -> Result<(), NoMemory>
-    ensures { OnOk result (string_bytes text.new ≡ string_bytes text.old
-        ++ spec.traced_line number (slice_get (map (λ o. piece o.whole.now o.cut) pieces.now) number)) }
-{
+) -> Result<(), NoMemory> {
     let place = number as usize;
     if place >= pieces.len() {
         return push_no_piece(text, number);
@@ -46,10 +38,7 @@ pub(crate) fn push_traced(
 }
 
 /// Appends that a trace has nothing as the job of this number.
-#[tactic(auto, unfolding(crate::specs::Jobs::no_piece_line))]
-fn push_no_piece(text: &mut String, number: u32) -> Result<(), NoMemory>
-    ensures { OnOk result (string_bytes text.new ≡ string_bytes text.old ++ spec.no_piece_line number) }
-{
+fn push_no_piece(text: &mut String, number: u32) -> Result<(), NoMemory> {
     write!(
         text,
         "as job {number} the trace has nothing, so it is a preparation\n"
@@ -57,29 +46,24 @@ fn push_no_piece(text: &mut String, number: u32) -> Result<(), NoMemory>
 }
 
 /// Appends the piece that a trace has as the job of this number.
-#[tactic(auto, unfolding(crate::specs::Jobs::piece_line))]
-fn push_piece(text: &mut String, number: u32, whole: &TracedJob, cut: Cut) -> Result<(), NoMemory>
-    ensures { OnOk result (string_bytes text.new ≡ string_bytes text.old ++ spec.piece_line number (piece whole.now cut)) }
-{
+fn push_piece(text: &mut String, number: u32, whole: &TracedJob, cut: Cut) -> Result<(), NoMemory> {
     let cut = CutText(cut);
     write!(text, "as job {number} the trace has{cut}: ")?;
     push_traced_job(text, whole)
 }
 
 /// Appends what a record has as the job of this number, and what was done of it.
-pub(crate) fn push_recorded(text: &mut String, record: &Record, number: u32) -> Result<(), NoMemory>
-    ensures { OnOk result (string_bytes text.new ≡ string_bytes text.old ++ spec.recorded_lines «record».now number) }
-{
+pub(crate) fn push_recorded(
+    text: &mut String,
+    record: &Record,
+    number: u32,
+) -> Result<(), NoMemory> {
     push_head(text, &record.jobs, number)?;
     push_recorded_job(text, record, number)
 }
 
 /// Appends whether a record of these jobs has one of this number.
-#[tactic(auto, unfolding(crate::specs::Jobs::job_head, crate::specs::Jobs::no_job_line))]
-fn push_head(text: &mut String, jobs: &[Job], number: u32) -> Result<(), NoMemory>
-    ensures { OnOk result (string_bytes text.new
-        ≡ string_bytes text.old ++ spec.recorded_head number (slice_get jobs.now number)) }
-{
+fn push_head(text: &mut String, jobs: &[Job], number: u32) -> Result<(), NoMemory> {
     match jobs.get(number as usize) {
         Some(_) => write!(text, "as job {number} the record has:\n"),
         None => write!(text, "as job {number} the record has nothing\n"),

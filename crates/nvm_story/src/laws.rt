@@ -1,20 +1,18 @@
 //! What holds of stories by their definition alone. Each law is a call that does nothing and whose contract is the law.
-
 ghost use Rattle.std.specs.Prelude.{ℕ};
 ghost use Rattle.nvm_audit.specs.RecordView.{RecordView};
 ghost use Rattle.nvm_audit.specs.declared.audit_fault.Spot.{Spot as SpotView};
 ghost use Rattle.nvm_trace.specs.declared.judging.Judging.{Judging};
 ghost use Rattle.nvm_trace.specs.FirstFault.{IsFirstBack};
-ghost use Rattle.nvm_trace.specs.Pieces.{pieces, wholes};
+ghost use Rattle.nvm_trace.specs.Pieces.{wholes};
 ghost use Rattle.nvm_trace.specs.Steps.{steps_of};
 ghost use Rattle.nvm_trace.specs.TraceView.{TraceView};
-ghost use Rattle.nvm_story.specs.Ordering.{time_story};
-ghost use Rattle.nvm_story.specs.Told.{IsOfLate};
+ghost use Rattle.nvm_story.specs.Ordering.{late_pair};
+ghost use Rattle.nvm_story.specs.Late.{IsOfLate};
 
-/// Of a step that is the first to come too late, the story tells such a step of its job at its spot, and one against it: a step of
-/// its unit that stands before it, and whose command began only when its own had ended.
-pub fn late_steps_are_told()
+/// Where a step is the first to come too late, such a step of its job at its spot is found, and one against it: a step of its unit that
+/// stands before it, and whose command began only when its own had ended.
+pub fn late_steps_are_found()
     ensures { (judging : Judging) (t : TraceView) (r : RecordView) (job : ℕ) (spot : SpotView) → IsFirstBack judging t r job spot
-        → IsOfLate (pieces judging t) (steps_of (wholes judging t) r.done)
-        (time_story (pieces judging t) (steps_of (wholes judging t) r.done) job spot) }
+        → IsOfLate (steps_of (wholes judging t) r.done) (late_pair (steps_of (wholes judging t) r.done) job spot) }
 {}

@@ -1,12 +1,7 @@
-ghost use Rattle.std.specs.Prelude.{◌≡◌};
-ghost use Rattle.nvm_story.specs.Meaning as spec;
-
 use nvm_trace::WitnessFault;
 
 /// The line that says what a fault of this name means.
-pub(crate) fn meaning(fault: WitnessFault) -> &'static str
-    ensures { result.now ≡ spec.meaning fault }
-{
+pub(crate) fn meaning(fault: WitnessFault) -> &'static str {
     match fault {
         WitnessFault::NamespaceDiffers => {
             "NamespaceDiffers: the record is of another namespace than the trace.\n"

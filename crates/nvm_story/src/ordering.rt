@@ -1,6 +1,5 @@
 //! Two steps of a unit that stand in the wrong order.
-ghost use Rattle.std.specs.Prelude.{◌≡◌, ◌++◌, OnOk, Some, map, string_bytes};
-ghost use Rattle.nvm_trace.specs.Pieces.{piece};
+ghost use Rattle.std.specs.Prelude.{◌≡◌};
 ghost use Rattle.nvm_story.specs.Ordering as spec;
 
 use crate::jobs::push_traced;
@@ -10,58 +9,42 @@ use nvm_trace::{Owner, Step};
 use std::fmt;
 use std::fmt::{Display, Formatter};
 
-/// Appends the first step of this job at this spot that comes too late, and the first step before it in its unit that began only when
-/// it had ended.
-pub(crate) fn push_time_story(
-    text: &mut String,
-    pieces: &[Owner<'_>],
-    steps: &[Step],
-    job: u32,
-    spot: Spot,
-) -> Result<(), NoMemory>
-    ensures { OnOk result (string_bytes text.new ≡ string_bytes text.old
-        ++ spec.time_story (map (λ o. piece o.whole.now o.cut) pieces.now) steps.now job spot) }
+/// The first step of this job at this spot that comes too late, and the first step before it in its unit whose command began only when
+/// its own had ended.
+pub(crate) fn late_pair(steps: &[Step], job: u32, spot: Spot) -> Option<(Step, Step)>
+    ensures { result ≡ spec.late_pair steps.now job spot }
 {
     for late in steps {
         if is_at(*late, job, spot) {
             match step_against(steps, *late) {
-                Some(earlier) => return push_late(text, pieces, *late, earlier),
+                Some(earlier) => return Some((*late, earlier)),
                 None => {}
             }
         }
     }
-    Ok(())
+    None
 }
 
 /// Appends a late step, one before it, and why the two are in the wrong order.
-fn push_late(
+pub(crate) fn push_late(
     text: &mut String,
     pieces: &[Owner<'_>],
     late: Step,
     earlier: Step,
-) -> Result<(), NoMemory>
-    ensures { OnOk result (string_bytes text.new ≡ string_bytes text.old
-        ++ spec.late_text (map (λ o. piece o.whole.now o.cut) pieces.now) late earlier) }
-{
+) -> Result<(), NoMemory> {
     push_step(text, pieces, late)?;
     push_step(text, pieces, earlier)?;
     push_order(text, earlier, late)
 }
 
 /// Appends what the trace has as the step's job, and the step.
-fn push_step(text: &mut String, pieces: &[Owner<'_>], step: Step) -> Result<(), NoMemory>
-    ensures { OnOk result (string_bytes text.new ≡ string_bytes text.old
-        ++ spec.step_lines (map (λ o. piece o.whole.now o.cut) pieces.now) step) }
-{
+fn push_step(text: &mut String, pieces: &[Owner<'_>], step: Step) -> Result<(), NoMemory> {
     push_traced(text, pieces, step.job)?;
     push_step_line(text, step)
 }
 
 /// Appends the line of a step.
-#[tactic(auto, unfolding(crate::specs::Ordering::step_line))]
-fn push_step_line(text: &mut String, step: Step) -> Result<(), NoMemory>
-    ensures { OnOk result (string_bytes text.new ≡ string_bytes text.old ++ spec.step_line step) }
-{
+fn push_step_line(text: &mut String, step: Step) -> Result<(), NoMemory> {
     let Step {
         job,
         unit,
@@ -79,10 +62,7 @@ fn push_step_line(text: &mut String, step: Step) -> Result<(), NoMemory>
 }
 
 /// Appends why the two are in the wrong order.
-#[tactic(auto, unfolding(crate::specs::Ordering::order_line))]
-fn push_order(text: &mut String, earlier: Step, late: Step) -> Result<(), NoMemory>
-    ensures { OnOk result (string_bytes text.new ≡ string_bytes text.old ++ spec.order_line earlier late) }
-{
+fn push_order(text: &mut String, earlier: Step, late: Step) -> Result<(), NoMemory> {
     let job = earlier.job;
     let began = earlier.began;
     let other = late.job;
@@ -95,9 +75,7 @@ fn push_order(text: &mut String, earlier: Step, late: Step) -> Result<(), NoMemo
 }
 
 /// Whether a step made an entry, as a word.
-fn entry_word(made: bool) -> &'static str
-    ensures { result.now ≡ spec.entry_word made }
-{
+fn entry_word(made: bool) -> &'static str {
     if made { "entry" } else { "no-entry" }
 }
 
@@ -106,8 +84,6 @@ fn entry_word(made: bool) -> &'static str
 struct TimeText(Option<u64>);
 
 impl Display for TimeText {
-    ghost output = { λ text. Some (spec.time_text text.0) };
-
     fn fmt<W: fmt::Write>(&self, f: &mut Formatter<W>) -> fmt::Result {
         match self.0 {
             Some(time) => write!(f, "{time}"),

@@ -1,16 +1,7 @@
-ghost use Rattle.std.specs.Prelude.{◌≡◌, ◌++◌, Result, IfOk, OnOk, string_bytes};
-ghost use Rattle.nvm_audit.specs.LawfulRecord.{IsLawfulRecord};
-ghost use Rattle.nvm_trace.specs.declared.explained.Explained.{Explained as Numbers};
-ghost use Rattle.nvm_trace.specs.declared.witness_fault.WitnessFault.{WitnessFault as Fault};
-ghost use Rattle.nvm_trace.specs.declared.witness_fault.WitnessFault.TheVariants.{TimeBack};
-ghost use Rattle.nvm_trace.specs.FirstFault.{IsFirstWitnessFault};
-ghost use Rattle.nvm_engine.specs.Witnessed.{IsWitnessedAs};
-ghost use Rattle.nvm_story.specs.Story as spec;
-
 use crate::jobs::{push_recorded, push_traced};
 use crate::meaning::meaning;
 use crate::namespaces::push_namespaces;
-use crate::ordering::push_time_story;
+use crate::ordering::{late_pair, push_late};
 use nvm_audit::{Record, Spot, Unwatched};
 use nvm_explain::explain;
 use nvm_record::NoMemory;
@@ -38,11 +29,7 @@ pub fn witness_story(
     judging: Judging,
     trace: &Trace,
     record: &Record,
-) -> Result<String, NoMemory>
-    ensures { IfOk result (λ text. (answer : Result Numbers Fault)
-        × IsWitnessedAs judging «trace».now «record».now answer
-        × spec.IsStory judging «trace».now «record».now answer (string_bytes text)) }
-{
+) -> Result<String, NoMemory> {
     match witness(rt, alloc, judging, trace, record) {
         Ok(explained) => explained_story(rt, alloc, record, explained),
         Err(WitnessFault::NoMemory) => Err(AllocError),
@@ -56,10 +43,7 @@ fn explained_story(
     alloc: Global,
     record: &Record,
     explained: Explained,
-) -> Result<String, NoMemory>
-    requires { IsLawfulRecord «record».now }
-    ensures { IfOk result (λ text. spec.IsExplainedText «record».now explained (string_bytes text)) }
-{
+) -> Result<String, NoMemory> {
     let mut text = String::new(alloc);
     write!(text, "{}", ExplainedLine(explained))?;
     let told = explain(rt, alloc, record, &Unwatched)?;
@@ -75,10 +59,7 @@ fn unexplained_story(
     trace: &Trace,
     record: &Record,
     fault: WitnessFault,
-) -> Result<String, NoMemory>
-    requires { IsFirstWitnessFault judging «trace».now «record».now fault }
-    ensures { IfOk result (λ text. string_bytes text ≡ spec.unexplained_text judging «trace».now «record».now fault) }
-{
+) -> Result<String, NoMemory> {
     let mut text = String::new(alloc);
     write!(text, "{}", UnexplainedLine(fault))?;
     text.push_str(meaning(fault))?;
@@ -95,10 +76,7 @@ fn push_story(
     trace: &Trace,
     record: &Record,
     fault: WitnessFault,
-) -> Result<(), NoMemory>
-    requires { IsFirstWitnessFault judging «trace».now «record».now fault }
-    ensures { OnOk result (string_bytes text.new ≡ string_bytes text.old ++ spec.story judging «trace».now «record».now fault) }
-{
+) -> Result<(), NoMemory> {
     match fault {
         WitnessFault::NamespaceDiffers => push_namespaces(text, trace.geometry, record.geometry),
         WitnessFault::JobDiffers { job } | WitnessFault::ReplyDiffers { job } => {
@@ -124,15 +102,13 @@ fn push_both(
     trace: &Trace,
     record: &Record,
     number: u32,
-) -> Result<(), NoMemory>
-    ensures { OnOk result (string_bytes text.new ≡ string_bytes text.old ++ spec.both_lines judging «trace».now «record».now number) }
-{
+) -> Result<(), NoMemory> {
     let pieces = first_pieces(alloc, judging, trace, number as usize + 1)?;
     push_traced(text, &pieces, number)?;
     push_recorded(text, record, number)
 }
 
-/// Appends the step of this job at this spot, and one with which it is in the wrong order.
+/// Appends the first step of this job at this spot that comes too late, and one with which it is in the wrong order.
 fn push_order_of(
     text: &mut String,
     alloc: Global,
@@ -141,11 +117,11 @@ fn push_order_of(
     record: &Record,
     job: u32,
     spot: Spot,
-) -> Result<(), NoMemory>
-    ensures { OnOk result (string_bytes text.new ≡ string_bytes text.old
-        ++ spec.story judging «trace».now «record».now (TimeBack job spot)) }
-{
+) -> Result<(), NoMemory> {
     let pieces = traced_pieces(alloc, judging, trace)?;
     let steps = steps_of(alloc, &pieces, &record.done)?;
-    push_time_story(text, &pieces, &steps, job, spot)
+    match late_pair(&steps, job, spot) {
+        Some((late, earlier)) => push_late(text, &pieces, late, earlier),
+        None => Ok(()),
+    }
 }

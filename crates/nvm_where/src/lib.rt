@@ -1,23 +1,16 @@
-//! Where in a record, a trace or an argument an offset lies: in which of its pieces, and in which field.
+//! Which field of a record, a trace or an argument is at an offset, in words, as in `the kind of entry 3 of unit 5`.
 //!
-//! A reader of these files answers the offset at which something is wrong. [`place_in_record`], [`place_in_trace`] and [`place_in_argument`] find the
-//! piece that holds an offset, from the front of the file, by the lengths that the pieces before it say of themselves. [`field_told`] names the field
-//! there, too, as in `the kind of entry 3 of unit 5`.
+//! A reader of these files answers the offset at which something is wrong. [`field_told`] goes over the file's fields from its front, by the lengths
+//! that they say of themselves, and names the one that has the offset. No clause says which: `sweep/records.py` has each field of a record
+//! that the built program refuses named, and `examples/forged.py` and `traces.py` have rows.
 #![tactic(auto)]
 
-mod field;
-mod found;
-mod layout;
-mod lengths;
+mod argument;
+mod job;
 mod numbers;
-mod place;
 mod record;
-mod row;
-mod table;
 mod telling;
 mod trace;
+mod walk;
 
-pub use place::{Piece, Place};
-pub use record::place_in_record;
 pub use telling::field_told;
-pub use trace::{place_in_argument, place_in_trace};

@@ -1,69 +1,54 @@
-ghost use Rattle.std.specs.Prelude.{◌≡◌};
-ghost use Rattle.nvm_where.specs.Placed.{IsPlacedInArgument, IsPlacedInTrace};
+//! The fields of a trace.
 
-use crate::found::Found;
-use crate::layout::layout_of_trace;
-use crate::numbers::u64_at;
-use crate::place::{Piece, Place};
-use crate::row::{Row, find};
+use crate::job::{Sizes, find_in_answer, find_in_job};
+use crate::numbers::{u16_at, u32_at, u64_at};
+use crate::walk::Walk;
+use nvm_record::NoMemory;
+use std::alloc::Global;
 
-/// An argument's facts begin here.
-const FIRST_FACT: usize = 14;
-
-/// Where in a trace with these bytes an offset lies, as [`place_in_record`](crate::place_in_record) says it of a record. It takes no memory.
-pub fn place_in_trace(bytes: &[u8], at: u64) -> Option<Place>
-    ensures { IsPlacedInTrace bytes.now at result }
-{
-    let layout = layout_of_trace(bytes);
-    let at = at as usize;
-    if at < layout.first {
-        return Some(Place {
-            piece: Piece::Head,
-            begins: 0,
-        });
+/// The field at an offset of a trace with these bytes, if it is before its end.
+pub(crate) fn told_in_trace(
+    alloc: Global,
+    bytes: &[u8],
+    at: usize,
+) -> Result<Option<String>, NoMemory> {
+    let mut walk = Walk::new(bytes, at);
+    let head = walk.find(&[
+        ("the name", 4),
+        ("the numbers of the namespace", 20),
+        ("the LBA at which the window begins", 8),
+        ("what was known of the blocks before", 1),
+        ("what Reads and Compares are held to", 1),
+        ("the number of jobs", 4),
+    ]);
+    if let Some(field) = head {
+        return Ok(Some(String::from_str(alloc, field)?));
     }
-    match find(
-        Row::Traced,
-        bytes,
-        &layout,
-        &[],
-        layout.first,
-        layout.jobs as u64,
-        at,
-    ) {
-        Found::Here { number, begins } => Some(Place {
-            piece: Piece::Job { number },
-            begins: begins as u64,
-        }),
-        Found::Behind { .. } => None,
+    let sizes = Sizes {
+        block: u16_at(bytes, 12) as usize,
+        has_ranges: true,
+    };
+    for number in 0..u32_at(bytes, 34) {
+        if let Some(field) = find_in_traced(&mut walk, sizes) {
+            return Ok(Some(format!(in alloc; "{field} of job {number}")?));
+        }
     }
+    Ok(None)
 }
 
-/// Where in an argument with these bytes an offset lies, as [`place_in_record`](crate::place_in_record) says it of a record. It takes no memory.
-pub fn place_in_argument(bytes: &[u8], at: u64) -> Option<Place>
-    ensures { IsPlacedInArgument bytes.now at result }
-{
-    let at = at as usize;
-    if at < FIRST_FACT {
-        return Some(Place {
-            piece: Piece::Head,
-            begins: 0,
-        });
+/// The name of the field of a job with its times and what came back, which is next.
+fn find_in_traced(walk: &mut Walk<'_>, sizes: Sizes) -> Option<&'static str> {
+    let job = walk.rest();
+    if let Some(field) = find_in_job(walk, sizes) {
+        return Some(field);
     }
-    let layout = layout_of_trace(bytes);
-    match find(
-        Row::Facts,
-        bytes,
-        &layout,
-        &[],
-        FIRST_FACT,
-        u64_at(bytes, 6),
-        at,
-    ) {
-        Found::Here { number, begins } => Some(Place {
-            piece: Piece::Fact { number },
-            begins: begins as u64,
-        }),
-        Found::Behind { .. } => None,
+    let has_ended = u64_at(walk.rest(), 8) != u64::MAX;
+    if let Some(field) = walk.find(&[("the beginning", 8), ("the end", 8)]) {
+        return Some(field);
+    }
+    if has_ended {
+        find_in_answer(walk, sizes, job)
+    } else {
+        None
     }
 }

@@ -1,8 +1,8 @@
 //! Answers of a space in words.
 use crate::fault::RowFault;
+use nvm_listing::result_word;
 use nvm_plan::Completions;
 use nvm_record::{ReadData, Statuses};
-use nvm_report::result_word;
 use nvm_space::{JobDone, ReadAnswer, ReadNow};
 use nvm_text::{RunsText, StatusText, StatusesText};
 use std::alloc::Global;

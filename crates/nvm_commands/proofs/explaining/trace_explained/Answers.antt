@@ -1,13 +1,9 @@
-use Rattle.std.proofs.lemmas.Result.{IfErr-weaker, IfOk-weaker}
+use Rattle.std.proofs.lemmas.Result.{IfErr-weaker}
 use Rattle.nvm_commands.proofs.Held.{story_fault}
 use Rattle.nvm_commands.proofs.explaining.trace_explained.Goals as goal
 
-pub returns-clause-story : goal.returns-clause-story
-returns-clause-story g c =
-    IfOk-weaker c.story_of.result _ _ (λ text is. (c.in_ok-seen.seen, c.in_ok-held.held, is)) c.story_of.ensures.story
-
-pub returns-clause-fault : goal.returns-clause-fault
-returns-clause-fault g c =
+pub returns : goal.returns
+returns g c =
     IfErr-weaker c.story_of.result _ _
     (λ failure is. story_fault c.args.trace.now c.in_ok-seen.seen c.args.«record».now c.in_ok-held.held failure.fault is)
-    c.story_of.ensures.fault
+    c.story_of.ensures

@@ -1,11 +1,9 @@
-use Rattle.std.proofs.Common.{◌≡◌, ◌<◌, Some, ap, append-nil, append_assoc, length, refl, rules, subst}
+use Rattle.std.proofs.Common.{◌≡◌, ◌<◌, Some, ap, length, refl, rules, subst}
 use Rattle.std.specs.Prelude.{slice_get}
 use Rattle.std.proofs.lemmas.Option.{slice_get_read}
-use Rattle.std.proofs.lemmas.Result.{on_ok_weaker}
 use Rattle.nvm_geometry.specs.Namespace.{Namespace}
 use Rattle.nvm_plan.specs.UnitPlace.{IsUnitPlace}
 use Rattle.nvm_store.specs.Contents.{place_of}
-use Rattle.nvm_store.specs.Point.{point}
 use Rattle.nvm_audit.specs.RecordView.{RecordView}
 use Rattle.nvm_explain.proofs.Covering.{covered_got}
 use Rattle.nvm_explain.proofs.entry_story.push_entry_story.Goals as goal
@@ -20,57 +18,3 @@ push_given-requires c =
     let here = rw c.in-Some-2.is at c.in_ok-at.ensures in
     let lies = subst (λ (n : Namespace). IsUnitPlace n c.args.spot.unit (place_of c.in-Some-2.at.blocks)) ns here.2.lies in
     (covered_got _ _ _ _ _ c.in-Some.ensures.covered got).covered _ lies
-
-pub returns-in-Some-2 : goal.returns-in-Some-2
-returns-in-Some-2 c =
-    let ns : c.run.inside.geometry ≡ c.args.run.now.namespace = ap (λ (r : RecordView). r.namespace) c.run.view_is in
-    let low : c.args.spot.place < length c.in-Some.history.now = search rules in
-    let got : slice_get c.in-Some.history.now c.args.spot.place ≡ Some c.in-Some-get.entry.now =
-    slice_get_read _ _ _ _ refl low c.in-Some-get.ensures.lookup.1
-    in
-    let here = rw c.in-Some-2.is at c.in_ok-at.ensures in
-    rw (← c.in-Some.ensures.is, got, ← ns, here.2.reached)
-    (on_ok_weaker c.push_given.result
-    (λ said.
-    rw (
-      here.2.lies.size,
-      here.0,
-      here.1,
-      c.in_ok-push_written.ensures,
-      c.in_ok-push_own_part.ensures,
-      c.in_ok-push_entry.ensures,
-      c.in_ok-push_str.ensures.bytes,
-      c.from.ensures,
-      c.from-2.ensures,
-      append_assoc,
-      append_assoc,
-      append_assoc,
-      append_assoc,
-      ← ns,
-    ) at (said (point c.run.inside.geometry.block_size c.in-Some.history.now c.args.spot.place) here.2.held))
-    c.push_given.ensures)
-
-pub returns-in-None : goal.returns-in-None
-returns-in-None c =
-    let ns : c.run.inside.geometry ≡ c.args.run.now.namespace = ap (λ (r : RecordView). r.namespace) c.run.view_is in
-    let low : c.args.spot.place < length c.in-Some.history.now = search rules in
-    let got : slice_get c.in-Some.history.now c.args.spot.place ≡ Some c.in-Some-get.entry.now =
-    slice_get_read _ _ _ _ refl low c.in-Some-get.ensures.lookup.1
-    in
-    let here = rw c.in-None.is at c.in_ok-at.ensures in
-    rw (
-      ← c.in-Some.ensures.is,
-      got,
-      c.in_ok-push_written.ensures,
-      c.in_ok-push_own_part.ensures,
-      c.in_ok-push_entry.ensures,
-      c.in_ok-push_str.ensures.bytes,
-      c.from.ensures,
-      c.from-2.ensures,
-      append_assoc,
-      append_assoc,
-      append_assoc,
-      ← ns,
-      here,
-      append-nil,
-    )

@@ -1,3 +1,0 @@
-pub mod FirstOfAll
-pub mod Naming
-pub mod UnitByUnit

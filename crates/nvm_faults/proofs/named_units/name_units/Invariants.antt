@@ -1,7 +1,0 @@
-use Rattle.std.proofs.Common.{◌≡◌, drop}
-use Rattle.nvm_faults.specs.Inside.Named.{named_by_parts}
-use Rattle.nvm_faults.proofs.named_units.name_units.Given as goal
-
--- with the marks of the parts that are left these are all marks
-abbrev pub invariant-loop-part : goal.invariant-loop-part
-invariant-loop-part l = named_by_parts (drop l.part-index l.parts) l.named.items ≡ named_by_parts l.parts l.fn.named.items

@@ -1,5 +1,0 @@
-use Rattle.nvm_faults.proofs.UnitByUnit.{AreFaultsBefore}
-use Rattle.nvm_faults.proofs.unit_faults.faults_of_units.Given as goal
-
-abbrev pub invariant-loop-unit : goal.invariant-loop-unit
-invariant-loop-unit l = AreFaultsBefore l.fn.record l.unit l.faults.items

@@ -1,3 +1,0 @@
-pub mod AllFaults
-pub mod FaultsText
-pub mod Inside

@@ -1,0 +1,4 @@
+pub mod AnswersMade
+pub mod FirstOfAll
+pub mod Naming
+pub mod UnitByUnit

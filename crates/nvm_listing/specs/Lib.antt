@@ -1,0 +1,4 @@
+pub mod AllFaults
+pub mod Answers
+pub mod Items
+pub mod Inside

@@ -1,2 +1,0 @@
-pub mod ObjectsMade
-pub mod OneText

@@ -1,3 +1,0 @@
-pub mod Ranges
-pub mod Reached
-pub mod Places

@@ -1,6 +1,0 @@
-pub mod HeadLines
-pub mod JobLines
-pub mod EntryLines
-pub mod DoneLines
-pub mod RecordListing
-pub mod LastChange

@@ -1,4 +1,0 @@
-pub mod Lengths
-pub mod Numbers
-pub mod Placed
-pub mod Rows
