@@ -7,7 +7,7 @@
  * the first unit. With `recorded` the namespace is recorded. Pairs and Compares hold. It prints the number of commands on standard output, and on standard error the nanoseconds by the wall's clock and of processor time. Compiled with
  * -DCOUNTED and linked with -Wl,--wrap=malloc,--wrap=realloc,--wrap=free it prints the calls of these three after that.
  *
- * `answers` sends NUMBER random commands, wrong ones among them, by one thread to one namespace, and prints a sum of each code, completion and byte read: two engines that answer alike print the same. */
+ * `answers` sends NUMBER random commands, wrong ones among them, by one thread to one namespace, and prints a sum of each code, each completion, and the data after each success: two engines that answer alike print the same. */
 #include <pthread.h>
 #include <sched.h>
 #include <stdio.h>
@@ -146,7 +146,7 @@ static int answers(unsigned long seed, unsigned long number)
                 for (uint32_t r = 0; r < ranges; r++)
                     range_of(data + length + r * RANGE_BYTES, drawn(66), drawn(6));
                 length += ranges * RANGE_BYTES;
-            } else if (opcode == WRITE || opcode == COMPARE || opcode == READ) {
+            } else if (opcode == WRITE || opcode == COMPARE || (opcode == READ && !is_pair)) {
                 for (uint32_t b = 0; b < blocks; b++)
                     memset(data + length + b * 512, (int)drawn(3), 512);
                 length += blocks * 512u;
@@ -156,7 +156,7 @@ static int answers(unsigned long seed, unsigned long number)
         sum = (sum ^ (uint64_t)code) * 1099511628211u;
         for (size_t b = 0; b < sizeof told; b++)
             sum = (sum ^ told[b]) * 1099511628211u;
-        for (size_t b = 0; code == ZK_DONE && b < length; b++)
+        for (size_t b = 0; code == ZK_DONE && status_of(told) == 0 && b < length; b++)
             sum = (sum ^ data[b]) * 1099511628211u;
     }
     printf("%016llx\n", (unsigned long long)sum);

@@ -44,6 +44,14 @@ static struct command read_entry(const uint8_t *entry)
     return it;
 }
 
+/* The bytes of data that a command carries. */
+static size_t carried(const struct engine *of, const struct command *it, const uint8_t *entry)
+{
+    if (it->opcode == DATASET_MANAGEMENT)
+        return (entry[40] + 1u) * RANGE_BYTES;
+    return it->opcode == WRITE || it->opcode == COMPARE ? (size_t)it->blocks * of->ns.block_size : 0;
+}
+
 static bool is_served(uint8_t opcode)
 {
     return opcode == WRITE || opcode == READ || opcode == WRITE_UNCORRECTABLE || opcode == COMPARE || opcode == WRITE_ZEROES || opcode == DATASET_MANAGEMENT;
@@ -228,19 +236,18 @@ int zk_submit(struct zk_port *port, const uint8_t *entries, size_t entries_lengt
 {
     struct engine *of = (struct engine *)(uintptr_t)port->opaque[0];
     size_t count = entries_length / ZK_ENTRY_BYTES, wanted;
-    uint16_t told[2];
+    uint16_t told[2] = { OK, OK };
     if (!of)
         return ZK_NOT_OPEN;
     if ((count != 1 && count != 2) || entries_length % ZK_ENTRY_BYTES || completions_length != count * ZK_COMPLETION_BYTES)
         return ZK_BAD_LENGTH;
     struct command first = read_entry(entries), second = first;
-    bool carries = first.opcode == WRITE || first.opcode == READ || first.opcode == COMPARE;
-    wanted = first.opcode == DATASET_MANAGEMENT ? (entries[40] + 1u) * RANGE_BYTES : carries ? (size_t)first.blocks * of->ns.block_size : 0;
+    wanted = carried(of, &first, entries) + (count == 1 && first.opcode == READ ? (size_t)first.blocks * of->ns.block_size : 0);
     if (count == 2) {
         second = read_entry(entries + ZK_ENTRY_BYTES);
         if (first.fuse != FUSED_FIRST || second.fuse != FUSED_SECOND || !is_served(first.opcode) || !is_served(second.opcode))
             return ZK_NO_PAIR;
-        wanted += (size_t)second.blocks * of->ns.block_size;
+        wanted += carried(of, &second, entries + ZK_ENTRY_BYTES);
     }
     if (data_length != wanted)
         return ZK_BAD_LENGTH;
