@@ -20,8 +20,7 @@ BY_ROW, BY_CALL, BY_NONE = "no memory", "by the call", "with less"
 REFUSED = re.compile(r".*\bno memory\b.*|(?:0/00 )?0/06\b.*")
 # Rows, with their answers, whose calls take no memory: it can't be refused to them.
 TAKES_NONE = re.compile(
-    r"geometry .*"
-    r"|(?:unit|space) (?:\w+ )?(?:refresh|meet|keeps|gate)\b.*"
+    r"(?:unit|space) (?:\w+ )?(?:refresh|meet|keeps|gate)\b.*"
     # A comparison, what is full, newer, busy or held by another, and a pair that fails.
     r"|unit \w+ \w+ compare [^;]* = at .*|.* = (?:full|newer|busy|failed|not free)\b.*|unit close = .*"
     # A Read that doesn't wait and isn't answered, and jobs that a check refuses or that have no parts.

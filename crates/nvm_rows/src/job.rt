@@ -3,7 +3,7 @@ use crate::fault::RowFault;
 use nvm_list::{ListFault, read_list};
 use nvm_listing::ActText;
 use nvm_plan::{Job, jobs};
-use nvm_record::{BlockSize, Command, NoMemory};
+use nvm_record::{BlockSize, Command};
 use nvm_store::History;
 use std::alloc::Global;
 
@@ -44,14 +44,11 @@ fn commands(alloc: Global, words: &[&str]) -> Result<Vec<Command>, RowFault> {
     }
 }
 
-/// Pass, job and act of each entry of a history, if there was memory for a copy of it.
-pub fn entries_text(alloc: Global, copied: Result<History, NoMemory>) -> Result<String, RowFault> {
-    let Ok(entries) = copied else {
-        return Ok(String::from_str(alloc, "no memory")?);
-    };
+/// Pass, job and act of each entry of a history.
+pub fn entries_text(alloc: Global, entries: &History) -> Result<String, RowFault> {
     let count = entries.len();
     let mut text = format!(in alloc; "entries {count}")?;
-    for entry in &entries {
+    for entry in entries {
         let pass = entry.pass;
         let job = entry.job;
         let act = ActText(&entry.act);

@@ -5,40 +5,28 @@
 
 mod fault;
 mod file;
-mod geometry;
 mod job;
 mod plan;
 mod record;
+mod shared;
 mod spaces;
-mod store;
 mod units;
 mod words;
 
 use crate::fault::RowFault;
+use crate::shared::Opened;
 use std::process::ExitCode;
 use std::sync::Wait;
 
-/// What rows leave to those after them.
-#[derive(Drop)]
-struct Grounds {
-    store: Option<store::Ground>,
-    unit: units::Opened,
-    space: spaces::Opened,
-}
-
 fn main(rt: HostRuntime) -> ExitCode {
-    let mut grounds = Grounds {
-        store: None,
-        unit: units::Opened::Nothing,
-        space: spaces::Opened::Nothing,
-    };
+    let mut opened = Opened::Nothing;
     let mut line = 0u64;
     for row in rt.lines(rt.alloc()) {
         line = line.saturating_add(1);
         let Ok(row) = row else {
             return ended(&rt, line, RowFault::NoMemory);
         };
-        if let Err(fault) = printed(&rt, &mut grounds, row.as_str()) {
+        if let Err(fault) = printed(&rt, &mut opened, row.as_str()) {
             return ended(&rt, line, fault);
         }
     }
@@ -59,34 +47,27 @@ fn ended<R: Eprint>(rt: &R, line: u64, fault: RowFault) -> ExitCode {
 /// Prints a heading, or what a row's call answers.
 fn printed<R: AllocGlobal + Print + Wait>(
     rt: &R,
-    grounds: &mut Grounds,
+    opened: &mut Opened,
     row: &str,
 ) -> Result<(), RowFault> {
     if row.is_empty() || row.starts_with('#') {
         return rt.println(row).map_err(|_| RowFault::Unwritten);
     }
     let words: Vec<&str> = row.split_whitespace().collect(rt.alloc())?;
-    let answer = answer(rt, grounds, words.as_slice())?;
+    let answer = answer(rt, opened, words.as_slice())?;
     rt.println(answer.as_str()).map_err(|_| RowFault::Unwritten)
 }
 
 /// What the call of these words answers.
 fn answer<R: AllocGlobal + Wait>(
     rt: &R,
-    grounds: &mut Grounds,
+    opened: &mut Opened,
     words: &[&str],
 ) -> Result<String, RowFault> {
-    let Some((layer, call)) = words.split_first() else {
-        return Err(RowFault::Unread);
-    };
-    match *layer {
-        "record" => record::answer(rt.alloc(), call),
-        "geometry" => geometry::answer(rt.alloc(), call),
-        "store" => store::answered(rt.alloc(), &mut grounds.store, call),
-        "plan" => plan::answer(rt.alloc(), call),
-        "file" => file::answer(rt.alloc(), call),
-        "unit" => units::answer(rt, rt.alloc(), &mut grounds.unit, call),
-        "space" => spaces::answer(rt, rt.alloc(), &mut grounds.space, call),
-        _ => Err(RowFault::Unread),
+    match words {
+        ["record", call @ ..] => record::answer(rt.alloc(), call),
+        ["plan", call @ ..] => plan::answer(rt.alloc(), call),
+        ["file", call @ ..] => file::answer(rt.alloc(), call),
+        _ => shared::answer(rt, rt.alloc(), opened, words),
     }
 }

@@ -1,20 +1,13 @@
-//! Calls on host files, completions, ranges, data and blocks.
+//! Calls on completions, data and blocks.
 use crate::fault::RowFault;
 use crate::words::{byte, bytes, number};
-use nvm_list::{CommandText, RangesText};
-use nvm_record::{
-    Block, BlockSize, Command, Completion, HostFault, Payload, ReadData, Status, completion_bytes,
-    host_bytes, read_host,
-};
+use nvm_record::{Block, Completion, Payload, ReadData, Status, completion_bytes};
 use nvm_text::RunsText;
 use std::alloc::Global;
 
 /// What a call answers.
 pub fn answer(alloc: Global, call: &[&str]) -> Result<String, RowFault> {
     match call {
-        ["host", size, file] => host(alloc, block_size(size)?, &bytes(alloc, file)?),
-        ["fronts", size, file] => fronts(alloc, block_size(size)?, &bytes(alloc, file)?),
-        ["spelled", size, file] => spelled(alloc, block_size(size)?, &bytes(alloc, file)?),
         ["completion", host, cid, sct, sc, payload] => {
             let sct = number(sct)?;
             let sc = byte(sc)?;
@@ -27,65 +20,11 @@ pub fn answer(alloc: Global, call: &[&str]) -> Result<String, RowFault> {
             };
             posted(alloc, &completion)
         }
-        ["ranges", payload] => {
-            let ranges = bytes(alloc, payload)?;
-            Ok(format!(in alloc; "ranges {}", RangesText(ranges.as_slice()))?)
-        }
         ["part", from, to, payload] => {
             part(alloc, number(from)?, number(to)?, bytes(alloc, payload)?)
         }
         ["block", payload] => block(alloc, bytes(alloc, payload)?),
         _ => Err(RowFault::Unread),
-    }
-}
-
-fn block_size(word: &str) -> Result<BlockSize, RowFault> {
-    BlockSize::new(number(word)?).ok_or(RowFault::Unread)
-}
-
-/// The commands of a host file, or its fault.
-fn host(alloc: Global, size: BlockSize, file: &Payload) -> Result<String, RowFault> {
-    match read_host(alloc, file, size) {
-        Ok(commands) => commands_text(alloc, &commands),
-        Err(HostFault::NoMemory) => Err(RowFault::NoMemory),
-        Err(fault) => Ok(format!(in alloc; "{fault}")?),
-    }
-}
-
-/// How many commands there are, and each.
-fn commands_text(alloc: Global, commands: &[Command]) -> Result<String, RowFault> {
-    let count = commands.len();
-    let mut text = format!(in alloc; "commands {count}")?;
-    for command in commands {
-        let command = CommandText { place: 0, command };
-        write!(text, "; {command}")?;
-    }
-    Ok(text)
-}
-
-/// What each front of a host file is read as, after the least number of bytes that is read so.
-fn fronts(alloc: Global, size: BlockSize, file: &Payload) -> Result<String, RowFault> {
-    let mut text = String::from_str(alloc, "fronts")?;
-    let mut last = String::new(alloc);
-    for bytes in 0..=file.len() {
-        let now = host(alloc, size, &file.part(0, bytes)?)?;
-        if now.as_str() != last.as_str() {
-            write!(text, " | {bytes}: {now}")?;
-            last = now;
-        }
-    }
-    Ok(text)
-}
-
-/// The bytes of the host file that has the commands of a host file.
-fn spelled(alloc: Global, size: BlockSize, file: &Payload) -> Result<String, RowFault> {
-    match read_host(alloc, file, size) {
-        Ok(commands) => {
-            let bytes = host_bytes(alloc, &commands)?;
-            Ok(format!(in alloc; "{}", RunsText(&bytes))?)
-        }
-        Err(HostFault::NoMemory) => Err(RowFault::NoMemory),
-        Err(_) => Err(RowFault::Unread),
     }
 }
 

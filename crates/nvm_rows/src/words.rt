@@ -1,12 +1,10 @@
 //! What the words of rows stand for. A number is a decimal one.
 use crate::fault::RowFault;
 use nvm_geometry::Geometry;
-use nvm_record::{LbaRange, Payload, ranges_data};
+use nvm_record::Payload;
+use nvm_store::Limit;
 use std::alloc::Global;
 use std::str::FromStr;
-
-/// The most bytes of a run.
-const LONGEST: usize = 16_777_216;
 
 /// A number.
 pub fn number<N: FromStr>(word: &str) -> Result<N, RowFault>
@@ -27,39 +25,27 @@ pub fn byte(word: &str) -> Result<u8, RowFault> {
     }
 }
 
-/// Bytes: runs of equal ones, as `512*41`, and bytes of two digits each, as `4e565131`, with a comma between any two. `-` has none,
-/// and `@28+4,12+0` has those that name these ranges.
+/// Bytes: runs of equal ones, as `512*41`, and bytes of two digits each, as `4e565131`, with a comma between any two. `-` has none.
 pub fn bytes(alloc: Global, word: &str) -> Result<Payload, RowFault> {
-    if let Some(named) = word.strip_prefix('@') {
-        return ranges(alloc, named);
-    }
     let mut bytes = Vec::new(alloc);
     if word != "-" {
         for piece in word.split(',') {
-            append(alloc, &mut bytes, piece)?;
+            append(&mut bytes, piece)?;
         }
     }
     Ok(Payload::new(alloc, bytes)?)
 }
 
-/// Appends the bytes of a piece.
-fn append(alloc: Global, bytes: &mut Vec<u8>, piece: &str) -> Result<(), RowFault> {
-    match piece.split_once('*') {
-        Some((count, of)) => {
-            let run = run(alloc, number(count)?, byte(of)?)?;
-            bytes.extend_from_slice(&run)?;
-            Ok(())
-        }
-        None => append_digits(bytes, piece),
+/// Appends the bytes of a piece: those of its digits, once or so often.
+fn append(bytes: &mut Vec<u8>, piece: &str) -> Result<(), RowFault> {
+    let (count, digits) = match piece.split_once('*') {
+        Some((count, digits)) => (number::<u16>(count)?, digits),
+        None => (1, piece),
+    };
+    for _ in 0..count {
+        append_digits(bytes, digits)?;
     }
-}
-
-/// So many of this byte.
-fn run(alloc: Global, count: usize, of: u8) -> Result<Vec<u8>, RowFault> {
-    if count > LONGEST {
-        return Err(RowFault::Unread);
-    }
-    Ok(vec![in alloc; of; count]?)
+    Ok(())
 }
 
 /// Appends a byte for each two digits.
@@ -84,26 +70,6 @@ fn append_digits(bytes: &mut Vec<u8>, digits: &str) -> Result<(), RowFault> {
     }
 }
 
-/// The bytes that name ranges.
-fn ranges(alloc: Global, word: &str) -> Result<Payload, RowFault> {
-    let mut ranges = Vec::new(alloc);
-    for piece in word.split(',') {
-        ranges.push(range(piece)?)?;
-    }
-    Ok(ranges_data(alloc, &ranges)?)
-}
-
-/// The range of a first LBA and a number of blocks, as `28+4`.
-fn range(word: &str) -> Result<LbaRange, RowFault> {
-    let Some((first, blocks)) = word.split_once('+') else {
-        return Err(RowFault::Unread);
-    };
-    Ok(LbaRange {
-        first: number(first)?,
-        blocks: number(blocks)?,
-    })
-}
-
 /// The geometry of NSZE, a block's bytes, NABSN, NABO, NAWUN and NACWU, as `32/512/7/0/7/3`.
 pub fn geometry(alloc: Global, word: &str) -> Result<Geometry, RowFault> {
     let numbers: Vec<&str> = word.split('/').collect(alloc)?;
@@ -121,5 +87,13 @@ pub fn geometry(alloc: Global, word: &str) -> Result<Geometry, RowFault> {
     match geometry {
         Ok(geometry) => Ok(geometry),
         Err(_) => Err(RowFault::Unread),
+    }
+}
+
+/// The most entries of a history.
+pub fn limit(word: &str) -> Result<Limit, RowFault> {
+    match Limit::new(number(word)?) {
+        Some(limit) => Ok(limit),
+        None => Err(RowFault::Unread),
     }
 }

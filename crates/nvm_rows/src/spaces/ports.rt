@@ -26,47 +26,24 @@ pub fn called<K: Kept>(
     ensures number { port.new.number ≡ port.old.number }
 {
     match call {
-        ["refresh", unit] => refreshed(rt, alloc, space, port, number(unit)?),
-        ["now", slba, blocks] => read(alloc, space, port, number(slba)?, number(blocks)?),
+        ["refresh", unit] => {
+            let unit = number(unit)?;
+            if unit >= space.geometry().units() {
+                return Err(RowFault::Unread);
+            }
+            space.refresh(rt, port, unit);
+            Ok(String::from_str(alloc, "refreshed")?)
+        }
+        ["now", slba, blocks] => {
+            let (slba, blocks) = (number(slba)?, number(blocks)?);
+            if blocks == 0 || !space.versions() {
+                return Err(RowFault::Unread);
+            }
+            read_text(alloc, space.read_now(alloc, port, slba, blocks))
+        }
         [call, of @ ..] => done(rt, alloc, space, port, call, of),
         [] => Err(RowFault::Unread),
     }
-}
-
-fn refreshed<K: Kept>(
-    rt: &impl Wait,
-    alloc: Global,
-    space: &Space<K>,
-    port: &mut Port<K>,
-    unit: u16,
-) -> Result<String, RowFault>
-    requires { IsPortOf space.now port.old }
-    ensures of { IsPortOf space.now port.new }
-    ensures number { port.new.number ≡ port.old.number }
-{
-    if unit >= space.geometry().units() {
-        return Err(RowFault::Unread);
-    }
-    space.refresh(rt, port, unit);
-    Ok(String::from_str(alloc, "refreshed")?)
-}
-
-/// What a Read is answered that never waits.
-fn read<K: Kept>(
-    alloc: Global,
-    space: &Space<K>,
-    port: &mut Port<K>,
-    slba: u64,
-    blocks: u32,
-) -> Result<String, RowFault>
-    requires { IsPortOf space.now port.old }
-    ensures of { IsPortOf space.now port.new }
-    ensures number { port.new.number ≡ port.old.number }
-{
-    if blocks == 0 || !space.versions() {
-        return Err(RowFault::Unread);
-    }
-    read_text(alloc, space.read_now(alloc, port, slba, blocks))
 }
 
 /// What a job is answered that is run, or begun and polled once.
@@ -133,5 +110,8 @@ pub fn history(
     if unit >= space.geometry().units() {
         return Err(RowFault::Unread);
     }
-    entries_text(alloc, space.history(rt, alloc, port, unit))
+    match space.history(rt, alloc, port, unit) {
+        Ok(history) => entries_text(alloc, &history),
+        Err(_) => Ok(String::from_str(alloc, "no memory")?),
+    }
 }

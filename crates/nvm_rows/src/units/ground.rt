@@ -4,8 +4,7 @@ ghost use Rattle.nvm_unit.specs.Ends.{new_passes};
 ghost use Rattle.nvm_unit.specs.Passes.{IsPassOf};
 
 use crate::fault::RowFault;
-use crate::job::entries_text;
-use crate::units::passes::{Counting, asked};
+use crate::units::passes::{Counting, called, history};
 use nvm_record::{BlockSize, NoMemory};
 use nvm_store::{History, Limit, Place};
 use nvm_unit::{Count, Kept, Pass, Unit};
@@ -45,12 +44,9 @@ impl Ground<History> {
     /// Its history has so many entries at most.
     pub fn recorded(
         alloc: Global,
-        limit: u32,
+        limit: Limit,
         versions: bool,
     ) -> Result<Ground<History>, RowFault> {
-        let Some(limit) = Limit::new(limit) else {
-            return Err(RowFault::Unread);
-        };
         match Unit::open(alloc, 3, PLACE, 2, limit, versions) {
             Ok((unit, passes)) => with_both(unit, passes, versions),
             Err(_) => Err(RowFault::NoMemory),
@@ -65,17 +61,18 @@ impl Ground<History> {
         pass: &str,
     ) -> Result<String, RowFault> {
         match pass {
-            "0" => entries_text(alloc, self.unit.history(rt, alloc, &mut self.first)),
-            "1" => entries_text(alloc, self.unit.history(rt, alloc, &mut self.second)),
+            "0" => history(rt, alloc, &self.unit, &mut self.first),
+            "1" => history(rt, alloc, &self.unit, &mut self.second),
             _ => Err(RowFault::Unread),
         }
     }
 }
 
 impl Ground<Count> {
-    pub fn counted(alloc: Global, versions: bool) -> Result<Ground<Count>, RowFault> {
-        match Unit::unrecorded(alloc, 3, PLACE, 2, versions) {
-            Ok((unit, passes)) => with_both(unit, passes, versions),
+    /// With versions.
+    pub fn counted(alloc: Global) -> Result<Ground<Count>, RowFault> {
+        match Unit::unrecorded(alloc, 3, PLACE, 2, true) {
+            Ok((unit, passes)) => with_both(unit, passes, true),
             Err(_) => Err(RowFault::NoMemory),
         }
     }
@@ -103,34 +100,14 @@ impl<K: Kept> Ground<K> {
                 let calls = self.gate.calls();
                 Ok(format!(in alloc; "calls {calls}")?)
             }
-            ["0", "refresh"] => {
-                self.unit.refresh(rt, &mut self.first);
-                Ok(String::from_str(alloc, "refreshed")?)
+            ["0", of @ ..] => {
+                let pass = &mut self.first;
+                called(rt, alloc, &self.unit, pass, self.versions, &self.gate, of)
             }
-            ["1", "refresh"] => {
-                self.unit.refresh(rt, &mut self.second);
-                Ok(String::from_str(alloc, "refreshed")?)
+            ["1", of @ ..] => {
+                let pass = &mut self.second;
+                called(rt, alloc, &self.unit, pass, self.versions, &self.gate, of)
             }
-            ["0", call, of @ ..] => asked(
-                rt,
-                alloc,
-                &self.unit,
-                &mut self.first,
-                self.versions,
-                &self.gate,
-                call,
-                of,
-            ),
-            ["1", call, of @ ..] => asked(
-                rt,
-                alloc,
-                &self.unit,
-                &mut self.second,
-                self.versions,
-                &self.gate,
-                call,
-                of,
-            ),
             _ => Err(RowFault::Unread),
         }
     }

@@ -2,16 +2,18 @@
 ghost use Rattle.std.specs.Prelude.{◌≡◌, true};
 ghost use Rattle.nvm_plan.specs.Fits.{FitsNamespace};
 ghost use Rattle.nvm_store.specs.ActRef.{lent_operation_of};
+ghost use Rattle.nvm_store.specs.History.{IsLawfulHistory};
 ghost use Rattle.nvm_store.specs.Look.{look_operation_of};
 ghost use Rattle.nvm_store.specs.Place.{IsCovered};
 ghost use Rattle.nvm_unit.specs.Passes.{IsPassOf};
 
 use crate::fault::RowFault;
-use crate::job::{NUMBER, job};
+use crate::job::{NUMBER, entries_text, job};
 use crate::units::answers::{changed_text, looked_text, observed_text};
 use nvm_geometry::Geometry;
 use nvm_plan::{LentPart, fits, job_part_in};
-use nvm_store::{ActRef, Look};
+use nvm_store::{ActRef, Answer, History, Look, Place, answer, replay};
+use nvm_text::{RunsText, StatusText};
 use nvm_unit::{Busy, Gate, Kept, Open, Pass, Unit};
 use std::alloc::Global;
 use std::sync::Wait;
@@ -45,22 +47,29 @@ impl Gate for Counting {
     fn after_job(&self, _job: u32) {}
 }
 
-/// What is answered to the part of a job in the unit. The job's namespace has another unit, so that ranges may leave this one.
-pub fn asked<K: Kept>(
+/// What the call of a pass answers. The part of a job in the unit is done, of a namespace that has another unit, so that ranges may leave
+/// this one.
+pub fn called<K: Kept>(
     rt: &impl Wait,
     alloc: Global,
     unit: &Unit<K>,
     pass: &mut Pass<K>,
     versions: bool,
     gate: &Counting,
-    call: &str,
-    of: &[&str],
+    call: &[&str],
 ) -> Result<String, RowFault>
     requires of { IsPassOf unit.now pass.old }
     requires versions { unit.now.versions ≡ versions }
     ensures of { IsPassOf unit.now pass.new }
     ensures number { pass.new.view.number ≡ pass.old.view.number }
 {
+    let Some((call, of)) = call.split_first() else {
+        return Err(RowFault::Unread);
+    };
+    if *call == "refresh" {
+        unit.refresh(rt, pass);
+        return Ok(String::from_str(alloc, "refreshed")?);
+    }
     let job = job(alloc, of)?;
     let Ok(namespace) = Geometry::new(16, 512, 7, 0, 7, 7) else {
         return Err(RowFault::Unread);
@@ -133,4 +142,61 @@ fn looked<K: Kept>(
         "look" if versions => looked_text(alloc, unit.look(alloc, pass, look)),
         _ => Err(RowFault::Unread),
     }
+}
+
+/// The history that the pass finds, and each block after it.
+pub fn history(
+    rt: &impl Wait,
+    alloc: Global,
+    unit: &Unit,
+    pass: &mut Pass,
+) -> Result<String, RowFault>
+    requires of { IsPassOf unit.now pass.old }
+    ensures of { IsPassOf unit.now pass.new }
+    ensures number { pass.new.view.number ≡ pass.old.view.number }
+{
+    let place = unit.place();
+    match unit.history(rt, alloc, pass) {
+        Ok(history) => {
+            let text = entries_text(alloc, &history)?;
+            with_blocks(alloc, text, place, &history)
+        }
+        Err(_) => Ok(String::from_str(alloc, "no memory")?),
+    }
+}
+
+/// The text, and what a Read of each block is answered after the history.
+fn with_blocks(
+    alloc: Global,
+    text: String,
+    place: Place,
+    history: &History,
+) -> Result<String, RowFault>
+    requires { IsLawfulHistory place history.now.items }
+{
+    let Place {
+        first,
+        blocks,
+        size,
+    } = place;
+    if blocks == 0 || blocks > 65_536 || first > 65_536 - u64::from(blocks) {
+        return Err(RowFault::Unread);
+    }
+    let unit = replay(alloc, first, blocks, size, history)?;
+    let mut text = text;
+    text.push_str("; then")?;
+    for lba in first..first + u64::from(blocks) {
+        let look = Look::Read {
+            first: lba,
+            blocks: 1,
+        };
+        if !unit.covers_look(look) {
+            return Err(RowFault::Unread);
+        }
+        match answer(alloc, &unit, look)? {
+            Answer::Payload(read) => write!(text, " {}", RunsText(read.as_slice()))?,
+            Answer::Status(status) => write!(text, " {}", StatusText(status))?,
+        }
+    }
+    Ok(text)
 }
