@@ -1,4 +1,1 @@
 pub mod JobAlone
-pub mod PolledRead
-pub mod Ruling
-pub mod Unrun

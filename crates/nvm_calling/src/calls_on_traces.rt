@@ -32,18 +32,20 @@ pub fn recorded(
     jobs: &[Job],
 ) -> Result<()> {
     let alloc = rt.alloc();
-    let Ok(done) = run::record_of(rt, alloc, seen.geometry, jobs, 1, limit) else {
+    let crowd = run::record_of(rt, alloc, seen.geometry, jobs, 65, limit);
+    println!(rt; "record_of: {:?}", crowd.err())?;
+    let Ok(Some(done)) = run::record_of(rt, alloc, seen.geometry, jobs, 1, limit) else {
         bail!("there was no memory");
     };
     println!(rt; "record_of: {} jobs", done.jobs.len())?;
     println!(rt; "file_of: {} bytes", file::file_of(alloc, &done)?.len())?;
-    println!(rt; "rule_on: {:?}", audit::rule_on(rt, alloc, &done))?;
+    println!(rt; "is_lawful: {}", audit::is_lawful(rt, alloc, &done)?)?;
     let is_certified = trace::is_certified(rt, alloc, STRICT, seen, &done)?;
     println!(rt; "is_certified: {is_certified}")?;
     let explained = witness_alone(alloc, STRICT, seen, &done)?;
     println!(rt; "witness_alone: {explained:?}")?;
-    let said = certify::judge_device(rt, alloc, STRICT, seen, 100)?;
-    println!(rt; "judge_device: {said:?}")?;
+    let said = certify::is_linearizable(rt, alloc, STRICT, seen, 100)?;
+    println!(rt; "is_linearizable: {said:?}")?;
     Ok(())
 }
 
@@ -56,7 +58,8 @@ pub fn argued(rt: &(impl AllocGlobal + Print + Threads + Sync), text: &str) -> R
     let Certification::Contradicted { argument: why } = found else {
         bail!("there is no argument");
     };
-    println!(rt; "weigh: {:?}", refute::weigh(alloc, STRICT, &seen, &why)?)?;
+    let is_refuted = refute::is_refuted(alloc, STRICT, &seen, &why)?;
+    println!(rt; "is_refuted: {is_refuted}")?;
     let seen = file::trace_file_of(alloc, &seen)?;
     println!(rt; "trace_file_of: {} bytes", seen.len())?;
     let why = argument::argument_file_of(alloc, &why)?;

@@ -1,5 +1,4 @@
 //! Calls on commands, on the parts of one, on a unit and on ports.
-use crate::space::PolledRead;
 use crate::{generate, geometry, plan, record, space, store, unit};
 use anyhow::{Context, Result, bail, ensure};
 use nvm_geometry::Geometry;
@@ -51,16 +50,17 @@ pub fn taken(rt: &(impl AllocGlobal + Print), namespace: Geometry, jobs: &[Job])
     Ok(())
 }
 
-/// Of a Write of LBAs 6 to 9.
-pub fn cut(rt: &(impl AllocGlobal + Print), namespace: Geometry) -> Result<()> {
+/// Of a Write of LBAs 2 to 13, where the first boundary is at LBA 4.
+pub fn cut(rt: &(impl AllocGlobal + Print)) -> Result<()> {
     let alloc = rt.alloc();
-    let data = filled(alloc, 0x41, 4)?;
-    let is_whole = data.len() == 4 * namespace.block_size().bytes() as usize;
+    let namespace = Geometry::new(32, 512, 7, 4, 7, 3)?;
+    let data = filled(alloc, 0x41, 12)?;
+    let is_whole = data.len() == 12 * namespace.block_size().bytes() as usize;
     ensure!(
-        is_whole && namespace.in_range(6, 4),
+        is_whole && namespace.in_range(2, 12),
         "the Write can't be cut"
     );
-    for part in geometry::write_parts(alloc, namespace, 6, 4, &data)? {
+    for part in geometry::write_parts(alloc, namespace, 2, 12, &data)? {
         println!(rt; "write_parts: {:?}, {}", part.piece, part.payload.len())?;
     }
     Ok(())
@@ -85,7 +85,7 @@ pub fn stored(rt: &(impl AllocGlobal + Print)) -> Result<()> {
 }
 
 /// Of a new unit from LBA 8 on, and its only pass.
-pub fn written(rt: &(impl AllocGlobal + Print + Wait), limit: Limit, waits: bool) -> Result<()> {
+pub fn written(rt: &(impl AllocGlobal + Print + Wait), limit: Limit) -> Result<()> {
     let alloc = rt.alloc();
     let data = filled(alloc, 0x41, 2)?;
     let place = Place {
@@ -100,21 +100,14 @@ pub fn written(rt: &(impl AllocGlobal + Print + Wait), limit: Limit, waits: bool
         payload: data.lend(),
     };
     ensure!(unit.covers(act), "the Write lies elsewhere");
-    if waits {
-        let done = unit::write_and_read(rt, alloc, &unit, &mut passes[0], 0, 9, 2, &data);
-        let read = done.read.ok().context("there was no memory")?;
-        let is_read = is_read(&read.answer, &data);
-        println!(rt; "write_and_read: {:?} {is_read}", done.write)?;
-    } else {
-        let done = unit::try_write_and_look(alloc, &unit, &mut passes[0], 0, 9, 2, &data);
-        let read = done.read.ok().context("there was no memory")?;
-        let is_read = is_read(&read.answer, &data);
-        println!(rt; "try_write_and_look: {:?} {is_read}", done.write)?;
-    }
+    let done = unit::write_and_read(rt, alloc, &unit, &mut passes[0], 0, 9, 2, &data);
+    let read = done.read.ok().context("there was no memory")?;
+    let is_read = is_read(&read.answer, &data);
+    println!(rt; "write_and_read: {:?} {is_read}", done.write)?;
     Ok(())
 }
 
-/// Of ports that do the first job, a Write of LBAs 6 to 9 in two units, and poll Reads of it.
+/// Of the first job, a Write of LBAs 6 to 9 in two units, which one port runs and then another polls.
 pub fn polled(
     rt: &(impl AllocGlobal + Print + Wait),
     namespace: Geometry,
@@ -127,27 +120,11 @@ pub fn polled(
     let alone = space::job_alone(rt, alloc, namespace, limit, job)?;
     println!(rt; "job_alone: {:?}", alone.done)?;
     println!(rt; "job_alone: {} units", alone.histories.len())?;
-    let (space, mut ports) = Space::new(alloc, namespace, 2, limit)?;
-    let Some(mut poller) = ports.pop() else {
-        bail!("there is no second port");
-    };
-    let Some(mut writer) = ports.pop() else {
-        bail!("there is no first port");
-    };
+    let (space, mut ports) = Space::new(alloc, namespace, 1, limit)?;
     let begun = space.begin_job(alloc, 0, job);
-    let Progress::Done(done) = space::poll_turn(alloc, &space, &mut writer, job, begun) else {
+    let Progress::Done(done) = space::poll_turn(alloc, &space, &mut ports[0], job, begun) else {
         bail!("another port changes a unit");
     };
     println!(rt; "poll_turn: {done:?}")?;
-    let crossing = space::poll_read(alloc, &space, &mut poller, 6, 4);
-    let early = space::poll_read(alloc, &space, &mut poller, 6, 1);
-    println!(rt; "poll_read: {crossing:?} {early:?}")?;
-    space.refresh(rt, &mut poller, 0);
-    let PolledRead::Answered(read) = space::poll_read(alloc, &space, &mut poller, 6, 1) else {
-        bail!("there was no memory");
-    };
-    let data = read.payload.context("the Read failed")?;
-    let is_read = is_read(&Answer::Payload(data), &filled(alloc, 0x41, 1)?);
-    println!(rt; "poll_read: {is_read} {}", read.point)?;
     Ok(())
 }

@@ -36,10 +36,9 @@ fn main(rt: HostRuntime) -> Result<()> {
     let limit = Limit::new(4).context("there is no such limit")?;
     let (seen, jobs) = noted(&rt, &text)?;
     taken(&rt, seen.geometry, &jobs)?;
-    cut(&rt, seen.geometry)?;
+    cut(&rt)?;
     stored(&rt)?;
-    written(&rt, limit, true)?;
-    written(&rt, limit, false)?;
+    written(&rt, limit)?;
     polled(&rt, seen.geometry, limit, &jobs)?;
     recorded(&rt, limit, &seen, &jobs)?;
     argued(&rt, &text)

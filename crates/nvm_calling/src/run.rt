@@ -1,5 +1,7 @@
-ghost use Rattle.std.specs.Prelude.{◌↔◌, IfOk, IfErr, IsTrue};
-ghost use Rattle.nvm_calling.specs.Unrun.{CanBeRun, IsUnrun};
+ghost use Rattle.std.specs.Prelude.{◌↔◌, IfOk, IfSome, IsTrue};
+ghost use Rattle.nvm_plan.specs.Fits.{FitsNamespace};
+ghost use Rattle.nvm_audit.specs.Recordable.{HoldsBody};
+ghost use Rattle.nvm_audit.specs.declared.version.Version.TheVariants.{Two};
 ghost use Rattle.nvm_run.specs.RunRecord.{IsRecordOfRun};
 
 use nvm_audit::{MOST_JOBS, Record, Version};
@@ -12,20 +14,8 @@ use std::alloc::Global;
 use std::sync::Wait;
 use std::thread::Threads;
 
-/// Why there is no record of a run.
-#[derive(Clone, Copy, Debug, PartialEq, Eq)]
-pub enum Unrun {
-    /// There are more jobs than a record has.
-    TooMany,
-    /// The job at this place doesn't fit the namespace, or has opcode 09h as an unknown one. Each job before it can be run.
-    Unfit { place: usize },
-    /// The number of workers is 0 or above 64.
-    Workers,
-    /// Memory was asked for outside a job and refused.
-    NoMemory,
-}
-
-/// Runs jobs of whatever origin on a namespace of zero bytes, and gives the record of the run. The jobs that are lent stay.
+/// Runs jobs of whatever origin on a namespace of zero bytes, and gives the record of the run, or `None` where there are too many, or one that can't be
+/// run there. The jobs that are lent stay.
 pub fn record_of<R: Threads + Wait + Sync>(
     rt: &R,
     alloc: Global,
@@ -33,33 +23,29 @@ pub fn record_of<R: Threads + Wait + Sync>(
     jobs: &[Job],
     workers: u16,
     limit: Limit,
-) -> Result<Record, Unrun>
-    ensures run { IfOk result (IsRecordOfRun geometry limit workers jobs.now) }
-    ensures unrun { IfErr result (IsUnrun geometry workers jobs.now) }
+) -> Result<Option<Record>, RunFault>
+    ensures { IfOk result (λ found. IfSome found (IsRecordOfRun geometry limit workers jobs.now)) }
 {
     if jobs.len() > MOST_JOBS as usize {
-        return Err(Unrun::TooMany);
+        return Ok(None);
     }
-    for (place, job) in jobs.iter().enumerate() {
-        if !can_be_run(&geometry, job) {
-            return Err(Unrun::Unfit { place });
+    for place in 0..jobs.len() {
+        if !can_be_run(&geometry, &jobs[place]) {
+            return Ok(None);
         }
     }
     let Ok(copies) = Vec::from_clones(alloc, jobs) else {
-        return Err(Unrun::NoMemory);
+        return Err(RunFault::NoMemory);
     };
     match run(rt, alloc, geometry, copies, workers, limit, &Open) {
-        Ok(record) => Ok(record),
-        Err(failed) => match failed.fault {
-            RunFault::Workers => Err(Unrun::Workers),
-            RunFault::NoMemory => Err(Unrun::NoMemory),
-        },
+        Ok(record) => Ok(Some(record)),
+        Err(failed) => Err(failed.fault),
     }
 }
 
 /// Whether the job fits the namespace, and has no opcode 09h as an unknown one.
 fn can_be_run(geometry: &Geometry, job: &Job) -> bool
-    ensures { IsTrue result ↔ CanBeRun geometry.now job.now }
+    ensures { IsTrue result ↔ (FitsNamespace geometry.now job.now × HoldsBody Two job.now.body) }
 {
     fits(geometry, job) && Version::Two.holds(&job.body)
 }

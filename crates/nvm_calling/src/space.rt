@@ -1,6 +1,5 @@
-ghost use Rattle.std.specs.Prelude.{◌≡◌, ◌<◌, ℕ, List, IfErr, IfOk, map, true};
+ghost use Rattle.std.specs.Prelude.{◌≡◌, ℕ, List, IfErr, IfOk, map};
 ghost use Rattle.nvm_calling.specs.JobAlone.{IsJobAlone};
-ghost use Rattle.nvm_calling.specs.PolledRead.{IsPolledRead};
 ghost use Rattle.nvm_plan.specs.Fits.{FitsNamespace};
 ghost use Rattle.nvm_space.specs.Ports.{IsPortOf};
 ghost use Rattle.nvm_space.specs.Progress.{IsProgress};
@@ -12,7 +11,7 @@ ghost use Rattle.nvm_unit.specs.declared.views.PassView.{PassView};
 use nvm_geometry::Geometry;
 use nvm_plan::Job;
 use nvm_space::laws::{ports_are_changed_in_place, units_end_with_lawful_histories};
-use nvm_space::{JobDone, Port, Progress, ReadAnswer, ReadNow, Space, SpaceFault};
+use nvm_space::{JobDone, Port, Progress, Space, SpaceFault};
 use nvm_store::{History, Limit};
 use nvm_unit::Open;
 use std::alloc::Global;
@@ -48,46 +47,6 @@ pub fn job_alone<R: Wait>(
     let done = space.run_job(rt, alloc, &mut ports[0], 0, job, &Open);
     let histories = space.close(alloc, ports)?;
     Ok(JobAlone { done, histories })
-}
-
-/// What a poller does next about a Read.
-#[derive(Debug, PartialEq, Eq, Drop)]
-pub enum PolledRead {
-    /// Nothing: this is the answer.
-    Answered(ReadAnswer),
-    /// Other work. The port hasn't seen all changes of this unit; once it is refreshed there, the Read is polled again.
-    Later { unit: u16 },
-    /// It has a job do the Read, since no single unit has all of its blocks.
-    Job,
-    /// It polls the Read again once there is memory.
-    NoMemory,
-}
-
-/// One turn of a poller: answers a Read if no wait is needed. It waits for nothing.
-pub fn poll_read(
-    alloc: Global,
-    space: &Space,
-    port: &mut Port,
-    slba: u64,
-    blocks: u32,
-) -> PolledRead
-    requires of { IsPortOf space.now port.old }
-    requires some { 0 < blocks }
-    requires versions { space.now.versions ≡ true }
-    ensures of { IsPortOf space.now port.new }
-    ensures number { port.new.number ≡ port.old.number }
-    ensures polled { IsPolledRead space.now.namespace slba blocks result port.old port.new }
-{
-    match space.read_now(alloc, port, slba, blocks) {
-        Ok(read) => PolledRead::Answered(read),
-        Err(ReadNow::Newer { count: _ }) => {
-            let unit = space.geometry().unit_of(slba);
-            PolledRead::Later { unit }
-        }
-        Err(ReadNow::OutOfRange) => PolledRead::Job,
-        Err(ReadNow::Crosses) => PolledRead::Job,
-        Err(ReadNow::NoMemory { point: _ }) => PolledRead::NoMemory,
-    }
 }
 
 /// One turn of a poller for a job that `Space::begin_job` began: goes on with it, unless it is done. It waits for nothing.

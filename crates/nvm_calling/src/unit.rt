@@ -1,8 +1,8 @@
-ghost use Rattle.std.specs.Prelude.{◌≡◌, ℕ, ◌+◌, ◌<◌, Bool, Ok, true};
+ghost use Rattle.std.specs.Prelude.{◌≡◌, ℕ, ◌<◌, Ok};
 ghost use Rattle.nvm_store.specs.Operation.{read_operation, write_operation};
 ghost use Rattle.nvm_store.specs.Place.{IsCovered};
 ghost use Rattle.nvm_unit.specs.Passes.{IsPassOf};
-ghost use Rattle.nvm_unit.specs.Replies.{Looks, Makes, MakesOrLearns, Observes};
+ghost use Rattle.nvm_unit.specs.Replies.{Makes, Observes};
 ghost use Rattle.nvm_unit.specs.declared.replies.Changed.TheVariants.{Done};
 ghost use Rattle.nvm_unit.specs.declared.replies.Observed.{Observed as Found};
 ghost use Rattle.nvm_unit.specs.declared.views.PassView.{PassView};
@@ -10,7 +10,7 @@ ghost use Rattle.nvm_unit.specs.declared.views.PassView.{PassView};
 use nvm_record::Payload;
 use nvm_store::{ActRef, Look};
 use nvm_unit::laws::{changes_mark_their_points, looks_mark_their_points};
-use nvm_unit::{Busy, Changed, LookFault, ObserveFault, Observed, Open, Pass, Unit};
+use nvm_unit::{Changed, ObserveFault, Observed, Open, Pass, Unit};
 use std::alloc::Global;
 use std::sync::Wait;
 
@@ -55,46 +55,4 @@ pub fn write_and_read<R: Wait>(
     let write = unit.change(rt, alloc, pass, job, act, &Open);
     let read = unit.observe(rt, alloc, pass, Look::Read { first, blocks });
     WriteAndRead { write, read }
-}
-
-/// What a Write that was tried once was answered, and then a look at its range.
-#[derive(Drop)]
-pub struct WriteAndLook {
-    pub write: Result<Changed, Busy>,
-    pub read: Result<Observed, LookFault>,
-}
-
-/// One turn of a poller: tries once to do a Write as a part of the job of this number, and then reads its range from the
-/// version that the pass keeps. It waits for nothing.
-pub fn try_write_and_look(
-    alloc: Global,
-    unit: &Unit,
-    pass: &mut Pass,
-    job: u32,
-    first: u64,
-    blocks: u32,
-    payload: &Payload,
-) -> WriteAndLook
-    requires of { IsPassOf unit.now pass.old }
-    requires covered { IsCovered unit.now.bounds.place (write_operation first blocks payload.now) }
-    requires versions { unit.now.versions ≡ true }
-    ensures of { IsPassOf unit.now pass.new }
-    ensures number { pass.new.view.number ≡ pass.old.view.number }
-    ensures steps { (between : PassView) × (keeps : Bool)
-        × MakesOrLearns result.write pass.old.view job (write_operation first blocks payload.now) between
-        × Looks result.read keeps between (read_operation first blocks) pass.new.view }
-
-    // Where the Write was done, the Read sees it, and no later one.
-    ensures next { (point : ℕ) (found : Found) → result.write ≡ Ok (Done point) → result.read ≡ Ok found
-        → found.point ≡ point + 1 }
-{
-    changes_mark_their_points();
-    let act = ActRef::Write {
-        first,
-        blocks,
-        payload: payload.lend(),
-    };
-    let write = unit.try_change(alloc, pass, job, act, &Open);
-    let read = unit.look(alloc, pass, Look::Read { first, blocks });
-    WriteAndLook { write, read }
 }

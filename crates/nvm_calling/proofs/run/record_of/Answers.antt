@@ -1,8 +1,9 @@
 use Rattle.std.proofs.Common.{◌≡◌, ℕ, ◌+◌, ◌<◌, List, length, slice_index_or, subst, below_more, arith, rules}
 use Rattle.std.proofs.lemmas.List.{get_or_read}
 use Rattle.nvm_plan.specs.declared.job.Job.{Job}
-use Rattle.nvm_space.proofs.Lists.{at_index, index_at}
-use Rattle.nvm_calling.specs.Unrun.{CanBeRun}
+use Rattle.nvm_plan.specs.Fits.{FitsNamespace}
+use Rattle.nvm_audit.specs.declared.version.Version.TheVariants.{Two}
+use Rattle.nvm_audit.specs.Recordable.{HoldsBody}
 use Rattle.nvm_calling.proofs.run.record_of.Goals as goal
 
 -- What holds of each job below a place, and of the job there, holds below the next.
@@ -18,19 +19,5 @@ loop-place-preserved g c =
     let jobs = c.args.jobs.now in
     let job = c.index-jobs-place.result in
     let below : c.loop-place.place < length jobs = omega arith in
-    one_more (CanBeRun c.args.geometry) jobs c.loop-place.place job below c.index-jobs-place.is (c.can_be_run.ensures.0 (search rules)) c.loop-place.invariant
-
-pub returns-then-not-can_be_run-clause-unrun : goal.returns-then-not-can_be_run-clause-unrun
-returns-then-not-can_be_run-clause-unrun g c =
-    let jobs = c.args.jobs.now in
-    let job = c.index-jobs-place.result in
-    let below : c.loop-place.place < length jobs = omega arith in
-    record {
-      job = job;
-      its = at_index jobs c.loop-place.place job below c.index-jobs-place.is;
-      unfit = λ fits.
-          let yes = c.can_be_run.ensures.1 fits in
-          let no = c.if-not-can_be_run.true in
-          search rules;
-      before = λ k other lt at. subst (CanBeRun c.args.geometry) (index_at jobs k other other at) (c.loop-place.invariant k other lt);
-    }
+    one_more (λ (job : Job). FitsNamespace c.args.geometry job × HoldsBody Two job.body) jobs c.loop-place.place job below c.index-jobs-place.is
+    (c.can_be_run.ensures.0 (search rules)) c.loop-place.invariant
