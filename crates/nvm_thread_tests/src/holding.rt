@@ -4,6 +4,12 @@ use std::hint::spin_loop;
 use std::sync::atomic::{AtomicU64, Ordering};
 use std::thread::yield_now;
 
+/// Why a thread failed.
+pub type Failure = &'static str;
+
+/// There was no memory for a call, or for the thread that it waits for.
+pub const NO_MEMORY: Failure = "there was no memory";
+
 /// A thread waits so many turns at most.
 const MOST_TURNS: u32 = 100_000_000;
 
@@ -23,44 +29,73 @@ pub fn comes_to(number: &AtomicU64, least: u64) -> bool {
     false
 }
 
-/// Holds the unit until it is released.
+/// Keeps job 0 at its gate, where it holds a unit, until it is released: by another thread, or once the awaited job is done.
 #[derive(Drop)]
 pub struct Holding {
+    awaited: u32,
+    /// How often job 0 came to its gate.
     calls: AtomicU64,
-    /// 1 once the unit is held, 2 once it is to be released.
-    state: AtomicU64,
+    /// 1 once the unit is released, and 2 once job 0 has left it.
+    freed: AtomicU64,
+    /// 1 once job 0 saw that it was released.
+    seen: AtomicU64,
 }
 
 impl Holding {
-    pub fn new() -> Holding {
+    /// Until this job is done, or another thread releases the unit.
+    pub fn until(awaited: u32) -> Holding {
         Holding {
+            awaited,
             calls: AtomicU64::new(0),
-            state: AtomicU64::new(0),
+            freed: AtomicU64::new(0),
+            seen: AtomicU64::new(0),
         }
     }
 
-    /// How often it was called.
-    pub fn calls(&self) -> u64 {
-        self.calls.load(Ordering::SeqCst)
+    /// Waits until the unit is held. Where there is no memory for a thread, one does its work after another's, and it never is.
+    pub fn holds(&self) -> Result<(), Failure> {
+        if comes_to(&self.calls, 1) {
+            Ok(())
+        } else {
+            Err(NO_MEMORY)
+        }
     }
 
-    /// Waits until the unit is held. Gives whether it is.
-    pub fn holds(&self) -> bool {
-        comes_to(&self.state, 1)
-    }
-
-    /// Lets go of the unit.
+    /// Lets job 0 go on.
     pub fn release(&self) {
-        self.state.store(2, Ordering::SeqCst);
+        self.freed.fetch_add(1, Ordering::SeqCst);
+    }
+
+    /// Says that job 0 has left the unit, after it was released.
+    pub fn leave(&self) {
+        self.freed.fetch_add(1, Ordering::SeqCst);
+    }
+
+    /// Waits until job 0 has left the unit.
+    pub fn is_left(&self) -> bool {
+        comes_to(&self.freed, 2)
+    }
+
+    /// Whether job 0 came to its gate once, and was released there.
+    pub fn was_seen(&self) -> bool {
+        self.calls.load(Ordering::SeqCst) == 1 && self.seen.load(Ordering::SeqCst) == 1
     }
 }
 
 impl Gate for Holding {
-    fn before_put(&self, _unit: u16, _job: u32) {
+    fn before_put(&self, _unit: u16, job: u32) {
+        if job > 0 {
+            return;
+        }
         self.calls.fetch_add(1, Ordering::SeqCst);
-        self.state.store(1, Ordering::SeqCst);
-        comes_to(&self.state, 2);
+        if comes_to(&self.freed, 1) {
+            self.seen.store(1, Ordering::SeqCst);
+        }
     }
 
-    fn after_job(&self, _job: u32) {}
+    fn after_job(&self, job: u32) {
+        if job == self.awaited {
+            self.release();
+        }
+    }
 }

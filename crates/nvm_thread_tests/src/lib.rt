@@ -1,14 +1,8 @@
-//! Tests of `nvm_unit`, `nvm_space`, `nvm_run` and `nvm_engine` with several threads, and of threads that audit, which reach them by what they make
-//! public.
+//! Tests with several threads, of `nvm_unit`, of `nvm_space`, and of `nvm_run` and `nvm_audit` by `nvm_engine`: what no clause can say of
+//! threads is that they do something at the same time, and that one which waits goes on.
 #![tactic(auto)]
 
 #[cfg(test)]
-mod engine;
-#[cfg(test)]
 mod holding;
 #[cfg(test)]
-mod run;
-#[cfg(test)]
-mod space;
-#[cfg(test)]
-mod unit;
+mod threads;

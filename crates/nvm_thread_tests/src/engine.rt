@@ -1,2 +1,0 @@
-//! Runs of hosts' files, and audits of records' files.
-mod threads;

@@ -1,5 +1,0 @@
-//! What workers do on threads of their own.
-mod audits;
-mod counter;
-mod runs;
-mod together;

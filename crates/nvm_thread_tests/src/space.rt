@@ -1,2 +1,0 @@
-//! A space with several threads.
-mod threads;

@@ -1,0 +1,4 @@
+//! What several threads do, module by module of what they share.
+mod runs;
+mod spaces;
+mod units;

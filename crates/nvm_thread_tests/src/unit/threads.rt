@@ -1,4 +1,0 @@
-//! Several threads on one unit.
-mod changing;
-mod held;
-mod looking;
