@@ -1,6 +1,6 @@
 -- What holds of each element before a place, and of all.
 use Rattle.std.proofs.Common.{◌≡◌, ℕ, ◌+◌, ◌<◌, ◌≤◌, inl, inr, List, Some, All, length, slice_get, get_or, subst, sym, ◌∙◌, arith}
-use Rattle.std.proofs.lemmas.Option.{slice_get-get_or}
+use Rattle.std.proofs.lemmas.Option.{get_or_from_slice_get, slice_get-get_or, slice_get_within}
 use Rattle.nvm_orders.proofs.Standing.{earlier_or_last, some_same}
 
 abbrev pub EachTo : {A : Type 0} → (A → Type 0) → List A → ℕ → Type 0
@@ -15,3 +15,6 @@ each_more P xs k y at right before i x below e =
 
 pub each_all : {A : Type 0} (P : A → Type 0) (xs : List A) (k : ℕ) → length xs ≤ k → EachTo P xs k → All P xs
 each_all P xs k long before i d h = before i (get_or xs i d) (omega (arith, h, long)) (slice_get-get_or xs i d h)
+
+pub one_of_all : {A : Type 0} (P : A → Type 0) (xs : List A) (k : ℕ) (x : A) → All P xs → slice_get xs k ≡ Some x → P x
+one_of_all P xs k x all e = subst P (get_or_from_slice_get xs k x x e) (all k x (slice_get_within xs k x e))

@@ -1,11 +1,13 @@
 -- One more position, and the times of what was surely put.
-use Rattle.std.proofs.Common.{◌≡◌, ℕ, ◌+◌, ◌<◌, ◌≤◌, inl, inr, true, List, IfSome, length, slice_index, subst, ◌∙◌, arith}
+use Rattle.std.proofs.Common.{Option, Some, None, ap, refl, replicate, ◌≡◌, ℕ, ◌+◌, ◌<◌, ◌≤◌, inl, inr, true, List, IfSome, length, slice_index, subst, ◌∙◌, arith}
+use Rattle.std.proofs.lemmas.List.{length-replicate}
 use Rattle.nvm_points.specs.PointView.{PointView, TableView}
 use Rattle.nvm_points.specs.declared.point.Presence.TheVariants.{Sure}
 use Rattle.nvm_orders.specs.Clauses.{KeepsDeallocates, is_put}
-use Rattle.nvm_orders.specs.Inside.Latest.{AreLatest, KeepsDeallocatesTo}
+use Rattle.nvm_orders.specs.Inside.Latest.{AreLatest, AreLeast, KeepsDeallocatesTo}
 use Rattle.nvm_orders.specs.OrderView.{OrderView, PlacedView}
 use Rattle.nvm_orders.specs.Places.{StandsAt, HasBlock}
+use Rattle.nvm_orders.proofs.Noting.{no_places}
 use Rattle.nvm_orders.proofs.Standing.{earlier_or_last, same_placed, same_point, within, in_time}
 
 -- the facts of the last position, of whatever stands there
@@ -69,3 +71,29 @@ keeps_more t o k p0 q0 latest s0 are over kept i j x p p' q q' less below s sure
 pub keeps_all : (t : TableView) (o : OrderView) (k : ℕ) → length o.placed ≤ k → KeepsDeallocatesTo t o k → KeepsDeallocates t o
 keeps_all t o k long kept i j x p p' q q' less s sure put has s' has' =
     let inside = within t o j p' q' s' in kept i j x p p' q q' less (omega (arith, inside, long)) s sure put has s' has'
+
+over_least : (t : TableView) (o : OrderView) (k x : ℕ) (p0 : PlacedView) (q0 : PointView) (latest : List ℕ) (over : Option ℕ) → q0.over ≡ over
+    → StandsAt t o k p0 q0 → AreLeast t o k latest → KeepsDeallocates t o → HasBlock p0 x → IfSome over (λ w. slice_index latest x ≤ w)
+over_least t o k x p0 q0 latest None e s0 least keeps has = tt
+over_least t o k x p0 q0 latest (Some u) e s0 least keeps has =
+    least x u
+    (λ i p q less s sure put has'.
+    subst (λ (r : Option ℕ). IfSome r (λ w. q.from ≤ w)) e (keeps i k x p p0 q q0 less s sure put has' s0 has))
+
+-- In an order in which no Deallocate is late the next position isn't.
+pub next_not_late : (t : TableView) (o : OrderView) (k : ℕ) (p0 : PlacedView) (q0 : PointView) (latest : List ℕ)
+    → StandsAt t o k p0 q0 → AreLeast t o k latest → KeepsDeallocates t o
+    → (x : ℕ) → HasBlock p0 x → IfSome q0.over (λ w. slice_index latest x ≤ w)
+next_not_late t o k p0 q0 latest s0 least keeps x has = over_least t o k x p0 q0 latest q0.over refl s0 least keeps has
+
+pub none_latest : (t : TableView) (o : OrderView) (latest : List ℕ) → latest ≡ replicate t.nsze 0 → AreLatest t o 0 latest
+none_latest t o latest is =
+    record {
+      all = ap length is ∙ length-replicate t.nsze 0;
+      each = λ i x p q less s sure put has. absurd (omega arith);
+    }
+
+pub none_least : (t : TableView) (o : OrderView) (latest : List ℕ) → latest ≡ replicate t.nsze 0 → AreLeast t o 0 latest
+none_least t o latest is x m bound =
+    let none = no_places t.nsze x in
+    let here = ap (λ (r : List ℕ). slice_index r x) is in omega (arith, none, here)

@@ -11,6 +11,7 @@ use Rattle.nvm_orders.specs.Fits.{FitsPoint}
 use Rattle.nvm_orders.specs.Inside.Done.{AreRows, IsRowOf}
 use Rattle.nvm_orders.specs.OrderView.{OrderView, PlacedView}
 use Rattle.nvm_orders.specs.Places.{StandsAt, HasBlock, IsDoneAt}
+use Rattle.nvm_orders.specs.Presence.{ArePresent}
 use Rattle.nvm_orders.proofs.Setting.{set_other, set_same}
 use Rattle.nvm_orders.proofs.Standing.{below_or_past, earlier_or_last, some_same}
 
@@ -32,6 +33,7 @@ empty_row_of o n blocks q row is same =
     record {
       all = λ ne. let few = same ne in ap length is ∙ length-replicate blocks 0 ∙ few;
       sound = λ a i there. let none = no_places blocks a in let here = ap (λ (r : List ℕ). slice_index r a) is in absurd (omega (arith, there, none, here));
+      early = λ a. let none = no_places blocks a in let here = ap (λ (r : List ℕ). slice_index r a) is in omega (arith, none, here);
       whole = λ ne x i below done. absurd (omega arith);
     }
 
@@ -90,6 +92,21 @@ whole_more t o k p q row new s fits is below above free noted ne x i less done =
           here ∙ ap (λ (j : ℕ). j + 1) (sym e)
     ]
 
+early_more : (k : ℕ) (p : PlacedView) (q : PointView) (row new : List ℕ) → ((a : ℕ) → slice_index row a ≤ k)
+    → ((a : ℕ) → a < p.first - q.first → slice_index new a ≡ slice_index row a)
+    → ((a : ℕ) → p.first - q.first + p.blocks ≤ a → slice_index new a ≡ slice_index row a)
+    → ((a : ℕ) → p.first - q.first ≤ a → a < p.first - q.first + p.blocks → slice_index new a ≡ k + 1)
+    → (a : ℕ) → slice_index new a ≤ k + 1
+early_more k p q row new early below above noted a =
+    let old = early a in
+    elim (below_or_past a (p.first - q.first)) [
+      | inl h ↦ let e = below a h in omega (arith, e, old)
+      | inr h ↦ elim (below_or_past a (p.first - q.first + p.blocks)) [
+        | inr past ↦ let e = above a past in omega (arith, e, old)
+        | inl inside ↦ let e = noted a h inside in omega (arith, e)
+      ]
+    ]
+
 -- The row of what stands there has it noted.
 row_more : (t : TableView) (o : OrderView) (k : ℕ) (p : PlacedView) (q : PointView) (row new : List ℕ) → StandsAt t o k p q → FitsPoint t p q
     → IsRowOf o k p.point q row → length new ≡ length row
@@ -102,6 +119,7 @@ row_more t o k p q row new s fits is many below above free noted =
     record {
       all = λ ne. many ∙ is.all ne;
       sound = λ a i there. sound_more t o k p q row new s fits is below above noted a i there;
+      early = λ a. early_more k p q row new is.early below above noted a;
       whole = λ ne x i less done. whole_more t o k p q row new s fits is below above free noted ne x i less done;
     }
 
@@ -112,6 +130,7 @@ row_other t o k n p q q' row s other is =
     record {
       all = is.all;
       sound = is.sound;
+      early = λ a. let old = is.early a in omega (arith, old);
       whole = λ ne x i less done.
           elim (earlier_or_last i k less) [
             | inl h ↦ is.whole ne x i h done
@@ -176,4 +195,23 @@ rows_push o qs xs new here before n q row its at =
           let is : new ≡ row = sym (get_or-append_seam xs new [] new) ∙ get_or_from_slice_get (xs ++ new ∷ []) (length xs) row new at' in
           subst (λ (m : ℕ). IsRowOf o 0 m q row) (sym e)
           (subst (IsRowOf o 0 (length xs) q) is (here q (subst (λ (m : ℕ). slice_get qs m ≡ Some q) e its)))
+    ]
+
+-- Where each point is there as its presence says, what stands there wasn't done before.
+pub free_of_present : (t : TableView) (o : OrderView) (k : ℕ) (p : PlacedView) (q : PointView) (row : List ℕ) → StandsAt t o k p q → FitsPoint t p q
+    → q.presence ≢ Repeated → IsRowOf o k p.point q row → ArePresent t o
+    → (a : ℕ) → p.first - q.first ≤ a → a < p.first - q.first + p.blocks → slice_index row a ≡ 0
+free_of_present t o k p q row s fits ne is present a from to =
+    let low = fits.from in
+    elim (cases_eq (slice_index row a) 0) [
+      | inl none ↦ none
+      | inr there ↦
+          let v = slice_index row a - 1 in
+          let value : slice_index row a ≡ v + 1 = omega (arith, there) in
+          let before = is.sound a v value in
+          let now : IsDoneAt o p.point (q.first + a) k =
+          record { p = p; placed = s.placed; its = refl; block = record { from = omega arith; below = omega arith } } in
+          let same = (present p.point q s.its).once ne (q.first + a) v k before now in
+          let early = is.early a in
+          absurd (omega (arith, value, same, early))
     ]

@@ -1,15 +1,16 @@
 -- What the rows of a whole order say of how often points are there.
-use Rattle.std.proofs.Common.{◌≡◌, ◌≢◌, ℕ, ◌+◌, ◌-◌, ◌<◌, ◌≤◌, ◌⊎◌, inl, inr, true, List, Some, All, length, slice_get, slice_index, sym, subst, ◌∙◌, arith}
+use Rattle.std.proofs.Common.{◌≡◌, ◌≢◌, ℕ, zero, suc, ◌+◌, ◌-◌, ◌<◌, ◌≤◌, ◌⊎◌, inl, inr, true, List, Some, All, length, slice_get, slice_index, sym, subst, ◌∙◌, arith}
+use Rattle.std.proofs.lemmas.Bool.{cases_eq}
 use Rattle.std.proofs.lemmas.Option.{slice_get_within}
 use Rattle.nvm_points.specs.PointView.{PointView, TableView}
 use Rattle.nvm_points.specs.declared.point.Presence.TheVariants.{Sure, OneOf, Together, Repeated}
 use Rattle.nvm_orders.specs.Explanation.{IsPlacedRight}
 use Rattle.nvm_orders.specs.Inside.Done.{AreRows, IsRowOf}
-use Rattle.nvm_orders.specs.Inside.Right.{FollowsRow, HasOne, IsAsPresent, IsEmpty, IsFull, WasBefore}
+use Rattle.nvm_orders.specs.Inside.Right.{ComesAfter, FollowsRow, HasOne, IsAsPresent, IsEmpty, IsFull, WasBefore}
 use Rattle.nvm_orders.specs.OrderView.{OrderView}
 use Rattle.nvm_orders.specs.Places.{IsDoneAt, IsOf}
 use Rattle.nvm_orders.specs.Presence.{FollowsItsBlock, IsDone, IsPresent}
-use Rattle.nvm_orders.proofs.Standing.{placed_right, fits_its, some_same}
+use Rattle.nvm_orders.proofs.Standing.{earlier_or_last, placed_right, fits_its, some_same}
 
 pub from_one : (v : ℕ) → v ≢ 0 → v ≡ v - 1 + 1
 from_one v ne = omega arith
@@ -117,4 +118,96 @@ present_of t o rows n q row right are its at present follows =
       one = λ e. one_block t o n q row right its is (not_repeated_one q e) (present.one e);
       together = λ e. together_all t o n q row is (not_repeated_together q e) (present.together e);
       after = λ e. follows_block t o rows n q row right are its at (follows e);
+    }
+
+-- The rows of an order in which each point is there as its presence says.
+
+full_to : (row : List ℕ) (n : ℕ) → ((a : ℕ) → a < n → slice_index row a ≢ 0) ⊎ ((a : ℕ) × ((a < n) × (slice_index row a ≡ 0)))
+full_to row zero = inl (λ a less none. absurd (omega arith))
+full_to row (suc n) =
+    elim (full_to row n) [
+      | inr gap ↦ inr (gap.0, (omega (arith, gap.1.0), gap.1.1))
+      | inl full ↦ elim (cases_eq (slice_index row n) 0) [
+        | inl none ↦ inr (n, (omega arith, none))
+        | inr there ↦ inl (λ a less. elim (earlier_or_last a n (omega arith)) [
+          | inl h ↦ full a h
+          | inr e ↦ subst (λ (b : ℕ). slice_index row b ≢ 0) (sym e) there
+        ])
+      ]
+    ]
+
+place_of_done : (t : TableView) (o : OrderView) (n a : ℕ) (q : PointView) (row : List ℕ) → IsRowOf o (length o.placed) n q row → q.presence ≢ Repeated
+    → IsDone o n (q.first + a) → slice_index row a ≢ 0
+place_of_done t o n a q row is ne done none =
+    let there = done_row o n (q.first + a) done.position q row is ne done.done in
+    let e : q.first + a - q.first ≡ a = omega arith in
+    let there' : slice_index row a ≡ done.position + 1 = subst (λ (b : ℕ). slice_index row b ≡ done.position + 1) e there in
+    omega (arith, none, there')
+
+sure_full : (t : TableView) (o : OrderView) (n : ℕ) (q : PointView) (row : List ℕ) → IsRowOf o (length o.placed) n q row → q.presence ≢ Repeated
+    → ((x : ℕ) → IsOf q x → IsDone o n x) → IsFull row
+sure_full t o n q row is ne all a less =
+    let many = is.all ne in
+    place_of_done t o n a q row is ne (all (q.first + a) (record { from = omega arith; below = omega (arith, less, many) }))
+
+one_of_present : (t : TableView) (o : OrderView) (n : ℕ) (q : PointView) (row : List ℕ) → All (IsPlacedRight t) o.placed → slice_get t.points n ≡ Some q
+    → IsRowOf o (length o.placed) n q row → q.presence ≢ Repeated → (some : (x : ℕ) × IsDone o n x)
+    → ((x y i j : ℕ) → IsDoneAt o n x i → IsDoneAt o n y j → x ≡ y) → HasOne row
+one_of_present t o n q row right its is ne some one =
+    let x = some.0 in
+    let done = some.1 in
+    let low = done_low t o n x done.position q right its done.done in
+    let there = done_row o n x done.position q row is ne done.done in
+    record {
+      place = x - q.first;
+      there = λ none. absurd (omega (arith, there, none));
+      alone = λ a ne'.
+          let other = done_of_place o n a q row is ne' in
+          let same = one (q.first + a) x other.position done.position other.done done.done in omega (arith, same, low);
+    }
+
+together_of_present : (t : TableView) (o : OrderView) (n : ℕ) (q : PointView) (row : List ℕ) → IsRowOf o (length o.placed) n q row
+    → q.presence ≢ Repeated → ((x y i : ℕ) → IsDoneAt o n x i → IsOf q y → IsDone o n y) → IsFull row ⊎ IsEmpty row
+together_of_present t o n q row is ne together =
+    elim (full_to row (length row)) [
+      | inl full ↦ inl full
+      | inr gap ↦ inr (λ a. elim (cases_eq (slice_index row a) 0) [
+        | inl none ↦ none
+        | inr there ↦
+            let done = done_of_place o n a q row is there in
+            let many = is.all ne in
+            let less = gap.1.0 in
+            let of : IsOf q (q.first + gap.0) = record { from = omega arith; below = omega (arith, less, many) } in
+            absurd (place_of_done t o n gap.0 q row is ne (together (q.first + a) (q.first + gap.0) done.position done.done of) gap.1.1)
+      ])
+    ]
+
+pub as_present : (t : TableView) (o : OrderView) (n : ℕ) (q : PointView) (row : List ℕ) → All (IsPlacedRight t) o.placed → slice_get t.points n ≡ Some q
+    → IsRowOf o (length o.placed) n q row → IsPresent o n q → IsAsPresent q row
+as_present t o n q row right its is present =
+    record {
+      sure = λ e. sure_full t o n q row is (not_repeated_sure q e) (present.sure e);
+      one = λ e. one_of_present t o n q row right its is (not_repeated_one q e) (present.some e) (present.one e);
+      together = λ e. together_of_present t o n q row is (not_repeated_together q e) (present.together e);
+    }
+
+-- What is done of a point that comes after the one before it was done earlier of that one.
+pub after_present : (t : TableView) (o : OrderView) (rows : List (List ℕ)) (n : ℕ) (q b : PointView) (row before : List ℕ)
+    → All (IsPlacedRight t) o.placed → AreRows t o (length o.placed) rows → 0 < n
+    → slice_get t.points n ≡ Some q → slice_get rows n ≡ Some row → slice_get t.points (n - 1) ≡ Some b → slice_get rows (n - 1) ≡ Some before
+    → b.presence ≢ Repeated → ((x i : ℕ) → IsDoneAt o n x i → FollowsItsBlock o n x i) → ComesAfter row q.first before b.first
+after_present t o rows n q b row before right are more its at its' at' ne follows a there =
+    let value = from_one (slice_index row a) there in
+    let done = (are.each n q row its at).sound a (slice_index row a - 1) value in
+    let f = follows (q.first + a) (slice_index row a - 1) done in
+    let next = f.next in
+    let e : f.before ≡ n - 1 = omega (arith, next) in
+    let earlier = f.earlier in
+    let was : IsDoneAt o (n - 1) (q.first + a) f.position = subst (λ (m : ℕ). IsDoneAt o m (q.first + a) f.position) e f.done in
+    let low = done_low t o (n - 1) (q.first + a) f.position b right its' was in
+    let here = done_row o (n - 1) (q.first + a) f.position b before (are.each (n - 1) b before its' at') ne was in
+    record {
+      low = low;
+      there = λ none. absurd (omega (arith, none, here));
+      earlier = omega (arith, here, value, earlier);
     }

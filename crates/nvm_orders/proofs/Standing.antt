@@ -54,3 +54,7 @@ placed_right t o k p fits e =
 pub fits_its : (t : TableView) (p : PlacedView) (q : PointView) → IsPlacedRight t p → slice_get t.points p.point ≡ Some q → FitsPoint t p q
 fits_its t p q right e =
     let same : right.point ≡ q = some_same right.point q (sym right.its ∙ e) in subst (FitsPoint t p) same right.fits
+
+pub if_some : {A : Type 0} (r : Option A) (P Q : Type 0) → (Q → P) → IfSome r (λ _. P → ⊥) → IfSome r (λ _. Q → ⊥)
+if_some None P Q f h = tt
+if_some (Some x) P Q f h = λ q. h (f q)

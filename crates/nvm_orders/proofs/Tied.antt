@@ -1,5 +1,5 @@
 -- What the rows of a whole order say of entries beside tied points.
-use Rattle.std.proofs.Common.{◌≡◌, ◌≢◌, ℕ, ◌+◌, ◌-◌, ◌<◌, true, false, List, Some, All, length, slice_get, sym, subst, ◌∙◌, arith}
+use Rattle.std.proofs.Common.{◌≡◌, ◌≢◌, ℕ, ◌+◌, ◌-◌, ◌<◌, true, false, List, Some, All, length, slice_get, slice_index, sym, subst, ◌∙◌, arith}
 use Rattle.std.proofs.lemmas.Option.{slice_get_within}
 use Rattle.nvm_points.specs.PointView.{PointView, TableView}
 use Rattle.nvm_points.specs.declared.point.Presence.TheVariants.{Repeated}
@@ -9,7 +9,7 @@ use Rattle.nvm_orders.specs.Inside.Done.{IsRowOf}
 use Rattle.nvm_orders.specs.Inside.Right.{KeepsTiedOne, StaysOut}
 use Rattle.nvm_orders.specs.OrderView.{OrderView, PlacedView}
 use Rattle.nvm_orders.specs.Places.{StandsAt, HasBlock, IsDoneAt}
-use Rattle.nvm_orders.proofs.Present.{done_low, done_row}
+use Rattle.nvm_orders.proofs.Present.{done_low, done_row, from_one}
 use Rattle.nvm_orders.proofs.Standing.{some_same}
 
 same_its : (t : TableView) (o : OrderView) (i n : ℕ) (p : PlacedView) (q q' : PointView) → StandsAt t o i p q' → p.point ≡ n
@@ -40,3 +40,15 @@ pub tied_all : (t : TableView) (o : OrderView) → ((n : ℕ) → n < length t.p
 tied_all t o each i j k n x y p p' q q' less more s tied is has s' put entry hasx hasy done =
     let inside : p.point < length t.points = slice_get_within t.points p.point q s.its in
     each n (omega (arith, inside, is)) i j k x y p p' q q' less more s tied is has s' put entry hasx hasy done
+
+-- In an order that keeps it no entry is between two blocks of a tied point.
+pub out_of_keeps : (t : TableView) (o : OrderView) (n : ℕ) (q : PointView) (row : List ℕ) → slice_get t.points n ≡ Some q → q.tied ≡ true
+    → IsRowOf o (length o.placed) n q row → KeepsTied t o → (j : ℕ) → StaysOut t o row q.first j
+out_of_keeps t o n q row its tied is keeps j p' q' s' put each a b hasa hasb ne before past =
+    let va = from_one (slice_index row a) ne in
+    let da = is.sound a (slice_index row a - 1) va in
+    let vb : slice_index row b ≡ slice_index row b - 1 + 1 = omega (arith, past) in
+    let db = is.sound b (slice_index row b - 1) vb in
+    let at : slice_get t.points da.p.point ≡ Some q = subst (λ (m : ℕ). slice_get t.points m ≡ Some q) (sym da.its) its in
+    keeps (slice_index row a - 1) j (slice_index row b - 1) n (q.first + a) (q.first + b) da.p p' q q' (omega (arith, va, before))
+    (omega (arith, vb, past)) (record { placed = da.placed; its = at }) tied da.its da.block s' put each hasa hasb db

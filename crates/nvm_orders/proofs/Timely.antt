@@ -1,5 +1,5 @@
 -- One more position of an order that keeps time.
-use Rattle.std.proofs.Common.{ℕ, ◌+◌, ◌<◌, ◌≤◌, inl, inr, IfSome, length, max, subst, arith}
+use Rattle.std.proofs.Common.{◌≡◌, Option, Some, None, refl, ℕ, ◌+◌, ◌<◌, ◌≤◌, inl, inr, IfSome, length, max, subst, arith}
 use Rattle.nvm_points.specs.PointView.{PointView, TableView}
 use Rattle.nvm_orders.specs.Clauses.{KeepsTime}
 use Rattle.nvm_orders.specs.Inside.Timely.{KeepsTimeTo, BeganBy}
@@ -39,3 +39,21 @@ began_more t o k time p0 q0 s0 began i p q below s =
 pub keeps_all : (t : TableView) (o : OrderView) (k : ℕ) → length o.placed ≤ k → KeepsTimeTo t o k → KeepsTime t o
 keeps_all t o k long kept i j p p' q q' less s s' =
     let inside = within t o j p' q' s' in kept i j p p' q q' less (omega (arith, inside, long)) s s'
+
+-- A time by which all began is the least such with one more position.
+pub least_more : (t : TableView) (o : OrderView) (k time : ℕ) (p0 : PlacedView) (q0 : PointView) → StandsAt t o k p0 q0
+    → ((m : ℕ) → BeganBy t o k m → time ≤ m) → (m : ℕ) → BeganBy t o (k + 1) m → max q0.from time ≤ m
+least_more t o k time p0 q0 s0 least m by =
+    let here : q0.from ≤ m = by k p0 q0 (omega arith) s0 in
+    let before : time ≤ m = least m (λ i p q less s. by i p q (omega arith) s) in omega arith
+
+until_least : (t : TableView) (o : OrderView) (k time : ℕ) (p0 : PlacedView) (q0 : PointView) (until : Option ℕ) → q0.until ≡ until → StandsAt t o k p0 q0
+    → ((m : ℕ) → BeganBy t o k m → time ≤ m) → KeepsTime t o → IfSome until (λ w. time ≤ w)
+until_least t o k time p0 q0 None e s0 least keeps = tt
+until_least t o k time p0 q0 (Some u) e s0 least keeps =
+    least u (λ i p q less s. subst (λ (r : Option ℕ). IfSome r (λ w. q.from ≤ w)) e (keeps i k p p0 q q0 less s s0))
+
+-- In an order that keeps time the next position is in time.
+pub next_in_time : (t : TableView) (o : OrderView) (k time : ℕ) (p0 : PlacedView) (q0 : PointView) → StandsAt t o k p0 q0
+    → ((m : ℕ) → BeganBy t o k m → time ≤ m) → KeepsTime t o → IfSome q0.until (λ w. time ≤ w)
+next_in_time t o k time p0 q0 s0 least keeps = until_least t o k time p0 q0 q0.until refl s0 least keeps

@@ -5,4 +5,5 @@ pub mod Fits
 pub mod Presence
 pub mod Clauses
 pub mod Explanation
+pub mod RightFault
 pub mod Inside

@@ -1,4 +1,4 @@
-ghost use Rattle.std.specs.Prelude.{◌≡◌, ◌<◌, ℕ, All, OnOk, Some, length, map, slice_get};
+ghost use Rattle.std.specs.Prelude.{◌≡◌, ◌<◌, ℕ, All, IfErr, OnOk, Some, length, map, slice_get};
 ghost use Rattle.nvm_points.specs.PointView.{PointView, seen_table};
 ghost use Rattle.nvm_orders.specs.Clauses.{KeepsTied};
 ghost use Rattle.nvm_orders.specs.Explanation.{IsPlacedRight};
@@ -6,8 +6,9 @@ ghost use Rattle.nvm_orders.specs.Inside.Done.{AreRows};
 ghost use Rattle.nvm_orders.specs.Inside.Right.{KeepsTiedOne};
 ghost use Rattle.nvm_orders.specs.OrderView.{seen_order};
 ghost use Rattle.nvm_orders.specs.Presence.{ArePresent, IsPresent};
+ghost use Rattle.nvm_orders.specs.RightFault.{IsOfOrder};
 
-use crate::following::follows;
+use crate::following::{follows, is_kept};
 use crate::order::Order;
 use crate::order_fault::OrderFault;
 use crate::presence::is_as_present;
@@ -29,7 +30,12 @@ fn check_point(
     requires rows { AreRows (seen_table points.now) (seen_order order.now) (length (seen_order order.now).placed) (map (λ row. row.items) rows.now.items) }
     ensures present { OnOk result ((q : PointView) → slice_get (seen_table points.now).points number ≡ Some q → IsPresent (seen_order order.now) number q) }
     ensures tied { OnOk result (KeepsTiedOne (seen_table points.now) (seen_order order.now) number) }
+    ensures fault { IfErr result (λ fault. IsOfOrder fault → ArePresent (seen_table points.now) (seen_order order.now)
+        → KeepsTied (seen_table points.now) (seen_order order.now) → ⊥) }
 {
+    if !is_kept(points, number) {
+        return Err(OrderFault::Unkept { point: number });
+    }
     if !is_as_present(&points.points[number], &rows[number]) {
         return Err(OrderFault::Absent { point: number });
     }
@@ -51,6 +57,8 @@ pub(crate) fn check_points(
     requires { All (IsPlacedRight (seen_table points.now)) (seen_order order.now).placed }
     ensures present { OnOk result (ArePresent (seen_table points.now) (seen_order order.now)) }
     ensures tied { OnOk result (KeepsTied (seen_table points.now) (seen_order order.now)) }
+    ensures fault { IfErr result (λ fault. IsOfOrder fault → ArePresent (seen_table points.now) (seen_order order.now)
+        → KeepsTied (seen_table points.now) (seen_order order.now) → ⊥) }
 {
     let rows = match rows_of(alloc, points, order)? {
         Ok(rows) => rows,

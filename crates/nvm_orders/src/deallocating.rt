@@ -3,7 +3,7 @@ ghost use Rattle.nvm_points.specs.PointView.{TableView, seen, seen_put, seen_tab
 ghost use Rattle.nvm_points.specs.declared.point.Presence.TheVariants.{Sure};
 ghost use Rattle.nvm_orders.specs.Clauses.{KeepsDeallocates, is_put as spec_is_put};
 ghost use Rattle.nvm_orders.specs.Explanation.{IsPlacedRight};
-ghost use Rattle.nvm_orders.specs.Inside.Latest.{AreLatest};
+ghost use Rattle.nvm_orders.specs.Inside.Latest.{AreLatest, AreLeast};
 ghost use Rattle.nvm_orders.specs.OrderView.{OrderView, seen_order, seen_placed};
 ghost use Rattle.nvm_orders.specs.Places.{HasBlock, StandsAt};
 
@@ -37,8 +37,8 @@ fn surely_puts(point: &Point<'_>) -> bool
 /// Whether what is over then is over after all that was surely put in its blocks.
 fn comes_before(over: Option<u64>, placed: &Placed<'_>, latest: &Vec<u64>) -> bool
     requires { placed.now.first + placed.now.blocks ≤ length latest.now.items }
-    ensures { IsTrue result → (x : ℕ) → HasBlock (seen_placed placed.now) x
-        → IfSome over (λ over. slice_index latest.now.items x ≤ over) }
+    ensures { IsTrue result ↔ ((x : ℕ) → HasBlock (seen_placed placed.now) x
+        → IfSome over (λ over. slice_index latest.now.items x ≤ over)) }
 {
     for at in 0..placed.blocks {
         if !is_in_time(over, latest[placed.first as usize + at as usize]) {
@@ -53,6 +53,8 @@ fn raise(latest: &mut Vec<u64>, placed: &Placed<'_>, time: u64)
     requires { placed.now.first + placed.now.blocks ≤ length latest.old.items }
     ensures kept { (x : ℕ) → slice_index latest.old.items x ≤ slice_index latest.new.items x }
     ensures raised { (x : ℕ) → HasBlock (seen_placed placed.now) x → time ≤ slice_index latest.new.items x }
+    ensures least { (x m : ℕ) → slice_index latest.old.items x ≤ m → (HasBlock (seen_placed placed.now) x → time ≤ m)
+        → slice_index latest.new.items x ≤ m }
     ensures many { length latest.new.items ≡ length latest.old.items }
 {
     for at in 0..placed.blocks {
@@ -64,8 +66,10 @@ fn raise(latest: &mut Vec<u64>, placed: &Placed<'_>, time: u64)
 /// Notes what was surely put.
 fn note_put(latest: &mut Vec<u64>, placed: &Placed<'_>, point: &Point<'_>)
     requires { placed.now.first + placed.now.blocks ≤ length latest.old.items }
-    ensures { (t : TableView) (o : OrderView) (k : ℕ) → StandsAt t o k (seen_placed placed.now) (seen point.now)
+    ensures latest { (t : TableView) (o : OrderView) (k : ℕ) → StandsAt t o k (seen_placed placed.now) (seen point.now)
         → AreLatest t o k latest.old.items → AreLatest t o (k + 1) latest.new.items }
+    ensures least { (t : TableView) (o : OrderView) (k : ℕ) → StandsAt t o k (seen_placed placed.now) (seen point.now)
+        → AreLeast t o k latest.old.items → AreLeast t o (k + 1) latest.new.items }
 {
     if surely_puts(point) {
         raise(latest, placed, point.from);
@@ -79,7 +83,8 @@ pub(crate) fn deallocates_late<'a, 't>(
     order: &'a Order<'t>,
 ) -> Result<Option<usize>, NoMemory>
     requires { All (IsPlacedRight (seen_table points.now)) (seen_order order.now).placed }
-    ensures { IfOk result (λ late. IfNone late (KeepsDeallocates (seen_table points.now) (seen_order order.now))) }
+    ensures right { IfOk result (λ late. IfNone late (KeepsDeallocates (seen_table points.now) (seen_order order.now))) }
+    ensures wrong { IfOk result (λ late. IfSome late (λ _. KeepsDeallocates (seen_table points.now) (seen_order order.now) → ⊥)) }
 {
     let mut latest = vec![in alloc; 0; points.nsze as usize]?;
     for position in 0..order.placed.len() {

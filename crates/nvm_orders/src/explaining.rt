@@ -1,7 +1,8 @@
-ghost use Rattle.std.specs.Prelude.{◌≡◌, OnOk};
+ghost use Rattle.std.specs.Prelude.{◌≡◌, IfErr, OnOk};
 ghost use Rattle.nvm_points.specs.PointView.{seen_table};
 ghost use Rattle.nvm_orders.specs.Explanation.{IsExplanation};
 ghost use Rattle.nvm_orders.specs.OrderView.{seen_order};
+ghost use Rattle.nvm_orders.specs.RightFault.{IsOfOrder};
 
 use crate::checking::check_points;
 use crate::deallocating::deallocates_late;
@@ -13,18 +14,19 @@ use crate::timing::time_back;
 use nvm_points::Points;
 use std::alloc::Global;
 
-/// Whether the order explains the trace of these points. An `Ok` is proved to say so; that a fault is never named of an order which
-/// explains it isn't.
+/// Whether the order explains the trace of these points.
+///
+/// An order that explains it has no fault but `Unkept`, which is the table's and of none that `points_of` makes, and `NoMemory`.
 ///
 /// The time is linear in the table with its blocks, in the order with its blocks and in the namespace, but that each tied point looks at
-/// what stands between the first and the last of its blocks. A point that is tied, or that comes after the one before it, is refused
-/// where its blocks may be done any number of times: `points_of` makes none.
+/// what stands between the first and the last of its blocks.
 pub fn explains<'a, 't>(
     alloc: Global,
     points: &'a Points<'t>,
     order: &'a Order<'t>,
 ) -> Result<(), OrderFault>
-    ensures { OnOk result (IsExplanation (seen_table points.now) (seen_order order.now)) }
+    ensures explained { OnOk result (IsExplanation (seen_table points.now) (seen_order order.now)) }
+    ensures fault { IfErr result (λ fault. IsOfOrder fault → IsExplanation (seen_table points.now) (seen_order order.now) → ⊥) }
 {
     if let Some(place) = first_wrong(points, order) {
         return Err(OrderFault::FirstWrong { place });

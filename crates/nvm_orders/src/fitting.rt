@@ -1,4 +1,4 @@
-ghost use Rattle.std.specs.Prelude.{◌≡◌, ◌↔◌, All, IfNone, IsTrue};
+ghost use Rattle.std.specs.Prelude.{◌≡◌, ◌↔◌, All, IfNone, IfSome, IsTrue};
 ghost use Rattle.nvm_points.specs.PointView.{seen, seen_put, seen_table};
 ghost use Rattle.nvm_orders.specs.Explanation.{IsPlacedRight};
 ghost use Rattle.nvm_orders.specs.Fits as spec;
@@ -99,7 +99,8 @@ fn is_right(points: &Points<'_>, placed: &Placed<'_>) -> bool
 
 /// The first position at which something doesn't fit.
 pub(crate) fn misplaced<'t>(points: &Points<'t>, order: &Order<'t>) -> Option<usize>
-    ensures { IfNone result (All (IsPlacedRight (seen_table points.now)) (seen_order order.now).placed) }
+    ensures right { IfNone result (All (IsPlacedRight (seen_table points.now)) (seen_order order.now).placed) }
+    ensures wrong { IfSome result (λ _. All (IsPlacedRight (seen_table points.now)) (seen_order order.now).placed → ⊥) }
 {
     for position in 0..order.placed.len() {
         if !is_right(points, &order.placed[position]) {
@@ -130,6 +131,8 @@ fn may_begin(start: Start, order: &Order<'_>) -> bool
 pub(crate) fn first_wrong<'t>(points: &Points<'t>, order: &Order<'t>) -> Option<usize>
     ensures start { IfNone result (spec.MayBegin (seen_table points.now).start (seen_order order.now).first) }
     ensures each { IfNone result (All (spec.FitsFirst (seen_table points.now)) (seen_order order.now).first) }
+    ensures wrong { IfSome result (λ _. spec.MayBegin (seen_table points.now).start (seen_order order.now).first
+        → All (spec.FitsFirst (seen_table points.now)) (seen_order order.now).first → ⊥) }
 {
     if !may_begin(points.start, order) {
         return Some(0);

@@ -1,4 +1,4 @@
-ghost use Rattle.std.specs.Prelude.{◌≡◌, ◌≢◌, ◌↔◌, ◌+◌, ◌-◌, ◌<◌, ◌≤◌, ℕ, All, IfNone, IfOk, IsTrue, false, length, map, option_map};
+ghost use Rattle.std.specs.Prelude.{◌≡◌, ◌≢◌, ◌↔◌, ◌+◌, ◌-◌, ◌<◌, ◌≤◌, ℕ, All, IfNone, IfOk, IfSome, IsTrue, false, length, map, option_map};
 ghost use Rattle.nvm_record.specs.Medium.{Medium, is_marked};
 ghost use Rattle.nvm_points.specs.PointView.{TableView, seen, seen_found, seen_put, seen_table};
 ghost use Rattle.nvm_orders.specs.Clauses.{FindsContents};
@@ -103,9 +103,12 @@ fn finds<'t>(
     requires from { point.now.first ≤ placed.now.first }
     requires to { placed.now.first + placed.now.blocks ≤ points.now.nsze }
     requires many { length held.now.items ≡ points.now.nsze }
-    ensures { (m : Medium) → Holds (seen_table points.now) (map seen_content held.now.items) m
+    ensures right { (m : Medium) → Holds (seen_table points.now) (map seen_content held.now.items) m
         → IsTrue result → (x : ℕ) → HasBlock (seen_placed placed.now) x
         → spec.MayFind (seen_table points.now).block_size (seen point.now).found (x - point.now.first) (m x) }
+    ensures wrong { (m : Medium) → Holds (seen_table points.now) (map seen_content held.now.items) m
+        → ((x : ℕ) → HasBlock (seen_placed placed.now) x
+        → spec.MayFind (seen_table points.now).block_size (seen point.now).found (x - point.now.first) (m x)) → IsTrue result }
 {
     for block in placed.first..end_of(placed, points.nsze) {
         let place = block - point.first;
@@ -165,7 +168,8 @@ pub(crate) fn finds_other<'a, 't>(
 ) -> Result<Option<usize>, NoMemory>
     requires fits { All (IsPlacedRight (seen_table points.now)) (seen_order order.now).placed }
     requires firsts { All (FitsFirst (seen_table points.now)) (seen_order order.now).first }
-    ensures { IfOk result (λ found. IfNone found (FindsContents (seen_table points.now) (seen_order order.now))) }
+    ensures right { IfOk result (λ found. IfNone found (FindsContents (seen_table points.now) (seen_order order.now))) }
+    ensures wrong { IfOk result (λ found. IfSome found (λ _. FindsContents (seen_table points.now) (seen_order order.now) → ⊥)) }
 {
     let mut held = first_blocks(alloc, points, order)?;
     for position in 0..order.placed.len() {

@@ -35,6 +35,10 @@ pub enum OrderFault {
     /// What stands at this position comes between two blocks of a Read that it puts.
     #[error("Between")]
     Between { position: usize },
+    /// The point of this number is tied or comes after the one before it, and its blocks or that one's may be done any number of times, or
+    /// there is none before it. `points_of` makes none such.
+    #[error("Unkept")]
+    Unkept { point: usize },
     /// Memory was asked for and refused: nothing is known.
     #[error("no memory")]
     NoMemory,

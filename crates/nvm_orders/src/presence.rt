@@ -1,4 +1,4 @@
-ghost use Rattle.std.specs.Prelude.{◌≡◌, ◌≢◌, ℕ, ◌+◌, ◌<◌, ◌≤◌, IsTrue, length, slice_index};
+ghost use Rattle.std.specs.Prelude.{◌≡◌, ◌≢◌, ◌↔◌, ℕ, ◌+◌, ◌<◌, ◌≤◌, IsTrue, length, slice_index};
 ghost use Rattle.nvm_points.specs.PointView.{seen};
 ghost use Rattle.nvm_orders.specs.Inside.Right.{HasOne, IsAsPresent, IsEmpty, IsFull};
 
@@ -6,7 +6,7 @@ use nvm_points::{Point, Presence};
 
 /// Whether all blocks were done.
 fn is_full(row: &Vec<usize>) -> bool
-    ensures { IsTrue result → IsFull row.now.items }
+    ensures { IsTrue result ↔ IsFull row.now.items }
 {
     for place in 0..row.len() {
         if row[place] == 0 {
@@ -18,7 +18,7 @@ fn is_full(row: &Vec<usize>) -> bool
 
 /// Whether none was done at this place or after it.
 fn none_from(row: &Vec<usize>, from: usize) -> bool
-    ensures { IsTrue result → (a : ℕ) → from ≤ a → slice_index row.now.items a ≡ 0 }
+    ensures { IsTrue result ↔ ((a : ℕ) → from ≤ a → slice_index row.now.items a ≡ 0) }
 {
     for place in from..row.len() {
         if row[place] != 0 {
@@ -43,7 +43,7 @@ fn first_done(row: &Vec<usize>) -> usize
 
 /// Whether exactly one was done.
 fn has_one(row: &Vec<usize>) -> bool
-    ensures { IsTrue result → HasOne row.now.items }
+    ensures { IsTrue result ↔ HasOne row.now.items }
 {
     let place = first_done(row);
     place < row.len() && none_from(row, place + 1)
@@ -51,7 +51,7 @@ fn has_one(row: &Vec<usize>) -> bool
 
 /// Whether the row is as the point's presence says.
 pub(crate) fn is_as_present(point: &Point<'_>, row: &Vec<usize>) -> bool
-    ensures { IsTrue result → IsAsPresent (seen point.now) row.now.items }
+    ensures { IsTrue result ↔ IsAsPresent (seen point.now) row.now.items }
 {
     match point.presence {
         Presence::Sure => is_full(row),

@@ -1,9 +1,10 @@
-ghost use Rattle.std.specs.Prelude.{◌≡◌, ◌≢◌, ◌↔◌, ◌+◌, ◌-◌, ◌<◌, ◌≤◌, ℕ, All, IfOk, IsTrue, length, map, slice_index};
+ghost use Rattle.std.specs.Prelude.{◌≡◌, ◌≢◌, ◌↔◌, ◌+◌, ◌-◌, ◌<◌, ◌≤◌, ℕ, All, IfErr, IfOk, IsTrue, length, map, slice_index};
 ghost use Rattle.nvm_points.specs.PointView.{seen, seen_table};
 ghost use Rattle.nvm_points.specs.declared.point.Presence.TheVariants.{Repeated};
 ghost use Rattle.nvm_orders.specs.Explanation.{IsPlacedRight};
 ghost use Rattle.nvm_orders.specs.Inside.Done.{AreRows, IsRowOf};
 ghost use Rattle.nvm_orders.specs.OrderView.{OrderView, seen_order};
+ghost use Rattle.nvm_orders.specs.Presence.{ArePresent};
 
 use crate::order::Order;
 use crate::positions::stands_at;
@@ -56,6 +57,7 @@ fn note(row: &mut Vec<usize>, start: usize, blocks: u32, moment: usize) -> bool
     ensures many { length row.new.items ≡ length row.old.items }
     ensures below { (a : ℕ) → a < start → slice_index row.new.items a ≡ slice_index row.old.items a }
     ensures above { (a : ℕ) → start + blocks ≤ a → slice_index row.new.items a ≡ slice_index row.old.items a }
+    ensures enough { ((a : ℕ) → start ≤ a → a < start + blocks → slice_index row.old.items a ≡ 0) → IsTrue result }
     ensures free { IsTrue result → (a : ℕ) → start ≤ a → a < start + blocks → slice_index row.old.items a ≡ 0 }
     ensures noted { IsTrue result → (a : ℕ) → start ≤ a → a < start + blocks → slice_index row.new.items a ≡ moment }
 {
@@ -79,7 +81,8 @@ fn note_at(
     requires fits { All (IsPlacedRight (seen_table points.now)) (seen_order order.now).placed }
     requires there { position < length order.now.placed.items }
     requires rows { AreRows (seen_table points.now) (seen_order order.now) position (map (λ row. row.items) rows.old.items) }
-    ensures { IsTrue result → AreRows (seen_table points.now) (seen_order order.now) (position + 1) (map (λ row. row.items) rows.new.items) }
+    ensures enough { ArePresent (seen_table points.now) (seen_order order.now) → IsTrue result }
+    ensures noted { IsTrue result → AreRows (seen_table points.now) (seen_order order.now) (position + 1) (map (λ row. row.items) rows.new.items) }
 {
     let (placed, point) = stands_at(points, order, position);
     if is_repeated(point) {
@@ -102,7 +105,8 @@ pub(crate) fn rows_of(
     order: &Order<'_>,
 ) -> Result<Result<Vec<Vec<usize>>, usize>, NoMemory>
     requires { All (IsPlacedRight (seen_table points.now)) (seen_order order.now).placed }
-    ensures { IfOk result (λ done. IfOk done (λ rows.
+    ensures wrong { IfOk result (λ done. IfErr done (λ _. ArePresent (seen_table points.now) (seen_order order.now) → ⊥)) }
+    ensures right { IfOk result (λ done. IfOk done (λ rows.
         AreRows (seen_table points.now) (seen_order order.now) (length (seen_order order.now).placed) (map (λ row. row.items) rows.items))) }
 {
     let mut rows = empty_rows(alloc, points)?;

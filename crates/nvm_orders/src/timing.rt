@@ -21,7 +21,8 @@ pub(crate) fn is_in_time(until: Option<u64>, time: u64) -> bool
 /// The first position that comes after one whose command began only when its own time was over.
 pub(crate) fn time_back<'a, 't>(points: &'a Points<'t>, order: &'a Order<'t>) -> Option<usize>
     requires { All (IsPlacedRight (seen_table points.now)) (seen_order order.now).placed }
-    ensures { IfNone result (KeepsTime (seen_table points.now) (seen_order order.now)) }
+    ensures right { IfNone result (KeepsTime (seen_table points.now) (seen_order order.now)) }
+    ensures wrong { IfSome result (λ _. KeepsTime (seen_table points.now) (seen_order order.now) → ⊥) }
 {
     let mut latest = 0;
     for position in 0..order.placed.len() {

@@ -1,15 +1,14 @@
-ghost use Rattle.std.specs.Prelude.{◌≡◌, ◌≢◌, ◌↔◌, ℕ, ◌+◌, ◌<◌, ◌≤◌, All, IfNone, IsTrue, Some, false, length, map, slice_get, slice_index, true};
+ghost use Rattle.std.specs.Prelude.{◌≡◌, ◌≢◌, ◌↔◌, ℕ, ◌+◌, ◌<◌, ◌≤◌, All, IfNone, IfSome, IsTrue, Some, false, length, map, slice_get, slice_index, true};
 ghost use Rattle.nvm_points.specs.PointView.{PointView, seen, seen_put, seen_table};
-ghost use Rattle.nvm_orders.specs.Clauses.{is_put as spec_is_put};
+ghost use Rattle.nvm_orders.specs.Clauses.{KeepsTied, is_put as spec_is_put};
 ghost use Rattle.nvm_orders.specs.Explanation.{IsPlacedRight};
 ghost use Rattle.nvm_orders.specs.Inside.Done.{AreRows};
-ghost use Rattle.nvm_orders.specs.Inside.Right.{IsBeside, KeepsTiedOne, StaysOut};
+ghost use Rattle.nvm_orders.specs.Inside.Right.{IsBeside, IsKept, KeepsTiedOne, StaysOut};
 ghost use Rattle.nvm_orders.specs.OrderView.{seen_order, seen_placed};
 
 use crate::deallocating::is_put;
 use crate::order::{Order, Placed};
 use crate::positions::stands_at;
-use crate::rows::is_repeated;
 use nvm_points::{Point, Points};
 
 /// The first moment at which a block was done, if any was.
@@ -39,7 +38,7 @@ fn last_moment(row: &Vec<usize>) -> usize
 /// Whether none of these places was done at this moment or before.
 fn none_by(row: &Vec<usize>, from: usize, to: usize, moment: usize) -> bool
     requires { to ≤ length row.now.items }
-    ensures { IsTrue result → (a : ℕ) → from ≤ a → a < to → slice_index row.now.items a ≢ 0 → moment < slice_index row.now.items a }
+    ensures { IsTrue result ↔ ((a : ℕ) → from ≤ a → a < to → slice_index row.now.items a ≢ 0 → moment < slice_index row.now.items a) }
 {
     for place in from..to {
         if row[place] != 0 && row[place] <= moment {
@@ -52,7 +51,7 @@ fn none_by(row: &Vec<usize>, from: usize, to: usize, moment: usize) -> bool
 /// Whether none of these places was done after this moment.
 fn none_past(row: &Vec<usize>, from: usize, to: usize, moment: usize) -> bool
     requires { to ≤ length row.now.items }
-    ensures { IsTrue result → (a : ℕ) → from ≤ a → a < to → slice_index row.now.items a ≤ moment }
+    ensures { IsTrue result ↔ ((a : ℕ) → from ≤ a → a < to → slice_index row.now.items a ≤ moment) }
 {
     for place in from..to {
         if row[place] > moment {
@@ -65,7 +64,7 @@ fn none_past(row: &Vec<usize>, from: usize, to: usize, moment: usize) -> bool
 /// Whether what stands at this position isn't between two blocks of the row that it has.
 fn is_beside(row: &Vec<usize>, first: u32, placed: &Placed<'_>, position: usize) -> bool
     requires { position < 9223372036854775808 }
-    ensures { IsTrue result → IsBeside row.now.items first (seen_placed placed.now) position }
+    ensures { IsTrue result ↔ IsBeside row.now.items first (seen_placed placed.now) position }
 {
     let from = placed.first.saturating_sub(first) as usize;
     let end = placed.first as usize + placed.blocks as usize;
@@ -90,7 +89,7 @@ fn stays_out(
 ) -> bool
     requires fits { All (IsPlacedRight (seen_table points.now)) (seen_order order.now).placed }
     requires there { position < length order.now.placed.items }
-    ensures { IsTrue result → StaysOut (seen_table points.now) (seen_order order.now) row.now.items first position }
+    ensures { IsTrue result ↔ StaysOut (seen_table points.now) (seen_order order.now) row.now.items first position }
 {
     let (placed, point) = stands_at(points, order, position);
     !is_entry(point) || is_beside(row, first, placed, position)
@@ -99,7 +98,8 @@ fn stays_out(
 /// The first position at which an entry comes between two blocks of the row.
 fn between(points: &Points<'_>, order: &Order<'_>, row: &Vec<usize>, first: u32) -> Option<usize>
     requires { All (IsPlacedRight (seen_table points.now)) (seen_order order.now).placed }
-    ensures { IfNone result ((j : ℕ) → StaysOut (seen_table points.now) (seen_order order.now) row.now.items first j) }
+    ensures right { IfNone result ((j : ℕ) → StaysOut (seen_table points.now) (seen_order order.now) row.now.items first j) }
+    ensures wrong { IfSome result (λ _. ((j : ℕ) → StaysOut (seen_table points.now) (seen_order order.now) row.now.items first j) → ⊥) }
 {
     let start = first_moment(row);
     let end = last_moment(row).min(order.placed.len());
@@ -111,8 +111,7 @@ fn between(points: &Points<'_>, order: &Order<'_>, row: &Vec<usize>, first: u32)
     None
 }
 
-/// The first position at which an entry comes between two blocks of the point of this number, where that point is tied. One that is
-/// tied and may be done any number of times is refused: there is none.
+/// The first position at which an entry comes between two blocks of the point of this number, where that point is tied.
 pub(crate) fn comes_between(
     points: &Points<'_>,
     order: &Order<'_>,
@@ -122,14 +121,13 @@ pub(crate) fn comes_between(
     requires fits { All (IsPlacedRight (seen_table points.now)) (seen_order order.now).placed }
     requires there { number < length points.now.points.items }
     requires rows { AreRows (seen_table points.now) (seen_order order.now) (length (seen_order order.now).placed) (map (λ row. row.items) rows.now.items) }
-    ensures { IfNone result (KeepsTiedOne (seen_table points.now) (seen_order order.now) number) }
+    requires kept { (q : PointView) → slice_get (seen_table points.now).points number ≡ Some q → IsKept (seen_table points.now) number q }
+    ensures right { IfNone result (KeepsTiedOne (seen_table points.now) (seen_order order.now) number) }
+    ensures wrong { IfSome result (λ _. KeepsTied (seen_table points.now) (seen_order order.now) → ⊥) }
 {
     let point = &points.points[number];
     if !point.tied {
         return None;
-    }
-    if is_repeated(point) {
-        return Some(0);
     }
     between(points, order, &rows[number], point.first)
 }

@@ -1,6 +1,6 @@
 -- At which position each block of each point was done: a row for each point, with a place for each of its blocks. It is one more than the
 -- position, or 0 where the block wasn't done.
-use Rattle.std.specs.Prelude.{◌≡◌, ◌≢◌, ℕ, ◌+◌, ◌-◌, ◌<◌, List, length, Some, slice_get, slice_index}
+use Rattle.std.specs.Prelude.{◌≡◌, ◌≢◌, ℕ, ◌+◌, ◌-◌, ◌<◌, ◌≤◌, List, length, Some, slice_get, slice_index}
 use Rattle.nvm_points.specs.PointView.{PointView, TableView}
 use Rattle.nvm_points.specs.declared.point.Presence.TheVariants.{Repeated}
 use Rattle.nvm_orders.specs.OrderView.{OrderView}
@@ -10,6 +10,7 @@ use Rattle.nvm_orders.specs.Places.{IsDoneAt}
 pub record IsRowOf (o : OrderView) (k n : ℕ) (q : PointView) (row : List ℕ) : Type 0 where
   pub all : q.presence ≢ Repeated → length row ≡ q.blocks
   pub sound : (a i : ℕ) → slice_index row a ≡ i + 1 → IsDoneAt o n (q.first + a) i
+  pub early : (a : ℕ) → slice_index row a ≤ k
   pub whole : q.presence ≢ Repeated → (x i : ℕ) → i < k → IsDoneAt o n x i → slice_index row (x - q.first) ≡ i + 1
 
 pub record AreRows (t : TableView) (o : OrderView) (k : ℕ) (rows : List (List ℕ)) : Type 0 where

@@ -12,6 +12,14 @@ pub record AreLatest (t : TableView) (o : OrderView) (k : ℕ) (latest : List �
   pub each : (i x : ℕ) (p : PlacedView) (q : PointView) → i < k → StandsAt t o i p q → q.presence ≡ Sure → is_put q.put ≡ true
       → HasBlock p x → q.from ≤ slice_index latest x
 
+-- No time of theirs is later than need be.
+abbrev pub AreLeast : TableView → OrderView → ℕ → List ℕ → Type 0
+AreLeast t o k latest =
+    (x m : ℕ)
+    → ((i : ℕ) (p : PlacedView) (q : PointView) → i < k → StandsAt t o i p q → q.presence ≡ Sure → is_put q.put ≡ true
+    → HasBlock p x → q.from ≤ m)
+    → slice_index latest x ≤ m
+
 -- The clause on Deallocates, of the positions before one.
 abbrev pub KeepsDeallocatesTo : TableView → OrderView → ℕ → Type 0
 KeepsDeallocatesTo t o k =

@@ -26,6 +26,13 @@ pub record IsAsPresent (q : PointView) (row : List ℕ) : Type 0 where
   pub one : q.presence ≡ OneOf → HasOne row
   pub together : q.presence ≡ Together → IsFull row ⊎ IsEmpty row
 
+-- What is asked of a tied point, and of one that comes after the one before it: the blocks of both are done once.
+pub record IsKept (t : TableView) (n : ℕ) (q : PointView) : Type 0 where
+  pub tied : q.tied ≡ true → q.presence ≢ Repeated
+  pub after : q.after ≡ true → q.presence ≢ Repeated
+  pub first : q.after ≡ true → 0 < n
+  pub before : q.after ≡ true → (b : PointView) → slice_get t.points (n - 1) ≡ Some b → b.presence ≢ Repeated
+
 -- Before this moment the block was done, by the row of a point that has this first block.
 pub record WasBefore (before : List ℕ) (first x moment : ℕ) : Type 0 where
   pub low : first ≤ x
@@ -58,7 +65,7 @@ KeepsTiedOne t o n =
     → StandsAt t o j p' q' → is_put q'.put ≡ true → q'.each ≡ false → HasBlock p' x → HasBlock p' y
     → IsDoneAt o n y k → ⊥
 
--- What is placed at this moment, one more than its position, isn't between two blocks of the row that it puts.
+-- What is placed at this position isn't between two blocks of the row that it puts.
 abbrev pub IsBeside : List ℕ → ℕ → PlacedView → ℕ → Type 0
 IsBeside row first p position =
     (a b : ℕ) → HasBlock p (first + a) → HasBlock p (first + b) → slice_index row a ≢ 0 → slice_index row a ≤ position

@@ -1,5 +1,5 @@
 use Rattle.nvm_points.specs.PointView.{seen_table}
-use Rattle.nvm_orders.specs.Inside.Latest.{AreLatest, KeepsDeallocatesTo}
+use Rattle.nvm_orders.specs.Inside.Latest.{AreLatest, AreLeast, KeepsDeallocatesTo}
 use Rattle.nvm_orders.specs.OrderView.{seen_order}
 use Rattle.nvm_orders.proofs.deallocating.deallocates_late.Given as goal
 
@@ -7,5 +7,6 @@ abbrev pub invariant-loop-position : goal.invariant-loop-position
 invariant-loop-position l =
     record {
       latest_are : AreLatest (seen_table l.points) (seen_order l.order) l.position l.latest.items;
+      least : AreLeast (seen_table l.points) (seen_order l.order) l.position l.latest.items;
       kept : KeepsDeallocatesTo (seen_table l.points) (seen_order l.order) l.position;
     }

@@ -6,5 +6,7 @@ invariant-loop-at l =
     record {
       kept : (x : ℕ) → slice_index l.fn.latest.items x ≤ slice_index l.latest.items x;
       raised : (x : ℕ) → l.placed.first ≤ x → x < l.placed.first + l.at → l.time ≤ slice_index l.latest.items x;
+      least : (x m : ℕ) → slice_index l.fn.latest.items x ≤ m → (l.placed.first ≤ x → x < l.placed.first + l.at → l.time ≤ m)
+          → slice_index l.latest.items x ≤ m;
       many : length l.latest.items ≡ length l.fn.latest.items;
     }

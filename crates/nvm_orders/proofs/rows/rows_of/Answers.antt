@@ -5,8 +5,8 @@ use Rattle.nvm_orders.specs.Inside.Done.{AreRows}
 use Rattle.nvm_orders.specs.OrderView.{seen_order, seen_placed}
 use Rattle.nvm_orders.proofs.rows.rows_of.Goals as goal
 
-pub returns : goal.returns
-returns c =
+pub returns-clause-right : goal.returns-clause-right
+returns-clause-right c =
     let same = length-map c.args.order.now.placed.items seen_placed in
     let e : c.loop-position.position ≡ length (seen_order c.args.order.now).placed = omega (arith, same) in
     subst (λ (k : ℕ). AreRows (seen_table c.args.points.now) (seen_order c.args.order.now) k (map (λ row. row.items) c.loop-position.rows.items)) e
