@@ -1,0 +1,18 @@
+//! The search for an order of points that explains a trace.
+//!
+//! [`order_of`] cuts the namespace where no entry joins two blocks, searches an order of the points of each part by itself, and merges
+//! them. Nothing here is trusted: an order counts only where [`explains`](nvm_orders::explains) takes it.
+#![tactic(auto)]
+
+mod acts;
+mod lists;
+mod making;
+mod merging;
+mod parts;
+mod ranks;
+mod search;
+mod slots;
+mod state;
+mod together;
+
+pub use merging::order_of;

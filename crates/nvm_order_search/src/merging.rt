@@ -1,0 +1,337 @@
+use crate::acts::{Gives, NONE};
+use crate::making::{Known, Part, part_of};
+use crate::parts::{Share, shares_of};
+use crate::ranks::Ranks;
+use crate::search::{Search, Step};
+use crate::together::done_together;
+use nvm_orders::{Content, FirstContent, Order, Placed, Value};
+use nvm_points::{Points, Presence};
+use nvm_record::NoMemory;
+use nvm_steps::{MARK, Numbers, Values, ZERO, block_at, to_u32};
+use std::alloc::Global;
+
+/// The bytes of a block of FFh.
+const ONES: &[u8] = &[0xff; 4096];
+
+/// How many searches of a part are tried, each but the first with moves that are drawn.
+const TRIALS: u32 = 6;
+
+/// A step of a part, by the latest time at which it or one before it in the part began. Merged by these times the parts' orders keep
+/// all times.
+#[derive(Clone, Copy, Debug, PartialEq, Eq, PartialOrd, Ord)]
+struct Merged {
+    latest: u32,
+    part: u32,
+    turn: u32,
+    point: u32,
+    first: u32,
+    blocks: u32,
+    /// The value that is put, where there was a choice.
+    value: u32,
+}
+
+/// What a value stands for.
+fn content_of<'t>(values: &Values<'t>, ones: u32, value: u32) -> Content<'t> {
+    if value == ZERO {
+        return Content::Zeroes;
+    }
+    if value == MARK {
+        return Content::Mark;
+    }
+    if value == ones {
+        return Content::Ones;
+    }
+    match values.bytes_of(value) {
+        Some(bytes) => Content::Bytes(bytes),
+        None => Content::Zeroes,
+    }
+}
+
+/// The step as it is merged.
+fn step_of(part: &Part, number: u32, turn: u32, step: &Step) -> Merged {
+    let act = part.act(step.act);
+    let cell = part.cell(act.cell);
+    let block = if act.any { step.block } else { cell.block };
+    let value = match cell.gives {
+        Gives::Deallocated | Gives::Anything => part.slots.value(step.slot),
+        Gives::Nothing | Gives::Slot(_) => NONE,
+    };
+    Merged {
+        latest: step.latest,
+        part: number,
+        turn,
+        point: act.point,
+        first: part.first.saturating_add(block),
+        blocks: if act.any { 1 } else { act.cells },
+        value,
+    }
+}
+
+/// Adds to the order what the steps do. Blocks of one point that are done one after the other stand as one.
+fn place_all<'t>(
+    alloc: Global,
+    points: &Points<'t>,
+    values: &Values<'t>,
+    ones: u32,
+    merged: &Vec<Merged>,
+) -> Result<Vec<Placed<'t>>, NoMemory> {
+    let mut placed = Vec::with_capacity(alloc, merged.len())?;
+    for step in merged {
+        let value = if step.value == NONE {
+            Value::AsIs
+        } else {
+            Value::Put(content_of(values, ones, step.value))
+        };
+        let each = match points.points.get(step.point as usize) {
+            Some(point) => point.each,
+            None => false,
+        };
+        if each && step.value == NONE {
+            let last: Option<&mut Placed<'t>> = placed.last_mut();
+            if let Some(last) = last {
+                let end = last.first.saturating_add(last.blocks);
+                if last.point == step.point && end == step.first {
+                    last.blocks = last.blocks.saturating_add(step.blocks);
+                    continue;
+                }
+            }
+        }
+        placed.push(Placed {
+            point: step.point,
+            first: step.first,
+            blocks: step.blocks,
+            value,
+        })?;
+    }
+    Ok(placed)
+}
+
+/// The shares of each part, from one place up to another.
+fn ranges_of(alloc: Global, shares: &Vec<Share>) -> Result<Vec<(usize, usize)>, NoMemory> {
+    let mut ranges = Vec::new(alloc);
+    let mut start = 0usize;
+    for place in 1..shares.len().saturating_add(1) {
+        let is_end = match (shares.get(place), shares.get(start)) {
+            (Some(share), Some(first)) => share.part != first.part,
+            _ => true,
+        };
+        if is_end {
+            ranges.push((start, place))?;
+            start = place;
+        }
+    }
+    Ok(ranges)
+}
+
+/// What was found for a part.
+#[derive(Drop)]
+struct Found<'t> {
+    steps: Vec<Merged>,
+    first: Vec<FirstContent<'t>>,
+}
+
+/// An order of the part's points. The error is the point at which the search got stuck.
+fn found_for<'t>(
+    known: &mut Known<'_, 't>,
+    values: &mut Values<'t>,
+    number: u32,
+    shares: &[Share],
+    effort: u32,
+) -> Result<Result<Found<'t>, u32>, NoMemory> {
+    let alloc = known.alloc;
+    let part = part_of(known, values, shares)?;
+    let mut search = Search::new(alloc, &part, effort, 0)?;
+    let mut is_found = search.run()?;
+    for seed in 1..TRIALS {
+        if is_found {
+            break;
+        }
+        search = Search::new(alloc, &part, effort, seed)?;
+        is_found = search.run()?;
+    }
+    if !is_found {
+        return Ok(Err(search.stuck_at()));
+    }
+    let mut found = Found {
+        steps: Vec::with_capacity(alloc, search.steps.len())?,
+        first: Vec::new(alloc),
+    };
+    for turn in 0..search.steps.len() {
+        let step = search.steps[turn];
+        if step.block != NONE {
+            let point = part.act(step.act).point;
+            known.met.put(point, 1);
+            known.holder.put(point, number);
+        }
+        found
+            .steps
+            .push(step_of(&part, number, to_u32(turn), &step))?;
+    }
+    for block in 0..part.blocks {
+        let slot = search.first(block);
+        if slot != NONE {
+            found.first.push(FirstContent {
+                block: part.first.saturating_add(block),
+                content: content_of(values, known.ones, part.slots.value(slot)),
+            })?;
+        }
+    }
+    Ok(Ok(found))
+}
+
+/// The shares of a part.
+fn shares_in<'s>(
+    shares: &'s Vec<Share>,
+    ranges: &Vec<(usize, usize)>,
+    part: usize,
+) -> Option<&'s [Share]> {
+    let (start, end) = ranges.get(part)?;
+    shares.get(*start..*end)
+}
+
+/// The last part before this one that has blocks of a point.
+fn part_before(
+    shares: &Vec<Share>,
+    ranges: &Vec<(usize, usize)>,
+    part: usize,
+    point: u32,
+) -> Option<usize> {
+    for back in 0..part {
+        let number = part.saturating_sub(back).saturating_sub(1);
+        let of_part = shares_in(shares, ranges, number)?;
+        let at = of_part.partition_point(|share| share.point < point);
+        if let Some(share) = of_part.get(at) {
+            if share.point == point {
+                return Some(number);
+            }
+        }
+    }
+    None
+}
+
+/// What is known of the points before any search.
+fn known_of<'a, 't>(
+    alloc: Global,
+    points: &'a Points<'t>,
+    values: &mut Values<'t>,
+) -> Result<Known<'a, 't>, NoMemory> {
+    let count = points.points.len();
+    Ok(Known {
+        alloc,
+        points,
+        ranks: Ranks::new(alloc, &points.points)?,
+        together: done_together(alloc, points)?,
+        first_part: Numbers::new(alloc, count, NONE)?,
+        last_part: Numbers::new(alloc, count, 0)?,
+        holder: Numbers::new(alloc, count, 0)?,
+        met: Numbers::new(alloc, count, 0)?,
+        ones: values.value_of(block_at(ONES, points.block_size, 0))?,
+        fresh: values.fresh(points.block_size)?,
+    })
+}
+
+/// Numbers the parts in their order, and notes which of them each point has.
+fn number_parts(shares: &mut Vec<Share>, known: &mut Known<'_, '_>) {
+    let mut number = 0u32;
+    let mut last = None;
+    for share in shares.iter_mut() {
+        if let Some(part) = last {
+            if part != share.part {
+                number = number.saturating_add(1);
+            }
+        }
+        last = Some(share.part);
+        share.part = number;
+        let first = known.first_part.at(share.point).min(number);
+        known.first_part.put(share.point, first);
+        known.last_part.put(share.point, number);
+        known.holder.put(share.point, number);
+    }
+}
+
+/// Where the search of a part got stuck at a point of which one block has to be done there: another part that has to have it instead.
+fn other_holder(
+    known: &mut Known<'_, '_>,
+    shares: &Vec<Share>,
+    ranges: &Vec<(usize, usize)>,
+    part: usize,
+    point: u32,
+) -> Option<usize> {
+    let choice = known.points.points.get(point as usize)?;
+    if choice.presence != Presence::OneOf || known.holder.at(point) != to_u32(part) {
+        return None;
+    }
+    let other = part_before(shares, ranges, part, point)?;
+    known.met.put(point, 1);
+    known.holder.put(point, to_u32(other));
+    Some(other)
+}
+
+/// What was found for each part, if something was for all.
+fn search_all<'t>(
+    known: &mut Known<'_, 't>,
+    values: &mut Values<'t>,
+    shares: &Vec<Share>,
+    ranges: &Vec<(usize, usize)>,
+    effort: u32,
+) -> Result<Option<Vec<Found<'t>>>, NoMemory> {
+    let alloc = known.alloc;
+    let mut waiting = Vec::with_capacity(alloc, ranges.len())?;
+    let mut all = Vec::with_capacity(alloc, ranges.len())?;
+    for back in 0..ranges.len() {
+        waiting.push(ranges.len().saturating_sub(back).saturating_sub(1))?;
+        all.push(Found {
+            steps: Vec::new(alloc),
+            first: Vec::new(alloc),
+        })?;
+    }
+    for _ in 0..u64::MAX {
+        let Some(part) = waiting.pop() else {
+            break;
+        };
+        let Some(of_part) = shares_in(shares, ranges, part) else {
+            break;
+        };
+        match found_for(known, values, to_u32(part), of_part, effort)? {
+            Ok(found) => {
+                if let Some(place) = all.get_mut(part) {
+                    *place = found;
+                }
+            }
+            Err(point) => match other_holder(known, shares, ranges, part, point) {
+                Some(other) => {
+                    waiting.push(part)?;
+                    waiting.push(other)?;
+                }
+                None => return Ok(None),
+            },
+        }
+    }
+    Ok(Some(all))
+}
+
+/// An order that explains the points, if one is found. `effort` is how many steps a search of a part takes back at most before it has one
+/// more in order than ever before. Where none is found there may be one all the same.
+pub fn order_of<'t>(
+    alloc: Global,
+    points: &Points<'t>,
+    effort: u32,
+) -> Result<Option<Order<'t>>, NoMemory> {
+    let mut shares = shares_of(alloc, &points.points, points.nsze)?;
+    let ranges = ranges_of(alloc, &shares)?;
+    let mut values = Values::new(alloc)?;
+    let mut known = known_of(alloc, points, &mut values)?;
+    number_parts(&mut shares, &mut known);
+    let Some(all) = search_all(&mut known, &mut values, &shares, &ranges, effort)? else {
+        return Ok(None);
+    };
+    let mut steps = Vec::new(alloc);
+    let mut first = Vec::new(alloc);
+    for found in &all {
+        steps.extend_from_slice(&found.steps)?;
+        first.extend_from_slice(&found.first)?;
+    }
+    steps.sort()?;
+    let placed = place_all(alloc, points, &values, known.ones, &steps)?;
+    Ok(Some(Order { first, placed }))
+}

@@ -1,0 +1,129 @@
+//! Pairs of which nothing says whether they were done.
+use crate::acts::NONE;
+use crate::making::Known;
+use crate::parts::Share;
+use nvm_points::{Deallocated, Found, Point, Points, Presence, Put};
+use nvm_record::{BlockSize, NoMemory};
+use nvm_steps::{Numbers, block_at, to_u32};
+use nvm_trace::Start;
+use std::alloc::Global;
+
+/// Whether the point may put these bytes in the block. A point that is done together, or after such a one, isn't asked.
+fn may_put(points: &Points<'_>, number: usize, block: u32, bytes: &[u8]) -> bool {
+    let Some(point) = points.points.get(number) else {
+        return false;
+    };
+    let Some(place) = block.checked_sub(point.first) else {
+        return false;
+    };
+    if place >= point.blocks {
+        return false;
+    }
+    match point.put {
+        Put::Nothing | Put::Mark => false,
+        Put::Bytes(payload) => block_at(payload, points.block_size, place as usize) == bytes,
+        Put::Zeroes => are_all(bytes, 0),
+        Put::Deallocated => {
+            (points.deallocated != Deallocated::Ones && are_all(bytes, 0))
+                || (points.deallocated != Deallocated::Zeroes && are_all(bytes, 0xff))
+        }
+        Put::Anything => true,
+    }
+}
+
+/// Whether all bytes are this one.
+fn are_all(bytes: &[u8], one: u8) -> bool {
+    for byte in bytes {
+        if *byte != one {
+            return false;
+        }
+    }
+    true
+}
+
+/// Whether the point surely finds these bytes in the block, and not before a time.
+fn finds(point: &Point<'_>, size: BlockSize, block: u32, bytes: &[u8], from: u64) -> bool {
+    if point.presence != Presence::Sure {
+        return false;
+    }
+    if let Some(until) = point.until {
+        if until < from {
+            return false;
+        }
+    }
+    let Some(place) = block.checked_sub(point.first) else {
+        return false;
+    };
+    match point.found {
+        Found::Bytes(payload) => {
+            place < point.blocks && block_at(payload, size, place as usize) == bytes
+        }
+        _ => false,
+    }
+}
+
+/// Whether somebody found what the point puts in one of its blocks, and nobody else can have put it there.
+fn was_seen(points: &Points<'_>, number: usize) -> bool {
+    let Some(point) = points.points.get(number) else {
+        return false;
+    };
+    let Put::Bytes(payload) = point.put else {
+        return false;
+    };
+    for place in 0..point.blocks {
+        let block = point.first.saturating_add(place);
+        let bytes = block_at(payload, points.block_size, place as usize);
+        let mut is_found = false;
+        let mut is_put = points.start == Start::Unknown || are_all(bytes, 0);
+        for other in 0..points.points.len() {
+            if other == number {
+                continue;
+            }
+            let Some(reader) = points.points.get(other) else {
+                break;
+            };
+            is_found = is_found || finds(reader, points.block_size, block, bytes, point.from);
+            is_put = is_put || may_put(points, other, block, bytes);
+        }
+        if is_found && !is_put {
+            return true;
+        }
+    }
+    false
+}
+
+/// Which points that are done together are to be done, by number: those whose pair's data was found where nobody else can have put it.
+pub fn done_together(alloc: Global, points: &Points<'_>) -> Result<Numbers, NoMemory> {
+    let mut done = Numbers::new(alloc, points.points.len(), 0)?;
+    for number in 0..points.points.len() {
+        let Some(point) = points.points.get(number) else {
+            break;
+        };
+        if point.presence == Presence::Together && was_seen(points, number.saturating_add(1)) {
+            done.put(to_u32(number), 1);
+        }
+    }
+    Ok(done)
+}
+
+/// Whether a point is left out in a part: one that is done together or not, isn't surely done, and has blocks in other parts, or what
+/// comes after such a one.
+pub fn is_left_out(known: &Known<'_, '_>, share: Share) -> bool {
+    if known.first_part.at(share.point) == known.last_part.at(share.point) {
+        return false;
+    }
+    let points = &known.points.points;
+    let Some(point) = points.get(share.point as usize) else {
+        return true;
+    };
+    if point.presence == Presence::Together {
+        return known.together.at(share.point) == 0;
+    }
+    let before = share.point.checked_sub(1).unwrap_or(NONE);
+    match points.get(before as usize) {
+        Some(first) => {
+            point.after && first.presence == Presence::Together && known.together.at(before) == 0
+        }
+        None => false,
+    }
+}
