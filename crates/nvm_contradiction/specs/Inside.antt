@@ -1,0 +1,3 @@
+-- What is known, as the checker notes it.
+pub mod Noted
+pub mod Derived

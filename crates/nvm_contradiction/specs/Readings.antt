@@ -1,0 +1,75 @@
+-- Whose put a reader can have found in a block, by what is known (own). A block holds what the last point before put there, or what was
+-- there at first.
+use Rattle.std.specs.Prelude.{◌≡◌, ◌≢◌, ◌⊎◌, ℕ, ◌-◌, List, Some, slice_get}
+use Rattle.nvm_record.specs.declared.block.Block.TheVariants.{Bytes}
+use Rattle.nvm_points.specs.PointView.{PointView, TableView, bytes}
+use Rattle.nvm_points.specs.declared.point.Presence.TheVariants.{Repeated}
+use Rattle.nvm_orders.specs.Contents.{bytes_at}
+use Rattle.nvm_orders.specs.Places.{IsOf}
+use Rattle.nvm_contradiction.specs.Knowledge.{Knowledge}
+use Rattle.nvm_contradiction.specs.Nodes.{node}
+use Rattle.nvm_contradiction.specs.Serving.{CanServe, CanFindFirst, FindsThere, SurelyPuts}
+use Rattle.nvm_contradiction.specs.Times.{ComesBefore}
+
+-- The reader has the block, and does it at most once.
+pub record IsReadingOf (t : TableView) (reader x : ℕ) (q : PointView) : Type 0 where
+  pub its : slice_get t.points reader ≡ Some q
+  pub block : IsOf q x
+  pub once : q.presence ≢ Repeated
+
+-- The writer surely puts the block, and comes before the reader.
+pub record IsWriterBefore (t : TableView) (K : Knowledge) (reader x writer : ℕ) : Type 0 where
+  pub puts : SurelyPuts t K writer x
+  pub before : ComesBefore t K writer reader x
+
+-- The writer does so, and comes after the earlier point.
+pub record HasWriterBetween (t : TableView) (K : Knowledge) (earlier reader x : ℕ) : Type 0 where
+  pub writer : ℕ
+  pub is : IsWriterBefore t K reader x writer
+  pub after : ComesBefore t K earlier writer x
+
+-- The reader found nothing that the point of number n put in the block: that point comes after it, or another was put over it before.
+abbrev pub IsExcused : TableView → Knowledge → ℕ → ℕ → ℕ → Type 0
+IsExcused t K n reader x = ComesBefore t K reader n x ⊎ HasWriterBetween t K n reader x
+
+-- The point of number n can serve the reader, whose point is q.
+pub record IsServedBy (t : TableView) (q : PointView) (n x : ℕ) : Type 0 where
+  pub point : PointView
+  pub its : slice_get t.points n ≡ Some point
+  pub block : IsOf point x
+  pub serves : CanServe t point q x
+
+-- Of all points but two, each that can serve the reader, whose point is q, is excused.
+abbrev pub NoOtherServes : TableView → Knowledge → PointView → ℕ → ℕ → ℕ → Type 0
+NoOtherServes t K q reader x writer = (n : ℕ) → IsServedBy t q n x → (n ≡ reader) ⊎ ((n ≡ writer) ⊎ IsExcused t K n reader x)
+
+-- The other found bytes in the block that the reader, whose point is q, can't find there.
+pub record FindsOther (t : TableView) (q : PointView) (x : ℕ) (other : PointView) : Type 0 where
+  pub payload : List ℕ
+  pub found : other.found ≡ bytes payload
+  pub differs : FindsThere t q x (Bytes (bytes_at t.block_size payload (x - other.first))) → ⊥
+
+-- It is known what was in the block at first, and the reader, whose point is q, can't find that.
+pub record FindsNotFirst (t : TableView) (K : Knowledge) (q : PointView) (x : ℕ) : Type 0 where
+  pub number : ℕ
+  pub first : K.first (node number x)
+  pub other : PointView
+  pub its : slice_get t.points number ≡ Some other
+  pub differs : FindsOther t q x other
+
+-- What the reader, whose point is q, found isn't what was there at first.
+abbrev pub WasPut : TableView → Knowledge → PointView → ℕ → ℕ → Type 0
+WasPut t K q reader x = (CanFindFirst t q x → ⊥) ⊎ (FindsNotFirst t K q x ⊎ ((writer : ℕ) × IsWriterBefore t K reader x writer))
+
+-- What the reader found in the block was put there, and of the other points none but the writer can have put it.
+pub record IsSource (t : TableView) (K : Knowledge) (writer reader x : ℕ) : Type 0 where
+  pub point : PointView
+  pub reads : IsReadingOf t reader x point
+  pub was_put : WasPut t K point reader x
+  pub only : NoOtherServes t K point reader x writer
+
+-- None of the other points can have put what the reader found in the block.
+pub record IsUnserved (t : TableView) (K : Knowledge) (reader x : ℕ) : Type 0 where
+  pub point : PointView
+  pub reads : IsReadingOf t reader x point
+  pub none : NoOtherServes t K point reader x reader

@@ -1,0 +1,258 @@
+ghost use Rattle.std.specs.Prelude.{◌≡◌, ◌↔◌, ◌≤◌, ℕ, IfSome, IsTrue, length};
+ghost use Rattle.nvm_points.specs.PointView.{seen, seen_table};
+ghost use Rattle.nvm_points.specs.declared.point.Presence.TheVariants.{Repeated};
+ghost use Rattle.nvm_contradiction.specs.Inside.Noted.{noted};
+ghost use Rattle.nvm_contradiction.specs.Readings.{FindsNotFirst, FindsOther, HasWriterBetween, IsExcused, IsReadingOf, IsServedBy, IsSource, IsUnserved, IsWriterBefore, NoOtherServes, WasPut};
+
+use crate::known::Known;
+use crate::node::{Node, has_block, node_at, point_at};
+use crate::serving::{can_find_first, can_serve, may_find_there, surely_puts};
+use crate::times::{comes_before, is_time};
+use nvm_orders::{Content, bytes_at};
+use nvm_points::{Found, Point, Points, Presence};
+
+/// Whether the writer surely puts the block and comes before the reader.
+fn is_writer_before(points: &Points<'_>, known: &Known, writer: u32, reader: Node) -> bool
+    ensures { IsTrue result → IsWriterBefore (seen_table points.now) (noted (seen_table points.now) known.now) reader.point reader.block writer }
+{
+    surely_puts(points, known, writer, reader.block)
+        && comes_before(points, known, writer, reader.point, reader.block)
+}
+
+/// Whether the writer surely puts the block, and comes after the earlier point and before the reader.
+fn is_writer_between(
+    points: &Points<'_>,
+    known: &Known,
+    writer: u32,
+    earlier: u32,
+    reader: Node,
+) -> bool
+    ensures { IsTrue result → HasWriterBetween (seen_table points.now) (noted (seen_table points.now) known.now) earlier reader.point reader.block }
+{
+    comes_before(points, known, earlier, writer, reader.block)
+        && is_writer_before(points, known, writer, reader)
+}
+
+/// Whether the point of this number begins later than the other, if there is another.
+fn begins_later(points: &Points<'_>, number: u32, other: Option<u32>) -> bool {
+    let Some(other) = other else {
+        return true;
+    };
+    match point_at(points, number) {
+        Some(point) => match point_at(points, other) {
+            Some(before) => point.from > before.from,
+            None => false,
+        },
+        None => false,
+    }
+}
+
+/// How many points can be named.
+fn many(points: &Points<'_>) -> u32
+    ensures { length points.now.points.items ≤ 0xffff_ffff → result ≡ length points.now.points.items }
+{
+    points.points.len().min(0xffff_ffff) as u32
+}
+
+/// Of what surely puts the block and was over before the reader began, that which begins last, if there is any: if something comes between
+/// by times alone, this does.
+fn last_writer(points: &Points<'_>, known: &Known, reader: Node) -> Option<u32> {
+    let mut last = None;
+    for number in 0..many(points) {
+        if is_time(points, number, reader.point)
+            && begins_later(points, number, last)
+            && surely_puts(points, known, number, reader.block)
+        {
+            last = Some(number);
+        }
+    }
+    last
+}
+
+/// Whether something that is noted to come before the reader surely puts the block.
+fn has_noted_writer(points: &Points<'_>, known: &Known, reader: Node) -> bool
+    ensures { IsTrue result → (writer : ℕ) × IsWriterBefore (seen_table points.now) (noted (seen_table points.now) known.now) reader.point reader.block writer }
+{
+    let later = node_at(points, reader.point, reader.block);
+    for order in &known.orders {
+        if order.later == later && is_writer_before(points, known, order.earlier.point, reader) {
+            return true;
+        }
+    }
+    false
+}
+
+/// Whether something that is noted to come before the reader or after the earlier point comes between the two, and surely puts the block.
+fn has_noted_between(points: &Points<'_>, known: &Known, earlier: u32, reader: Node) -> bool
+    ensures { IsTrue result → HasWriterBetween (seen_table points.now) (noted (seen_table points.now) known.now) earlier reader.point reader.block }
+{
+    let from = node_at(points, earlier, reader.block);
+    let to = node_at(points, reader.point, reader.block);
+    for order in &known.orders {
+        if order.later == to
+            && is_writer_between(points, known, order.earlier.point, earlier, reader)
+        {
+            return true;
+        }
+        if order.earlier == from
+            && is_writer_between(points, known, order.later.point, earlier, reader)
+        {
+            return true;
+        }
+    }
+    false
+}
+
+/// Whether the reader found nothing that the point of this number put in the block. `last` is its last writer by times.
+fn is_excused(
+    points: &Points<'_>,
+    known: &Known,
+    last: Option<u32>,
+    number: u32,
+    reader: Node,
+) -> bool
+    ensures { IsTrue result → IsExcused (seen_table points.now) (noted (seen_table points.now) known.now) number reader.point reader.block }
+{
+    if let Some(writer) = last {
+        if is_writer_between(points, known, writer, number, reader) {
+            return true;
+        }
+    }
+    comes_before(points, known, reader.point, number, reader.block)
+        || has_noted_between(points, known, number, reader)
+}
+
+/// Whether the point of this number can't serve the reader, which has the block.
+fn cannot_serve(points: &Points<'_>, number: u32, reading: &Point<'_>, block: u32) -> bool
+    requires { reading.now.first ≤ block }
+    ensures { IsTrue result → IsServedBy (seen_table points.now) (seen reading.now) number block → ⊥ }
+{
+    match point_at(points, number) {
+        Some(writer) => !has_block(writer, block) || !can_serve(points, writer, reading, block),
+        None => true,
+    }
+}
+
+/// Whether each point but two that can serve the reader, which has the block, is excused.
+fn no_other_serves(
+    points: &Points<'_>,
+    known: &Known,
+    reading: &Point<'_>,
+    reader: Node,
+    writer: u32,
+) -> bool
+    requires { reading.now.first ≤ reader.block }
+    ensures { IsTrue result → NoOtherServes (seen_table points.now) (noted (seen_table points.now) known.now) (seen reading.now)
+        reader.point reader.block writer }
+{
+    if points.points.len() > 0xffff_ffff {
+        return false;
+    }
+    let last = last_writer(points, known, reader);
+    for number in 0..many(points) {
+        if number != reader.point
+            && number != writer
+            && !cannot_serve(points, number, reading, reader.block)
+            && !is_excused(points, known, last, number, reader)
+        {
+            return false;
+        }
+    }
+    true
+}
+
+/// Whether the blocks of the point may be done any number of times.
+pub(crate) fn is_repeated(point: &Point<'_>) -> bool
+    ensures { IsTrue result ↔ (point.now.presence ≡ Repeated) }
+{
+    match point.presence {
+        Presence::Repeated => true,
+        _ => false,
+    }
+}
+
+/// The point of the reader, if it has the block and does it once.
+fn reading_of<'a, 't>(points: &'a Points<'t>, reader: Node) -> Option<&'a Point<'t>>
+    ensures { IfSome result (λ reading. IsReadingOf (seen_table points.entry.now) reader.point reader.block (seen reading.now)) }
+{
+    match point_at(points, reader.point) {
+        Some(reading) => {
+            if has_block(reading, reader.block) && !is_repeated(reading) {
+                Some(reading)
+            } else {
+                None
+            }
+        }
+        None => None,
+    }
+}
+
+/// Whether the other reader found bytes in the block that this one, which has it, can't find there.
+fn finds_other(points: &Points<'_>, reading: &Point<'_>, block: u32, other: &Point<'_>) -> bool
+    requires { reading.now.first ≤ block }
+    ensures { IsTrue result → FindsOther (seen_table points.now) (seen reading.now) block (seen other.now) }
+{
+    match other.found {
+        Found::Bytes(payload) => {
+            let place = block.saturating_sub(other.first);
+            let bytes = bytes_at(points.block_size.bytes(), payload, place);
+            !may_find_there(points, reading, block, Content::Bytes(bytes))
+        }
+        _ => false,
+    }
+}
+
+/// Whether it is noted what was in the block at first, and the reader, which has it, can't find that.
+fn finds_not_first(points: &Points<'_>, known: &Known, reading: &Point<'_>, block: u32) -> bool
+    requires { reading.now.first ≤ block }
+    ensures { IsTrue result → FindsNotFirst (seen_table points.now) (noted (seen_table points.now) known.now) (seen reading.now) block }
+{
+    for first in &known.firsts {
+        if first.block == block {
+            if let Some(other) = point_at(points, first.point) {
+                if finds_other(points, reading, block, other) {
+                    return true;
+                }
+            }
+        }
+    }
+    false
+}
+
+/// Whether what the reader found, which has the block, was put, and isn't what was there at first.
+fn was_put(points: &Points<'_>, known: &Known, reading: &Point<'_>, reader: Node) -> bool
+    requires { reading.now.first ≤ reader.block }
+    ensures { IsTrue result → WasPut (seen_table points.now) (noted (seen_table points.now) known.now) (seen reading.now) reader.point reader.block }
+{
+    if let Some(writer) = last_writer(points, known, reader) {
+        if is_writer_before(points, known, writer, reader) {
+            return true;
+        }
+    }
+    !can_find_first(points, reading, reader.block)
+        || finds_not_first(points, known, reading, reader.block)
+        || has_noted_writer(points, known, reader)
+}
+
+/// Whether what the reader found was put, and of the other points none but the writer can have put it.
+pub(crate) fn is_source(points: &Points<'_>, known: &Known, writer: u32, reader: Node) -> bool
+    ensures { IsTrue result → IsSource (seen_table points.now) (noted (seen_table points.now) known.now) writer reader.point reader.block }
+{
+    match reading_of(points, reader) {
+        Some(reading) => {
+            was_put(points, known, reading, reader)
+                && no_other_serves(points, known, reading, reader, writer)
+        }
+        None => false,
+    }
+}
+
+/// Whether none of the other points can have put what the reader found.
+pub(crate) fn is_unserved(points: &Points<'_>, known: &Known, reader: Node) -> bool
+    ensures { IsTrue result → IsUnserved (seen_table points.now) (noted (seen_table points.now) known.now) reader.point reader.block }
+{
+    match reading_of(points, reader) {
+        Some(reading) => no_other_serves(points, known, reading, reader, reader.point),
+        None => false,
+    }
+}

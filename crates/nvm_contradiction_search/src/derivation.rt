@@ -1,0 +1,490 @@
+use crate::absurd::{Absurd, absurd_of};
+use crate::derived::{Derived, Rule};
+use crate::grounds::Grounds;
+use crate::history::History;
+use crate::settling::{Condition, Settled, Whose, who_put};
+use crate::sought::Sought;
+use crate::window::{Window, WindowFind};
+use nvm_points::Put;
+use nvm_record::NoMemory;
+use nvm_steps::{Orders, PlaceSet};
+use std::alloc::Global;
+use std::mem;
+
+/// What was derived of a window's nodes.
+#[derive(Drop)]
+pub struct Derivation {
+    /// Each after what it follows from.
+    pub derived: Vec<Derived>,
+    /// For each node where in `derived` it is the earlier one.
+    pub leaving: Vec<Vec<usize>>,
+    pub orders: Orders,
+    /// For each node that isn't surely there where in `derived` it is said whose source it is.
+    pub there: Vec<Option<usize>>,
+    /// For each find who put it, once that is known.
+    settled: Vec<Option<Settled>>,
+    /// For each block the nodes that surely put something there, as far as it is known.
+    sure: Vec<PlaceSet>,
+    /// Whether one was added since all finds were gone through.
+    is_more_sure: bool,
+    /// For each block where in `derived` it is said what was there at first.
+    firsts: Vec<Option<AtFirst>>,
+    /// For each node those that are derived to come after it.
+    laters: Vec<PlaceSet>,
+}
+
+/// What was in a block at first, and where in `derived` it is said.
+#[derive(Clone, Copy)]
+struct AtFirst {
+    value: u32,
+    index: usize,
+}
+
+/// The places that are in the first two sets and not in the third.
+fn among(
+    alloc: Global,
+    places: Option<&PlaceSet>,
+    kept: Option<&PlaceSet>,
+    known: Option<&PlaceSet>,
+) -> Result<Vec<usize>, NoMemory> {
+    let (Some(places), Some(kept), Some(known)) = (places, kept, known) else {
+        return Ok(Vec::new(alloc));
+    };
+    let mut among = places.copy(alloc)?;
+    among.keep(kept);
+    among.remove(known);
+    among.places(alloc)
+}
+
+impl Derivation {
+    /// What follows from the times alone.
+    fn new(alloc: Global, window: &Window) -> Result<Derivation, NoMemory> {
+        let places = window.members.len();
+        let mut leaving = Vec::with_capacity(alloc, places)?;
+        let mut laters = Vec::with_capacity(alloc, places)?;
+        for _place in 0..places {
+            leaving.push(Vec::new(alloc))?;
+            laters.push(PlaceSet::new(alloc, places)?)?;
+        }
+        let mut settled = Vec::with_capacity(alloc, window.finds.len())?;
+        for _find in &window.finds {
+            settled.push(None)?;
+        }
+        let mut sure = Vec::with_capacity(alloc, window.sure.len())?;
+        let mut firsts = Vec::with_capacity(alloc, window.sure.len())?;
+        for set in &window.sure {
+            sure.push(set.copy(alloc)?)?;
+            firsts.push(None)?;
+        }
+        Ok(Derivation {
+            derived: Vec::new(alloc),
+            leaving,
+            orders: Orders::new(alloc, &window.next)?,
+            there: vec![in alloc; None; places]?,
+            settled,
+            sure,
+            is_more_sure: false,
+            firsts,
+            laters,
+        })
+    }
+
+    /// Puts it with the others, if nothing is known of the two. What follows from it isn't noted yet.
+    fn put(&mut self, earlier: usize, later: usize, by: Rule) -> Result<(), NoMemory> {
+        let known = match self.laters.get(earlier) {
+            Some(laters) => laters.has(later),
+            None => true,
+        };
+        if known || self.orders.has(earlier, later) {
+            return Ok(());
+        }
+        self.put_anyway(earlier, later, by)
+    }
+
+    fn put_anyway(&mut self, earlier: usize, later: usize, by: Rule) -> Result<(), NoMemory> {
+        let index = self.derived.len();
+        let derived = Derived { earlier, later, by };
+        if derived.is_order() {
+            if let Some(laters) = self.laters.get_mut(earlier) {
+                laters.put(later);
+            }
+            if let Some(leaving) = self.leaving.get_mut(earlier) {
+                leaving.push(index)?;
+            }
+        }
+        self.derived.push(derived)?;
+        Ok(())
+    }
+
+    /// What comes before what by what the table says of two nodes alone.
+    fn put_given(&mut self, window: &Window, history: &History<'_, '_>) -> Result<(), NoMemory> {
+        for (place, member) in window.members.iter().enumerate() {
+            let Some(point) = history.point(member.point) else {
+                continue;
+            };
+            if point.after && member.point > 0 {
+                let before = window.place(history, member.point - 1, member.block);
+                if let Some(before) = before {
+                    self.put(before, place, Rule::Own)?;
+                }
+            }
+            if let (Put::Deallocated, Some(over), Ok(block)) = (
+                point.put,
+                point.over,
+                window.blocks.binary_search(&member.block),
+            ) {
+                for later in 0..window.members.len() {
+                    let is_later = match (window.members.get(later), window.sure.get(block)) {
+                        (Some(writer), Some(sure)) => over < writer.from && sure.has(later),
+                        _ => false,
+                    };
+                    if is_later {
+                        self.put(place, later, Rule::Deallocate)?;
+                    }
+                }
+            }
+        }
+        Ok(())
+    }
+
+    /// Whether it is known that the node is there.
+    pub fn is_there(&self, window: &Window, history: &History<'_, '_>, place: usize) -> bool {
+        match (window.members.get(place), self.there.get(place)) {
+            (Some(member), Some(there)) => there.is_some() || history.is_there(member.point),
+            _ => false,
+        }
+    }
+
+    /// What is known to have been in the find's block at first, if it isn't what was found.
+    fn other_first(&self, find: &WindowFind) -> Option<AtFirst> {
+        match self.firsts.get(find.block) {
+            Some(Some(first)) if !find.sought.may_be(first.value) => Some(*first),
+            _ => None,
+        }
+    }
+
+    /// Who put what was found, if that is known by now and wasn't before.
+    fn newly_settled(
+        &self,
+        alloc: Global,
+        window: &Window,
+        place: usize,
+    ) -> Result<Option<Settled>, NoMemory> {
+        let Some(find) = window.finds.get(place) else {
+            return Ok(None);
+        };
+        let is_other = self.other_first(find).is_some();
+        match self.whose(place) {
+            Some(Whose::First) if is_other => {}
+            Some(_) => return Ok(None),
+            None => {}
+        }
+        match self.sure.get(find.block) {
+            Some(sure) => who_put(alloc, &self.orders, find, sure, is_other),
+            None => Ok(None),
+        }
+    }
+
+    /// Settles who put what was found, if that is known by now and wasn't before.
+    fn settle(&mut self, alloc: Global, window: &Window, place: usize) -> Result<bool, NoMemory> {
+        let Some(new) = self.newly_settled(alloc, window, place)? else {
+            return Ok(false);
+        };
+        if let Some(settled) = self.settled.get_mut(place) {
+            *settled = Some(new);
+        }
+        Ok(true)
+    }
+
+    /// Who put what was found, if it is settled.
+    pub fn whose(&self, find: usize) -> Option<Whose> {
+        match self.settled.get(find) {
+            Some(Some(settled)) => Some(settled.whose),
+            _ => None,
+        }
+    }
+
+    /// What a find gives by itself once it is settled.
+    fn put_settled(
+        &mut self,
+        alloc: Global,
+        window: &Window,
+        history: &History<'_, '_>,
+        place: usize,
+    ) -> Result<(), NoMemory> {
+        let Some(find) = window.finds.get(place) else {
+            return Ok(());
+        };
+        match self.whose(place) {
+            Some(Whose::Writer(source)) => {
+                let by = Rule::Source { find: place };
+                if self.is_there(window, history, source) {
+                    return self.put(source, find.reader, by);
+                }
+                if let Some(there) = self.there.get_mut(source) {
+                    *there = Some(self.derived.len());
+                }
+                if let Some(sure) = self.sure.get_mut(find.block) {
+                    sure.put(source);
+                    self.is_more_sure = true;
+                }
+                self.put_anyway(source, find.reader, by)
+            }
+            Some(Whose::First) => {
+                self.put_at_first(find, place)?;
+                self.put_first(alloc, find, place)
+            }
+            Some(Whose::Nobody) | None => Ok(()),
+        }
+    }
+
+    /// That what was found was in its block at first.
+    fn put_at_first(&mut self, find: &WindowFind, place: usize) -> Result<(), NoMemory> {
+        let (Sought::Value(value), Some(None)) = (find.sought, self.firsts.get(find.block)) else {
+            return Ok(());
+        };
+        let index = self.derived.len();
+        if let Some(first) = self.firsts.get_mut(find.block) {
+            *first = Some(AtFirst { value, index });
+        }
+        self.put_anyway(find.reader, find.reader, Rule::AtFirst { find: place })
+    }
+
+    /// That the reader of a block's first content comes before those that surely put others there.
+    fn put_first(
+        &mut self,
+        alloc: Global,
+        find: &WindowFind,
+        place: usize,
+    ) -> Result<(), NoMemory> {
+        let Some(sure) = self.sure.get(find.block) else {
+            return Ok(());
+        };
+        for later in &sure.places(alloc)? {
+            if *later != find.reader {
+                self.put(find.reader, *later, Rule::First { find: place })?;
+            }
+        }
+        Ok(())
+    }
+
+    /// What a find gives of the sure writers of its block that come after its source.
+    fn put_over(
+        &mut self,
+        alloc: Global,
+        window: &Window,
+        place: usize,
+        source: usize,
+    ) -> Result<(), NoMemory> {
+        let Some(find) = window.finds.get(place) else {
+            return Ok(());
+        };
+        let writers = among(
+            alloc,
+            self.sure.get(find.block),
+            self.orders.after(source),
+            self.orders.after(find.reader),
+        )?;
+        for writer in &writers {
+            if *writer != source && *writer != find.reader {
+                self.put(find.reader, *writer, Rule::Over { find: place })?;
+            }
+        }
+        Ok(())
+    }
+
+    /// What a find gives of the sure writers of its block that come before its reader.
+    fn put_under(
+        &mut self,
+        alloc: Global,
+        window: &Window,
+        place: usize,
+        source: usize,
+    ) -> Result<(), NoMemory> {
+        let Some(find) = window.finds.get(place) else {
+            return Ok(());
+        };
+        let writers = among(
+            alloc,
+            self.sure.get(find.block),
+            self.orders.before(find.reader),
+            self.orders.before(source),
+        )?;
+        for writer in &writers {
+            if *writer != source && *writer != find.reader {
+                self.put(*writer, source, Rule::Under { find: place })?;
+            }
+        }
+        Ok(())
+    }
+
+    /// What the ties give.
+    fn put_ties(&mut self, window: &Window) -> Result<(), NoMemory> {
+        for tie in &window.ties {
+            let mut before = None;
+            let mut after = None;
+            for reader in &tie.readers {
+                if before.is_none() && self.orders.has(*reader, tie.entry) {
+                    before = Some(*reader);
+                }
+                if after.is_none() && self.orders.has(tie.entry, *reader) {
+                    after = Some(*reader);
+                }
+            }
+            for reader in &tie.readers {
+                if let Some(by) = before {
+                    if by != *reader {
+                        self.put(*reader, tie.entry, Rule::TiedBefore { by })?;
+                    }
+                }
+                if let Some(by) = after {
+                    if by != *reader {
+                        self.put(tie.entry, *reader, Rule::TiedAfter { by })?;
+                    }
+                }
+            }
+        }
+        Ok(())
+    }
+
+    /// Notes what follows from what was derived from this place on.
+    fn note_from(&mut self, alloc: Global, from: usize) -> Result<(), NoMemory> {
+        for index in from..self.derived.len() {
+            let derived = self.derived[index];
+            if derived.is_order() {
+                self.orders.note(alloc, derived.earlier, derived.later)?;
+            }
+        }
+        Ok(())
+    }
+
+    /// Applies all rules once, by what changed since the last time, and says whether anything was new.
+    fn put_round(
+        &mut self,
+        alloc: Global,
+        window: &Window,
+        history: &History<'_, '_>,
+    ) -> Result<bool, NoMemory> {
+        let changed = self.orders.take_changed(alloc)?;
+        let all = mem::replace(&mut self.is_more_sure, false);
+        let known = self.derived.len();
+        let mut is_new = all;
+        for (place, find) in window.finds.iter().enumerate() {
+            let settled = self.settle(alloc, window, place)?;
+            is_new = is_new || settled;
+            if !find.is_sure {
+                continue;
+            }
+            if settled {
+                self.put_settled(alloc, window, history, place)?;
+            }
+            match self.whose(place) {
+                Some(Whose::Writer(source)) => {
+                    if settled || all || changed.after.has(source) {
+                        self.put_over(alloc, window, place, source)?;
+                    }
+                    if settled || all || changed.before.has(find.reader) {
+                        self.put_under(alloc, window, place, source)?;
+                    }
+                }
+                Some(Whose::First) if all => self.put_first(alloc, find, place)?,
+                _ => {}
+            }
+        }
+        self.put_ties(window)?;
+        self.note_from(alloc, known)?;
+        Ok(is_new || self.is_more_sure || self.derived.len() > known)
+    }
+
+    /// What the rule of what was derived rests on.
+    pub fn grounds(
+        &self,
+        alloc: Global,
+        window: &Window,
+        derived: Derived,
+    ) -> Result<Grounds, NoMemory> {
+        let mut grounds = Grounds::new(alloc);
+        match derived.by {
+            Rule::Deallocate | Rule::Own => {}
+            Rule::Source { find } => self.put_grounds(&mut grounds, window, find)?,
+            Rule::First { find } => {
+                self.put_unserved(&mut grounds, find)?;
+                grounds.there.push(derived.later)?;
+            }
+            Rule::AtFirst { find } => self.put_unserved(&mut grounds, find)?,
+            Rule::Over { find } => {
+                self.put_grounds(&mut grounds, window, find)?;
+                grounds.there.push(derived.later)?;
+                if let Some(Whose::Writer(source)) = self.whose(find) {
+                    grounds.conditions.push(Condition {
+                        earlier: source,
+                        later: derived.later,
+                    })?;
+                }
+            }
+            Rule::Under { find } => {
+                self.put_grounds(&mut grounds, window, find)?;
+                grounds.there.push(derived.earlier)?;
+                if let Some(its) = window.finds.get(find) {
+                    grounds.conditions.push(Condition {
+                        earlier: derived.earlier,
+                        later: its.reader,
+                    })?;
+                }
+            }
+            Rule::TiedBefore { by } => grounds.conditions.push(Condition {
+                earlier: by,
+                later: derived.later,
+            })?,
+            Rule::TiedAfter { by } => grounds.conditions.push(Condition {
+                earlier: derived.earlier,
+                later: by,
+            })?,
+        }
+        Ok(grounds)
+    }
+
+    /// Puts down why no other can have put what was found.
+    fn put_unserved(&self, grounds: &mut Grounds, find: usize) -> Result<(), NoMemory> {
+        if let Some(Some(settled)) = self.settled.get(find) {
+            grounds.conditions.extend_from_slice(&settled.conditions)?;
+            grounds.there.extend_from_slice(&settled.writers)?;
+        }
+        Ok(())
+    }
+
+    /// Puts down why no other can have put what was found, and why it wasn't there at first.
+    pub fn put_grounds(
+        &self,
+        grounds: &mut Grounds,
+        window: &Window,
+        find: usize,
+    ) -> Result<(), NoMemory> {
+        self.put_unserved(grounds, find)?;
+        if let (Some(Some(settled)), Some(its)) = (self.settled.get(find), window.finds.get(find)) {
+            if let (true, Some(first)) = (settled.is_other, self.other_first(its)) {
+                grounds.derived.push(first.index)?;
+            }
+        }
+        Ok(())
+    }
+}
+
+/// Derives what comes before what in the window, until something can't be or nothing more follows, and gives what can't be.
+pub fn derive(
+    alloc: Global,
+    window: &Window,
+    history: &History<'_, '_>,
+) -> Result<(Derivation, Vec<Absurd>), NoMemory> {
+    let mut derivation = Derivation::new(alloc, window)?;
+    derivation.put_given(window, history)?;
+    derivation.note_from(alloc, 0)?;
+    for _round in 0..u32::MAX {
+        let is_new = derivation.put_round(alloc, window, history)?;
+        let absurd = absurd_of(alloc, window, history, &derivation)?;
+        if !is_new || !absurd.is_empty() {
+            return Ok((derivation, absurd));
+        }
+    }
+    Ok((derivation, Vec::new(alloc)))
+}

@@ -1,0 +1,227 @@
+//! Reasons as a contradiction in the words of nvm_contradiction.
+use crate::absurd::Absurd;
+use crate::derivation::Derivation;
+use crate::derived::{Derived, Rule};
+use crate::history::History;
+use crate::paths::Link;
+use crate::reasons::Reasons;
+use crate::settling::Whose;
+use crate::window::Window;
+use nvm_contradiction::{Conclusion, Contradiction, Fact, Node};
+use nvm_points::Put;
+use nvm_record::NoMemory;
+use std::alloc::Global;
+
+/// Where so many others can have put what was found, it is said why they can't have.
+const FEW: usize = 2;
+
+/// Puts the fact at the end, if it isn't there.
+fn put_once(facts: &mut Vec<Fact>, fact: Fact) -> Result<(), NoMemory> {
+    if !facts.contains(&fact) {
+        facts.push(fact)?;
+    }
+    Ok(())
+}
+
+/// What is so by the times, as a fact.
+fn time_fact(window: &Window, link: Link) -> Option<Fact> {
+    Some(Fact::Time {
+        earlier: window.node(link.earlier)?,
+        later: window.node(link.later)?,
+    })
+}
+
+/// The number of the point of a window's node.
+fn point_of(window: &Window, place: usize) -> Option<u32> {
+    Some(window.node(place)?.point)
+}
+
+/// The block of a find.
+fn block_of(window: &Window, find: usize) -> Option<u32> {
+    let at = window.finds.get(find)?.block;
+    Some(*window.blocks.get(at)?)
+}
+
+/// The point that put what was found.
+fn source_of(window: &Window, derivation: &Derivation, find: usize) -> Option<u32> {
+    match derivation.whose(find) {
+        Some(Whose::Writer(source)) => point_of(window, source),
+        _ => None,
+    }
+}
+
+/// What was derived, as a fact.
+fn derived_fact(window: &Window, derivation: &Derivation, derived: Derived) -> Option<Fact> {
+    let earlier = window.node(derived.earlier)?;
+    let later = window.node(derived.later)?;
+    Some(match derived.by {
+        Rule::Deallocate => Fact::Deallocate {
+            deallocate: earlier.point,
+            writer: later.point,
+            block: earlier.block,
+        },
+        Rule::Own => Fact::Own {
+            later: later.point,
+            block: later.block,
+        },
+        Rule::Source { find } => Fact::Source {
+            writer: earlier.point,
+            reader: later.point,
+            block: block_of(window, find)?,
+        },
+        Rule::Over { find } => Fact::Over {
+            reader: earlier.point,
+            writer: later.point,
+            block: block_of(window, find)?,
+            source: source_of(window, derivation, find)?,
+        },
+        Rule::Under { find } => Fact::Under {
+            writer: earlier.point,
+            source: later.point,
+            block: block_of(window, find)?,
+            reader: point_of(window, window.finds.get(find)?.reader)?,
+        },
+        Rule::First { find } => Fact::First {
+            reader: earlier.point,
+            writer: later.point,
+            block: block_of(window, find)?,
+        },
+        Rule::AtFirst { find } => Fact::AtFirst {
+            reader: earlier.point,
+            block: block_of(window, find)?,
+        },
+        Rule::TiedBefore { by } => Fact::TiedBefore {
+            reader: earlier.point,
+            block: earlier.block,
+            entry: later.point,
+            by: window.node(by)?.block,
+        },
+        Rule::TiedAfter { by } => Fact::TiedAfter {
+            entry: earlier.point,
+            reader: later.point,
+            block: later.block,
+            by: window.node(by)?.block,
+        },
+    })
+}
+
+/// What can't be, as a conclusion.
+fn conclusion_of(window: &Window, absurd: &Absurd) -> Option<Conclusion> {
+    Some(match absurd {
+        Absurd::Loop { .. } => Conclusion::Loop,
+        Absurd::Nobody { find } => Conclusion::Nobody {
+            reader: point_of(window, window.finds.get(*find)?.reader)?,
+            block: block_of(window, *find)?,
+        },
+        Absurd::Nowhere { finds } => Conclusion::Nowhere {
+            reader: point_of(window, window.finds.get(*finds.first()?)?.reader)?,
+        },
+    })
+}
+
+/// Why the point can't have put what the reader found in the block, if it can't by the times: it began after the reader's time was over,
+/// or the writer surely put the block between them. That goes without saying, if it isn't a Deallocate.
+fn put_excuse(
+    facts: &mut Vec<Fact>,
+    history: &History<'_, '_>,
+    reader: Node,
+    block: u32,
+    server: u32,
+    is_said: bool,
+) -> Result<(), NoMemory> {
+    let served = history.node(server, block);
+    if history.until(reader.point) < history.from(server) {
+        return put_time(facts, reader, served, is_said);
+    }
+    let writer = history.last_sure(block, history.from(reader.point));
+    let (Some(writer), Some(point)) = (writer, history.point(server)) else {
+        return Ok(());
+    };
+    let between = history.node(writer, block);
+    match point.put {
+        Put::Deallocated => put_once(
+            facts,
+            Fact::Deallocate {
+                deallocate: server,
+                writer,
+                block,
+            },
+        )?,
+        _ => put_time(facts, served, between, is_said)?,
+    }
+    put_time(facts, between, reader, is_said)
+}
+
+/// Puts at the end that the one is before the other by the times, if that is to be said.
+fn put_time(
+    facts: &mut Vec<Fact>,
+    earlier: Node,
+    later: Node,
+    is_said: bool,
+) -> Result<(), NoMemory> {
+    if is_said {
+        put_once(facts, Fact::Time { earlier, later })?;
+    }
+    Ok(())
+}
+
+/// Why those that can have put what was found, and aren't in question by the times, aren't. What goes without saying is said where they are
+/// few.
+fn put_excuses(
+    alloc: Global,
+    facts: &mut Vec<Fact>,
+    history: &History<'_, '_>,
+    window: &Window,
+    number: usize,
+) -> Result<(), NoMemory> {
+    let Some(find) = window.finds.get(number) else {
+        return Ok(());
+    };
+    let (Some(reader), Some(block)) = (window.node(find.reader), block_of(window, number)) else {
+        return Ok(());
+    };
+    let servers = history.all_servers(alloc, reader.point, block, find.sought)?;
+    let is_said = servers.len() <= FEW;
+    for server in &servers {
+        let is_in_question = match window.place(history, *server, block) {
+            Some(place) => find.writers.contains(&place),
+            None => false,
+        };
+        if !is_in_question {
+            put_excuse(facts, history, reader, block, *server, is_said)?;
+        }
+    }
+    Ok(())
+}
+
+/// The reasons why it can't be, as a contradiction.
+pub fn told(
+    alloc: Global,
+    history: &History<'_, '_>,
+    window: &Window,
+    derivation: &Derivation,
+    absurd: &Absurd,
+    reasons: &Reasons,
+) -> Result<Option<Contradiction>, NoMemory> {
+    let mut facts = Vec::new(alloc);
+    for link in &reasons.times {
+        if let Some(fact) = time_fact(window, *link) {
+            put_once(&mut facts, fact)?;
+        }
+    }
+    for find in &reasons.finds.places(alloc)? {
+        put_excuses(alloc, &mut facts, history, window, *find)?;
+    }
+    for index in &reasons.derived {
+        let Some(derived) = derivation.derived.get(*index) else {
+            continue;
+        };
+        if let Some(fact) = derived_fact(window, derivation, *derived) {
+            put_once(&mut facts, fact)?;
+        }
+    }
+    let Some(conclusion) = conclusion_of(window, absurd) else {
+        return Ok(None);
+    };
+    Ok(Some(Contradiction { facts, conclusion }))
+}
