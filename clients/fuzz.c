@@ -16,7 +16,11 @@
 
 #include "entries.h"
 
-enum { MOST_THREADS = 8, STEPS = 400, ROOM = 1 << 20, CODES = ZK_NO_VERSIONS + 1 };
+#ifndef FUZZ_ROOM
+#define FUZZ_ROOM (1 << 20)
+#endif
+
+enum { MOST_THREADS = 8, STEPS = 400, ROOM = FUZZ_ROOM, CODES = ZK_NO_VERSIONS + 1 };
 
 /* What one thread knows of a namespace. The blocks in its own zone are changed by nobody else. Those from `shared` up are
  * changed by all threads, and the others by one other thread each. Each zone is whole atomic units. */
@@ -63,9 +67,18 @@ struct worker {
 
 #define BIT(code) (1u << (code))
 
-/* A random number below `end`. */
+/* Bytes that choose in the place of random numbers, where one thread is alone: fuzz/calls.c sets them. */
+static const uint8_t *choices, *choices_end;
+
+/* A random number below `end`, or one that follows from as many of the bytes that are given as it may need; behind the last it is 0. */
 static uint64_t below(struct worker *w, uint64_t end)
 {
+    if (choices) {
+        size_t count = end <= 1 << 8 ? 1 : end <= 1 << 16 ? 2 : 4, left = (size_t)(choices_end - choices);
+        uint64_t number = little(choices, count < left ? count : left);
+        choices += count < left ? count : left;
+        return number % end;
+    }
     w->random ^= w->random >> 12;
     w->random ^= w->random << 25;
     w->random ^= w->random >> 27;
@@ -758,7 +771,7 @@ static bool read_back(struct worker *w, struct space *s)
 static void *work(void *given)
 {
     struct worker *w = given;
-    for (int step = 0; step < STEPS; step++) {
+    for (int step = 0; step < STEPS && (!choices || choices < choices_end); step++) {
         struct space *s = &w->spaces[below(w, 2)];
         uint64_t kind = below(w, 100);
         if (!(kind < 80 ? try_submit(w, s) : kind < 92 ? try_read_now(w, s, false) : kind < 96 ? try_idle_poll(w, s)
