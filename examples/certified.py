@@ -19,10 +19,11 @@ HERE = os.path.dirname(os.path.realpath(__file__))
 TOP = os.path.dirname(HERE)
 
 sys.dont_write_bytecode = True
-sys.path[:0] = [HERE, os.path.join(TOP, "sweep")]
+sys.path[:0] = [HERE, os.path.join(TOP, "sweep"), os.path.join(TOP, "bench", "standard")]
 
 from all_orders import is_explained
 from devices import BUGS, CLEARED, STRICT, TORN, crossing, left, trace_of
+import judge as standard
 from host_files import compare, dataset, pair, read, uncorrectable, write, zeroes
 from model import READ, WRITE, Namespace
 from simulated import PLANTED, device_trace, small_trace
@@ -36,13 +37,20 @@ EXPLAINED, CONTRADICTION, UNKNOWN = "explained", "contradiction", "unknown"
 STATUSES = {EXPLAINED: 0, CONTRADICTION: 2, UNKNOWN: 3}
 PERHAPS = (EXPLAINED, UNKNOWN)
 ERROR = ((0, 6),)
+# Up to so many commands a trace is judged by the standard's page, choice by choice and order by order.
+SHORT = 40
 
 
 def contradiction(commands, unit=0):
     return f"{CONTRADICTION} unit {unit} commands {commands}\n"
 
 
-# How many commands show each of the bugs. No rule of an argument speaks of marks that are found, nor of comparisons that failed.
+def ordered(jobs):
+    """How the text begins of a trace of so many jobs that no record explains, and an order by the standard does."""
+    return f"{EXPLAINED} jobs {jobs} points "
+
+
+# How many commands show each of the bugs, of which the standard lets a device leave a mark.
 BUGS_SHOWN_BY = {
     "a stale read": 3,
     "a lost write": 2,
@@ -232,7 +240,7 @@ so job 0 stands before itself
         (),
         explained_by(9, 10),
     ),
-    *((BUGS[name][0], (), UNKNOWN if count is None else contradiction(count)) for name, count in BUGS_SHOWN_BY.items()),
+    *((BUGS[name][0], (), contradiction(count) if count else ordered(len(BUGS[name][0].jobs))) for name, count in BUGS_SHOWN_BY.items()),
     # Nothing was done, and one Read found the zeroes that were there.
     (trace_of(), (), EXPLAINED),
     (trace_of(sent(1, 2, read(0, 1), found=(0,))), (), EXPLAINED),
@@ -243,8 +251,9 @@ so job 0 stands before itself
     # A Read may be torn where the trace says that each of its blocks has a moment of its own, and strictly it may not.
     (replace(TORN, by_blocks=True), (), EXPLAINED),
     (replace(TORN, by_blocks=True), (STRICT,), contradiction(3)),
-    # A success that no check allows can't be, and the job is named.
-    (trace_of(sent(1, 2, write(0, 0x41)), sent(3, 4, write(1_000, 0x41))), (), f"{UNKNOWN} job 1\n"),
+    # A success that no check allows can't be in a record, and the job is named.
+    (trace_of(sent(1, 2, write(0, 0x41)), sent(3, 4, write(1_000, 0x41))), (STRICT,), f"{UNKNOWN} job 1\n"),
+    (trace_of(sent(1, 2, write(0, 0x41)), sent(3, 4, write(1_000, 0x41))), (), ordered(2)),
     # A Write that never ended, or ended in an error that leaves open what was done, is done or not, and is not undone.
     *((written(None, *found), (), EXPLAINED) for found in ((0x41,), (0,), (0, 0x41))),
     *((written(2, *found, statuses=ERROR), (), EXPLAINED) for found in ((0x41,), (0,))),
@@ -258,10 +267,13 @@ so job 0 stands before itself
     # A Deallocate over two units has a moment in each, and the unfinished one is done in any of them. Of the finished one both are seen.
     (trace_of(*CLEARED), (), EXPLAINED),
     *((left(*found), words, EXPLAINED) for found in ((0x41, 0x41), (0, 0x41), (0x41, 0), (0, 0)) for words in ((), (STRICT,))),
-    (
-        trace_of(sent(1, 2, write(7, 0x41)), sent(1, 2, write(8, 0x41)), sent(3, 4, dataset((7, 2))), sent(5, 6, read(8, 1), found=(0x41,))),
-        (),
-        contradiction(3, unit=1),
+    *(
+        (
+            trace_of(sent(1, 2, write(7, 0x41)), sent(1, 2, write(8, 0x41)), sent(3, 4, dataset((7, 2))), sent(5, 6, read(8, 1), found=(0x41,))),
+            words,
+            verdict,
+        )
+        for words, verdict in (((), ordered(4)), ((STRICT,), contradiction(3, unit=1)))
     ),
     # So is a Write over two units.
     *((crossing(*found), words, EXPLAINED) for found in ((0x41, 0), (0, 0x41)) for words in ((), (STRICT,))),
@@ -272,7 +284,7 @@ so job 0 stands before itself
     # A Compare over two units fails in the one or in the other.
     (trace_of(sent(1, 2, write(8, 0x41)), sent(3, 4, compare(7, 0, 0), statuses=(DIFFERS,))), (), PERHAPS),
     (trace_of(sent(1, 2, uncorrectable(8, 1)), sent(3, 4, read(7, 2), statuses=(MARKED,))), (), explained_by(2, 3)),
-    (trace_of(sent(1, 2, read(7, 2), statuses=(MARKED,))), (), UNKNOWN),
+    (trace_of(sent(1, 2, read(7, 2), statuses=(MARKED,))), (), ordered(1)),
     # Two Writes over two units in opposite orders: each unit keeps its own, and a record of it wants two workers.
     (
         trace_of(
@@ -289,9 +301,11 @@ so job 0 stands before itself
     (trace_of(sent(1, 2, read(0, 1), found=(0x41,)), sent(3, 4, read(0, 1), found=(0x42,)), unknown=True), (), UNKNOWN),
     (trace_of(sent(1, 2, read(9, 2), found=(0x77, 0)), sent(3, 4, write(9, 0x78)), sent(5, 6, read(9, 1), found=(0x78,)), unknown=True), (), explained_by(3, 4, 1)),
     (trace_of(sent(1, 2, compare(0, 0x41), statuses=(DIFFERS,)), sent(3, 4, compare(0, 0), statuses=(DIFFERS,)), unknown=True), (), PERHAPS),
-    # What a check refuses does nothing, and its success is a fault that no argument shows.
+    # What a check refuses does nothing in a record.
     (trace_of(sent(1, 2, read(40, 1), statuses=((0, 0x80),))), (), EXPLAINED),
-    (trace_of(sent(1, 2, zeroes(40, 1))), (), UNKNOWN),
+    (trace_of(sent(1, 2, zeroes(40, 1))), (), ordered(1)),
+    # No order is looked for strictly.
+    (trace_of(sent(1, 2, zeroes(40, 1))), (STRICT,), UNKNOWN),
     # One of two pairs holds, and the Read finds what it wrote.
     (
         trace_of(
@@ -339,7 +353,8 @@ def answer(folder, name, *words):
 
 
 def certified(folder, trace, words=()):
-    """The text of the verdict on a trace. It is held to all orders of the trace's steps, and what is explained to the witness."""
+    """The text of the verdict on a trace. It is held to all orders of the trace's steps and, where these give none, to the standard's page; what is
+    explained is held to the witness."""
     kept, record, argument = (f"{os.getpid()}.{kind}" for kind in ("nvt", "nvr", "nva"))
     with open(os.path.join(folder, kept), "wb") as file:
         file.write(spelled(trace))
@@ -347,10 +362,21 @@ def certified(folder, trace, words=()):
     verdict, judging = text.split()[0], [it for it in words if it == STRICT]
     hold("status", status, STATUSES[verdict])
     hold("a record", os.path.exists(os.path.join(folder, record)), verdict == EXPLAINED)
-    hold("an argument", os.path.exists(os.path.join(folder, argument)), verdict == CONTRADICTION)
+    is_ordered, is_reply = " points " in text.splitlines()[0], text.startswith(f"{CONTRADICTION} job")
+    hold("an argument", os.path.exists(os.path.join(folder, argument)), verdict == CONTRADICTION and not is_reply)
     status, told = answer(folder, "nvq", "certify", *words, "--json", kept)
     hold("the object's status and text", (status, text_of_object(told)), (STATUSES[verdict], text))
-    if verdict == EXPLAINED:
+    if STRICT not in words and (is_ordered or verdict == CONTRADICTION):
+        hold("the standard says otherwise", by_the_standard(trace) == ("contradicted" if is_ordered else EXPLAINED), False)
+    if is_ordered or is_reply:
+        hold("judged strictly", STRICT in words, False)
+        hold("explained by some record", is_explained(trace) and "no record does" in text, False)
+    if is_ordered:
+        hold("witness", answer(folder, "nvmu", "witness", kept, record), (0, f"{text.splitlines()[0]}\n"))
+        os.remove(os.path.join(folder, record))
+    elif is_reply:
+        pass
+    elif verdict == EXPLAINED:
         hold("explained by some order", is_explained(trace, STRICT in words), True)
         hold("witness", answer(folder, "nvmu", "witness", *judging, kept, record), (0, text))
         os.remove(os.path.join(folder, record))
@@ -364,6 +390,13 @@ def certified(folder, trace, words=()):
         hold("refute", answer(folder, "nvmu", "refute", *judging, kept, argument), (0, line))
         os.remove(os.path.join(folder, argument))
     return text
+
+
+def by_the_standard(trace):
+    """What the standard's page says of the trace, held to what `nvq certify` holds an order to, or nothing of a long one."""
+    if len(trace.jobs) > SHORT:
+        return None
+    return standard.verdict(*standard.trace(text_of(trace)), reads="by-blocks" if trace.by_blocks else "atomic")
 
 
 def held_to_numbers(trace, text):
@@ -399,7 +432,7 @@ def by_hand(folder):
     """The traces that were written by hand. Which of them are explained is what all orders say."""
     for trace, words, wanted in BY_HAND:
         wrong = judged(folder, trace, words, wanted)[1]
-        if is_explained(trace, STRICT in words) != (EXPLAINED in wanted):
+        if is_explained(trace, STRICT in words) != (EXPLAINED in wanted and " points " not in wanted):
             wrong = f"all orders say otherwise of\n{text_of(trace)}"
         yield wrong
 

@@ -17,6 +17,7 @@ WORDS = (
     "nvq is for people, and nvmu for other programs. Both have audit and witness, which print the same.",
     "An option's number is decimal, or hexadecimal after 0x. It may end in k, m or g, for 1,024, 1,048,576 or 1,073,741,824 times as much.",
     "A file whose name is - is written ./-.",
+    "A short input may ask for much: each Read of 65,536 blocks has a run hold 32 MiB and more, and all of an input is read before any of it is judged. Where you don't trust an input, set ulimit -v. Memory that is refused then is told as no memory, with status 1, or ends a command with 0/06.",
 )
 DONE = "What was asked for was done."
 FAULT = "A fault, which is told on standard error."
@@ -27,13 +28,13 @@ EXITS = {
             DONE,
             "run: all jobs were done, whatever their statuses.",
             "audit: the record is lawful.",
-            "witness: the record explains the trace.",
+            "witness: the record or the order explains the trace.",
             "refute: the argument shows that no record explains the trace.",
         ),
         (FAULT,),
         (
             "audit: the record is unlawful.",
-            "witness: the record doesn't explain the trace.",
+            "witness: the record or the order doesn't explain the trace.",
             "refute: the argument doesn't show that no record explains the trace.",
         ),
     ),
@@ -42,7 +43,7 @@ EXITS = {
             DONE,
             "audit: the record is lawful.",
             "witness: the record explains the trace.",
-            "certify: a record explains the trace.",
+            "certify: a record or an order explains the trace.",
             "run: the commands were done; with --check they ended as the lists expect.",
             "explain: also where the record is unlawful.",
         ),
@@ -50,10 +51,10 @@ EXITS = {
         (
             "audit: the record is unlawful.",
             "witness: the record doesn't explain the trace.",
-            "certify: nothing explains the trace.",
+            "certify: no record explains the trace, and no order was found.",
             "run --check: a command didn't end as its list expects.",
         ),
-        ("certify: it isn't known whether a record explains the trace.",),
+        ("certify: it isn't known whether anything explains the trace.",),
     ),
 }
 # What the examples read, as their user wrote it.
@@ -72,11 +73,11 @@ EXAMPLES = {
             ["nvq audit own.nvr", "nvq explain own.nvr"],
         ),
         (
-            "Say whether a record explains what the hosts of a device saw, and keep that:",
+            "Say whether a record or an order explains what the hosts of a device saw, and keep that:",
             ["nvq trace own.txt own.nvt", "nvq certify --record found.nvr own.nvt"],
         ),
         (
-            "Keep the argument that nothing explains it:",
+            "Keep the argument that no record explains it:",
             [
                 "nvq trace wrong.txt wrong.nvt",
                 "nvq certify --argument wrong.nva wrong.nvt",

@@ -14,13 +14,16 @@ import tempfile
 
 TOP = os.path.dirname(os.path.dirname(os.path.realpath(__file__)))
 FAULTS = ("nvq: ", "nvmu: ")
-COMMANDS = ("./", "crates/", "examples/", "edits/", "bench/", "sweep/", "mkdir ", "printf ", "cat > ", "sed 's", "sed -i ", "cp ", "(cd ", "rt ", "git ", "nvq ", "nvq-view ", "nvmu ", "zalkvorn-", "gcc ", "clients/", "apt-get ", "nbdkit ")
+COMMANDS = ("./", "crates/", "examples/", "edits/", "bench/", "sweep/", "fuzz/", "mkdir ", "printf ", "cat > ", "sed 's", "sed -i ", "cp ", "(cd ", "rt ", "git ", "nvq ", "nvq-view ", "nvmu ", "zalkvorn-", "gcc ", "clients/", "apt-get ", "nbdkit ")
 # What isn't run as it stands, and what is run in its place: a word of itself, or nothing.
 APART = {
     "./test": None,  # the gate, which calls this
     "./package": None,  # clients/check-package tries what it makes
     "./build": None,  # the gate has proved and built all that it would
     "bench/": "--help",  # these take minutes
+    "fuzz/": "--help",
+    "sweep/many": "--help",
+    "./sanitize": "--help",  # this takes minutes, too
     "edits/try": "--help",
     "rt try": None,  # using.py does what that page says
     "gcc ": None,  # the library for C isn't built here; clients/check compiles and links all that these do

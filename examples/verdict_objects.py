@@ -6,6 +6,12 @@ The object has all that the text says, so the one must give the other to the byt
 import json
 
 EXPLAINED = ("jobs", "units", "steps", "excused", "preparations")
+ORDERED = ("jobs", "points", "reads", "deallocated")
+# What is said of records where an order explains the trace.
+RECORDS = {
+    "none explains it": "an order of points explains it, and no record does: Zalkvorn's own profile isn't kept",
+    "none was found": "an order of points explains it, and no record was found: Zalkvorn's own profile may not be kept",
+}
 REACHED = ("unit", "placed", "steps")
 # What stands below the first line of a verdict that is unknown.
 UNSHOWN = "each unit has an order, but the record that was made of them doesn't show this as its host saw it"
@@ -87,6 +93,9 @@ def text_of(printed):
         raise ValueError("the object isn't one line")
     told = json.loads(printed)
     verdict = told.pop("verdict")
+    if "records" in told:
+        known = RECORDS[told.pop("records")]
+        return f"explained{numbers(told, ORDERED)}\n{known}\n"
     if verdict == "explained":
         return f"explained{numbers(told, EXPLAINED)}\n"
     if verdict == "unknown":

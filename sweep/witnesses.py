@@ -7,7 +7,7 @@ import tempfile
 from auditor import all_faults, verdict
 from cases import Run
 from hints import MISSING, the_line, told
-from host_files import compare, file_of, pair, read, write, zeroes
+from host_files import compare, dataset, file_of, pair, read, write, zeroes
 from model import Namespace
 from record_explaining import lawful_explanation
 from recorded import recorded
@@ -51,6 +51,8 @@ def witnesses(kept):
         fault("a cut trace", whole[:-1], f"truncated at {len(whole) - 1024}"),
         fault("no trace", record_bytes(RECORD)[:2], "bad name"),
         Run("a missing trace", "nvmu", ["witness", missing, record], 1, err=f"nvmu: cannot read {missing}\n"),
+        Run("a trace that an order explains", "nvmu", ["witness", kept("keeping.nvt", spelled(KEEPING)), kept("keeping.nve", ORDER)], out=ORDERED),
+        Run("a cut order", "nvmu", ["witness", kept("keeping.nvt", spelled(KEEPING)), kept("cut.nve", ORDER[:-1])], 1, err=f"nvmu: order: truncated at {len(ORDER) - 1}\n"),
         Run("no record of a trace", "nvmu", ["witness", record], 1),
     ]
 
@@ -101,6 +103,12 @@ def explained(kept):
             f"as job 0 the trace has: {line_of(back, 0)}job 0 unit 0 point 0 entry began {back.jobs[0].began} ended {back.jobs[0].ended}\n"
             f"job 0 began at {back.jobs[0].began}, after job 2 had ended at 2, and stands before it in unit 0\n",
         ),
+        Run(
+            "a trace and an order",
+            "nvq",
+            ["explain", kept("keeping.nvt", spelled(KEEPING)), kept("keeping.nve", ORDER)],
+            out=f"{ORDERED}position 0 point 0 lba 0 blocks 1 job 0 puts 512*41\nposition 1 point 2 lba 0 blocks 1 job 2 finds 512*41\n",
+        ),
         Run("standard input named twice to explain", "nvq", ["explain", "-", "-"], 1, err="nvq: standard input is named twice\n"),
     ]
 
@@ -149,6 +157,18 @@ TWICE = on_a_block(*((1, 10, write(0, it), None) for it in (1, 2, 1)), (11, 12, 
 # What was there first isn't known, and can't have been both.
 UNSETTLED = on_a_block((1, 2, read(0, 1), 1), (3, 4, read(0, 1), 2), unknown=True)
 
+# A device that keeps what it deallocates: an order explains it, and no record does. The order is that of docs/FORMATS.md.
+KEEPING = on_a_block((1, 2, write(0, 0x41), None), (3, 4, dataset((0, 1)), None), (5, 6, read(0, 1), 0x41))
+ORDER = bytes.fromhex("4e564531 010002 0000000000000000 0200000000000000 00000000 00000000 01000000 00 02000000 00000000 01000000 00")
+ORDERED = "explained jobs 3 points 2 reads atomic deallocated either\n"
+
+
+def odd_reply():
+    """A trace of a pair whose statuses say that its comparison held, and that it didn't."""
+    space = Namespace(nsze=8, nabsn=7)
+    [job] = recorded(space, [file_of([*pair(compare(0, 0), write(0, 0x41))])]).jobs
+    return Trace(space, (Seen(1, job.body, 1, 2, ((0, 0), (0, 9))),))
+
 
 def line_of(trace, number):
     """The line of a trace's job in its text."""
@@ -185,6 +205,12 @@ def certified(kept):
         "so job 4 stands before itself\n"
     )
 
+    keeping, odd = kept("keeping.nvt", spelled(KEEPING)), kept("odd.nvt", spelled(odd_reply()))
+    ordered = f"{ORDERED}an order of points explains it, and no record does: Zalkvorn's own profile isn't kept\n"
+    ordered_object = '{"verdict":"explained","jobs":3,"points":2,"reads":"atomic","deallocated":"either","records":"none explains it"}\n'
+    odd_text = f"contradiction job 0\njob 0 {line_of(odd_reply(), 0)}no device may end a pair so: by the one status the comparison held, and by the other it didn't\n"
+    odd_object = '{"verdict":"contradiction","rule":"wrong reply","job":0}\n'
+
     def done(name, trace, out, *words, status=0, **more):
         return Run(name, "nvq", ["certify", *words, trace], status, out=out, **more)
 
@@ -202,6 +228,10 @@ def certified(kept):
         done("Reads of three Writes that no order gives", kept("twice.nvt", spelled(TWICE)), twice, status=2, units=1),
         done("a trace of which neither is found", kept("unsettled.nvt", spelled(UNSETTLED)), unsettled, status=3, units=1),
         done("an object of a trace that nothing explains", not_explained, contradiction_object, "--json", status=2, units=UNITS),
+        done("a trace that an order explains, by nvq", keeping, ordered, "--record", "it", units=1, files={"it": ORDER}),
+        done("an object of a trace that an order explains", keeping, ordered_object, "--json", units=1),
+        done("a reply that is wrong by itself", odd, odd_text, status=2, units=1),
+        done("an object of a reply that is wrong by itself", odd, odd_object, "--json", status=2, units=1),
         fault("a cut trace to certify", f"{cut}: truncated at {len(spelled(TRACE)) - 1024}", cut),
         fault("a missing trace to certify", f"cannot read {missing}", missing, hint=MISSING),
         fault("the record of a trace that is written over it", f"cannot write {right}", right, "--record", right, hint="it is the trace"),

@@ -1,11 +1,8 @@
 -- What is said of a file's bytes is said of the file at its path.
 use Rattle.std.proofs.Common.{◌≡◌, ◌⊎◌, ℕ, List, inl, inr, sym, subst}
-use Rattle.nvm_commands.specs.Audited.{IsUnwitnessed}
-use Rattle.nvm_commands.specs.Explained.{IsExplainingFault, IsStoryFault, IsUntold}
+use Rattle.nvm_commands.specs.Explained.{IsStoryFault, IsUnjudged}
 use Rattle.nvm_commands.specs.Fault.{IsFaultOfRecordAt, IsFaultOfRecordIn, IsFaultOfTraceAt, IsFaultOfTraceIn}
 use Rattle.nvm_commands.specs.Files.{IsReadFault}
-use Rattle.nvm_commands.specs.declared.explaining_words.ExplainWords.{ExplainWords}
-use Rattle.nvm_commands.specs.declared.explaining_words.ExplainWords.TheVariants.{Record, Trace}
 use Rattle.nvm_commands.specs.declared.fault.Fault.{Fault}
 
 pub record_fault : (path file : List ℕ) (fault : Fault) → IsFaultOfRecordIn path file fault
@@ -18,10 +15,7 @@ pub trace_fault : (path file : List ℕ) (fault : Fault) → IsFaultOfTraceIn pa
 trace_fault path file fault (inl is) = inl (subst (λ (f : Fault). IsReadFault path f) (sym is) tt)
 trace_fault path file fault (inr (shown, at, of)) = inr (shown, at, (file, of))
 
-pub story_fault : (trace seen run held : List ℕ) (fault : Fault) → IsStoryFault trace seen run held fault → IsUnwitnessed trace run fault
-story_fault trace seen run held fault (inl is) = inr (inl (trace_fault trace seen fault is))
-story_fault trace seen run held fault (inr is) = inr (inr (record_fault run held fault is.1))
-
-pub untold : (words : ExplainWords) (fault : Fault) → IsUntold words fault → IsExplainingFault words fault
-untold (Record path) fault is = inl is
-untold (Trace judging trace path) fault is = inl is
+pub story_fault : (trace seen run held : List ℕ) (fault : Fault) → IsStoryFault trace seen run held fault → IsUnjudged trace run fault
+story_fault trace seen run held fault (inl is) = inl (inr (inl (trace_fault trace seen fault is)))
+story_fault trace seen run held fault (inr (_, inl is)) = inl (inr (inr (record_fault run held fault is)))
+story_fault trace seen run held fault (inr (_, inr is)) = inr is

@@ -5,22 +5,48 @@ use Rattle.std.specs.Global.{Global}
 use Rattle.nvm_certify.specs.Certified.{IsCertified}
 use Rattle.nvm_certify_text.specs.Verdict.{certification_status}
 use Rattle.nvm_file.specs.TraceFile.{IsTraceFile}
+use Rattle.nvm_judge.specs.Explained.{IsExplainedBy}
+use Rattle.nvm_orders.specs.OrderView.{OrderView}
+use Rattle.nvm_points.specs.Table.{first_wrong}
+use Rattle.nvm_points.specs.declared.profile.Profile.{Profile}
 use Rattle.nvm_trace.specs.TraceView.{TraceView}
 use Rattle.nvm_trace.specs.declared.judging.Judging.{Judging}
 use Rattle.nvm_commands.specs.Fault.{IsFaultOfTraceAt}
 use Rattle.nvm_commands.specs.Files.{IsReadFault, IsWriteFault}
 use Rattle.nvm_commands.specs.declared.certifying.CertifiedTrace.{CertifiedTrace}
+use Rattle.nvm_commands.specs.declared.certifying.Finding.{Finding}
+use Rattle.nvm_commands.specs.declared.certifying.Finding.TheVariants.{Certified, Ordered, Wrong}
 use Rattle.nvm_commands.specs.declared.certifying_words.CertifyWords.{CertifyWords}
 use Rattle.nvm_commands.specs.declared.fault.Fault.{Fault}
 use Rattle.nvm_commands.specs.declared.fault.Fault.TheVariants.{ArgumentAmongLines, RecordAmongLines}
 
--- The verdict is one on the trace of a file, and so is its status.
+-- An order explains the trace, held to this profile.
+abbrev pub HasOrder : TraceView → Profile → Type 0
+HasOrder t profile = (o : OrderView) × IsExplainedBy t profile o
+
+-- What is found of the trace is so.
+abbrev pub IsFound : Judging → TraceView → Finding → Type 0
+IsFound judging t (Certified verdict) = IsCertified judging t verdict
+IsFound judging t (Ordered profile file) = HasOrder t profile
+IsFound judging t (Wrong command) = first_wrong t.jobs ≡ Some command
+
+-- the exit status of what is found
+abbrev pub finding_status : Finding → ℕ
+finding_status (Certified verdict) = certification_status verdict
+finding_status (Ordered profile file) = 0
+finding_status (Wrong command) = 2
+
+-- The verdict is one on the trace, and so is its status.
+pub record IsToldOf (judging : Judging) (t : TraceView) (told : CertifiedTrace) : Type 0 where
+  pub found : IsFound judging t told.finding
+  pub status : told.status ≡ finding_status told.finding
+
+-- The trace is that of a file.
 pub record IsCertifiedFile (judging : Judging) (told : CertifiedTrace) : Type 0 where
   pub file : List ℕ
   pub seen : TraceView
   pub seen_file : IsTraceFile file seen
-  pub verdict : IsCertified judging seen told.certification
-  pub status : told.status ≡ certification_status told.certification
+  pub verdict : IsToldOf judging seen told
 
 -- The record would go to standard output, or couldn't be written to its path.
 abbrev pub IsRecordFault : Option (String Global) → Fault → Type 0

@@ -7,6 +7,8 @@ use Rattle.nvm_record.specs.HostFile.{IsAnsweredFault}
 use Rattle.nvm_list.specs.Lists.{commands}
 use Rattle.nvm_list.specs.declared.fault.ListFault.{ListFault}
 use Rattle.nvm_list.specs.declared.fault.ListFault.TheVariants as of_list
+use Rattle.nvm_evidence.specs.declared.evidence_fault.EvidenceFault.{EvidenceFault}
+use Rattle.nvm_evidence.specs.declared.evidence_fault.EvidenceFault.TheVariants as of_order
 use Rattle.nvm_file.specs.Reading.{record_at}
 use Rattle.nvm_file.specs.declared.record_fault.RecordFault.{RecordFault}
 use Rattle.nvm_file.specs.declared.record_fault.RecordFault.TheVariants as of_record
@@ -50,6 +52,14 @@ fault_of_trace path (of_trace.BeganAtZero at) = BeganAtZero path at
 fault_of_trace path (of_trace.EndedBefore at) = EndedBefore path at
 fault_of_trace path of_trace.NoMemory = NoMemory
 
+-- an order's fault has its path
+abbrev pub fault_of_order : String Global → EvidenceFault → Fault
+fault_of_order path of_order.BadName = BadName path
+fault_of_order path (of_order.Truncated at) = Truncated path at
+fault_of_order path (of_order.Trailing at) = Trailing path at
+fault_of_order path (of_order.BadValue at) = BadValue path at
+fault_of_order path of_order.NoMemory = NoMemory
+
 -- the fault of a trace's text has its line, if it has one
 abbrev pub fault_of_text : TextFault → Fault
 fault_of_text (of_text.Line line expected) = TraceLine line expected
@@ -91,3 +101,8 @@ IsFaultOfRecordIn path file e = (e ≡ NoMemory) ⊎ ((shown : String Global) ×
 -- The same of a trace.
 abbrev pub IsFaultOfTraceIn : List ℕ → List ℕ → Fault → Type 0
 IsFaultOfTraceIn path file e = (e ≡ NoMemory) ⊎ ((shown : String Global) × (string_bytes shown ≡ path) × IsFaultOfTrace shown file e)
+
+-- Want of memory, or else a fault of the order at this path.
+abbrev pub IsFaultOfOrderAt : List ℕ → Fault → Type 0
+IsFaultOfOrderAt path e =
+    (e ≡ NoMemory) ⊎ ((shown : String Global) × (string_bytes shown ≡ path) × ((f : EvidenceFault) × (e ≡ fault_of_order shown f)))

@@ -1,3 +1,5 @@
+use nvm_evidence::is_evidence;
+
 /// What a file's bytes look like, by their front.
 #[derive(Clone, Copy, Debug, PartialEq, Eq)]
 pub enum Content {
@@ -9,6 +11,8 @@ pub enum Content {
     Record,
     /// A trace of any version, `NVT`.
     Trace,
+    /// An order, `NVE1`.
+    Order,
     /// Text, as a command list is.
     Text,
     /// None of these.
@@ -33,6 +37,8 @@ impl Content {
             Content::Record
         } else if front.starts_with(b"NVT") {
             Content::Trace
+        } else if is_evidence(front) {
+            Content::Order
         } else if front.len() >= NAME && front.iter().all(|byte| is_of_text(*byte)) {
             Content::Text
         } else {

@@ -1,18 +1,20 @@
-//! `nvq explain`: what is wrong with a record, or what there is in a lawful one; and why a record explains a trace or doesn't.
+//! `nvq explain`: what is wrong with a record, or what there is in a lawful one; and why a record or an order
+//! explains a trace or doesn't.
 ghost use Rattle.std.specs.Prelude.{◌⊎◌, IfErr};
-ghost use Rattle.nvm_commands.specs.Audited.{IsUnwitnessed};
-ghost use Rattle.nvm_commands.specs.Explained.{IsExplainingFault, IsStoryFault, IsUntold};
-ghost use Rattle.nvm_commands.specs.Fault.{IsFaultOfRecordAt, IsFaultOfRecordIn};
+ghost use Rattle.nvm_commands.specs.Explained.{IsExplainingFault, IsStoryFault, IsUnjudged, IsUntold};
+ghost use Rattle.nvm_commands.specs.Fault.{IsFaultOfOrderAt, IsFaultOfRecordAt, IsFaultOfRecordIn};
 ghost use Rattle.nvm_commands.specs.Files.{IsReadFault};
 
 use crate::explaining_words::ExplainWords;
 use crate::failure::Failure;
-use crate::files::{bytes_of, check_apart, record_in, trace_in, write_bytes};
+use crate::files::{bytes_of, check_apart, order_in, record_in, trace_in, write_bytes};
+use nvm_evidence::{is_evidence, order_story};
 use nvm_explain::explain;
 use nvm_front::{Progress, STANDARD};
 use nvm_record::Payload;
 use nvm_story::witness_story;
-use nvm_trace::Judging;
+use nvm_trace::{Judging, Trace};
+use std::alloc::Global;
 use std::rt::Files;
 use std::thread::Threads;
 
@@ -66,7 +68,7 @@ fn trace_explained<R: AllocGlobal + Files + Input + Eprint + Threads + Sync>(
     record: &str,
     progress: &Progress<'_, R>,
 ) -> Result<String, Failure>
-    ensures { IfErr result (λ failure. IsUnwitnessed trace.now «record».now failure.fault) }
+    ensures { IfErr result (λ failure. IsUnjudged trace.now «record».now failure.fault) }
 {
     check_apart(trace, record)?;
     let seen = Payload::new(rt.alloc(), bytes_of(rt, trace, progress)?)?;
@@ -87,8 +89,8 @@ fn explained_of<R: AllocGlobal + Eprint + Threads + Sync>(
     Ok(explain(rt, rt.alloc(), &run, progress)?)
 }
 
-/// The explanation of the trace and the record in the bytes of two files that were read from these paths, or the fault of the trace's file, or
-/// else of the record's.
+/// The explanation of the trace and the record or the order in the bytes of two files that were read from these paths, or the fault of the trace's file, or
+/// else of the record's or the order's.
 fn story_of<R: AllocGlobal + Threads + Sync>(
     rt: &R,
     judging: Judging,
@@ -100,6 +102,32 @@ fn story_of<R: AllocGlobal + Threads + Sync>(
     ensures { IfErr result (λ failure. IsStoryFault «trace».now seen.now «record».now held.now failure.fault) }
 {
     let seen = trace_in(rt.alloc(), trace, seen)?;
+    match judging {
+        Judging::Standard if is_evidence(held.as_slice()) => {
+            story_by_order(rt.alloc(), &seen, record, held.as_slice())
+        }
+        _ => story_by_record(rt, judging, &seen, record, held),
+    }
+}
+
+/// The explanation of the trace and the record in the bytes of a file that was read from a path.
+fn story_by_record<R: AllocGlobal + Threads + Sync>(
+    rt: &R,
+    judging: Judging,
+    seen: &Trace,
+    record: &str,
+    held: &Payload,
+) -> Result<String, Failure>
+    ensures { IfErr result (λ failure. IsFaultOfRecordIn «record».now held.now failure.fault) }
+{
     let held = record_in(rt.alloc(), record, held)?;
-    Ok(witness_story(rt, rt.alloc(), judging, &seen, &held)?)
+    Ok(witness_story(rt, rt.alloc(), judging, seen, &held)?)
+}
+
+/// The explanation of the trace and the order in the bytes of a file that was read from a path.
+fn story_by_order(alloc: Global, seen: &Trace, path: &str, held: &[u8]) -> Result<String, Failure>
+    ensures { IfErr result (λ failure. IsFaultOfOrderAt path.now failure.fault) }
+{
+    let held = order_in(alloc, path, held)?;
+    Ok(order_story(alloc, seen, &held)?)
 }

@@ -1,7 +1,8 @@
 ghost use Rattle.std.specs.Prelude.{◌≡◌};
 ghost use Rattle.nvm_commands.specs.declared.fault.Fault.TheVariants.{NoMemory};
-ghost use Rattle.nvm_commands.specs.Fault.{fault_of_list, fault_of_file, fault_of_record, fault_of_text, fault_of_trace};
+ghost use Rattle.nvm_commands.specs.Fault.{fault_of_list, fault_of_file, fault_of_order, fault_of_record, fault_of_text, fault_of_trace};
 
+use nvm_evidence::EvidenceFault;
 use nvm_expect::Expected as Unexpected;
 use nvm_file::{RecordFault, TraceFileFault};
 use nvm_geometry::GeometryFault;
@@ -73,7 +74,7 @@ pub enum Fault {
     BadName {
         path: String,
     },
-    /// Something in the host file, the record or the trace isn't whole; it begins at offset `at`, in bytes.
+    /// Something in the host file, the record, the trace or the order isn't whole; it begins at offset `at`, in bytes.
     #[error("{path}: truncated at {at}")]
     Truncated {
         path: String,
@@ -89,13 +90,13 @@ pub enum Fault {
     UnknownVersion {
         path: String,
     },
-    /// Bytes follow the record or the trace, from offset `at` on.
+    /// Bytes follow the record, the trace or the order, from offset `at` on.
     #[error("{path}: trailing at {at}")]
     Trailing {
         path: String,
         at: u64,
     },
-    /// The field at offset `at` of the record or the trace has a value that isn't allowed.
+    /// The field at offset `at` of the record, the trace or the order has a value that isn't allowed.
     #[error("{path}: bad value at {at}")]
     BadValue {
         path: String,
@@ -157,6 +158,19 @@ impl Fault {
             TraceFileFault::BeganAtZero { at } => Fault::BeganAtZero { path, at },
             TraceFileFault::EndedBefore { at } => Fault::EndedBefore { path, at },
             TraceFileFault::NoMemory => Fault::NoMemory,
+        }
+    }
+
+    /// The fault of an order's file.
+    pub fn of_order(path: String, fault: EvidenceFault) -> Fault
+        ensures { result ≡ fault_of_order path fault }
+    {
+        match fault {
+            EvidenceFault::BadName => Fault::BadName { path },
+            EvidenceFault::Truncated { at } => Fault::Truncated { path, at },
+            EvidenceFault::Trailing { at } => Fault::Trailing { path, at },
+            EvidenceFault::BadValue { at } => Fault::BadValue { path, at },
+            EvidenceFault::NoMemory => Fault::NoMemory,
         }
     }
 }

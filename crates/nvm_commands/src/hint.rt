@@ -46,6 +46,7 @@ pub fn no_host_file(alloc: Global, path: &str, bytes: &[u8]) -> Result<String, A
                 "{name} is a trace: nvmu witness {path} REC judges it by a record, nvq certify {path} without one"
             )
         }
+        Content::Order => of_order(alloc, path),
         Content::HostFile | Content::Unknown => {
             format!(in alloc; "{name} is no host file, which begins with NVQ1")
         }
@@ -74,6 +75,7 @@ pub fn no_record(alloc: Global, path: &str, bytes: &[u8]) -> Result<String, Allo
                 "{name} is a trace: nvmu witness {path} REC judges it by a record, nvq certify {path} without one"
             )
         }
+        Content::Order => of_order(alloc, path),
         Content::Record | Content::Unknown => {
             format!(in alloc; "{name} is no record, which begins with NVR1 or NVR2")
         }
@@ -98,13 +100,14 @@ pub fn no_trace(alloc: Global, path: &str, bytes: &[u8]) -> Result<String, Alloc
                 "{name} is a record: nvq audit {path} judges it; the trace comes first, and then the record"
             )
         }
+        Content::Order => of_order(alloc, path),
         Content::Trace | Content::Unknown => {
             format!(in alloc; "{name} is no trace, which begins with NVT1")
         }
     }
 }
 
-/// What a file is, of which a command list was expected, where it is none: a host file, a record or a trace.
+/// What a file is, of which a command list was expected, where it is none: a host file, a record, a trace or an order.
 pub fn no_list(alloc: Global, path: &str, bytes: &[u8]) -> Result<Option<String>, AllocError> {
     let name = name_of(path);
     match Content::of(bytes) {
@@ -117,8 +120,17 @@ pub fn no_list(alloc: Global, path: &str, bytes: &[u8]) -> Result<Option<String>
         Content::Trace => Ok(Some(format!(in alloc;
             "{name} is a trace: nvq list {path} shows it"
         )?)),
+        Content::Order => Ok(Some(of_order(alloc, path)?)),
         Content::Empty | Content::Text | Content::Unknown => Ok(None),
     }
+}
+
+/// What an order's file is, where another was expected.
+fn of_order(alloc: Global, path: &str) -> Result<String, AllocError> {
+    let name = name_of(path);
+    format!(in alloc;
+        "{name} is an order: nvmu witness TRACE {path} judges a trace by it, nvq explain TRACE {path} shows it"
+    )
 }
 
 /// With which block size a file is a host file, which it isn't with blocks of `block` bytes. `None` where there is no such size.

@@ -31,7 +31,7 @@ use std::thread::Threads;
 /// What the program is called in its lines.
 pub const NVMU: &str = "nvmu";
 
-/// Does what the words of the command line ask for, and gives the exit status: 0, 2 where a record isn't lawful or doesn't
+/// Does what the words of the command line ask for, and gives the exit status: 0, 2 where a record isn't lawful, or a record or an order doesn't
 /// explain the trace, or an argument doesn't refute it, or 1 after a fault. The room of standard output is taken first, so that no memory is wanted for the text once the record of a run is written.
 pub fn nvmu_status<R: AllocGlobal + Env + Files + Input + Print + Eprint + Threads + Wait + Sync>(
     rt: &R,
@@ -98,8 +98,7 @@ fn answer_to<R: AllocGlobal + Files + Input + Print + Eprint + Threads + Wait + 
         }
         Asked::Witness(words) => {
             let (trace, record) = (words.trace.as_str(), words.record.as_str());
-            let witnessed = witnessed(rt, words.judging, trace, record, progress)?;
-            Ok(Answer::Witnessed(witnessed))
+            witnessed(rt, words.judging, trace, record, progress)
         }
         Asked::Refute {
             judging,

@@ -6,7 +6,7 @@ ghost use Rattle.nvm_orders.specs.OrderView.{block_of, seen_content};
 use crate::order::Content;
 
 /// The bytes of the block at this place of data.
-pub(crate) fn bytes_at(size: u32, payload: &[u8], place: u32) -> &[u8]
+pub fn bytes_at(size: u32, payload: &[u8], place: u32) -> &[u8]
     ensures { result.now ≡ spec.bytes_at size payload.now place }
 {
     let size = size as usize;

@@ -15,7 +15,7 @@ use nvm_record::NoMemory;
 use std::alloc::Global;
 
 /// Whether anything is put.
-pub(crate) fn is_put(put: Put<'_>) -> bool
+pub fn is_put(put: Put<'_>) -> bool
     ensures { result ≡ spec_is_put (seen_put put.entry) }
 {
     match put {

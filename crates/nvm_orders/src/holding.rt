@@ -27,7 +27,7 @@ fn has_bytes(content: Content<'_>) -> bool
 }
 
 /// Whether the content may be found at this place of a point's blocks.
-fn may_find(size: u32, found: Found<'_>, place: u32, content: Content<'_>) -> bool
+pub fn may_find(size: u32, found: Found<'_>, place: u32, content: Content<'_>) -> bool
     ensures { IsTrue result ↔ spec.MayFind size (seen_found found.entry) place (block_of size (seen_content content.entry)) }
 {
     match found {

@@ -19,6 +19,9 @@ mod rows;
 mod timing;
 mod tying;
 
+pub use bytes::bytes_at;
+pub use deallocating::is_put;
 pub use explaining::explains;
+pub use holding::may_find;
 pub use order::{Content, FirstContent, Order, Placed, Value};
 pub use order_fault::OrderFault;

@@ -6,12 +6,16 @@ use Rattle.nvm_audit.specs.declared.verdict.Verdict.{Verdict}
 use Rattle.nvm_engine.specs.Printed.{IsPrintedOf}
 use Rattle.nvm_engine.specs.VerdictLine.{answer_line, answer_status}
 use Rattle.nvm_engine.specs.VerdictObject.{answer_object}
-use Rattle.nvm_engine.specs.Witnessed.{witness_status}
+use Rattle.nvm_engine.specs.Witnessed.{IsWitnessed, witness_status}
+use Rattle.nvm_evidence.specs.OrderedLine.{ordered_line, ordered_status}
+use Rattle.nvm_evidence.specs.Witnessed.{IsOrderedFile}
+use Rattle.nvm_trace.specs.declared.judging.Judging.{Judging}
+use Rattle.nvm_trace.specs.declared.judging.Judging.TheVariants.{Standard}
 use Rattle.nvm_trace_text.specs.WitnessLine.{witness_line}
 use Rattle.nvm_front.specs.declared.judging_words.Telling.{Telling}
 use Rattle.nvm_front.specs.declared.judging_words.Telling.TheVariants.{Lines, Object}
 use Rattle.nvm_commands.specs.declared.nvmu.answer.Answer.{Answer}
-use Rattle.nvm_commands.specs.declared.nvmu.answer.Answer.TheVariants.{Ran, Audited, Witnessed, Weighed}
+use Rattle.nvm_commands.specs.declared.nvmu.answer.Answer.TheVariants.{Ran, Audited, Witnessed, Ordered, Weighed}
 
 -- how an audit is printed
 abbrev pub audit_text : Telling → Result Verdict AuditFault → List ℕ
@@ -23,6 +27,7 @@ abbrev pub IsTextOf : Answer → List ℕ → Type 0
 IsTextOf (Ran run) text = IsPrintedOf run text
 IsTextOf (Audited telling judged) text = text ≡ audit_text telling judged
 IsTextOf (Witnessed witnessed) text = text ≡ witness_line witnessed
+IsTextOf (Ordered ordered) text = text ≡ ordered_line ordered
 IsTextOf (Weighed weighed) text = text ≡ weighed_line weighed
 
 -- the exit status once the answer is written
@@ -30,7 +35,18 @@ abbrev pub status_of : Answer → ℕ
 status_of (Ran run) = 0
 status_of (Audited telling judged) = answer_status judged
 status_of (Witnessed witnessed) = witness_status witnessed
+status_of (Ordered ordered) = ordered_status ordered
 status_of (Weighed weighed) = weighed_status weighed
+
+-- It is what a witness answers of the bytes of a trace and of a record, or of a trace and an order.
+abbrev pub IsWitnessedBy : Judging → List ℕ → List ℕ → Answer → Type 0
+IsWitnessedBy judging seen held (Witnessed witnessed) = IsWitnessed judging seen held witnessed
+IsWitnessedBy judging seen held (Ordered ordered) = (judging ≡ Standard) × IsOrderedFile seen ordered
+IsWitnessedBy judging seen held answer = ⊥
+
+-- It is that of the bytes of two files.
+abbrev pub AreWitnessedFiles : Judging → Answer → Type 0
+AreWitnessedFiles judging answer = (seen : List ℕ) × (held : List ℕ) × IsWitnessedBy judging seen held answer
 
 -- this status where everything was written, or else 1
 abbrev pub ended_status : {A E : Type 0} → Result A E → ℕ → ℕ

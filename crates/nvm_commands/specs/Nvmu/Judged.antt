@@ -6,22 +6,22 @@ use Rattle.nvm_argument.specs.declared.weighed.Weighed.{Weighed}
 use Rattle.nvm_audit.specs.declared.audit_fault.AuditFault.{AuditFault}
 use Rattle.nvm_audit.specs.declared.verdict.Verdict.{Verdict}
 use Rattle.nvm_engine.specs.Judged.{IsJudged, IsUnreadFault}
-use Rattle.nvm_engine.specs.Witnessed.{IsWitnessed, IsUnwitnessedFault}
-use Rattle.nvm_trace.specs.declared.explained.Explained.{Explained}
+use Rattle.nvm_engine.specs.Witnessed.{IsUnwitnessedFault}
+use Rattle.nvm_evidence.specs.Witnessed.{IsOrderFault}
 use Rattle.nvm_trace.specs.declared.judging.Judging.{Judging}
-use Rattle.nvm_trace.specs.declared.witness_fault.WitnessFault.{WitnessFault}
 use Rattle.nvm_commands.specs.Nvmu.Files.{IsReadFault}
 use Rattle.nvm_commands.specs.declared.nvmu.fault.Fault.{Fault}
-use Rattle.nvm_commands.specs.declared.nvmu.fault.Fault.TheVariants.{Engine, Weigh}
+use Rattle.nvm_commands.specs.declared.nvmu.fault.Fault.TheVariants.{Engine, Order, Weigh}
 
 -- It is the first fault of exactly these bytes as a record.
 abbrev pub IsAuditFault : List ℕ → Fault → Type 0
 IsAuditFault bytes (Engine fault) = IsUnreadFault bytes fault
 IsAuditFault bytes fault = ⊥
 
--- It is the first fault of exactly these bytes: of the one as a trace, or of the other as a record.
+-- It is the first fault of exactly these bytes: of the one as a trace, or of the other as a record, or as an order.
 abbrev pub IsWitnessFault : List ℕ → List ℕ → Fault → Type 0
 IsWitnessFault seen held (Engine fault) = IsUnwitnessedFault seen held fault
+IsWitnessFault seen held (Order fault) = IsOrderFault seen fault
 IsWitnessFault seen held fault = ⊥
 
 -- It is the first fault of exactly these bytes: of the one as a trace, or of the other as an argument.
@@ -36,10 +36,6 @@ IsJudgedFile answer = (bytes : List ℕ) × IsJudged bytes answer
 -- The file at this path couldn't be read, or else it is the first fault of its bytes as a record.
 abbrev pub IsJudgeFaultOn : List ℕ → Fault → Type 0
 IsJudgeFaultOn path fault = IsReadFault path fault ⊎ ((bytes : List ℕ) × IsAuditFault bytes fault)
-
--- It is the answer of a witness of the bytes of two files.
-abbrev pub AreWitnessedFiles : Judging → Result Explained WitnessFault → Type 0
-AreWitnessedFiles judging answer = (seen : List ℕ) × (held : List ℕ) × IsWitnessed judging seen held answer
 
 -- One of the files at these paths couldn't be read.
 abbrev pub IsPairFault : List ℕ → List ℕ → Fault → Type 0

@@ -4,6 +4,7 @@ ghost use Rattle.nvm_commands.specs.Nvmu.Answer.{IsTextOf, status_of};
 
 use nvm_argument::Weighed;
 use nvm_engine::{Judged, Shown, Witnessed};
+use nvm_evidence::Ordered;
 use nvm_front::Telling;
 use std::alloc::Global;
 use std::io;
@@ -18,13 +19,15 @@ pub enum Answer {
     Audited { telling: Telling, judged: Judged },
     /// What a record says of a trace.
     Witnessed(Witnessed),
+    /// What an order says of a trace.
+    Ordered(Ordered),
     /// What an argument says of a trace.
     Weighed(Weighed),
 }
 
 impl Answer {
-    /// The exit status once it is written: 0, or 2 where a record isn't lawful or doesn't explain the trace, or an argument
-    /// doesn't refute it.
+    /// The exit status once it is written: 0, or 2 where a record isn't lawful, or a record or an order doesn't explain the
+    /// trace, or an argument doesn't refute it.
     pub fn status(&self) -> u8
         ensures { result ≡ status_of self.now }
     {
@@ -32,6 +35,7 @@ impl Answer {
             Answer::Ran(_) => 0,
             Answer::Audited { judged, .. } => judged.status(),
             Answer::Witnessed(witnessed) => witnessed.status(),
+            Answer::Ordered(ordered) => ordered.status(),
             Answer::Weighed(weighed) => weighed.status(),
         }
     }
@@ -52,6 +56,7 @@ impl Answer {
                 judged,
             } => writer.write_all(judged.object(alloc)?.as_bytes()),
             Answer::Witnessed(witnessed) => writer.write_all(witnessed.line(alloc)?.as_bytes()),
+            Answer::Ordered(ordered) => writer.write_all(ordered.line(alloc)?.as_bytes()),
             Answer::Weighed(weighed) => writer.write_all(weighed.line(alloc)?.as_bytes()),
         }
     }

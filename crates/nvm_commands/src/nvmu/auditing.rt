@@ -1,15 +1,19 @@
-//! `nvmu audit` and `nvmu witness`: whether a record is lawful, and whether it explains a trace.
+//! `nvmu audit` and `nvmu witness`: whether a record is lawful, and whether it, or an order, explains a trace.
 ghost use Rattle.std.specs.Prelude.{IfOk, IfErr};
 ghost use Rattle.nvm_engine.specs.Judged.{IsJudged};
-ghost use Rattle.nvm_engine.specs.Witnessed.{IsWitnessed};
-ghost use Rattle.nvm_commands.specs.Nvmu.Judged.{AreWitnessedFiles, IsAuditFault, IsJudgedFile, IsJudgeFaultOn, IsWitnessFault, IsWitnessFaultOn};
+ghost use Rattle.nvm_commands.specs.Nvmu.Judged.{IsAuditFault, IsJudgedFile, IsJudgeFaultOn, IsWitnessFault, IsWitnessFaultOn};
+ghost use Rattle.nvm_commands.specs.Nvmu.Answer.{AreWitnessedFiles, IsWitnessedBy};
+ghost use Rattle.nvm_trace.specs.declared.judging.Judging.TheVariants.{Standard};
 
+use crate::nvmu::answer::Answer;
 use crate::nvmu::fault::Fault;
 use crate::nvmu::files::{bytes_of, read_pair};
-use nvm_engine::{Judged, Witnessed, audit_bytes_watched, witness_bytes};
+use nvm_engine::{Judged, audit_bytes_watched, witness_bytes};
+use nvm_evidence::{is_evidence, witness_order_bytes};
 use nvm_front::Progress;
 use nvm_record::Payload;
 use nvm_trace::Judging;
+use std::alloc::Global;
 use std::rt::Files;
 use std::thread::Threads;
 
@@ -41,14 +45,14 @@ fn judged_of<R: AllocGlobal + Eprint + Threads + Sync>(
     }
 }
 
-/// Reads the trace and the record at these paths, and judges the trace by the record.
+/// Reads the trace and the record or the order at these paths, and judges the trace by it. An order isn't judged strictly.
 pub fn witnessed<R: AllocGlobal + Files + Input + Eprint + Threads + Sync>(
     rt: &R,
     judging: Judging,
     trace: &str,
     record: &str,
     progress: &Progress<'_, R>,
-) -> Result<Witnessed, Fault>
+) -> Result<Answer, Fault>
     ensures witnessed { IfOk result (AreWitnessedFiles judging) }
     ensures fault { IfErr result (IsWitnessFaultOn trace.now «record».now) }
 {
@@ -56,18 +60,45 @@ pub fn witnessed<R: AllocGlobal + Files + Input + Eprint + Threads + Sync>(
     witnessed_of(rt, judging, &seen, &held)
 }
 
-/// Judges the bytes of a trace by those of a record.
+/// Judges the bytes of a trace by those of a record or an order.
 fn witnessed_of<R: AllocGlobal + Threads + Sync>(
     rt: &R,
     judging: Judging,
     seen: &Payload,
     held: &Payload,
-) -> Result<Witnessed, Fault>
-    ensures witnessed { IfOk result (IsWitnessed judging seen.now held.now) }
+) -> Result<Answer, Fault>
+    ensures witnessed { IfOk result (IsWitnessedBy judging seen.now held.now) }
+    ensures fault { IfErr result (IsWitnessFault seen.now held.now) }
+{
+    match judging {
+        Judging::Standard if is_evidence(held.as_slice()) => by_order(rt.alloc(), seen, held),
+        _ => by_record(rt, judging, seen, held),
+    }
+}
+
+/// Judges the bytes of a trace by those of an order.
+fn by_order(alloc: Global, seen: &Payload, held: &Payload) -> Result<Answer, Fault>
+    ensures witnessed { IfOk result (IsWitnessedBy Standard seen.now held.now) }
+    ensures fault { IfErr result (IsWitnessFault seen.now held.now) }
+{
+    match witness_order_bytes(alloc, seen, held.as_slice()) {
+        Ok(ordered) => Ok(Answer::Ordered(ordered)),
+        Err(fault) => Err(Fault::Order(fault)),
+    }
+}
+
+/// Judges the bytes of a trace by those of a record.
+fn by_record<R: AllocGlobal + Threads + Sync>(
+    rt: &R,
+    judging: Judging,
+    seen: &Payload,
+    held: &Payload,
+) -> Result<Answer, Fault>
+    ensures witnessed { IfOk result (IsWitnessedBy judging seen.now held.now) }
     ensures fault { IfErr result (IsWitnessFault seen.now held.now) }
 {
     match witness_bytes(rt, rt.alloc(), judging, seen, held) {
-        Ok(witnessed) => Ok(witnessed),
+        Ok(witnessed) => Ok(Answer::Witnessed(witnessed)),
         Err(fault) => Err(Fault::Engine(fault)),
     }
 }

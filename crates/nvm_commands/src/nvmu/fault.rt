@@ -3,6 +3,7 @@ ghost use Rattle.nvm_commands.specs.declared.nvmu.fault.Fault.TheVariants.{NoMem
 
 use nvm_argument::WeighFault;
 use nvm_engine::Fault as EngineFault;
+use nvm_evidence::OrderWitnessFault;
 use std::alloc::{AllocError, AllocFailed};
 use thiserror::Error;
 
@@ -21,7 +22,10 @@ pub enum Fault {
     /// A trace or an argument isn't one, or memory was refused.
     #[error("{0}")]
     Weigh(WeighFault),
-    /// Memory was asked for and refused, outside the engine and the weighing of an argument.
+    /// A trace or an order isn't one, or memory was refused.
+    #[error("{0}")]
+    Order(OrderWitnessFault),
+    /// Memory was asked for and refused, outside the engine and the weighing of evidence.
     #[error("no memory")]
     NoMemory,
 }

@@ -1,9 +1,15 @@
-use Rattle.std.proofs.Common.{inr}
-use Rattle.std.proofs.lemmas.Result.{err_from_is_err_and}
+use Rattle.std.proofs.Common.{inl, inr}
+use Rattle.std.proofs.lemmas.Result.{IfErr-weaker}
 use Rattle.nvm_commands.proofs.explaining.story_of.Goals as goal
 
--- The record's fault is returned as it is.
-pub returns-in_err-held : goal.returns-in_err-held
-returns-in_err-held g c =
-    let p = err_from_is_err_and c.from_residual-in_err-held.result c.from_residual-in_err-held.ensures.1 in
-    rw (p.1, p.2) (inr ((c.in_ok-seen.seen, c.in_ok-seen.ensures.trace), c.in_err-held.ensures.fault))
+-- The order's fault is returned as it is.
+pub returns-in-Standard : goal.returns-in-Standard
+returns-in-Standard g c =
+    IfErr-weaker c.story_by_order.result _ _ (λ failure is. inr ((c.in_ok-seen.seen, c.in_ok-seen.ensures.trace), inr is))
+    c.story_by_order.ensures
+
+-- And so is the record's.
+pub returns : goal.returns
+returns g c =
+    IfErr-weaker c.story_by_record.result _ _ (λ failure is. inr ((c.in_ok-seen.seen, c.in_ok-seen.ensures.trace), inl is))
+    c.story_by_record.ensures

@@ -1,0 +1,2 @@
+pub mod OrderedLine
+pub mod Witnessed

@@ -1,0 +1,27 @@
+-- Why an order doesn't explain a trace.
+use Rattle.nvm_orders.specs.Explanation.{IsExplanation}
+use Rattle.nvm_orders.specs.OrderView.{OrderView}
+use Rattle.nvm_orders.specs.RightFault.{IsOfOrder}
+use Rattle.nvm_orders.specs.declared.order_fault.OrderFault.{OrderFault}
+use Rattle.nvm_points.specs.PointView.{TableView}
+use Rattle.nvm_points.specs.declared.profile.Profile.{Profile}
+use Rattle.nvm_trace.specs.TraceView.{TraceView}
+use Rattle.nvm_judge.specs.Explained.{IsExplainedBy, IsWrong}
+use Rattle.nvm_judge.specs.declared.check_fault.CheckFault.{CheckFault}
+use Rattle.nvm_judge.specs.declared.check_fault.CheckFault.TheVariants.{Wrong, Order, NoMemory}
+
+-- A fault that is the order's own says that it doesn't explain the trace.
+abbrev pub IsUnexplainedFor : OrderFault → TraceView → Profile → OrderView → Type 0
+IsUnexplainedFor fault t profile o = IsOfOrder fault → IsExplainedBy t profile o → ⊥
+
+-- The fault says so. Want of memory says nothing.
+abbrev pub IsCheckFault : TraceView → Profile → OrderView → CheckFault → Type 0
+IsCheckFault t profile o (Wrong command) = IsWrong t profile command
+IsCheckFault t profile o (Order fault) = IsUnexplainedFor fault t profile o
+IsCheckFault t profile o NoMemory = Unit {0}
+
+-- The same of an order beside a table.
+abbrev pub IsTableFault : TableView → OrderView → CheckFault → Type 0
+IsTableFault t o (Wrong command) = ⊥
+IsTableFault t o (Order fault) = IsOfOrder fault → IsExplanation t o → ⊥
+IsTableFault t o NoMemory = Unit {0}

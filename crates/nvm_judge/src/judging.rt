@@ -1,0 +1,53 @@
+ghost use Rattle.std.specs.Prelude.{IfOk};
+ghost use Rattle.nvm_judge.specs.Judged.{IsFoundOf, IsJudged};
+ghost use Rattle.nvm_points.specs.PointView.{seen_table};
+
+use crate::judgment::Judgment;
+use nvm_order_search::order_of;
+use nvm_orders::{OrderFault, explains};
+use nvm_points::{Held, Points, PointsFault, Profile, points_of};
+use nvm_record::NoMemory;
+use nvm_trace::{Reads, Trace};
+use std::alloc::{AllocError, Global};
+
+/// What an order holds Reads to where the trace's head says this of them and nobody asks for more.
+pub fn held_of(reads: Reads) -> Held {
+    match reads {
+        Reads::Whole => Held::Atomic,
+        Reads::ByBlocks => Held::ByBlocks,
+    }
+}
+
+/// What a search among the points finds out.
+fn searched<'t>(alloc: Global, points: &Points<'t>, effort: u32) -> Result<Judgment<'t>, NoMemory>
+    ensures { IfOk result (IsFoundOf (seen_table points.now)) }
+{
+    let Some(order) = order_of(alloc, points, effort)? else {
+        return Ok(Judgment::Unknown);
+    };
+    match explains(alloc, points, &order) {
+        Ok(()) => Ok(Judgment::Explained(order)),
+        Err(OrderFault::NoMemory) => Err(AllocError),
+        Err(_) => Ok(Judgment::Unknown),
+    }
+}
+
+/// Whether an order explains the trace, held to this profile, or a reply is wrong by itself.
+///
+/// The search goes on for as long as `effort` allows. `Unknown` is given where it found no order, or one that the walk doesn't take.
+/// `NoMemory` is returned where a growth was refused: nothing is known then.
+#[tactic(auto, using(crate::proofs::Wrong::is_wrong))]
+pub fn judge<'t>(
+    alloc: Global,
+    trace: &'t Trace,
+    profile: Profile,
+    effort: u32,
+) -> Result<Judgment<'t>, NoMemory>
+    ensures { IfOk result (IsJudged trace.entry.now profile) }
+{
+    match points_of(alloc, trace, profile) {
+        Ok(points) => searched(alloc, &points, effort),
+        Err(PointsFault::Wrong { command }) => Ok(Judgment::Wrong { command }),
+        Err(PointsFault::NoMemory) => Err(AllocError),
+    }
+}
