@@ -49,7 +49,7 @@ pub struct Act {
     pub again: bool,
     /// Whether entries are before all of its point's blocks or after all.
     pub tied: bool,
-    /// Whether it is a Deallocate, an unknown command, or puts nothing.
+    /// Whether it puts nothing.
     pub is_look: bool,
     /// The act that has to be done before.
     pub before: u32,

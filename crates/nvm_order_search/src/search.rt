@@ -446,7 +446,7 @@ impl<'p> Search<'p> {
         if urgent == NONE {
             return Ok(Way::Done);
         }
-        if self.steps.len() > self.most {
+        if self.steps.len() > self.most || self.most_urgent == NONE {
             self.most = self.steps.len();
             self.most_urgent = urgent;
             self.left_back = self.effort;

@@ -100,9 +100,8 @@ impl<'p> Search<'p> {
             self.aim_at_givers(act)?;
             return Ok(true);
         }
-        let needed = self.too_soon_for(act)?;
-        if needed != NONE {
-            self.aim(needed, NONE)?;
+        if let Some((needed, slot)) = self.too_soon_for(act)? {
+            self.aim(needed, slot)?;
             return Ok(true);
         }
         Ok(false)
@@ -207,18 +206,8 @@ impl<'p> Search<'p> {
             let slot = match given.gives {
                 Gives::Nothing => NONE,
                 Gives::Slot(slot) => slot,
-                Gives::Anything => self.fresh_slot(cell.block),
-                Gives::Deallocated => {
-                    let zeroes = part.slots.of(cell.block, ZERO);
-                    let ones = part.slots.of(cell.block, part.ones);
-                    if part.zeroes_deallocated && zeroes != other {
-                        zeroes
-                    } else if part.ones_deallocated && ones != other {
-                        ones
-                    } else {
-                        NONE
-                    }
-                }
+                Gives::Anything => self.other_slot(cell.block, other)?,
+                Gives::Deallocated => self.deallocated_slot(cell.block, other)?,
             };
             if slot != NONE && slot != other && !part.slots.is_mark(slot) {
                 self.aim(writer, slot)?;
@@ -273,5 +262,23 @@ impl<'p> Search<'p> {
             }
         }
         Ok(false)
+    }
+
+    /// What a Deallocate may leave in the block other than a slot: what somebody has to find there, if that is one.
+    fn deallocated_slot(&mut self, block: u32, other: u32) -> Result<u32, NoMemory> {
+        let part = self.part;
+        let mut chosen = NONE;
+        let zeroes = part.slots.of(block, ZERO);
+        let ones = part.slots.of(block, part.ones);
+        if part.zeroes_deallocated && zeroes != other {
+            chosen = zeroes;
+        }
+        if part.ones_deallocated && ones != other {
+            let head = self.head(&part.lists.finders, ones)?;
+            if chosen == NONE || head < part.lists.finders.end(ones) {
+                chosen = ones;
+            }
+        }
+        Ok(chosen)
     }
 }

@@ -1,5 +1,5 @@
 //! Looks that are done as soon as they find what they found: they change nothing, so that no order is lost.
-use crate::acts::{Act, Gives, NONE, Wants};
+use crate::acts::{Act, Cell, Gives, NONE, Wants};
 use crate::lists::Lists;
 use crate::search::Search;
 use nvm_record::NoMemory;
@@ -82,7 +82,7 @@ impl<'p> Search<'p> {
         if act.before != NONE && !self.is_placed(act.before) {
             return Ok(false);
         }
-        if self.too_soon_for(&act)? != NONE {
+        if self.too_soon_for(&act)?.is_some() {
             return Ok(false);
         }
         if !act.tied {
@@ -100,11 +100,11 @@ impl<'p> Search<'p> {
         Ok(true)
     }
 
-    /// An act that may be done, that somebody needs, and that couldn't be done any more after this one.
-    pub(super) fn too_soon_for(&mut self, act: &Act) -> Result<u32, NoMemory> {
+    /// An act that may be done, that somebody needs, and that couldn't be done any more after this one, and the slot that it has to give.
+    pub(super) fn too_soon_for(&mut self, act: &Act) -> Result<Option<(u32, u32)>, NoMemory> {
         let part = self.part;
         if act.from <= self.latest() {
-            return Ok(NONE);
+            return Ok(None);
         }
         for at in self.head(&part.lists.optional, 0)?..part.lists.optional.end(0) {
             if part.lists.optional.time(at) >= act.from {
@@ -116,14 +116,37 @@ impl<'p> Search<'p> {
             }
             let other = part.act(number);
             for at in other.cell..other.cells_end() {
-                if let Gives::Slot(slot) = part.cell(at).gives {
-                    if self.is_needed(number, &other, slot, act.from)? {
-                        return Ok(number);
-                    }
+                if let Some(slot) = self.needed_of(number, &other, &part.cell(at), act.from)? {
+                    return Ok(Some((number, slot)));
                 }
             }
         }
-        Ok(NONE)
+        Ok(None)
+    }
+
+    /// The slot that somebody needs of what the cell may give.
+    fn needed_of(
+        &mut self,
+        number: u32,
+        act: &Act,
+        cell: &Cell,
+        after: u32,
+    ) -> Result<Option<u32>, NoMemory> {
+        let part = self.part;
+        let (from, to) = match cell.gives {
+            Gives::Slot(slot) => (slot, slot.saturating_add(1)),
+            Gives::Anything => (
+                part.slots.of(cell.block, 0),
+                part.slots.of(cell.block.saturating_add(1), 0),
+            ),
+            Gives::Nothing | Gives::Deallocated => (0, 0),
+        };
+        for slot in from..to {
+            if self.is_needed(number, act, slot, after)? {
+                return Ok(Some(slot));
+            }
+        }
+        Ok(None)
     }
 
     /// Whether somebody has to find the slot that the act may give, and nobody else can give it who may come after something that begins
@@ -221,7 +244,7 @@ impl<'p> Search<'p> {
                 break;
             }
             let giver = part.lists.anything.act(at);
-            if !self.is_over(giver) && part.act(giver).until >= after {
+            if giver != one && !self.is_over(giver) && part.act(giver).until >= after {
                 return Ok(true);
             }
         }
