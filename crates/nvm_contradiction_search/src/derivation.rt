@@ -7,7 +7,8 @@ use crate::sought::Sought;
 use crate::window::{Window, WindowFind};
 use nvm_points::Put;
 use nvm_record::NoMemory;
-use nvm_steps::{Orders, PlaceSet};
+use crate::orders::Orders;
+use crate::place_set::PlaceSet;
 use std::alloc::Global;
 use std::mem;
 

@@ -7,7 +7,7 @@ use crate::paths::{Link, path};
 use crate::settling::Condition;
 use crate::window::Window;
 use nvm_record::NoMemory;
-use nvm_steps::PlaceSet;
+use crate::place_set::PlaceSet;
 use std::alloc::Global;
 
 /// Why something of a window can't be.

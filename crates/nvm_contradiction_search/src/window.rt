@@ -3,7 +3,7 @@ use crate::sought::Sought;
 use nvm_contradiction::Node;
 use nvm_points::{Point, Put};
 use nvm_record::NoMemory;
-use nvm_steps::PlaceSet;
+use crate::place_set::PlaceSet;
 use std::alloc::Global;
 
 /// The most points that can have put what one found, where that is looked at.

@@ -1,7 +1,7 @@
 //! Acts by group and time.
 use crate::acts::NONE;
 use nvm_record::NoMemory;
-use nvm_steps::{Numbers, to_u32};
+use nvm_numbers::{Numbers, to_u32};
 use std::alloc::Global;
 
 /// An act of a group, at its time.

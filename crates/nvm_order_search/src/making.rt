@@ -7,7 +7,7 @@ use crate::slots::{Slot, Slots, UNKNOWN};
 use crate::together::is_left_out;
 use nvm_points::{Deallocated, Found, Point, Points, Presence, Put};
 use nvm_record::NoMemory;
-use nvm_steps::{MARK, Numbers, Values, ZERO, block_at, to_u32};
+use nvm_numbers::{MARK, Numbers, Values, ZERO, block_at, to_u32};
 use nvm_trace::Start;
 use std::alloc::Global;
 

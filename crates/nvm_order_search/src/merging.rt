@@ -7,7 +7,7 @@ use crate::together::done_together;
 use nvm_orders::{Content, FirstContent, Order, Placed, Value};
 use nvm_points::{Points, Presence};
 use nvm_record::NoMemory;
-use nvm_steps::{MARK, Numbers, Values, ZERO, block_at, to_u32};
+use nvm_numbers::{MARK, Numbers, Values, ZERO, block_at, to_u32};
 use std::alloc::Global;
 
 /// The bytes of a block of FFh.

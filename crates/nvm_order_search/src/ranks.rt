@@ -2,7 +2,7 @@
 use crate::acts::NONE;
 use nvm_points::Point;
 use nvm_record::NoMemory;
-use nvm_steps::to_u32;
+use nvm_numbers::to_u32;
 use std::alloc::Global;
 
 /// All times at which a point may begin or has to be over, rising.

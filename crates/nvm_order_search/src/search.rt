@@ -11,7 +11,7 @@ use crate::search::memory::{Memory, key};
 use crate::slots::UNKNOWN;
 use crate::state::State;
 use nvm_record::NoMemory;
-use nvm_steps::{Numbers, ZERO, to_u32};
+use nvm_numbers::{Numbers, ZERO, to_u32};
 use std::alloc::Global;
 
 /// An act in order.

@@ -4,7 +4,7 @@ use crate::making::Known;
 use crate::parts::Share;
 use nvm_points::{Deallocated, Found, Point, Points, Presence, Put};
 use nvm_record::{BlockSize, NoMemory};
-use nvm_steps::{Numbers, block_at, to_u32};
+use nvm_numbers::{Numbers, block_at, to_u32};
 use nvm_trace::Start;
 use std::alloc::Global;
 

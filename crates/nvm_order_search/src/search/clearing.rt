@@ -2,7 +2,7 @@
 use crate::acts::{Act, Gives, NONE, Wants};
 use crate::search::Search;
 use nvm_record::NoMemory;
-use nvm_steps::ZERO;
+use nvm_numbers::ZERO;
 
 impl<'p> Search<'p> {
     /// Whether nothing has to be done before the act. What has to be and can be is made a target.

@@ -2,7 +2,7 @@
 use crate::acts::{Act, Cell, Gives, NONE, Wants};
 use crate::search::{Move, Search, Target};
 use nvm_record::NoMemory;
-use nvm_steps::ZERO;
+use nvm_numbers::ZERO;
 
 impl<'p> Search<'p> {
     /// Finds moves that lead to the urgent act.
