@@ -1,8 +1,8 @@
 use crate::history::History;
 use nvm_contradiction::Node;
+use nvm_numbers::to_u32;
 use nvm_points::{Point, Presence, Put};
 use nvm_record::NoMemory;
-use nvm_numbers::to_u32;
 use std::alloc::Global;
 
 /// A node, in its component. They are ordered by component and by when they began.

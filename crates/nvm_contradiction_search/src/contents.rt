@@ -1,6 +1,6 @@
+use nvm_numbers::{Values, block_at};
 use nvm_points::{Found, Points, Put};
 use nvm_record::{BlockSize, NoMemory};
-use nvm_numbers::{Values, block_at};
 use std::alloc::Global;
 
 /// Bytes of FFh, as many as a block has at most.

@@ -2,13 +2,13 @@ use crate::absurd::{Absurd, absurd_of};
 use crate::derived::{Derived, Rule};
 use crate::grounds::Grounds;
 use crate::history::History;
+use crate::orders::Orders;
+use crate::place_set::PlaceSet;
 use crate::settling::{Condition, Settled, Whose, who_put};
 use crate::sought::Sought;
 use crate::window::{Window, WindowFind};
 use nvm_points::Put;
 use nvm_record::NoMemory;
-use crate::orders::Orders;
-use crate::place_set::PlaceSet;
 use std::alloc::Global;
 use std::mem;
 

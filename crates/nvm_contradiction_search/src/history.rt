@@ -4,9 +4,9 @@ use crate::sought::{ANYTHING, Sought};
 use crate::sure_writers::SureWriters;
 use crate::writers::{Asked, Run, Writer, Writers};
 use nvm_contradiction::Node;
+use nvm_numbers::{MARK, ZERO, to_u32};
 use nvm_points::{Deallocated, Found, Point, Points, Presence, Put};
 use nvm_record::NoMemory;
-use nvm_numbers::{MARK, ZERO, to_u32};
 use nvm_trace::Start;
 use std::alloc::Global;
 

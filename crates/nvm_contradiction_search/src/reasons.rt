@@ -4,10 +4,10 @@ use crate::derived::Rule;
 use crate::grounds::Grounds;
 use crate::history::History;
 use crate::paths::{Link, path};
+use crate::place_set::PlaceSet;
 use crate::settling::Condition;
 use crate::window::Window;
 use nvm_record::NoMemory;
-use crate::place_set::PlaceSet;
 use std::alloc::Global;
 
 /// Why something of a window can't be.

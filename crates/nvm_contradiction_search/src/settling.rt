@@ -1,8 +1,8 @@
 //! Whose block a node of a window found, by the orders that are known.
-use crate::window::WindowFind;
-use nvm_record::NoMemory;
 use crate::orders::Orders;
 use crate::place_set::PlaceSet;
+use crate::window::WindowFind;
+use nvm_record::NoMemory;
 use std::alloc::Global;
 
 /// That one node of a window has to come before another.

@@ -3,8 +3,8 @@ use crate::history::History;
 use crate::naming::Named;
 use crate::shortening::{least_contradiction, shorter};
 use nvm_contradiction::Node;
-use nvm_record::NoMemory;
 use nvm_numbers::to_u32;
+use nvm_record::NoMemory;
 use std::alloc::Global;
 
 /// How many of them are looked at, those first of which fewest other points can have put what they found.

@@ -1,9 +1,9 @@
 use crate::history::History;
+use crate::place_set::PlaceSet;
 use crate::sought::Sought;
 use nvm_contradiction::Node;
 use nvm_points::{Point, Put};
 use nvm_record::NoMemory;
-use crate::place_set::PlaceSet;
 use std::alloc::Global;
 
 /// The most points that can have put what one found, where that is looked at.
