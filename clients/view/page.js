@@ -147,7 +147,7 @@
 
     /** Whether it can have changed the block at this LBA: a Compare that failed changes nothing. */
     changes(lba) {
-      return !LOOKS.has(this.kind) && this.kind !== "other" && !this.statuses.includes("2/85") && this.has(lba);
+      return !LOOKS.has(this.kind) && this.kind !== "other" && this.bodies[0].deallocates !== false && !this.statuses.includes("2/85") && this.has(lba);
     }
 
     /** What it found in the block at this LBA, where it says so. */
@@ -164,6 +164,20 @@
         return "a mark";
       }
       return body.data === null ? ZEROES : blockOf(body.data, lba - body.ranges[0][0]);
+    }
+
+    /** What it found in the block and put there, in words; nothing where it did neither. */
+    deedAt(lba) {
+      const found = this.finds(lba);
+      const deeds = found === null ? [] : [`found ${brief(found)}`];
+      if (this.statuses[0] === "2/85" && this.has(lba)) {
+        deeds.push(`failed to compare ${brief(blockOf(this.bodies[0].data, lba - this.ranges[0][0]))}`);
+      }
+      if (this.changes(lba)) {
+        const isSure = this.statuses.length > 0 && !this.failed && this.kind !== "dataset";
+        deeds.push(`${isSure ? "put" : "may have put"} ${this.kind === "dataset" ? "what a deallocated block reads as" : brief(this.puts(lba))}`);
+      }
+      return deeds.length ? `job ${this.job} (${this.title}) ${deeds.join(" and ")}` : "";
     }
   }
 
@@ -203,84 +217,35 @@
 
   const owners = page.kind === "explained" ? ownersOfPieces() : commands;
 
-  // ---- the facts of an argument ----
+  const compareTimes = (one, other) => one.length - other.length || (one < other ? -1 : one > other ? 1 : 0);
 
-  function nameOf(piece) {
-    const part = "block" in piece ? ` block ${piece.block}` : "unit" in piece ? ` in unit ${piece.unit}` : "";
-    return `job ${piece.job}${part}`;
-  }
+  // ---- the facts of a contradiction ----
 
-  function factText(fact) {
-    const front = fact.before && `${nameOf(fact.before)} stands before ${nameOf(fact.after)}: `;
-    const [one, other, reader] = ["before", "after", "reader"].map((it) => fact[it] && nameOf(fact[it]));
-    switch (fact.rule) {
-      case "time":
-        return `${front}${one} had ended at ${fact.ended}, and ${other} began at ${fact.began}`;
-      case "source":
-        return `${front}only ${one} can have put what ${other} found in LBA ${fact.lba}`;
-      case "over":
-        return `${front}${other} put something in LBA ${fact.lba} after ${nameOf(fact.source)}, whose data ${one} found there`;
-      case "under":
-        return `${front}${one} put something in LBA ${fact.lba}, stands before ${reader}, and ${reader} found there what ${other} had put`;
-      case "first":
-        return `${front}${one} found in LBA ${fact.lba} the zeroes that were there at first, and nobody can have left zeroes there`;
-      default:
-        return `${reader} found in LBA ${fact.lba} what nobody can have left there`;
-    }
-  }
-
-  /** The fewest facts that lead from this piece of a job back to itself. */
-  function circleOf(start) {
-    const ways = new Map([[nameOf(start), []]]);
-    for (const [name, way] of ways) {
-      for (const fact of page.facts.filter((it) => it.before && nameOf(it.before) === name)) {
-        const next = nameOf(fact.after);
-        if (next === nameOf(start)) {
-          return [...way, fact];
-        }
-        if (!ways.has(next)) {
-          ways.set(next, [...way, fact]);
-        }
+  /** The fewest facts that lead from the point of the conclusion back to itself: at one block, or by times. */
+  function circleOf() {
+    const start = page.conclusion.from;
+    const goesOn = (one, other) => one.to === other.from && (one.lba === other.lba || !("lba" in one && "lba" in other) || !LOOKS.has(commands[other.before].kind));
+    const ways = page.facts.filter((it) => start && it.from === start).map((it) => [it]);
+    const seen = new Set(ways.map((way) => way[0]));
+    for (const way of ways) {
+      const last = way[way.length - 1];
+      if (last.to === start) {
+        return way;
+      }
+      for (const next of page.facts.filter((it) => it.from && !seen.has(it) && goesOn(last, it))) {
+        seen.add(next);
+        ways.push([...way, next]);
       }
     }
     return [];
   }
 
-  const compareTimes = (one, other) => one.length - other.length || (one < other ? -1 : one > other ? 1 : 0);
-
-  /** The commands that can be the last that changed the block before this one saw it, by their times alone, and whether none need have. */
-  function lastChanges(reader, lba) {
-    const all = commands.filter((it) => it !== reader && it.changes(lba));
-    const sure = all.filter((it) => it.statuses.length && !it.failed && it.ended !== null && compareTimes(it.ended, reader.began) < 0);
-    const latest = sure.reduce((most, it) => (most === null || compareTimes(it.began, most) > 0 ? it.began : most), null);
-    const isOver = (it) => it.ended !== null && latest !== null && compareTimes(it.ended, latest) < 0;
-    const last = all.filter((it) => !isOver(it) && (reader.ended === null || compareTimes(it.began, reader.ended) <= 0));
-    return { last, isFirst: sure.length === 0 };
+  if (page.kind === "contradiction") {
+    const circle = circleOf();
+    circle.forEach((fact) => (fact.isRed = true));
+    [page.conclusion.reader, ...circle.flatMap((it) => [it.before, it.after])].filter((it) => it in commands).forEach((job) => (commands[job].isRed = true));
   }
 
-  /** Of a contradiction: the facts that close the circle, what was found against the order of time, and the commands of both. */
-  function gistOf() {
-    const final = page.facts[page.facts.length - 1];
-    const circle = page.itself ? circleOf(page.itself) : [final];
-    const seen = new Map();
-    for (const fact of circle.filter((it) => it.rule !== "time")) {
-      const { job } = fact.reader || (fact.rule === "source" ? fact.after : fact.before);
-      seen.set(`${job} ${fact.lba}`, { reader: commands[job], lba: fact.lba });
-    }
-    const jobs = new Set(circle.flatMap((it) => [it.before, it.after, it.reader, it.source].filter(Boolean).map((piece) => piece.job)));
-    const findings = [...seen.values()].map((it) => ({ ...it, found: it.reader.finds(it.lba), ...lastChanges(it.reader, it.lba) })).filter((it) => it.found !== null);
-    for (const { last } of findings) {
-      last.slice(0, 4).forEach((it) => jobs.add(it.job));
-    }
-    const isLong = page.facts.length > 8 && jobs.size < page.named.length;
-    const marked = isLong ? circle : page.facts;
-    const rings = new Set(circle.flatMap((it) => [it.before, it.after].filter(Boolean).map((piece) => piece.job)));
-    rings.forEach((job) => (commands[job].isRed = true));
-    marked.filter((it) => circle.includes(it)).forEach((it) => (it.isRed = true));
-    return { circle, findings, jobs, isLong, reader: findings.length ? findings[0].reader : commands[page.named[0]] };
-  }
-
-  const gist = page.kind === "contradiction" ? gistOf() : null;
   // ---- rows ----
   // A row has items that don't overlap, by where they begin. An item has its command, where it begins and ends, and what it is.
 
@@ -429,9 +394,9 @@
     return { at: (time) => ranks.get(time), end: times.length, text: (x) => (Number.isInteger(x) ? times[x] || "" : ""), gap: 0.85 };
   }
 
-  const isShown = (command) => ({ gist: gist && gist.jobs.has(command.job), named: command.isNamed }[byId("only").value] ?? true);
+  const isShown = (command) => byId("only").value !== "named" || command.isNamed;
 
-  /** Of a trace: lanes by host, as many as it has commands under way together, and for a record that explains it the units' orders. */
+  /** Of a trace: lanes by host, as many as it has commands under way together, and where it is explained the units' orders. */
   function rowsOfTrace() {
     const shown = commands.filter(isShown);
     const scale = scaleOf(shown, byId("clock").checked);
@@ -456,16 +421,28 @@
     width = scale.end + 0.5;
     axis = scale.text;
     arrows = [];
-    if (page.kind === "explained") {
-      rows.push(...unitsOfTrace(scale));
-    }
     if (page.kind === "contradiction") {
-      arrows = page.facts.flatMap((fact, place) => (fact.before ? [{ number: place + 1, from: commands[fact.before.job], to: commands[fact.after.job], isRed: fact.isRed, isFaint: gist.isLong && !fact.isRed }] : []));
+      arrows = page.facts.flatMap((fact, place) => (fact.from && fact.before !== fact.after ? [{ number: place + 1, from: commands[fact.before], to: commands[fact.after], isRed: fact.isRed }] : []));
+    } else {
+      rows.push(...unitsOfTrace(page.kind === "ordered" ? stepsOfOrder() : stepsOfRecord(), scale));
     }
   }
 
-  /** The order of each unit's steps by the record. A step is drawn where it can be at the earliest: after those before it, and in its command's time. */
-  function unitsOfTrace(scale) {
+  /** Of each unit the points that the order has there, in its order. */
+  function stepsOfOrder() {
+    const units = new Map();
+    page.placed.forEach((placed) => {
+      for (let unit = unitOf(placed.lba); unit <= unitOf(placed.lba + Math.max(placed.blocks, 1) - 1); unit += 1) {
+        units.set(unit, units.get(unit) || []);
+        units.get(unit).push({ command: commands[placed.job], placed, look: !placed.puts });
+      }
+    });
+    return units;
+  }
+
+  /** Of each unit the steps that the record has there, in their order. */
+  function stepsOfRecord() {
+    const units = new Map();
     const looks = new Map();
     const made = new Set();
     for (const done of page.done) {
@@ -477,27 +454,33 @@
         }
         const of = looks.get(part.unit) || new Map();
         looks.set(part.unit, of);
-        of.set(part.point, [...(of.get(part.point) || []), { done, part }]);
+        of.set(part.point, [...(of.get(part.point) || []), { command: owners[done.job], entry: null, part, look: true }]);
       }
     }
-    const numbers = new Set([...entries.keys(), ...looks.keys()]);
-    return [...numbers].sort((one, other) => one - other).map((unit) => {
-      const row = rowOf(`unit ${unit} LBA ${firstOf(unit)}`, "unit", { unit });
+    for (const unit of new Set([...entries.keys(), ...looks.keys()])) {
       const history = entries.get(unit) || [];
-      let x = -1;
-      const put = (job, entry, part) => {
-        const command = owners[job] || null;
-        x = Math.max(x, command && command.item ? command.item.x0 : -1);
-        row.items.push({ command, job: command ? command.job : null, x0: x, x1: x + 0.16, entry, part, look: !entry });
-        x += 0.18;
-      };
+      const steps = [];
       for (let place = 0; place <= history.length; place += 1) {
-        for (const { done, part } of (looks.get(unit) || new Map()).get(place) || []) {
-          put(done.job, null, part);
-        }
+        steps.push(...((looks.get(unit) || new Map()).get(place) || []));
         if (history[place]) {
-          put(history[place].job, history[place], null);
+          steps.push({ command: owners[history[place].job], entry: history[place], part: null, look: false });
         }
+      }
+      units.set(unit, steps);
+    }
+    return units;
+  }
+
+  /** A row for each unit. A step is drawn where it can be at the earliest: after those before it, and in its command's time. */
+  function unitsOfTrace(units, scale) {
+    return [...units.keys()].sort((one, other) => one - other).map((unit) => {
+      const row = rowOf(`unit ${unit} LBA ${firstOf(unit)}`, "unit", { unit });
+      let x = -1;
+      for (const step of units.get(unit)) {
+        const command = step.command || null;
+        x = Math.max(x, command && command.item ? command.item.x0 : -1);
+        row.items.push({ ...step, command, job: command ? command.job : null, x0: x, x1: x + 0.16 });
+        x += 0.18;
       }
       width = Math.max(width, Math.min(x, scale.end + 2));
       return row;
@@ -701,7 +684,7 @@
     };
     const here = shown.reduce((sum, row) => sum + hereOf(row), 0);
     const all = rows.reduce((sum, { items }) => sum + items.length, 0);
-    const left = commands.length - (gist ? { gist: gist.jobs.size, named: page.named.length }[byId("only").value] ?? commands.length : commands.length);
+    const left = commands.filter((it) => !isShown(it)).length;
     const full = shown.filter((row) => row.y >= view.top - 4 && row.y + LANE <= view.top + h).length;
     const texts = [`${grouping(full)} of ${many(rows.length, "row")}`, `${grouping(here)} of ${grouping(all)} ${all === 1 ? "box" : "boxes"} in view`];
     if (left > 0) {
@@ -711,8 +694,6 @@
   }
 
   function shapesOfArrows(colors, shapes) {
-    const ofPicked = arrows.filter((it) => it.from === picked || it.to === picked);
-    const isFew = ofPicked.length <= 8;
     arrows.forEach((arrow, place) => {
       const [one, other] = [arrow.from.item, arrow.to.item];
       if (!one || !other) {
@@ -728,18 +709,13 @@
       const [x, y] = end(one, true);
       const [x2, y2] = end(other, false);
       const edge = arrow.isRed ? colors.bad : colors.quiet;
-      const isFaint = arrow.isFaint && !(isFew && ofPicked.includes(arrow));
-      const alpha = isFaint ? 0.3 : 1;
       const bend = isSame ? (isBack ? 52 : -52) : 0;
       const lean = isSame ? 0 : one.row.y < other.row.y ? 30 : -30; // down and up lie apart
       const middle = [(x + x2) / 2 + lean, (y + y2) / 2 + bend];
-      shapes.push({ is: "curve", x, y, cx: middle[0], cy: middle[1], x2, y2, edge, wide: isFaint ? 1 : 2, alpha });
+      shapes.push({ is: "curve", x, y, cx: middle[0], cy: middle[1], x2, y2, edge, wide: 2, alpha: 1 });
       const angle = Math.atan2(y2 - middle[1], x2 - middle[0]);
       const tip = (turn) => [x2 - 9 * Math.cos(angle + turn), y2 - 9 * Math.sin(angle + turn)];
-      shapes.push({ is: "area", points: [[x2, y2], tip(0.4), tip(-0.4)], fill: edge, alpha });
-      if (isFaint) {
-        return;
-      }
+      shapes.push({ is: "area", points: [[x2, y2], tip(0.4), tip(-0.4)], fill: edge, alpha: 1 });
       // Where a quarter of the curve is behind.
       const at = [0.5625 * x + 0.375 * middle[0] + 0.0625 * x2, 0.5625 * y + 0.375 * middle[1] + 0.0625 * y2];
       const half = 5 + 4 * String(arrow.number).length;
@@ -942,23 +918,38 @@
     return lba >= entry.lba && lba < entry.lba + entry.blocks;
   }
 
+  /** By an order: the last position that put something in the block before the command found it there. */
+  function writersByOrder(command) {
+    const last = new Map();
+    const answers = new Map();
+    const each = (placed, tell) => {
+      for (let lba = placed.lba; lba < placed.lba + placed.blocks; lba += 1) {
+        tell(lba);
+      }
+    };
+    page.placed.forEach((placed) => {
+      if (placed.job === command.job && placed.finds) {
+        each(placed, (lba) => answers.set(lba, last.get(lba) || "what was there at first"));
+      }
+      if (placed.puts) {
+        each(placed, (lba) => last.set(lba, `job ${placed.job} (position ${placed.position})`));
+      }
+    });
+    return grouped([...answers].sort((one, other) => one[0] - other[0]));
+  }
+
   const MOST = 64;
 
-  /** By a trace: the commands that put these bytes into the block, and whether their times let them be the last. */
+  /** By a trace alone: the commands that put these bytes into the block. */
   function writersByContent(command) {
     const answers = [];
     const [first, blocks] = command.ranges[0];
     for (let lba = first; lba < first + Math.min(blocks, MOST); lba += 1) {
       const found = command.finds(lba);
-      const { last, isFirst } = lastChanges(command, lba);
-      const listed = (them) => [...them.slice(0, 4).map((it) => `job ${it.job}`), ...(them.length > 4 ? ["others"] : [])];
-      const texts = listed(last.filter((it) => it.puts(lba) === found));
-      if (isFirst && (page.namespace.start !== "zeroes" || found === ZEROES)) {
-        texts.push(page.namespace.start === "zeroes" ? "the zeroes of the beginning" : "what was there at first");
-      }
-      const others = commands.filter((it) => it !== command && it.changes(lba) && it.puts(lba) === found);
-      const against = `by their times only ${listed(last).join(" or ") || "nobody"} can be the last there`;
-      answers.push([lba, texts.join(" or ") || (others.length ? `${listed(others).join(" or ")} put the same, but ${against}` : `nobody in this trace put that, and ${against}`)]);
+      const same = commands.filter((it) => it !== command && it.changes(lba) && it.puts(lba) === found).map((it) => `job ${it.job}`);
+      const texts = [...same.slice(0, 4), ...(same.length > 4 ? [many(same.length - 4, "other")] : [])];
+      const first = page.namespace.start === "zeroes" && found === ZEROES ? ", and it was there at first" : "";
+      answers.push([lba, `${texts.join(", ") || "nobody in this trace"} put that${first}`]);
     }
     return [...grouped(answers), ...(blocks > MOST ? [`${many(blocks - MOST, "more block")} not looked up`] : [])];
   }
@@ -1013,8 +1004,8 @@
       add("data", shortened(page.runs[command.data], 600), "words");
     }
     if (command.ranges.length === 1 && command.ranges[0][1] && command.finds(command.ranges[0][0]) !== null) {
-      const byRecord = page.kind !== "contradiction";
-      (byRecord ? writersByRecord(command) : writersByContent(command)).forEach((line) => add("written by", line));
+      const writers = { contradiction: writersByContent, ordered: writersByOrder }[page.kind] || writersByRecord;
+      writers(command).forEach((line) => add("written by", line));
     }
     return list;
   }
@@ -1133,7 +1124,7 @@
     if (picked) {
       words.unshift(`job=${picked.job}`);
     }
-    if (gist) {
+    if (page.kind === "contradiction") {
       words.push(`only=${byId("only").value}`);
     }
     try {
@@ -1178,8 +1169,8 @@
   }
 
   function hintOf(item) {
-    const { command, entry, part } = item;
-    const place = entry ? `unit ${entry.unit} place ${entry.place}\n` : part && item.row.kind === "unit" ? `unit ${part.unit} point ${part.point} ${part.result}\n` : "";
+    const { command, entry, part, placed } = item;
+    const place = placed ? `position ${placed.position}: ${placed.lba}+${placed.blocks}${shortened(spelled(placed.does), 200)}\n` : entry ? `unit ${entry.unit} place ${entry.place}\n` : part && item.row.kind === "unit" ? `unit ${part.unit} point ${part.point} ${part.result}\n` : "";
     const marks = item.last ? "the last change before the fault\n" : item.bad && !isTrace ? "the first fault\n" : "";
     return command ? `${marks}${place}job ${command.job} host ${command.host} cid ${command.cids.join(" ")}\n${shortened(command.words, 200)}\n${command.status}${command.data === null ? "" : ` ${shortened(page.runs[command.data], 120)}`}` : `${marks}${place}a preparation`;
   }
@@ -1312,9 +1303,9 @@
       case "unlawful":
         return `Not lawful: ${page.fault.fault} at job ${page.fault.job}${page.fault.unit === null || page.fault.unit === undefined ? "" : `, unit ${page.fault.unit}, place ${page.fault.place}`}`;
       case "explained":
-        return `Explained: an order of ${numbers.steps} steps in ${numbers.units} units gives what the hosts of ${numbers.jobs} commands saw${numbers.excused === "0" ? "" : `, ${numbers.excused} excused`}`;
+        return numbers.points ? `Explained: an order of ${numbers.points} points gives what the hosts of ${numbers.jobs} commands saw` : `Explained: an order of ${numbers.steps} steps in ${numbers.units} units gives what the hosts of ${numbers.jobs} commands saw${numbers.excused === "0" ? "" : `, ${numbers.excused} excused`}`;
       default:
-        return `Contradiction: no order of these ${many(page.named.length, "command")} in unit ${page.unit} gives what their hosts saw`;
+        return `Contradiction: no order of what ${page.named.length === 1 ? "this command" : `these ${grouping(page.named.length)} commands`} may have done gives what their hosts saw`;
     }
   }
 
@@ -1325,24 +1316,13 @@
       list.append(...items);
       return list;
     };
-    const folded = (text, list) => {
-      const it = document.createElement("details");
-      it.append(element("summary", text), list);
-      return it;
-    };
-    if (gist) {
-      const items = (facts) =>
-        facts.map((fact) => {
-          const it = linked("li", factText(fact), fact.isRed ? "bad" : "");
-          it.value = page.facts.indexOf(fact) + 1;
-          return it;
-        });
-      why.append(element("h2", "Why"), ...gist.findings.map((it) => linked("p", findingText(it))));
-      why.append(listed("ol", items(gist.isLong ? gist.circle : page.facts)), linked("p", page.itself ? `So ${nameOf(page.itself)} stands before itself.` : "This alone is the contradiction.", "bad"));
-      if (gist.isLong) {
-        why.append(folded(`All ${many(page.facts.length, "fact")} of the argument`, listed("ol", items(page.facts))));
+    if (page.kind === "contradiction") {
+      why.append(element("h2", "Why"), listed("ol", page.facts.map((fact) => linked("li", fact.text, fact.isRed ? "bad" : ""))), linked("p", page.conclusion.text, "bad"));
+      for (const lba of [...new Set([...page.facts, page.conclusion].filter((it) => "lba" in it).map((it) => it.lba))].sort((one, other) => one - other)) {
+        why.append(element("h2", `LBA ${lba}`), listed("ul", commands.filter((it) => it.isNamed).map((it) => it.deedAt(lba)).filter(Boolean).map((text) => linked("li", text))));
       }
-      why.append(element("p", "This holds the device to the profile of nvq certify. The standard lets a device do more: Zalkvorn's docs/STANDARD.md says what.", "quiet"));
+      const [, held] = /( reads .*)$/.exec(page.verdict);
+      why.append(element("p", `By the standard, held to${held}: Zalkvorn's docs/STANDARD.md says what that is.`, "quiet"));
       return;
     }
     const kindOf = (line) => (/^(first difference|the step gives)/.test(line) ? "bad" : /^last change/.test(line) ? "last" : "");
@@ -1350,13 +1330,15 @@
     const lines = page.lines.slice(0, 200);
     const more = page.lines.length > lines.length ? [element("li", `${many(page.lines.length - lines.length, "more line")}: nvq explain prints them`, "quiet")] : [];
     if (!page.fault) {
-      why.append(element("h2", isTrace ? "The record that explains it" : "What was found"), listed("ul", [...items(lines), ...more]));
+      why.append(element("h2", { explained: "The record that explains it", ordered: "The order that explains it" }[page.kind] || "What was found"), listed("ul", [...items(lines), ...more]));
       return;
     }
     const isMain = (line, place) => place === 0 || /^recorded:/.test(line) || kindOf(line);
     const told = faultText();
     why.append(element("h2", "What is wrong"), ...(told ? [linked("p", told, "bad")] : []), listed("ul", items(lines.filter(isMain))));
-    why.append(folded("What the record has there", listed("ul", [...items(lines.filter((line, place) => !isMain(line, place))), ...more])));
+    const folded = document.createElement("details");
+    folded.append(element("summary", "What the record has there"), listed("ul", [...items(lines.filter((line, place) => !isMain(line, place))), ...more]));
+    why.append(folded);
   }
 
   /** What the job of the fault did, in a sentence, and who changed that block last; nothing where the lines don't say so. */
@@ -1378,21 +1360,6 @@
       texts.push(`It was answered ${command.status}, and not ${gives[1].trim()}.`);
     }
     return texts.join(" ");
-  }
-
-  /** What a command found, and what it can have found. */
-  function findingText({ reader, lba, found, last, isFirst }) {
-    const told = (it) => `job ${it.job} (${it.title}), which put ${brief(it.puts(lba))}`;
-    const front = `job ${reader.job} (${reader.title}) found ${brief(found)} in LBA ${lba}.`;
-    const others = commands.filter((it) => it.isNamed && it !== reader && it.puts(lba) === found && !last.includes(it));
-    if (last.length !== 1 || isFirst) {
-      const texts = [...last.slice(0, 4).map(told), ...(last.length > 4 ? [many(last.length - 4, "other")] : []), ...(isFirst ? ["nobody"] : [])];
-      return `${front} By their times, the last to change it before can be ${texts.join(", or ")}.`;
-    }
-    const before = others.filter((it) => it.ended !== null && compareTimes(it.ended, last[0].began) < 0).length;
-    const after = others.filter((it) => reader.ended !== null && compareTimes(it.began, reader.ended) > 0).length;
-    const texts = [...(before ? [` ${many(before, "command")} that put the same had ended before job ${last[0].job} began.`] : []), ...(after ? [` ${many(after, "command")} that put the same began after job ${reader.job} had ended.`] : [])];
-    return `${front} By their times, the last to change it before is ${told(last[0])}.${texts.join("")}`;
   }
 
   function fillKey() {
@@ -1417,9 +1384,9 @@
     const some = commands[0] ? [`${KINDS[commands[0].kind][0]} 7 8+4: job 7, 4 blocks from LBA 8`] : [];
     const marks = [...some, "filled: it changes blocks; open and round: it looks at them", "× and bold: a status that isn't 0/00", ...(isTrace && commands.some((it) => it.ended === null) ? ["dashed: no end was seen"] : [])];
     if (page.kind === "contradiction") {
-      marks.push("an arrow: the first of two is before the other, by the fact of that number", "red: what would be before itself", ...(gist.isLong ? ["thin: the other facts; of a command that is clicked they are shown whole, where they are at most 8"] : []));
-    } else if (page.kind === "explained") {
-      marks.push("units: the order that the record gives; a step is drawn where it can be at the earliest");
+      marks.push("an arrow: the first of two is before the other, by the fact of that number", "red: what would come before itself, or what nobody can have left");
+    } else if (isTrace) {
+      marks.push("units: the order that explains it; a step is drawn where it can be at the earliest");
     } else {
       marks.push("a column: one step, in an order that workers and units keep", "units: boxes are changes by place; open ones looked there, F failed, M no memory, L full", "red ring: the first fault; violet, dashed: the last change before it");
     }
@@ -1442,7 +1409,7 @@
     document.title = `${page.files.join(", ")}: ${page.verdict}`;
     const { nsze, nabsn, nabo, nawun, nacwu } = page.namespace;
     const units = nabsn ? `units of ${nabsn + 1} blocks${nabo ? ` from LBA ${nabo} on` : ""}` : "no boundaries";
-    const more = isTrace ? `, start ${page.namespace.start}, reads ${page.namespace.reads}` : `, ${many(page.namespace.workers, "worker")}`;
+    const more = isTrace ? `, start ${page.namespace.start}${page.kind === "explained" ? `, reads ${page.namespace.reads}` : ""}` : `, ${many(page.namespace.workers, "worker")}`;
     byId("about").textContent = `${page.files.join(", ")}: ${page.verdict} · ${nsze} blocks of ${BLOCK} bytes, ${units}, NAWUN ${nawun}, NACWU ${nacwu}${more}`;
     const kinds = byId("filters").elements.kind;
     for (const [kind, [, name]] of Object.entries(KINDS)) {
@@ -1450,10 +1417,9 @@
       option.value = kind;
       kinds.append(option);
     }
-    byId("only-label").hidden = !gist;
-    if (gist) {
-      const choices = [["all", `all ${grouping(commands.length)}`], ["named", `the ${grouping(page.named.length)} that the verdict names`], ...(gist.isLong ? [["gist", `the ${grouping(gist.jobs.size)} that matter most`]] : [])];
-      byId("only").append(...choices.reverse().map(([value, text]) => new Option(text, value)));
+    byId("only-label").hidden = page.kind !== "contradiction";
+    if (page.kind === "contradiction") {
+      byId("only").append(new Option(`the ${grouping(page.named.length)} that the verdict names`, "named"), new Option(`all ${grouping(commands.length)}`, "all"));
     }
     byId("scale-label").hidden = !isTrace;
     layOut();
@@ -1463,8 +1429,9 @@
     listen();
     const place = new URLSearchParams(location.hash.slice(1));
     showVerdict();
-    if (gist || (page.fault && commands[page.fault.job])) {
-      pick(gist ? gist.reader : commands[page.fault.job], false);
+    const first = page.fault ? commands[page.fault.job] : page.kind === "contradiction" ? commands.find((it) => it.isNamed && LOOKS.has(it.kind)) || commands[page.named[0]] : null;
+    if (first) {
+      pick(first, false);
       fillTable(true);
     }
     if (place.size) {
