@@ -27,11 +27,19 @@ FRESH = STALE.replace("= 0/00 512*41", "= 0/00 512*42")
 # A Read and a Write that are under way together: each may be first.
 OPEN = HEAD.format(start="unknown") + "1 9 1 1 write 0 2 55 = 0/00\n2 8 2 7 compare 0 1 55 = 2/85\n10 11 2 8 dataset 0+1 deallocate = 0/00\n"
 
-# Zeroes are put in LBA 9 again and again, then other bytes; and a Read finds zeroes: all that put zeroes has a part in why it can't have.
+# Two Writes are under way together, and each of two Reads afterwards finds another one of them.
+CROSSED = HEAD.format(start="zeroes") + (
+    "1 10 1 1 write 8 2 41 = 0/00\n2 10 2 1 write 8 2 42 = 0/00\n11 12 3 1 read 8 1 = 0/00 512*41\n13 14 3 2 read 9 1 = 0/00 512*42\n15 - 2 2 write 20 1 43\n"
+)
+# Zeroes are put in LBA 9 again and again, then other bytes; and a Read finds zeroes.
 LONG = HEAD.format(start="zeroes") + (
     "".join(f"{10 * it} {10 * it + 5} 1 {it} zeroes 8 8 = 0/00\n" for it in range(1, 13))
     + "130 135 2 1 write 9 1 42 = 0/00\n140 145 2 2 read 9 1 = 0/00 512*00\n150 155 1 20 write 20 1 43 = 0/00\n"
 )
+
+# What one host asks of our engine, and sees.
+OWN = "write 9 1 41\nread 9 1\n"
+OWN_SEEN = HEAD.format(start="zeroes").replace("nacwu 3", "nacwu 7") + "1 2 1 1 write 9 1 41 = 0/00\n3 4 1 2 read 9 1 = 0/00 512*41\n"
 
 # What the reader does, and what is written down: the text of elements, and how many there are.
 HARNESS = """<!doctype html><meta charset="utf-8"><iframe id="page" style="width:1300px;height:900px"></iframe><pre id="said"></pre><script>
@@ -50,7 +58,7 @@ frame.addEventListener("load", () => setTimeout(() => {
   said.only = page.getElementById("only").value;
   said.choices = of("#only option");
   said.seen = page.getElementById("seen").textContent;
-  said.facts = of("#why > ol > li");
+  said.bad = of("#why .bad");
   said.folded = of("#why details:not([open]) li");
   said.selected = of('#table [aria-selected="true"] span:first-child');
   const form = page.getElementById("filters"), count = () => page.getElementById("count").textContent;
@@ -172,44 +180,60 @@ def traces(rows, folder):
     rows.hold("the page of a contradiction", written([kept("stale.txt", STALE), page]), (0, ""))
     said = looked(folder, "page.html", [["host", "2"], ["cid", "1"], ["unit", "2"], ["text", "512*42"]], 2)
     rows.hold("an error in it", said.get("error"), None)
-    rows.hold("its verdict", said.get("verdict"), "Contradiction: no order of these 3 commands in unit 1 gives what their hosts saw")
+    rows.hold("its verdict", said.get("verdict"), "Contradiction: no order of points gives what the hosts of 4 commands saw")
     rows.hold("its commands alone are shown", said.get("only"), "named")
     rows.hold("how much is in view", said.get("seen"), "2 of 2 rows · 3 of 3 boxes in view · 1 other command left out")
-    found = "job 2 (Read 9+1) found 512*41 in LBA 9. By their times, the last to change it before is job 1 (Write 9+1), which put 512*42. 1 command that put the same had ended before job 1 began."
-    rows.hold("what was found, in a sentence", said.get("why", [""])[0], found)
+    told = said.get("why", [])
+    rows.hold("its facts", told[:2], ["job 0 comes before job 1: it had ended at 2, and job 1 began at 3", "job 1 comes before job 2: it had ended at 4, and job 2 began at 5"])
+    rows.hold("what is absurd", told[2:3], ["job 2 found in LBA 9 what nobody can have left there"])
+    rows.hold("what was done in the block", told[3:6], ["job 0 (Write 9+1) put 512*41", "job 1 (Write 9+1) put 512*42", "job 2 (Read 9+1) found 512*41"])
     rows.hold("what found it, in view", said.get("details"), ["job 2: Read 9+1"])
     rows.hold("its marked commands", said.get("named"), ["0", "1", "2"])
+    rows.hold("what is red", said.get("bad"), ["job 2 found in LBA 9 what nobody can have left there"])
     rows.hold("its lanes", said.get("labels"), ["host 1", "host 2"])
-    rows.hold("a fact for each number", len(said.get("why", [])) >= 3, True)
     rows.hold("one host", said.get("filtered", {}).get("host"), ["2 of 4", ["2", "3"]])
     rows.hold("one CID", said.get("filtered", {}).get("cid"), ["2 of 4", ["0", "2"]])
     rows.hold("one unit", said.get("filtered", {}).get("unit"), ["1 of 4", ["3"]])
     rows.hold("some data", said.get("filtered", {}).get("text"), ["1 of 4", ["1"]])
-    rows.has("who can have written what was read", said.get("fields", []), "LBA 9: job 0 put the same, but by their times only job 1 can be the last there")
+    rows.has("who put the same", said.get("fields", []), "LBA 9: job 0 put that")
     rows.hold("the next command", said.get("stepped", "")[:5], "job 2")
+
+    rows.hold("the page of a contradiction with a circle", written([kept("crossed.txt", CROSSED), page]), (0, ""))
+    said = looked(folder, "page.html", [], 4)
+    rows.hold("an error in it", said.get("error"), None)
+    circle = [
+        "job 1 comes before job 0 in LBA 8: job 1 put something there, comes before job 2, and job 2 found job 0's data",
+        "job 0 comes before job 1 in LBA 9: job 0 put something there, comes before job 3, and job 3 found job 1's data",
+    ]
+    rows.hold("what leads from a command back to itself", said.get("bad"), [*circle, "so job 0 comes before itself"])
+    rows.hold("what found one of them, in view", said.get("details"), ["job 2: Read 8+1"])
+    rows.hold("a jump to a command that isn't shown", (said.get("jumped"), said.get("shown")), ("job 4: Write 20+1", "all"))
 
     rows.hold("the page of an explained trace", written([kept("fresh.txt", FRESH), page]), (0, ""))
     said = looked(folder, "page.html", [["kind", "write"]], 3)
     rows.hold("an error in it", said.get("error"), None)
-    rows.has("its verdict", said.get("verdict", ""), "Explained: an order of ")
+    rows.hold("its verdict", said.get("verdict"), "Explained: an order of 3 points gives what the hosts of 4 commands saw")
     rows.has("a row for a unit", said.get("labels", []), "unit 1 LBA 8")
     rows.hold("all are shown", said.get("choices"), [])
     rows.has("no end", said.get("fields", []), "7 to no end that was seen")
 
     said = looked(folder, "page.html", [], 2)
-    rows.has("who wrote what was read, by the record", said.get("fields", []), "LBA 9: job 1 (unit 1 place 1)")
+    rows.has("who wrote what was read, by the order", said.get("fields", []), "LBA 9: job 1 (position 1)")
+    rows.has("the order, a point a line", said.get("why", []), "position 2 point 2 lba 9 blocks 1 job 2 finds 512*42")
+
+    subprocess.run([NVQ, "run", "--nsze", "32", "--nacwu", "7", "--workers", "1", "--record", os.path.join(folder, "own.nvr"), kept("own.list", OWN)], stdout=subprocess.DEVNULL, check=True)
+    rows.hold("the page of a trace by a record", written(["--strict", kept("own.txt", OWN_SEEN), os.path.join(folder, "own.nvr"), page]), (0, ""))
+    said = looked(folder, "page.html", [], 1)
+    rows.hold("an error in it", said.get("error"), None)
+    rows.has("its verdict", said.get("verdict", ""), "Explained: an order of 2 steps in 4 units gives")
+    rows.hold("its rows", said.get("labels"), ["host 1", "unit 1 LBA 8"])
+    rows.has("who wrote what was read, by the record", said.get("fields", []), "LBA 9: job 0 (unit 1 place 0)")
 
     rows.hold("the page of a long contradiction", written([kept("long.txt", LONG), page]), (0, ""))
     said = looked(folder, "page.html", [], 14)
     rows.hold("an error in it", said.get("error"), None)
-    rows.hold("the choices", said.get("choices"), ["the 3 that matter most", "the 14 that the verdict names", "all 15"])
-    rows.hold("few commands at first", said.get("seen"), "2 of 2 rows · 3 of 3 boxes in view · 12 other commands left out")
-    rows.hold("the facts that close the circle", len(said.get("facts", [])), 2)
-    rows.hold("all facts, folded", len(said.get("folded", [])) > 20, True)
-    told = said.get("why", [""])[0]
-    rows.has("the Write before the Read", told, "the last to change it before is job 12 (Write 9+1), which put 512*42.")
-    rows.has("the others", told, "12 commands that put the same had ended before job 12 began.")
-    rows.has("N keeps among those that are shown", said.get("stepped", ""), "Write Zeroes 8+8")
+    rows.hold("the others that did something in the block", [it for it in said.get("why", []) if "other commands" in it], ["9 other commands: LBA 9 in the filters lists them"])
+    rows.has("the Write before the Read", said.get("why", []), "job 12 (Write 9+1) put 512*42")
     rows.hold("a jump to a command that isn't shown", (said.get("jumped"), said.get("shown")), ("job 14: Write 20+1", "all"))
 
     rows.hold("the page of a trace from unknown blocks", written([kept("open.txt", OPEN), page]), (0, ""))
@@ -242,29 +266,34 @@ def refused(rows, folder):
     """What no page is written of: the line, and that nothing is there."""
     page = os.path.join(folder, "none.html")
     host_file, stale = os.path.join(HERE, "lock-1.nvq"), os.path.join(folder, "stale.txt")
-    fresh, argument, trace = (os.path.join(folder, it) for it in ("fresh.txt", "stale.nva", "stale.nvt"))
+    fresh, evidence, trace = (os.path.join(folder, it) for it in ("fresh.txt", "stale.nve", "stale.nvt"))
     subprocess.run([NVQ, "trace", stale, trace], check=True)
-    subprocess.run([NVQ, "certify", "--argument", argument, trace], stdout=subprocess.DEVNULL, check=False)
+    subprocess.run([NVQ, "certify", "--evidence", evidence, trace], stdout=subprocess.DEVNULL, check=False)
     missing = os.path.join(folder, "missing")
     two = os.path.join(HERE, "two-owners.nvr")
     wrong = os.path.join(folder, "wrong.txt")
     with open(wrong, "w", encoding="utf-8") as file:
         file.write(STALE.replace("1 2 1 1", "0 2 1 1"))
+    wrong_pair = os.path.join(folder, "wrong_pair.txt")
+    with open(wrong_pair, "w", encoding="utf-8") as file:
+        file.write(HEAD.format(start="zeroes") + "1 2 1 1 compare 0 1 00 first + 2 write 0 1 01 second = 0/00 0/09\n")
     for words, line in (
         ([missing, page], f"{missing}: No such file or directory"),
-        ([host_file, page], f"{host_file}: no record, trace or argument; nvq list takes host files, and nvq run command lists"),
-        ([argument, page], "an argument is about a trace: nvq-view TRACE ARGUMENT OUT"),
+        ([host_file, page], f"{host_file}: no record, trace or evidence; nvq list takes host files, and nvq run command lists"),
+        ([evidence, page], "evidence is about a trace: nvq-view TRACE EVIDENCE OUT"),
         ([two, stale, page], "a record is given alone, or after a trace: nvq-view TRACE RECORD OUT"),
-        ([fresh, argument, page], f"{argument}: nvq certify doesn't find this argument about the trace, but: explained; without it, nvq-view shows that"),
+        ([fresh, evidence, page], f"{evidence}: unrefuted NothingContradicted fact -: there is no page of that; nvq explain TRACE EVIDENCE says more"),
+        (["--strict", stale, page], "--strict is of a trace and a record"),
+        ([wrong_pair, page], "contradiction job 0: no device may end a pair so: by the one status the comparison held, and by the other it didn't"),
         ([stale, two, page], f"{two}: unexplained JobDiffers job 0 unit - place -: nvq explain TRACE RECORD says why"),
         ([wrong, page], f"{wrong}: line 2: expected a time from 1 at which it began"),
         (["--strict", two, page], "--strict is of traces"),
-        ([two], "expected [--strict] FILE [FILE] OUT; --help says more"),
+        ([two], "expected FILE [FILE] OUT; --help says more"),
         ([two, os.path.join(missing, "out.html")], f"{missing}/out.html: No such file or directory"),
     ):
         rows.hold(f"nvq-view {' '.join(map(os.path.basename, words))}", written(words), (1, f"nvq-view: {line}\n"))
     rows.hold("no page is there", os.path.exists(page), False)
-    rows.hold("the page of the argument that is found", written([trace, argument, page])[0], 0)
+    rows.hold("the page of evidence that is given", written([trace, evidence, page])[0], 0)
 
 
 def tried():

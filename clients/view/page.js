@@ -1305,7 +1305,7 @@
       case "explained":
         return numbers.points ? `Explained: an order of ${numbers.points} points gives what the hosts of ${numbers.jobs} commands saw` : `Explained: an order of ${numbers.steps} steps in ${numbers.units} units gives what the hosts of ${numbers.jobs} commands saw${numbers.excused === "0" ? "" : `, ${numbers.excused} excused`}`;
       default:
-        return `Contradiction: no order of what ${page.named.length === 1 ? "this command" : `these ${grouping(page.named.length)} commands`} may have done gives what their hosts saw`;
+        return `Contradiction: no order of points gives what the hosts of ${many(commands.length, "command")} saw`;
     }
   }
 
@@ -1319,7 +1319,7 @@
     if (page.kind === "contradiction") {
       why.append(element("h2", "Why"), listed("ol", page.facts.map((fact) => linked("li", fact.text, fact.isRed ? "bad" : ""))), linked("p", page.conclusion.text, "bad"));
       for (const lba of [...new Set([...page.facts, page.conclusion].filter((it) => "lba" in it).map((it) => it.lba))].sort((one, other) => one - other)) {
-        why.append(element("h2", `LBA ${lba}`), listed("ul", commands.filter((it) => it.isNamed).map((it) => it.deedAt(lba)).filter(Boolean).map((text) => linked("li", text))));
+        why.append(element("h2", `LBA ${lba}`), listed("ul", deedsAt(lba)));
       }
       const [, held] = /( reads .*)$/.exec(page.verdict);
       why.append(element("p", `By the standard, held to${held}: Zalkvorn's docs/STANDARD.md says what that is.`, "quiet"));
@@ -1339,6 +1339,16 @@
     const folded = document.createElement("details");
     folded.append(element("summary", "What the record has there"), listed("ul", [...items(lines.filter((line, place) => !isMain(line, place))), ...more]));
     why.append(folded);
+  }
+
+  /** What commands found and put in the block: those that the contradiction names, and the last others that began before these had ended. */
+  function deedsAt(lba) {
+    const named = commands.filter((it) => it.isNamed && it.deedAt(lba));
+    const isBefore = (it) => named.some((one) => one.ended === null || compareTimes(it.began, one.ended) <= 0);
+    const others = commands.filter((it) => !it.isNamed && it.deedAt(lba)).sort((one, other) => compareTimes(one.began, other.began));
+    const last = others.filter(isBefore).slice(-4);
+    const shown = [...named, ...last].sort((one, other) => compareTimes(one.began, other.began) || one.job - other.job).map((it) => linked("li", it.deedAt(lba)));
+    return others.length > last.length ? [...shown, element("li", `${many(others.length - last.length, "other command")}: LBA ${lba} in the filters lists them`, "quiet")] : shown;
   }
 
   /** What the job of the fault did, in a sentence, and who changed that block last; nothing where the lines don't say so. */
@@ -1429,7 +1439,7 @@
     listen();
     const place = new URLSearchParams(location.hash.slice(1));
     showVerdict();
-    const first = page.fault ? commands[page.fault.job] : page.kind === "contradiction" ? commands.find((it) => it.isNamed && LOOKS.has(it.kind)) || commands[page.named[0]] : null;
+    const first = page.fault ? commands[page.fault.job] : page.kind === "contradiction" ? commands[page.conclusion.reader] || commands.find((it) => it.isNamed && LOOKS.has(it.kind)) : null;
     if (first) {
       pick(first, false);
       fillTable(true);
