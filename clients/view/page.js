@@ -1170,7 +1170,7 @@
 
   function hintOf(item) {
     const { command, entry, part, placed } = item;
-    const place = placed ? `position ${placed.position}: ${placed.lba}+${placed.blocks}${shortened(spelled(placed.does), 200)}\n` : entry ? `unit ${entry.unit} place ${entry.place}\n` : part && item.row.kind === "unit" ? `unit ${part.unit} point ${part.point} ${part.result}\n` : "";
+    const place = placed ? `position ${placed.position}: ${placed.lba}+${placed.blocks} ${shortened(spelled(placed.does), 200)}\n` : entry ? `unit ${entry.unit} place ${entry.place}\n` : part && item.row.kind === "unit" ? `unit ${part.unit} point ${part.point} ${part.result}\n` : "";
     const marks = item.last ? "the last change before the fault\n" : item.bad && !isTrace ? "the first fault\n" : "";
     return command ? `${marks}${place}job ${command.job} host ${command.host} cid ${command.cids.join(" ")}\n${shortened(command.words, 200)}\n${command.status}${command.data === null ? "" : ` ${shortened(page.runs[command.data], 120)}`}` : `${marks}${place}a preparation`;
   }
@@ -1327,8 +1327,10 @@
     }
     const kindOf = (line) => (/^(first difference|the step gives)/.test(line) ? "bad" : /^last change/.test(line) ? "last" : "");
     const items = (lines) => lines.map((line) => linked("li", brief(line), kindOf(line)));
-    const lines = page.lines.slice(0, 200);
-    const more = page.lines.length > lines.length ? [element("li", `${many(page.lines.length - lines.length, "more line")}: nvq explain prints them`, "quiet")] : [];
+    const all = [...page.lines, ...(page.placed || [])];
+    const placedText = (it) => `position ${it.position} point ${it.point} lba ${it.lba} blocks ${it.blocks} job ${it.job} ${it.does}`;
+    const lines = all.slice(0, 200).map((it) => (typeof it === "string" ? it : placedText(it))).map(page.kind === "ordered" ? spelled : (line) => line);
+    const more = all.length > lines.length ? [element("li", `${many(all.length - lines.length, "more line")}: nvq explain prints them`, "quiet")] : [];
     if (!page.fault) {
       why.append(element("h2", { explained: "The record that explains it", ordered: "The order that explains it" }[page.kind] || "What was found"), listed("ul", [...items(lines), ...more]));
       return;
