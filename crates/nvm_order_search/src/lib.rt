@@ -5,10 +5,12 @@
 #![tactic(auto)]
 
 mod acts;
+mod derivation;
 mod lists;
 mod making;
 mod merging;
 mod parts;
+mod precedence;
 mod ranks;
 mod search;
 mod slots;

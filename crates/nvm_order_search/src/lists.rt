@@ -1,7 +1,7 @@
 //! Acts by group and time.
 use crate::acts::NONE;
-use nvm_record::NoMemory;
 use nvm_numbers::{Numbers, to_u32};
+use nvm_record::NoMemory;
 use std::alloc::Global;
 
 /// An act of a group, at its time.
@@ -58,6 +58,16 @@ impl Lists {
     /// Where the group ends.
     pub fn end(&self, group: u32) -> u32 {
         self.starts.at(group.saturating_add(1))
+    }
+
+    /// The first place of the group that isn't before the time.
+    pub fn first_from(&self, group: u32, time: u32) -> u32 {
+        let sought = Entry {
+            group,
+            time,
+            act: 0,
+        };
+        to_u32(self.entries.partition_point(|entry| *entry < sought))
     }
 
     /// The act at the place.

@@ -5,9 +5,9 @@ use crate::parts::Share;
 use crate::ranks::Ranks;
 use crate::slots::{Slot, Slots, UNKNOWN};
 use crate::together::is_left_out;
+use nvm_numbers::{MARK, Numbers, Values, ZERO, block_at, to_u32};
 use nvm_points::{Deallocated, Found, Point, Points, Presence, Put};
 use nvm_record::NoMemory;
-use nvm_numbers::{MARK, Numbers, Values, ZERO, block_at, to_u32};
 use nvm_trace::Start;
 use std::alloc::Global;
 
@@ -32,6 +32,8 @@ pub struct Known<'a, 't> {
     pub ones: u32,
     /// The value of a block that nobody is expected to find or put.
     pub fresh: u32,
+    /// How many acts may be looked at yet.
+    pub left: u64,
 }
 
 /// Who finds and gives what in a part.

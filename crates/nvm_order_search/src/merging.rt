@@ -1,20 +1,25 @@
 use crate::acts::{Gives, NONE};
+use crate::derivation::Derivation;
 use crate::making::{Known, Part, part_of};
 use crate::parts::{Share, shares_of};
 use crate::ranks::Ranks;
 use crate::search::{Search, Step};
 use crate::together::done_together;
-use nvm_orders::{Content, FirstContent, Order, Placed, Value};
-use nvm_points::{Points, Presence};
-use nvm_record::NoMemory;
 use nvm_numbers::{MARK, Numbers, Values, ZERO, block_at, to_u32};
+use nvm_orders::{Content, FirstContent, Order, Placed, Value};
+use nvm_points::{Point, Points, Presence};
+use nvm_record::NoMemory;
 use std::alloc::Global;
 
 /// The bytes of a block of FFh.
 const ONES: &[u8] = &[0xff; 4096];
 
-/// How many searches of a part are tried, each but the first with moves that are drawn.
-const TRIALS: u32 = 6;
+/// How many acts are looked at in a part before it is asked what comes before what: so many, and some for each act.
+const FEW: u64 = 50_000;
+
+const EACH_ACT: u64 = 16;
+/// How many acts may be looked at for each of the effort.
+const EACH: u64 = 200;
 
 /// A step of a part, by the latest time at which it or one before it in the part began. Merged by these times the parts' orders keep
 /// all times.
@@ -136,18 +141,19 @@ fn found_for<'t>(
     values: &mut Values<'t>,
     number: u32,
     shares: &[Share],
-    effort: u32,
 ) -> Result<Result<Found<'t>, u32>, NoMemory> {
     let alloc = known.alloc;
     let part = part_of(known, values, shares)?;
-    let mut search = Search::new(alloc, &part, effort, 0)?;
+    let few = u64::from(part.count())
+        .saturating_mul(EACH_ACT)
+        .saturating_add(FEW);
+    let mut search = Search::new(alloc, &part, few.min(known.left), 0, None)?;
     let mut is_found = search.run()?;
-    for seed in 1..TRIALS {
-        if is_found {
-            break;
-        }
-        search = Search::new(alloc, &part, effort, seed)?;
+    if !is_found {
+        let order = Derivation::new(alloc, &part)?;
+        search = Search::new(alloc, &part, known.left, 1, order)?;
         is_found = search.run()?;
+        known.left = search.left_in_all;
     }
     if !is_found {
         return Ok(Err(search.stuck_at()));
@@ -227,6 +233,7 @@ fn known_of<'a, 't>(
         met: Numbers::new(alloc, count, 0)?,
         ones: values.value_of(block_at(ONES, points.block_size, 0))?,
         fresh: values.fresh(points.block_size)?,
+        left: 0,
     })
 }
 
@@ -267,13 +274,70 @@ fn other_holder(
     Some(other)
 }
 
+/// Where the search of a part got stuck: other parts that have to have points instead of which one block has to be done.
+fn holders_instead(
+    known: &mut Known<'_, '_>,
+    shares: &Vec<Share>,
+    ranges: &Vec<(usize, usize)>,
+    part: usize,
+    point: u32,
+) -> Result<Vec<usize>, NoMemory> {
+    if let Some(other) = other_holder(known, shares, ranges, part, point) {
+        let mut others = Vec::new(known.alloc);
+        others.push(other)?;
+        return Ok(others);
+    }
+    other_holders(known, shares, ranges, part, point)
+}
+
+/// Whether the two may be done at the same time.
+fn is_beside(one: &Point<'_>, other: &Point<'_>) -> bool {
+    let one_is_over = match one.until {
+        Some(until) => until < other.from,
+        None => false,
+    };
+    let other_is_over = match other.until {
+        Some(until) => until < one.from,
+        None => false,
+    };
+    !one_is_over && !other_is_over
+}
+
+/// Where the search of a part got stuck at another point: other parts that have to have instead those beside it of which one block has to
+/// be done.
+fn other_holders(
+    known: &mut Known<'_, '_>,
+    shares: &Vec<Share>,
+    ranges: &Vec<(usize, usize)>,
+    part: usize,
+    point: u32,
+) -> Result<Vec<usize>, NoMemory> {
+    let mut others = Vec::new(known.alloc);
+    let (Some(stuck), Some(of_part)) = (
+        known.points.points.get(point as usize),
+        shares_in(shares, ranges, part),
+    ) else {
+        return Ok(others);
+    };
+    for share in of_part {
+        let Some(choice) = known.points.points.get(share.point as usize) else {
+            break;
+        };
+        if is_beside(stuck, choice) {
+            if let Some(other) = other_holder(known, shares, ranges, part, share.point) {
+                others.push(other)?;
+            }
+        }
+    }
+    Ok(others)
+}
+
 /// What was found for each part, if something was for all.
 fn search_all<'t>(
     known: &mut Known<'_, 't>,
     values: &mut Values<'t>,
     shares: &Vec<Share>,
     ranges: &Vec<(usize, usize)>,
-    effort: u32,
 ) -> Result<Option<Vec<Found<'t>>>, NoMemory> {
     let alloc = known.alloc;
     let mut waiting = Vec::with_capacity(alloc, ranges.len())?;
@@ -292,26 +356,26 @@ fn search_all<'t>(
         let Some(of_part) = shares_in(shares, ranges, part) else {
             break;
         };
-        match found_for(known, values, to_u32(part), of_part, effort)? {
+        match found_for(known, values, to_u32(part), of_part)? {
             Ok(found) => {
                 if let Some(place) = all.get_mut(part) {
                     *place = found;
                 }
             }
-            Err(point) => match other_holder(known, shares, ranges, part, point) {
-                Some(other) => {
-                    waiting.push(part)?;
-                    waiting.push(other)?;
+            Err(point) => {
+                let others = holders_instead(known, shares, ranges, part, point)?;
+                if others.is_empty() {
+                    return Ok(None);
                 }
-                None => return Ok(None),
-            },
+                waiting.push(part)?;
+                waiting.extend_from_slice(&others)?;
+            }
         }
     }
     Ok(Some(all))
 }
 
-/// An order that explains the points, if one is found. `effort` is how many steps a search of a part takes back at most before it has one
-/// more in order than ever before. Where none is found there may be one all the same.
+/// An order that explains the points, if one is found. For each of `effort` some hundred acts are looked at. Where none is found there may be one all the same.
 pub fn order_of<'t>(
     alloc: Global,
     points: &Points<'t>,
@@ -321,8 +385,9 @@ pub fn order_of<'t>(
     let ranges = ranges_of(alloc, &shares)?;
     let mut values = Values::new(alloc)?;
     let mut known = known_of(alloc, points, &mut values)?;
+    known.left = u64::from(effort).saturating_mul(EACH);
     number_parts(&mut shares, &mut known);
-    let Some(all) = search_all(&mut known, &mut values, &shares, &ranges, effort)? else {
+    let Some(all) = search_all(&mut known, &mut values, &shares, &ranges)? else {
         return Ok(None);
     };
     let mut steps = Vec::new(alloc);

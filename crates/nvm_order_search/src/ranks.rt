@@ -1,8 +1,8 @@
 //! Times as ranks among all times of the trace.
 use crate::acts::NONE;
+use nvm_numbers::to_u32;
 use nvm_points::Point;
 use nvm_record::NoMemory;
-use nvm_numbers::to_u32;
 use std::alloc::Global;
 
 /// All times at which a point may begin or has to be over, rising.

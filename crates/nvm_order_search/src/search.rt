@@ -5,13 +5,14 @@ mod moves;
 mod settling;
 
 use crate::acts::{Act, Cell, Gives, NONE, Wants};
+use crate::derivation::Derivation;
 use crate::lists::Lists;
 use crate::making::Part;
 use crate::search::memory::{Memory, key};
 use crate::slots::UNKNOWN;
 use crate::state::State;
-use nvm_record::NoMemory;
 use nvm_numbers::{Numbers, ZERO, to_u32};
+use nvm_record::NoMemory;
 use std::alloc::Global;
 
 /// An act in order.
@@ -28,9 +29,9 @@ pub struct Step {
 
 /// An act that can be next, and the slot that it gives where it has a choice.
 #[derive(Clone, Copy, Debug)]
-struct Move {
-    act: u32,
-    slot: u32,
+pub struct Move {
+    pub act: u32,
+    pub slot: u32,
 }
 
 /// An act that should be done soon. `apart`: even if blocks of its point have to be done later.
@@ -46,6 +47,7 @@ struct Target {
 struct Turn {
     /// The way back to it.
     mark: u32,
+    known_mark: u32,
     steps: usize,
     hash: u64,
     /// Its moves, and which of them is next.
@@ -65,8 +67,14 @@ enum Way {
 
 /// Of the state of acts and blocks: an act that was done.
 const DONE: u32 = u32::MAX;
-/// How often as many steps may be taken back as between two gains.
-const MOST_GAINS: u64 = 64;
+/// How many moves may be taken back before one more act is in order than ever before, or the search leaps back.
+const FEW: u32 = 100;
+/// The least that a leap takes back, and how often that is doubled before it begins again.
+const SHORT: usize = 8;
+
+const DOUBLED: u32 = 10;
+/// How often the search begins again after no move was left: which were left out may be wrong.
+const MOST_EXHAUSTED: u32 = 64;
 
 /// A search for an order of a part's acts.
 #[derive(Drop)]
@@ -87,10 +95,15 @@ pub struct Search<'p> {
     /// The end of the act that has to be done first.
     horizon: u32,
     failed: Memory,
-    /// How many steps may be taken back before one more act is in order than ever before.
-    effort: u32,
+    /// How many moves may be taken back before the next leap, and how many acts may be looked at in all.
     left_back: u32,
-    left_in_all: u64,
+    pub left_in_all: u64,
+    /// How often no move was left.
+    exhausted: u32,
+    /// How many leaps were made since more acts were in order than ever before, and the state before any move.
+    leaps: u32,
+    root: u32,
+    known_root: u32,
     /// The steps that were in the way where it got stuck, counted from 1, and the act that couldn't be done.
     conflict: Vec<u32>,
     wanted: u32,
@@ -99,14 +112,17 @@ pub struct Search<'p> {
     /// The most acts that were ever in order, and which was the most urgent one then.
     most: usize,
     most_urgent: u32,
+    /// What comes before what.
+    known: Option<Derivation>,
 }
 
 impl<'p> Search<'p> {
     pub fn new(
         alloc: Global,
         part: &'p Part,
-        effort: u32,
+        effort: u64,
         seed: u32,
+        known: Option<Derivation>,
     ) -> Result<Search<'p>, NoMemory> {
         let mut search = Search {
             alloc,
@@ -122,16 +138,22 @@ impl<'p> Search<'p> {
             round: 0,
             horizon: 0,
             failed: Memory::new(alloc),
-            effort,
-            left_back: effort,
-            left_in_all: u64::from(effort).saturating_mul(MOST_GAINS),
+            left_back: FEW,
+            left_in_all: effort,
+            leaps: 0,
+            exhausted: 0,
+            root: 0,
+            known_root: 0,
             conflict: Vec::new(alloc),
             wanted: NONE,
             conflicts: Vec::new(alloc),
             most: 0,
             most_urgent: NONE,
+            known,
         };
         search.begin()?;
+        search.root = search.state.mark();
+        search.known_root = search.known_mark();
         Ok(search)
     }
 
@@ -421,6 +443,9 @@ impl<'p> Search<'p> {
             let count = to_u32(self.steps.len()).saturating_add(1);
             self.state.set(number, count)?;
             self.hash ^= key(number, DONE);
+            if let Some(known) = &mut self.known {
+                known.set_done(self.part, number)?;
+            }
         }
         let place = self.latest_place();
         self.state.set(place, step.latest)?;
@@ -449,15 +474,17 @@ impl<'p> Search<'p> {
         if self.steps.len() > self.most || self.most_urgent == NONE {
             self.most = self.steps.len();
             self.most_urgent = urgent;
-            self.left_back = self.effort;
+            self.left_back = FEW;
+            self.leaps = 0;
         }
         self.conflict.clear();
         self.wanted = urgent;
-        if self.failed.has(self.hash) {
+        if self.failed.has(self.hash) || self.is_absurd() {
             return Ok(Way::Stuck);
         }
         let mut turn = Turn {
             mark: self.state.mark(),
+            known_mark: self.known_mark(),
             steps: self.steps.len(),
             hash: self.hash,
             start: self.moves.len(),
@@ -554,6 +581,61 @@ impl<'p> Search<'p> {
         Ok(())
     }
 
+    /// What is known by now of what comes before what.
+    fn known_mark(&self) -> u32 {
+        match &self.known {
+            Some(known) => known.order.mark(),
+            None => 0,
+        }
+    }
+
+    /// Takes back all that was done since the turn.
+    fn return_to(&mut self, turn: &Turn) {
+        self.state.back(turn.mark);
+        if let Some(known) = &mut self.known {
+            known.order.back(turn.known_mark);
+        }
+        self.steps.truncate(turn.steps);
+        self.hash = turn.hash;
+    }
+
+    /// Takes back many moves, more each time, and draws others from there on. Says whether there is anything left to be tried.
+    fn leap(&mut self) -> bool {
+        if self.left_back > 0 {
+            self.exhausted = self.exhausted.saturating_add(1);
+        }
+        if self.left_in_all == 0 || self.exhausted > MOST_EXHAUSTED {
+            return false;
+        }
+        let distance = SHORT << (self.leaps % DOUBLED);
+        let kept = self.most.saturating_sub(distance);
+        let mut back = Turn {
+            mark: self.root,
+            known_mark: self.known_root,
+            steps: 0,
+            hash: 0,
+            start: 0,
+            next: 0,
+            all: false,
+        };
+        for _ in 0..u64::MAX {
+            let Some(turn) = self.turns.last() else {
+                break;
+            };
+            let turn = *turn;
+            self.drop_turn(turn.start);
+            if turn.steps <= kept {
+                back = turn;
+                break;
+            }
+        }
+        self.return_to(&back);
+        self.leaps = self.leaps.saturating_add(1);
+        self.seed = self.seed.saturating_add(1);
+        self.left_back = FEW;
+        true
+    }
+
     /// Goes back to the turn at which the last step in the way was made, and makes another move there.
     fn go_back(&mut self) -> Result<Way, NoMemory> {
         for _ in 0..u64::MAX {
@@ -569,10 +651,7 @@ impl<'p> Search<'p> {
                 continue;
             }
             self.left_back = self.left_back.saturating_sub(1);
-            self.left_in_all = self.left_in_all.saturating_sub(1);
-            self.state.back(turn.mark);
-            self.steps.truncate(turn.steps);
-            self.hash = turn.hash;
+            self.return_to(&turn);
             self.gather(&turn)?;
             self.settle()?;
             let wanted = self.wanted;
@@ -596,6 +675,38 @@ impl<'p> Search<'p> {
         Ok(Way::Stuck)
     }
 
+    /// Whether something would have to come before itself.
+    fn is_absurd(&self) -> bool {
+        match &self.known {
+            Some(known) => known.order.is_absurd(),
+            None => false,
+        }
+    }
+
+    /// When the act has to be done at the latest.
+    fn end_of(&self, number: u32) -> u32 {
+        match &self.known {
+            Some(known) => known.end(self.part, number),
+            None => self.part.act(number).until,
+        }
+    }
+
+    /// Whether the one is known to come before the other.
+    fn is_known_before(&self, one: u32, other: u32) -> bool {
+        match &self.known {
+            Some(known) => known.is_before(one, other),
+            None => false,
+        }
+    }
+
+    /// Whether something that isn't done has to come before the act.
+    fn is_held_up(&self, number: u32) -> bool {
+        match &self.known {
+            Some(known) => known.is_held_up(number),
+            None => false,
+        }
+    }
+
     /// Whether an order was found. Its steps are `steps`.
     pub fn run(&mut self) -> Result<bool, NoMemory> {
         for _ in 0..u64::MAX {
@@ -606,7 +717,7 @@ impl<'p> Search<'p> {
             if way == Way::Stuck {
                 way = self.go_back()?;
             }
-            if way == Way::Stuck {
+            if way == Way::Stuck && !self.leap() {
                 return Ok(false);
             }
         }

@@ -1,7 +1,7 @@
 //! The contents of a part's blocks.
 use crate::acts::NONE;
-use nvm_record::NoMemory;
 use nvm_numbers::{MARK, to_u32};
+use nvm_record::NoMemory;
 use std::alloc::Global;
 
 /// The value of what nobody knows.

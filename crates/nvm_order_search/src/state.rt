@@ -1,6 +1,6 @@
 //! A state of a search, with the way back to earlier ones.
-use nvm_record::NoMemory;
 use nvm_numbers::{Numbers, to_u32};
+use nvm_record::NoMemory;
 use std::alloc::Global;
 
 /// What a number was before.

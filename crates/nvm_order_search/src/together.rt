@@ -2,9 +2,9 @@
 use crate::acts::NONE;
 use crate::making::Known;
 use crate::parts::Share;
+use nvm_numbers::{Numbers, block_at, to_u32};
 use nvm_points::{Deallocated, Found, Point, Points, Presence, Put};
 use nvm_record::{BlockSize, NoMemory};
-use nvm_numbers::{Numbers, block_at, to_u32};
 use nvm_trace::Start;
 use std::alloc::Global;
 

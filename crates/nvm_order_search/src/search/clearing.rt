@@ -1,8 +1,8 @@
 //! What has to be done before an act that puts something.
 use crate::acts::{Act, Gives, NONE, Wants};
 use crate::search::Search;
-use nvm_record::NoMemory;
 use nvm_numbers::ZERO;
+use nvm_record::NoMemory;
 
 impl<'p> Search<'p> {
     /// Whether nothing has to be done before the act. What has to be and can be is made a target.
@@ -41,7 +41,7 @@ impl<'p> Search<'p> {
                 continue;
             }
             let is_begun = part.lists.finders.time(at) <= self.horizon;
-            if self.is_supplied(slot, number, finder, part.act(finder).until, 0)? {
+            if self.is_supplied(slot, number, finder, self.end_of(finder), 0)? {
                 if is_begun {
                     continue;
                 }
@@ -93,7 +93,7 @@ impl<'p> Search<'p> {
                 break;
             }
             let finder = part.lists.finders.act(at);
-            if finder != number && !self.is_over(finder) && part.act(finder).until < supplied {
+            if finder != number && !self.is_over(finder) && self.end_of(finder) < supplied {
                 latest = latest.max(part.lists.finders.time(at));
             }
         }

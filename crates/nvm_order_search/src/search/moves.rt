@@ -1,8 +1,8 @@
 //! Which acts can be next: the one that has to be done first, or what has to be done before it.
 use crate::acts::{Act, Cell, Gives, NONE, Wants};
 use crate::search::{Move, Search, Target};
-use nvm_record::NoMemory;
 use nvm_numbers::ZERO;
+use nvm_record::NoMemory;
 
 impl<'p> Search<'p> {
     /// Finds moves that lead to the urgent act.
@@ -69,6 +69,7 @@ impl<'p> Search<'p> {
 
     /// Adds the target's move if it can be next, or makes targets of what has to be done before.
     fn visit(&mut self, target: Target) -> Result<(), NoMemory> {
+        self.left_in_all = self.left_in_all.saturating_sub(1);
         let number = target.act;
         let act = self.part.act(number);
         if self.is_over(number) || act.from > self.horizon {
@@ -80,7 +81,10 @@ impl<'p> Search<'p> {
             }
             self.seen.put(number, self.round);
         }
-        if self.has_to_wait(&act)? || !self.can_be_next(target, &act)? {
+        if self.aim_at_missing(number)?
+            || self.has_to_wait(&act)?
+            || !self.can_be_next(target, &act)?
+        {
             return Ok(());
         }
         self.moves.push(Move {
@@ -88,6 +92,18 @@ impl<'p> Search<'p> {
             slot: target.slot,
         })?;
         Ok(())
+    }
+
+    /// Whether something that isn't done has to come before the act. That is made a target.
+    fn aim_at_missing(&mut self, number: u32) -> Result<bool, NoMemory> {
+        let mut missing = Vec::new(self.alloc);
+        if let Some(known) = &self.known {
+            known.missing_before(self.part, number, &mut missing)?;
+        }
+        for other in &missing {
+            self.aim(other.act, other.slot)?;
+        }
+        Ok(!missing.is_empty())
     }
 
     /// Whether something has to be done before the act, as far as its times and what it finds go. That is made a target.

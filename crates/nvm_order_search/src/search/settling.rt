@@ -76,7 +76,7 @@ impl<'p> Search<'p> {
         if !act.is_look || !(act.sure || act.any) {
             return Ok(false);
         }
-        if self.is_over(number) || !self.fits_all(&act, bound) {
+        if self.is_over(number) || !self.fits_all(&act, bound) || self.is_held_up(number) {
             return Ok(false);
         }
         if act.before != NONE && !self.is_placed(act.before) {
@@ -167,7 +167,7 @@ impl<'p> Search<'p> {
             if self.is_over(finder) {
                 continue;
             }
-            let until = part.act(finder).until;
+            let until = self.end_of(finder);
             if until >= act.from && !self.is_supplied(slot, number, finder, until, after)? {
                 return Ok(true);
             }
@@ -254,6 +254,9 @@ impl<'p> Search<'p> {
             }
             let giver = part.lists.givers.act(at);
             if giver == one || giver == other || self.is_over(giver) {
+                continue;
+            }
+            if self.is_known_before(other, giver) {
                 continue;
             }
             let act = part.act(giver);
