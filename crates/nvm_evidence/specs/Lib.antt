@@ -1,2 +1,3 @@
 pub mod OrderedLine
+pub mod RefutedLine
 pub mod Witnessed

@@ -7,6 +7,13 @@ pub(crate) fn offset_of(total: usize, rest: &[u8]) -> u64 {
     total.saturating_sub(rest.len()) as u64
 }
 
+/// The byte that begins here stands for nothing.
+pub(crate) fn bad_value(total: usize, from: &[u8]) -> EvidenceFault {
+    EvidenceFault::BadValue {
+        at: offset_of(total, from),
+    }
+}
+
 /// The next bytes, `count` of them, and what comes after them.
 pub(crate) fn bytes_of<'f>(
     total: usize,

@@ -5,8 +5,8 @@ ghost use Rattle.nvm_orders.specs.OrderView.{seen_order};
 
 use crate::evidence_fault::EvidenceFault;
 use crate::held_order::HeldOrder;
+use crate::order_reading::read_order;
 use crate::ordered::{OrderNumbers, Ordered};
-use crate::reading::read_order;
 use crate::witness_fault::OrderWitnessFault;
 use nvm_file::{TraceFileFault, read_trace};
 use nvm_judge::{CheckFault, check_order};

@@ -1,4 +1,4 @@
--- Why an order doesn't explain a trace.
+-- Why an order doesn't explain a trace, and why a contradiction isn't taken.
 use Rattle.nvm_orders.specs.Explanation.{IsExplanation}
 use Rattle.nvm_orders.specs.OrderView.{OrderView}
 use Rattle.nvm_orders.specs.RightFault.{IsOfOrder}
@@ -9,6 +9,8 @@ use Rattle.nvm_trace.specs.TraceView.{TraceView}
 use Rattle.nvm_judge.specs.Explained.{IsExplainedBy, IsWrong}
 use Rattle.nvm_judge.specs.declared.check_fault.CheckFault.{CheckFault}
 use Rattle.nvm_judge.specs.declared.check_fault.CheckFault.TheVariants.{Wrong, Order, NoMemory}
+use Rattle.nvm_judge.specs.declared.refute_fault.RefuteFault.{RefuteFault}
+use Rattle.nvm_judge.specs.declared.refute_fault.RefuteFault.TheVariants as refuting
 
 -- A fault that is the order's own says that it doesn't explain the trace.
 abbrev pub IsUnexplainedFor : OrderFault → TraceView → Profile → OrderView → Type 0
@@ -25,3 +27,16 @@ abbrev pub IsTableFault : TableView → OrderView → CheckFault → Type 0
 IsTableFault t o (Wrong command) = ⊥
 IsTableFault t o (Order fault) = IsOfOrder fault → IsExplanation t o → ⊥
 IsTableFault t o NoMemory = Unit {0}
+
+-- The reply that the fault names is wrong by itself, so no order explains the trace. Of a contradiction that isn't taken nothing is said,
+-- nor by want of memory.
+abbrev pub IsRefuteFault : TraceView → Profile → RefuteFault → Type 0
+IsRefuteFault t profile (refuting.Wrong command) = IsWrong t profile command
+IsRefuteFault t profile (refuting.Contradiction fault) = Unit {0}
+IsRefuteFault t profile refuting.NoMemory = Unit {0}
+
+-- No reply is named.
+abbrev pub IsNoReply : RefuteFault → Type 0
+IsNoReply (refuting.Wrong command) = ⊥
+IsNoReply (refuting.Contradiction fault) = Unit {0}
+IsNoReply refuting.NoMemory = Unit {0}

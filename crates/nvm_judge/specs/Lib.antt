@@ -1,3 +1,4 @@
 pub mod Explained
+pub mod Contradicted
 pub mod Judged
 pub mod Faults

@@ -3,6 +3,8 @@ ghost use Rattle.nvm_judge.specs.Judged.{IsFoundOf, IsJudged};
 ghost use Rattle.nvm_points.specs.PointView.{seen_table};
 
 use crate::judgment::Judgment;
+use nvm_contradiction::{ContradictionFault, contradicts};
+use nvm_contradiction_search::contradiction_of;
 use nvm_order_search::order_of;
 use nvm_orders::{OrderFault, explains};
 use nvm_points::{Held, Points, PointsFault, Profile, points_of};
@@ -18,23 +20,41 @@ pub fn held_of(reads: Reads) -> Held {
     }
 }
 
-/// What a search among the points finds out.
-fn searched<'t>(alloc: Global, points: &Points<'t>, effort: u32) -> Result<Judgment<'t>, NoMemory>
+/// What a search for a contradiction of the points finds out.
+fn contradicted<'t>(
+    alloc: Global,
+    points: &Points<'t>,
+    effort: u32,
+) -> Result<Judgment<'t>, NoMemory>
     ensures { IfOk result (IsFoundOf (seen_table points.now)) }
 {
-    let Some(order) = order_of(alloc, points, effort)? else {
+    let Some(contradiction) = contradiction_of(alloc, points, effort)? else {
         return Ok(Judgment::Unknown);
     };
-    match explains(alloc, points, &order) {
-        Ok(()) => Ok(Judgment::Explained(order)),
-        Err(OrderFault::NoMemory) => Err(AllocError),
+    match contradicts(alloc, points, &contradiction) {
+        Ok(()) => Ok(Judgment::Contradicted(contradiction)),
+        Err(ContradictionFault::NoMemory) => Err(AllocError),
         Err(_) => Ok(Judgment::Unknown),
     }
 }
 
-/// Whether an order explains the trace, held to this profile, or a reply is wrong by itself.
+/// What a search for an order of the points finds out, and then one for a contradiction.
+fn searched<'t>(alloc: Global, points: &Points<'t>, effort: u32) -> Result<Judgment<'t>, NoMemory>
+    ensures { IfOk result (IsFoundOf (seen_table points.now)) }
+{
+    let Some(order) = order_of(alloc, points, effort)? else {
+        return contradicted(alloc, &*points, effort);
+    };
+    match explains(alloc, points, &order) {
+        Ok(()) => Ok(Judgment::Explained(order)),
+        Err(OrderFault::NoMemory) => Err(AllocError),
+        Err(_) => contradicted(alloc, &*points, effort),
+    }
+}
+
+/// Whether an order explains the trace, held to this profile, or a contradiction shows that none does, or a reply is wrong by itself.
 ///
-/// The search goes on for as long as `effort` allows. `Unknown` is given where it found no order, or one that the walk doesn't take.
+/// Each search goes on for as long as `effort` allows. `Unknown` is given where both found nothing, or nothing that is taken.
 /// `NoMemory` is returned where a growth was refused: nothing is known then.
 #[tactic(auto, using(crate::proofs::Wrong::is_wrong))]
 pub fn judge<'t>(

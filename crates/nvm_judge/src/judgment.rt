@@ -1,3 +1,4 @@
+use nvm_contradiction::Contradiction;
 use nvm_orders::Order;
 
 /// What was found out about a trace.
@@ -5,8 +6,10 @@ use nvm_orders::Order;
 pub enum Judgment<'t> {
     /// The order explains the trace.
     Explained(Order<'t>),
+    /// No order explains the trace: its facts and its conclusion show it.
+    Contradicted(Contradiction),
     /// No device may end the command of this number as it ended, whatever was done: nothing explains the trace. It is the first such.
     Wrong { command: u32 },
-    /// No order that explains the trace was found.
+    /// Neither an order that explains the trace nor a contradiction was found.
     Unknown,
 }

@@ -1,15 +1,21 @@
-//! Whether an order of points explains a trace, as docs/STANDARD.md asks: from the trace to a judgment that is proved.
+//! Whether a trace is explained by an order of points, as docs/STANDARD.md asks, or contradicted: from the trace to a judgment that is proved.
 //!
-//! [`judge`] makes the table of the trace's points and searches for an order of them. The search needs no trust: an order is given only
-//! where the walk of [nvm_orders](../nvm_orders) takes it. [`check_order`] says whether an order that comes from elsewhere explains a trace.
+//! [`judge`] makes the table of the trace's points and searches for an order of them, and then for a contradiction. The searches need no
+//! trust: an order is given only where the walk of [nvm_orders](../nvm_orders) takes it, and a contradiction only where
+//! [nvm_contradiction](../nvm_contradiction) does. [`check_order`] says whether an order that comes from elsewhere explains a trace, and
+//! [`check_contradiction`] whether a contradiction shows that none does.
 #![tactic(auto)]
 
 mod check_fault;
 mod checking;
 mod judging;
 mod judgment;
+mod refute_fault;
+mod refuting;
 
 pub use check_fault::CheckFault;
 pub use checking::check_order;
 pub use judging::{held_of, judge};
 pub use judgment::Judgment;
+pub use refute_fault::RefuteFault;
+pub use refuting::check_contradiction;

@@ -1,7 +1,7 @@
-use crate::reading::{NAME, ORDER};
-use byteorder::{ByteOrder, LittleEndian};
+use crate::field_writing::{push_u32, push_u64};
+use crate::front::{ORDER, front_bytes};
 use nvm_orders::{Content, FirstContent, Order, Placed, Value};
-use nvm_points::{Deallocated, Held, Profile};
+use nvm_points::Profile;
 use std::alloc::{AllocError, Global};
 
 /// The bytes of the order's file, with what the device was held to. [`read_order`](crate::read_order) reads them as this order.
@@ -12,31 +12,10 @@ pub fn write_order(
     profile: Profile,
     order: &Order<'_>,
 ) -> Result<Vec<u8>, AllocError> {
-    let mut bytes = Vec::new(alloc);
-    bytes.extend_from_slice(NAME)?;
-    bytes.push(ORDER)?;
-    bytes.push(held_byte(profile.held))?;
-    bytes.push(deallocated_byte(profile.deallocated))?;
+    let mut bytes = front_bytes(alloc, ORDER, profile)?;
     push_firsts(&mut bytes, &order.first)?;
     push_all_placed(&mut bytes, &order.placed)?;
     Ok(bytes)
-}
-
-fn held_byte(held: Held) -> u8 {
-    match held {
-        Held::Atomic => 0,
-        Held::AtomicAll => 1,
-        Held::Whole => 2,
-        Held::ByBlocks => 3,
-    }
-}
-
-fn deallocated_byte(deallocated: Deallocated) -> u8 {
-    match deallocated {
-        Deallocated::Zeroes => 0,
-        Deallocated::Ones => 1,
-        Deallocated::Either => 2,
-    }
 }
 
 /// Appends what blocks held at first.
@@ -80,20 +59,4 @@ fn push_content(bytes: &mut Vec<u8>, content: Content<'_>) -> Result<(), AllocEr
         }
         Content::Mark => Ok(bytes.push(4)?),
     }
-}
-
-/// Appends a number of four bytes.
-fn push_u32(bytes: &mut Vec<u8>, number: u32) -> Result<(), AllocError> {
-    let mut field = [0; 4];
-    LittleEndian::write_u32(&mut field, number);
-    bytes.extend_from_slice(&field)?;
-    Ok(())
-}
-
-/// Appends a number of eight bytes.
-fn push_u64(bytes: &mut Vec<u8>, number: u64) -> Result<(), AllocError> {
-    let mut field = [0; 8];
-    LittleEndian::write_u64(&mut field, number);
-    bytes.extend_from_slice(&field)?;
-    Ok(())
 }

@@ -1,0 +1,79 @@
+//! Which commands a contradiction names.
+use nvm_contradiction::{Conclusion, Contradiction, Fact};
+use nvm_points::Points;
+use nvm_record::NoMemory;
+use std::alloc::Global;
+
+/// Appends the numbers of the points that the fact names.
+fn put_fact(numbers: &mut Vec<u32>, fact: Fact) -> Result<(), NoMemory> {
+    match fact {
+        Fact::Time { earlier, later } => put_all(numbers, &[earlier.point, later.point]),
+        Fact::Deallocate {
+            deallocate,
+            writer,
+            ..
+        } => put_all(numbers, &[deallocate, writer]),
+        Fact::Own { later, .. } => put_all(numbers, &[later.saturating_sub(1), later]),
+        Fact::Source { writer, reader, .. } | Fact::First { reader, writer, .. } => {
+            put_all(numbers, &[writer, reader])
+        }
+        Fact::Over {
+            reader,
+            writer,
+            source,
+            ..
+        }
+        | Fact::Under {
+            writer,
+            source,
+            reader,
+            ..
+        } => put_all(numbers, &[reader, writer, source]),
+        Fact::AtFirst { reader, .. } => put_all(numbers, &[reader]),
+        Fact::TiedBefore { reader, entry, .. } | Fact::TiedAfter { entry, reader, .. } => {
+            put_all(numbers, &[reader, entry])
+        }
+    }
+}
+
+/// Appends the numbers of the points that the conclusion names.
+fn put_conclusion(numbers: &mut Vec<u32>, conclusion: Conclusion) -> Result<(), NoMemory> {
+    match conclusion {
+        Conclusion::Loop => Ok(()),
+        Conclusion::Nobody { reader, .. } | Conclusion::Nowhere { reader } => {
+            put_all(numbers, &[reader])
+        }
+    }
+}
+
+fn put_all(numbers: &mut Vec<u32>, more: &[u32]) -> Result<(), NoMemory> {
+    numbers.extend_from_slice(more)?;
+    Ok(())
+}
+
+/// The numbers of the points that the contradiction names.
+fn points_named(alloc: Global, contradiction: &Contradiction) -> Result<Vec<u32>, NoMemory> {
+    let mut numbers = Vec::new(alloc);
+    for fact in &contradiction.facts {
+        put_fact(&mut numbers, *fact)?;
+    }
+    put_conclusion(&mut numbers, contradiction.conclusion)?;
+    Ok(numbers)
+}
+
+/// The numbers of the commands that the contradiction names, rising.
+pub(crate) fn commands_named(
+    alloc: Global,
+    points: &Points<'_>,
+    contradiction: &Contradiction,
+) -> Result<Vec<u32>, NoMemory> {
+    let mut commands = Vec::new(alloc);
+    for number in &points_named(alloc, contradiction)? {
+        if let Some(point) = points.points.get(*number as usize) {
+            commands.push(point.command)?;
+        }
+    }
+    commands.sort_unstable();
+    commands.dedup();
+    Ok(commands)
+}
