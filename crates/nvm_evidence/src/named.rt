@@ -1,11 +1,18 @@
 //! Which commands a contradiction names.
+ghost use Rattle.std.specs.Prelude.{◌≡◌, ◌↔◌, ◌++◌, ℕ, Contains, IfOk, OnOk};
+ghost use Rattle.nvm_points.specs.PointView.{seen_table};
+ghost use Rattle.nvm_evidence.specs.Named as spec;
+ghost use Rattle.nvm_evidence.specs.Named.{AreCommandsOf, IsNamed};
+
 use nvm_contradiction::{Conclusion, Contradiction, Fact};
 use nvm_points::Points;
 use nvm_record::NoMemory;
 use std::alloc::Global;
 
 /// Appends the numbers of the points that the fact names.
-fn put_fact(numbers: &mut Vec<u32>, fact: Fact) -> Result<(), NoMemory> {
+fn put_fact(numbers: &mut Vec<u32>, fact: Fact) -> Result<(), NoMemory>
+    ensures { OnOk result (numbers.new.items ≡ numbers.old.items ++ spec.fact_points fact) }
+{
     match fact {
         Fact::Time { earlier, later } => put_all(numbers, &[earlier.point, later.point]),
         Fact::Deallocate {
@@ -37,7 +44,9 @@ fn put_fact(numbers: &mut Vec<u32>, fact: Fact) -> Result<(), NoMemory> {
 }
 
 /// Appends the numbers of the points that the conclusion names.
-fn put_conclusion(numbers: &mut Vec<u32>, conclusion: Conclusion) -> Result<(), NoMemory> {
+fn put_conclusion(numbers: &mut Vec<u32>, conclusion: Conclusion) -> Result<(), NoMemory>
+    ensures { OnOk result (numbers.new.items ≡ numbers.old.items ++ spec.conclusion_points conclusion) }
+{
     match conclusion {
         Conclusion::Loop => Ok(()),
         Conclusion::Nobody { reader, .. } | Conclusion::Nowhere { reader } => {
@@ -46,13 +55,18 @@ fn put_conclusion(numbers: &mut Vec<u32>, conclusion: Conclusion) -> Result<(), 
     }
 }
 
-fn put_all(numbers: &mut Vec<u32>, more: &[u32]) -> Result<(), NoMemory> {
+/// Appends these numbers.
+fn put_all(numbers: &mut Vec<u32>, more: &[u32]) -> Result<(), NoMemory>
+    ensures { OnOk result (numbers.new.items ≡ numbers.old.items ++ more.now) }
+{
     numbers.extend_from_slice(more)?;
     Ok(())
 }
 
 /// The numbers of the points that the contradiction names.
-fn points_named(alloc: Global, contradiction: &Contradiction) -> Result<Vec<u32>, NoMemory> {
+fn points_named(alloc: Global, contradiction: &Contradiction) -> Result<Vec<u32>, NoMemory>
+    ensures { IfOk result (λ numbers. numbers.items ≡ spec.points_named contradiction.now) }
+{
     let mut numbers = Vec::new(alloc);
     for fact in &contradiction.facts {
         put_fact(&mut numbers, *fact)?;
@@ -61,18 +75,30 @@ fn points_named(alloc: Global, contradiction: &Contradiction) -> Result<Vec<u32>
     Ok(numbers)
 }
 
+/// The commands of the points of these numbers, in their order. A number that the table hasn't is left out.
+fn commands_of(alloc: Global, points: &Points<'_>, numbers: &[u32]) -> Result<Vec<u32>, NoMemory>
+    ensures { IfOk result (λ commands. (command : ℕ)
+        → Contains commands.items command ↔ IsNamed (seen_table points.now) numbers.now command) }
+{
+    let mut commands = Vec::new(alloc);
+    for number in numbers {
+        if let Some(point) = points.points.get(*number as usize) {
+            commands.push(point.command)?;
+        }
+    }
+    Ok(commands)
+}
+
 /// The numbers of the commands that the contradiction names, rising.
 pub(crate) fn commands_named(
     alloc: Global,
     points: &Points<'_>,
     contradiction: &Contradiction,
-) -> Result<Vec<u32>, NoMemory> {
-    let mut commands = Vec::new(alloc);
-    for number in &points_named(alloc, contradiction)? {
-        if let Some(point) = points.points.get(*number as usize) {
-            commands.push(point.command)?;
-        }
-    }
+) -> Result<Vec<u32>, NoMemory>
+    ensures { IfOk result (λ commands. AreCommandsOf (seen_table points.now) (spec.points_named contradiction.now) commands.items) }
+{
+    let numbers = points_named(alloc, contradiction)?;
+    let mut commands = commands_of(alloc, points, &numbers)?;
     commands.sort_unstable();
     commands.dedup();
     Ok(commands)

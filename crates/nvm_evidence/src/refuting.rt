@@ -1,3 +1,8 @@
+ghost use Rattle.std.specs.Prelude.{ℕ, IfErr, IfOk, List};
+ghost use Rattle.nvm_evidence.specs.Refuted.{IsRefuted, IsRefutedFile, IsRefuteFault};
+ghost use Rattle.nvm_file.specs.TraceFile.{IsTraceFile};
+ghost use Rattle.nvm_judge.specs.Contradicted.{IsContradictedBy};
+
 use crate::contradiction_reading::read_contradiction;
 use crate::evidence_fault::EvidenceFault;
 use crate::held_contradiction::HeldContradiction;
@@ -11,11 +16,21 @@ use nvm_record::{NoMemory, Payload};
 use nvm_trace::Trace;
 use std::alloc::{AllocError, Global};
 
-/// How many commands the contradiction names, of those that have points.
-fn count_named(alloc: Global, trace: &Trace, held: &HeldContradiction) -> Result<usize, NoMemory> {
+/// The numbers of a contradiction that is taken.
+fn taken(alloc: Global, trace: &Trace, held: &HeldContradiction) -> Result<Refuted, NoMemory>
+    requires { IsContradictedBy trace.now held.now.profile held.now.contradiction }
+    ensures { IfOk result (IsRefuted trace.now held.now.profile held.now.contradiction) }
+{
     match points_of(alloc, trace, held.profile) {
-        Ok(points) => Ok(commands_named(alloc, &points, &held.contradiction)?.len()),
-        Err(PointsFault::Wrong { .. }) => Ok(0),
+        Ok(points) => {
+            let commands = commands_named(alloc, &points, &held.contradiction)?;
+            Ok(Refuted::Refuted {
+                commands: commands.len(),
+                facts: held.contradiction.facts.len(),
+                profile: held.profile,
+            })
+        }
+        Err(PointsFault::Wrong { command }) => Ok(Refuted::Wrong { command }),
         Err(PointsFault::NoMemory) => Err(AllocError),
     }
 }
@@ -25,13 +40,11 @@ pub fn refute_contradiction(
     alloc: Global,
     trace: &Trace,
     held: &HeldContradiction,
-) -> Result<Refuted, NoMemory> {
+) -> Result<Refuted, NoMemory>
+    ensures { IfOk result (IsRefuted trace.now held.now.profile held.now.contradiction) }
+{
     match check_contradiction(alloc, trace, held.profile, &held.contradiction) {
-        Ok(()) => Ok(Refuted::Refuted {
-            commands: count_named(alloc, trace, held)?,
-            facts: held.contradiction.facts.len(),
-            profile: held.profile,
-        }),
+        Ok(()) => taken(alloc, trace, held),
         Err(RefuteFault::Wrong { command }) => Ok(Refuted::Wrong { command }),
         Err(RefuteFault::Contradiction(fault)) => Ok(Refuted::Unrefuted(fault)),
         Err(RefuteFault::NoMemory) => Err(AllocError),
@@ -44,14 +57,20 @@ pub fn refute_contradiction_bytes(
     alloc: Global,
     trace: &Payload,
     contradiction: &[u8],
-) -> Result<Refuted, RefuteBytesFault> {
+) -> Result<Refuted, RefuteBytesFault>
+    ensures refuted { IfOk result (IsRefutedFile trace.now) }
+    ensures fault { IfErr result (IsRefuteFault trace.now) }
+{
     let seen = trace_of(alloc, trace)?;
     let held = contradiction_of(alloc, contradiction)?;
     Ok(refute_contradiction(alloc, &seen, &held)?)
 }
 
 /// The trace that a file holds.
-fn trace_of(alloc: Global, bytes: &Payload) -> Result<Trace, RefuteBytesFault> {
+fn trace_of(alloc: Global, bytes: &Payload) -> Result<Trace, RefuteBytesFault>
+    ensures read { IfOk result (λ t. IsTraceFile bytes.now t) }
+    ensures fault { IfErr result (IsRefuteFault bytes.now) }
+{
     match read_trace(alloc, bytes) {
         Ok(trace) => Ok(trace),
         Err(TraceFileFault::NoMemory) => Err(RefuteBytesFault::NoMemory),
@@ -60,7 +79,9 @@ fn trace_of(alloc: Global, bytes: &Payload) -> Result<Trace, RefuteBytesFault> {
 }
 
 /// The contradiction that a file holds.
-fn contradiction_of(alloc: Global, bytes: &[u8]) -> Result<HeldContradiction, RefuteBytesFault> {
+fn contradiction_of(alloc: Global, bytes: &[u8]) -> Result<HeldContradiction, RefuteBytesFault>
+    ensures { (trace : List ℕ) → IfErr result (IsRefuteFault trace) }
+{
     match read_contradiction(alloc, bytes) {
         Ok(held) => Ok(held),
         Err(EvidenceFault::NoMemory) => Err(RefuteBytesFault::NoMemory),
