@@ -165,8 +165,8 @@ fn put_time(
     Ok(())
 }
 
-/// Why those that can have put what was found, and aren't in question by the times, aren't. What goes without saying is said where they are
-/// few.
+/// Why what was found wasn't there at first, if it can have been, and why those that can have put it, and aren't in question by the times,
+/// aren't. What goes without saying is said where they are few.
 fn put_excuses(
     alloc: Global,
     facts: &mut Vec<Fact>,
@@ -182,6 +182,11 @@ fn put_excuses(
     };
     let servers = history.all_servers(alloc, reader.point, block, find.sought)?;
     let is_said = servers.len() <= FEW;
+    if !history.is_never_first(find.sought) {
+        if let Some(writer) = history.last_sure(block, history.from(reader.point)) {
+            put_time(facts, history.node(writer, block), reader, is_said)?;
+        }
+    }
     for server in &servers {
         let is_in_question = match window.place(history, *server, block) {
             Some(place) => find.writers.contains(&place),
