@@ -1,5 +1,5 @@
 -- Which commands a contradiction names: those whose points its facts and its conclusion do.
-use Rattle.std.specs.Prelude.{◌≡◌, ◌↔◌, ℕ, ◌-◌, List, [], ◌∷◌, ◌++◌, length, Contains, Some, slice_get}
+use Rattle.std.specs.Prelude.{◌≡◌, ◌↔◌, ℕ, ◌-◌, List, [], ◌∷◌, ◌++◌, length, Contains, Option, Some, None, slice_get}
 use Rattle.std.specs.List.{flat_map}
 use Rattle.std.specs.List.Sorted.{IsStrictlyIncreasing}
 use Rattle.nvm_contradiction.specs.declared.contradiction.Conclusion.{Conclusion}
@@ -32,25 +32,29 @@ conclusion_points (Nowhere reader) = reader ∷ []
 abbrev pub points_named : Contradiction → List ℕ
 points_named c = flat_map fact_points c.facts.items ++ conclusion_points c.conclusion
 
--- The table's point of this number is of the command.
-pub record IsOfCommand (t : TableView) (command number : ℕ) : Type 0 where
-  pub point : PointView
-  pub its : slice_get t.points number ≡ Some point
-  pub command_is : point.command ≡ command
+abbrev pub command_of : Option PointView → List ℕ
+command_of None = []
+command_of (Some q) = q.command ∷ []
 
--- Of the points of these numbers the table has one of the command.
-pub record IsNamed (t : TableView) (numbers : List ℕ) (command : ℕ) : Type 0 where
-  pub number : ℕ
-  pub among : Contains numbers number
-  pub of : IsOfCommand t command number
+-- the command of the point of this number, where the table has it
+abbrev pub command_at : TableView → ℕ → List ℕ
+command_at t number = command_of (slice_get t.points number)
 
--- These are the commands of the points of these numbers, rising.
-pub record AreCommandsOf (t : TableView) (numbers commands : List ℕ) : Type 0 where
-  pub rising : IsStrictlyIncreasing commands
-  pub exactly : (command : ℕ) → Contains commands command ↔ IsNamed t numbers command
+-- the commands of the points of these numbers
+abbrev pub commands_at : TableView → List ℕ → List ℕ
+commands_at t numbers = flat_map (command_at t) numbers
+
+-- The second are the numbers of the first, rising, each once.
+pub record AreRising (all once : List ℕ) : Type 0 where
+  pub rising : IsStrictlyIncreasing once
+  pub exactly : (n : ℕ) → Contains once n ↔ Contains all n
+
+-- The contradiction names these commands.
+abbrev pub AreNamed : TableView → Contradiction → List ℕ → Type 0
+AreNamed t c commands = AreRising (commands_at t (points_named c)) commands
 
 -- The contradiction names so many commands.
 pub record IsCountNamed (t : TableView) (c : Contradiction) (count : ℕ) : Type 0 where
   pub commands : List ℕ
-  pub named : AreCommandsOf t (points_named c) commands
+  pub named : AreNamed t c commands
   pub count_is : count ≡ length commands

@@ -1,8 +1,8 @@
 //! Which commands a contradiction names.
-ghost use Rattle.std.specs.Prelude.{◌≡◌, ◌↔◌, ◌++◌, ℕ, Contains, IfOk, OnOk};
+ghost use Rattle.std.specs.Prelude.{◌≡◌, ◌++◌, IfOk, OnOk};
 ghost use Rattle.nvm_points.specs.PointView.{seen_table};
 ghost use Rattle.nvm_evidence.specs.Named as spec;
-ghost use Rattle.nvm_evidence.specs.Named.{AreCommandsOf, IsNamed};
+ghost use Rattle.nvm_evidence.specs.Named.{AreNamed, AreRising};
 
 use nvm_contradiction::{Conclusion, Contradiction, Fact};
 use nvm_points::Points;
@@ -75,18 +75,33 @@ fn points_named(alloc: Global, contradiction: &Contradiction) -> Result<Vec<u32>
     Ok(numbers)
 }
 
+/// Appends the command of the point of this number, where the table has it.
+fn put_command(commands: &mut Vec<u32>, points: &Points<'_>, number: u32) -> Result<(), NoMemory>
+    ensures { OnOk result (commands.new.items ≡ commands.old.items ++ spec.command_at (seen_table points.now) number) }
+{
+    if let Some(point) = points.points.get(number as usize) {
+        commands.push(point.command)?;
+    }
+    Ok(())
+}
+
 /// The commands of the points of these numbers, in their order. A number that the table hasn't is left out.
-fn commands_of(alloc: Global, points: &Points<'_>, numbers: &[u32]) -> Result<Vec<u32>, NoMemory>
-    ensures { IfOk result (λ commands. (command : ℕ)
-        → Contains commands.items command ↔ IsNamed (seen_table points.now) numbers.now command) }
+fn commands_at(alloc: Global, points: &Points<'_>, numbers: &Vec<u32>) -> Result<Vec<u32>, NoMemory>
+    ensures { IfOk result (λ commands. commands.items ≡ spec.commands_at (seen_table points.now) numbers.now.items) }
 {
     let mut commands = Vec::new(alloc);
     for number in numbers {
-        if let Some(point) = points.points.get(*number as usize) {
-            commands.push(point.command)?;
-        }
+        put_command(&mut commands, points, *number)?;
     }
     Ok(commands)
+}
+
+/// Puts the numbers in rising order, each once.
+fn sort_once(numbers: &mut Vec<u32>)
+    ensures { AreRising numbers.old.items numbers.new.items }
+{
+    numbers.sort_unstable();
+    numbers.dedup();
 }
 
 /// The numbers of the commands that the contradiction names, rising.
@@ -95,11 +110,10 @@ pub(crate) fn commands_named(
     points: &Points<'_>,
     contradiction: &Contradiction,
 ) -> Result<Vec<u32>, NoMemory>
-    ensures { IfOk result (λ commands. AreCommandsOf (seen_table points.now) (spec.points_named contradiction.now) commands.items) }
+    ensures { IfOk result (λ commands. AreNamed (seen_table points.now) contradiction.now commands.items) }
 {
     let numbers = points_named(alloc, contradiction)?;
-    let mut commands = commands_of(alloc, points, &numbers)?;
-    commands.sort_unstable();
-    commands.dedup();
+    let mut commands = commands_at(alloc, points, &numbers)?;
+    sort_once(&mut commands);
     Ok(commands)
 }
