@@ -43,12 +43,12 @@ fn searched<'t>(alloc: Global, points: &Points<'t>, effort: u32) -> Result<Judgm
     ensures { IfOk result (IsFoundOf (seen_table points.now)) }
 {
     let Some(order) = order_of(alloc, points, effort)? else {
-        return contradicted(alloc, &*points, effort);
+        return contradicted(alloc, points, effort);
     };
-    match explains(alloc, points, &order) {
+    match explains(alloc, &*points, &order) {
         Ok(()) => Ok(Judgment::Explained(order)),
         Err(OrderFault::NoMemory) => Err(AllocError),
-        Err(_) => contradicted(alloc, &*points, effort),
+        Err(_) => contradicted(alloc, points, effort),
     }
 }
 
