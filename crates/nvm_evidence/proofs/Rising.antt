@@ -17,5 +17,6 @@ are_rising all sorted once moved in_order kept =
       rising = IsStrictlyIncreasing-dedup sorted in_order;
       exactly = λ n. (
         (λ here. Contains-permutation sorted all n (IsPermutation-sym all sorted moved) (Contains-from_dedup eqb sorted n here)),
-        (λ there. Contains-dedup_nat sorted n (Contains-permutation all sorted n moved there)));
+        (λ there. Contains-dedup_nat sorted n (Contains-permutation all sorted n moved there)),
+      );
     })

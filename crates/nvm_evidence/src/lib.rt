@@ -9,8 +9,8 @@
 
 mod command_object;
 mod contradicted;
+mod contradiction_listing;
 mod contradiction_reading;
-mod contradiction_story;
 mod contradiction_writing;
 mod evidence;
 mod evidence_fault;
@@ -23,8 +23,8 @@ mod front;
 mod held_contradiction;
 mod held_order;
 mod named;
+mod order_listing;
 mod order_reading;
-mod order_story;
 mod order_writing;
 mod ordered;
 mod point_name;
@@ -40,16 +40,16 @@ mod witnessing;
 mod words;
 
 pub use contradicted::{contradiction_object, contradiction_text};
+pub use contradiction_listing::contradiction_story;
 pub use contradiction_reading::read_contradiction;
-pub use contradiction_story::contradiction_story;
 pub use contradiction_writing::write_contradiction;
 pub use evidence::Evidence;
 pub use evidence_fault::EvidenceFault;
 pub use front::is_evidence;
 pub use held_contradiction::HeldContradiction;
 pub use held_order::HeldOrder;
+pub use order_listing::order_story;
 pub use order_reading::read_order;
-pub use order_story::order_story;
 pub use order_writing::write_order;
 pub use ordered::{OrderNumbers, Ordered};
 pub use reading::read_evidence;
