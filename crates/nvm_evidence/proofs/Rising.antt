@@ -1,5 +1,5 @@
 -- Numbers after a sort and a `dedup`: rising, each once.
-use Rattle.std.proofs.Common.{◌≡◌, ℕ, List, [], Contains, IsPermutation, IsSorted, eqb, subst, sym}
+use Rattle.std.proofs.Common.{◌≡◌, ℕ, List, [], IsPermutation, IsSorted, eqb, subst, sym}
 use Rattle.std.specs.List.{dedup}
 use Rattle.std.specs.List.Retain.{DiffersFromLast, IsFiltered}
 use Rattle.std.specs.Ordering.{nat_cmp}
