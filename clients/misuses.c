@@ -398,8 +398,11 @@ static bool holds(const struct row *row)
 static const uint8_t no_jobs[] = { 'N', 'V', 'T', '1', 64, 0, 0, 0, 0, 0, 0, 0, 0, 2, 0, 0, 7, 0, 0, 0, 7, 0, 7, 0,
                                    0, 0, 0, 0, 0, 0, 0, 0, 0, 0, 0, 0, 0, 0 };
 
-/* An argument about unit 0 without facts: NVA1, the unit, and the number of facts. */
-static const uint8_t no_facts[] = { 'N', 'V', 'A', '1', 0, 0, 0, 0, 0, 0, 0, 0, 0, 0 };
+/* A contradiction without facts, which concludes a loop: NVE1, the kind of evidence, what Reads and deallocated blocks are held to, the conclusion, and the number of facts. */
+static const uint8_t no_facts[] = { 'N', 'V', 'E', '1', 2, 0, 2, 0, 0, 0, 0, 0, 0, 0, 0, 0 };
+
+/* An order of no points, and without a first content of any block. */
+static const uint8_t no_points[] = { 'N', 'V', 'E', '1', 1, 0, 2, 0, 0, 0, 0, 0, 0, 0, 0, 0, 0, 0, 0, 0, 0, 0, 0 };
 
 /* NULL has its code in each call, and a command without data takes it. */
 static bool nulls_are_answered(void)
@@ -440,11 +443,11 @@ static bool nulls_are_answered(void)
         { "witness by NULL", ZK_BAD_LENGTH, zk_witness(no_jobs, sizeof no_jobs, NULL, 4, false, (char *)line, sizeof line) },
         { "witness by NULL without a length", ZK_BAD_RECORD, zk_witness(no_jobs, sizeof no_jobs, NULL, 0, false, (char *)line, sizeof line) },
         { "witness into NULL", ZK_SHORT_ROOM, zk_witness(no_jobs, sizeof no_jobs, entry, sizeof entry, false, NULL, sizeof line) },
-        { "refute of NULL", ZK_BAD_LENGTH, zk_refute(NULL, 4, entry, sizeof entry, true, (char *)line, sizeof line) },
-        { "refute of NULL without a length", ZK_BAD_TRACE, zk_refute(NULL, 0, entry, sizeof entry, true, (char *)line, sizeof line) },
-        { "refute by NULL", ZK_BAD_LENGTH, zk_refute(no_jobs, sizeof no_jobs, NULL, 4, true, (char *)line, sizeof line) },
-        { "refute by NULL without a length", ZK_BAD_ARGUMENT, zk_refute(no_jobs, sizeof no_jobs, NULL, 0, true, (char *)line, sizeof line) },
-        { "refute into NULL", ZK_SHORT_ROOM, zk_refute(no_jobs, sizeof no_jobs, entry, sizeof entry, true, NULL, sizeof line) },
+        { "refute of NULL", ZK_BAD_LENGTH, zk_refute(NULL, 4, entry, sizeof entry, (char *)line, sizeof line) },
+        { "refute of NULL without a length", ZK_BAD_TRACE, zk_refute(NULL, 0, entry, sizeof entry, (char *)line, sizeof line) },
+        { "refute by NULL", ZK_BAD_LENGTH, zk_refute(no_jobs, sizeof no_jobs, NULL, 4, (char *)line, sizeof line) },
+        { "refute by NULL without a length", ZK_BAD_CONTRADICTION, zk_refute(no_jobs, sizeof no_jobs, NULL, 0, (char *)line, sizeof line) },
+        { "refute into NULL", ZK_SHORT_ROOM, zk_refute(no_jobs, sizeof no_jobs, entry, sizeof entry, NULL, sizeof line) },
         { "record of NULL", ZK_OTHER_PORTS, zk_record(NULL, PORTS, block, BLOCK, &length) },
         { "record into NULL", ZK_BAD_LENGTH, zk_record(ports, PORTS, NULL, BLOCK, &length) },
         { "record with NULL for its length", ZK_BAD_LENGTH, zk_record(ports, PORTS, block, BLOCK, NULL) },
@@ -538,7 +541,7 @@ static bool audit_starved(void)
 /* The bytes of two files to be judged, how long the room is, and what is answered: the code, and the line with it. */
 struct judged {
     int code;
-    int (*call)(const uint8_t *, size_t, const uint8_t *, size_t, bool, char *, size_t);
+    int (*call)(const uint8_t *, size_t, const uint8_t *, size_t, char *, size_t);
     const char *misuse;
     const uint8_t *trace;
     size_t trace_length;
@@ -546,6 +549,17 @@ struct judged {
     size_t other_length, room;
     const char *line;
 };
+
+/* A record or an order judges the trace, and not strictly; or it does so strictly. */
+static int witness(const uint8_t *trace, size_t trace_length, const uint8_t *evidence, size_t evidence_length, char *line, size_t room)
+{
+    return zk_witness(trace, trace_length, evidence, evidence_length, false, line, room);
+}
+
+static int witness_strictly(const uint8_t *trace, size_t trace_length, const uint8_t *evidence, size_t evidence_length, char *line, size_t room)
+{
+    return zk_witness(trace, trace_length, evidence, evidence_length, true, line, room);
+}
 
 /* Whether the call answers its code, and writes its line with a byte of 0 and nothing else. */
 static bool is_judged(const struct judged *row)
@@ -555,7 +569,7 @@ static bool is_judged(const struct judged *row)
     memset(due, 0x5a, sizeof due);
     if (row->line)
         memcpy(due, row->line, strlen(row->line) + 1);
-    int code = row->call(row->trace, row->trace_length, row->other, row->other_length, false, line, row->room);
+    int code = row->call(row->trace, row->trace_length, row->other, row->other_length, line, row->room);
     if (code == row->code && memcmp(line, due, sizeof line) == 0)
         return true;
     fprintf(stderr, "misuses: %s: %d, and not %d, or another line\n", row->misuse, code, row->code);
@@ -570,7 +584,7 @@ static bool judged_starved(const struct judged *row)
         char line[ZK_LINE_BYTES], due[ZK_LINE_BYTES];
         memset(line, 0x5a, sizeof line);
         memset(due, 0x5a, sizeof due);
-        int code = row->call(row->trace, row->trace_length, row->other, row->other_length, false, line, row->room);
+        int code = row->call(row->trace, row->trace_length, row->other, row->other_length, line, row->room);
         bool was_refused = refuses_from == 0;
         refuses_from = 0;
         refuses = false;
@@ -582,11 +596,11 @@ static bool judged_starved(const struct judged *row)
     return false;
 }
 
-/* Traces without commands, by the record of a namespace in which nothing was done, and by an argument without facts. */
+/* Traces without commands, by the record of a namespace in which nothing was done, by an order of nothing, and by a contradiction without facts. */
 static bool judges_are_answered(size_t *count)
 {
     static const char explained[] = "explained jobs 0 units 8 steps 0 excused 0 preparations 0\n";
-    static const char unrefuted[] = "unrefuted NothingRefuted fact -\n";
+    static const char unrefuted[] = "unrefuted NothingContradicted fact -\n";
     static uint8_t bytes[ROOM], other[sizeof no_jobs];
     size_t length = 0;
     recorded = true;
@@ -596,21 +610,27 @@ static bool judges_are_answered(size_t *count)
     memcpy(other, no_jobs, sizeof no_jobs);
     other[4] = 56; /* NSZE */
     const struct judged calls[] = {
-        { ZK_DONE, zk_witness, "witness", no_jobs, sizeof no_jobs, bytes, length, ZK_LINE_BYTES, explained },
-        { ZK_DONE, zk_witness, "witness into exactly enough room", no_jobs, sizeof no_jobs, bytes, length, sizeof explained, explained },
-        { ZK_SHORT_ROOM, zk_witness, "witness without room for the byte of 0", no_jobs, sizeof no_jobs, bytes, length, sizeof explained - 1, NULL },
-        { ZK_SHORT_ROOM, zk_witness, "witness without room", no_jobs, sizeof no_jobs, bytes, length, 0, NULL },
-        { ZK_UNEXPLAINED, zk_witness, "witness by a record of another namespace", other, sizeof other, bytes, length, ZK_LINE_BYTES,
+        { ZK_DONE, witness, "witness", no_jobs, sizeof no_jobs, bytes, length, ZK_LINE_BYTES, explained },
+        { ZK_DONE, witness, "witness into exactly enough room", no_jobs, sizeof no_jobs, bytes, length, sizeof explained, explained },
+        { ZK_SHORT_ROOM, witness, "witness without room for the byte of 0", no_jobs, sizeof no_jobs, bytes, length, sizeof explained - 1, NULL },
+        { ZK_SHORT_ROOM, witness, "witness without room", no_jobs, sizeof no_jobs, bytes, length, 0, NULL },
+        { ZK_UNEXPLAINED, witness, "witness by a record of another namespace", other, sizeof other, bytes, length, ZK_LINE_BYTES,
           "unexplained NamespaceDiffers job - unit - place -\n" },
-        { ZK_BAD_TRACE, zk_witness, "witness of a record", bytes, length, other, sizeof other, ZK_LINE_BYTES, "trace: bad name\n" },
-        { ZK_BAD_TRACE, zk_witness, "witness of what is cut", no_jobs, sizeof no_jobs - 1, bytes, length, ZK_LINE_BYTES, "trace: truncated at 34\n" },
-        { ZK_BAD_RECORD, zk_witness, "witness by a trace", no_jobs, sizeof no_jobs, other, sizeof other, ZK_LINE_BYTES, "record: bad name\n" },
+        { ZK_BAD_TRACE, witness, "witness of a record", bytes, length, other, sizeof other, ZK_LINE_BYTES, "trace: bad name\n" },
+        { ZK_BAD_TRACE, witness, "witness of what is cut", no_jobs, sizeof no_jobs - 1, bytes, length, ZK_LINE_BYTES, "trace: truncated at 34\n" },
+        { ZK_BAD_RECORD, witness, "witness by a trace", no_jobs, sizeof no_jobs, other, sizeof other, ZK_LINE_BYTES, "record: bad name\n" },
+        { ZK_DONE, witness, "witness by an order", no_jobs, sizeof no_jobs, no_points, sizeof no_points, ZK_LINE_BYTES,
+          "explained jobs 0 points 0 reads atomic deallocated either\n" },
+        { ZK_BAD_RECORD, witness, "witness by an order that is cut", no_jobs, sizeof no_jobs, no_points, sizeof no_points - 1, ZK_LINE_BYTES, "order: truncated at 15\n" },
+        { ZK_BAD_RECORD, witness, "witness by a contradiction", no_jobs, sizeof no_jobs, no_facts, sizeof no_facts, ZK_LINE_BYTES, "order: bad value at 4\n" },
+        { ZK_BAD_RECORD, witness_strictly, "witness strictly by an order", no_jobs, sizeof no_jobs, no_points, sizeof no_points, ZK_LINE_BYTES, "record: bad name\n" },
         { ZK_UNREFUTED, zk_refute, "refute", no_jobs, sizeof no_jobs, no_facts, sizeof no_facts, ZK_LINE_BYTES, unrefuted },
         { ZK_SHORT_ROOM, zk_refute, "refute without room for the byte of 0", no_jobs, sizeof no_jobs, no_facts, sizeof no_facts, sizeof unrefuted - 1, NULL },
-        { ZK_BAD_TRACE, zk_refute, "refute of an argument", no_facts, sizeof no_facts, other, sizeof other, ZK_LINE_BYTES, "trace: bad name\n" },
-        { ZK_BAD_ARGUMENT, zk_refute, "refute by a trace", no_jobs, sizeof no_jobs, other, sizeof other, ZK_LINE_BYTES, "argument: bad name\n" },
-        { ZK_BAD_ARGUMENT, zk_refute, "refute by what is cut", no_jobs, sizeof no_jobs, no_facts, sizeof no_facts - 1, ZK_LINE_BYTES,
-          "argument: truncated at 6\n" },
+        { ZK_BAD_TRACE, zk_refute, "refute of a contradiction", no_facts, sizeof no_facts, other, sizeof other, ZK_LINE_BYTES, "trace: bad name\n" },
+        { ZK_BAD_CONTRADICTION, zk_refute, "refute by a trace", no_jobs, sizeof no_jobs, other, sizeof other, ZK_LINE_BYTES, "contradiction: bad name\n" },
+        { ZK_BAD_CONTRADICTION, zk_refute, "refute by an order", no_jobs, sizeof no_jobs, no_points, sizeof no_points, ZK_LINE_BYTES, "contradiction: bad value at 4\n" },
+        { ZK_BAD_CONTRADICTION, zk_refute, "refute by what is cut", no_jobs, sizeof no_jobs, no_facts, sizeof no_facts - 1, ZK_LINE_BYTES,
+          "contradiction: truncated at 8\n" },
     };
     bool right = true;
     *count = sizeof calls / sizeof *calls;

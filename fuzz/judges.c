@@ -1,4 +1,4 @@
-/* zk_audit, zk_witness and zk_refute with bytes of any kind as files. An input's first byte is whether to be strict and which call, and then come the lengths and
+/* zk_audit, zk_witness and zk_refute with bytes of any kind as files. An input's first byte is whether a witness is strict and which call, and then come the lengths and
  * bytes of one file or two. Held is what zalkvorn.h says: which codes are answered, what the line is like and where it stands, that a room that is short by a byte takes none, and that the
  * same is answered twice. */
 #include <stdio.h>
@@ -35,7 +35,7 @@ static int answered(const struct asked *asked, char *line, size_t room)
     case WITNESS:
         return zk_witness(asked->first, asked->first_length, asked->second, asked->second_length, asked->strict, line, room);
     default:
-        return zk_refute(asked->first, asked->first_length, asked->second, asked->second_length, asked->strict, line, room);
+        return zk_refute(asked->first, asked->first_length, asked->second, asked->second_length, line, room);
     }
 }
 
@@ -56,9 +56,9 @@ static void judge(const struct asked *asked)
         must(*it == 0x55, "nothing is written behind the line");
     must(code == ZK_DONE ? begins(line, fronts[asked->call][0])
          : code == otherwise[asked->call] ? begins(line, fronts[asked->call][1])
-         : code == ZK_BAD_RECORD ? asked->call != REFUTE && begins(line, "record: ")
+         : code == ZK_BAD_RECORD ? (asked->call != REFUTE && begins(line, "record: ")) || (asked->call == WITNESS && !asked->strict && begins(line, "order: "))
          : code == ZK_BAD_TRACE ? asked->call != AUDIT && begins(line, "trace: ")
-         : code == ZK_BAD_ARGUMENT && asked->call == REFUTE && begins(line, "argument: "), "the code and the line agree");
+         : code == ZK_BAD_CONTRADICTION && asked->call == REFUTE && begins(line, "contradiction: "), "the code and the line agree");
     size_t length = (size_t)(end - line);
     memset(again, 0x55, sizeof again);
     must(answered(asked, again, length) == ZK_SHORT_ROOM && again[0] == 0x55 && memcmp(again, again + 1, sizeof again - 1) == 0, "a room that is short by a byte takes nothing");

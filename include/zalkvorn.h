@@ -1,6 +1,6 @@
 /* The media side of an NVM Express controller: a namespace in memory that threads read and change through up to
  * ZK_MOST_PORTS ports. It also has the auditor, which judges the record of a run, and two judges of a device that is not this one: of what its
- * hosts saw, by a record or by an argument. Little-endian 64-bit machines. Link libnvm_c.a and, for malloc and free, the toolchain's liblibc_c.a.
+ * hosts saw, by a record or an order that is to explain it, or by a contradiction that is to refute it. Little-endian 64-bit machines. Link libnvm_c.a and, for malloc and free, the toolchain's liblibc_c.a.
  *
  * A thread works through a port. Open a namespace with one port for each thread (or queue, or reactor), and give
  * each thread its own. No call waits, blocks or starts a thread: where another port holds the atomic unit that a
@@ -35,7 +35,7 @@ extern "C" {
 #endif
 
 /* The version of this header. zk_version() gives that of the library; the two must be equal. */
-#define ZK_VERSION 2
+#define ZK_VERSION 3
 
 /* The most ports of a namespace, and the most changes of an atomic unit that a record can have. */
 #define ZK_MOST_PORTS 64
@@ -75,15 +75,15 @@ enum zk_code {
     ZK_CROSSES = 14,      /* The range lies in more than one atomic unit. */
     ZK_NO_VERSIONS = 15,  /* The namespace was opened without versions. */
     ZK_UNLAWFUL = 16,     /* The record is not lawful. */
-    ZK_BAD_RECORD = 17,   /* The bytes are not those of a record file. */
+    ZK_BAD_RECORD = 17,   /* The bytes are not those of a record file, nor of an order file where one is taken. */
     ZK_SHORT_ROOM = 18,   /* The line with its byte of 0, or the record's file, is longer than its room. */
     ZK_OTHER_PORTS = 19,  /* These are not all ports of one namespace, in the order of zk_open. */
     ZK_NO_RECORD = 20,    /* The namespace was opened with ZK_NO_LIMIT. */
     ZK_RECORD_FULL = 21,  /* There were more than ZK_MOST_JOBS commands or pairs, which no record has. */
-    ZK_UNEXPLAINED = 22,  /* The record does not explain the trace. */
-    ZK_UNREFUTED = 23,    /* The argument does not show that no record explains the trace. */
+    ZK_UNEXPLAINED = 22,  /* The record or the order does not explain the trace. */
+    ZK_UNREFUTED = 23,    /* The contradiction does not show that nothing explains the trace. */
     ZK_BAD_TRACE = 24,    /* The bytes are not those of a trace file. */
-    ZK_BAD_ARGUMENT = 25  /* The bytes are not those of an argument file. */
+    ZK_BAD_CONTRADICTION = 25 /* The bytes are not those of a contradiction file. */
 };
 
 /* A port. Its bytes are the library's own. There are 64 of them, so that neighboring ports of an array, which threads use at the same
@@ -206,35 +206,40 @@ int zk_read_now(struct zk_port *port, uint64_t slba, uint16_t nlb, uint8_t *data
  * Threads: any thread, any time. It uses no port. */
 int zk_audit(const uint8_t *bytes, size_t length, char *line, size_t room);
 
-/* Judges a trace, which is what the hosts of any device sent and saw, by a record of what the device may have done inside. Where the record
- * explains it, each atomic unit behaved as a store that does one step at a time, each between the beginning and the end of its command. With
- * `strict` each command is one step in each unit; without it, a Write that the standard lets a device tear may be. A deallocated block is zeroes in
- * each record, where by the standard a device may also keep its data or read it as FFh. Judge a record by the `strict` under which it was made. `trace` is the whole file, as `nvq trace` or a test bench of yours writes it, and `record` that of a record, of either
- * version, as `nvq certify --record` writes it; docs/FORMATS.md has the fields of both. `line` is as in zk_audit.
- * ZK_DONE: the record explains the trace, and the line has its numbers, as `nvmu witness` prints them. Look at the number after `excused`: it counts
+/* Judges a trace, which is what the hosts of any device sent and saw, by a record or an order of what the device may have done inside. `trace` is the whole
+ * file, as `nvq trace` or a test bench of yours writes it, and `evidence` that of a record, of either version, as `nvmu run` and zk_record write it, or, without `strict`, that of an
+ * order, as `nvq certify --evidence` writes it. docs/FORMATS.md has the fields of each. `line` is as in zk_audit.
+ * Where a record explains the trace, each atomic unit behaved as a store that does one step at a time, each between the beginning and the end of its command. With `strict`
+ * each command is one step in each unit, as those of this library are; without it, a Write that the standard lets a device tear may be. A deallocated block is zeroes in each record.
+ * Where an order explains it, the device did nothing that docs/STANDARD.md doesn't let it do; in the order stands what the device is held to.
+ * ZK_DONE: it explains the trace, and the line has the numbers, as `nvmu witness` prints them. Of a record look at the number after `excused`: it counts
  * the jobs that never ended, or ended with a reply that does not say what was done:
  *     explained jobs 3 units 1 steps 4 excused 0 preparations 0
- * ZK_UNEXPLAINED: this record does not explain it, and the line has the first fault. Another record may:
+ *     explained jobs 3 points 4 reads atomic deallocated either
+ * ZK_UNEXPLAINED: this record or order does not explain it, and the line has a fault. Another may:
  *     unexplained ReplyDiffers job 0 unit - place -
+ *     unexplained FindsOther position 1
  * ZK_BAD_TRACE, and if that is a trace ZK_BAD_RECORD: the bytes are no such file, and the line says why, as `nvmu` does after its name:
  *     trace: truncated at 100
+ *     order: bad value at 4
  * ZK_SHORT_ROOM, ZK_NO_MEMORY: nothing was written. A line is never cut.
  * It takes some memory for each byte of the files, and gives it back. It starts no thread, waits for nothing, and keeps no pointer.
  * Threads: any thread, any time. It uses no port. */
-int zk_witness(const uint8_t *trace, size_t trace_length, const uint8_t *record, size_t record_length, bool strict, char *line, size_t room);
+int zk_witness(const uint8_t *trace, size_t trace_length, const uint8_t *evidence, size_t evidence_length, bool strict, char *line, size_t room);
 
-/* Judges a trace by an argument that no record explains it: a list of facts, each of which follows from the trace and those before it, until they
- * contradict each other. `trace`, `strict` and `line` are as in zk_witness, and `argument` is the whole file, as `nvq certify --argument` writes it.
- * ZK_DONE: no record explains the trace, so the device is none of this profile. By the standard, as yet, it need not be wrong: it may keep a
- * deallocated block's data, for one, which no record does ("What a contradiction says" in docs/FORMATS.md has all cases). The line has the atomic
- * unit and how many facts there are, as `nvmu refute` prints them:
- *     refuted unit 0 facts 5
- * ZK_UNREFUTED: the argument does not show that, and the line says why. Nothing is known of the trace:
+/* Judges a trace by a contradiction: a list of facts, of which each follows from the trace and those before it, and a conclusion that can't be. `trace` and
+ * `line` are as in zk_witness, and `contradiction` is the whole file, as `nvq certify --evidence` writes it. In that stands what the device is held to.
+ * ZK_DONE: nothing that a device may do explains the trace, held to that, by docs/STANDARD.md: the device is wrong, or the trace is not what its hosts saw. Reads that
+ * are held to `whole` or `atomic-all` are held to more than the standard says. The line has the number of commands that the contradiction names and of its facts, as `nvmu refute`
+ * prints them; or, where a pair's two statuses contradict each other, whatever the contradiction says, the number of that job:
+ *     refuted commands 2 facts 2 reads atomic deallocated either
+ *     refuted job 0
+ * ZK_UNREFUTED: the contradiction does not show that, and the line says why. Nothing is known of the trace:
  *     unrefuted FactWrong fact 2
- * ZK_BAD_TRACE, and if that is a trace ZK_BAD_ARGUMENT: the bytes are no such file, and the line says why:
- *     argument: truncated at 4
+ * ZK_BAD_TRACE, and if that is a trace ZK_BAD_CONTRADICTION: the bytes are no such file, and the line says why:
+ *     contradiction: truncated at 4
  * ZK_SHORT_ROOM, ZK_NO_MEMORY: as in zk_witness, and so are memory and threads. */
-int zk_refute(const uint8_t *trace, size_t trace_length, const uint8_t *argument, size_t argument_length, bool strict, char *line, size_t room);
+int zk_refute(const uint8_t *trace, size_t trace_length, const uint8_t *contradiction, size_t contradiction_length, char *line, size_t room);
 
 /* Gives the record of all that the ports of a namespace did since zk_open, as the bytes of a record file: a command that a check
  * refused is in it, and what zk_read_now answered is not. `ports` are all ports of one namespace, open, in the order in which zk_open
@@ -304,24 +309,24 @@ static inline int zk_audit_or_null(const uint8_t *bytes, size_t length, char *li
     return !bytes && length ? ZK_BAD_LENGTH : !line ? ZK_SHORT_ROOM : zk_audit(bytes ? bytes : none, length, line, room);
 }
 
-static inline int zk_witness_or_null(const uint8_t *trace, size_t trace_length, const uint8_t *record, size_t record_length,
+static inline int zk_witness_or_null(const uint8_t *trace, size_t trace_length, const uint8_t *evidence, size_t evidence_length,
                                      bool strict, char *line, size_t room)
 {
     static const uint8_t none[1] = { 0 };
-    if ((!trace && trace_length) || (!record && record_length))
+    if ((!trace && trace_length) || (!evidence && evidence_length))
         return ZK_BAD_LENGTH;
     return !line ? ZK_SHORT_ROOM
-                 : zk_witness(trace ? trace : none, trace_length, record ? record : none, record_length, strict, line, room);
+                 : zk_witness(trace ? trace : none, trace_length, evidence ? evidence : none, evidence_length, strict, line, room);
 }
 
-static inline int zk_refute_or_null(const uint8_t *trace, size_t trace_length, const uint8_t *argument, size_t argument_length,
-                                    bool strict, char *line, size_t room)
+static inline int zk_refute_or_null(const uint8_t *trace, size_t trace_length, const uint8_t *contradiction,
+                                    size_t contradiction_length, char *line, size_t room)
 {
     static const uint8_t none[1] = { 0 };
-    if ((!trace && trace_length) || (!argument && argument_length))
+    if ((!trace && trace_length) || (!contradiction && contradiction_length))
         return ZK_BAD_LENGTH;
     return !line ? ZK_SHORT_ROOM
-                 : zk_refute(trace ? trace : none, trace_length, argument ? argument : none, argument_length, strict, line, room);
+                 : zk_refute(trace ? trace : none, trace_length, contradiction ? contradiction : none, contradiction_length, line, room);
 }
 
 static inline int zk_record_or_null(struct zk_port *ports, size_t count, uint8_t *bytes, size_t room, size_t *length)
@@ -463,8 +468,8 @@ static inline const char *zk_code_name(int code)
         return "ZK_UNREFUTED";
     case ZK_BAD_TRACE:
         return "ZK_BAD_TRACE";
-    case ZK_BAD_ARGUMENT:
-        return "ZK_BAD_ARGUMENT";
+    case ZK_BAD_CONTRADICTION:
+        return "ZK_BAD_CONTRADICTION";
     default:
         return "unknown code";
     }

@@ -18,7 +18,7 @@ pub mod TraceCodes
 pub mod UnreadTrace
 pub mod TraceAnswer
 pub mod Witnessed
-pub mod Weighed
+pub mod Refuted
 pub mod RecordCodes
 pub mod Recorded
 pub mod Inside

@@ -1,9 +1,10 @@
--- What is said of bytes that are no trace's file, or no argument's: the first fault from the front, as `nvmu` says it after its name.
+-- What is said of bytes that are no trace's file, or no evidence of the kind that is asked for: the first fault from the front, as `nvmu` says it
+-- after its name.
 use Rattle.std.specs.Prelude.{List, ℕ, [], ◌++◌, codes, decimal}
 use Rattle.nvm_file.specs.declared.trace_file_fault.TraceFileFault.{TraceFileFault}
 use Rattle.nvm_file.specs.declared.trace_file_fault.TraceFileFault.TheVariants as of_trace
-use Rattle.nvm_argument.specs.declared.argument_fault.ArgumentFault.{ArgumentFault}
-use Rattle.nvm_argument.specs.declared.argument_fault.ArgumentFault.TheVariants as of_argument
+use Rattle.nvm_evidence.specs.declared.evidence_fault.EvidenceFault.{EvidenceFault}
+use Rattle.nvm_evidence.specs.declared.evidence_fault.EvidenceFault.TheVariants as of_evidence
 
 -- The line of a fault. Want of memory is no fault of the bytes, and has none.
 unfoldable pub trace_fault_line : TraceFileFault → List ℕ
@@ -15,9 +16,10 @@ trace_fault_line (of_trace.BeganAtZero at) = codes "trace: began at zero at " ++
 trace_fault_line (of_trace.EndedBefore at) = codes "trace: ended before at " ++ (decimal at ++ codes "\n")
 trace_fault_line of_trace.NoMemory = []
 
-unfoldable pub argument_fault_line : ArgumentFault → List ℕ
-argument_fault_line of_argument.BadName = codes "argument: bad name\n"
-argument_fault_line (of_argument.Truncated at) = codes "argument: truncated at " ++ (decimal at ++ codes "\n")
-argument_fault_line (of_argument.Trailing at) = codes "argument: trailing at " ++ (decimal at ++ codes "\n")
-argument_fault_line (of_argument.BadValue at) = codes "argument: bad value at " ++ (decimal at ++ codes "\n")
-argument_fault_line of_argument.NoMemory = []
+-- The same of evidence of a kind, `order` or `contradiction`.
+unfoldable pub evidence_fault_line : List ℕ → EvidenceFault → List ℕ
+evidence_fault_line kind of_evidence.BadName = kind ++ codes ": bad name\n"
+evidence_fault_line kind (of_evidence.Truncated at) = kind ++ (codes ": truncated at " ++ (decimal at ++ codes "\n"))
+evidence_fault_line kind (of_evidence.Trailing at) = kind ++ (codes ": trailing at " ++ (decimal at ++ codes "\n"))
+evidence_fault_line kind (of_evidence.BadValue at) = kind ++ (codes ": bad value at " ++ (decimal at ++ codes "\n"))
+evidence_fault_line kind of_evidence.NoMemory = []

@@ -10,10 +10,10 @@ ghost use Rattle.nvm_c.specs.ReadNow.{ReadsAt};
 ghost use Rattle.nvm_c.specs.declared.audit_code.AuditCode.{AuditCode as AuditAnswer};
 ghost use Rattle.nvm_c.specs.RecordCodes.{record_number};
 ghost use Rattle.nvm_c.specs.Recorded.{IsRecorded};
+ghost use Rattle.nvm_c.specs.Refuted.{IsRefuted};
 ghost use Rattle.nvm_c.specs.TraceAnswer as spec;
 ghost use Rattle.nvm_c.specs.TraceAnswer.{IsAnswer, judging_of};
 ghost use Rattle.nvm_c.specs.TraceCodes.{trace_number};
-ghost use Rattle.nvm_c.specs.Weighed.{IsWeighed};
 ghost use Rattle.nvm_c.specs.Witnessed.{IsWitnessed};
 ghost use Rattle.nvm_c.specs.declared.code.Code.{Code as Answer};
 ghost use Rattle.nvm_c.specs.declared.record_code.RecordCode.{RecordCode as Recording};
@@ -26,13 +26,13 @@ use crate::identify::{IDENTIFY_BYTES, identify};
 use crate::opening::{Numbers, open_ports};
 use crate::reading::ReadStatus;
 use crate::recording::record_ports;
-use crate::weighing::weighed;
+use crate::refuting::refuted;
 use crate::witnessing::witnessed;
 use nvm_trace::Judging;
 use std::alloc::Global;
 
 /// The version of the header that goes with this library.
-const VERSION: u32 = 2;
+const VERSION: u32 = 3;
 
 /// The version of the header that goes with this library.
 #[unsafe(no_mangle)]
@@ -166,38 +166,37 @@ pub extern "C" fn zk_audit(alloc: Global, bytes: &[u8], line: &mut [u8]) -> i32
     audited(alloc, bytes, line).number()
 }
 
-/// Judges the trace that the one file has by the record that the other has, and writes the line of that with a byte of 0 after it.
-/// Answers 0 where the record explains the trace, 22 where it doesn't, 24 where the bytes are no trace's file, and 17 where they are no
-/// record's. Nothing is written with 18, where the line with its byte of 0 is longer than the room, and with 4, where memory was refused.
+/// Judges the trace that the one file has by the record or the order that the other has, and writes the line of that with a byte of 0 after it.
+/// Answers 0 where it explains the trace, 22 where it doesn't, 24 where the bytes are no trace's file, and 17 where they are no
+/// record's and no order's. With `strict` no order is taken.
+/// Nothing is written with 18, where the line with its byte of 0 is longer than the room, and with 4, where memory was refused.
 #[unsafe(no_mangle)]
 pub extern "C" fn zk_witness(
     alloc: Global,
     trace: &[u8],
-    record: &[u8],
+    evidence: &[u8],
     strict: bool,
     line: &mut [u8],
 ) -> i32
     ensures { (code : TraceAnswer) × (result ≡ trace_number code)
-        × IsAnswer (IsWitnessed (judging_of strict) trace.now «record».now) code line.old line.new }
+        × IsAnswer (IsWitnessed (judging_of strict) trace.now evidence.now) code line.old line.new }
 {
-    witnessed(alloc, judging_of(strict), trace, record, line).number()
+    witnessed(alloc, judging_of(strict), trace, evidence, line).number()
 }
 
-/// Judges the trace that the one file has by the argument that the other has, and writes the line of that with a byte of 0 after it.
-/// Answers 0 where the argument shows that no record explains the trace, 23 where it doesn't, 24 where the bytes are no trace's file,
-/// and 25 where they are no argument's. Nothing is written with 18 and 4, as by `zk_witness`.
+/// Judges the trace that the one file has by the contradiction that the other has, and writes the line of that with a byte of 0 after it.
+/// Answers 0 where no order of points explains the trace, held to what the line says, 23 where the contradiction doesn't show that, 24 where
+/// the bytes are no trace's file, and 25 where they are no contradiction's. Nothing is written with 18 and 4, as by `zk_witness`.
 #[unsafe(no_mangle)]
 pub extern "C" fn zk_refute(
     alloc: Global,
     trace: &[u8],
-    argument: &[u8],
-    strict: bool,
+    contradiction: &[u8],
     line: &mut [u8],
 ) -> i32
-    ensures { (code : TraceAnswer) × (result ≡ trace_number code)
-        × IsAnswer (IsWeighed (judging_of strict) trace.now argument.now) code line.old line.new }
+    ensures { (code : TraceAnswer) × (result ≡ trace_number code) × IsAnswer (IsRefuted trace.now) code line.old line.new }
 {
-    weighed(alloc, judging_of(strict), trace, argument, line).number()
+    refuted(alloc, trace, contradiction, line).number()
 }
 
 /// What the device is held to.

@@ -1,5 +1,5 @@
 //! The live engine, for C: handles on the ports of a namespace, and jobs that are begun and polled by them. It also has the auditor,
-//! for the bytes of a record's file, and the two judges of a trace, for the bytes of its file and of a record's or an argument's.
+//! for the bytes of a record's file, and the two judges of a trace, for the bytes of its file and of a record's, an order's or a contradiction's.
 //!
 //! `include/zalkvorn.h` says to C what the exports are. Nothing here waits, wakes or starts a thread.
 #![tactic(auto)]
@@ -20,12 +20,13 @@ mod identify;
 mod line;
 mod log;
 mod opening;
+mod order_witnessing;
 mod quiet;
 mod reading;
 mod record_code;
 mod recording;
+mod refuting;
 mod telling;
 mod trace_code;
-mod weighing;
 mod witnessing;
 mod work;

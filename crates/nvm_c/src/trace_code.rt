@@ -1,27 +1,27 @@
 ghost use Rattle.std.specs.Prelude.{◌≡◌};
 ghost use Rattle.nvm_c.specs.TraceCodes.{trace_number};
 
-/// What is answered where a trace is judged, by a record or by an argument.
+/// What is answered where a trace is judged, by a record, an order or a contradiction.
 #[derive(Clone, Copy, Debug, PartialEq, Eq)]
 pub enum TraceCode {
-    /// The record explains the trace.
+    /// The record or the order explains the trace.
     Explained,
-    /// The argument shows that no record explains the trace.
+    /// Nothing explains the trace: the contradiction shows it, or a reply is wrong by itself.
     Refuted,
     /// Memory was refused, and nothing is known.
     NoMemory,
-    /// The bytes are no record's file: the line has their first fault.
+    /// The bytes are no record's file, or no order's: the line has their first fault.
     BadRecord,
     /// The line with its byte of 0 is longer than its room.
     ShortRoom,
-    /// The record doesn't explain the trace: the line has the first fault.
+    /// The record or the order doesn't explain the trace: the line has the first fault.
     Unexplained,
-    /// The argument doesn't show that no record explains the trace: the line says why.
+    /// The contradiction doesn't show that nothing explains the trace: the line says why.
     Unrefuted,
     /// The bytes are no trace's file: the line has their first fault.
     BadTrace,
-    /// The bytes are no argument's file: the line has their first fault.
-    BadArgument,
+    /// The bytes are no contradiction's file: the line has their first fault.
+    BadContradiction,
 }
 
 impl TraceCode {
@@ -37,7 +37,7 @@ impl TraceCode {
             TraceCode::Unexplained => 22,
             TraceCode::Unrefuted => 23,
             TraceCode::BadTrace => 24,
-            TraceCode::BadArgument => 25,
+            TraceCode::BadContradiction => 25,
         }
     }
 }

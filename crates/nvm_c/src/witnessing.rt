@@ -1,12 +1,13 @@
-//! A trace that C has judged by a record, each as the bytes of its file.
+//! A trace that C has judged by a record or an order, each as the bytes of its file.
 ghost use Rattle.std.specs.Prelude.{◌≡◌, Ok, IfOk};
 ghost use Rattle.nvm_file.specs.Reading.{record_at};
 ghost use Rattle.nvm_c.specs.TraceAnswer.{IsAnswer};
 ghost use Rattle.nvm_c.specs.Witnessed as spec;
-ghost use Rattle.nvm_c.specs.Witnessed.{IsFoundOf, IsRuling, IsWitnessed};
+ghost use Rattle.nvm_c.specs.Witnessed.{IsFoundByRecord, IsFoundOf, IsRuling, IsWitnessed};
 
 use crate::auditing::unread_line;
 use crate::finding::Finding;
+use crate::order_witnessing::{finding_by_order, is_order};
 use crate::trace_code::TraceCode;
 use nvm_audit::Record;
 use nvm_engine::{Witnessed, witness_record_alone};
@@ -15,18 +16,18 @@ use nvm_record::{NoMemory, Payload};
 use nvm_trace::{Judging, Trace};
 use std::alloc::Global;
 
-/// Judges the trace of the one file by the record of the other, and writes the line of that with a byte of 0 after it. Nothing is
+/// Judges the trace of the one file by the record or the order of the other, and writes the line of that with a byte of 0 after it. Nothing is
 /// written where the room is too short.
 pub(crate) fn witnessed(
     alloc: Global,
     judging: Judging,
     trace: &[u8],
-    record: &[u8],
+    evidence: &[u8],
     room: &mut [u8],
 ) -> TraceCode
-    ensures { IsAnswer (IsWitnessed judging trace.now «record».now) result room.old room.new }
+    ensures { IsAnswer (IsWitnessed judging trace.now evidence.now) result room.old room.new }
 {
-    match finding_in(alloc, judging, trace, record) {
+    match finding_in(alloc, judging, trace, evidence) {
         Ok(finding) => finding.put(room),
         Err(_) => TraceCode::NoMemory,
     }
@@ -37,26 +38,42 @@ fn finding_in(
     alloc: Global,
     judging: Judging,
     trace: &[u8],
-    record: &[u8],
+    evidence: &[u8],
 ) -> Result<Finding, NoMemory>
-    ensures { IfOk result (λ finding. IsWitnessed judging trace.now «record».now finding.code finding.line.items) }
+    ensures { IfOk result (λ finding. IsWitnessed judging trace.now evidence.now finding.code finding.line.items) }
 {
     let trace = Payload::copy_of(alloc, trace)?;
     match read_trace(alloc, &trace) {
-        Ok(seen) => finding_of(alloc, judging, &seen, record),
+        Ok(seen) => finding_of(alloc, judging, &seen, evidence),
         Err(fault) => Finding::bad_trace(alloc, fault),
     }
 }
 
-/// What is found of the trace in the bytes of a record's file.
+/// What is found of the trace in the bytes of a record's or an order's file.
 fn finding_of(
+    alloc: Global,
+    judging: Judging,
+    trace: &Trace,
+    evidence: &[u8],
+) -> Result<Finding, NoMemory>
+    ensures { IfOk result (λ finding. IsFoundOf judging (Ok trace.now) evidence.now finding.code finding.line.items) }
+{
+    if is_order(judging, evidence) {
+        finding_by_order(alloc, trace, evidence)
+    } else {
+        finding_by_record(alloc, judging, trace, evidence)
+    }
+}
+
+/// What is found of the trace in the bytes of a record's file.
+fn finding_by_record(
     alloc: Global,
     judging: Judging,
     trace: &Trace,
     record: &[u8],
 ) -> Result<Finding, NoMemory>
     ensures { IfOk result
-        (λ finding. IsFoundOf judging (Ok trace.now) (record_at «record».now) finding.code finding.line.items) }
+        (λ finding. IsFoundByRecord judging trace.now (record_at «record».now) finding.code finding.line.items) }
 {
     let record = Payload::copy_of(alloc, record)?;
     match read_record(alloc, &record) {
