@@ -1,8 +1,9 @@
 //! Calls on what hosts saw, and on the record of the same jobs.
-use crate::{argument, audit, certify, file, refute, run, trace};
+use crate::{audit, contradiction, evidence, file, judge, run, trace};
 use anyhow::{Result, bail};
-use nvm_certify::Certification;
+use nvm_judge::Judgment;
 use nvm_plan::Job;
+use nvm_points::{Deallocated, Held, Profile, points_of};
 use nvm_store::Limit;
 use nvm_trace::{Judging, Trace, witness_alone};
 use nvm_trace_text::trace_of_text;
@@ -10,6 +11,11 @@ use std::sync::Wait;
 use std::thread::Threads;
 
 const STRICT: Judging = Judging::Strict;
+/// What the standard promises.
+const PROFILE: Profile = Profile {
+    held: Held::Atomic,
+    deallocated: Deallocated::Either,
+};
 
 /// The trace of the text, noted job by job, and the jobs.
 pub fn noted(rt: &(impl AllocGlobal + Print), text: &str) -> Result<(Trace, Vec<Job>)> {
@@ -44,27 +50,30 @@ pub fn recorded(
     println!(rt; "is_certified: {is_certified}")?;
     let explained = witness_alone(alloc, STRICT, seen, &done)?;
     println!(rt; "witness_alone: {explained:?}")?;
-    let said = certify::is_linearizable(rt, alloc, STRICT, seen, 100)?;
-    println!(rt; "is_linearizable: {said:?}")?;
+    let said = judge::is_explained(alloc, seen, PROFILE, 100)?;
+    println!(rt; "is_explained: {said:?}")?;
     Ok(())
 }
 
-/// Of the argument against a device whose Read found 43h in place of 41h.
-pub fn argued(rt: &(impl AllocGlobal + Print + Threads + Sync), text: &str) -> Result<()> {
+/// Of the contradiction of what a device answered whose Read found 43h in place of 41h.
+pub fn judged(rt: &(impl AllocGlobal + Print), text: &str) -> Result<()> {
     let alloc = rt.alloc();
     let text = text.replacen(alloc, "2048*41\n", "2048*43\n", 1)?;
     let seen = trace_of_text(alloc, text.as_bytes())?;
-    let found = nvm_certify::certify(rt, alloc, STRICT, &seen, 100)?;
-    let Certification::Contradicted { argument: why } = found else {
-        bail!("there is no argument");
+    let judgment = nvm_judge::judge(alloc, &seen, PROFILE, 100)?;
+    let Judgment::Contradicted(found) = &judgment else {
+        bail!("there is no contradiction");
     };
-    let is_refuted = refute::is_refuted(alloc, STRICT, &seen, &why)?;
-    println!(rt; "is_refuted: {is_refuted}")?;
+    let points = points_of(alloc, &seen, PROFILE)?;
+    let is_contradicted = contradiction::is_contradicted(alloc, &points, found)?;
+    println!(rt; "is_contradicted: {is_contradicted}")?;
+    let Some(kept) = evidence::evidence_file_of(alloc, PROFILE, &judgment)? else {
+        bail!("there is no evidence");
+    };
+    println!(rt; "evidence_file_of: {} bytes", kept.len())?;
     let seen = file::trace_file_of(alloc, &seen)?;
     println!(rt; "trace_file_of: {} bytes", seen.len())?;
-    let why = argument::argument_file_of(alloc, &why)?;
-    println!(rt; "argument_file_of: {} bytes", why.len())?;
-    let weighed = argument::weigh_files(alloc, STRICT, &seen, &why)?;
-    println!(rt; "weigh_files: {weighed:?}")?;
+    let refuted = evidence::refute_files(alloc, &seen, &kept)?;
+    println!(rt; "refute_files: {refuted:?}")?;
     Ok(())
 }

@@ -3,17 +3,17 @@
 //! what it is answered.
 #![tactic(auto)]
 
-pub mod argument;
 pub mod audit;
 mod calls_on_traces;
 mod calls_on_units;
-pub mod certify;
+pub mod contradiction;
+pub mod evidence;
 pub mod file;
 pub mod generate;
 pub mod geometry;
+pub mod judge;
 pub mod plan;
 pub mod record;
-pub mod refute;
 pub mod run;
 pub mod space;
 pub mod store;
@@ -21,7 +21,7 @@ pub mod trace;
 pub mod trace_text;
 pub mod unit;
 
-use crate::calls_on_traces::{argued, noted, recorded};
+use crate::calls_on_traces::{judged, noted, recorded};
 use crate::calls_on_units::{cut, polled, stored, taken, written};
 use anyhow::{Context, Result};
 use nvm_store::Limit;
@@ -41,5 +41,5 @@ fn main(rt: HostRuntime) -> Result<()> {
     written(&rt, limit)?;
     polled(&rt, seen.geometry, limit, &jobs)?;
     recorded(&rt, limit, &seen, &jobs)?;
-    argued(&rt, &text)
+    judged(&rt, &text)
 }

@@ -1,0 +1,27 @@
+ghost use Rattle.std.specs.Prelude.{◌≡◌, IfOk, Some, false, true};
+ghost use Rattle.nvm_judge.specs.Explained.{IsExplainedBy};
+ghost use Rattle.nvm_orders.specs.OrderView.{OrderView};
+
+use nvm_judge::{Judgment, judge};
+use nvm_points::Profile;
+use nvm_record::NoMemory;
+use nvm_trace::Trace;
+use std::alloc::Global;
+
+/// Whether an order of points explains the trace, held to the profile: whether its device can have kept to the standard. `None` where that
+/// isn't known.
+pub fn is_explained(
+    alloc: Global,
+    trace: &Trace,
+    profile: Profile,
+    effort: u32,
+) -> Result<Option<bool>, NoMemory>
+    ensures explained { IfOk result (λ said. said ≡ Some true → (o : OrderView) × IsExplainedBy «trace».now profile o) }
+    ensures refuted { IfOk result (λ said. said ≡ Some false → (o : OrderView) → ¬ (IsExplainedBy «trace».now profile o)) }
+{
+    match judge(alloc, trace, profile, effort)? {
+        Judgment::Explained(_) => Ok(Some(true)),
+        Judgment::Contradicted(_) | Judgment::Wrong { .. } => Ok(Some(false)),
+        Judgment::Unknown => Ok(None),
+    }
+}
