@@ -1,12 +1,13 @@
 #!/usr/bin/env python3
-"""Verdicts on traces by `nvq certify`: small traces by hand, random ones beside all of their orders, and devices with a planted bug.
-Each verdict's object says what its text does.
+"""Verdicts on traces by `nvq certify`: small traces by hand, those of bench/standard/rows.txt, random ones, and devices with a planted bug. Short ones
+are held to bench/standard/judge.py, which tries all choices and orders. Each piece of evidence is judged again, and each verdict's object says what its
+text does.
 
 `certified.py --random COUNT SEED` judges so many random traces, the first made by SEED, each next one by the number after it.
 """
 
 import os
-import random
+import re
 import subprocess
 import sys
 import tempfile
@@ -21,33 +22,34 @@ TOP = os.path.dirname(HERE)
 sys.dont_write_bytecode = True
 sys.path[:0] = [HERE, os.path.join(TOP, "sweep"), os.path.join(TOP, "bench", "standard")]
 
-from all_orders import is_explained
-from devices import BUGS, CLEARED, STRICT, TORN, crossing, left, trace_of
+from devices import BUGS, CLEARED, TORN, crossing, left, trace_of
 import judge as standard
 from host_files import compare, dataset, pair, read, uncorrectable, write, zeroes
 from model import READ, WRITE, Namespace
 from simulated import PLANTED, device_trace, small_trace
-from trace_files import seen_text, spelled, text_of
+from trace_files import text_of
 from verdict_objects import text_of as text_of_object
-from witness_model import DIFFERS, MARKED, SUCCESS, says, sent
+from witness_model import DIFFERS, MARKED, SUCCESS, sent
 
 PROGRAMS = {name: os.path.join(TOP, "crates", name, "out", name) for name in ("nvq", "nvmu")}
-# The first words of the verdicts, and their exit statuses. `PERHAPS` stands for an order that the search need not find.
+ROWS = os.path.join(TOP, "bench", "standard", "rows.txt")
+# Traces among those rows whose head has a limit above its boundary, which is refused still.
+REFUSED = ("pair_limit_above_the_boundary", "write_limit_above_the_boundary")
+# The first words of the verdicts, their exit statuses, and what the standard must not say then.
 EXPLAINED, CONTRADICTION, UNKNOWN = "explained", "contradiction", "unknown"
 STATUSES = {EXPLAINED: 0, CONTRADICTION: 2, UNKNOWN: 3}
-PERHAPS = (EXPLAINED, UNKNOWN)
+DENIED = {EXPLAINED: "contradicted", CONTRADICTION: "explained", UNKNOWN: None}
 ERROR = ((0, 6),)
 # Up to so many commands a trace is judged by the standard's page, choice by choice and order by order.
 SHORT = 40
 
 
-def contradiction(commands, unit=0):
-    return f"{CONTRADICTION} unit {unit} commands {commands}\n"
+def contradiction(commands, reads="atomic"):
+    return f"{CONTRADICTION} commands {commands} reads {reads} deallocated either\n"
 
 
-def ordered(jobs):
-    """How the text begins of a trace of so many jobs that no record explains, and an order by the standard does."""
-    return f"{EXPLAINED} jobs {jobs} points "
+def explained(jobs, points, reads="atomic"):
+    return f"{EXPLAINED} jobs {jobs} points {points} reads {reads} deallocated either\n"
 
 
 # How many commands show each of the bugs, of which the standard lets a device leave a mark.
@@ -86,10 +88,6 @@ def of_a_block(*jobs):
     return trace_of(*(sent(began, ended, write(0, byte)) if asked == WRITE else sent(began, ended, read(0, 1), found=(byte,)) for began, ended, asked, byte in jobs))
 
 
-def explained_by(jobs, steps, preparations=0):
-    return f"{EXPLAINED} jobs {jobs} units 4 steps {steps} excused 0 preparations {preparations}\n"
-
-
 # A Write that never ended, over two units; one of three blocks, more than the standard keeps whole; and two Reads, the second of which found the first
 # one's data after another Write.
 TORN_AND_STALE = replace(
@@ -107,43 +105,11 @@ TORN_AND_STALE = replace(
 FORESEEN = trace_of(sent(3, 4, read(7, 1), found=(0x41,)), sent(10, None, write(7, 0x41, 0x41)))
 
 
-# Traces, words of the command line, and how the verdict begins. Why stands above.
+# Traces, words of the command line, and how what is told begins. Why stands above.
 BY_HAND = [
-    # Each command that is cut is named with the block or the unit of its piece.
-    (
-        TORN_AND_STALE,
-        (),
-        f"""{contradiction(3)}job 1 2 9 1 1 write 0 3 1536*41 = 0/00
-job 3 10 11 2 1 write 0 1 512*42 = 0/00
-job 4 12 13 3 1 read 0 1 = 0/00 512*41
-job 3 stands before job 4 block 0: it had ended at 11, and job 4 block 0 began at 12
-job 3 stands before job 1 block 0: job 3 put something in LBA 0, stands before job 4 block 0, and job 4 block 0 found job 1 block 0's data there
-job 1 block 0 stands before job 3: it had ended at 9, and job 3 began at 10
-so job 1 block 0 stands before itself
-""",
-    ),
-    (
-        TORN_AND_STALE,
-        (STRICT,),
-        f"""{contradiction(3)}job 1 2 9 1 1 write 0 3 1536*41 = 0/00
-job 3 10 11 2 1 write 0 1 512*42 = 0/00
-job 4 12 13 3 1 read 0 1 = 0/00 512*41
-job 3 stands before job 4: it had ended at 11, and job 4 began at 12
-job 3 stands before job 1: job 3 put something in LBA 0, stands before job 4, and job 4 found job 1's data there
-job 1 stands before job 3: it had ended at 9, and job 3 began at 10
-so job 1 stands before itself
-""",
-    ),
-    (
-        FORESEEN,
-        (STRICT,),
-        f"""{contradiction(2)}job 0 3 4 1 1 read 7 1 = 0/00 512*41
-job 1 10 - 1 1 write 7 2 1024*41
-job 1 in unit 0 stands before job 0: only job 1 in unit 0 can have put what job 0 found in LBA 7
-job 0 stands before job 1 in unit 0: it had ended at 4, and job 1 in unit 0 began at 10
-so job 0 stands before itself
-""",
-    ),
+    # Each block of a Write above its limit has a moment of its own, and a Read's has where the trace says so.
+    (TORN_AND_STALE, (), CONTRADICTION),
+    (FORESEEN, (), CONTRADICTION),
     # A Read found the zeroes that were there at first when two Writes had ended, and the next Read found what the second put.
     (of_a_block((1, 2, WRITE, 1), (3, 4, WRITE, 2), (5, 6, READ, 0), (7, 8, READ, 2)), (), contradiction(2)),
     # What is known of the order of two Writes that overlap is what Reads found.
@@ -200,7 +166,7 @@ so job 0 stands before itself
             sent(6, 11, *pair(compare(0, 1), write(0, 5))),
         ),
         (),
-        explained_by(6, 6),
+        EXPLAINED,
     ),
     (
         trace_of(
@@ -210,9 +176,9 @@ so job 0 stands before itself
             sent(3, 12, read(6, 3), found=(0x41, 0x51, 0x43)),
         ),
         (),
-        explained_by(4, 7),
+        EXPLAINED,
     ),
-    # No step is taken back where what was found tells the order.
+    # What was found tells the order.
     (
         trace_of(
             sent(1, 12, write(1, 0x41)),
@@ -221,8 +187,8 @@ so job 0 stands before itself
             sent(11, 20, write(0, 0x42, 0x43), host=4),
             sent(17, 19, read(0, 2), found=(0x42, 0x44), host=2),
         ),
-        ("--effort", "0"),
-        explained_by(5, 5),
+        (),
+        EXPLAINED,
     ),
     # What failed has its moment, too.
     (
@@ -238,54 +204,49 @@ so job 0 stands before itself
             sent(21, 22, read(7, 2), statuses=(MARKED,), host=2),
         ),
         (),
-        explained_by(9, 10),
+        EXPLAINED,
     ),
-    *((BUGS[name][0], (), contradiction(count) if count else ordered(len(BUGS[name][0].jobs))) for name, count in BUGS_SHOWN_BY.items()),
+    *((BUGS[name][0], (), contradiction(count) if count else EXPLAINED) for name, count in BUGS_SHOWN_BY.items()),
     # Nothing was done, and one Read found the zeroes that were there.
     (trace_of(), (), EXPLAINED),
     (trace_of(sent(1, 2, read(0, 1), found=(0,))), (), EXPLAINED),
-    # A Write of two blocks is kept whole where NAWUN says so. Where it doesn't, the standard lets it be torn, and --strict doesn't.
+    # A Write of two blocks is kept whole where NAWUN says so. Where it doesn't, the standard lets it be torn.
     (torn(nawun=1), (), contradiction(3)),
     (torn(nawun=0), (), EXPLAINED),
-    (torn(nawun=0), (STRICT,), contradiction(3)),
-    # A Read may be torn where the trace says that each of its blocks has a moment of its own, and strictly it may not.
+    # A Read may be torn where the trace says that each of its blocks has a moment of its own.
     (replace(TORN, by_blocks=True), (), EXPLAINED),
-    (replace(TORN, by_blocks=True), (STRICT,), contradiction(3)),
-    # A success that no check allows can't be in a record, and the job is named.
-    (trace_of(sent(1, 2, write(0, 0x41)), sent(3, 4, write(1_000, 0x41))), (STRICT,), f"{UNKNOWN} job 1\n"),
-    (trace_of(sent(1, 2, write(0, 0x41)), sent(3, 4, write(1_000, 0x41))), (), ordered(2)),
-    # A Write that never ended, or ended in an error that leaves open what was done, is done or not, and is not undone.
+    (replace(TORN, by_blocks=True), ("--reads", "whole"), CONTRADICTION),
+    # A success that no check allows says nothing of what was done.
+    (trace_of(sent(1, 2, write(0, 0x41)), sent(3, 4, write(1_000, 0x41))), (), EXPLAINED),
+    # A Write that never ended, or ended in an error that leaves open what was done, is done or not.
     *((written(None, *found), (), EXPLAINED) for found in ((0x41,), (0,), (0, 0x41))),
     *((written(2, *found, statuses=ERROR), (), EXPLAINED) for found in ((0x41,), (0,))),
-    # No argument has rules for what may have been done or not, and was undone.
-    (written(None, 0x41, 0), (), UNKNOWN),
+    # It isn't undone.
+    (written(None, 0x41, 0), (), CONTRADICTION),
     # One that ended had its moment before its end, whatever it ended in.
-    (written(2, 0, 0x41, statuses=ERROR), (), UNKNOWN),
+    (written(2, 0, 0x41, statuses=ERROR), (), CONTRADICTION),
     # One that was found to be past the end wrote nothing.
     (written(2, 0, statuses=((0, 0x80),)), (), EXPLAINED),
     (written(2, 0x41, statuses=((0, 0x80),)), (), contradiction(1)),
-    # A Deallocate over two units has a moment in each, and the unfinished one is done in any of them. Of the finished one both are seen.
+    # A Deallocate has a moment in each of its blocks, and may leave each as it was.
     (trace_of(*CLEARED), (), EXPLAINED),
-    *((left(*found), words, EXPLAINED) for found in ((0x41, 0x41), (0, 0x41), (0x41, 0), (0, 0)) for words in ((), (STRICT,))),
-    *(
-        (
-            trace_of(sent(1, 2, write(7, 0x41)), sent(1, 2, write(8, 0x41)), sent(3, 4, dataset((7, 2))), sent(5, 6, read(8, 1), found=(0x41,))),
-            words,
-            verdict,
-        )
-        for words, verdict in (((), ordered(4)), ((STRICT,), contradiction(3, unit=1)))
+    *((left(*found), (), EXPLAINED) for found in ((0x41, 0x41), (0, 0x41), (0x41, 0), (0, 0))),
+    (
+        trace_of(sent(1, 2, write(7, 0x41)), sent(1, 2, write(8, 0x41)), sent(3, 4, dataset((7, 2))), sent(5, 6, read(8, 1), found=(0x41,))),
+        (),
+        EXPLAINED,
     ),
-    # So is a Write over two units.
-    *((crossing(*found), words, EXPLAINED) for found in ((0x41, 0), (0, 0x41)) for words in ((), (STRICT,))),
-    (crossing(0x41, 0, ended=2), (), contradiction(2, unit=1)),
+    # A Write over two units has one in each.
+    *((crossing(*found), (), EXPLAINED) for found in ((0x41, 0), (0, 0x41))),
+    (crossing(0x41, 0, ended=2), (), contradiction(2)),
     # A Compare that failed, where it must have held, and one that needn't have.
-    (trace_of(sent(1, 2, write(0, 0x41)), sent(3, 4, compare(0, 0x41), statuses=(DIFFERS,))), (), UNKNOWN),
+    (trace_of(sent(1, 2, write(0, 0x41)), sent(3, 4, compare(0, 0x41), statuses=(DIFFERS,))), (), CONTRADICTION),
     (trace_of(sent(1, 3, write(0, 0x41)), sent(3, 4, compare(0, 0x41), statuses=(DIFFERS,))), (), EXPLAINED),
     # A Compare over two units fails in the one or in the other.
-    (trace_of(sent(1, 2, write(8, 0x41)), sent(3, 4, compare(7, 0, 0), statuses=(DIFFERS,))), (), PERHAPS),
-    (trace_of(sent(1, 2, uncorrectable(8, 1)), sent(3, 4, read(7, 2), statuses=(MARKED,))), (), explained_by(2, 3)),
-    (trace_of(sent(1, 2, read(7, 2), statuses=(MARKED,))), (), ordered(1)),
-    # Two Writes over two units in opposite orders: each unit keeps its own, and a record of it wants two workers.
+    (trace_of(sent(1, 2, write(8, 0x41)), sent(3, 4, compare(7, 0, 0), statuses=(DIFFERS,))), (), EXPLAINED),
+    (trace_of(sent(1, 2, uncorrectable(8, 1)), sent(3, 4, read(7, 2), statuses=(MARKED,))), (), EXPLAINED),
+    (trace_of(sent(1, 2, read(7, 2), statuses=(MARKED,))), (), EXPLAINED),
+    # Of two Writes over two units each unit may have the other last.
     (
         trace_of(
             sent(1, 9, write(7, 0x41, 0x41)),
@@ -293,19 +254,17 @@ so job 0 stands before itself
             sent(10, 11, read(7, 1), found=(0x41,)),
             sent(10, 11, read(8, 1), found=(0x42,)),
         ),
-        (STRICT,),
+        (),
         EXPLAINED,
     ),
     # What was there before is what a Read found, where it isn't known. It is one thing for all Reads, and nothing that is put later.
     (trace_of(sent(1, 2, read(0, 2), found=(0x41, 0x42)), sent(1, 2, read(0, 1), found=(0x41,)), unknown=True), (), EXPLAINED),
-    (trace_of(sent(1, 2, read(0, 1), found=(0x41,)), sent(3, 4, read(0, 1), found=(0x42,)), unknown=True), (), UNKNOWN),
-    (trace_of(sent(1, 2, read(9, 2), found=(0x77, 0)), sent(3, 4, write(9, 0x78)), sent(5, 6, read(9, 1), found=(0x78,)), unknown=True), (), explained_by(3, 4, 1)),
-    (trace_of(sent(1, 2, compare(0, 0x41), statuses=(DIFFERS,)), sent(3, 4, compare(0, 0), statuses=(DIFFERS,)), unknown=True), (), PERHAPS),
-    # What a check refuses does nothing in a record.
+    (trace_of(sent(1, 2, read(0, 1), found=(0x41,)), sent(3, 4, read(0, 1), found=(0x42,)), unknown=True), (), CONTRADICTION),
+    (trace_of(sent(1, 2, read(9, 2), found=(0x77, 0)), sent(3, 4, write(9, 0x78)), sent(5, 6, read(9, 1), found=(0x78,)), unknown=True), (), EXPLAINED),
+    (trace_of(sent(1, 2, compare(0, 0x41), statuses=(DIFFERS,)), sent(3, 4, compare(0, 0), statuses=(DIFFERS,)), unknown=True), (), EXPLAINED),
+    # What lies outside the namespace is neither found nor put.
     (trace_of(sent(1, 2, read(40, 1), statuses=((0, 0x80),))), (), EXPLAINED),
-    (trace_of(sent(1, 2, zeroes(40, 1))), (), ordered(1)),
-    # No order is looked for strictly.
-    (trace_of(sent(1, 2, zeroes(40, 1))), (STRICT,), UNKNOWN),
+    (trace_of(sent(1, 2, zeroes(40, 1))), (), EXPLAINED),
     # One of two pairs holds, and the Read finds what it wrote.
     (
         trace_of(
@@ -317,6 +276,9 @@ so job 0 stands before itself
         EXPLAINED,
     ),
 ]
+
+# Rows of the standard's traces that no order explains, of which no contradiction is found.
+UNSHOWN = ()
 
 # Of each device the number that makes its run, and the verdict.
 DEVICES = {
@@ -352,89 +314,97 @@ def answer(folder, name, *words):
     return done.returncode, done.stdout.decode()
 
 
-def certified(folder, trace, words=()):
-    """The text of the verdict on a trace. It is held to all orders of the trace's steps and, where these give none, to the standard's page; what is
-    explained is held to the witness."""
-    kept, record, argument = (f"{os.getpid()}.{kind}" for kind in ("nvt", "nvr", "nva"))
-    with open(os.path.join(folder, kept), "wb") as file:
-        file.write(spelled(trace))
-    status, text = answer(folder, "nvq", "certify", *words, "--record", record, "--argument", argument, kept)
-    verdict, judging = text.split()[0], [it for it in words if it == STRICT]
+def traced(folder, name, text):
+    """Keeps the file of a trace's text, and gives the text as it is listed."""
+    with open(os.path.join(folder, f"{name}.txt"), "w") as file:
+        file.write(text)
+    hold("trace", answer(folder, "nvq", "trace", f"{name}.txt", name), (0, ""))
+    return answer(folder, "nvq", "list", name)[1]
+
+
+def certified(folder, text, words=()):
+    """What is printed of the trace of a text. Its evidence, its object and the standard's page say the same."""
+    trace, evidence = (f"{os.getpid()}.{kind}" for kind in ("nvt", "nve"))
+    lines = traced(folder, trace, text).splitlines()
+    status, told = answer(folder, "nvq", "certify", *words, "--evidence", evidence, trace)
+    first = told.splitlines()[0]
+    verdict = first.split()[0]
     hold("status", status, STATUSES[verdict])
-    hold("a record", os.path.exists(os.path.join(folder, record)), verdict == EXPLAINED)
-    is_ordered, is_reply = " points " in text.splitlines()[0], text.startswith(f"{CONTRADICTION} job")
-    hold("an argument", os.path.exists(os.path.join(folder, argument)), verdict == CONTRADICTION and not is_reply)
-    status, told = answer(folder, "nvq", "certify", *words, "--json", kept)
-    hold("the object's status and text", (status, text_of_object(told)), (STATUSES[verdict], text))
-    if STRICT not in words and (is_ordered or verdict == CONTRADICTION):
-        hold("the standard says otherwise", by_the_standard(trace) == ("contradicted" if is_ordered else EXPLAINED), False)
-    if is_ordered or is_reply:
-        hold("judged strictly", STRICT in words, False)
-        hold("explained by some record", is_explained(trace) and "no record does" in text, False)
-    if is_ordered:
-        hold("witness", answer(folder, "nvmu", "witness", kept, record), (0, f"{text.splitlines()[0]}\n"))
-        os.remove(os.path.join(folder, record))
-    elif is_reply:
-        pass
-    elif verdict == EXPLAINED:
-        hold("explained by some order", is_explained(trace, STRICT in words), True)
-        hold("witness", answer(folder, "nvmu", "witness", *judging, kept, record), (0, text))
-        os.remove(os.path.join(folder, record))
-        held_to_numbers(trace, text)
-    elif verdict == CONTRADICTION:
-        hold("explained by some order", is_explained(trace, STRICT in words), False)
-        held_to_commands(trace, words, text)
-        lines = text.splitlines()
-        facts = len(lines) - 1 - int(lines[0].split()[4]) - lines[-1].startswith("so ")
-        line = f"refuted unit {lines[0].split()[2]} facts {facts}\n"
-        hold("refute", answer(folder, "nvmu", "refute", *judging, kept, argument), (0, line))
-        os.remove(os.path.join(folder, argument))
-    return text
+    status, printed = answer(folder, "nvq", "certify", *words, "--json", trace)
+    hold("the object's status and text", (status, text_of_object(printed)), (STATUSES[verdict], told))
+    path = os.path.join(folder, evidence)
+    hold("evidence", os.path.exists(path), verdict == EXPLAINED or first.startswith(f"{CONTRADICTION} commands "))
+    if verdict == EXPLAINED:
+        hold("all that is told", told, f"{first}\n")
+        hold("witness", answer(folder, "nvmu", "witness", trace, evidence), (0, told))
+        hold("explain", answer(folder, "nvq", "explain", trace, evidence)[1].splitlines()[0], first)
+    elif os.path.exists(path):
+        held_to_commands(lines, told)
+        hold("refute", answer(folder, "nvmu", "refute", trace, evidence), (0, refuted(told)))
+        hold("explain", answer(folder, "nvq", "explain", trace, evidence), (0, told.replace(f"{first}\n", refuted(told), 1)))
+    if os.path.exists(path):
+        os.remove(path)
+    hold("the standard says otherwise", by_the_standard(text, words) == DENIED[verdict], False)
+    return told
 
 
-def by_the_standard(trace):
-    """What the standard's page says of the trace, held to what `nvq certify` holds an order to, or nothing of a long one."""
-    if len(trace.jobs) > SHORT:
+def refuted(told):
+    """The line of `nvmu refute` after a contradiction of which this is told."""
+    first, *lines = told.splitlines()
+    _, _, commands, profile = first.split(" ", 3)
+    facts = len(lines) - int(commands) - 1
+    return f"refuted commands {commands} facts {facts} {profile}\n"
+
+
+def held_to_commands(lines, told):
+    """Holds the commands of a contradiction to the lines of the trace. It names them by rising number, and its facts name no others."""
+    first, *said = told.splitlines()
+    count = int(first.split()[2])
+    numbers = [int(line.split()[1]) for line in said[:count]]
+    hold("commands", said[:count], [f"job {number} {lines[1 + number]}" for number in sorted({*numbers})])
+    named = {int(it) for line in said[count:] for it in re.findall(r"\bjob (\d+)", line)}
+    hold("commands of facts", named, {*numbers})
+
+
+def by_the_standard(text, words=()):
+    """What the standard's page says of a trace, held to what these words or its head hold it to, or None of a long one."""
+    if text.count("\n") > SHORT:
         return None
-    return standard.verdict(*standard.trace(text_of(trace)), reads="by-blocks" if trace.by_blocks else "atomic")
+    asked = dict(zip((it.removeprefix("--") for it in words[::2]), words[1::2]))
+    by_head = "by-blocks" if text.split("\n", 1)[0].endswith("by-blocks") else "atomic"
+    return standard.verdict(*standard.trace(text), asked.get("reads", by_head), asked.get("deallocated", "either"))
 
 
-def held_to_numbers(trace, text):
-    """Holds the numbers of an explained trace to those that stand in it alone."""
-    numbers = dict(zip(text.split()[1::2], text.split()[2::2]))
-    excused = sum(not says(trace.namespace, seen) for seen in trace.jobs)
-    hold("numbers", [numbers[name] for name in ("jobs", "units", "excused")], [str(it) for it in (len(trace.jobs), len(trace.namespace.units()), excused)])
-    hold("preparations", trace.unknown or numbers["preparations"] == "0", True)
-
-
-def held_to_commands(trace, words, text):
-    """Holds the commands of a contradiction to the trace. Without the others they have no order either."""
-    lines = text.splitlines()
-    count = int(lines[0].split()[4])
-    numbers = [int(line.split()[1]) for line in lines[1 : 1 + count]]
-    hold("commands", lines[1 : 1 + count], [f"job {number} {seen_text(trace.jobs[number])}" for number in sorted(set(numbers))])
-    alone = replace(trace, jobs=tuple(trace.jobs[number] for number in numbers))
-    hold("its commands explained by some order", is_explained(alone, STRICT in words), False)
-
-
-def judged(folder, trace, words=(), wanted=""):
-    """The verdict on a trace, and what is wrong with it, if anything. `wanted` is how its text must begin, in one way or another."""
+def judged(folder, text, words=(), wanted=""):
+    """The verdict on a trace, and what is wrong with it, if anything. `wanted` is how what is told must begin."""
     try:
-        text = certified(folder, trace, words)
-        if not text.startswith(wanted):
-            raise Wrong(f"{text.splitlines()[0]!r} in place of {wanted!r}")
+        told = certified(folder, text, words)
+        if not told.startswith(wanted):
+            raise Wrong(f"{told!r} in place of {wanted!r}")
     except (Wrong, OSError, subprocess.SubprocessError, ValueError, IndexError, KeyError) as fault:
-        return None, f"{fault!r} of {' '.join(words)}\n{text_of(trace)[:3000]}"
-    return text.split()[0], None
+        return None, f"{fault!r} of {' '.join(words)}\n{text[:3000]}"
+    return told.split()[0], None
 
 
 def by_hand(folder):
-    """The traces that were written by hand. Which of them are explained is what all orders say."""
+    """The traces that were written by hand."""
     for trace, words, wanted in BY_HAND:
-        wrong = judged(folder, trace, words, wanted)[1]
-        if is_explained(trace, STRICT in words) != (EXPLAINED in wanted and " points " not in wanted):
-            wrong = f"all orders say otherwise of\n{text_of(trace)}"
-        yield wrong
+        yield judged(folder, text_of(trace), words, wanted)[1]
+
+
+def of_the_standard(folder):
+    """The traces that have verdicts by the standard's page."""
+    with open(ROWS) as file:
+        rows = file.read().split("\n\n")
+    for row in rows:
+        named, *lines = [line for line in row.splitlines() if line]
+        name, *asked = named.removeprefix("# ").split("; ")
+        for one in asked if name not in REFUSED else ():
+            *said, verdict = one.split()
+            words = tuple(word if place % 2 else f"--{word}" for place, word in enumerate(said))
+            wanted = (EXPLAINED,) if verdict == "explained" else (UNKNOWN,) if (name, one) in UNSHOWN else (CONTRADICTION,)
+            wrong = judged(folder, "".join(f"{line}\n" for line in lines), words, wanted)[1]
+            yield wrong and f"{name}: {one}: {wrong}"
 
 
 def of_devices(folder):
@@ -443,7 +413,7 @@ def of_devices(folder):
         yield f"there are {PLANTED}"
     for bug, (number, wanted) in DEVICES.items():
         trace, hits = device_trace(bug, number)
-        wrong = judged(folder, trace, (), wanted)[1]
+        wrong = judged(folder, text_of(trace), (), wanted)[1]
         if bool(hits) != bool(bug):
             wrong = f"it struck {hits} times"
         yield wrong and f"{bug}: {wrong}"
@@ -454,31 +424,29 @@ def of_right_devices(folder):
     for seed in range(6):
         trace, _ = device_trace(None, seed, number=1_000, queues=8)
         failed = sum(statuses != (SUCCESS,) * len(statuses) for statuses in (seen.statuses for seen in trace.jobs))
-        wrong = judged(folder, trace, (), EXPLAINED)[1] if failed > 100 else f"{failed} failed alone"
+        wrong = judged(folder, text_of(trace), (), EXPLAINED)[1] if failed > 100 else f"{failed} failed alone"
         yield wrong and f"seed {seed}: {wrong}"
 
 
 def of_seed(folder, seed):
-    """The verdict on a random trace, whether some order explains it, and what is wrong, if anything."""
-    trace, is_strict, bug = small_trace(seed)
-    verdict, wrong = judged(folder, trace, (STRICT,) if is_strict else ())
-    explained = is_explained(trace, is_strict)
-    if bug is None and not explained:
-        wrong = f"no order explains what a right device did:\n{text_of(trace)}"
-    return verdict, explained, wrong and f"random trace {seed}: {wrong}"
+    """The verdict on a random trace, what the standard says, and what is wrong, if anything."""
+    trace, _, bug = small_trace(seed)
+    text = text_of(trace)
+    verdict, wrong = judged(folder, text, (), "" if bug else EXPLAINED)
+    return verdict, by_the_standard(text), wrong and f"random trace {seed}: {wrong}"
 
 
 def at_random(folder, number, seed):
     """Judges random traces in several processes, and tells how many had which verdict. It gives how many were right and how many weren't."""
     counts, failed = Counter(), 0
     with ProcessPoolExecutor(os.cpu_count()) as pool:
-        for verdict, explained, wrong in pool.map(partial(of_seed, folder), range(seed, seed + number), chunksize=25):
-            counts[verdict, explained] += 1
+        for verdict, said, wrong in pool.map(partial(of_seed, folder), range(seed, seed + number), chunksize=25):
+            counts[verdict, said] += 1
             if wrong:
                 failed += 1
                 print(wrong)
-    told = ", ".join(f"{counts[verdict, True] + counts[verdict, False]} {verdict}" for verdict in STATUSES)
-    print(f"of {number} random traces {told}, {counts[UNKNOWN, True]} of these with an order")
+    told = ", ".join(f"{sum(count for (found, _), count in counts.items() if found == verdict)} {verdict}" for verdict in STATUSES)
+    print(f"of {number} random traces {told}, of which the standard explains {counts[UNKNOWN, 'explained']} and contradicts {counts[UNKNOWN, 'contradicted']}")
     return number - failed, failed
 
 
@@ -486,7 +454,7 @@ def tried():
     """How many traces had the verdict that they must have, and how many hadn't."""
     with tempfile.TemporaryDirectory(prefix="certified-") as folder:
         passed, failed = at_random(folder, 150, 0)
-        for table in (by_hand, of_devices, of_right_devices):
+        for table in (by_hand, of_the_standard, of_devices, of_right_devices):
             for wrong in table(folder):
                 passed, failed = passed + (wrong is None), failed + (wrong is not None)
                 if wrong:

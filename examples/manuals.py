@@ -29,13 +29,13 @@ EXITS = {
             "run: all jobs were done, whatever their statuses.",
             "audit: the record is lawful.",
             "witness: the record or the order explains the trace.",
-            "refute: the argument shows that no record explains the trace.",
+            "refute: the contradiction shows that nothing explains the trace, or a reply is wrong by itself.",
         ),
         (FAULT,),
         (
             "audit: the record is unlawful.",
             "witness: the record or the order doesn't explain the trace.",
-            "refute: the argument doesn't show that no record explains the trace.",
+            "refute: the contradiction doesn't show that nothing explains the trace.",
         ),
     ),
     "nvq": (
@@ -43,7 +43,7 @@ EXITS = {
             DONE,
             "audit: the record is lawful.",
             "witness: the record explains the trace.",
-            "certify: a record or an order explains the trace.",
+            "certify: an order explains the trace.",
             "run: the commands were done; with --check they ended as the lists expect.",
             "explain: also where the record is unlawful.",
         ),
@@ -51,10 +51,10 @@ EXITS = {
         (
             "audit: the record is unlawful.",
             "witness: the record doesn't explain the trace.",
-            "certify: no record explains the trace, and no order was found.",
+            "certify: nothing explains the trace: no device that keeps the standard answers so.",
             "run --check: a command didn't end as its list expects.",
         ),
-        ("certify: it isn't known whether anything explains the trace.",),
+        ("certify: neither an order of the trace's points nor a contradiction was found.",),
     ),
 }
 # What the examples read, as their user wrote it.
@@ -73,14 +73,15 @@ EXAMPLES = {
             ["nvq audit own.nvr", "nvq explain own.nvr"],
         ),
         (
-            "Say whether a record or an order explains what the hosts of a device saw, and keep that:",
-            ["nvq trace own.txt own.nvt", "nvq certify --record found.nvr own.nvt"],
+            "Say whether a device may answer as its hosts saw, and keep the order that shows so:",
+            ["nvq trace own.txt own.nvt", "nvq certify --evidence own.nve own.nvt"],
         ),
         (
-            "Keep the argument that no record explains it:",
+            "Keep the contradiction where no device may, and show what it says:",
             [
                 "nvq trace wrong.txt wrong.nvt",
-                "nvq certify --argument wrong.nva wrong.nvt",
+                "nvq certify --evidence wrong.nve wrong.nvt",
+                "nvq explain wrong.nvt wrong.nve",
             ],
         ),
         (
@@ -99,17 +100,17 @@ EXAMPLES = {
         ("Say whether the record is lawful, by an object of JSON:", ["nvmu audit --json own.nvr"]),
         ("Say whether the record explains what the hosts saw:", ["nvq trace own.txt own.nvt", "nvmu witness own.nvt own.nvr"]),
         (
-            "Judge an argument that no record explains it:",
+            "Judge a contradiction of what they saw:",
             [
                 "nvq trace wrong.txt wrong.nvt",
-                "nvq certify --argument wrong.nva wrong.nvt",
-                "nvmu refute wrong.nvt wrong.nva",
+                "nvq certify --evidence wrong.nve wrong.nvt",
+                "nvmu refute wrong.nvt wrong.nve",
             ],
         ),
     ),
 }
 # The statuses with which commands of the examples end, where these aren't 0.
-ENDS = {"nvq certify --argument wrong.nva wrong.nvt": 2}
+ENDS = {"nvq certify --evidence wrong.nve wrong.nvt": 2}
 FORMATS = "docs/FORMATS.md has the files, the lines that are printed, and the faults."
 # Where an item begins; what is said of it goes on further to the right.
 BEGINS = re.compile(r" {2}\S| {6}--")
@@ -149,7 +150,7 @@ ANSWERS = {
         "--v": "--version",
         "run --limit --o": "",
         "run --limit 1 --o": "--out",
-        "refute --": "--strict --help",
+        "refute --": "--help",
         "list --": "",
     },
     "nvq": {

@@ -25,8 +25,9 @@ REPORTS = [
     ("nvq audit own.list.nvr", 0, [("audit own.list.nvr", None, "")]),
     ("nvmu audit two-owners.nvr", 2, [("audit two-owners.nvr", "failure", "unlawful EntryWrong job 1")]),
     ("nvq certify own.nvt", 0, [("certify own.nvt", None, "")]),
-    ("nvq certify --argument wrong.nva wrong.nvt", 2, [("certify wrong.nvt", "failure", "contradiction unit 0")]),
-    ("nvmu refute wrong.nvt wrong.nva", 0, [("refute wrong.nvt", None, "")]),
+    ("nvq certify --evidence wrong.nve wrong.nvt", 2, [("certify wrong.nvt", "failure", "contradiction commands 2 ")]),
+    ("nvmu refute wrong.nvt wrong.nve", 0, [("refute wrong.nvt", None, "")]),
+    ("nvmu refute own.nvt wrong.nve", 2, [("refute own.nvt", "failure", "unrefuted FactWrong fact 0")]),
     ("nvq audit missing.nvr", 1, [("audit missing.nvr", "error", "nvq: ")]),
     (f"nvq {RUN} own.txt", 1, [(f"{RUN} own.txt", "error", "nvq: ")]),
 ]

@@ -1,8 +1,6 @@
 """Traces as the programs are swept with them: judged by records, made of text, and listed."""
 
 import os
-import subprocess
-import tempfile
 
 from auditor import all_faults, verdict
 from cases import Run
@@ -18,9 +16,9 @@ from trace_files import Seen, Trace, in_turn, spelled, text_of, with_seen
 RECORD = recorded(Namespace(nabsn=7), [file_of([write(0, 0x41), read(0, 1), *pair(compare(0, 0x41), write(0, 0x42)), zeroes(9, 2), read(7, 2)])])
 TRACE = in_turn(RECORD)
 UNITS = len(RECORD.namespace.units())
-# The argument that nobody can have left what job 1 found in LBA 0, about unit 0.
-NOBODY = bytes.fromhex("4e564131 0000 0100000000000000 06 01000000 0000000000000000")
-NVQ = os.path.join(os.path.dirname(os.path.dirname(os.path.realpath(__file__))), "crates", "nvq", "out", "nvq")
+# The contradiction that nobody can have left what point 1, job 1's, found in LBA 0.
+NOBODY = bytes.fromhex("4e564531 020002 01 01000000 00000000 0000000000000000")
+PROFILE = "reads atomic deallocated either"
 
 
 def witnesses(kept):
@@ -35,15 +33,16 @@ def witnesses(kept):
         path = kept(f"trace-{name}", file)
         return Run(name, "nvmu", ["witness", path, record], 1, err=f"nvmu: trace: {line}\n")
 
-    def refuted(name, argument, status, **more):
-        path, file = kept("refuted.nvt", spelled(with_seen(TRACE, 1, data=b"\x43" * 512))), kept(f"argument-{name}", argument)
+    def refuted(name, contradiction, status, **more):
+        path, file = kept("refuted.nvt", spelled(with_seen(TRACE, 1, data=b"\x43" * 512))), kept(f"contradiction-{name}", contradiction)
         return Run(name, "nvmu", ["refute", path, file], status, **more)
 
     whole = spelled(TRACE)
     return [
-        refuted("a refuted trace", NOBODY, 0, out="refuted unit 0 facts 1\n"),
-        refuted("a fact that isn't given", NOBODY[:-1] + b"\1", 2, out="unrefuted FactWrong fact 0\n"),
-        refuted("a cut argument", NOBODY[:-1], 1, err=f"nvmu: argument: truncated at {len(NOBODY) - 8}\n"),
+        refuted("a refuted trace", NOBODY, 0, out=f"refuted commands 1 facts 0 {PROFILE}\n"),
+        refuted("a conclusion that doesn't follow", NOBODY[:8] + b"\0" + NOBODY[9:], 2, out="unrefuted NothingContradicted fact -\n"),
+        refuted("a cut contradiction", NOBODY[:-1], 1, err=f"nvmu: contradiction: truncated at {len(NOBODY) - 8}\n"),
+        Run("a reply that refutes its trace", "nvmu", ["refute", kept("odd.nvt", spelled(odd_reply())), kept("odd.nve", NOBODY)], out="refuted job 0\n"),
         judged("an explained trace", TRACE, f"explained jobs 5 units {UNITS} steps 6 excused 0 preparations 0"),
         judged("an explained trace of nothing but errors", in_errors(), f"explained jobs 5 units {UNITS} steps 6 excused 5 preparations 0", "--strict"),
         judged("a reply that differs", with_seen(TRACE, 1, data=b"\x42" * 512), "unexplained ReplyDiffers job 1 unit - place -"),
@@ -180,36 +179,24 @@ def certified(kept):
     wrong, missing = with_seen(TRACE, 1, data=b"\x43" * 512), kept("certified.nvt", spelled(TRACE)) + "-missing"
     right, cut = kept("certified.nvt", spelled(TRACE)), kept("cut-to-certify.nvt", spelled(TRACE)[:-1])
     not_explained = kept("not-explained.nvt", spelled(wrong))
-    explained = f"explained jobs 5 units {UNITS} steps 6 excused 0 preparations 0\n"
-    contradiction = f"contradiction unit 0 commands 1\njob 1 {text_of(wrong).splitlines()[2]}\njob 1 found in LBA 0 what nobody can have left there\n"
+    explained = f"explained jobs 5 points 6 {PROFILE}\n"
+    contradiction = f"contradiction commands 1 {PROFILE}\njob 1 {line_of(wrong, 1)}job 1 found in LBA 0 what nobody can have left there\n"
     contradiction_object = (
-        f'{{"verdict":"contradiction","unit":0,"commands":[{{"job":1,"began":{wrong.jobs[1].began},"ended":{wrong.jobs[1].ended},"host":1,'
-        '"sent":[{"cid":2,"command":"read 0 1"}],"statuses":["0/00"],"data":"512*43"}],'
-        '"facts":[{"rule":"nobody","before":null,"after":null,"lba":0,"reader":{"job":1}}],"itself":null}\n'
+        f'{{"verdict":"contradiction","reads":"atomic","deallocated":"either","commands":[{{"job":1,"began":{wrong.jobs[1].began},"ended":{wrong.jobs[1].ended},"host":1,'
+        '"sent":[{"cid":2,"command":"read 0 1"}],"statuses":["0/00"],"data":"512*43"}],"facts":[],'
+        '"conclusion":{"conclusion":"nobody","reader":1,"lba":0,"text":"job 1 found in LBA 0 what nobody can have left there"}}\n'
     )
-    record, before = {"record": record_of(right)}, {"record": b"old"}
-    unsettled = "unknown unit 0 placed 0 steps 2\nneither an order of all its steps nor an argument that there is none was found: a higher --effort may find one\n"
+    unsettled = f"unknown {PROFILE}\nneither an order of its points nor a contradiction was found: a higher --effort may find one\n"
     stale = (
-        f"contradiction unit 0 commands 2\njob 0 {line_of(STALE, 0)}job 2 {line_of(STALE, 2)}"
-        "job 2 stands before job 0: job 2 found the zeroes there that were in LBA 0 at first, and nobody can have left zeroes there\n"
-        "job 0 stands before job 2: it had ended at 2, and job 2 began at 5\nso job 0 stands before itself\n"
+        f"contradiction commands 2 {PROFILE}\njob 0 {line_of(STALE, 0)}job 2 {line_of(STALE, 2)}"
+        "job 2 comes before job 0 in LBA 0: job 2 found the zeroes there that were in LBA 0 at first, and nobody can have left zeroes there\n"
+        "job 0 comes before job 2: it had ended at 2, and job 2 began at 5\nso job 0 comes before itself\n"
     )
-    twice = (
-        f"contradiction unit 0 commands 5\n{''.join(f'job {it} {line_of(TWICE, it)}' for it in range(5))}"
-        "job 0 stands before job 3: it had ended at 10, and job 3 began at 11\n"
-        "job 0 stands before job 1: job 0 put something in LBA 0, stands before job 3, and job 3 found job 1's data there\n"
-        "job 2 stands before job 3: it had ended at 10, and job 3 began at 11\n"
-        "job 2 stands before job 1: job 2 put something in LBA 0, stands before job 3, and job 3 found job 1's data there\n"
-        "job 1 stands before job 4: it had ended at 10, and job 4 began at 13\n"
-        "job 4 stands before job 1: job 1 put something in LBA 0 after job 2, whose data job 4 found there\n"
-        "so job 4 stands before itself\n"
-    )
-
     keeping, odd = kept("keeping.nvt", spelled(KEEPING)), kept("odd.nvt", spelled(odd_reply()))
-    ordered = f"{ORDERED}an order of points explains it, and no record does: Zalkvorn's own profile isn't kept\n"
-    ordered_object = '{"verdict":"explained","jobs":3,"points":2,"reads":"atomic","deallocated":"either","records":"none explains it"}\n'
+    ordered_object = '{"verdict":"explained","jobs":3,"points":2,"reads":"atomic","deallocated":"either"}\n'
     odd_text = f"contradiction job 0\njob 0 {line_of(odd_reply(), 0)}no device may end a pair so: by the one status the comparison held, and by the other it didn't\n"
     odd_object = '{"verdict":"contradiction","rule":"wrong reply","job":0}\n'
+    order, nobody, before = {"it": RIGHT_ORDER}, {"it": NOBODY}, {"it": b"old"}
 
     def done(name, trace, out, *words, status=0, **more):
         return Run(name, "nvq", ["certify", *words, trace], status, out=out, **more)
@@ -218,35 +205,26 @@ def certified(kept):
         return Run(name, "nvq", ["certify", *words], 1, err=told(f"nvq: {line}", hint), **more)
 
     return [
-        done("a trace that is explained", right, explained, "--record", "record", units=UNITS, rounds=2, files=record),
-        done("a trace that is explained, and a record before", right, explained, "--record", "record", units=UNITS, rounds=2, files=record, before=before),
-        done("a trace that is explained strictly", "-", explained, "--strict", input=right, units=UNITS, rounds=2),
-        done("a trace that nothing explains", not_explained, contradiction, "--record", "record", status=2, before=before, units=UNITS),
-        done("an argument that nothing explains a trace", not_explained, contradiction, "--argument", "it", status=2, units=UNITS, files={"it": NOBODY}),
-        done("an argument, and a file before", not_explained, contradiction, "--argument", "it", status=2, units=UNITS, files={"it": NOBODY}, before={"it": b"old"}),
-        done("a Read of the first zeroes after two Writes", kept("stale.nvt", spelled(STALE)), stale, status=2, units=1),
-        done("Reads of three Writes that no order gives", kept("twice.nvt", spelled(TWICE)), twice, status=2, units=1),
-        done("a trace of which neither is found", kept("unsettled.nvt", spelled(UNSETTLED)), unsettled, status=3, units=1),
-        done("an object of a trace that nothing explains", not_explained, contradiction_object, "--json", status=2, units=UNITS),
-        done("a trace that an order explains, by nvq", keeping, ordered, "--record", "it", units=1, files={"it": ORDER}),
-        done("an object of a trace that an order explains", keeping, ordered_object, "--json", units=1),
-        done("a reply that is wrong by itself", odd, odd_text, status=2, units=1),
-        done("an object of a reply that is wrong by itself", odd, odd_object, "--json", status=2, units=1),
+        done("a trace that is explained", right, explained, "--evidence", "it", files=order),
+        done("a trace that is explained, and a file before", right, explained, "--evidence", "it", files=order, before=before),
+        done("a trace that is explained, read from standard input", "-", explained, input=right),
+        done("a trace that nothing explains", not_explained, contradiction, status=2),
+        done("a contradiction that nothing explains a trace", not_explained, contradiction, "--evidence", "it", status=2, files=nobody),
+        done("a contradiction, and a file before", not_explained, contradiction, "--evidence", "it", status=2, files=nobody, before=before),
+        done("a Read of the first zeroes after two Writes", kept("stale.nvt", spelled(STALE)), stale, status=2),
+        done("Reads of three Writes that no order gives", kept("twice.nvt", spelled(TWICE)), twice, status=2),
+        done("a trace of which neither is found", kept("unsettled.nvt", spelled(UNSETTLED)), unsettled, "--evidence", "it", status=3, before=before),
+        done("an object of a trace of which neither is found", kept("unsettled.nvt", spelled(UNSETTLED)), unsettled_object, "--json", status=3),
+        done("an object of a trace that nothing explains", not_explained, contradiction_object, "--json", status=2),
+        done("a trace that an order explains, by nvq", keeping, ORDERED, "--evidence", "it", files={"it": ORDER}),
+        done("an object of a trace that an order explains", keeping, ordered_object, "--json"),
+        done("a reply that is wrong by itself", odd, odd_text, status=2),
+        done("an object of a reply that is wrong by itself", odd, odd_object, "--json", status=2),
         fault("a cut trace to certify", f"{cut}: truncated at {len(spelled(TRACE)) - 1024}", cut),
         fault("a missing trace to certify", f"cannot read {missing}", missing, hint=MISSING),
-        fault("the record of a trace that is written over it", f"cannot write {right}", right, "--record", right, hint="it is the trace"),
-        fault("a record of a trace among the lines", "the record can't go to standard output", right, "--record", "-"),
-        fault("an argument among the lines", "the argument can't go to standard output", right, "--argument", "-"),
-        fault("a record of a trace in no folder", "cannot write missing/record", right, "--record", "missing/record", hint=MISSING, units=UNITS, rounds=2),
+        fault("the evidence of a trace that is written over it", f"cannot write {right}", right, "--evidence", right, hint="it is the trace"),
+        fault("evidence among the lines", "the evidence can't go to standard output", right, "--evidence", "-"),
+        fault("evidence in no folder", "cannot write missing/it", right, "--evidence", "missing/it", hint=MISSING),
         Run("no trace to certify", "nvq", ["certify"], 1),
         Run("help on a verdict", "nvq", ["certify", "--help"], 0),
     ]
-
-
-def record_of(trace):
-    """The record that the program writes where it has all memory, which examples/programs.py holds to its trace."""
-    with tempfile.TemporaryDirectory(prefix="sweep-") as folder:
-        path = os.path.join(folder, "record")
-        subprocess.run([NVQ, "certify", trace, "--record", path], stdout=subprocess.DEVNULL, check=True)
-        with open(path, "rb") as record:
-            return record.read()

@@ -8,7 +8,7 @@ use Rattle.nvm_list.specs.Lists.{commands}
 use Rattle.nvm_list.specs.declared.fault.ListFault.{ListFault}
 use Rattle.nvm_list.specs.declared.fault.ListFault.TheVariants as of_list
 use Rattle.nvm_evidence.specs.declared.evidence_fault.EvidenceFault.{EvidenceFault}
-use Rattle.nvm_evidence.specs.declared.evidence_fault.EvidenceFault.TheVariants as of_order
+use Rattle.nvm_evidence.specs.declared.evidence_fault.EvidenceFault.TheVariants as of_evidence
 use Rattle.nvm_file.specs.Reading.{record_at}
 use Rattle.nvm_file.specs.declared.record_fault.RecordFault.{RecordFault}
 use Rattle.nvm_file.specs.declared.record_fault.RecordFault.TheVariants as of_record
@@ -52,13 +52,13 @@ fault_of_trace path (of_trace.BeganAtZero at) = BeganAtZero path at
 fault_of_trace path (of_trace.EndedBefore at) = EndedBefore path at
 fault_of_trace path of_trace.NoMemory = NoMemory
 
--- an order's fault has its path
-abbrev pub fault_of_order : String Global → EvidenceFault → Fault
-fault_of_order path of_order.BadName = BadName path
-fault_of_order path (of_order.Truncated at) = Truncated path at
-fault_of_order path (of_order.Trailing at) = Trailing path at
-fault_of_order path (of_order.BadValue at) = BadValue path at
-fault_of_order path of_order.NoMemory = NoMemory
+-- the fault of an order or a contradiction has its path
+abbrev pub fault_of_evidence : String Global → EvidenceFault → Fault
+fault_of_evidence path of_evidence.BadName = BadName path
+fault_of_evidence path (of_evidence.Truncated at) = Truncated path at
+fault_of_evidence path (of_evidence.Trailing at) = Trailing path at
+fault_of_evidence path (of_evidence.BadValue at) = BadValue path at
+fault_of_evidence path of_evidence.NoMemory = NoMemory
 
 -- the fault of a trace's text has its line, if it has one
 abbrev pub fault_of_text : TextFault → Fault
@@ -102,7 +102,7 @@ IsFaultOfRecordIn path file e = (e ≡ NoMemory) ⊎ ((shown : String Global) ×
 abbrev pub IsFaultOfTraceIn : List ℕ → List ℕ → Fault → Type 0
 IsFaultOfTraceIn path file e = (e ≡ NoMemory) ⊎ ((shown : String Global) × (string_bytes shown ≡ path) × IsFaultOfTrace shown file e)
 
--- Want of memory, or else a fault of the order at this path.
-abbrev pub IsFaultOfOrderAt : List ℕ → Fault → Type 0
-IsFaultOfOrderAt path e =
-    (e ≡ NoMemory) ⊎ ((shown : String Global) × (string_bytes shown ≡ path) × ((f : EvidenceFault) × (e ≡ fault_of_order shown f)))
+-- Want of memory, or else a fault of the order or the contradiction at this path.
+abbrev pub IsFaultOfEvidenceAt : List ℕ → Fault → Type 0
+IsFaultOfEvidenceAt path e =
+    (e ≡ NoMemory) ⊎ ((shown : String Global) × (string_bytes shown ≡ path) × ((f : EvidenceFault) × (e ≡ fault_of_evidence shown f)))

@@ -1,92 +1,77 @@
-//! `nvq certify`: whether a record or an order of points explains a trace, or why no record does.
+//! `nvq certify`: an order of points that explains a trace, or a contradiction that nothing does.
 ghost use Rattle.std.specs.Prelude.{◌≡◌, ◌⊎◌, IfOk, IfErr, Some, string_bytes};
-ghost use Rattle.nvm_certify.specs.Certified.{IsCertified};
-ghost use Rattle.nvm_commands.specs.Certified.{IsArgumentFault, IsCertifiedFile, IsCertifyingFault, IsKeptFault, IsRecordFault, IsToldOf};
+ghost use Rattle.nvm_commands.specs.Certified.{IsCertifiedFile, IsCertifyingFault, IsEvidenceFault, IsToldOf};
 ghost use Rattle.nvm_commands.specs.Fault.{IsFaultOfTraceAt};
 ghost use Rattle.nvm_commands.specs.Files.{IsReadFault, IsWriteFault};
+ghost use Rattle.nvm_judge.specs.Contradicted.{IsContradictedBy};
 ghost use Rattle.nvm_judge.specs.Explained.{IsExplainedBy};
 ghost use Rattle.nvm_orders.specs.OrderView.{seen_order};
 ghost use Rattle.nvm_points.specs.Table.{first_wrong};
-ghost use Rattle.nvm_trace.specs.declared.judging.Judging.{Judging};
+ghost use Rattle.nvm_trace.specs.TraceView.{TraceView};
 
 use crate::certifying_words::CertifyWords;
 use crate::failure::{Failure, plain};
 use crate::fault::Fault;
-use crate::files::{check_no_lines, check_output, keep, read_as_trace, write_bytes};
-use nvm_argument::write_argument;
-use nvm_certify::{Certification, certify};
-use nvm_certify_text::{certification_object, certification_status, certification_text};
+use crate::files::{check_no_lines, check_output, read_as_trace, write_bytes};
+use nvm_contradiction::Contradiction;
 use nvm_evidence::{
-    OrderNumbers, Records, explained_object, explained_text, write_order, wrong_object, wrong_text,
+    OrderNumbers, contradiction_object, contradiction_text, explained_object, explained_text,
+    unknown_object, unknown_text, write_contradiction, write_order, wrong_object, wrong_text,
 };
 use nvm_front::{Progress, STANDARD, Telling};
 use nvm_judge::{Judgment, judge};
 use nvm_orders::Order;
 use nvm_points::Profile;
 use nvm_record::NoMemory;
-use nvm_refute::Argument;
-use nvm_trace::{Judging, Trace};
+use nvm_trace::Trace;
 use std::alloc::Global;
 use std::rt::Files;
-use std::thread::Threads;
 
-/// What was found out about a trace.
-#[derive(Drop)]
+/// What was found out about a trace, held to a profile.
+#[derive(Clone, Copy, Debug, PartialEq, Eq)]
 pub enum Finding {
-    /// By records alone.
-    Certified(Certification),
-    /// An order explains the trace, held to this profile. These are the bytes of its file.
-    Ordered { profile: Profile, file: Vec<u8> },
+    /// An order explains it.
+    Explained { profile: Profile },
+    /// No order explains it.
+    Contradicted { profile: Profile },
     /// No device may end the command of this number as it ended.
     Wrong { command: u32 },
+    /// Neither an order nor a contradiction was found.
+    Unknown,
 }
 
 /// That, how it is printed, and the exit status.
 #[derive(Drop)]
 pub struct CertifiedTrace {
     pub finding: Finding,
+    /// The file of the order or the contradiction, where that was found.
+    pub evidence: Option<Vec<u8>>,
     pub text: String,
     pub status: u8,
 }
 
-/// Certifies the trace at a path, prints what was found out, and gives the exit status. A record or an order that explains the trace, or an
-/// argument that no record does, is written first where it is to be kept, so that no text is printed of one that couldn't be.
-pub fn run_certify<R: AllocGlobal + Files + Input + Print + Eprint + Threads + Sync>(
+/// Certifies the trace at a path, prints what was found out, and gives the exit status. The evidence is written first where it is to be
+/// kept, so that no text is printed of one that couldn't be.
+pub fn run_certify<R: AllocGlobal + Files + Input + Print + Eprint>(
     rt: &R,
     words: &CertifyWords,
     progress: &Progress<'_, R>,
 ) -> Result<u8, Failure>
     ensures fault { IfErr result (λ failure. IsCertifyingFault words.now failure.fault) }
 {
-    check_record(rt, words)?;
-    check_argument(rt, words)?;
-    let CertifiedTrace {
-        finding,
-        text,
-        status,
-    } = certified(rt, words, progress)?;
-    kept(rt, words, &finding, progress)?;
-    write_bytes(rt, STANDARD, text.as_bytes(), progress)?;
-    Ok(status)
+    check_evidence(rt, words)?;
+    let told = certified(rt, words, progress)?;
+    kept(rt, words, &told, progress)?;
+    write_bytes(rt, STANDARD, told.text.as_bytes(), progress)?;
+    Ok(told.status)
 }
 
-/// Refuses a path for the record that is standard output's or the trace's, before anything is read.
-fn check_record<R: Files + AllocGlobal>(rt: &R, words: &CertifyWords) -> Result<(), Failure>
-    ensures { IfErr result (λ failure. IsRecordFault words.now.«record» failure.fault) }
+/// Refuses a path for the evidence that is standard output's or the trace's, before anything is read.
+fn check_evidence<R: Files + AllocGlobal>(rt: &R, words: &CertifyWords) -> Result<(), Failure>
+    ensures { IfErr result (λ failure. IsEvidenceFault words.now.evidence failure.fault) }
 {
-    match &words.record {
-        Some(path) if path.as_str() == STANDARD => Err(plain(Fault::RecordAmongLines)),
-        Some(path) => check_place(rt, path.as_str(), words.trace.as_str()),
-        None => Ok(()),
-    }
-}
-
-/// Refuses such a path for the argument.
-fn check_argument<R: Files + AllocGlobal>(rt: &R, words: &CertifyWords) -> Result<(), Failure>
-    ensures { IfErr result (λ failure. IsArgumentFault words.now.argument failure.fault) }
-{
-    match &words.argument {
-        Some(path) if path.as_str() == STANDARD => Err(plain(Fault::ArgumentAmongLines)),
+    match &words.evidence {
+        Some(path) if path.as_str() == STANDARD => Err(plain(Fault::EvidenceAmongLines)),
         Some(path) => check_place(rt, path.as_str(), words.trace.as_str()),
         None => Ok(()),
     }
@@ -100,110 +85,48 @@ fn check_place<R: Files + AllocGlobal>(rt: &R, path: &str, trace: &str) -> Resul
     check_no_lines(rt, path)
 }
 
-/// Writes what was found and is to be kept. Where it isn't found, nothing is written.
+/// Writes the evidence where there is some and it is to be kept.
 fn kept<R: AllocGlobal + Files + Print + Eprint>(
     rt: &R,
     words: &CertifyWords,
-    finding: &Finding,
+    told: &CertifiedTrace,
     progress: &Progress<'_, R>,
 ) -> Result<(), Failure>
-    ensures { IfErr result (λ failure. IsKeptFault words.now failure.fault) }
+    ensures { IfErr result (λ failure. IsEvidenceFault words.now.evidence failure.fault) }
 {
-    match finding {
-        Finding::Certified(Certification::Explained { run, .. }) => match &words.record {
-            Some(path) => keep(rt, path.as_str(), run, progress),
-            None => Ok(()),
-        },
-        Finding::Ordered { file, .. } => match &words.record {
-            Some(path) => write_bytes(rt, path.as_str(), file, progress),
-            None => Ok(()),
-        },
-        Finding::Certified(Certification::Contradicted { argument }) => match &words.argument {
-            Some(path) => keep_argument(rt, path.as_str(), argument, progress),
-            None => Ok(()),
-        },
-        Finding::Certified(Certification::Unknown { .. }) | Finding::Wrong { .. } => Ok(()),
+    match (&words.evidence, &told.evidence) {
+        (Some(path), Some(file)) => write_bytes(rt, path.as_str(), file, progress),
+        _ => Ok(()),
     }
 }
 
-/// Writes the argument's file.
-fn keep_argument<R: AllocGlobal + Files + Print + Eprint>(
-    rt: &R,
-    path: &str,
-    argument: &Argument,
-    progress: &Progress<'_, R>,
-) -> Result<(), Failure>
-    ensures { IfErr result (λ failure. IsWriteFault path.now failure.fault) }
-{
-    let bytes = write_argument(rt.alloc(), argument)?;
-    write_bytes(rt, path, bytes.as_slice(), progress)
-}
-
 /// What is found out about the trace at a path.
-fn certified<R: AllocGlobal + Files + Input + Eprint + Threads + Sync>(
+fn certified<R: AllocGlobal + Files + Input + Eprint>(
     rt: &R,
     words: &CertifyWords,
     progress: &Progress<'_, R>,
 ) -> Result<CertifiedTrace, Failure>
-    ensures certified { IfOk result (IsCertifiedFile words.now.judging) }
+    ensures certified { IfOk result IsCertifiedFile }
     ensures fault { IfErr result (λ failure. IsReadFault (string_bytes words.now.trace) failure.fault
         ⊎ IsFaultOfTraceAt (string_bytes words.now.trace) failure.fault) }
 {
     let trace = read_as_trace(rt, words.trace.as_str(), progress)?;
-    let certification = certify(rt, rt.alloc(), words.judging, &trace, words.effort)?;
-    Ok(found(rt.alloc(), words, &trace, certification)?)
+    Ok(found(rt.alloc(), words, &trace)?)
 }
 
-/// What is known of records after a search for one, if an order is to be searched for: not where the trace is explained, nor where it is
-/// judged strictly.
-fn records_of(judging: Judging, certification: &Certification) -> Option<Records> {
-    match (judging, certification) {
-        (Judging::Strict, _) | (_, Certification::Explained { .. }) => None,
-        (_, Certification::Contradicted { .. }) => Some(Records::NoneExplains),
-        (_, Certification::Unknown { .. }) => Some(Records::NoneFound),
-    }
-}
-
-/// What is found out about the trace, of which this was found by records.
-fn found(
-    alloc: Global,
-    words: &CertifyWords,
-    trace: &Trace,
-    certification: Certification,
-) -> Result<CertifiedTrace, NoMemory>
-    requires { IsCertified words.now.judging «trace».now certification }
-    ensures { IfOk result (IsToldOf words.now.judging «trace».now) }
+/// What is found out about the trace.
+fn found(alloc: Global, words: &CertifyWords, trace: &Trace) -> Result<CertifiedTrace, NoMemory>
+    ensures { IfOk result (IsToldOf «trace».now) }
 {
-    let Some(records) = records_of(words.judging, &certification) else {
-        return by_records(alloc, words, trace, certification);
-    };
     let profile = words.profile(trace.reads);
     match judge(alloc, trace, profile, words.effort)? {
-        Judgment::Explained(order) => {
-            by_order(alloc, words.telling, trace, profile, &order, records)
+        Judgment::Explained(order) => by_order(alloc, words.telling, trace, profile, &order),
+        Judgment::Contradicted(contradiction) => {
+            by_contradiction(alloc, words.telling, trace, profile, &contradiction)
         }
         Judgment::Wrong { command } => by_reply(alloc, words.telling, trace, command),
-        Judgment::Unknown => by_records(alloc, words, trace, certification),
+        Judgment::Unknown => by_nothing(alloc, words.telling, profile),
     }
-}
-
-/// What was found by records.
-fn by_records(
-    alloc: Global,
-    words: &CertifyWords,
-    trace: &Trace,
-    certification: Certification,
-) -> Result<CertifiedTrace, NoMemory>
-    requires { IsCertified words.now.judging «trace».now certification }
-    ensures { IfOk result (IsToldOf words.now.judging «trace».now) }
-{
-    let text = told(alloc, words.telling, words.judging, trace, &certification)?;
-    let status = certification_status(&certification);
-    Ok(CertifiedTrace {
-        finding: Finding::Certified(certification),
-        text,
-        status,
-    })
 }
 
 /// That the order explains the trace.
@@ -213,10 +136,9 @@ fn by_order(
     trace: &Trace,
     profile: Profile,
     order: &Order<'_>,
-    records: Records,
 ) -> Result<CertifiedTrace, NoMemory>
     requires { IsExplainedBy «trace».now profile (seen_order order.now) }
-    ensures { (judging : Judging) → IfOk result (IsToldOf judging «trace».now) }
+    ensures { IfOk result (IsToldOf «trace».now) }
 {
     let numbers = OrderNumbers {
         jobs: trace.jobs.len(),
@@ -224,14 +146,39 @@ fn by_order(
         profile,
     };
     let text = match telling {
-        Telling::Lines => explained_text(alloc, numbers, records)?,
-        Telling::Object => explained_object(alloc, numbers, records)?,
+        Telling::Lines => explained_text(alloc, numbers)?,
+        Telling::Object => explained_object(alloc, numbers)?,
     };
     let file = write_order(alloc, profile, order)?;
     Ok(CertifiedTrace {
-        finding: Finding::Ordered { profile, file },
+        finding: Finding::Explained { profile },
+        evidence: Some(file),
         text,
         status: 0,
+    })
+}
+
+/// That by the contradiction no order explains the trace.
+fn by_contradiction(
+    alloc: Global,
+    telling: Telling,
+    trace: &Trace,
+    profile: Profile,
+    contradiction: &Contradiction,
+) -> Result<CertifiedTrace, NoMemory>
+    requires { IsContradictedBy «trace».now profile contradiction.now }
+    ensures { IfOk result (IsToldOf «trace».now) }
+{
+    let text = match telling {
+        Telling::Lines => contradiction_text(alloc, trace, profile, contradiction)?,
+        Telling::Object => contradiction_object(alloc, trace, profile, contradiction)?,
+    };
+    let file = write_contradiction(alloc, profile, contradiction)?;
+    Ok(CertifiedTrace {
+        finding: Finding::Contradicted { profile },
+        evidence: Some(file),
+        text,
+        status: 2,
     })
 }
 
@@ -243,7 +190,7 @@ fn by_reply(
     command: u32,
 ) -> Result<CertifiedTrace, NoMemory>
     requires { first_wrong «trace».now.jobs ≡ Some command }
-    ensures { (judging : Judging) → IfOk result (IsToldOf judging «trace».now) }
+    ensures { IfOk result (IsToldOf «trace».now) }
 {
     let text = match telling {
         Telling::Lines => wrong_text(alloc, trace, command)?,
@@ -251,21 +198,28 @@ fn by_reply(
     };
     Ok(CertifiedTrace {
         finding: Finding::Wrong { command },
+        evidence: None,
         text,
         status: 2,
     })
 }
 
-/// How a verdict by records is printed.
-fn told(
+/// That neither an order nor a contradiction was found.
+fn by_nothing(
     alloc: Global,
     telling: Telling,
-    judging: Judging,
-    trace: &Trace,
-    certification: &Certification,
-) -> Result<String, NoMemory> {
-    match telling {
-        Telling::Lines => certification_text(alloc, judging, trace, certification),
-        Telling::Object => certification_object(alloc, judging, trace, certification),
-    }
+    profile: Profile,
+) -> Result<CertifiedTrace, NoMemory>
+    ensures { (t : TraceView) → IfOk result (IsToldOf t) }
+{
+    let text = match telling {
+        Telling::Lines => unknown_text(alloc, profile)?,
+        Telling::Object => unknown_object(alloc, profile)?,
+    };
+    Ok(CertifiedTrace {
+        finding: Finding::Unknown,
+        evidence: None,
+        text,
+        status: 3,
+    })
 }

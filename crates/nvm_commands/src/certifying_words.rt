@@ -1,34 +1,31 @@
 //! The words of `nvq certify`.
 use clap::{Arg, ArgMatches, Command, Error};
 use nvm_front::{
-    Telling, WordFault, json, judging_of, number_of_32_bits, number_option, path_given,
-    path_option, strict, telling_of, trace,
+    Telling, WordFault, json, number_of_32_bits, number_option, path_given, path_option,
+    telling_of, trace,
 };
 use nvm_judge::held_of;
 use nvm_points::{Deallocated, Held, Profile};
-use nvm_trace::{Judging, Reads};
+use nvm_trace::Reads;
 use std::alloc::Global;
 
 /// What the words of `nvq certify` say.
 #[derive(Drop)]
 pub struct CertifyWords {
-    pub judging: Judging,
     pub telling: Telling,
-    /// Most steps back of the search in each unit.
+    /// How much the searches may try.
     pub effort: u32,
-    /// What an order is to hold Reads to, where that isn't what the trace says.
+    /// What the device is to hold Reads to, where that isn't what the trace says.
     pub reads: Option<Held>,
-    /// What an order may have a deallocated block read as.
+    /// What a deallocated block may read as.
     pub deallocated: Deallocated,
-    /// Where the record or the order that explains the trace goes, if it is kept.
-    pub record: Option<String>,
-    /// Where the argument that nothing explains it goes, if it is kept.
-    pub argument: Option<String>,
+    /// Where the order that explains the trace goes, or the contradiction that nothing does, if it is kept.
+    pub evidence: Option<String>,
     pub trace: String,
 }
 
 impl CertifyWords {
-    /// What an order of a trace is held to whose head says this of Reads.
+    /// What the device of a trace is held to whose head says this of Reads.
     pub fn profile(&self, reads: Reads) -> Profile {
         let held = match self.reads {
             Some(held) => held,
@@ -52,22 +49,19 @@ pub fn read_certify(
     ) else {
         return Ok(None);
     };
-    let record = path_given(alloc, words, "record")?;
-    let argument = path_given(alloc, words, "argument")?;
+    let evidence = path_given(alloc, words, "evidence")?;
     let trace = String::from_str(alloc, trace)?;
     Ok(Some(CertifyWords {
-        judging: judging_of(words),
         telling: telling_of(words),
         effort,
         reads: reads_of(words),
         deallocated: deallocated_of(words),
-        record,
-        argument,
+        evidence,
         trace,
     }))
 }
 
-/// What an order is to hold Reads to, if the words say so.
+/// What the device is to hold Reads to, if the words say so.
 fn reads_of(words: &ArgMatches<'_>) -> Option<Held> {
     match words.get_str("reads") {
         Some("atomic") => Some(Held::Atomic),
@@ -78,7 +72,7 @@ fn reads_of(words: &ArgMatches<'_>) -> Option<Held> {
     }
 }
 
-/// What an order may have a deallocated block read as.
+/// What a deallocated block may read as.
 fn deallocated_of(words: &ArgMatches<'_>) -> Deallocated {
     match words.get_str("deallocated") {
         Some("zeroes") => Deallocated::Zeroes,
@@ -87,8 +81,8 @@ fn deallocated_of(words: &ArgMatches<'_>) -> Deallocated {
     }
 }
 
-/// An option of an order, with the words that it takes.
-fn order_option<'a>(
+/// An option that takes one of these words.
+fn word_option<'a>(
     alloc: Global,
     name: &'a str,
     words: &'a [&'a str],
@@ -99,56 +93,47 @@ fn order_option<'a>(
             .long(name)
             .value_name("WORD")
             .value_parser(words)
-            .help(help)
-            .conflicts_with("strict")?,
+            .help(help),
     )
 }
 
 /// `nvq certify`.
 pub fn certify_command<'a>(alloc: Global) -> Result<Command<'a>, Error> {
-    let effort = number_option(alloc, "effort", "Most steps back in each unit").default_value(
+    let evidence = path_option(
+        alloc,
+        "evidence",
+        "FILE",
+        "Where the order that explains the trace goes, or the contradiction that nothing does",
+    );
+    let effort = number_option(alloc, "effort", "How much the searches may try").default_value(
         "200000",
     );
-    let record = path_option(
-        alloc,
-        "record",
-        "REC",
-        "Where the record or the order that explains the trace goes",
-    );
-    let argument = path_option(
-        alloc,
-        "argument",
-        "ARG",
-        "Where the argument that nothing explains it goes",
-    );
-    let reads = order_option(
+    let reads = word_option(
         alloc,
         "reads",
         ["atomic", "atomic-all", "whole", "by-blocks"].as_slice(),
-        "What an order holds Reads to, unless the trace says by-blocks: atomic",
+        "What Reads are held to, unless the trace says by-blocks: atomic",
     )?;
-    let deallocated = order_option(
+    let deallocated = word_option(
         alloc,
         "deallocated",
         ["zeroes", "ones", "either"].as_slice(),
-        "What a deallocated block may read as in an order",
+        "What a deallocated block may read as",
     )?
     .default_value("either");
     let command = Command::new(alloc, "certify")
         .about(
-            "Says whether a record or an order of points explains a trace, or why no record does",
+            "Says whether a device may answer as in a trace: an order of points explains it, or a contradiction shows that nothing does",
         )
         .after_help(
-            "Where no record is found, an order is searched for, by which a device may do all that the standard lets it do. A contradiction is one of Zalkvorn's profile, of which no such order was found.",
+            "Orders and contradictions hold a device to what the standard promises, and to nothing more. Each is checked before it is told.",
         );
     Ok(
         command
-            .arg(record)?
-            .arg(argument)?
+            .arg(evidence)?
             .arg(effort)?
             .arg(reads)?
             .arg(deallocated)?
-            .arg(strict(alloc))?
             .arg(json(alloc))?
             .arg(trace(alloc))?,
     )

@@ -11,8 +11,10 @@ pub enum Content {
     Record,
     /// A trace of any version, `NVT`.
     Trace,
-    /// An order, `NVE1`.
+    /// An order, `NVE1`, or evidence of a kind that isn't known.
     Order,
+    /// A contradiction, `NVE1` and a byte 2.
+    Contradiction,
     /// Text, as a command list is.
     Text,
     /// None of these.
@@ -37,6 +39,8 @@ impl Content {
             Content::Record
         } else if front.starts_with(b"NVT") {
             Content::Trace
+        } else if front.starts_with(b"NVE1\x02") {
+            Content::Contradiction
         } else if is_evidence(front) {
             Content::Order
         } else if front.len() >= NAME && front.iter().all(|byte| is_of_text(*byte)) {

@@ -1,14 +1,14 @@
-//! `nvq explain`: what is wrong with a record, or what there is in a lawful one; and why a record or an order
-//! explains a trace or doesn't.
+//! `nvq explain`: what is wrong with a record, or what there is in a lawful one; and what a record, an order or a contradiction says of a
+//! trace.
 ghost use Rattle.std.specs.Prelude.{◌⊎◌, IfErr};
 ghost use Rattle.nvm_commands.specs.Explained.{IsExplainingFault, IsStoryFault, IsUnjudged, IsUntold};
-ghost use Rattle.nvm_commands.specs.Fault.{IsFaultOfOrderAt, IsFaultOfRecordAt, IsFaultOfRecordIn};
+ghost use Rattle.nvm_commands.specs.Fault.{IsFaultOfEvidenceAt, IsFaultOfRecordAt, IsFaultOfRecordIn};
 ghost use Rattle.nvm_commands.specs.Files.{IsReadFault};
 
 use crate::explaining_words::ExplainWords;
 use crate::failure::Failure;
-use crate::files::{bytes_of, check_apart, order_in, record_in, trace_in, write_bytes};
-use nvm_evidence::{is_evidence, order_story};
+use crate::files::{bytes_of, check_apart, evidence_in, record_in, trace_in, write_bytes};
+use nvm_evidence::{Evidence, contradiction_story, is_evidence, order_story};
 use nvm_explain::explain;
 use nvm_front::{Progress, STANDARD};
 use nvm_record::Payload;
@@ -43,8 +43,8 @@ fn told<R: AllocGlobal + Files + Input + Eprint + Threads + Sync>(
         ExplainWords::Trace {
             judging,
             trace,
-            record,
-        } => trace_explained(rt, *judging, trace.as_str(), record.as_str(), progress),
+            evidence,
+        } => trace_explained(rt, *judging, trace.as_str(), evidence.as_str(), progress),
     }
 }
 
@@ -60,20 +60,20 @@ fn record_explained<R: AllocGlobal + Files + Input + Eprint + Threads + Sync>(
     explained_of(rt, path, &held, progress)
 }
 
-/// The explanation of the trace at a path, judged by the record at another. The two can't both be standard input.
+/// The explanation of the trace at a path, and of what the file at another says of it. The two can't both be standard input.
 fn trace_explained<R: AllocGlobal + Files + Input + Eprint + Threads + Sync>(
     rt: &R,
     judging: Judging,
     trace: &str,
-    record: &str,
+    evidence: &str,
     progress: &Progress<'_, R>,
 ) -> Result<String, Failure>
-    ensures { IfErr result (λ failure. IsUnjudged trace.now «record».now failure.fault) }
+    ensures { IfErr result (λ failure. IsUnjudged trace.now evidence.now failure.fault) }
 {
-    check_apart(trace, record)?;
+    check_apart(trace, evidence)?;
     let seen = Payload::new(rt.alloc(), bytes_of(rt, trace, progress)?)?;
-    let held = Payload::new(rt.alloc(), bytes_of(rt, record, progress)?)?;
-    story_of(rt, judging, trace, &seen, record, &held)
+    let held = Payload::new(rt.alloc(), bytes_of(rt, evidence, progress)?)?;
+    story_of(rt, judging, trace, &seen, evidence, &held)
 }
 
 /// The explanation of the record in the bytes of a file that was read from a path, or the file's fault.
@@ -89,24 +89,24 @@ fn explained_of<R: AllocGlobal + Eprint + Threads + Sync>(
     Ok(explain(rt, rt.alloc(), &run, progress)?)
 }
 
-/// The explanation of the trace and the record or the order in the bytes of two files that were read from these paths, or the fault of the trace's file, or
-/// else of the record's or the order's.
+/// The explanation of the trace in the bytes of a file that was read from a path, and of the record or the evidence in those of another; or
+/// the fault of the trace's file, or else of the other.
 fn story_of<R: AllocGlobal + Threads + Sync>(
     rt: &R,
     judging: Judging,
     trace: &str,
     seen: &Payload,
-    record: &str,
+    evidence: &str,
     held: &Payload,
 ) -> Result<String, Failure>
-    ensures { IfErr result (λ failure. IsStoryFault «trace».now seen.now «record».now held.now failure.fault) }
+    ensures { IfErr result (λ failure. IsStoryFault «trace».now seen.now evidence.now held.now failure.fault) }
 {
     let seen = trace_in(rt.alloc(), trace, seen)?;
     match judging {
         Judging::Standard if is_evidence(held.as_slice()) => {
-            story_by_order(rt.alloc(), &seen, record, held.as_slice())
+            story_by_evidence(rt.alloc(), &seen, evidence, held.as_slice())
         }
-        _ => story_by_record(rt, judging, &seen, record, held),
+        _ => story_by_record(rt, judging, &seen, evidence, held),
     }
 }
 
@@ -124,10 +124,17 @@ fn story_by_record<R: AllocGlobal + Threads + Sync>(
     Ok(witness_story(rt, rt.alloc(), judging, seen, &held)?)
 }
 
-/// The explanation of the trace and the order in the bytes of a file that was read from a path.
-fn story_by_order(alloc: Global, seen: &Trace, path: &str, held: &[u8]) -> Result<String, Failure>
-    ensures { IfErr result (λ failure. IsFaultOfOrderAt path.now failure.fault) }
+/// The explanation of the trace and the order or the contradiction in the bytes of a file that was read from a path.
+fn story_by_evidence(
+    alloc: Global,
+    seen: &Trace,
+    path: &str,
+    held: &[u8],
+) -> Result<String, Failure>
+    ensures { IfErr result (λ failure. IsFaultOfEvidenceAt path.now failure.fault) }
 {
-    let held = order_in(alloc, path, held)?;
-    Ok(order_story(alloc, seen, &held)?)
+    match evidence_in(alloc, path, held)? {
+        Evidence::Order(held) => Ok(order_story(alloc, seen, &held)?),
+        Evidence::Contradiction(held) => Ok(contradiction_story(alloc, seen, &held)?),
+    }
 }

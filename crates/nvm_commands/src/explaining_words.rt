@@ -11,11 +11,11 @@ pub enum ExplainWords {
     Record {
         record: String,
     },
-    /// Whether a record explains a trace, and why not.
+    /// What a record, an order or a contradiction says of a trace.
     Trace {
         judging: Judging,
         trace: String,
-        record: String,
+        evidence: String,
     },
 }
 
@@ -28,31 +28,31 @@ pub fn read_explain(
         return Ok(None);
     };
     let file = String::from_str(alloc, file)?;
-    let Some(record) = words.get_str("record") else {
+    let Some(evidence) = words.get_str("evidence") else {
         return Ok(Some(ExplainWords::Record { record: file }));
     };
-    let record = String::from_str(alloc, record)?;
+    let evidence = String::from_str(alloc, evidence)?;
     Ok(Some(ExplainWords::Trace {
         judging: judging_of(words),
         trace: file,
-        record,
+        evidence,
     }))
 }
 
 /// `nvq explain`.
 pub fn explain_command<'a>(alloc: Global) -> Result<Command<'a>, Error> {
-    let strict = strict(alloc).requires_arg("record")?;
+    let strict = strict(alloc).requires_arg("evidence")?;
     let file = file_argument(
         alloc,
         "file",
         "FILE",
-        "The record, or the trace where a record follows, or - for standard input",
+        "The record, or the trace where evidence follows, or - for standard input",
     );
-    let record = Arg::new(alloc, "record").value_name("REC").help(
-        "The record that is to explain the trace, or - for standard input",
+    let evidence = Arg::new(alloc, "evidence").value_name("EVIDENCE").help(
+        "What speaks of the trace: a record, an order or a contradiction, or - for standard input",
     );
     let command = Command::new(alloc, "explain").about(
-        "Explains what is wrong with a record or what there is in a lawful one, or why it explains a trace or doesn't",
+        "Explains what is wrong with a record or what there is in a lawful one, or what evidence says of a trace",
     );
-    Ok(command.arg(strict)?.arg(file)?.arg(record)?)
+    Ok(command.arg(strict)?.arg(file)?.arg(evidence)?)
 }

@@ -1,6 +1,6 @@
 ghost use Rattle.std.specs.Prelude.{◌≡◌};
 ghost use Rattle.nvm_commands.specs.declared.fault.Fault.TheVariants.{NoMemory};
-ghost use Rattle.nvm_commands.specs.Fault.{fault_of_list, fault_of_file, fault_of_order, fault_of_record, fault_of_text, fault_of_trace};
+ghost use Rattle.nvm_commands.specs.Fault.{fault_of_list, fault_of_file, fault_of_evidence, fault_of_record, fault_of_text, fault_of_trace};
 
 use nvm_evidence::EvidenceFault;
 use nvm_expect::Expected as Unexpected;
@@ -57,12 +57,12 @@ pub enum Fault {
     /// Standard input is more than one list of a run, or both a trace and its record.
     #[error("standard input is named twice")]
     InputTwice,
-    /// The record of a run, or one that explains a trace, would go to standard output, where the lines go.
+    /// The record of a run would go to standard output, where the lines go.
     #[error("the record can't go to standard output")]
     RecordAmongLines,
-    /// The argument that nothing explains a trace would go to standard output.
-    #[error("the argument can't go to standard output")]
-    ArgumentAmongLines,
+    /// An order or a contradiction would go to standard output.
+    #[error("the evidence can't go to standard output")]
+    EvidenceAmongLines,
     /// The options describe no namespace.
     #[error("geometry: {0}")]
     Geometry(GeometryFault),
@@ -74,7 +74,7 @@ pub enum Fault {
     BadName {
         path: String,
     },
-    /// Something in the host file, the record, the trace or the order isn't whole; it begins at offset `at`, in bytes.
+    /// Something in the host file, the record, the trace or the evidence isn't whole; it begins at offset `at`, in bytes.
     #[error("{path}: truncated at {at}")]
     Truncated {
         path: String,
@@ -90,13 +90,13 @@ pub enum Fault {
     UnknownVersion {
         path: String,
     },
-    /// Bytes follow the record, the trace or the order, from offset `at` on.
+    /// Bytes follow the record, the trace or the evidence, from offset `at` on.
     #[error("{path}: trailing at {at}")]
     Trailing {
         path: String,
         at: u64,
     },
-    /// The field at offset `at` of the record, the trace or the order has a value that isn't allowed.
+    /// The field at offset `at` of the record, the trace or the evidence has a value that isn't allowed.
     #[error("{path}: bad value at {at}")]
     BadValue {
         path: String,
@@ -161,9 +161,9 @@ impl Fault {
         }
     }
 
-    /// The fault of an order's file.
-    pub fn of_order(path: String, fault: EvidenceFault) -> Fault
-        ensures { result ≡ fault_of_order path fault }
+    /// The fault of a file of evidence.
+    pub fn of_evidence(path: String, fault: EvidenceFault) -> Fault
+        ensures { result ≡ fault_of_evidence path fault }
     {
         match fault {
             EvidenceFault::BadName => Fault::BadName { path },

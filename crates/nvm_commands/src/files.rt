@@ -2,7 +2,7 @@ ghost use Rattle.std.specs.Prelude.{◌≡◌, ◌⊎◌, ℕ, List, Ok, IfOk, I
 ghost use Rattle.nvm_file.specs.Reading.{record_at};
 ghost use Rattle.nvm_file.specs.TraceFile.{IsTraceFile};
 ghost use Rattle.nvm_commands.specs.Audited.{IsInputTwice};
-ghost use Rattle.nvm_commands.specs.Fault.{IsFaultOfOrderAt, IsFaultOfRecordAt, IsFaultOfRecordIn, IsFaultOfTraceAt, IsFaultOfTraceIn};
+ghost use Rattle.nvm_commands.specs.Fault.{IsFaultOfEvidenceAt, IsFaultOfRecordAt, IsFaultOfRecordIn, IsFaultOfTraceAt, IsFaultOfTraceIn};
 ghost use Rattle.nvm_commands.specs.Files.{IsReadFault, IsWriteFault};
 
 use crate::conversion::{record_of, trace_of};
@@ -10,7 +10,7 @@ use crate::failure::{Failure, of_record, of_trace, plain};
 use crate::fault::Fault;
 use crate::hint::refusal;
 use nvm_audit::Record;
-use nvm_evidence::{HeldOrder, read_order};
+use nvm_evidence::{Evidence, read_evidence};
 use nvm_front::{
     FileFault, Progress, STANDARD, is_input, is_output, is_read, read_input, write, write_run,
 };
@@ -59,14 +59,14 @@ pub fn record_in(alloc: Global, path: &str, file: &Payload) -> Result<Record, Fa
     }
 }
 
-/// The order in the bytes of a file that was read from a path, or the file's fault.
-pub fn order_in<'f>(alloc: Global, path: &str, file: &'f [u8]) -> Result<HeldOrder<'f>, Failure>
-    ensures { IfErr result (λ failure. IsFaultOfOrderAt path.now failure.fault) }
+/// The order or the contradiction in the bytes of a file that was read from a path, or the file's fault.
+pub fn evidence_in<'f>(alloc: Global, path: &str, file: &'f [u8]) -> Result<Evidence<'f>, Failure>
+    ensures { IfErr result (λ failure. IsFaultOfEvidenceAt path.now failure.fault) }
 {
     let named = String::from_str(alloc, path)?;
-    match read_order(alloc, file) {
+    match read_evidence(alloc, file) {
         Ok(held) => Ok(held),
-        Err(fault) => Err(plain(Fault::of_order(named, fault))),
+        Err(fault) => Err(plain(Fault::of_evidence(named, fault))),
     }
 }
 

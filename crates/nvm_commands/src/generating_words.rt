@@ -117,7 +117,7 @@ pub fn generate_command<'a>(alloc: Global) -> Result<Command<'a>, Error> {
             alloc,
             "deallocate",
             "0",
-            "Weight of Deallocates: certify expects zeroes after one, where a device may keep the data or read FFh",
+            "Weight of Deallocates",
         ))?;
     Ok(command.arg(outs)?)
 }

@@ -47,6 +47,7 @@ pub fn no_host_file(alloc: Global, path: &str, bytes: &[u8]) -> Result<String, A
             )
         }
         Content::Order => of_order(alloc, path),
+        Content::Contradiction => of_contradiction(alloc, path),
         Content::HostFile | Content::Unknown => {
             format!(in alloc; "{name} is no host file, which begins with NVQ1")
         }
@@ -76,6 +77,7 @@ pub fn no_record(alloc: Global, path: &str, bytes: &[u8]) -> Result<String, Allo
             )
         }
         Content::Order => of_order(alloc, path),
+        Content::Contradiction => of_contradiction(alloc, path),
         Content::Record | Content::Unknown => {
             format!(in alloc; "{name} is no record, which begins with NVR1 or NVR2")
         }
@@ -101,13 +103,14 @@ pub fn no_trace(alloc: Global, path: &str, bytes: &[u8]) -> Result<String, Alloc
             )
         }
         Content::Order => of_order(alloc, path),
+        Content::Contradiction => of_contradiction(alloc, path),
         Content::Trace | Content::Unknown => {
             format!(in alloc; "{name} is no trace, which begins with NVT1")
         }
     }
 }
 
-/// What a file is, of which a command list was expected, where it is none: a host file, a record, a trace or an order.
+/// What a file is, of which a command list was expected, where it is none: a host file, a record, a trace or evidence.
 pub fn no_list(alloc: Global, path: &str, bytes: &[u8]) -> Result<Option<String>, AllocError> {
     let name = name_of(path);
     match Content::of(bytes) {
@@ -121,6 +124,7 @@ pub fn no_list(alloc: Global, path: &str, bytes: &[u8]) -> Result<Option<String>
             "{name} is a trace: nvq list {path} shows it"
         )?)),
         Content::Order => Ok(Some(of_order(alloc, path)?)),
+        Content::Contradiction => Ok(Some(of_contradiction(alloc, path)?)),
         Content::Empty | Content::Text | Content::Unknown => Ok(None),
     }
 }
@@ -130,6 +134,14 @@ fn of_order(alloc: Global, path: &str) -> Result<String, AllocError> {
     let name = name_of(path);
     format!(in alloc;
         "{name} is an order: nvmu witness TRACE {path} judges a trace by it, nvq explain TRACE {path} shows it"
+    )
+}
+
+/// What a contradiction's file is, where another was expected.
+fn of_contradiction(alloc: Global, path: &str) -> Result<String, AllocError> {
+    let name = name_of(path);
+    format!(in alloc;
+        "{name} is a contradiction: nvmu refute TRACE {path} judges it, nvq explain TRACE {path} shows it"
     )
 }
 

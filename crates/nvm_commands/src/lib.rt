@@ -1,5 +1,5 @@
 //! What the programs `nvq` and `nvmu` do. `nvq` runs lists of commands, which people write or a seed gives, makes them into host files, lists those,
-//! records and traces, makes the text of traces into files, judges records and traces, and explains records. `nvmu` runs host files, and judges.
+//! records and traces, makes the text of traces into files, and judges and explains records and traces. `nvmu` runs host files, and judges.
 #![tactic(auto)]
 
 mod auditing;

@@ -1,5 +1,5 @@
 //! What the program `nvmu` does: it reads the words of its command line and the hosts' files, has their commands done by workers, and
-//! writes the record of that and its text. Or it audits a record, or judges a trace by one or by an argument.
+//! writes the record of that and its text. Or it audits a record, or judges a trace by one, by an order or by a contradiction.
 
 ghost use Rattle.std.specs.Prelude.{◌≡◌, IfOk};
 ghost use Rattle.nvm_commands.specs.Nvmu.Answer.{ended_status, status_of as status_after};
@@ -32,7 +32,7 @@ use std::thread::Threads;
 pub const NVMU: &str = "nvmu";
 
 /// Does what the words of the command line ask for, and gives the exit status: 0, 2 where a record isn't lawful, or a record or an order doesn't
-/// explain the trace, or an argument doesn't refute it, or 1 after a fault. The room of standard output is taken first, so that no memory is wanted for the text once the record of a run is written.
+/// explain the trace, or a contradiction isn't one of it, or 1 after a fault. The room of standard output is taken first, so that no memory is wanted for the text once the record of a run is written.
 pub fn nvmu_status<R: AllocGlobal + Env + Files + Input + Print + Eprint + Threads + Wait + Sync>(
     rt: &R,
     progress: &Progress<'_, R>,
@@ -101,12 +101,11 @@ fn answer_to<R: AllocGlobal + Files + Input + Print + Eprint + Threads + Wait + 
             witnessed(rt, words.judging, trace, record, progress)
         }
         Asked::Refute {
-            judging,
             trace,
-            argument,
+            contradiction,
         } => {
-            let weighed = refuted(rt, *judging, trace.as_str(), argument.as_str(), progress)?;
-            Ok(Answer::Weighed(weighed))
+            let refuted = refuted(rt, trace.as_str(), contradiction.as_str(), progress)?;
+            Ok(Answer::Refuted(refuted))
         }
     }
 }

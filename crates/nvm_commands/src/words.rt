@@ -48,9 +48,9 @@ pub enum Asked {
     AuditAll(AuditWords),
     /// `nvq witness`: say whether a record explains a trace.
     Witness(WitnessWords),
-    /// `nvq certify`: say whether a record explains a trace, or why none does.
+    /// `nvq certify`: say whether an order explains a trace, or that nothing does.
     Certify(CertifyWords),
-    /// `nvq explain`: explain a record, or whether it explains a trace.
+    /// `nvq explain`: explain a record, or what evidence says of a trace.
     Explain(ExplainWords),
 }
 
@@ -154,7 +154,7 @@ fn program<'a>(alloc: Global) -> Result<Command<'a>, Error> {
         .bin_name("nvq")?
         .version(VERSION)
         .about(
-            "Runs lists of NVM commands, generates such lists, makes them into host files, lists those, records and traces, judges records and traces, and explains records",
+            "Runs lists of NVM commands, generates such lists, makes them into host files, lists those, records and traces, and judges and explains records and traces",
         )
         .no_binary_name(true)
         .subcommand_required(true);

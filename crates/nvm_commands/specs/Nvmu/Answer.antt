@@ -1,6 +1,5 @@
 -- What is printed of an answer, and the exit status after it.
 use Rattle.std.specs.Prelude.{◌≡◌, ℕ, List, Result, Ok, Err}
-use Rattle.nvm_argument.specs.WeighedLine.{weighed_line, weighed_status}
 use Rattle.nvm_audit.specs.declared.audit_fault.AuditFault.{AuditFault}
 use Rattle.nvm_audit.specs.declared.verdict.Verdict.{Verdict}
 use Rattle.nvm_engine.specs.Printed.{IsPrintedOf}
@@ -8,6 +7,7 @@ use Rattle.nvm_engine.specs.VerdictLine.{answer_line, answer_status}
 use Rattle.nvm_engine.specs.VerdictObject.{answer_object}
 use Rattle.nvm_engine.specs.Witnessed.{IsWitnessed, witness_status}
 use Rattle.nvm_evidence.specs.OrderedLine.{ordered_line, ordered_status}
+use Rattle.nvm_evidence.specs.RefutedLine.{refuted_line, refuted_status}
 use Rattle.nvm_evidence.specs.Witnessed.{IsOrderedFile}
 use Rattle.nvm_trace.specs.declared.judging.Judging.{Judging}
 use Rattle.nvm_trace.specs.declared.judging.Judging.TheVariants.{Standard}
@@ -15,7 +15,7 @@ use Rattle.nvm_trace_text.specs.WitnessLine.{witness_line}
 use Rattle.nvm_front.specs.declared.judging_words.Telling.{Telling}
 use Rattle.nvm_front.specs.declared.judging_words.Telling.TheVariants.{Lines, Object}
 use Rattle.nvm_commands.specs.declared.nvmu.answer.Answer.{Answer}
-use Rattle.nvm_commands.specs.declared.nvmu.answer.Answer.TheVariants.{Ran, Audited, Witnessed, Ordered, Weighed}
+use Rattle.nvm_commands.specs.declared.nvmu.answer.Answer.TheVariants.{Ran, Audited, Witnessed, Ordered, Refuted}
 
 -- how an audit is printed
 abbrev pub audit_text : Telling → Result Verdict AuditFault → List ℕ
@@ -28,7 +28,7 @@ IsTextOf (Ran run) text = IsPrintedOf run text
 IsTextOf (Audited telling judged) text = text ≡ audit_text telling judged
 IsTextOf (Witnessed witnessed) text = text ≡ witness_line witnessed
 IsTextOf (Ordered ordered) text = text ≡ ordered_line ordered
-IsTextOf (Weighed weighed) text = text ≡ weighed_line weighed
+IsTextOf (Refuted refuted) text = text ≡ refuted_line refuted
 
 -- the exit status once the answer is written
 abbrev pub status_of : Answer → ℕ
@@ -36,7 +36,7 @@ status_of (Ran run) = 0
 status_of (Audited telling judged) = answer_status judged
 status_of (Witnessed witnessed) = witness_status witnessed
 status_of (Ordered ordered) = ordered_status ordered
-status_of (Weighed weighed) = weighed_status weighed
+status_of (Refuted refuted) = refuted_status refuted
 
 -- It is what a witness answers of the bytes of a trace and of a record, or of a trace and an order.
 abbrev pub IsWitnessedBy : Judging → List ℕ → List ℕ → Answer → Type 0

@@ -1,17 +1,16 @@
 -- The first faults of the bytes that are judged, and what is said of files at paths. What is in a file no definition can say, so there
 -- the files' bytes are some.
 use Rattle.std.specs.Prelude.{◌⊎◌, ℕ, List, Result}
-use Rattle.nvm_argument.specs.Weighed.{IsWeighed, IsWeighFault}
-use Rattle.nvm_argument.specs.declared.weighed.Weighed.{Weighed}
 use Rattle.nvm_audit.specs.declared.audit_fault.AuditFault.{AuditFault}
 use Rattle.nvm_audit.specs.declared.verdict.Verdict.{Verdict}
 use Rattle.nvm_engine.specs.Judged.{IsJudged, IsUnreadFault}
 use Rattle.nvm_engine.specs.Witnessed.{IsUnwitnessedFault}
+use Rattle.nvm_evidence.specs.Refuted.{IsRefutedFile, IsContradictionFault}
 use Rattle.nvm_evidence.specs.Witnessed.{IsOrderFault}
-use Rattle.nvm_trace.specs.declared.judging.Judging.{Judging}
+use Rattle.nvm_evidence.specs.declared.refuted.Refuted.{Refuted}
 use Rattle.nvm_commands.specs.Nvmu.Files.{IsReadFault}
 use Rattle.nvm_commands.specs.declared.nvmu.fault.Fault.{Fault}
-use Rattle.nvm_commands.specs.declared.nvmu.fault.Fault.TheVariants.{Engine, Order, Weigh}
+use Rattle.nvm_commands.specs.declared.nvmu.fault.Fault.TheVariants.{Engine, Order, Refute}
 
 -- It is the first fault of exactly these bytes as a record.
 abbrev pub IsAuditFault : List ℕ → Fault → Type 0
@@ -24,10 +23,10 @@ IsWitnessFault seen held (Engine fault) = IsUnwitnessedFault seen held fault
 IsWitnessFault seen held (Order fault) = IsOrderFault seen fault
 IsWitnessFault seen held fault = ⊥
 
--- It is the first fault of exactly these bytes: of the one as a trace, or of the other as an argument.
-abbrev pub IsRefuteFault : List ℕ → List ℕ → Fault → Type 0
-IsRefuteFault seen held (Weigh fault) = IsWeighFault seen held fault
-IsRefuteFault seen held fault = ⊥
+-- It is the first fault of exactly these bytes as a trace, or one of the contradiction's.
+abbrev pub IsRefuteFault : List ℕ → Fault → Type 0
+IsRefuteFault seen (Refute fault) = IsContradictionFault seen fault
+IsRefuteFault seen fault = ⊥
 
 -- It is the answer of an audit of a file's bytes.
 abbrev pub IsJudgedFile : Result Verdict AuditFault → Type 0
@@ -46,11 +45,11 @@ abbrev pub IsWitnessFaultOn : List ℕ → List ℕ → Fault → Type 0
 IsWitnessFaultOn trace run fault =
     IsPairFault trace run fault ⊎ ((seen : List ℕ) × (held : List ℕ) × IsWitnessFault seen held fault)
 
--- It is what the argument of a file comes to against the trace of another.
-abbrev pub AreWeighedFiles : Judging → Weighed → Type 0
-AreWeighedFiles judging answer = (seen : List ℕ) × (held : List ℕ) × IsWeighed judging seen held answer
+-- It is what a contradiction says of the trace of a file.
+abbrev pub AreRefutedFiles : Refuted → Type 0
+AreRefutedFiles answer = (seen : List ℕ) × IsRefutedFile seen answer
 
 -- One of the files at these paths couldn't be read, or else it is the first fault of the bytes of two files.
 abbrev pub IsRefuteFaultOn : List ℕ → List ℕ → Fault → Type 0
-IsRefuteFaultOn trace argument fault =
-    IsPairFault trace argument fault ⊎ ((seen : List ℕ) × (held : List ℕ) × IsRefuteFault seen held fault)
+IsRefuteFaultOn trace contradiction fault =
+    IsPairFault trace contradiction fault ⊎ ((seen : List ℕ) × IsRefuteFault seen fault)

@@ -2,9 +2,8 @@ ghost use Rattle.std.specs.Prelude.{◌≡◌, ℕ, List, OnOk};
 ghost use Rattle.std.specs.Io.KnownBytes.{Appends};
 ghost use Rattle.nvm_commands.specs.Nvmu.Answer.{IsTextOf, status_of};
 
-use nvm_argument::Weighed;
 use nvm_engine::{Judged, Shown, Witnessed};
-use nvm_evidence::Ordered;
+use nvm_evidence::{Ordered, Refuted};
 use nvm_front::Telling;
 use std::alloc::Global;
 use std::io;
@@ -21,13 +20,13 @@ pub enum Answer {
     Witnessed(Witnessed),
     /// What an order says of a trace.
     Ordered(Ordered),
-    /// What an argument says of a trace.
-    Weighed(Weighed),
+    /// What a contradiction says of a trace.
+    Refuted(Refuted),
 }
 
 impl Answer {
     /// The exit status once it is written: 0, or 2 where a record isn't lawful, or a record or an order doesn't explain the
-    /// trace, or an argument doesn't refute it.
+    /// trace, or a contradiction isn't one of it.
     pub fn status(&self) -> u8
         ensures { result ≡ status_of self.now }
     {
@@ -36,7 +35,7 @@ impl Answer {
             Answer::Audited { judged, .. } => judged.status(),
             Answer::Witnessed(witnessed) => witnessed.status(),
             Answer::Ordered(ordered) => ordered.status(),
-            Answer::Weighed(weighed) => weighed.status(),
+            Answer::Refuted(refuted) => refuted.status(),
         }
     }
 
@@ -57,7 +56,7 @@ impl Answer {
             } => writer.write_all(judged.object(alloc)?.as_bytes()),
             Answer::Witnessed(witnessed) => writer.write_all(witnessed.line(alloc)?.as_bytes()),
             Answer::Ordered(ordered) => writer.write_all(ordered.line(alloc)?.as_bytes()),
-            Answer::Weighed(weighed) => writer.write_all(weighed.line(alloc)?.as_bytes()),
+            Answer::Refuted(refuted) => writer.write_all(refuted.line(alloc)?.as_bytes()),
         }
     }
 }

@@ -1,9 +1,8 @@
 ghost use Rattle.std.specs.Prelude.{◌≡◌};
 ghost use Rattle.nvm_commands.specs.declared.nvmu.fault.Fault.TheVariants.{NoMemory};
 
-use nvm_argument::WeighFault;
 use nvm_engine::Fault as EngineFault;
-use nvm_evidence::OrderWitnessFault;
+use nvm_evidence::{OrderWitnessFault, RefuteBytesFault};
 use std::alloc::{AllocError, AllocFailed};
 use thiserror::Error;
 
@@ -19,13 +18,13 @@ pub enum Fault {
     /// The options, a host file, a record or a trace isn't one, or memory was refused.
     #[error("{0}")]
     Engine(EngineFault),
-    /// A trace or an argument isn't one, or memory was refused.
-    #[error("{0}")]
-    Weigh(WeighFault),
     /// A trace or an order isn't one, or memory was refused.
     #[error("{0}")]
     Order(OrderWitnessFault),
-    /// Memory was asked for and refused, outside the engine and the weighing of evidence.
+    /// A trace or a contradiction isn't one, or memory was refused.
+    #[error("{0}")]
+    Refute(RefuteBytesFault),
+    /// Memory was asked for and refused, outside the engine and the judging by evidence.
     #[error("no memory")]
     NoMemory,
 }

@@ -4,38 +4,35 @@ ghost use Rattle.nvm_commands.specs.Nvmu.Words.{IsAsked};
 
 use crate::nvmu::words::Asked;
 use clap::{ArgMatches, Command, Error};
-use nvm_front::{WordFault, file_argument, judging_of, strict, trace};
+use nvm_front::{WordFault, file_argument, trace};
 use std::alloc::Global;
 
 /// What `nvmu refute` is asked, or `None` where a path is missing.
 pub fn refute_asked(alloc: Global, refute: &ArgMatches<'_>) -> Result<Option<Asked>, WordFault>
     ensures { IfOk result (λ asked. IfSome asked IsAsked) }
 {
-    let (Some(trace), Some(argument)) = (refute.get_str("trace"), refute.get_str("argument")) else {
+    let (Some(trace), Some(contradiction)) = (
+        refute.get_str("trace"),
+        refute.get_str("contradiction"),
+    ) else {
         return Ok(None);
     };
     Ok(Some(Asked::Refute {
-        judging: judging_of(refute),
         trace: String::from_str(alloc, trace)?,
-        argument: String::from_str(alloc, argument)?,
+        contradiction: String::from_str(alloc, contradiction)?,
     }))
 }
 
 /// `nvmu refute`.
 pub fn refute_command<'a>(alloc: Global) -> Result<Command<'a>, Error> {
-    let argument = file_argument(
+    let contradiction = file_argument(
         alloc,
-        "argument",
-        "ARG",
-        "The argument that nothing explains it, or - for standard input",
+        "contradiction",
+        "CONTRADICTION",
+        "The contradiction that shows so, or - for standard input",
     );
     let command = Command::new(alloc, "refute").about(
-        "Says whether an argument shows that no record explains a trace, and if not, why",
+        "Says whether a contradiction shows that no device may answer as in a trace, and if not, why",
     );
-    Ok(
-        command
-            .arg(strict(alloc))?
-            .arg(trace(alloc))?
-            .arg(argument)?,
-    )
+    Ok(command.arg(trace(alloc))?.arg(contradiction)?)
 }

@@ -1,44 +1,37 @@
-//! `nvmu refute`: whether an argument refutes a trace.
+//! `nvmu refute`: whether a contradiction is one of a trace.
 ghost use Rattle.std.specs.Prelude.{IfOk, IfErr};
-ghost use Rattle.nvm_argument.specs.Weighed.{IsWeighed};
-ghost use Rattle.nvm_commands.specs.Nvmu.Judged.{AreWeighedFiles, IsRefuteFault, IsRefuteFaultOn};
+ghost use Rattle.nvm_evidence.specs.Refuted.{IsRefutedFile};
+ghost use Rattle.nvm_commands.specs.Nvmu.Judged.{AreRefutedFiles, IsRefuteFault, IsRefuteFaultOn};
 
 use crate::nvmu::fault::Fault;
 use crate::nvmu::files::read_pair;
-use nvm_argument::{Weighed, refute_bytes};
+use nvm_evidence::{Refuted, refute_contradiction_bytes};
 use nvm_front::Progress;
 use nvm_record::Payload;
-use nvm_trace::Judging;
 use std::alloc::Global;
 use std::rt::Files;
 
-/// Reads the trace and the argument at these paths, and weighs the one against the other.
+/// Reads the trace and the contradiction at these paths, and judges the one by the other.
 pub fn refuted<R: AllocGlobal + Files + Input + Eprint>(
     rt: &R,
-    judging: Judging,
     trace: &str,
-    argument: &str,
+    contradiction: &str,
     progress: &Progress<'_, R>,
-) -> Result<Weighed, Fault>
-    ensures weighed { IfOk result (AreWeighedFiles judging) }
-    ensures fault { IfErr result (IsRefuteFaultOn trace.now argument.now) }
+) -> Result<Refuted, Fault>
+    ensures refuted { IfOk result AreRefutedFiles }
+    ensures fault { IfErr result (IsRefuteFaultOn trace.now contradiction.now) }
 {
-    let (seen, held) = read_pair(rt, trace, argument, progress)?;
-    weighed_of(rt.alloc(), judging, &seen, &held)
+    let (seen, held) = read_pair(rt, trace, contradiction, progress)?;
+    refuted_of(rt.alloc(), &seen, &held)
 }
 
-/// Weighs the bytes of an argument against those of a trace.
-fn weighed_of(
-    alloc: Global,
-    judging: Judging,
-    seen: &Payload,
-    held: &Payload,
-) -> Result<Weighed, Fault>
-    ensures weighed { IfOk result (IsWeighed judging seen.now held.now) }
-    ensures fault { IfErr result (IsRefuteFault seen.now held.now) }
+/// Judges the bytes of a trace by those of a contradiction.
+fn refuted_of(alloc: Global, seen: &Payload, held: &Payload) -> Result<Refuted, Fault>
+    ensures refuted { IfOk result (IsRefutedFile seen.now) }
+    ensures fault { IfErr result (IsRefuteFault seen.now) }
 {
-    match refute_bytes(alloc, judging, seen, held.as_slice()) {
-        Ok(weighed) => Ok(weighed),
-        Err(fault) => Err(Fault::Weigh(fault)),
+    match refute_contradiction_bytes(alloc, seen, held.as_slice()) {
+        Ok(refuted) => Ok(refuted),
+        Err(fault) => Err(Fault::Refute(fault)),
     }
 }

@@ -10,7 +10,6 @@ use nvm_front::{
     number_of_64_bits, number_option, owned, path_option, read_audit, read_witness,
     witness_command, workers_given,
 };
-use nvm_trace::Judging;
 use std::alloc::Global;
 
 /// What the words of the command line ask for.
@@ -28,18 +27,17 @@ pub enum Asked {
     Audit(AuditWords),
     /// `nvmu witness`: say whether a record explains a trace.
     Witness(WitnessWords),
-    /// `nvmu refute`: say whether an argument refutes a trace.
+    /// `nvmu refute`: say whether a contradiction is one of a trace.
     Refute {
-        judging: Judging,
         trace: String,
-        argument: String,
+        contradiction: String,
     },
 }
 
 /// Reads the words after the program's name.
 ///
 /// Every option of `run` is given once. `--workers` takes 1 to 64, `--limit` 1 to 4,194,304, and one host file or more is named.
-/// `audit` names one record, `witness` a trace and a record, and `refute` a trace and an argument.
+/// `audit` names one record, `witness` a trace and a record, and `refute` a trace and a contradiction.
 pub fn read_words<'a>(alloc: Global, words: &'a [&'a str]) -> Result<Asked, WordFault>
     ensures { IfOk result IsAsked }
 {

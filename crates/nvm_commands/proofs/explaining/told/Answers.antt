@@ -19,6 +19,6 @@ returns-in-Trace g c =
     IfErr-weaker c.trace_explained.result _ _
     (λ failure is.
     subst (λ (words : ExplainWords). IsUntold words failure.fault) (sym c.in-Trace.is)
-    (subst (λ (path : List ℕ). IsUnjudged path (string_bytes c.in-Trace.record) failure.fault) c.as_str-in-Trace.ensures.value
+    (subst (λ (path : List ℕ). IsUnjudged path (string_bytes c.in-Trace.evidence) failure.fault) c.as_str-in-Trace.ensures.value
     (subst (λ (path : List ℕ). IsUnjudged c.as_str-in-Trace.result.now path failure.fault) c.as_str-in-Trace-2.ensures.value is)))
     c.trace_explained.ensures
