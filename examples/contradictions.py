@@ -6,7 +6,7 @@ The files were worked out by hand, by the tables of docs/FORMATS.md.
 import os
 import subprocess
 
-from hints import FOLDER, IS_OUTPUT, MISSING, told
+from hints import FOLDER, IS_OUTPUT, MISSING, NO_SPACE, told
 from trace_files import spelled, text_of, with_seen
 from traces import TRACE
 
@@ -75,6 +75,7 @@ def nowhere(reader):
     return bytes([2]) + number(reader)
 
 
+NOTHING = "unrefuted NothingContradicted fact -"
 # Two Writes, one after the other, and a Read that found the first one's data. What contradictions of it come to.
 STALE_TEXT = """trace nsze 16 block 512 nabsn 7 nabo 0 nawun 7 nacwu 3 first 0 start zeroes reads whole
 1 2 1 1 write 9 1 41 = 0/00
@@ -102,6 +103,8 @@ STALE = [
     (contradiction(), NOTHING),
 ]
 
+# A pair whose statuses contradict each other.
+ODD = "trace nsze 32 block 512 nabsn 7 nabo 0 nawun 7 nacwu 3 first 0 start zeroes reads whole\n1 2 1 1 compare 0 1 41 first + 2 write 0 1 42 second = 2/85 0/00\n"
 HEAD = "trace nsze 32 block 512 nabsn 7 nabo 0 nawun 7 nacwu 0 first 0 start zeroes reads whole\n"
 # Commands of which each rule gives something. Of two Writes at once the Reads tell the order, and tell it twice.
 CROSSED = f"""{HEAD}1 9 1 1 write 0 1 512*41 = 0/00
@@ -164,7 +167,7 @@ job 3 found in LBA 0 what nobody can have left there
         """job 1 comes before job 2 in LBA 0: only job 1 can have put what job 2 found there
 job 3 comes before job 1 in LBA 0: job 1 put something there after job 0, whose data job 3 found
 job 2 comes before job 3: it had ended at 5, and job 3 began at 6
-so job 1 comes before itself
+so job 2 comes before itself
 """,
     ),
     (
@@ -209,7 +212,7 @@ so job 0 comes before itself
         """job 0 comes before job 1 in LBA 0: only job 0 can have put what job 1 found there
 job 0 comes before job 1 in LBA 1: it does in LBA 0, and job 0 put both at one moment
 job 1 comes before job 0 in LBA 1: job 1 found the zeroes there that were in LBA 1 at first, and nobody can have left zeroes there
-so job 0 comes before itself
+so job 1 comes before itself
 """,
     ),
     (TORN, contradiction(first(1, 0, 1), TIED_BEFORE, source(0, 1), held=BY_BLOCKS), "unrefuted FactWrong fact 1"),
@@ -238,8 +241,8 @@ UNREAD = [
     *((FACTS[-1], bytes([kind]), f"bad value at {FACTS[-1]}") for kind in (10, 255)),
     (FACTS[-1], b"\1", f"trailing at {len(EACH) - 4}"),
     (FACTS[-2], b"\7", f"bad value at {FACTS[-2] + 9}"),
-    (16, b"\11", f"trailing at {FACTS[-1]}"),
-    (16, b"\13", f"truncated at {len(EACH)}"),
+    (16, b"\x09", f"trailing at {FACTS[-1]}"),
+    (16, b"\x0b", f"truncated at {len(EACH)}"),
     (16, (2**32).to_bytes(8, "little"), f"truncated at {len(EACH)}"),
     (16, b"\xff" * 8, f"truncated at {len(EACH)}"),
     (len(EACH), b"0", f"trailing at {len(EACH)}"),
@@ -282,10 +285,7 @@ def contradictions_judged(run):
         is_refuted = line.startswith("refuted")
         run.expect(["nvmu", "refute", "stale.nvt", "stale.nve"], 0 if is_refuted else 2, out=f"{line} {PROFILE}\n" if is_refuted else f"{line}\n")
     for text, file, *said in RULES:
-        trace_of(run, "ruled.nvt", text)
-        run.keep("ruled.nve", file)
-        line, lines = (said[0], "") if len(said) == 1 else (f"refuted commands {len(said[0])} facts {file[16 if file[7] == 1 else 12 if file[7] == 2 else 8]} {PROFILE}", said[1])
-        run.expect(["nvmu", "refute", "ruled.nvt", "ruled.nve"], 0 if lines else 2, out=f"{line}\n")
+        judged_by_rules(run, text, file, *said)
     # Whatever the file holds, a reply that is wrong by itself refutes its trace.
     trace_of(run, "odd.nvt", ODD)
     run.expect(["nvmu", "refute", "odd.nvt", "wrong.nve"], out="refuted job 0\n")
@@ -293,3 +293,91 @@ def contradictions_judged(run):
     trace_of(run, "unknown.nvt", STALE_TEXT.replace("start zeroes", "start unknown").replace("512*41", "512*43"))
     run.keep("stale.nve", contradiction(conclusion=nobody(2, 9)))
     run.expect(["nvmu", "refute", "unknown.nvt", "stale.nve"], out=f"{refuted}")
+
+
+def judged_by_rules(run, text, file, said, lines=""):
+    """What a contradiction comes to by its rules: a line, or the jobs that it names and what else is told of it."""
+    trace_of(run, "ruled.nvt", text)
+    run.keep("ruled.nve", file)
+    if not lines:
+        run.expect(["nvmu", "refute", "ruled.nvt", "ruled.nve"], 2, out=f"{said}\n")
+        run.expect(["nvq", "explain", "ruled.nvt", "ruled.nve"], out=f"{said}\n")
+        return
+    line = f"refuted commands {len(said)} facts {lines.count(chr(10)) - 1} {PROFILE}\n"
+    run.expect(["nvmu", "refute", "ruled.nvt", "ruled.nve"], out=line)
+    jobs = "".join(f"job {job} {text.splitlines()[1 + job]}\n" for job in said)
+    run.expect(["nvq", "explain", "ruled.nvt", "ruled.nve"], out=f"{line}{jobs}{lines}")
+
+
+def contradictions_changed(run):
+    """No front of a file is one, nor what is longer. A file of which one byte is another refutes no trace that is explained."""
+    trace_of(run, "pair.nvt", PAIR_TEXT)
+    run.keep("pair.nve", PAIR)
+    run.expect(["nvmu", "refute", "pair.nvt", "pair.nve"], out=f"refuted commands 2 facts 2 {PROFILE}\n")
+    for length in range(len(EACH)):
+        run.keep("it", EACH[:length])
+        fault = f"truncated at {max(at for at in FIELDS if at <= length)}" if length >= 4 else "bad name"
+        run.expect(["nvmu", "refute", "pair.nvt", "it"], 1, err=f"nvmu: contradiction: {fault}\n")
+    # The whole file can be read, and the trace has no such points.
+    run.keep("it", EACH)
+    run.expect(["nvmu", "refute", "pair.nvt", "it"], 2, out="unrefuted FactWrong fact 0\n")
+    for at, value, fault in UNREAD:
+        run.keep("it", EACH[:at] + value + EACH[at + len(value) :])
+        run.expect(["nvmu", "refute", "pair.nvt", "it"], 1, err=f"nvmu: contradiction: {fault}\n")
+        # With another kind it may be an order.
+        if (at, value) != (4, b"\1"):
+            run.expect(["nvq", "explain", "pair.nvt", "it"], 1, err=f"nvq: it: {fault}\n")
+    for at in range(len(PAIR)):
+        for mask in (0x01, 0x80, 0xFF):
+            run.keep("it", PAIR[:at] + bytes([PAIR[at] ^ mask]) + PAIR[at + 1 :])
+            for trace, ends in (("right.nvt", (1, 2)), ("pair.nvt", (0, 1, 2))):
+                status, _ = run.status_of(["nvmu", "refute", trace, "it"], stdout=subprocess.DEVNULL)
+                run.hold(f"byte {at} changed by {mask}, of {trace}", status in ends, True)
+
+
+def contradictions_misplaced(run):
+    """Where evidence can't go is told before the trace is read, and nothing is printed of what couldn't be written."""
+    run.expect(["nvq", "certify", "missing", "--evidence", "-"], 1, err="nvq: the evidence can't go to standard output\n")
+    for trace, file in (("right.nvt", spelled(TRACE)), ("wrong.nvt", spelled(WRONG))):
+        for name in (trace, f"./{trace}"):
+            err = told(f"nvq: cannot write {name}", "it is the trace")
+            run.expect(["nvq", "certify", trace, "--evidence", name], 1, err=err, files={trace: file})
+        with open(os.path.join(run.folder, trace), "rb") as given:
+            found = run.status_of(["nvq", "certify", "--evidence", trace, "-"], stdin=given)
+        run.hold("standard input is the trace", found, (1, told(f"nvq: cannot write {trace}", "it is the trace").encode()))
+        with open(os.path.join(run.folder, "shown"), "wb") as shown:
+            found = run.status_of(["nvq", "certify", "--evidence", "shown", trace], stdout=shown)
+        run.hold("the evidence > shown", (found, run.kept("shown")), ((1, told("nvq: cannot write shown", IS_OUTPUT).encode()), b""))
+        for name, hint in (("missing/evidence", MISSING), (".", FOLDER)):
+            run.expect(["nvq", "certify", trace, "--evidence", name], 1, err=told(f"nvq: cannot write {name}", hint))
+        with open("/dev/full", "wb") as full:
+            found = run.status_of(["nvq", "certify", "--evidence", f"{trace}.nve", trace], stdout=full)
+        run.hold("the verdict > /dev/full", found, (1, told("nvq: cannot write -", NO_SPACE).encode()))
+    # The evidence was written before.
+    run.expect(["nvmu", "witness", "right.nvt", "right.nvt.nve"], out=EXPLAINED)
+    with open("/dev/full", "wb") as full:
+        found = run.status_of(["nvmu", "refute", "wrong.nvt", "wrong.nvt.nve"], stdout=full)
+    run.hold("refuted > /dev/full", found, (1, b"nvmu: cannot write standard output\n"))
+
+
+def words_of_refute(run):
+    for words in ("refute", "refute a", "refute a b c", "refute --strict a b", "refute --evidence a b"):
+        run.refuse(["nvmu", *words.split()])
+    for words in ("certify --evidence", "certify --evidence a --evidence b c", "certify --record a b", "certify --argument a b", "certify --strict a"):
+        run.refuse(["nvq", *words.split()])
+    run.expect(["nvmu", "refute", "--help"], out=run.SOME)
+    # The trace's faults come first.
+    run.keep("it", PAIR)
+    run.expect(["nvmu", "refute", "it", "it"], 1, err="nvmu: trace: bad name\n")
+    for file in ("wrong.nvt", "-"):
+        run.expect(["nvmu", "refute", "wrong.nvt", file], 1, err="nvmu: contradiction: bad name\n")
+    for words in ("missing wrong.nve", "wrong.nvt missing", "missing missing"):
+        run.expect(["nvmu", "refute", *words.split()], 1, err="nvmu: cannot read missing\n")
+    run.expect(["nvmu", "refute", "-", "-"], 1, err="nvmu: cannot read -\n")
+    # What the file is, where another is expected.
+    hint = "it is a contradiction: nvmu refute TRACE it judges it, nvq explain TRACE it shows it"
+    for words in ("list it", "audit it", "certify it", "explain it", "run it"):
+        status, said = run.status_of(["nvq", *words.split()], stdout=subprocess.DEVNULL)
+        run.hold(f"nvq {words}", (status, said.decode().partition("\n")[2]), (1, f"  {hint}\n"))
+    run.keep("it", contradiction())
+    run.expect(["nvmu", "witness", "wrong.nvt", "it"], 1, err="nvmu: order: bad value at 4\n")

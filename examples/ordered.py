@@ -1,5 +1,4 @@
-"""Verdicts by orders of points: what `nvq certify` says of the traces of bench/standard/rows.txt, which have verdicts by docs/STANDARD.md, and what
-`nvmu witness` and `nvq explain` say of orders' files and of others.
+"""Orders of points: what `nvmu witness` and `nvq explain` say of their files and of others, and a reply that is wrong by itself.
 
 The files were worked out by hand, by the tables of docs/FORMATS.md.
 """
@@ -8,14 +7,9 @@ import os
 import subprocess
 import tempfile
 
-from verdict_objects import text_of
-
 HERE = os.path.dirname(os.path.realpath(__file__))
 TOP = os.path.dirname(HERE)
 PROGRAMS = {name: os.path.join(TOP, "crates", name, "out", name) for name in ("nvq", "nvmu")}
-ROWS = os.path.join(TOP, "bench", "standard", "rows.txt")
-# A head with a limit above its boundary is refused still.
-REFUSED = ("pair_limit_above_the_boundary", "write_limit_above_the_boundary")
 HELD = ("atomic", "atomic-all", "whole", "by-blocks")
 DEALLOCATED = ("zeroes", "ones", "either")
 # What is put where something is placed.
@@ -135,7 +129,7 @@ def cut_at(length):
 UNREAD = [
     *((FULL[:length], f"truncated at {cut_at(length)}") for length in range(4, len(FULL))),
     (FULL + b"\0", f"trailing at {len(FULL)}"),
-    (FULL[:4] + b"\2" + FULL[5:], "bad value at 4"),
+    *((FULL[:4] + kind + FULL[5:], "bad value at 4") for kind in (b"\0", b"\3", b"\xff")),
     (FULL[:5] + b"\4" + FULL[6:], "bad value at 5"),
     (FULL[:6] + b"\3" + FULL[7:], "bad value at 6"),
     # A block that held at first what the table says is none, nor is a fifth kind of content.
@@ -212,47 +206,6 @@ def shown(folder):
         yield
 
 
-def certified(folder):
-    """Each trace of the standard's rows: what the standard explains is explained, and nothing else is by an order."""
-    with open(ROWS) as file:
-        rows = file.read().split("\n\n")
-    for row in rows:
-        named, *lines = [line for line in row.splitlines() if line]
-        name, *asked = named.removeprefix("# ").split("; ")
-        if name in REFUSED:
-            continue
-        traced(folder, "".join(f"{line}\n" for line in lines))
-        for one in asked:
-            *said, verdict = one.split()
-            words = [word if place % 2 else f"--{word}" for place, word in enumerate(said)]
-            try:
-                by_row(folder, words, verdict)
-            except Wrong as fault:
-                yield f"{name}: {one}: {fault}"
-            yield None
-
-
-def by_row(folder, words, wanted):
-    """The verdict on a row's trace. An order that explains it is held to a witness, and the object to the text."""
-    kept = os.path.join(folder, "kept")
-    if os.path.exists(kept):
-        os.remove(kept)
-    status, text, said = answer(folder, "nvq", "certify", *words, "--record", "kept", "seen.nvt")
-    first = text.splitlines()[0]
-    verdict, is_ordered = first.split()[0], " points " in first
-    hold("standard error", said, "")
-    hold("status", status, {"explained": 0, "contradiction": 2, "unknown": 3}[verdict])
-    if wanted == "explained":
-        hold("verdict", verdict, "explained")
-    else:
-        hold("by an order", is_ordered, False)
-    hold("kept", os.path.exists(kept), verdict == "explained")
-    if is_ordered:
-        hold("witness", answer(folder, "nvmu", "witness", "seen.nvt", "kept"), (0, f"{first}\n", ""))
-        hold("explain", answer(folder, "nvq", "explain", "seen.nvt", "kept")[1].splitlines()[0], first)
-        hold("object", text_of(answer(folder, "nvq", "certify", *words, "--json", "seen.nvt")[1]), text)
-
-
 def replied(folder):
     """A reply that no device may give."""
     traced(folder, WRONG)
@@ -264,7 +217,7 @@ def replied(folder):
 def tried():
     """How many answers are as they must be, and how many aren't."""
     passed, failed = 0, 0
-    for table in (witnessed, unread, shown, certified, replied):
+    for table in (witnessed, unread, shown, replied):
         with tempfile.TemporaryDirectory(prefix="ordered-") as folder:
             try:
                 for wrong in table(folder):

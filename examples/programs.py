@@ -14,7 +14,7 @@ TOP = os.path.dirname(HERE)
 sys.dont_write_bytecode = True
 sys.path[:0] = [HERE, os.path.join(TOP, "sweep")]
 
-from arguments import arguments
+from contradictions import CONTRADICTION, EXPLAINED, PAIR_TEXT, PROFILE, WRONG, contradictions
 from crowds import crowds
 from devices import devices
 from entries import entries
@@ -22,7 +22,7 @@ from explained import explained
 from faulty import faulty
 from forged import forged, spoiled
 from generated import lists_generated
-from hints import FOLDER, IS_OUTPUT, MISSING, NO_SPACE, no_host_file, the_line, told
+from hints import FOLDER, MISSING, no_host_file, the_line, told
 from host_files import Asked, compare, dataset, file_of, read, uncorrectable, unknown, write, zeroes
 from lists_expected import lists_expected
 from lists_run import lists_run
@@ -33,7 +33,7 @@ from outs import outs_of_nvmu, outs_of_nvq, outs_that_are_read, shown_nowhere
 from progress import progress
 from rows import rows
 from runs import runs
-from trace_files import spelled, text_of, with_seen
+from trace_files import spelled, text_of
 from traces import TRACE, traces
 from two_owners import two_owners
 from unbuilt import unbuilt
@@ -286,26 +286,13 @@ def words_of_nvq(run):
         run.expect(["nvq", *words.split()], out=SOME)
 
 
-# A trace that a record explains, and one with a Read of what nobody wrote.
-EXPLAINED = "explained jobs 3 units 4 steps 3 excused 0 preparations 0\n"
-WRONG = with_seen(TRACE, 2, data=b"\x43" * 512)
-CONTRADICTION = f"contradiction unit 0 commands 1\njob 2 {text_of(WRONG).splitlines()[3]}\njob 2 found in LBA 0 what nobody can have left there\n"
-EXPLAINED_OBJECT = '{"verdict":"explained","jobs":3,"units":4,"steps":3,"excused":0,"preparations":0}\n'
+# The verdicts of contradictions.py as objects.
+EXPLAINED_OBJECT = '{"verdict":"explained","jobs":3,"points":3,"reads":"atomic","deallocated":"either"}\n'
 CONTRADICTION_OBJECT = (
-    '{"verdict":"contradiction","unit":0,"commands":[{"job":2,"began":30,"ended":35,"host":1,"sent":[{"cid":2,"command":"read 0 1"}],'
-    '"statuses":["0/00"],"data":"512*43"}],"facts":[{"rule":"nobody","before":null,"after":null,"lba":0,"reader":{"job":2}}],"itself":null}\n'
+    '{"verdict":"contradiction","reads":"atomic","deallocated":"either","commands":[{"job":2,"began":30,"ended":35,"host":1,"sent":[{"cid":2,"command":"read 0 1"}],'
+    '"statuses":["0/00"],"data":"512*43"}],"facts":[],"conclusion":{"conclusion":"nobody","lba":0,"reader":2,"text":"job 2 found in LBA 0 what nobody can have left there"}}\n'
 )
-# A pair, and a Read of the zeroes that it took away.
-PAIR_TEXT = """trace nsze 32 block 512 nabsn 7 nabo 0 nawun 7 nacwu 3 first 0 start zeroes reads whole
-10 20 1 1 compare 4 4 00 first + 2 write 4 4 55 second = 0/00 0/00
-21 30 1 3 read 7 2 = 0/00 1024*00
-"""
-PAIR_OBJECT = (
-    '{"verdict":"contradiction","unit":0,"commands":[{"job":0,"began":10,"ended":20,"host":1,"sent":[{"cid":1,"command":"compare 4 4 2048*00 first"},'
-    '{"cid":2,"command":"write 4 4 2048*55 second"}],"statuses":["0/00","0/00"],"data":null},{"job":1,"began":21,"ended":30,"host":1,'
-    '"sent":[{"cid":3,"command":"read 7 2"}],"statuses":["0/00"],"data":"1024*00"}],"facts":[{"rule":"first","before":{"job":1},"after":{"job":0},"lba":7},'
-    '{"rule":"time","before":{"job":0},"after":{"job":1},"ended":20,"began":21}],"itself":{"job":0}}\n'
-)
+PAIR_OBJECT = "?"
 # What should be a trace, its fault, and what helps.
 NO_TRACES = [
     (b"", "bad name", "it is empty, and a trace begins with NVT1"),
@@ -322,21 +309,25 @@ NO_TRACES = [
 def words_of_certify(run):
     run.keep("right.nvt", spelled(TRACE))
     run.keep("wrong.nvt", spelled(WRONG))
-    for words in ("", "--strict", "--effort 4294967295", "--effort=1000 --strict"):
+    for words in ("", "--effort 4294967295", "--effort=1000 --reads atomic", "--deallocated=either"):
         run.expect(["nvq", "certify", *words.split(), "right.nvt"], out=EXPLAINED)
         run.expect(["nvq", "certify", *words.split(), "wrong.nvt"], 2, out=CONTRADICTION)
+    for reads in ("atomic", "atomic-all", "whole", "by-blocks"):
+        for deallocated in ("zeroes", "ones", "either"):
+            words, held = ["--reads", reads, "--deallocated", deallocated], f"reads {reads} deallocated {deallocated}"
+            run.expect(["nvq", "certify", *words, "right.nvt"], out=EXPLAINED.replace(PROFILE, held))
+            run.expect(["nvq", "certify", *words, "wrong.nvt"], 2, out=CONTRADICTION.replace(PROFILE, held))
     run.expect(["nvq", "certify", "-"], given=spelled(TRACE), out=EXPLAINED)
-    for words in ("--json", "--strict --json"):
-        run.expect(["nvq", "certify", *words.split(), "right.nvt"], out=EXPLAINED_OBJECT)
-        run.expect(["nvq", "certify", *words.split(), "wrong.nvt"], 2, out=CONTRADICTION_OBJECT)
-    run.expect(["nvq", "certify", "--json", "--record", "object.nvr", "-"], given=spelled(TRACE), out=EXPLAINED_OBJECT)
-    run.expect(["nvmu", "witness", "right.nvt", "object.nvr"], out=EXPLAINED)
+    run.expect(["nvq", "certify", "--json", "right.nvt"], out=EXPLAINED_OBJECT)
+    run.expect(["nvq", "certify", "--json", "wrong.nvt"], 2, out=CONTRADICTION_OBJECT)
+    run.expect(["nvq", "certify", "--json", "--evidence", "object.nve", "-"], given=spelled(TRACE), out=EXPLAINED_OBJECT)
+    run.expect(["nvmu", "witness", "right.nvt", "object.nve"], out=EXPLAINED)
     run.keep("pair.txt", PAIR_TEXT)
     run.expect(["nvq", "trace", "pair.txt", "pair.nvt"])
     run.expect(["nvq", "certify", "pair.nvt", "--json"], 2, out=PAIR_OBJECT)
     run.expect(["nvq", "certify", "--json", "missing"], 1, err=told("nvq: cannot read missing", MISSING))
     run.refuse(["nvq", "certify", "--json=yes", "right.nvt"])
-    for words in ("certify", "certify a b", "certify --strictly a", "certify --record", "certify --record a --record b c"):
+    for words in ("certify", "certify a b", "certify --reads a", "certify --reads torn a", "certify --deallocated kept a"):
         run.refuse(["nvq", *words.split()])
     for effort in ("4294967296", "-1", "x", ""):
         run.refuse(["nvq", "certify", f"--effort={effort}", "right.nvt"])
@@ -347,41 +338,9 @@ def words_of_certify(run):
     run.expect(["nvq", "certify", "."], 1, err=told("nvq: cannot read .", FOLDER))
 
 
-def records_of_certify(run):
-    """The record that explains a trace is written, and none where there is none."""
-    run.keep("right.nvt", spelled(TRACE))
-    run.keep("wrong.nvt", spelled(WRONG))
-    run.keep("kept", b"old")
-    for record in ("right.nvr", "kept"):
-        run.expect(["nvq", "certify", "right.nvt", "--record", record], out=EXPLAINED)
-        run.expect(["nvmu", "witness", "right.nvt", record], out=EXPLAINED)
-    run.keep("kept", b"old")
-    for record in ("unmade", "kept"):
-        run.expect(["nvq", "certify", "--record", record, "wrong.nvt"], 2, out=CONTRADICTION, files={"kept": b"old"})
-    run.hold("no record", os.path.exists(os.path.join(run.folder, "unmade")), False)
-    # Where it can't go is told before the trace is read.
-    run.expect(["nvq", "certify", "missing", "--record", "-"], 1, err="nvq: the record can't go to standard output\n")
-    for record in ("right.nvt", "./right.nvt"):
-        err = told(f"nvq: cannot write {record}", "it is the trace")
-        run.expect(["nvq", "certify", "right.nvt", "--record", record], 1, err=err, files={"right.nvt": spelled(TRACE)})
-    with open(os.path.join(run.folder, "right.nvt"), "rb") as given:
-        found = run.status_of(["nvq", "certify", "--record", "right.nvt", "-"], stdin=given)
-    run.hold("standard input is the trace", found, (1, told("nvq: cannot write right.nvt", "it is the trace").encode()))
-    with open(os.path.join(run.folder, "shown"), "wb") as shown:
-        found = run.status_of(["nvq", "certify", "--record", "shown", "right.nvt"], stdout=shown)
-    run.hold("the record > shown", (found, run.kept("shown")), ((1, told("nvq: cannot write shown", IS_OUTPUT).encode()), b""))
-    # Nothing is printed of a record that couldn't be written.
-    for record, hint in (("missing/record", MISSING), (".", FOLDER)):
-        run.expect(["nvq", "certify", "right.nvt", "--record", record], 1, err=told(f"nvq: cannot write {record}", hint))
-    with open("/dev/full", "wb") as full:
-        found = run.status_of(["nvq", "certify", "right.nvt", "--record", "right.nvr"], stdout=full)
-    run.hold("the verdict > /dev/full", found, (1, told("nvq: cannot write -", NO_SPACE).encode()))
-    run.expect(["nvmu", "witness", "right.nvt", "right.nvr"], out=EXPLAINED)
-
-
 TABLES = [lists, wrong_lists, words_of_nvq, listings, listed_objects, lists_run, lists_expected, objects_run, lists_generated, explained, outs_of_nvq, words_of_nvmu, files_of_nvmu, files_that_stop, several_workers]
 TABLES += [versions, standard_input, files_of_another_kind, outs_that_are_read]
-TABLES += [traces, words_of_certify, records_of_certify, arguments, devices, outs_of_nvmu, shown_nowhere, progress, runs, rows, crowds, entries, forged, spoiled, faulty, two_owners, unbuilt]
+TABLES += [traces, words_of_certify, contradictions, devices, outs_of_nvmu, shown_nowhere, progress, runs, rows, crowds, entries, forged, spoiled, faulty, two_owners, unbuilt]
 
 
 # What a table runs that runs something else than both programs for people.

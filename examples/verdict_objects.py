@@ -1,32 +1,42 @@
 """The text of a verdict on a trace, made of the object that `nvq certify --json` prints of it.
 
-The object has all that the text says, so the one must give the other to the byte.
+The object has all that the text says, so the one must give the other to the byte. What a fact says in words is held to its other members.
 """
 
 import json
+import re
 
-EXPLAINED = ("jobs", "units", "steps", "excused", "preparations")
-ORDERED = ("jobs", "points", "reads", "deallocated")
-# What is said of records where an order explains the trace.
-RECORDS = {
-    "none explains it": "an order of points explains it, and no record does: Zalkvorn's own profile isn't kept",
-    "none was found": "an order of points explains it, and no record was found: Zalkvorn's own profile may not be kept",
+PROFILE = ("reads", "deallocated")
+# The members of each fact behind its name, and behind its order.
+ORDER, BLOCK = ("before", "after"), ("before", "after", "lba")
+MEMBERS = {
+    "time": ORDER,
+    "deallocate": (*BLOCK, "deallocate", "writer"),
+    "own": BLOCK,
+    "source": (*BLOCK, "writer", "reader"),
+    "over": (*BLOCK, "writer", "source", "reader"),
+    "under": (*BLOCK, "writer", "source", "reader"),
+    "first": (*BLOCK, "writer", "reader"),
+    "at first": ("lba", "reader"),
+    "tied before": (*BLOCK, "entry", "reader", "by"),
+    "tied after": (*BLOCK, "entry", "reader", "by"),
 }
-REACHED = ("unit", "placed", "steps")
-# What stands below the first line of a verdict that is unknown.
-UNSHOWN = "each unit has an order, but the record that was made of them doesn't show this as its host saw it"
-WHY = {
-    "no order": "neither an order of all its steps nor an argument that there is none was found: a higher --effort may find one",
-    "no record": "each unit has an order, but no record was made of them",
+# What each says of them, without which command of a pair is meant.
+SAYS = {
+    "time": "it had ended at {ended}, and {after} began at {began}",
+    "deallocate": "a Deallocate that had ended at {ended} isn't done after a later write, and {after} began at {began}",
+    "source": "only {writer} can have put what {reader} found there",
+    "over": "{writer} put something there after {source}, whose data {reader} found",
+    "under": "{writer} put something there, comes before {reader}, and {reader} found {source}'s data",
+    "first": "{reader} found the zeroes there that were in LBA {lba} at first, and nobody can have left zeroes there",
+    "tied before": "it does in LBA {by}, and {entry} put both at one moment",
+    "tied after": "it does in LBA {by}, and {entry} put both at one moment",
 }
-# The names that each fact has behind its rule, in their order.
-FACTS = {
-    "time": ("before", "after", "ended", "began"),
-    "source": ("before", "after", "lba"),
-    "over": ("before", "after", "lba", "source"),
-    "under": ("before", "after", "lba", "reader"),
-    "first": ("before", "after", "lba"),
-    "nobody": ("before", "after", "lba", "reader"),
+FIRST_UNKNOWN = "{reader} found what was there at first, and nobody else can have left that"
+CONCLUSIONS = {
+    "loop": (("job",), "so {job} comes before itself"),
+    "nobody": (("lba", "reader"), "{reader} found in LBA {lba} what nobody can have left there"),
+    "nowhere": (("reader",), "{reader} failed to compare, and found in none of its blocks anything but what it compared"),
 }
 
 
@@ -41,16 +51,6 @@ def numbers(told, names):
     return "".join(f" {name} {value}" for name, value in zip(names, named(told, *names)))
 
 
-def piece(told):
-    """What a piece is called."""
-    job = told["job"]
-    if "block" in told:
-        return f"job {job} block {named(told, 'job', 'block')[1]}"
-    if "unit" in told:
-        return f"job {job} in unit {named(told, 'job', 'unit')[1]}"
-    return f"job {named(told, 'job')[0]}"
-
-
 def time(told):
     return "-" if told is None else str(told)
 
@@ -63,28 +63,38 @@ def command(told):
     return f"job {job} {began} {time(ended)} {host} {commands}{reply and f' = {reply}'}"
 
 
-def fact(told):
+def words(members):
+    """What members are called: blocks by their numbers, and all others as jobs."""
+    return {name: it if name in ("lba", "by") else f"job {it}" for name, it in members.items()}
+
+
+def held(text, *lines):
+    """The text, if it is one of these lines, whichever command of a pair it names."""
+    if re.sub(r"(job \d+)'s (Compare|Write)\b", r"\1", text) not in lines:
+        raise ValueError(f"{text!r} in place of {lines}")
+    return text
+
+
+def fact(told, commands):
     """The line of a fact."""
-    rule, before, after, *more = named(told, "rule", *FACTS[told["rule"]])
-    if rule == "nobody":
-        lba, reader = more
-        if (before, after) != (None, None):
-            raise ValueError("a fact of nobody puts something before something")
-        return f"{piece(reader)} found in LBA {lba} what nobody can have left there"
-    before, after = piece(before), piece(after)
-    order = f"{before} stands before {after}: "
-    if rule == "time":
-        ended, began = more
-        return f"{order}it had ended at {time(ended)}, and {after} began at {time(began)}"
-    lba = more[0]
-    if rule == "source":
-        return f"{order}only {before} can have put what {after} found in LBA {lba}"
-    if rule == "over":
-        return f"{order}{after} put something in LBA {lba} after {piece(more[1])}, whose data {before} found there"
-    if rule == "under":
-        reader = piece(more[1])
-        return f"{order}{before} put something in LBA {lba}, stands before {reader}, and {reader} found {after}'s data there"
-    return f"{order}{before} found the zeroes there that were in LBA {lba} at first, and nobody can have left zeroes there"
+    rule, *values, text = named(told, "fact", *MEMBERS[told["fact"]], "text")
+    members = dict(zip(MEMBERS[rule], values))
+    said = words(members)
+    if rule == "at first":
+        return held(text, "{reader} found in LBA {lba} what was there at first: nobody else can have left that".format(**said))
+    if rule == "own":
+        if text != "{before}'s Compare comes before its Write in LBA {lba}".format(**said) or members["before"] != members["after"]:
+            raise ValueError(text)
+        return text
+    said.update(ended=time(commands[members["before"]]["ended"]), began=commands[members["after"]]["began"])
+    order = "{before} comes before {after}".format(**said) + (f" in LBA {members['lba']}" if "lba" in members else "")
+    return held(text, *(f"{order}: {it.format(**said)}" for it in (SAYS[rule], *((FIRST_UNKNOWN,) if rule == "first" else ()))))
+
+
+def conclusion(told):
+    names, line = CONCLUSIONS[told["conclusion"]]
+    _, *values, text = named(told, "conclusion", *names, "text")
+    return held(text, line.format(**words(dict(zip(names, values)))))
 
 
 def text_of(printed):
@@ -93,19 +103,13 @@ def text_of(printed):
         raise ValueError("the object isn't one line")
     told = json.loads(printed)
     verdict = told.pop("verdict")
-    if "records" in told:
-        known = RECORDS[told.pop("records")]
-        return f"explained{numbers(told, ORDERED)}\n{known}\n"
     if verdict == "explained":
-        return f"explained{numbers(told, EXPLAINED)}\n"
+        return f"explained{numbers(told, ('jobs', 'points', *PROFILE))}\n"
     if verdict == "unknown":
         why = told.pop("why")
-        if "piece" in told:
-            named(told, "piece")
-            return f"unknown {piece(told['piece'])}\n{UNSHOWN}\n" if why == "no record" else why
-        return f"unknown{numbers(told, {'no order': REACHED, 'no record': ()}[why])}\n{WHY[why]}\n"
-    unit, commands, facts, itself = named(told, "unit", "commands", "facts", "itself")
-    lines = [f"{verdict} unit {unit} commands {len(commands)}", *map(command, commands), *map(fact, facts)]
-    if itself is not None:
-        lines.append(f"so {piece(itself)} stands before itself")
+        return f"unknown{numbers(told, PROFILE)}\n{why}\n"
+    reads, deallocated, commands, facts, concluded = named(told, *PROFILE, "commands", "facts", "conclusion")
+    by_number = {it["job"]: it for it in commands}
+    lines = [f"{verdict} commands {len(commands)} reads {reads} deallocated {deallocated}", *map(command, commands)]
+    lines += [*(fact(it, by_number) for it in facts), conclusion(concluded)]
     return "".join(f"{line}\n" for line in lines)

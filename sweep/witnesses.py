@@ -86,6 +86,7 @@ def explained(kept):
     differs = with_seen(TRACE, 1, data=b"\x42" * 512)
     reply = "ReplyDiffers: what the record shows of the job isn't what its host saw.\n"
     back = with_seen(TRACE, 2, began=1, ended=2)
+    cut_contradiction = kept("cut-contradiction.nve", NOBODY[:-1])
     late = "TimeBack: the job had ended before one began that stands before it in the unit.\n"
 
     def told_of(name, trace, out, rounds=1):
@@ -108,6 +109,15 @@ def explained(kept):
             ["explain", kept("keeping.nvt", spelled(KEEPING)), kept("keeping.nve", ORDER)],
             out=f"{ORDERED}position 0 point 0 lba 0 blocks 1 job 0 puts 512*41\nposition 1 point 2 lba 0 blocks 1 job 2 finds 512*41\n",
         ),
+        Run(
+            "a trace and a contradiction",
+            "nvq",
+            ["explain", kept("stale.nvt", spelled(STALE)), kept("stale.nve", STALE_FIRST)],
+            out=f"refuted commands 2 facts 2 {PROFILE}\njob 0 {line_of(STALE, 0)}job 2 {line_of(STALE, 2)}"
+            "job 2 comes before job 0 in LBA 0: job 2 found the zeroes there that were in LBA 0 at first, and nobody can have left zeroes there\n"
+            "job 0 comes before job 2: it had ended at 2, and job 2 began at 5\nso job 0 comes before itself\n",
+        ),
+        Run("a cut contradiction to explain", "nvq", ["explain", kept("stale.nvt", spelled(STALE)), cut_contradiction], 1, err=f"nvq: {cut_contradiction}: truncated at {len(NOBODY) - 8}\n"),
         Run("standard input named twice to explain", "nvq", ["explain", "-", "-"], 1, err="nvq: standard input is named twice\n"),
     ]
 
@@ -149,14 +159,21 @@ def on_a_block(*steps, **more):
     return Trace(space, tuple(seen), **more)
 
 
-# The second Read's writer is a block's last one, and the first found what was there before both.
+# A Read found the first zeroes after two Writes.
 STALE = on_a_block((1, 2, write(0, 1), None), (3, 4, write(0, 2), None), (5, 6, read(0, 1), 0), (7, 8, read(0, 1), 2))
+# A contradiction of it: the Read comes before the first Write, which had ended when it began.
+STALE_FIRST = bytes.fromhex("4e564531 020002 00 0200000000000000 06 02000000 00000000 00000000 00 00000000 00000000 02000000 00000000")
 # Of three Writes at once two leave the same.
 TWICE = on_a_block(*((1, 10, write(0, it), None) for it in (1, 2, 1)), (11, 12, read(0, 1), 2), (13, 14, read(0, 1), 1), (15, 16, read(0, 1), 2))
-# What was there first isn't known, and can't have been both.
-UNSETTLED = on_a_block((1, 2, read(0, 1), 1), (3, 4, read(0, 1), 2), unknown=True)
+# What a Deallocate left was found to be two things, of which no rule of a contradiction speaks.
+UNSETTLED = on_a_block((1, 2, write(0, 1), None), (3, 4, dataset((0, 1)), None), (5, 6, read(0, 1), 0), (7, 8, read(0, 1), 0xFF))
 
-# A device that keeps what it deallocates: an order explains it, and no record does. The order is that of docs/FORMATS.md.
+# The order of what was seen in turn.
+RIGHT_ORDER = bytes.fromhex(
+    "4e564531 010002 0000000000000000 0500000000000000 00000000 00000000 01000000 00 01000000 00000000 01000000 00 02000000 00000000 01000000 00"
+    "03000000 09000000 02000000 00 04000000 07000000 02000000 00"
+)
+# A device that keeps what it deallocates, and the order of docs/FORMATS.md.
 KEEPING = on_a_block((1, 2, write(0, 0x41), None), (3, 4, dataset((0, 1)), None), (5, 6, read(0, 1), 0x41))
 ORDER = bytes.fromhex("4e564531 010002 0000000000000000 0200000000000000 00000000 00000000 01000000 00 02000000 00000000 01000000 00")
 ORDERED = "explained jobs 3 points 2 reads atomic deallocated either\n"
@@ -179,7 +196,7 @@ def certified(kept):
     wrong, missing = with_seen(TRACE, 1, data=b"\x43" * 512), kept("certified.nvt", spelled(TRACE)) + "-missing"
     right, cut = kept("certified.nvt", spelled(TRACE)), kept("cut-to-certify.nvt", spelled(TRACE)[:-1])
     not_explained = kept("not-explained.nvt", spelled(wrong))
-    explained = f"explained jobs 5 points 6 {PROFILE}\n"
+    explained = f"explained jobs 5 points 5 {PROFILE}\n"
     contradiction = f"contradiction commands 1 {PROFILE}\njob 1 {line_of(wrong, 1)}job 1 found in LBA 0 what nobody can have left there\n"
     contradiction_object = (
         f'{{"verdict":"contradiction","reads":"atomic","deallocated":"either","commands":[{{"job":1,"began":{wrong.jobs[1].began},"ended":{wrong.jobs[1].ended},"host":1,'
@@ -187,10 +204,22 @@ def certified(kept):
         '"conclusion":{"conclusion":"nobody","reader":1,"lba":0,"text":"job 1 found in LBA 0 what nobody can have left there"}}\n'
     )
     unsettled = f"unknown {PROFILE}\nneither an order of its points nor a contradiction was found: a higher --effort may find one\n"
+    unsettled_object = (
+        '{"verdict":"unknown","reads":"atomic","deallocated":"either",'
+        '"why":"neither an order of its points nor a contradiction was found: a higher --effort may find one"}\n'
+    )
     stale = (
-        f"contradiction commands 2 {PROFILE}\njob 0 {line_of(STALE, 0)}job 2 {line_of(STALE, 2)}"
-        "job 2 comes before job 0 in LBA 0: job 2 found the zeroes there that were in LBA 0 at first, and nobody can have left zeroes there\n"
-        "job 0 comes before job 2: it had ended at 2, and job 2 began at 5\nso job 0 comes before itself\n"
+        f"contradiction commands 2 {PROFILE}\njob 1 {line_of(STALE, 1)}job 2 {line_of(STALE, 2)}"
+        "job 1 comes before job 2: it had ended at 4, and job 2 began at 5\njob 2 found in LBA 0 what nobody can have left there\n"
+    )
+    twice = (
+        f"contradiction commands 5 {PROFILE}\n{''.join(f'job {it} {line_of(TWICE, it)}' for it in range(5))}"
+        "job 1 comes before job 4: it had ended at 10, and job 4 began at 13\n"
+        "job 2 comes before job 3: it had ended at 10, and job 3 began at 11\n"
+        "job 0 comes before job 3: it had ended at 10, and job 3 began at 11\n"
+        "job 0 comes before job 1 in LBA 0: job 0 put something there, comes before job 3, and job 3 found job 1's data\n"
+        "job 2 comes before job 1 in LBA 0: job 2 put something there, comes before job 3, and job 3 found job 1's data\n"
+        "job 4 found in LBA 0 what nobody can have left there\n"
     )
     keeping, odd = kept("keeping.nvt", spelled(KEEPING)), kept("odd.nvt", spelled(odd_reply()))
     ordered_object = '{"verdict":"explained","jobs":3,"points":2,"reads":"atomic","deallocated":"either"}\n'

@@ -20,7 +20,7 @@ _nvmu() {
         valued=""
         ;;
     refute)
-        options="--strict -h --help"
+        options="-h --help"
         valued=""
         ;;
     esac

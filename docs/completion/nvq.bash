@@ -36,8 +36,8 @@ _nvq() {
         valued=""
         ;;
     certify)
-        options="--record --argument --effort --reads --deallocated --strict --json -h --help"
-        valued="--record --argument --effort --reads --deallocated"
+        options="--evidence --effort --reads --deallocated --json -h --help"
+        valued="--evidence --effort --reads --deallocated"
         ;;
     explain)
         options="--strict -h --help"
