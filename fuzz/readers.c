@@ -1,4 +1,4 @@
-/* What nvq does with foreign bytes: host files, records, traces and arguments (`files`), lists of commands (`lists`), traces as text (`texts`), and traces of devices whose commands,
+/* What nvq does with foreign bytes: host files, records, traces and evidence (`files`), lists of commands (`lists`), traces as text (`texts`), and traces of devices whose commands,
  * times and lies an input chooses (`devices`). The program's own name says which of them. Held is what docs/FORMATS.md says of any bytes: which statuses end a call, that a fault prints
  * nothing, which files are there afterwards, and that what is listed and read again is the same; and that no device is contradicted that did each command at once. */
 #include <stdio.h>
@@ -10,10 +10,22 @@
 
 /* Exit statuses, as bits. */
 enum { RIGHT = 1, FAULT = 2, WRONG = 4, UNKNOWN = 8 };
-/* What the first byte of an input asks for. */
-enum { LARGE_BLOCKS = 1, STRICT = 2, SMALL_LIMIT = 4 };
+/* What the first byte of an input asks for, and at which of its bits begins what a device is held to. */
+enum { LARGE_BLOCKS = 1, SMALL_LIMIT = 4, READS = 3, DEALLOCATED = 5 };
 
 static const char effort[] = "300";
+
+/* What a device is held to, as words of the command line. An empty one is left out. */
+struct profile {
+    const char *reads, *deallocated;
+};
+
+static struct profile profile_of(uint8_t asked)
+{
+    static const char *const reads[] = { "", "--reads=atomic-all", "--reads=whole", "--reads=by-blocks" };
+    static const char *const deallocated[] = { "", "--deallocated=zeroes", "--deallocated=ones", "--deallocated=either" };
+    return (struct profile) { reads[asked >> READS & 3], deallocated[asked >> DEALLOCATED & 3] };
+}
 
 /* A copy of what was printed last. */
 struct text {
@@ -59,41 +71,38 @@ static bool is_same_file(const char *name, const uint8_t *bytes, size_t size)
     return file && file->size == size && (size == 0 || memcmp(file->bytes, bytes, size) == 0);
 }
 
-static bool is_order(const char *name)
-{
-    struct file *file = file_of(name);
-    return file && file->size >= 4 && memcmp(file->bytes, "NVE1", 4) == 0;
-}
-
-/* The text's first line, without its end. */
-static struct text first_line(struct text text)
+/* What comes after the text's first line. */
+static struct text after_first_line(struct text text)
 {
     const char *end = memchr(text.bytes, '\n', text.size);
-    return (struct text) { text.bytes, end ? (size_t) (end - text.bytes) : text.size };
+    size_t skipped = end ? (size_t) (end - text.bytes) + 1 : text.size;
+    return (struct text) { text.bytes + skipped, text.size - skipped };
 }
 
-/* The trace in the file `in`, judged: the same twice, and with the files that go with its verdict. It gives the status of that. */
-static int certify(const char *strict)
+/* Whether what was printed is a line and then this text. */
+static bool is_line_and(struct ended ended, struct text text)
 {
-    remove_file("record");
-    remove_file("argument");
-    struct ended ended = RAN(RIGHT | FAULT | WRONG | UNKNOWN, "certify", "--record", "record", "--argument", "argument", "--effort", effort, strict, "in");
+    const char *end = memchr(ended.out, '\n', ended.out_size);
+    size_t skipped = end ? (size_t) (end - ended.out) + 1 : ended.out_size;
+    return ended.out_size - skipped == text.size && memcmp(ended.out + skipped, text.bytes, text.size) == 0;
+}
+
+/* The trace in the file `in`, judged: the same twice, and with the evidence that goes with its verdict. It gives the status of that. */
+static int certify(struct profile profile)
+{
+    remove_file("evidence");
+    struct ended ended = RAN(RIGHT | FAULT | WRONG | UNKNOWN, "certify", "--evidence", "evidence", "--effort", effort, profile.reads, profile.deallocated, "in");
     int status = ended.status;
     struct text verdict = copied(ended);
-    bool is_of_reply = strncmp(verdict.bytes, "contradiction job ", 18) == 0;
-    hold(!!file_of("record") == (status == 0), "a record or an order is there exactly where one explains the trace");
-    hold(!!file_of("argument") == (status == 2 && !is_of_reply), "an argument is there exactly where a contradiction isn't a reply alone");
-    if (status == 0 && is_order("record")) {
-        hold(!*strict, "no order is looked for strictly");
-        hold(begins(RAN(RIGHT, "explain", "in", "record"), first_line(verdict)), "an order is told as certify says");
-    } else if (status == 0) {
-        hold(is_same(verdict, RAN(RIGHT, "witness", strict, "in", "record")), "a witness is judged as certify says");
-        RAN(RIGHT, "audit", "record");
-        RAN(RIGHT, "explain", strict, "in", "record");
-    }
+    bool is_contradiction = status == 2 && strncmp(verdict.bytes, "contradiction job ", 18) != 0;
+    hold(!!file_of("evidence") == (status == 0 || is_contradiction), "evidence is there exactly where an order or a contradiction is");
+    if (status == 0)
+        hold(begins(RAN(RIGHT, "explain", "in", "evidence"), verdict), "an order is told as certify says");
+    if (is_contradiction)
+        hold(is_line_and(RAN(RIGHT, "explain", "in", "evidence"), after_first_line(verdict)), "a contradiction is told as certify says");
     if (status != 1) {
-        hold(is_same(verdict, RAN(1 << status, "certify", "--effort", effort, strict, "in")), "certify says the same twice");
-        struct ended json = RAN(1 << status, "certify", "--json", "--effort", effort, strict, "in");
+        hold(is_same(verdict, RAN(1 << status, "certify", "--effort", effort, profile.reads, profile.deallocated, "in")), "certify says the same twice");
+        struct ended json = RAN(1 << status, "certify", "--json", "--effort", effort, profile.reads, profile.deallocated, "in");
         hold(json.out_size > 2 && json.out[0] == '{' && json.out[json.out_size - 1] == '\n', "a verdict is an object on a line");
     }
     free(verdict.bytes);
@@ -113,7 +122,7 @@ static void judge_record(void)
     free(verdict.bytes);
 }
 
-static void read_file(const char *block, const char *strict)
+static void read_file(const char *block, struct profile profile)
 {
     struct ended ended = RAN(RIGHT | FAULT, "list", "--block", block, "in");
     struct file *in = file_of("in");
@@ -135,7 +144,7 @@ static void read_file(const char *block, const char *strict)
         RAN(FAULT, "audit", "in");
         RAN(FAULT, "explain", "in");
     }
-    certify(strict);
+    certify(profile);
 }
 
 static void read_list(const char *block, const char *limit)
@@ -165,7 +174,7 @@ static void read_list(const char *block, const char *limit)
 }
 
 /* The status of the verdict on the trace that the text in the file `in` is of. */
-static int read_text(const char *strict)
+static int read_text(struct profile profile)
 {
     struct ended ended = RAN(RIGHT | FAULT, "trace", "in", "made");
     hold(!!file_of("made") == (ended.status == 0), "a trace is there exactly where the text is one");
@@ -178,7 +187,7 @@ static int read_text(const char *strict)
     struct file *made = file_of("made");
     hold(is_same_file("again", made->bytes, made->size), "a trace that is listed and made again is the same");
     put_file("in", made->bytes, made->size);
-    return certify(strict);
+    return certify(profile);
 }
 
 enum { BLOCKS = 16, UNIT = 8, LONGEST = 4, MOST_JOBS = 48, JOB_BYTES = 5 };
@@ -257,8 +266,8 @@ static void do_job(struct device *device, unsigned number, uint64_t now, const u
     }
 }
 
-/* A trace of a device. It is right where the input's second byte is even, and then nothing may contradict it. */
-static void judge_device(const uint8_t *in, size_t size, const char *strict)
+/* A trace of a device. It is right where the input's second byte is even, and then nothing may contradict it, unless it is held to leave FFh where it deallocates. */
+static void judge_device(const uint8_t *in, size_t size, struct profile profile)
 {
     struct device device = { 0 };
     char *text = NULL;
@@ -279,9 +288,9 @@ static void judge_device(const uint8_t *in, size_t size, const char *strict)
     fclose(device.text);
     put_file("in", text, length);
     free(text);
-    int status = read_text(strict);
+    int status = read_text(profile);
     hold(status != 1, "a device's trace is one");
-    hold(!is_right || status != 2, "a device that did each command at once is not contradicted");
+    hold(!is_right || status != 2 || strcmp(profile.deallocated, "--deallocated=ones") == 0, "a device that did each command at once is not contradicted");
 }
 
 static const char *target;
@@ -298,22 +307,23 @@ int LLVMFuzzerTestOneInput(const uint8_t *bytes, size_t size)
 {
     if (size < 1)
         return 0;
-    const char *block = bytes[0] & LARGE_BLOCKS ? "4096" : "512", *strict = bytes[0] & STRICT ? "--strict" : "", *limit = bytes[0] & SMALL_LIMIT ? "2" : "4096";
+    const char *block = bytes[0] & LARGE_BLOCKS ? "4096" : "512", *limit = bytes[0] & SMALL_LIMIT ? "2" : "4096";
+    struct profile profile = profile_of(bytes[0]);
     size_t length;
     uint8_t *in = expanded(bytes + 1, size - 1, &length);
     put_file("in", in, length);
     if (strcmp(target, "devices") == 0)
-        judge_device(in, length, strict);
+        judge_device(in, length, profile);
     else if (strcmp(target, "files") == 0)
-        read_file(block, strict);
+        read_file(block, profile);
     else if (strcmp(target, "lists") == 0)
         read_list(block, limit);
     else if (strcmp(target, "texts") == 0)
-        read_text(strict);
+        read_text(profile);
     else
         hold(false, "the target is files, lists, texts or devices");
     free(in);
-    for (const char *name = "in\0made\0again\0text\0record\0argument\0"; *name; name += strlen(name) + 1)
+    for (const char *name = "in\0made\0again\0text\0record\0evidence\0"; *name; name += strlen(name) + 1)
         remove_file(name);
     static const struct file none[MOST_FILES];
     hold(memcmp(all_files(), none, sizeof none) == 0, "nothing else is left");

@@ -9,7 +9,7 @@ FUZZ = os.path.dirname(os.path.realpath(__file__))
 TOP = os.path.dirname(FUZZ)
 sys.path[:0] = [f"{TOP}/examples", f"{TOP}/sweep"]
 
-import arguments
+import contradictions
 import traces
 from host_files import mixed
 from records import Record
@@ -18,7 +18,7 @@ from trace_files import Trace, in_turn, text_of
 from trace_files import spelled as trace_bytes
 
 # What the first byte of an input asks for: of a reader, and of a judge.
-PLAIN, STRICT = 0, 2
+PLAIN, BY_BLOCKS = 0, 3 << 3
 AUDIT, WITNESS, REFUTE = 0, 2, 4
 STRICTLY = 1
 
@@ -36,7 +36,7 @@ def packed(data):
 
 def of_kind(kind):
     """The values of this kind that the tables have."""
-    return [it for table in (traces, arguments) for it in vars(table).values() if isinstance(it, kind)]
+    return [it for table in (traces, contradictions) for it in vars(table).values() if isinstance(it, kind)]
 
 
 def two(first, second):
@@ -52,13 +52,13 @@ def kept(pattern):
 def seeds():
     """The inputs of each target."""
     records, seen = of_kind(Record), of_kind(Trace)
-    texts = [text_of(it).encode() for it in seen] + [it.encode() for it in vars(arguments).values() if isinstance(it, str) and it.startswith("trace ")]
+    texts = [text_of(it).encode() for it in seen] + [it.encode() for it in vars(contradictions).values() if isinstance(it, str) and it.startswith("trace ")]
     hosts = [mixed(number, 4 * number, 16) for number in range(4)] + [*kept("*.nvq")]
     files = [*map(record_bytes, records), *map(trace_bytes, seen), *hosts]
-    refuting = [arguments.NOBODY, arguments.PAIR, *(it for it, _ in arguments.STALE)]
+    refuting = [contradictions.NOBODY, contradictions.PAIR, *(it for it, _ in contradictions.STALE), *(it for _, it, *_ in contradictions.RULES)]
     trace_files = [*map(trace_bytes, seen)]
-    yield "files", [bytes([how]) + packed(it) for it in files for how in (PLAIN, STRICT)]
-    yield "texts", [bytes([how]) + packed(it) for it in texts for how in (PLAIN, STRICT)]
+    yield "files", [bytes([how]) + packed(it) for it in files for how in (PLAIN, BY_BLOCKS)]
+    yield "texts", [bytes([how]) + packed(it) for it in texts for how in (PLAIN, BY_BLOCKS)]
     yield "lists", [bytes([PLAIN]) + packed(it) for it in kept("*.list")]
     judged = [bytes([AUDIT]) + packed(record_bytes(it)) for it in records]
     judged += [bytes([WITNESS | STRICTLY]) + packed(two(trace_bytes(in_turn(it)), record_bytes(it))) for it in records if all(job in {done.job for jobs in it.done for done in jobs} for job in range(len(it.jobs)))]

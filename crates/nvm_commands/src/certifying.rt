@@ -205,11 +205,7 @@ fn by_reply(
 }
 
 /// That neither an order nor a contradiction was found.
-fn by_nothing(
-    alloc: Global,
-    telling: Telling,
-    profile: Profile,
-) -> Result<CertifiedTrace, NoMemory>
+fn by_nothing(alloc: Global, telling: Telling, profile: Profile) -> Result<CertifiedTrace, NoMemory>
     ensures { (t : TraceView) → IfOk result (IsToldOf t) }
 {
     let text = match telling {

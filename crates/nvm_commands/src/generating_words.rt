@@ -113,12 +113,7 @@ pub fn generate_command<'a>(alloc: Global) -> Result<Command<'a>, Error> {
         .arg(weight(alloc, "pair", "10", "Weight of fused Compares and Writes"))?
         .arg(weight(alloc, "zeroes", "3", "Weight of Write Zeroes"))?
         .arg(weight(alloc, "uncorrectable", "0", "Weight of Write Uncorrectable"))?
-        .arg(weight(
-            alloc,
-            "deallocate",
-            "0",
-            "Weight of Deallocates",
-        ))?;
+        .arg(weight(alloc, "deallocate", "0", "Weight of Deallocates"))?;
     Ok(command.arg(outs)?)
 }
 

@@ -5,7 +5,7 @@ use Rattle.nvm_audit.specs.declared.audit_fault.AuditFault.{AuditFault}
 use Rattle.nvm_audit.specs.declared.verdict.Verdict.{Verdict}
 use Rattle.nvm_engine.specs.Judged.{IsJudged, IsUnreadFault}
 use Rattle.nvm_engine.specs.Witnessed.{IsUnwitnessedFault}
-use Rattle.nvm_evidence.specs.Refuted.{IsRefutedFile, IsContradictionFault}
+use Rattle.nvm_evidence.specs.Refuted.{IsRefutedFile, IsRefuteFault as IsFaultOfBytes}
 use Rattle.nvm_evidence.specs.Witnessed.{IsOrderFault}
 use Rattle.nvm_evidence.specs.declared.refuted.Refuted.{Refuted}
 use Rattle.nvm_commands.specs.Nvmu.Files.{IsReadFault}
@@ -25,7 +25,7 @@ IsWitnessFault seen held fault = ⊥
 
 -- It is the first fault of exactly these bytes as a trace, or one of the contradiction's.
 abbrev pub IsRefuteFault : List ℕ → Fault → Type 0
-IsRefuteFault seen (Refute fault) = IsContradictionFault seen fault
+IsRefuteFault seen (Refute fault) = IsFaultOfBytes seen fault
 IsRefuteFault seen fault = ⊥
 
 -- It is the answer of an audit of a file's bytes.
