@@ -22,7 +22,7 @@ PAIR_TEXT = """trace nsze 32 block 512 nabsn 7 nabo 0 nawun 7 nacwu 3 first 0 st
 10 20 1 1 compare 4 4 00 first + 2 write 4 4 55 second = 0/00 0/00
 21 30 1 3 read 7 2 = 0/00 1024*00
 """
-PAIR = bytes.fromhex("4e564531 02 00 02 00 0200000000000000 06 01000000 00000000 07000000 00 00000000 04000000 01000000 07000000")
+PAIR = bytes.fromhex("4e564531 02 00 02 01 01000000 07000000 0100000000000000 00 00000000 04000000 01000000 07000000")
 ATOMIC, BY_BLOCKS = b"\0", b"\3"
 LOOP = b"\0"
 
@@ -312,8 +312,8 @@ def judged_by_rules(run, text, file, said, lines=""):
 def contradictions_changed(run):
     """No front of a file is one, nor what is longer. A file of which one byte is another refutes no trace that is explained."""
     trace_of(run, "pair.nvt", PAIR_TEXT)
-    run.keep("pair.nve", PAIR)
-    run.expect(["nvmu", "refute", "pair.nvt", "pair.nve"], out=f"refuted commands 2 facts 2 {PROFILE}\n")
+    run.expect(["nvq", "certify", "--json", "--evidence", "pair.nve", "pair.nvt"], 2, out=run.SOME, files={"pair.nve": PAIR})
+    run.expect(["nvmu", "refute", "pair.nvt", "pair.nve"], out=f"refuted commands 2 facts 1 {PROFILE}\n")
     for length in range(len(EACH)):
         run.keep("it", EACH[:length])
         fault = f"truncated at {max(at for at in FIELDS if at <= length)}" if length >= 4 else "bad name"

@@ -292,7 +292,12 @@ CONTRADICTION_OBJECT = (
     '{"verdict":"contradiction","reads":"atomic","deallocated":"either","commands":[{"job":2,"began":30,"ended":35,"host":1,"sent":[{"cid":2,"command":"read 0 1"}],'
     '"statuses":["0/00"],"data":"512*43"}],"facts":[],"conclusion":{"conclusion":"nobody","lba":0,"reader":2,"text":"job 2 found in LBA 0 what nobody can have left there"}}\n'
 )
-PAIR_OBJECT = "?"
+PAIR_OBJECT = (
+    '{"verdict":"contradiction","reads":"atomic","deallocated":"either","commands":[{"job":0,"began":10,"ended":20,"host":1,"sent":[{"cid":1,"command":"compare 4 4 2048*00 first"},'
+    '{"cid":2,"command":"write 4 4 2048*55 second"}],"statuses":["0/00","0/00"],"data":null},{"job":1,"began":21,"ended":30,"host":1,'
+    '"sent":[{"cid":3,"command":"read 7 2"}],"statuses":["0/00"],"data":"1024*00"}],"facts":[{"fact":"time","before":0,"after":1,"text":"job 0 comes before job 1: it had ended at 20, and job 1 began at 21"}],'
+    '"conclusion":{"conclusion":"nobody","lba":7,"reader":1,"text":"job 1 found in LBA 7 what nobody can have left there"}}\n'
+)
 # What should be a trace, its fault, and what helps.
 NO_TRACES = [
     (b"", "bad name", "it is empty, and a trace begins with NVT1"),

@@ -27,7 +27,7 @@ REPORTS = [
     ("nvq certify own.nvt", 0, [("certify own.nvt", None, "")]),
     ("nvq certify --evidence wrong.nve wrong.nvt", 2, [("certify wrong.nvt", "failure", "contradiction commands 2 ")]),
     ("nvmu refute wrong.nvt wrong.nve", 0, [("refute wrong.nvt", None, "")]),
-    ("nvmu refute own.nvt wrong.nve", 2, [("refute own.nvt", "failure", "unrefuted FactWrong fact 0")]),
+    ("nvmu refute own.nvt wrong.nve", 2, [("refute own.nvt", "failure", "unrefuted NothingContradicted fact -")]),
     ("nvq audit missing.nvr", 1, [("audit missing.nvr", "error", "nvq: ")]),
     (f"nvq {RUN} own.txt", 1, [(f"{RUN} own.txt", "error", "nvq: ")]),
 ]

@@ -201,7 +201,7 @@ def certified(kept):
     contradiction_object = (
         f'{{"verdict":"contradiction","reads":"atomic","deallocated":"either","commands":[{{"job":1,"began":{wrong.jobs[1].began},"ended":{wrong.jobs[1].ended},"host":1,'
         '"sent":[{"cid":2,"command":"read 0 1"}],"statuses":["0/00"],"data":"512*43"}],"facts":[],'
-        '"conclusion":{"conclusion":"nobody","reader":1,"lba":0,"text":"job 1 found in LBA 0 what nobody can have left there"}}\n'
+        '"conclusion":{"conclusion":"nobody","lba":0,"reader":1,"text":"job 1 found in LBA 0 what nobody can have left there"}}\n'
     )
     unsettled = f"unknown {PROFILE}\nneither an order of its points nor a contradiction was found: a higher --effort may find one\n"
     unsettled_object = (
