@@ -28,7 +28,7 @@ use std::alloc::Global;
 use std::rt::Files;
 
 /// What was found out about a trace, held to a profile.
-#[derive(Clone, Copy, Debug, PartialEq, Eq)]
+#[derive(Clone, Copy)]
 pub enum Finding {
     /// An order explains it.
     Explained { profile: Profile },

@@ -104,8 +104,8 @@ fn answer_to<R: AllocGlobal + Files + Input + Print + Eprint + Threads + Wait + 
             trace,
             contradiction,
         } => {
-            let refuted = refuted(rt, trace.as_str(), contradiction.as_str(), progress)?;
-            Ok(Answer::Refuted(refuted))
+            let answer = refuted(rt, trace.as_str(), contradiction.as_str(), progress)?;
+            Ok(Answer::Refuted(answer))
         }
     }
 }
