@@ -5,6 +5,7 @@ use crate::output::Output;
 use crate::progress::Progress;
 use nvm_audit::Record;
 use nvm_file::write_record;
+use std::alloc::Global;
 use std::fs::{Metadata, OpenFile};
 use std::io::{ErrorKind, Read, Write};
 use std::os::unix::fs::MetadataExt;
@@ -20,6 +21,10 @@ const INPUT: &str = "/dev/stdin";
 
 /// How many bytes a file is read by at a time.
 const CHUNK: usize = 65_536;
+/// How many of its first bytes tell what it is, and by how many they are read.
+const FRONT: usize = 4;
+
+const PAGE: usize = 4_096;
 
 /// Why a file or a standard stream wasn't read, or wasn't written.
 #[derive(Clone, Copy, Debug, PartialEq, Eq)]
@@ -39,17 +44,43 @@ impl From<io::Error> for FileFault {
     }
 }
 
-/// The bytes of the file at a path, or of standard input where the path is `-`. How far it is, is shown of a file.
+/// What is read: a file of ours, or text.
+#[derive(Clone, Copy, Debug, PartialEq, Eq)]
+pub enum InputKind {
+    File,
+    Text,
+}
+
+impl InputKind {
+    /// Whether what begins so can be read: a file of ours begins with `NV`, and text with a letter, a sign, or a blank.
+    fn can_begin(self, front: &[u8]) -> bool {
+        if front.len() < FRONT {
+            return true;
+        }
+        match self {
+            InputKind::File => front.starts_with(b"NV"),
+            InputKind::Text => front[0].is_ascii_graphic() || front[0].is_ascii_whitespace(),
+        }
+    }
+}
+
+/// The bytes of the file at a path, or of standard input where the path is `-`. How far it is, is shown of a file. Of what can't
+/// be what is expected only the front is read, so that what never ends, as `/dev/zero`, is refused by that.
 pub fn read_input<R: Files + AllocGlobal + Input + Eprint>(
     rt: &R,
+    kind: InputKind,
     path: &str,
     progress: &Progress<'_, R>,
 ) -> Result<Vec<u8>, FileFault> {
     if path != STANDARD {
-        return Ok(bytes_of(rt, path, progress)?);
+        return Ok(bytes_of(rt, kind, path, progress)?);
     }
     let mut bytes = Vec::new(rt.alloc());
-    rt.reader().read_to_end(&mut bytes)?;
+    let mut input = rt.reader();
+    push_front(rt.alloc(), &mut input, &mut bytes)?;
+    if kind.can_begin(&bytes) {
+        input.read_to_end(&mut bytes)?;
+    }
     Ok(bytes)
 }
 
@@ -57,15 +88,39 @@ pub fn read_input<R: Files + AllocGlobal + Input + Eprint>(
 /// read that meets the end.
 fn bytes_of<R: Files + AllocGlobal + Eprint>(
     rt: &R,
+    kind: InputKind,
     path: &str,
     progress: &Progress<'_, R>,
 ) -> io::Result<Vec<u8>> {
     let mut file = fs::open(rt, path)?;
     let length = file.metadata()?.len() as usize;
-    let mut bytes = Vec::with_capacity(rt.alloc(), length.saturating_add(1))?;
+    let mut bytes = Vec::new(rt.alloc());
+    push_front(rt.alloc(), &mut file, &mut bytes)?;
+    if !kind.can_begin(&bytes) {
+        return Ok(bytes);
+    }
+    bytes.reserve_exact(length.saturating_add(1).saturating_sub(bytes.len()))?;
     push_chunks(rt, &mut file, length, &mut bytes, progress)?;
     file.read_to_end(&mut bytes)?;
     Ok(bytes)
+}
+
+/// Appends what comes first, up to a page: at least as much as tells what it is, unless it ends before.
+fn push_front<F: Read>(alloc: Global, file: &mut F, bytes: &mut Vec<u8>) -> io::Result<()> {
+    let mut page = Vec::new(alloc);
+    page.resize(PAGE, 0)?;
+    for _ in 0..FRONT {
+        match file.read(&mut page) {
+            Ok(0) => return Ok(()),
+            Ok(count) => bytes.extend_from_slice(&page[..count])?,
+            Err(error) if error.kind() == ErrorKind::Interrupted => return Ok(()),
+            Err(error) => return Err(error),
+        }
+        if bytes.len() >= FRONT {
+            return Ok(());
+        }
+    }
+    Ok(())
 }
 
 /// Appends what the file gives in as many reads as its length calls for. Each goes through one chunk, since
@@ -80,7 +135,7 @@ fn push_chunks<R: AllocGlobal + Eprint, F: Read>(
 ) -> io::Result<()> {
     let mut chunk = Vec::new(rt.alloc());
     chunk.resize(length.min(CHUNK), 0)?;
-    for _ in 0..length.div_ceil(CHUNK) {
+    for _ in 0..length.saturating_sub(bytes.len()).div_ceil(CHUNK) {
         match file.read(&mut chunk) {
             Ok(0) => return Ok(()),
             Ok(count) => {

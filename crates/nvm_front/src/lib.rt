@@ -21,7 +21,8 @@ mod words;
 pub use arguments::{file_argument, file_arguments, flag, path_given, path_option};
 pub use failure::failed;
 pub use files::{
-    FileFault, STANDARD, is_input, is_one_output, is_output, is_read, read_input, write, write_run,
+    FileFault, InputKind, STANDARD, is_input, is_one_output, is_output, is_read, read_input, write,
+    write_run,
 };
 pub use judging_words::{
     AuditWords, Telling, WitnessWords, audit_command, json, judging_of, read_audit, read_witness,
