@@ -15,7 +15,7 @@ use crate::read_list::split_list;
 use crate::running::run_lists;
 use crate::tracing::run_trace;
 use crate::words::{Asked, read_words};
-use nvm_front::{Progress, WordFault, failed, tell, texts_of, words_given};
+use nvm_front::{InputKind, Progress, WordFault, failed, tell, texts_of, words_given};
 use nvm_record::{BlockSize, Payload};
 use std::rt::{Env, Files};
 use std::sync::Wait;
@@ -98,7 +98,7 @@ fn run_assemble<R: AllocGlobal + Files + Input + Print + Eprint>(
     ensures { IfErr result (λ failure. IsAssemblingFault size list.now out.now failure.fault) }
 {
     check_output(rt, out, list, "it is the list")?;
-    let text = bytes_of(rt, list, progress)?;
+    let text = bytes_of(rt, InputKind::Text, list, progress)?;
     let split = split_list(rt.alloc(), list, &text)?;
     match file_of(rt.alloc(), &split.commands, size) {
         Ok(file) => write_bytes(rt, out, &file, progress),
@@ -118,7 +118,10 @@ fn run_list<R: AllocGlobal + Files + Input + Print + Eprint>(
 ) -> Result<(), Failure>
     ensures { IfErr result (λ failure. IsListingFault size (string_bytes file) failure.fault) }
 {
-    let bytes = Payload::new(rt.alloc(), bytes_of(rt, file.as_str(), progress)?)?;
+    let bytes = Payload::new(
+        rt.alloc(),
+        bytes_of(rt, InputKind::File, file.as_str(), progress)?,
+    )?;
     let path = String::from_str(rt.alloc(), file.as_str())?;
     match list_of(rt.alloc(), path, &bytes, size) {
         Ok(text) => write_bytes(rt, "-", text.as_bytes(), progress),

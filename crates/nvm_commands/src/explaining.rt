@@ -10,7 +10,7 @@ use crate::failure::Failure;
 use crate::files::{bytes_of, check_apart, evidence_in, record_in, trace_in, write_bytes};
 use nvm_evidence::{Evidence, contradiction_story, is_evidence, order_story};
 use nvm_explain::explain;
-use nvm_front::{Progress, STANDARD};
+use nvm_front::{InputKind, Progress, STANDARD};
 use nvm_record::Payload;
 use nvm_story::witness_story;
 use nvm_trace::{Judging, Trace};
@@ -56,7 +56,7 @@ fn record_explained<R: AllocGlobal + Files + Input + Eprint + Threads + Sync>(
 ) -> Result<String, Failure>
     ensures { IfErr result (λ failure. IsReadFault path.now failure.fault ⊎ IsFaultOfRecordAt path.now failure.fault) }
 {
-    let held = Payload::new(rt.alloc(), bytes_of(rt, path, progress)?)?;
+    let held = Payload::new(rt.alloc(), bytes_of(rt, InputKind::File, path, progress)?)?;
     explained_of(rt, path, &held, progress)
 }
 
@@ -71,8 +71,11 @@ fn trace_explained<R: AllocGlobal + Files + Input + Eprint + Threads + Sync>(
     ensures { IfErr result (λ failure. IsUnjudged trace.now evidence.now failure.fault) }
 {
     check_apart(trace, evidence)?;
-    let seen = Payload::new(rt.alloc(), bytes_of(rt, trace, progress)?)?;
-    let held = Payload::new(rt.alloc(), bytes_of(rt, evidence, progress)?)?;
+    let seen = Payload::new(rt.alloc(), bytes_of(rt, InputKind::File, trace, progress)?)?;
+    let held = Payload::new(
+        rt.alloc(),
+        bytes_of(rt, InputKind::File, evidence, progress)?,
+    )?;
     story_of(rt, judging, trace, &seen, evidence, &held)
 }
 

@@ -12,7 +12,8 @@ use crate::hint::refusal;
 use nvm_audit::Record;
 use nvm_evidence::{Evidence, read_evidence};
 use nvm_front::{
-    FileFault, Progress, STANDARD, is_input, is_output, is_read, read_input, write, write_run,
+    FileFault, InputKind, Progress, STANDARD, is_input, is_output, is_read, read_input, write,
+    write_run,
 };
 use nvm_record::Payload;
 use nvm_trace::Trace;
@@ -22,12 +23,13 @@ use std::rt::Files;
 /// The bytes of a file, or of standard input. Want of memory isn't the file's fault.
 pub fn bytes_of<R: Files + AllocGlobal + Input + Eprint>(
     rt: &R,
+    kind: InputKind,
     path: &str,
     progress: &Progress<'_, R>,
 ) -> Result<Vec<u8>, Failure>
     ensures { IfErr result (λ failure. IsReadFault path.now failure.fault) }
 {
-    match read_input(rt, path, progress) {
+    match read_input(rt, kind, path, progress) {
         Ok(bytes) => Ok(bytes),
         Err(FileFault::NoMemory) => Err(Failure::from(AllocError)),
         Err(FileFault::Refused(kind)) => Err(unread(rt.alloc(), path, refusal(kind))),
@@ -43,7 +45,7 @@ pub fn read_as_record<R: Files + AllocGlobal + Input + Eprint>(
     ensures run { IfOk result (λ run. (file : List ℕ) × (record_at file ≡ Ok run)) }
     ensures fault { IfErr result (λ failure. IsReadFault path.now failure.fault ⊎ IsFaultOfRecordAt path.now failure.fault) }
 {
-    let bytes = Payload::new(rt.alloc(), bytes_of(rt, path, progress)?)?;
+    let bytes = Payload::new(rt.alloc(), bytes_of(rt, InputKind::File, path, progress)?)?;
     record_in(rt.alloc(), path, &bytes)
 }
 
@@ -79,7 +81,7 @@ pub fn read_as_trace<R: Files + AllocGlobal + Input + Eprint>(
     ensures trace { IfOk result (λ trace. (file : List ℕ) × IsTraceFile file trace) }
     ensures fault { IfErr result (λ failure. IsReadFault path.now failure.fault ⊎ IsFaultOfTraceAt path.now failure.fault) }
 {
-    let bytes = Payload::new(rt.alloc(), bytes_of(rt, path, progress)?)?;
+    let bytes = Payload::new(rt.alloc(), bytes_of(rt, InputKind::File, path, progress)?)?;
     trace_in(rt.alloc(), path, &bytes)
 }
 

@@ -8,7 +8,7 @@ use crate::failure::{Failure, of_list};
 use crate::fault::Fault;
 use crate::files::bytes_of;
 use nvm_expect::{ExpectationFault, expectations, without_expectations};
-use nvm_front::Progress;
+use nvm_front::{InputKind, Progress};
 use nvm_record::Status;
 use std::alloc::{AllocError, Global};
 use std::rt::Files;
@@ -37,7 +37,7 @@ pub fn read_lists<'a, R: AllocGlobal + Files + Input + Eprint>(
     let mut lists = Vec::with_capacity(rt.alloc(), paths.len())?;
     for path in paths {
         let path = path.as_str();
-        let bytes = bytes_of(rt, path, progress)?;
+        let bytes = bytes_of(rt, InputKind::Text, path, progress)?;
         let split = split_list(rt.alloc(), path, &bytes)?;
         lists.push(ReadList {
             path,

@@ -9,7 +9,7 @@ use crate::failure::{Failure, of_text};
 use crate::fault::Fault;
 use crate::files::{bytes_of, check_output, write_bytes};
 use nvm_file::write_trace;
-use nvm_front::Progress;
+use nvm_front::{InputKind, Progress};
 use nvm_trace_text::trace_of_text;
 use std::alloc::Global;
 use std::rt::Files;
@@ -24,7 +24,7 @@ pub fn run_trace<R: AllocGlobal + Files + Input + Print + Eprint>(
     ensures { IfErr result (λ failure. IsTracingFault text.now out.now failure.fault) }
 {
     check_output(rt, out, text, "it is the text")?;
-    let bytes = bytes_of(rt, text, progress)?;
+    let bytes = bytes_of(rt, InputKind::Text, text, progress)?;
     match trace_file_of(rt.alloc(), &bytes) {
         Ok(file) => write_bytes(rt, out, &file, progress),
         Err(fault) => Err(of_text(rt.alloc(), fault, text, &bytes)),

@@ -5,7 +5,7 @@ ghost use Rattle.nvm_commands.specs.Nvmu.Judged.{IsPairFault};
 use crate::nvmu::fault::Fault;
 use nvm_audit::Record;
 use nvm_front::{
-    FileFault, Progress, STANDARD, is_input, is_output, is_read, read_input, write_run,
+    FileFault, InputKind, Progress, STANDARD, is_input, is_output, is_read, read_input, write_run,
 };
 use nvm_record::Payload;
 use std::alloc::{AllocError, Global};
@@ -43,7 +43,7 @@ pub fn bytes_of<R: Files + AllocGlobal + Input + Eprint>(
 ) -> Result<Payload, Fault>
     ensures { IfErr result (IsReadFault path.now) }
 {
-    match read_input(rt, path, progress) {
+    match read_input(rt, InputKind::File, path, progress) {
         Ok(bytes) => Ok(Payload::new(rt.alloc(), bytes)?),
         Err(FileFault::NoMemory) => Err(Fault::NoMemory),
         Err(FileFault::Refused(_)) => Err(unread(rt.alloc(), path)),
