@@ -83,7 +83,7 @@ static struct {
     uint64_t first, seed;
     uint32_t units, unit_blocks, block, hosts, commands, writes, whole, others, timeout;
 } asked = {
-    .start = "zeroes", .mode = DIRECT, .units = 2, .unit_blocks = 128, .block = 512, .hosts = 16,
+    .start = "zeroes", .reads = "whole", .mode = DIRECT, .units = 2, .unit_blocks = 128, .block = 512, .hosts = 16,
     .commands = 4000, .writes = 50, .whole = 75, .timeout = 60, .seed = 1,
 };
 
@@ -116,9 +116,8 @@ static const char USAGE[] =
     "  --whole PERCENT    how many have all blocks of their unit (75)\n"
     "  --others PERCENT   with nvme, how many are Compares of what was read last, Write Zeroes and Deallocates (0)\n"
     "  --start WORD       zeroes: the window is filled with zero bytes first (the default); unknown: it is left as it is\n"
-    "  --reads WORD       what a Read is held to: whole, or by-blocks. By default whole, and with nvme by-blocks, since\n"
-    "                     the standard lets a Read find Writes of its blocks half done. But by-blocks hides a Write that\n"
-    "                     the device has to keep whole, and that a Read finds half done\n"
+    "  --reads WORD       what a Read is held to: whole (the default), which nvq certify takes for the standard's atomic,\n"
+    "                     or by-blocks, which hides a Write that a Read finds half done\n"
     "  --seed N           the same seed asks for the same commands (1)\n"
     "  --timeout SECONDS  after that, commands that haven't ended are told as such (60)\n"
     "\n"
@@ -663,9 +662,6 @@ static void read_words(int words, char **word) {
     asked.target = word[optind];
     if (asked.out == NULL) {
         fail("--out isn't given");
-    }
-    if (asked.reads == NULL) {
-        asked.reads = asked.mode == NVME ? "by-blocks" : "whole";
     }
     if (asked.block != 512 && asked.block != 4096) {
         fail("--block is 512 or 4096, not %u", asked.block);

@@ -34,7 +34,7 @@ static struct {
     int nabsn, nabo, nawun, nacwu; /* -1 where the device's stands */
     bool identifies, overwrites, fills, has_controllers;
 } asked = {
-    .reads = "by-blocks", .namespace_id = 1, .depths = {8}, .depth_count = 1, .nabsn = -1, .nabo = -1, .nawun = -1, .nacwu = -1,
+    .reads = "whole", .namespace_id = 1, .depths = {8}, .depth_count = 1, .nabsn = -1, .nabo = -1, .nawun = -1, .nacwu = -1,
     .connecting = {.subsystem = DEFAULT_SUBSYSTEM, .host = "nqn.2014-08.org.nvmexpress:uuid:7a616c6b-766f-726e-8000-6e766d652f74", .seconds = 20,
                    .host_id = {0x7a, 0x61, 0x6c, 0x6b, 0x76, 0x6f, 0x72, 0x6e, 0x80, 0x00, 0x6e, 0x76, 0x6d, 0x65, 0x2f, 0x74}},
 };
@@ -76,7 +76,7 @@ static const char USAGE[] =
     "  --depth N[,N..]     how many commands of each list are under way at a time, 1 to 1024 (8); the last\n"
     "                      number is that of all lists behind it, too\n"
     "  --controllers       each list has a controller of its own, and not only a queue\n"
-    "  --reads WORD        what a Read is held to: whole, or by-blocks (by-blocks)\n"
+    "  --reads WORD        what a Read is held to: whole, or by-blocks (whole)\n"
     "  --header-digest     header digests are asked for; --data-digest: data digests\n"
     "  --nabsn N  --nabo N  --nawun N  --nacwu N    what the trace is judged by, if not what the device says\n"
     "  --timeout SECONDS   after that without an answer a queue is given up (20)\n"
