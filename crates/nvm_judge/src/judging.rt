@@ -12,6 +12,10 @@ use nvm_record::NoMemory;
 use nvm_trace::{Reads, Trace};
 use std::alloc::{AllocError, Global};
 
+/// The effort of a search that is short: an order that is found at all is mostly found by it, and a contradiction is found sooner than a
+/// long search for an order ends.
+const SHORT: u32 = 500;
+
 /// What an order holds Reads to where the trace's head says this of them and nobody asks for more.
 pub fn held_of(reads: Reads) -> Held {
     match reads {
@@ -38,17 +42,32 @@ fn contradicted<'t>(
     }
 }
 
-/// What a search for an order of the points finds out, and then one for a contradiction.
-fn searched<'t>(alloc: Global, points: &Points<'t>, effort: u32) -> Result<Judgment<'t>, NoMemory>
+/// What a search for an order of the points finds out.
+fn ordered<'t>(alloc: Global, points: &Points<'t>, effort: u32) -> Result<Judgment<'t>, NoMemory>
     ensures { IfOk result (IsFoundOf (seen_table points.now)) }
 {
     let Some(order) = order_of(alloc, points, effort)? else {
-        return contradicted(alloc, points, effort);
+        return Ok(Judgment::Unknown);
     };
-    match explains(alloc, &*points, &order) {
+    match explains(alloc, points, &order) {
         Ok(()) => Ok(Judgment::Explained(order)),
         Err(OrderFault::NoMemory) => Err(AllocError),
-        Err(_) => contradicted(alloc, points, effort),
+        Err(_) => Ok(Judgment::Unknown),
+    }
+}
+
+/// What searches among the points find out: a short one for an order, one for a contradiction, and where both found nothing a long one
+/// for an order.
+fn searched<'t>(alloc: Global, points: &Points<'t>, effort: u32) -> Result<Judgment<'t>, NoMemory>
+    ensures { IfOk result (IsFoundOf (seen_table points.now)) }
+{
+    match ordered(alloc, points, effort.min(SHORT))? {
+        Judgment::Unknown => {}
+        found => return Ok(found),
+    }
+    match contradicted(alloc, &*points, effort)? {
+        Judgment::Unknown if effort > SHORT => ordered(alloc, points, effort),
+        found => Ok(found),
     }
 }
 
