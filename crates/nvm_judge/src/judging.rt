@@ -12,9 +12,10 @@ use nvm_record::NoMemory;
 use nvm_trace::{Reads, Trace};
 use std::alloc::{AllocError, Global};
 
-/// The effort of a search that is short: an order that is found at all is mostly found by it, and a contradiction is found sooner than a
-/// long search for an order ends.
-const SHORT: u32 = 500;
+/// The least effort of a short search, and of how many points one more of it is for.
+const SHORT: usize = 500;
+
+const POINTS: usize = 10;
 
 /// What an order holds Reads to where the trace's head says this of them and nobody asks for more.
 pub fn held_of(reads: Reads) -> Held {
@@ -56,17 +57,23 @@ fn ordered<'t>(alloc: Global, points: &Points<'t>, effort: u32) -> Result<Judgme
     }
 }
 
+/// An effort by which an order is mostly found that is found at all, and that ends soon where there is none.
+fn short_effort(points: &Points<'_>) -> u32 {
+    (points.points.len() / POINTS).max(SHORT).min(0xffff_ffff) as u32
+}
+
 /// What searches among the points find out: a short one for an order, one for a contradiction, and where both found nothing a long one
 /// for an order.
 fn searched<'t>(alloc: Global, points: &Points<'t>, effort: u32) -> Result<Judgment<'t>, NoMemory>
     ensures { IfOk result (IsFoundOf (seen_table points.now)) }
 {
-    match ordered(alloc, points, effort.min(SHORT))? {
+    let short = short_effort(points);
+    match ordered(alloc, points, effort.min(short))? {
         Judgment::Unknown => {}
         found => return Ok(found),
     }
     match contradicted(alloc, &*points, effort)? {
-        Judgment::Unknown if effort > SHORT => ordered(alloc, points, effort),
+        Judgment::Unknown if effort > short => ordered(alloc, points, effort),
         found => Ok(found),
     }
 }
