@@ -366,9 +366,14 @@ def faults(run):
     # The command line is looked at first, and its faults are in the words of clap.
     run.refuse(run_words({**OPTIONS, "workers": 65}, "missing"))
     run.refuse(run_words({**OPTIONS, "limit": MOST_LIMIT[2] + 1}, "good"))
-    # A file that is larger than the memory which the program may have.
+    # A file that is larger than the memory which the program may have. Of one that can't be of ours only the front is read, and so of one that never ends.
     with open(os.path.join(run.folder, "large"), "wb") as large:
         large.truncate(2 * MEMORY)
+    for path in ("large", "/dev/zero"):
+        for words, named in ((run_words(OPTIONS, path), "host 1"), (["nvmu", "audit", path], "record")):
+            run.expect(words, 1, err=f"nvmu: {named}: bad name\n", files={"record": b"old"}, preexec_fn=little_memory)
+    with open(os.path.join(run.folder, "large"), "r+b") as large:
+        large.write(b"NV")
     for words in (run_words(OPTIONS, "large"), ["nvmu", "audit", "large"]):
         run.expect(words, 1, err="nvmu: no memory\n", files={"record": b"old"}, preexec_fn=little_memory)
     os.remove(os.path.join(run.folder, "large"))

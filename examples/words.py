@@ -312,6 +312,10 @@ def files_of_another_kind(run):
             run.expect(run_words(OPTIONS, "-"), 1, given=content, err="nvmu: host 1: bad name\n")
         if not content.startswith((b"NVQ1", b"NVR")):
             run.expect(["nvq", "list", "-"], 1, given=content, err=told("nvq: -: bad name", no_host_file("-", content)))
+    # Of what never ends only the front is read.
+    run.expect(["nvq", "audit", "/dev/zero"], 1, err=told("nvq: /dev/zero: bad name", no_record("/dev/zero", b"\0")))
+    run.expect(["nvq", "list", "/dev/zero"], 1, err=told("nvq: /dev/zero: bad name", no_host_file("/dev/zero", b"\0")))
+    run.expect(["nvq", "assemble", "/dev/zero", "out.nvq"], 1, err=f"nvq: line 1: {NO_COMMAND}\n")
     for content, block, fault, other in (
         (large, 512, "truncated at 644", 4096),
         (many, 512, "too many commands", 4096),
