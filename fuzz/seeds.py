@@ -10,12 +10,14 @@ TOP = os.path.dirname(FUZZ)
 sys.path[:0] = [f"{TOP}/examples", f"{TOP}/sweep"]
 
 import contradictions
+import ordered
 import traces
 from host_files import mixed
 from records import Record
 from records import spelled as record_bytes
 from trace_files import Trace, in_turn, text_of
 from trace_files import spelled as trace_bytes
+from witnesses import KEEPING, ORDER
 
 # What the first byte of an input asks for: of a reader, and of a judge.
 PLAIN, BY_BLOCKS = 0, 3 << 3
@@ -62,6 +64,7 @@ def seeds():
     yield "lists", [bytes([PLAIN]) + packed(it) for it in kept("*.list")]
     judged = [bytes([AUDIT]) + packed(record_bytes(it)) for it in records]
     judged += [bytes([WITNESS | STRICTLY]) + packed(two(trace_bytes(in_turn(it)), record_bytes(it))) for it in records if all(job in {done.job for jobs in it.done for done in jobs} for job in range(len(it.jobs)))]
+    judged += [bytes([WITNESS]) + packed(two(trace_bytes(KEEPING), it)) for it in (ORDER, *(it for _, it, _ in ordered.WITNESSED))]
     judged += [bytes([REFUTE]) + packed(two(it, other)) for it in trace_files for other in refuting]
     yield "judges", judged
 
