@@ -33,8 +33,6 @@ LEFT_OUT = {
     ("nvm_engine", "audit_bytes"): "tests of nvm_thread_tests",
     ("nvm_engine", "judge_alone"): "nvm_c",
     ("nvm_engine", "witness_record_alone"): "nvm_c",
-    # It goes when nvm_numbers is changed next: all searches would have to be proved anew for that alone.
-    ("nvm_numbers", "Numbers::push"): "nobody",
 }
 # An end whose refusal the programs can't tell by what they say: a hint that isn't there, or for which there was no memory.
 UNTOLD = ("nvm_front", "other_block", "Ok(None)")

@@ -48,10 +48,4 @@ impl Numbers {
         let number = self.at(place);
         self.put(place, number.saturating_add(1));
     }
-
-    /// Puts a number at the end.
-    pub fn push(&mut self, number: u32) -> Result<(), NoMemory> {
-        self.items.push(number)?;
-        Ok(())
-    }
 }

@@ -1,9 +1,10 @@
 //! What comes before what in each order of a part's acts.
 use crate::acts::{Act, Gives, NONE, Wants};
-use crate::lists::Entry;
+use crate::lists::{Entry, Lists};
 use crate::making::Part;
 use crate::precedence::Precedence;
-use crate::search::Move;
+use crate::search::{Move, Search};
+use crate::state::State;
 use nvm_numbers::{Numbers, ZERO, to_u32};
 use nvm_record::NoMemory;
 use std::alloc::Global;
@@ -12,6 +13,10 @@ use std::alloc::Global;
 const ROUNDS: u32 = 16;
 /// How many that may have put something are looked at for one that found it.
 const MOST_GIVERS: u32 = 64;
+/// How many others may begin while one goes on: of one that goes on longer nothing is asked.
+const MOST_BESIDE: usize = 2048;
+/// How many words of nodes after those beside an act are looked at once it is done.
+const MOST_AFTER: u32 = 2;
 /// The source of what was there at first.
 const START: u32 = u32::MAX;
 
@@ -24,11 +29,13 @@ pub struct Derivation {
     /// The act of each cell.
     owners: Numbers,
     pub order: Precedence,
-    /// For each cell that finds something the node that surely put it, counted from 1.
-    sources: Numbers,
-    /// For each cell that puts something the first cell that surely finds it, counted from 1, and for each such the next.
-    finders: Numbers,
-    others: Numbers,
+    /// For each cell that finds something the node that surely put it, counted from 1. Then for each cell that puts something the first
+    /// cell that surely finds it, counted from 1, and for each such the next.
+    links: State,
+    /// For each giver of a slot the latest end among those that began before it or are it.
+    reach: Numbers,
+    /// The cells that find something of which it isn't known who put it, by block and beginning.
+    open: Lists,
 }
 
 /// The ends of acts that are surely done, and 0 of others: of those that are done since nobody else can have put what somebody found,
@@ -88,11 +95,34 @@ fn nodes_of(
         }
     }
     entries.sort()?;
+    let mut kept = Vec::with_capacity(alloc, entries.len())?;
     let mut times = Vec::with_capacity(alloc, entries.len())?;
-    for entry in &entries {
-        times.push((entry.time, ends.at(entry.act).saturating_sub(1)))?;
+    for place in 0..entries.len() {
+        let entry = entries[place];
+        let end = ends.at(entry.act).saturating_sub(1);
+        let beside = entries
+            .partition_point(|other| other.time <= end)
+            .saturating_sub(place);
+        if beside <= MOST_BESIDE {
+            kept.push(entry)?;
+            times.push((entry.time, end))?;
+        }
     }
-    Ok((entries, times))
+    Ok((kept, times))
+}
+
+/// For each place in the list of those who give slots the latest end among its group up to there.
+fn reach_of(alloc: Global, part: &Part) -> Result<Numbers, NoMemory> {
+    let list = &part.lists.givers;
+    let mut reach = Numbers::new(alloc, list.count(), 0)?;
+    for slot in 0..part.slots.count() {
+        let mut latest = 0;
+        for at in list.start(slot)..list.end(slot) {
+            latest = part.act(list.act(at)).until.max(latest);
+            reach.put(at, latest);
+        }
+    }
+    Ok(reach)
 }
 
 impl Derivation {
@@ -109,9 +139,9 @@ impl Derivation {
             acts: Numbers::new(alloc, entries.len(), 0)?,
             owners: Numbers::new(alloc, cells, 0)?,
             order,
-            sources: Numbers::new(alloc, cells, 0)?,
-            finders: Numbers::new(alloc, cells, 0)?,
-            others: Numbers::new(alloc, cells, 0)?,
+            links: State::new(alloc, cells.saturating_mul(3))?,
+            reach: reach_of(alloc, part)?,
+            open: Lists::new(alloc, Vec::new(alloc), 0, 0)?,
         };
         let mut node = 0u32;
         for entry in &entries {
@@ -126,7 +156,54 @@ impl Derivation {
             }
         }
         made.derive(part)?;
+        made.note_open(alloc, part)?;
         Ok(Some(made))
+    }
+
+    /// Notes of which cells it isn't known who put what they find.
+    fn note_open(&mut self, alloc: Global, part: &Part) -> Result<(), NoMemory> {
+        let mut open = Vec::new(alloc);
+        for node in 0..self.order.count() {
+            let act = part.act(self.acts.at(node));
+            for at in act.cell..act.cells_end() {
+                let cell = part.cell(at);
+                if self.source(at) == 0 && matches!(&cell.wants, Wants::Slot(_)) {
+                    open.push(Entry {
+                        group: cell.block,
+                        time: act.from,
+                        act: at,
+                    })?;
+                }
+            }
+        }
+        self.open = Lists::new(alloc, open, part.blocks, 0)?;
+        Ok(())
+    }
+
+    /// The node that surely put what the cell finds, counted from 1.
+    fn source(&self, cell: u32) -> u32 {
+        self.links.at(cell)
+    }
+
+    /// Where the first cell that surely finds what the cell puts stands.
+    fn finder_place(&self, cell: u32) -> u32 {
+        to_u32(self.owners.len()).saturating_add(cell)
+    }
+
+    /// Where the next cell that finds the same stands.
+    fn other_place(&self, cell: u32) -> u32 {
+        self.finder_place(self.finder_place(cell))
+    }
+
+    /// A mark to go back to.
+    pub fn mark(&self) -> (u32, u32) {
+        (self.order.mark(), self.links.mark())
+    }
+
+    /// Goes back to the mark.
+    pub fn back(&mut self, mark: (u32, u32)) {
+        self.order.back(mark.0);
+        self.links.back(mark.1);
     }
 
     /// The act's node, where it has one.
@@ -166,8 +243,8 @@ impl Derivation {
             let act = part.act(self.acts.at(node));
             for cell in act.cell..act.cells_end() {
                 if let Wants::Slot(slot) = part.cell(cell).wants {
-                    if self.sources.at(cell) == 0 {
-                        let source = self.source_of(part, node, slot);
+                    if self.source(cell) == 0 {
+                        let source = self.source_of(part, None, node, slot);
                         if source != 0 {
                             is_found = true;
                             self.set_source(part, node, cell, source)?;
@@ -212,7 +289,11 @@ impl Derivation {
         match part.cell(cell).gives {
             Gives::Slot(slot) => slot,
             Gives::Nothing => NONE,
-            Gives::Deallocated | Gives::Anything => match self.finders.at(cell).checked_sub(1) {
+            Gives::Deallocated | Gives::Anything => match self
+                .links
+                .at(self.finder_place(cell))
+                .checked_sub(1)
+            {
                 Some(finder) => match part.cell(finder).wants {
                     Wants::Slot(slot) => slot,
                     _ => NONE,
@@ -236,14 +317,18 @@ impl Derivation {
 
     /// The node that surely put what a node finds, counted from 1, or what was there at first, or 0. Where nobody can have put it,
     /// something is absurd.
-    fn source_of(&mut self, part: &Part, node: u32, slot: u32) -> u32 {
+    fn source_of(&mut self, part: &Part, search: Option<&Search<'_>>, node: u32, slot: u32) -> u32 {
         let until = self.order.end(node);
         let block = part.slots.block(slot);
         let newest = self.newest_before(part, node, slot);
         let lists = &part.lists;
         let mut source = 0;
         let mut count = 0u32;
-        if newest == 0 && (part.starts_unknown || part.slots.value(slot) == ZERO) {
+        let is_there = match search {
+            Some(search) => search.board(block) == slot,
+            None => true,
+        };
+        if is_there && newest == 0 && (part.starts_unknown || part.slots.value(slot) == ZERO) {
             source = START;
             count = 1;
         }
@@ -255,12 +340,20 @@ impl Derivation {
         let start = lists.givers.start(slot);
         let end = lists.givers.first_from(slot, until.saturating_add(1));
         for back in 0..end.saturating_sub(start) {
+            let at = end.saturating_sub(back).saturating_sub(1);
+            if self.reach.at(at).saturating_add(1) < newest {
+                break;
+            }
             if back > MOST_GIVERS {
                 return 0;
             }
-            let at = end.saturating_sub(back).saturating_sub(1);
             let giver = lists.givers.act(at);
             let giver_node = self.nodes.at(giver);
+            if let Some(search) = search {
+                if !is_there && search.is_over(giver) {
+                    continue;
+                }
+            }
             if giver_node == node.saturating_add(1) || !self.can_give(part, node, giver, newest) {
                 continue;
             }
@@ -332,7 +425,7 @@ impl Derivation {
         cell: u32,
         source: u32,
     ) -> Result<(), NoMemory> {
-        self.sources.put(cell, source);
+        self.links.set(cell, source)?;
         let found = part.cell(cell);
         let Wants::Slot(slot) = found.wants else {
             return Ok(());
@@ -346,8 +439,11 @@ impl Derivation {
         if let Some(giver) = giver {
             let act = part.act(self.acts.at(giver));
             let at = self.cell_at(part, &act, found.block);
-            self.others.put(cell, self.finders.at(at));
-            self.finders.put(at, cell.saturating_add(1));
+            let place = self.finder_place(at);
+            let other = self.links.at(place);
+            self.links.set(place, cell.saturating_add(1))?;
+            let place = self.other_place(cell);
+            self.links.set(place, other)?;
             self.order.add(giver, node)?;
             first = first.min(self.order.first_word(giver));
         }
@@ -460,7 +556,7 @@ impl Derivation {
         }
         let put_late = self.put_by(part, late);
         if put_late != NONE && put_late != put {
-            let mut finder = self.finders.at(early);
+            let mut finder = self.links.at(self.finder_place(early));
             for _ in 0..u64::MAX {
                 let Some(cell) = finder.checked_sub(1) else {
                     break;
@@ -470,10 +566,10 @@ impl Derivation {
                         self.order.add(node, other)?;
                     }
                 }
-                finder = self.others.at(cell);
+                finder = self.links.at(self.other_place(cell));
             }
         }
-        let source = self.sources.at(late);
+        let source = self.source(late);
         if let Wants::Slot(slot) = part.cell(late).wants {
             if slot != put && source != 0 {
                 if source == START {
@@ -529,10 +625,58 @@ impl Derivation {
     }
 
     /// Notes that an act is done now.
-    pub fn set_done(&mut self, part: &Part, act: u32) -> Result<(), NoMemory> {
-        if let Some(node) = self.node(act) {
-            self.order.set_done(node)?;
-            self.follow(part)?;
+    pub fn set_done(&mut self, part: &Part, search: &Search<'_>, act: u32) -> Result<(), NoMemory> {
+        let Some(node) = self.node(act) else {
+            return Ok(());
+        };
+        self.order.set_done(node)?;
+        self.follow(part)?;
+        let done = part.act(act);
+        if done.is_look {
+            return Ok(());
+        }
+        for at in done.cell..done.cells_end() {
+            self.close(part, search, node, part.cell(at).block)?;
+        }
+        Ok(())
+    }
+
+    /// Looks again for who put what is found in the block, by those beside the node or soon after it that aren't done.
+    fn close(
+        &mut self,
+        part: &Part,
+        search: &Search<'_>,
+        node: u32,
+        block: u32,
+    ) -> Result<(), NoMemory> {
+        let first = self.acts.at(self.order.first_word(node).saturating_mul(32));
+        let last = self
+            .order
+            .last_word(node)
+            .saturating_add(MOST_AFTER)
+            .saturating_mul(32);
+        let last = self.acts.at(last.min(self.order.count().saturating_sub(1)));
+        let until = part.act(last).from;
+        let start = self.open.first_from(block, part.act(first).from);
+        for at in start..self.open.end(block) {
+            if self.order.is_absurd() || self.open.time(at) > until {
+                break;
+            }
+            let cell = self.open.act(at);
+            let Wants::Slot(slot) = part.cell(cell).wants else {
+                continue;
+            };
+            let Some(finder) = self.node(self.owners.at(cell)) else {
+                continue;
+            };
+            if self.source(cell) != 0 || self.order.is_done(finder) {
+                continue;
+            }
+            let source = self.source_of(part, Some(search), finder, slot);
+            if source != 0 {
+                self.set_source(part, finder, cell, source)?;
+                self.follow(part)?;
+            }
         }
         Ok(())
     }

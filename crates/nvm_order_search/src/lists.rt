@@ -50,6 +50,11 @@ impl Lists {
         })
     }
 
+    /// How many places there are.
+    pub fn count(&self) -> usize {
+        self.entries.len()
+    }
+
     /// Where the group begins.
     pub fn start(&self, group: u32) -> u32 {
         self.starts.at(group)

@@ -41,6 +41,8 @@ pub struct Known<'a, 't> {
 pub struct ActLists {
     /// Who surely finds a slot, by beginning.
     pub finders: Lists,
+    /// Who may find a slot or not, and puts nothing, by beginning.
+    pub willing: Lists,
     /// Who may give a slot, by beginning.
     pub givers: Lists,
     /// Who may put anything in a block, by beginning.
@@ -57,6 +59,8 @@ pub struct ActLists {
     pub deallocates: Lists,
     /// All acts by beginning.
     pub by_from: Lists,
+    /// All that have to be done and put something, by beginning.
+    pub changes: Lists,
     /// All that have to be done, by end.
     pub by_until: Lists,
     /// All that may be done, put something, and may not be done after some time, by that time.
@@ -252,6 +256,7 @@ fn find_slots(cells: &mut Vec<Cell>, slots: &Slots) {
 #[derive(Drop)]
 struct Listing {
     finders: Vec<Entry>,
+    willing: Vec<Entry>,
     givers: Vec<Entry>,
     anything: Vec<Entry>,
     sure: Vec<Entry>,
@@ -260,6 +265,7 @@ struct Listing {
     tied: Vec<Entry>,
     deallocates: Vec<Entry>,
     by_from: Vec<Entry>,
+    changes: Vec<Entry>,
     by_until: Vec<Entry>,
     optional: Vec<Entry>,
 }
@@ -273,6 +279,7 @@ impl Listing {
     fn new(alloc: Global) -> Listing {
         Listing {
             finders: Vec::new(alloc),
+            willing: Vec::new(alloc),
             givers: Vec::new(alloc),
             anything: Vec::new(alloc),
             sure: Vec::new(alloc),
@@ -281,6 +288,7 @@ impl Listing {
             tied: Vec::new(alloc),
             deallocates: Vec::new(alloc),
             by_from: Vec::new(alloc),
+            changes: Vec::new(alloc),
             by_until: Vec::new(alloc),
             optional: Vec::new(alloc),
         }
@@ -289,6 +297,9 @@ impl Listing {
     /// Adds an act.
     fn add(&mut self, act: &Act, number: u32) -> Result<(), NoMemory> {
         self.by_from.push(entry(0, act.from, number))?;
+        if act.sure && !act.is_look {
+            self.changes.push(entry(0, act.from, number))?;
+        }
         if act.sure {
             self.by_until.push(entry(0, act.until, number))?;
         } else if !act.is_look && act.until != NONE {
@@ -311,6 +322,8 @@ impl Listing {
             Wants::Slot(slot) => {
                 if act.sure {
                     self.finders.push(entry(slot, act.from, number))?;
+                } else if act.is_look {
+                    self.willing.push(entry(slot, act.from, number))?;
                 }
             }
             Wants::AnyBytes | Wants::OtherThan(_) => {
@@ -460,6 +473,7 @@ fn sorted(
 ) -> Result<ActLists, NoMemory> {
     let Listing {
         finders,
+        willing,
         givers,
         anything,
         sure,
@@ -468,6 +482,7 @@ fn sorted(
         tied,
         deallocates,
         by_from,
+        changes,
         by_until,
         optional,
     } = listing;
@@ -485,6 +500,7 @@ fn sorted(
     let all_at = deallocates_at.saturating_add(blocks);
     Ok(ActLists {
         finders: Lists::new(alloc, finders, slots, finders_at)?,
+        willing: Lists::new(alloc, willing, slots, all_at.saturating_add(4))?,
         givers: Lists::new(alloc, givers, slots, givers_at)?,
         anything: Lists::new(alloc, anything, blocks, anything_at)?,
         sure: Lists::new(alloc, sure, blocks, sure_at)?,
@@ -495,7 +511,8 @@ fn sorted(
         by_from: Lists::new(alloc, by_from, 1, all_at)?,
         by_until: Lists::new(alloc, by_until, 1, all_at.saturating_add(1))?,
         optional: Lists::new(alloc, optional, 1, all_at.saturating_add(2))?,
-        state_len: all_at.saturating_add(3),
+        changes: Lists::new(alloc, changes, 1, all_at.saturating_add(3))?,
+        state_len: all_at.saturating_add(slots).saturating_add(4),
     })
 }
 

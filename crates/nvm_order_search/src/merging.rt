@@ -15,11 +15,13 @@ use std::alloc::Global;
 const ONES: &[u8] = &[0xff; 4096];
 
 /// How many acts are looked at in a part before it is asked what comes before what: so many, and some for each act.
-const FEW: u64 = 50_000;
+const FEW: u64 = 10_000;
 
-const EACH_ACT: u64 = 16;
+const EACH_ACT: u64 = 8;
+/// Which part of the effort that is left is spent on a part before others have to have points in its place.
+const TRIES: u64 = 32;
 /// How many acts may be looked at for each of the effort.
-const EACH: u64 = 200;
+const EACH: u64 = 100;
 
 /// A step of a part, by the latest time at which it or one before it in the part began. Merged by these times the parts' orders keep
 /// all times.
@@ -135,25 +137,38 @@ struct Found<'t> {
     first: Vec<FirstContent<'t>>,
 }
 
-/// An order of the part's points. The error is the point at which the search got stuck.
+/// An order of the part's points. The error is the point at which the search got stuck. Unless it is the last try, it doesn't go on for as
+/// long as it might.
 fn found_for<'t>(
     known: &mut Known<'_, 't>,
     values: &mut Values<'t>,
     number: u32,
     shares: &[Share],
+    is_last: bool,
 ) -> Result<Result<Found<'t>, u32>, NoMemory> {
     let alloc = known.alloc;
     let part = part_of(known, values, shares)?;
     let few = u64::from(part.count())
         .saturating_mul(EACH_ACT)
         .saturating_add(FEW);
-    let mut search = Search::new(alloc, &part, few.min(known.left), 0, None)?;
+    let few = few.min(known.left / 2);
+    let mut search = Search::new(alloc, &part, few, 0, None)?;
     let mut is_found = search.run()?;
+    known.left = known
+        .left
+        .saturating_sub(few.saturating_sub(search.left_in_all));
     if !is_found {
         let order = Derivation::new(alloc, &part)?;
-        search = Search::new(alloc, &part, known.left, 1, order)?;
+        let most = if is_last {
+            known.left
+        } else {
+            known.left / TRIES
+        };
+        search = Search::new(alloc, &part, most, 1, order)?;
         is_found = search.run()?;
-        known.left = search.left_in_all;
+        known.left = known
+            .left
+            .saturating_sub(most.saturating_sub(search.left_in_all));
     }
     if !is_found {
         return Ok(Err(search.stuck_at()));
@@ -349,6 +364,7 @@ fn search_all<'t>(
             first: Vec::new(alloc),
         })?;
     }
+    let mut tried = Numbers::new(alloc, ranges.len(), 0)?;
     for _ in 0..u64::MAX {
         let Some(part) = waiting.pop() else {
             break;
@@ -356,7 +372,9 @@ fn search_all<'t>(
         let Some(of_part) = shares_in(shares, ranges, part) else {
             break;
         };
-        match found_for(known, values, to_u32(part), of_part)? {
+        let number = to_u32(part);
+        let is_last = tried.at(number) == 1;
+        match found_for(known, values, number, of_part, is_last)? {
             Ok(found) => {
                 if let Some(place) = all.get_mut(part) {
                     *place = found;
@@ -365,7 +383,10 @@ fn search_all<'t>(
             Err(point) => {
                 let others = holders_instead(known, shares, ranges, part, point)?;
                 if others.is_empty() {
-                    return Ok(None);
+                    if is_last {
+                        return Ok(None);
+                    }
+                    tried.put(number, 1);
                 }
                 waiting.push(part)?;
                 waiting.extend_from_slice(&others)?;

@@ -194,6 +194,11 @@ impl Precedence {
         self.before(node, word) & !self.bits.at(self.done_place(word))
     }
 
+    /// Whether the node is done.
+    pub fn is_done(&self, node: u32) -> bool {
+        self.bits.at(self.done_place(node / 32)) & bit(node) != 0
+    }
+
     /// Notes that the node is done now: before all that aren't.
     pub fn set_done(&mut self, node: u32) -> Result<(), NoMemory> {
         let place = self.done_place(node / 32);

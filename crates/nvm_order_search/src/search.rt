@@ -47,7 +47,7 @@ struct Target {
 struct Turn {
     /// The way back to it.
     mark: u32,
-    known_mark: u32,
+    known_mark: (u32, u32),
     steps: usize,
     hash: u64,
     /// Its moves, and which of them is next.
@@ -73,6 +73,8 @@ const FEW: u32 = 100;
 const SHORT: usize = 8;
 
 const DOUBLED: u32 = 10;
+/// How many of those who gave a slot are looked at for one that needn't have yet.
+const MOST_BLAMED: u32 = 64;
 /// How often the search begins again after no move was left: which were left out may be wrong.
 const MOST_EXHAUSTED: u32 = 64;
 
@@ -103,7 +105,7 @@ pub struct Search<'p> {
     /// How many leaps were made since more acts were in order than ever before, and the state before any move.
     leaps: u32,
     root: u32,
-    known_root: u32,
+    known_root: (u32, u32),
     /// The steps that were in the way where it got stuck, counted from 1, and the act that couldn't be done.
     conflict: Vec<u32>,
     wanted: u32,
@@ -143,7 +145,7 @@ impl<'p> Search<'p> {
             leaps: 0,
             exhausted: 0,
             root: 0,
-            known_root: 0,
+            known_root: (0, 0),
             conflict: Vec::new(alloc),
             wanted: NONE,
             conflicts: Vec::new(alloc),
@@ -243,12 +245,37 @@ impl<'p> Search<'p> {
         Ok(())
     }
 
+    /// Notes that those who gave the slot and needn't have yet were in the way. Every other time it is left out: the search goes farther
+    /// back by that.
+    fn blame_givers(&mut self, slot: u32) -> Result<(), NoMemory> {
+        if self.known.is_some() && self.seed % 2 == 0 {
+            return Ok(());
+        }
+        let part = self.part;
+        let start = part.lists.givers.start(slot);
+        let end = part
+            .lists
+            .givers
+            .first_from(slot, self.horizon.saturating_add(1));
+        for back in 0..end.saturating_sub(start).min(MOST_BLAMED) {
+            let giver = part
+                .lists
+                .givers
+                .act(end.saturating_sub(back).saturating_sub(1));
+            if self.is_placed(giver) && part.act(giver).until >= self.latest() {
+                let step = self.state.at(giver);
+                self.blame(step)?;
+            }
+        }
+        Ok(())
+    }
+
     fn begun_place(&self) -> u32 {
         self.latest_place().saturating_add(1)
     }
 
     /// The slot that is in the block.
-    fn board(&self, block: u32) -> u32 {
+    pub fn board(&self, block: u32) -> u32 {
         self.state.at(self.board_place(block))
     }
 
@@ -267,7 +294,7 @@ impl<'p> Search<'p> {
     }
 
     /// Whether the act was done, or can't be any more.
-    fn is_over(&self, number: u32) -> bool {
+    pub fn is_over(&self, number: u32) -> bool {
         let act = self.part.act(number);
         if !act.again && self.is_placed(number) {
             return true;
@@ -443,9 +470,12 @@ impl<'p> Search<'p> {
             let count = to_u32(self.steps.len()).saturating_add(1);
             self.state.set(number, count)?;
             self.hash ^= key(number, DONE);
-            if let Some(known) = &mut self.known {
-                known.set_done(self.part, number)?;
+            let mut known = None;
+            std::mem::swap(&mut known, &mut self.known);
+            if let Some(known) = &mut known {
+                known.set_done(self.part, &*self, number)?;
             }
+            std::mem::swap(&mut known, &mut self.known);
         }
         let place = self.latest_place();
         self.state.set(place, step.latest)?;
@@ -582,10 +612,10 @@ impl<'p> Search<'p> {
     }
 
     /// What is known by now of what comes before what.
-    fn known_mark(&self) -> u32 {
+    fn known_mark(&self) -> (u32, u32) {
         match &self.known {
-            Some(known) => known.order.mark(),
-            None => 0,
+            Some(known) => known.mark(),
+            None => (0, 0),
         }
     }
 
@@ -593,7 +623,7 @@ impl<'p> Search<'p> {
     fn return_to(&mut self, turn: &Turn) {
         self.state.back(turn.mark);
         if let Some(known) = &mut self.known {
-            known.order.back(turn.known_mark);
+            known.back(turn.known_mark);
         }
         self.steps.truncate(turn.steps);
         self.hash = turn.hash;

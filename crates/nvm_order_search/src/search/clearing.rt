@@ -48,6 +48,7 @@ impl<'p> Search<'p> {
                 break;
             }
             self.blame(self.setter(block))?;
+            self.blame_givers(slot)?;
             if !is_begun {
                 return Ok(false);
             }

@@ -34,11 +34,12 @@ impl<'p> Search<'p> {
     pub(super) fn find_all_moves(&mut self, start: usize) -> Result<(), NoMemory> {
         let part = self.part;
         self.skip_moves(start);
-        let begun = self.state.at(self.begun_place());
-        for at in self.head(&part.lists.by_from, 0)?..begun {
-            let number = part.lists.by_from.act(at);
-            let act = part.act(number);
-            if act.sure && !act.is_look {
+        for at in self.head(&part.lists.changes, 0)?..part.lists.changes.end(0) {
+            if part.lists.changes.time(at) > self.horizon {
+                break;
+            }
+            let number = part.lists.changes.act(at);
+            if !self.is_over(number) {
                 self.aim(number, NONE)?;
                 self.visit_all()?;
             }
@@ -167,6 +168,7 @@ impl<'p> Search<'p> {
                     Wants::Nothing => {}
                     Wants::Slot(slot) => {
                         self.blame(self.loser(slot))?;
+                        self.blame_givers(slot)?;
                         self.aim_at_slot(slot)?
                     }
                     Wants::AnyBytes => {

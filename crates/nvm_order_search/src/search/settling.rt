@@ -56,6 +56,7 @@ impl<'p> Search<'p> {
     pub(super) fn settle_block(&mut self, block: u32) -> Result<(), NoMemory> {
         let part = self.part;
         self.look_all(&part.lists.loose, block)?;
+        self.look_all(&part.lists.willing, self.board(block))?;
         self.look_all(&part.lists.finders, self.board(block))
     }
 
@@ -73,7 +74,7 @@ impl<'p> Search<'p> {
     fn look(&mut self, number: u32) -> Result<bool, NoMemory> {
         let act = self.part.act(number);
         let bound = !(act.any && !act.sure);
-        if !act.is_look || !(act.sure || act.any) {
+        if !act.is_look {
             return Ok(false);
         }
         if self.is_over(number) || !self.fits_all(&act, bound) || self.is_held_up(number) {
