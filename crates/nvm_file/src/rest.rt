@@ -1,4 +1,4 @@
-ghost use Rattle.std.specs.Prelude.{◌≤◌, length};
+ghost use Rattle.std.specs.Prelude.{◌≡◌, ◌≤◌, drop, length};
 
 use nvm_record::Payload;
 
@@ -9,5 +9,7 @@ mod taking;
 pub struct Rest<'a> {
     file: &'a Payload,
     from: usize,
+    left: &'a [u8],
     ghost within: { from ≤ length file.now },
+    ghost tail: { left.now ≡ drop from file.now },
 }

@@ -112,6 +112,11 @@ fn run_length(bytes: &[u8]) -> usize
     ensures longest { result < length bytes.now
         → slice_index bytes.now result ≢ slice_index bytes.now 0 }
 {
+    // Mostly all of them are, and then they equal themselves a byte on.
+    let last = bytes.len() - 1;
+    if bytes[1..] == bytes[..last] {
+        return bytes.len();
+    }
     let first = bytes[0];
     let mut count = equal_chunks(bytes);
     while count < bytes.len() && bytes[count] == first {

@@ -11,7 +11,12 @@ impl<'a> Rest<'a> {
     pub fn whole(file: &'a Payload) -> Rest<'a>
         ensures { left_of result ≡ file.now }
     {
-        Rest { file, from: 0 }
+        let left = file.as_slice();
+        Rest {
+            file,
+            from: 0,
+            left,
+        }
     }
 
     /// How many bytes are left.
@@ -19,7 +24,7 @@ impl<'a> Rest<'a> {
     pub fn len(self) -> usize
         ensures { result ≡ length (left_of self.entry) }
     {
-        self.file.len() - self.from
+        self.left.len()
     }
 
     /// The bytes that are left.
@@ -27,7 +32,7 @@ impl<'a> Rest<'a> {
     pub fn as_slice(self) -> &'a [u8]
         ensures { result.now ≡ left_of self.entry }
     {
-        &self.file.as_slice()[self.from..]
+        self.left
     }
 
     /// The next `count` bytes.
@@ -37,8 +42,7 @@ impl<'a> Rest<'a> {
         ensures bytes { result.now ≡ take count (left_of self.entry) }
         ensures count { length result.now ≡ count }
     {
-        let _length = self.file.len();
-        &self.file.as_slice()[self.from..self.from + count]
+        &self.left[..count]
     }
 
     /// What is left behind the next `count` bytes.
@@ -47,10 +51,10 @@ impl<'a> Rest<'a> {
         requires { count ≤ length (left_of self) }
         ensures { left_of result ≡ drop count (left_of self.entry) }
     {
-        let _length = self.file.len();
         Rest {
             file: self.file,
             from: self.from + count,
+            left: &self.left[count..],
         }
     }
 
