@@ -14,6 +14,7 @@ struct identified {
     unsigned metadata;            /* bytes of metadata with each block */
     uint32_t nabsn, nabo;
     uint32_t nawun, nacwu;        /* the namespace's where NSFEAT bit 1 is set and they aren't 0, or else AWUN and ACWU of the controller */
+    unsigned dlfeat;              /* bits 2:0: what a deallocated block reads as */
 };
 
 /* The numbers of the head of a trace of some of the namespace's blocks, in which LBAs count from the first of these. */
@@ -38,6 +39,7 @@ static inline struct identified identified_by(const uint8_t *space, const uint8_
         .nabo = number_at(space, 42),
         .nawun = number_at(space, 34),
         .nacwu = number_at(space, 38),
+        .dlfeat = space[33] & 7,
     };
     for (unsigned at = 8; at-- > 0;) {
         it.blocks = it.blocks << 8 | space[at];
@@ -50,6 +52,12 @@ static inline struct identified identified_by(const uint8_t *space, const uint8_
         it.nacwu = number_at(controller, 532);
     }
     return it;
+}
+
+/* The words that a head has behind those for Reads: what a deallocated block reads as, where DLFEAT says it. */
+static inline const char *deallocated_words(unsigned dlfeat)
+{
+    return dlfeat == 1 ? " deallocated zeroes" : dlfeat == 2 ? " deallocated ones" : "";
 }
 
 /* The head for so many blocks from an LBA on. No NAWUN or NACWU is above NABSN there: what is longer crosses a boundary, and isn't

@@ -83,7 +83,7 @@ static struct {
     uint64_t first, seed;
     uint32_t units, unit_blocks, block, hosts, commands, writes, whole, others, timeout;
 } asked = {
-    .start = "zeroes", .reads = "whole", .mode = DIRECT, .units = 2, .unit_blocks = 128, .block = 512, .hosts = 16,
+    .start = "zeroes", .reads = "atomic", .mode = DIRECT, .units = 2, .unit_blocks = 128, .block = 512, .hosts = 16,
     .commands = 4000, .writes = 50, .whole = 75, .timeout = 60, .seed = 1,
 };
 
@@ -91,6 +91,7 @@ static int target = -1;
 static unsigned char *mapped;
 static uint32_t namespace_id;
 static struct head head;
+static const char *deallocated = ""; /* the words of the head for deallocated blocks */
 static pthread_barrier_t together;
 static pthread_mutex_t ended_lock = PTHREAD_MUTEX_INITIALIZER;
 static pthread_cond_t ended_one;
@@ -116,8 +117,8 @@ static const char USAGE[] =
     "  --whole PERCENT    how many have all blocks of their unit (75)\n"
     "  --others PERCENT   with nvme, how many are Compares of what was read last, Write Zeroes and Deallocates (0)\n"
     "  --start WORD       zeroes: the window is filled with zero bytes first (the default); unknown: it is left as it is\n"
-    "  --reads WORD       what a Read is held to: whole (the default), which nvq certify takes for the standard's atomic,\n"
-    "                     or by-blocks, which hides a Write that a Read finds half done\n"
+    "  --reads WORD       what a Read is held to: atomic (the default), which is the standard's; whole, which nvq certify\n"
+    "                     takes for atomic too; or by-blocks, which hides a Write that a Read finds half done\n"
     "  --seed N           the same seed asks for the same commands (1)\n"
     "  --timeout SECONDS  after that, commands that haven't ended are told as such (60)\n"
     "\n"
@@ -454,8 +455,8 @@ static void print_trace(FILE *out, struct host *hosts) {
         odd += hosts[number].odd_count;
     }
     qsort(all, count, sizeof *all, by_begin);
-    fprintf(out, "trace nsze %u block %u nabsn %u nabo %u nawun %u nacwu %u first %" PRIu64 " start %s reads %s\n",
-            asked.units * asked.unit_blocks, asked.block, head.nabsn, head.nabo, head.nawun, head.nacwu, asked.first, asked.start, asked.reads);
+    fprintf(out, "trace nsze %u block %u nabsn %u nabo %u nawun %u nacwu %u first %" PRIu64 " start %s reads %s%s\n",
+            asked.units * asked.unit_blocks, asked.block, head.nabsn, head.nabo, head.nawun, head.nacwu, asked.first, asked.start, asked.reads, deallocated);
     for (size_t place = 0; place < count; place++) {
         print_command(out, &all[place]);
     }
@@ -505,6 +506,7 @@ static void identify(void) {
     if (asked.first > it.blocks || blocks > it.blocks - asked.first) {
         fail("%s has %" PRIu64 " blocks, and the window ends behind them", asked.target, it.blocks);
     }
+    deallocated = deallocated_words(it.dlfeat);
     head = head_of(&it, asked.first, blocks);
     if (head.units > MOST_UNITS) {
         fail("%s has a boundary each %u blocks, %u units in the window, and a trace has at most %u: take less --units", asked.target,
@@ -608,6 +610,13 @@ static const char *one_of(const char *option, const char *text, const char *firs
     return text;
 }
 
+static const char *reads_word(const char *text) {
+    if (strcmp(text, "atomic") != 0 && strcmp(text, "whole") != 0 && strcmp(text, "by-blocks") != 0) {
+        fail("--reads is atomic, whole or by-blocks, not %s", text);
+    }
+    return text;
+}
+
 static enum mode mode_of(const char *text) {
     for (int mode = DIRECT; mode <= NVME; mode++) {
         if (strcmp(text, MODES[mode]) == 0) {
@@ -645,7 +654,7 @@ static void read_words(int words, char **word) {
         case 'W': asked.whole = (uint32_t)number(name, optarg, 0, 100); break;
         case 'x': asked.others = (uint32_t)number(name, optarg, 0, 100); break;
         case 's': asked.start = one_of(name, optarg, "zeroes", "unknown"); break;
-        case 'r': asked.reads = one_of(name, optarg, "whole", "by-blocks"); break;
+        case 'r': asked.reads = reads_word(optarg); break;
         case 'S': asked.seed = number(name, optarg, 0, UINT32_MAX); break;
         case 'T': asked.timeout = (uint32_t)number(name, optarg, 1, 86400); break;
         case 'h':

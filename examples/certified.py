@@ -99,7 +99,7 @@ TORN_AND_STALE = replace(
         sent(12, 13, read(0, 1), found=(0x41,), host=3),
     ),
     namespace=Namespace(nabsn=7, nawun=1, nacwu=1),
-    by_blocks=True,
+    reads="by-blocks",
 )
 # A Read that found in the first of two units what began to be written when it had ended.
 FORESEEN = trace_of(sent(3, 4, read(7, 1), found=(0x41,)), sent(10, None, write(7, 0x41, 0x41)))
@@ -214,8 +214,8 @@ BY_HAND = [
     (torn(nawun=1), (), contradiction(3)),
     (torn(nawun=0), (), EXPLAINED),
     # A Read may be torn where the trace says that each of its blocks has a moment of its own.
-    (replace(TORN, by_blocks=True), (), EXPLAINED),
-    (replace(TORN, by_blocks=True), ("--reads", "whole"), CONTRADICTION),
+    (replace(TORN, reads="by-blocks"), (), EXPLAINED),
+    (replace(TORN, reads="by-blocks"), ("--reads", "whole"), CONTRADICTION),
     # A success that no check allows says nothing of what was done.
     (trace_of(sent(1, 2, write(0, 0x41)), sent(3, 4, write(1_000, 0x41))), (), EXPLAINED),
     # A Write that never ended, or ended in an error that leaves open what was done, is done or not.

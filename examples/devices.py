@@ -192,8 +192,8 @@ UNITS = [
         (),
         "explained jobs 3 units 4 steps 4 excused 0 preparations 0",
     ),
-    (replace(TORN, by_blocks=True), (0, 2, 1, 3), {}, (), "explained jobs 3 units 4 steps 4 excused 0 preparations 0"),
-    (replace(TORN, by_blocks=True), (0, 1, 2, 3), {}, (), unexplained("ReplyDiffers", 2)),
+    (replace(TORN, reads="by-blocks"), (0, 2, 1, 3), {}, (), "explained jobs 3 units 4 steps 4 excused 0 preparations 0"),
+    (replace(TORN, reads="by-blocks"), (0, 1, 2, 3), {}, (), unexplained("ReplyDiffers", 2)),
     # A pair that never ended is done or not.
     *(
         (

@@ -287,7 +287,7 @@ def trace_of(device, host, jobs, is_unknown=False, by_blocks=False):
     for job in jobs:
         device.later(job.began, device.begin, job, host.ask)
     device.run()
-    return Trace(device.space, tuple(map(device.seen_of, jobs)), unknown=is_unknown, by_blocks=by_blocks)
+    return Trace(device.space, tuple(map(device.seen_of, jobs)), unknown=is_unknown, reads="by-blocks" if by_blocks else "atomic")
 
 
 def with_other_reply(chance, trace):

@@ -10,7 +10,7 @@ from records import DONE, FAILED, KIND_WRITE, LOOKED, Done, Entry, Record
 from records import spelled as record_bytes
 from trace_files import Seen, Trace, spelled, text_of, trace_bytes, with_seen
 
-HEAD = "expected trace, then nsze, block, nabsn, nabo, nawun, nacwu and first, each with its number, start zeroes or start unknown, and reads whole or reads by-blocks"
+HEAD = "expected trace, then nsze, block, nabsn, nabo, nawun and nacwu, each with its number, maybe awun and acwu with theirs, first with its number, start zeroes or start unknown, reads atomic, reads whole or reads by-blocks, and maybe deallocated zeroes, deallocated ones or deallocated either"
 SUCCESS = ((0, 0),)
 
 
@@ -127,7 +127,7 @@ WITNESSED = [
     (CLEARED, CLEARED_AT_ONCE, unexplained("JobDiffers", 1)),
     # A Read stands by its blocks only where the trace says so.
     (SEEN, SEEN_BY_BLOCKS, unexplained("JobDiffers", 1)),
-    (replace(SEEN, by_blocks=True), SEEN_BY_BLOCKS, explained(2, 3)),
+    (replace(SEEN, reads="by-blocks"), SEEN_BY_BLOCKS, explained(2, 3)),
     # A pair.
     (as_recorded(PAIR), PAIR, explained(1, 1)),
     (with_seen(as_recorded(PAIR), 0, statuses=((2, 0x81), (0, 9))), PAIR, unexplained("ReplyDiffers", 0)),
@@ -169,7 +169,7 @@ WIDE = Trace(
     ),
     first=2**64 - 1,
     unknown=True,
-    by_blocks=True,
+    reads="by-blocks",
 )
 
 

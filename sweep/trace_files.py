@@ -9,6 +9,9 @@ from records import GEOMETRY, command_bytes
 
 NEVER = 2**64 - 1
 FUSES = {1: " first", 2: " second", 3: " reserved"}
+# The words of a head, each at the place of its code.
+READS = ("whole", "by-blocks", "atomic")
+DEALLOCATED = ("either", "zeroes", "ones")
 
 
 @dataclass(frozen=True)
@@ -29,7 +32,17 @@ class Trace:
     jobs: tuple
     first: int = 0
     unknown: bool = False
-    by_blocks: bool = False
+    reads: str = "atomic"
+    deallocated: str = "either"
+
+    @property
+    def by_blocks(self):
+        return self.reads == "by-blocks"
+
+    @property
+    def promises(self):
+        """What the device promises of Reads and of deallocated blocks, as the one byte of a file."""
+        return READS.index(self.reads) + 3 * DEALLOCATED.index(self.deallocated)
 
 
 def seen_bytes(seen):
@@ -57,7 +70,7 @@ def trace_bytes(trace):
     yield from (struct.pack("<H", getattr(space, name)) for name in GEOMETRY)
     yield struct.pack("<Q", trace.first)
     yield bytes([trace.unknown])
-    yield bytes([trace.by_blocks])
+    yield bytes([trace.promises])
     yield struct.pack("<I", len(trace.jobs))
     for seen in trace.jobs:
         yield from seen_bytes(seen)
@@ -97,8 +110,9 @@ def text_of(trace):
     """The text of a trace, as it is listed."""
     space = trace.namespace
     numbers = " ".join(f"{name} {getattr(space, name)}" for name in ("nsze", "block", *GEOMETRY))
-    start, reads = "unknown" if trace.unknown else "zeroes", "by-blocks" if trace.by_blocks else "whole"
-    head = f"trace {numbers} first {trace.first} start {start} reads {reads}\n"
+    start = "unknown" if trace.unknown else "zeroes"
+    deallocated = "" if trace.deallocated == "either" else f" deallocated {trace.deallocated}"
+    head = f"trace {numbers} first {trace.first} start {start} reads {trace.reads}{deallocated}\n"
     return head + "".join(f"{seen_text(seen)}\n" for seen in trace.jobs)
 
 

@@ -69,7 +69,6 @@ static void note(struct identity *it, uint64_t capabilities, const uint8_t *cont
     it->has_dataset = oncs & HAS_DATASET;
     it->has_zeroes = oncs & HAS_ZEROES;
     it->has_pairs = controller[CONTROLLER_FUSES] & HAS_PAIRS;
-    it->dlfeat = space[NAMESPACE_DLFEAT] & 7;
 }
 
 /* Enables the controller, and waits as long as CAP says that this may take. */

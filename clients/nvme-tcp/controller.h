@@ -15,7 +15,6 @@ struct identity {
     uint32_t entries;    /* of a queue at most */
     uint32_t queues;     /* I/O queues that it gives */
     bool has_compare, has_zeroes, has_dataset, has_uncorrectable, has_pairs;
-    uint8_t dlfeat;      /* what a deallocated block reads as: 1 is zero bytes */
 };
 
 struct controller {

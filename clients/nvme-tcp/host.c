@@ -34,7 +34,7 @@ static struct {
     int nabsn, nabo, nawun, nacwu; /* -1 where the device's stands */
     bool identifies, overwrites, fills, has_controllers;
 } asked = {
-    .reads = "whole", .namespace_id = 1, .depths = {8}, .depth_count = 1, .nabsn = -1, .nabo = -1, .nawun = -1, .nacwu = -1,
+    .reads = "atomic", .namespace_id = 1, .depths = {8}, .depth_count = 1, .nabsn = -1, .nabo = -1, .nawun = -1, .nacwu = -1,
     .connecting = {.subsystem = DEFAULT_SUBSYSTEM, .host = "nqn.2014-08.org.nvmexpress:uuid:7a616c6b-766f-726e-8000-6e766d652f74", .seconds = 20,
                    .host_id = {0x7a, 0x61, 0x6c, 0x6b, 0x76, 0x6f, 0x72, 0x6e, 0x80, 0x00, 0x6e, 0x76, 0x6d, 0x65, 0x2f, 0x74}},
 };
@@ -76,7 +76,7 @@ static const char USAGE[] =
     "  --depth N[,N..]     how many commands of each list are under way at a time, 1 to 1024 (8); the last\n"
     "                      number is that of all lists behind it, too\n"
     "  --controllers       each list has a controller of its own, and not only a queue\n"
-    "  --reads WORD        what a Read is held to: whole, or by-blocks (whole)\n"
+    "  --reads WORD        what a Read is held to: atomic, which is the standard's, whole or by-blocks (atomic)\n"
     "  --header-digest     header digests are asked for; --data-digest: data digests\n"
     "  --nabsn N  --nabo N  --nawun N  --nacwu N    what the trace is judged by, if not what the device says\n"
     "  --timeout SECONDS   after that without an answer a queue is given up (20)\n"
@@ -287,10 +287,10 @@ static struct head judged_by(struct identified it)
     return head;
 }
 
-static void print_trace(FILE *out, const struct head *by)
+static void print_trace(FILE *out, const struct head *by, const char *deallocated)
 {
-    fprintf(out, "trace nsze %" PRIu64 " block %" PRIu32 " nabsn %" PRIu32 " nabo %" PRIu32 " nawun %" PRIu32 " nacwu %" PRIu32 " first %" PRIu64 " start %s reads %s\n", window.blocks, window.block,
-            by->nabsn, by->nabo, by->nawun, by->nacwu, window.first, asked.fills ? "zeroes" : "unknown", asked.reads);
+    fprintf(out, "trace nsze %" PRIu64 " block %" PRIu32 " nabsn %" PRIu32 " nabo %" PRIu32 " nawun %" PRIu32 " nacwu %" PRIu32 " first %" PRIu64 " start %s reads %s%s\n", window.blocks, window.block,
+            by->nabsn, by->nabo, by->nawun, by->nacwu, window.first, asked.fills ? "zeroes" : "unknown", asked.reads, deallocated);
     for (struct host *host = hosts; host < hosts + host_count; host++) {
         fwrite(host->trace, 1, host->trace_length, out);
     }
@@ -412,8 +412,8 @@ static void read_words(int words, char **word)
         case 'd': read_depths(optarg); break;
         case 'c': asked.has_controllers = true; break;
         case 'r':
-            if (strcmp(optarg, "whole") != 0 && strcmp(optarg, "by-blocks") != 0) {
-                fail("--reads is whole or by-blocks, not %s", optarg);
+            if (strcmp(optarg, "atomic") != 0 && strcmp(optarg, "whole") != 0 && strcmp(optarg, "by-blocks") != 0) {
+                fail("--reads is atomic, whole or by-blocks, not %s", optarg);
             }
             asked.reads = optarg;
             break;
@@ -450,7 +450,7 @@ static void print_identity(const struct identity *it)
 {
     printf("model %s\nblocks %" PRIu64 "\nblock %" PRIu32 "\nmost %" PRIu32 "\nqueues %" PRIu32 "\nentries %" PRIu32 "\n", it->model, it->space.blocks, it->block, it->most, it->queues, it->entries);
     printf("nabsn %" PRIu32 "\nnabo %" PRIu32 "\nnawun %" PRIu32 "\nnacwu %" PRIu32 "\n", it->space.nabsn, it->space.nabo, it->space.nawun, it->space.nacwu);
-    printf("compare %d\npairs %d\nzeroes %d\nuncorrectable %d\ndataset %d\ndlfeat %u\n", it->has_compare, it->has_pairs, it->has_zeroes, it->has_uncorrectable, it->has_dataset, it->dlfeat);
+    printf("compare %d\npairs %d\nzeroes %d\nuncorrectable %d\ndataset %d\ndlfeat %u\n", it->has_compare, it->has_pairs, it->has_zeroes, it->has_uncorrectable, it->has_dataset, it->space.dlfeat);
     if (fflush(stdout) != 0) {
         fail("standard output can't be written");
     }
@@ -514,8 +514,8 @@ static void announce(const struct identity *it)
     if (changes && !asked.overwrites) {
         exit(1);
     }
-    if (deallocates && it->dlfeat != 1) {
-        fprintf(stderr, "zalkvorn-host: note: the device doesn't say that deallocated blocks are zeroes (DLFEAT %u), and a trace is judged as if they were\n", it->dlfeat);
+    if (deallocates && *deallocated_words(it->space.dlfeat) == '\0') {
+        fprintf(stderr, "zalkvorn-host: note: the device doesn't say what deallocated blocks read as (DLFEAT %u): the trace is judged as if it were zeroes or bytes FFh\n", it->space.dlfeat);
     }
 }
 
@@ -589,7 +589,7 @@ int main(int words, char **word)
         fill(hosts->queue);
     }
     double seconds = run();
-    print_trace(out, &by);
+    print_trace(out, &by, deallocated_words(it->space.dlfeat));
     uint32_t unended = summary(seconds);
     for (struct host *host = hosts; host < hosts + host_count; host++) {
         queue_close(host->queue);

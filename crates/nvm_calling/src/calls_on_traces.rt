@@ -21,7 +21,14 @@ const PROFILE: Profile = Profile {
 pub fn noted(rt: &(impl AllocGlobal + Print), text: &str) -> Result<(Trace, Vec<Job>)> {
     let alloc = rt.alloc();
     let told = trace_of_text(alloc, text.as_bytes())?;
-    let mut seen = Trace::new(alloc, told.geometry, told.first, told.start, told.reads);
+    let mut seen = Trace::new(
+        alloc,
+        told.geometry,
+        told.first,
+        told.start,
+        told.reads,
+        told.deallocated,
+    );
     let mut jobs = Vec::new(alloc);
     for it in told.jobs {
         jobs.push(it.job.clone()?)?;

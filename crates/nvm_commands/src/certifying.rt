@@ -118,7 +118,7 @@ fn certified<R: AllocGlobal + Files + Input + Eprint>(
 fn found(alloc: Global, words: &CertifyWords, trace: &Trace) -> Result<CertifiedTrace, NoMemory>
     ensures { IfOk result (IsToldOf «trace».now) }
 {
-    let profile = words.profile(trace.reads);
+    let profile = words.profile(trace);
     match judge(alloc, trace, profile, words.effort)? {
         Judgment::Explained(order) => by_order(alloc, words.telling, trace, profile, &order),
         Judgment::Contradicted(contradiction) => {

@@ -4,9 +4,9 @@ use nvm_front::{
     Telling, WordFault, json, number_of_32_bits, number_option, path_given, path_option,
     telling_of, trace,
 };
-use nvm_judge::held_of;
+use nvm_judge::profile_of;
 use nvm_points::{Deallocated, Held, Profile};
-use nvm_trace::Reads;
+use nvm_trace::Trace;
 use std::alloc::Global;
 
 /// What the words of `nvq certify` say.
@@ -17,24 +17,26 @@ pub struct CertifyWords {
     pub effort: u32,
     /// What the device is to hold Reads to, where that isn't what the trace says.
     pub reads: Option<Held>,
-    /// What a deallocated block may read as.
-    pub deallocated: Deallocated,
+    /// What a deallocated block may read as, where that isn't what the trace says.
+    pub deallocated: Option<Deallocated>,
     /// Where the order that explains the trace goes, or the contradiction that nothing does, if it is kept.
     pub evidence: Option<String>,
     pub trace: String,
 }
 
 impl CertifyWords {
-    /// What the device of a trace is held to whose head says this of Reads.
-    pub fn profile(&self, reads: Reads) -> Profile {
+    /// What the device of the trace is held to.
+    pub fn profile(&self, trace: &Trace) -> Profile {
+        let said = profile_of(trace);
         let held = match self.reads {
             Some(held) => held,
-            None => held_of(reads),
+            None => said.held,
         };
-        Profile {
-            held,
-            deallocated: self.deallocated,
-        }
+        let deallocated = match self.deallocated {
+            Some(deallocated) => deallocated,
+            None => said.deallocated,
+        };
+        Profile { held, deallocated }
     }
 }
 
@@ -72,12 +74,13 @@ fn reads_of(words: &ArgMatches<'_>) -> Option<Held> {
     }
 }
 
-/// What a deallocated block may read as.
-fn deallocated_of(words: &ArgMatches<'_>) -> Deallocated {
+/// What a deallocated block may read as, if the words say so.
+fn deallocated_of(words: &ArgMatches<'_>) -> Option<Deallocated> {
     match words.get_str("deallocated") {
-        Some("zeroes") => Deallocated::Zeroes,
-        Some("ones") => Deallocated::Ones,
-        _ => Deallocated::Either,
+        Some("zeroes") => Some(Deallocated::Zeroes),
+        Some("ones") => Some(Deallocated::Ones),
+        Some("either") => Some(Deallocated::Either),
+        _ => None,
     }
 }
 
@@ -112,15 +115,14 @@ pub fn certify_command<'a>(alloc: Global) -> Result<Command<'a>, Error> {
         alloc,
         "reads",
         ["atomic", "atomic-all", "whole", "by-blocks"].as_slice(),
-        "What Reads are held to, unless the trace says by-blocks: atomic",
+        "What Reads are held to, if not to what the trace says",
     )?;
     let deallocated = word_option(
         alloc,
         "deallocated",
         ["zeroes", "ones", "either"].as_slice(),
-        "What a deallocated block may read as",
-    )?
-    .default_value("either");
+        "What a deallocated block may read as, if not what the trace says",
+    )?;
     let command = Command::new(alloc, "certify")
         .about(
             "Says whether a device may answer as in a trace: an order of points explains it, or a contradiction shows that nothing does",

@@ -21,16 +21,16 @@ use Rattle.nvm_file.specs.HeadReading.{judged, numbers_at}
 use Rattle.nvm_file.specs.HeadSpelling.{namespace_bytes}
 use Rattle.nvm_file.specs.JobReading.{job_at}
 use Rattle.nvm_file.specs.TracedJobReading.{began_at, ended_at, ended_by, ending_at, never, seen_at, traced_at}
-use Rattle.nvm_file.specs.TraceHeadReading.{trace_frame_with, reads_of, start_of, trace_head_at, trace_name, trace_name_at}
+use Rattle.nvm_file.specs.TraceHeadReading.{trace_frame_with, deallocated_of, reads_of, start_of, trace_head_at, trace_name, trace_name_at}
 use Rattle.nvm_file.specs.TraceReading.{trace_at, trace_behind, trace_with, whole_trace}
-use Rattle.nvm_file.specs.TraceSpelling.{ended_bytes, ending_bytes, reads_byte, start_byte, trace_bytes, traced_bytes}
+use Rattle.nvm_file.specs.TraceSpelling.{ended_bytes, ending_bytes, promise_byte, start_byte, trace_bytes, traced_bytes}
 use Rattle.nvm_file.proofs.CommandSpellings.{job_takes}
 use Rattle.nvm_file.proofs.DoneSpellings.{payload_takes, statuses_take}
 use Rattle.nvm_file.proofs.FieldSpellings.{Takes, and_then, dropped, how_many, in_takes, items_take, number_takes, spelled_as}
 use Rattle.nvm_file.proofs.HeadSpellings.{judged_is, not_read, numbers_take}
 use Rattle.nvm_file.proofs.NumberBytes.{IsBytes}
 use Rattle.nvm_file.proofs.Readings.{bind_ok, chosen, in_range as is_in, kept, ok_is, ok_same}
-use Rattle.nvm_file.proofs.TraceParts.{in_trace_ok, reads_again, start_again}
+use Rattle.nvm_file.proofs.TraceParts.{in_trace_ok, promises_again, start_again}
 
 name_takes : (bytes rest : List ℕ) → IsBytes bytes → trace_name_at bytes ≡ Ok rest → Takes bytes trace_name rest
 unfolding trace_name_at
@@ -50,7 +50,7 @@ name_takes bytes rest are e =
 abbrev front_of : TraceFrame → List ℕ
 front_of head =
     trace_name ++ (namespace_bytes head.scope.geometry
-    ++ (little_bytes 8 head.first ++ (start_byte head.start ∷ reads_byte head.reads ∷ [])))
+    ++ (little_bytes 8 head.first ++ (start_byte head.start ∷ promise_byte head.reads head.deallocated ∷ [])))
 
 head_takes : (total : ℕ) (bytes : List ℕ) (x : TraceFrame × List ℕ) → IsBytes bytes → trace_head_at total bytes ≡ Ok x
     → Takes bytes (front_of x.0 ++ little_bytes 4 x.0.jobs) x.1
@@ -61,7 +61,7 @@ head_takes total bytes x are e =
     let j = bind_ok (judged b.0.0) _ x b.2 in
     let c = bind_ok (number_at total 8 b.0.1) _ x j.2 in
     let s = bind_ok (number_in total 1 0 1 c.0.1) _ x c.2 in
-    let r = bind_ok (number_in total 1 0 1 s.0.1) _ x s.2 in
+    let r = bind_ok (number_in total 1 0 8 s.0.1) _ x s.2 in
     let f = bind_ok (number_in total 4 0 most_jobs r.0.1) _ x r.2 in
     let name = name_takes bytes a.0 are a.1 in
     let numbers = numbers_take total a.0 b.0 name.rest_are b.1 in
@@ -69,10 +69,11 @@ head_takes total bytes x are e =
     let first = number_takes total 8 b.0.1 c.0 numbers.rest_are c.1 in
     let of_start = in_takes total 1 0 1 c.0.1 s.0 first.rest_are s.1 in
     let start = spelled_as _ _ (start_byte (start_of s.0.0) ∷ []) _ (start_again s.0.0 (is_in total 1 0 1 c.0.1 s.0 s.1).1) of_start in
-    let of_reads = in_takes total 1 0 1 s.0.1 r.0 start.rest_are r.1 in
-    let reads = spelled_as _ _ (reads_byte (reads_of r.0.0) ∷ []) _ (reads_again r.0.0 (is_in total 1 0 1 s.0.1 r.0 r.1).1) of_reads in
-    let jobs = in_takes total 4 0 most_jobs r.0.1 f.0 reads.rest_are f.1 in
-    let window = and_then _ _ _ _ _ first (and_then _ _ _ _ _ start reads) in
+    let of_promises = in_takes total 1 0 8 s.0.1 r.0 start.rest_are r.1 in
+    let promises = spelled_as _ _ (promise_byte (reads_of r.0.0) (deallocated_of r.0.0) ∷ []) _
+    (promises_again r.0.0 (is_in total 1 0 8 s.0.1 r.0 r.1).1) of_promises in
+    let jobs = in_takes total 4 0 most_jobs r.0.1 f.0 promises.rest_are f.1 in
+    let window = and_then _ _ _ _ _ first (and_then _ _ _ _ _ start promises) in
     let front = and_then _ _ _ _ _ name (and_then _ _ _ _ _ namespace window) in
     subst (λ (y : TraceFrame × List ℕ). Takes bytes (front_of y.0 ++ little_bytes 4 y.0.jobs) y.1)
     (ok_is (trace_frame_with total j.0 c.0.0 s.0.0 r.0.0 f.0.0, f.0.1) x f.2) (and_then _ _ _ _ _ front jobs)

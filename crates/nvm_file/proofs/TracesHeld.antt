@@ -43,7 +43,7 @@ head_held total bytes x e =
     let j = bind_ok (judged b.0.0) _ x b.2 in
     let c = bind_ok (number_at total 8 b.0.1) _ x j.2 in
     let s = bind_ok (number_in total 1 0 1 c.0.1) _ x c.2 in
-    let r = bind_ok (number_in total 1 0 1 s.0.1) _ x s.2 in
+    let r = bind_ok (number_in total 1 0 8 s.0.1) _ x s.2 in
     let f = bind_ok (number_in total 4 0 most_jobs r.0.1) _ x r.2 in
     let jobs = in_range total 4 0 most_jobs r.0.1 f.0 f.1 in
     subst (λ (y : TraceFrame × List ℕ). IsSoundTraceFrame y.0) (ok_is (trace_frame_with total j.0 c.0.0 s.0.0 r.0.0 f.0.0, f.0.1) x f.2)

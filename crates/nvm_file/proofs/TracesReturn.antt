@@ -13,6 +13,7 @@ use Rattle.nvm_plan.specs.Operation.{operation_of_body, single_operation}
 use Rattle.nvm_plan.specs.Shape.{IsForEach}
 use Rattle.nvm_audit.specs.declared.version.Version.TheVariants.{Two}
 use Rattle.nvm_audit.specs.Recordable.{most_jobs}
+use Rattle.nvm_trace.specs.declared.deallocated.Deallocated.{Deallocated}
 use Rattle.nvm_trace.specs.declared.reads.Reads.{Reads}
 use Rattle.nvm_trace.specs.declared.start.Start.{Start}
 use Rattle.nvm_trace.specs.declared.traced_job.Ending.{Ending}
@@ -28,33 +29,34 @@ use Rattle.nvm_file.specs.HeadSpelling.{namespace_bytes}
 use Rattle.nvm_file.specs.JobSpelling.{job_bytes}
 use Rattle.nvm_file.specs.TracedJobReading.{began_at, ended_at, ended_by, ending_at, never, seen_at, traced_at}
 use Rattle.nvm_file.specs.TraceFits.{EndingFits, TraceFits, TracedJobFits}
-use Rattle.nvm_file.specs.TraceHeadReading.{reads_of, trace_head_at, trace_name, trace_name_at}
+use Rattle.nvm_file.specs.TraceHeadReading.{deallocated_of, reads_of, trace_head_at, trace_name, trace_name_at}
 use Rattle.nvm_file.specs.TraceReading.{trace_at, trace_behind}
-use Rattle.nvm_file.specs.TraceSpelling.{ended_bytes, reads_byte, start_byte, trace_bytes, trace_head_bytes, traced_bytes}
+use Rattle.nvm_file.specs.TraceSpelling.{ended_bytes, promise_byte, start_byte, trace_bytes, trace_head_bytes, traced_bytes}
 use Rattle.nvm_file.specs.WorkSpelling.{payload_bytes, statuses_bytes}
 use Rattle.nvm_file.proofs.DoneReturn.{none_returns, some_returns, statuses_return}
 use Rattle.nvm_file.proofs.HeadsReturn.{judged_valid, numbers_return}
 use Rattle.nvm_file.proofs.JobsReturn.{job_returns}
 use Rattle.nvm_file.proofs.Returning.{items_return, number_in_returns, number_returns, read_then}
-use Rattle.nvm_file.proofs.TraceParts.{in_trace_then, reads_back, reads_return, start_back, start_returns}
+use Rattle.nvm_file.proofs.TraceParts.{deallocated_back, in_trace_then, promises_return, reads_back, start_back, start_returns}
 
 name_returns : (rest : List ℕ) → trace_name_at (trace_name ++ rest) ≡ Ok rest
 unfolding trace_name_at
 name_returns rest = refl
 
 -- the head that is read of a trace's file, if these are its codes
-abbrev head_by : ℕ → TraceView → Start → Reads → TraceFrame
-head_by total t start reads =
+abbrev head_by : ℕ → TraceView → Start → Reads → Deallocated → TraceFrame
+head_by total t start reads deallocated =
     record {
       scope = record { total = total; version = Two; geometry = t.namespace };
       first = t.first;
       start = start;
       reads = reads;
+      deallocated = deallocated;
       jobs = length t.jobs;
     }
 
 head_of : ℕ → TraceView → TraceFrame
-head_of total t = head_by total t t.start t.reads
+head_of total t = head_by total t t.start t.reads t.deallocated
 
 head_returns : (total : ℕ) (t : TraceView) (rest : List ℕ) → IsTraceable t → NumbersFit t.namespace → t.first < 2 ^ 64
     → trace_head_at total (trace_head_bytes t ++ (little_bytes 4 (length t.jobs) ++ rest)) ≡ Ok (head_of total t, rest)
@@ -62,21 +64,23 @@ unfolding trace_head_at head_of
 head_returns total t rest can fit low =
     let ns = namespace_bytes t.namespace in
     let first = little_bytes 8 t.first in
-    let codes = start_byte t.start ∷ reads_byte t.reads ∷ [] in
+    let promises = promise_byte t.reads t.deallocated in
+    let codes = start_byte t.start ∷ promises ∷ [] in
     let last = little_bytes 4 (length t.jobs) ++ rest in
     let grouped : trace_head_bytes t ++ last ≡ trace_name ++ (ns ++ (first ++ (codes ++ last))) =
     append_assoc trace_name (ns ++ (first ++ codes)) last
     ∙ ap (λ (l : List ℕ). trace_name ++ l) (append_assoc ns (first ++ codes) last
     ∙ ap (λ (l : List ℕ). ns ++ l) (append_assoc first codes last)) in
-    let again = ap (λ (s : Start). Ok (head_by total t s (reads_of (reads_byte t.reads)), rest)) (start_back t.start)
-    ∙ ap (λ (r : Reads). Ok (head_by total t t.start r, rest)) (reads_back t.reads) in
+    let again = ap (λ (s : Start). Ok (head_by total t s (reads_of promises) (deallocated_of promises), rest)) (start_back t.start)
+    ∙ ap (λ (r : Reads). Ok (head_by total t t.start r (deallocated_of promises), rest)) (reads_back t.reads t.deallocated)
+    ∙ ap (λ (d : Deallocated). Ok (head_by total t t.start t.reads d, rest)) (deallocated_back t.reads t.deallocated) in
     ap (trace_head_at total) grouped
     ∙ read_then _ _ _ _ (name_returns (ns ++ (first ++ (codes ++ last))))
     (read_then _ _ _ _ (numbers_return total t.namespace (first ++ (codes ++ last)) fit)
     (read_then _ _ _ _ (judged_valid t.namespace can.namespace)
     (read_then _ _ _ _ (number_returns total 8 t.first (codes ++ last) low)
-    (read_then _ _ _ _ (start_returns total t.start (reads_byte t.reads ∷ last))
-    (read_then _ _ _ _ (reads_return total t.reads last)
+    (read_then _ _ _ _ (start_returns total t.start (promises ∷ last))
+    (read_then _ _ _ _ (promises_return total t.reads t.deallocated last)
     (read_then _ _ _ _ (number_in_returns total 4 0 most_jobs (length t.jobs) rest (omega (arith, can.few)) (omega arith) can.few) again))))))
 
 -- The data is as long as what is answered to the job.

@@ -13,7 +13,14 @@ use Rattle.nvm_file.specs.TraceHeadReading.{trace_head_at}
 -- the trace of these jobs
 abbrev pub trace_with : TraceFrame → List TracedJob → TraceView
 trace_with head jobs =
-    record { namespace = head.scope.geometry; first = head.first; start = head.start; reads = head.reads; jobs = jobs }
+    record {
+      namespace = head.scope.geometry;
+      first = head.first;
+      start = head.start;
+      reads = head.reads;
+      deallocated = head.deallocated;
+      jobs = jobs;
+    }
 
 -- the trace, where nothing stands behind it
 abbrev pub whole_trace : ℕ → TraceView → List ℕ → Result TraceView TraceFileFault

@@ -1,8 +1,10 @@
 -- The one spelling of a trace: all bytes of its file (own). All numbers are little endian.
-use Rattle.std.specs.Prelude.{ℕ, List, [], ◌∷◌, ◌++◌, Option, Some, None}
+use Rattle.std.specs.Prelude.{ℕ, ◌+◌, ◌*◌, List, [], ◌∷◌, ◌++◌, Option, Some, None}
 use Rattle.byteorder.specs.Endian.{little_bytes}
+use Rattle.nvm_trace.specs.declared.deallocated.Deallocated.{Deallocated}
+use Rattle.nvm_trace.specs.declared.deallocated.Deallocated.TheVariants.{Zeroes as ZeroesRead, Ones, Either}
 use Rattle.nvm_trace.specs.declared.reads.Reads.{Reads}
-use Rattle.nvm_trace.specs.declared.reads.Reads.TheVariants.{Whole, ByBlocks}
+use Rattle.nvm_trace.specs.declared.reads.Reads.TheVariants.{Atomic, Whole, ByBlocks}
 use Rattle.nvm_trace.specs.declared.start.Start.{Start}
 use Rattle.nvm_trace.specs.declared.start.Start.TheVariants.{Zeroes, Unknown}
 use Rattle.nvm_trace.specs.declared.traced_job.Ending.{Ending}
@@ -19,13 +21,23 @@ abbrev pub start_byte : Start → ℕ
 start_byte Zeroes = 0
 start_byte Unknown = 1
 
-abbrev pub reads_byte : Reads → ℕ
-reads_byte Whole = 0
-reads_byte ByBlocks = 1
+abbrev pub reads_code : Reads → ℕ
+reads_code Whole = 0
+reads_code ByBlocks = 1
+reads_code Atomic = 2
 
--- the first LBA of the window, what was known of its blocks, and what Reads are held to
+abbrev pub deallocated_code : Deallocated → ℕ
+deallocated_code Either = 0
+deallocated_code ZeroesRead = 1
+deallocated_code Ones = 2
+
+-- what the device promises
+abbrev pub promise_byte : Reads → Deallocated → ℕ
+promise_byte reads deallocated = reads_code reads + 3 * deallocated_code deallocated
+
+-- the first LBA of the window, what was known of its blocks, and what the device promises
 abbrev pub window_bytes : TraceView → List ℕ
-window_bytes t = little_bytes 8 t.first ++ (start_byte t.start ∷ reads_byte t.reads ∷ [])
+window_bytes t = little_bytes 8 t.first ++ (start_byte t.start ∷ promise_byte t.reads t.deallocated ∷ [])
 
 -- all that stands before the jobs
 abbrev pub trace_head_bytes : TraceView → List ℕ

@@ -1,5 +1,5 @@
 use crate::scope::Scope;
-use nvm_trace::{Reads, Start};
+use nvm_trace::{Deallocated, Reads, Start};
 
 /// What the front of a trace's file says of all that follows.
 #[derive(Drop)]
@@ -12,6 +12,8 @@ pub struct TraceFrame {
     pub start: Start,
     /// What Reads and Compares are held to.
     pub reads: Reads,
+    /// What a deallocated block may read as.
+    pub deallocated: Deallocated,
     /// How many jobs there are.
     pub jobs: u32,
 }

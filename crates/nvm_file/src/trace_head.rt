@@ -4,7 +4,7 @@ ghost use Rattle.nvm_geometry.specs.Faults.{HasNoFault};
 ghost use Rattle.nvm_file.specs.Fields.{Gives};
 ghost use Rattle.nvm_file.specs.Inside.Head.{namespace_with, trace_frame_by};
 ghost use Rattle.nvm_file.specs.Inside.Rest.{left_of};
-ghost use Rattle.nvm_file.specs.TraceHeadReading.{reads_of, start_of, trace_head_at, trace_name_at};
+ghost use Rattle.nvm_file.specs.TraceHeadReading.{deallocated_of, reads_of, start_of, trace_head_at, trace_name_at};
 
 use crate::fields::{u8_in, u32_in, u64_of};
 use crate::head::{Numbers, geometry_by, geometry_of, numbers_of};
@@ -13,7 +13,7 @@ use crate::rest::Rest;
 use crate::scope::Scope;
 use crate::trace_frame::TraceFrame;
 use nvm_audit::{MOST_JOBS, Version};
-use nvm_trace::{Reads, Start};
+use nvm_trace::{Deallocated, Reads, Start};
 
 /// Each trace's file begins with these bytes.
 const NAME: &[u8; 4] = b"NVT1";
@@ -25,6 +25,7 @@ pub struct TraceHead {
     first: u64,
     start: Start,
     reads: Reads,
+    deallocated: Deallocated,
     jobs: u32,
 }
 
@@ -39,13 +40,14 @@ pub fn trace_head_of(total: usize, rest: Rest<'_>) -> Result<(TraceHead, Rest<'_
     geometry_of(&numbers)?;
     let (first, rest) = u64_of(total, rest)?;
     let (start, rest) = u8_in(total, 0, 1, rest)?;
-    let (reads, rest) = u8_in(total, 0, 1, rest)?;
+    let (promises, rest) = u8_in(total, 0, 8, rest)?;
     let (jobs, rest) = u32_in(total, 0, MOST_JOBS, rest)?;
     let head = TraceHead {
         numbers,
         first,
         start: start_by(start),
-        reads: reads_by(reads),
+        reads: reads_by(promises),
+        deallocated: deallocated_by(promises),
         jobs,
     };
     Ok((head, rest))
@@ -65,6 +67,7 @@ pub fn trace_frame_of(total: usize, head: &TraceHead) -> TraceFrame
         first: head.first,
         start: head.start,
         reads: head.reads,
+        deallocated: head.deallocated,
         jobs: head.jobs,
     }
 }
@@ -90,12 +93,24 @@ fn start_by(code: u8) -> Start
     }
 }
 
-/// What Reads are held to, by its code.
+/// What Reads are held to, by the code of what the device promises.
 fn reads_by(code: u8) -> Reads
     ensures { result ≡ reads_of code }
 {
-    match code {
+    match code % 3 {
         0 => Reads::Whole,
-        _ => Reads::ByBlocks,
+        1 => Reads::ByBlocks,
+        _ => Reads::Atomic,
+    }
+}
+
+/// What a deallocated block may read as, by the same code.
+fn deallocated_by(code: u8) -> Deallocated
+    ensures { result ≡ deallocated_of code }
+{
+    match code / 3 {
+        0 => Deallocated::Either,
+        1 => Deallocated::Zeroes,
+        _ => Deallocated::Ones,
     }
 }

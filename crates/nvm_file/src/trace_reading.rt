@@ -52,6 +52,7 @@ fn behind_head(alloc: Global, frame: &TraceFrame, rest: Rest<'_>) -> Result<Trac
         first: frame.first,
         start: frame.start,
         reads: frame.reads,
+        deallocated: frame.deallocated,
         jobs,
     })
 }

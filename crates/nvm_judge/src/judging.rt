@@ -17,11 +17,16 @@ const SHORT: usize = 500;
 
 const POINTS: usize = 10;
 
-/// What an order holds Reads to where the trace's head says this of them and nobody asks for more.
-pub fn held_of(reads: Reads) -> Held {
-    match reads {
-        Reads::Whole => Held::Atomic,
+/// What the device of a trace is held to where nobody asks for more: what the head says that it promises. A head that says `whole` is
+/// held as one that says `atomic`, since recorders have written that word of any device.
+pub fn profile_of(trace: &Trace) -> Profile {
+    let held = match trace.reads {
+        Reads::Atomic | Reads::Whole => Held::Atomic,
         Reads::ByBlocks => Held::ByBlocks,
+    };
+    Profile {
+        held,
+        deallocated: trace.deallocated,
     }
 }
 

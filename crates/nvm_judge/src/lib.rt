@@ -15,7 +15,7 @@ mod refuting;
 
 pub use check_fault::CheckFault;
 pub use checking::check_order;
-pub use judging::{held_of, judge};
+pub use judging::{judge, profile_of};
 pub use judgment::Judgment;
 pub use refute_fault::RefuteFault;
 pub use refuting::check_contradiction;

@@ -3,8 +3,8 @@ use Rattle.std.specs.Prelude.{◌≡◌, ℕ, ◌+◌, ◌<◌, ◌≤◌, Bool,
 use Rattle.nvm_trace.specs.declared.start.Start.{Start}
 use Rattle.nvm_trace.specs.declared.start.Start.TheVariants.{Zeroes as FromZeroes, Unknown}
 use Rattle.nvm_points.specs.PointView.{PointView, TableView, PutView, leaves, puts, zeroes, mark, deallocates, anything}
-use Rattle.nvm_points.specs.declared.profile.Deallocated.{Deallocated}
-use Rattle.nvm_points.specs.declared.profile.Deallocated.TheVariants.{Zeroes, Ones, Either}
+use Rattle.nvm_trace.specs.declared.deallocated.Deallocated.{Deallocated}
+use Rattle.nvm_trace.specs.declared.deallocated.Deallocated.TheVariants.{Zeroes, Ones, Either}
 use Rattle.nvm_orders.specs.OrderView.{PlacedView, FirstView, ContentView, zeroes as zero_bytes, ones, bytes, mark as marked, ValueView, as_is, puts as puts_this}
 
 -- The content is one of a block of this size.

@@ -8,7 +8,7 @@ use Rattle.nvm_points.specs.declared.point.Presence.{Presence}
 use Rattle.nvm_points.specs.declared.point.Put.{Put}
 use Rattle.nvm_points.specs.declared.point.Put.TheVariants.{Nothing as NothingPut, Bytes as BytesPut, Zeroes as ZeroesPut, Mark as MarkPut, Deallocated as DeallocatedPut, Anything as AnythingPut}
 use Rattle.nvm_points.specs.declared.points.Points.{Points}
-use Rattle.nvm_points.specs.declared.profile.Deallocated.{Deallocated as DeallocatedValue}
+use Rattle.nvm_trace.specs.declared.deallocated.Deallocated.{Deallocated as DeallocatedValue}
 
 -- what a point finds in its blocks
 pub data FoundView : Type 0 where

@@ -18,7 +18,8 @@ mod run;
 mod told;
 
 pub use making::points_of;
+pub use nvm_trace::Deallocated;
 pub use point::{Found, Point, Presence, Put};
 pub use points::Points;
 pub use points_fault::PointsFault;
-pub use profile::{Deallocated, Held, Profile};
+pub use profile::{Held, Profile};

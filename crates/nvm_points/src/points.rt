@@ -1,7 +1,6 @@
 use crate::point::Point;
-use crate::profile::Deallocated;
 use nvm_record::BlockSize;
-use nvm_trace::Start;
+use nvm_trace::{Deallocated, Start};
 
 /// The points of a trace's commands, and what an explanation of it has to know beside them.
 #[derive(Debug, Drop)]

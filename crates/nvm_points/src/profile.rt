@@ -2,6 +2,8 @@ ghost use Rattle.std.specs.Prelude.{◌≡◌};
 ghost use Rattle.nvm_points.specs.Commands as commands;
 ghost use Rattle.nvm_points.specs.Rows as rows;
 
+use nvm_trace::Deallocated;
+
 /// What a device is held to.
 #[derive(Clone, Copy, Debug, PartialEq, Eq)]
 pub struct Profile {
@@ -64,15 +66,4 @@ impl Held {
             Held::Atomic | Held::Whole | Held::ByBlocks => false,
         }
     }
-}
-
-/// What a deallocated block may read as (DLFEAT of Identify Namespace).
-#[derive(Clone, Copy, Debug, PartialEq, Eq)]
-pub enum Deallocated {
-    /// Zeroes (001b).
-    Zeroes,
-    /// FFh in each byte (010b).
-    Ones,
-    /// Either (000b, or not known).
-    Either,
 }

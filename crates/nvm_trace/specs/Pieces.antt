@@ -27,7 +27,7 @@ use Rattle.nvm_trace.specs.declared.cut.Cut.TheVariants.{Whole, Block, InUnit}
 use Rattle.nvm_trace.specs.declared.judging.Judging.{Judging}
 use Rattle.nvm_trace.specs.declared.judging.Judging.TheVariants.{Standard, Strict}
 use Rattle.nvm_trace.specs.declared.reads.Reads.{Reads}
-use Rattle.nvm_trace.specs.declared.reads.Reads.TheVariants.{Whole as WholeReads, ByBlocks}
+use Rattle.nvm_trace.specs.declared.reads.Reads.TheVariants.{Atomic, Whole as WholeReads, ByBlocks}
 use Rattle.nvm_trace.specs.declared.traced_job.Ending.{Ending}
 use Rattle.nvm_trace.specs.declared.traced_job.TracedJob.{TracedJob}
 use Rattle.nvm_trace.specs.Saying.{is_success, leaves_open}
@@ -38,6 +38,7 @@ abbrev pub exceeds_write_limit : Namespace → ℕ → ℕ → Bool
 exceeds_write_limit ns slba blocks = nat_lt (ns.nawun + 1) blocks || crosses_boundary ns slba blocks
 
 abbrev pub by_blocks : Reads → Bool
+by_blocks Atomic = false
 by_blocks WholeReads = false
 by_blocks ByBlocks = true
 

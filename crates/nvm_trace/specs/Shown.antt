@@ -4,7 +4,8 @@ use Rattle.nvm_trace.specs.Traceable.{IsTraceable}
 use Rattle.nvm_trace.specs.TraceView.{TraceView}
 
 abbrev pub shown_by : Inside → TraceView
-shown_by t = record { namespace = t.geometry; first = t.first; start = t.start; reads = t.reads; jobs = t.jobs.items }
+shown_by t =
+    record { namespace = t.geometry; first = t.first; start = t.start; reads = t.reads; deallocated = t.deallocated; jobs = t.jobs.items }
 
 abbrev pub IsTraceableAs : Inside → Type 0
 IsTraceableAs t = IsTraceable (shown_by t)

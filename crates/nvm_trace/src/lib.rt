@@ -7,6 +7,7 @@
 
 mod cut;
 mod cuts;
+mod deallocated;
 mod explained;
 mod judging;
 pub mod laws;
@@ -32,6 +33,7 @@ mod witnessing;
 
 pub use cut::Cut;
 pub use cuts::Cuts;
+pub use deallocated::Deallocated;
 pub use explained::Explained;
 pub use judging::Judging;
 pub use owner::Owner;

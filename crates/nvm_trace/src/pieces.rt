@@ -97,7 +97,7 @@ fn by_blocks(reads: Reads) -> bool
     ensures { result ≡ spec.by_blocks reads }
 {
     match reads {
-        Reads::Whole => false,
+        Reads::Atomic | Reads::Whole => false,
         Reads::ByBlocks => true,
     }
 }

@@ -1,5 +1,6 @@
 ghost use Rattle.std.specs.Prelude.{◌≡◌, [], ◌∷◌, ◌++◌, MatchResult, OnOk, OnErr};
 
+use crate::deallocated::Deallocated;
 use crate::reads::Reads;
 use crate::start::Start;
 use crate::taking::ending_fault;
@@ -28,6 +29,8 @@ pub struct Trace {
     pub start: Start,
     /// What its Reads and Compares are held to.
     pub reads: Reads,
+    /// What a deallocated block may read as.
+    pub deallocated: Deallocated,
     /// The jobs, each at the place of its number.
     pub jobs: Vec<TracedJob>,
 }
@@ -48,14 +51,22 @@ impl Trace {
     ghost use Rattle.nvm_trace.specs.Taking.{CanTake, Applies};
 
     /// A trace without jobs. It takes no memory.
-    pub fn new(alloc: Global, geometry: Geometry, first: u64, start: Start, reads: Reads) -> Trace
-        ensures { result ≡ record { namespace = geometry; first = first; start = start; reads = reads; jobs = [] } }
+    pub fn new(
+        alloc: Global,
+        geometry: Geometry,
+        first: u64,
+        start: Start,
+        reads: Reads,
+        deallocated: Deallocated,
+    ) -> Trace
+        ensures { result ≡ record { namespace = geometry; first = first; start = start; reads = reads; deallocated = deallocated; jobs = [] } }
     {
         Trace {
             geometry,
             first,
             start,
             reads,
+            deallocated,
             jobs: Vec::new(alloc),
         }
     }

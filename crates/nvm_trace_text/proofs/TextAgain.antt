@@ -81,6 +81,6 @@ text_again t longest fit h k l =
     all_written t.namespace t.jobs longest fit h.namespace.block_size (recursion_from_All (IsTraceableJob t.namespace) t.jobs h.jobs) (recursion_from_All JobFits t.jobs k.jobs) (recursion_from_All EndsBeforeLast t.jobs l) in
     let jobs : SayBehind (trace_under (head_of t)) (text_lines (job_lines t.jobs)) t = say_again (trace_under (head_of t)) t.jobs (omega (arith, few)) written in
     let under : UnderHead (codes "trace" ∷ head_words t) (Say (text_lines (job_lines t.jobs)) t) (λ empty. SayBehind empty (text_lines (job_lines t.jobs)) t) =
-    (head_of t, record { read = head_again t k.namespace k.first; numbers = valid_faultless t.namespace h.namespace }, jobs) in
+    (head_of t, record { read = head_again t k.namespace h.namespace k.first; numbers = valid_faultless t.namespace h.namespace }, jobs) in
     subst (λ (ls : List (List ℕ)). Say ls t) (sym lines)
     (subst (λ (ws : List (List ℕ)). UnderHead ws (Say (text_lines (job_lines t.jobs)) t) (λ empty. SayBehind empty (text_lines (job_lines t.jobs)) t)) (sym words) under)

@@ -7,8 +7,10 @@ use Rattle.nvm_plan.specs.declared.job.Body.TheVariants.{Single, Pair}
 use Rattle.nvm_text.specs.Lines.{statuses_text, payload_text}
 use Rattle.nvm_list.specs.Listing.{command_text}
 use Rattle.nvm_trace.specs.TraceView.{TraceView}
+use Rattle.nvm_trace.specs.declared.deallocated.Deallocated.{Deallocated}
+use Rattle.nvm_trace.specs.declared.deallocated.Deallocated.TheVariants.{Zeroes as ZeroesRead, Ones, Either}
 use Rattle.nvm_trace.specs.declared.reads.Reads.{Reads}
-use Rattle.nvm_trace.specs.declared.reads.Reads.TheVariants.{Whole, ByBlocks}
+use Rattle.nvm_trace.specs.declared.reads.Reads.TheVariants.{Atomic, Whole, ByBlocks}
 use Rattle.nvm_trace.specs.declared.start.Start.{Start}
 use Rattle.nvm_trace.specs.declared.start.Start.TheVariants.{Zeroes, Unknown}
 use Rattle.nvm_trace.specs.declared.traced_job.Ending.{Ending}
@@ -20,8 +22,15 @@ start_word Zeroes = codes "zeroes"
 start_word Unknown = codes "unknown"
 
 abbrev pub reads_word : Reads → List ℕ
+reads_word Atomic = codes "atomic"
 reads_word Whole = codes "whole"
 reads_word ByBlocks = codes "by-blocks"
+
+-- nothing where it may be either
+abbrev pub deallocated_text : Deallocated → List ℕ
+deallocated_text ZeroesRead = codes " deallocated zeroes"
+deallocated_text Ones = codes " deallocated ones"
+deallocated_text Either = []
 
 unfoldable pub numbers_text : Numbers → List ℕ
 numbers_text n =
@@ -30,10 +39,11 @@ numbers_text n =
     ++ (codes " nabsn " ++ (decimal n.nabsn
     ++ (codes " nabo " ++ (decimal n.nabo ++ (codes " nawun " ++ (decimal n.nawun ++ (codes " nacwu " ++ decimal n.nacwu))))))))))
 
-unfoldable pub known_text : ℕ → Start → Reads → List ℕ
-known_text lba start reads =
+unfoldable pub known_text : ℕ → Start → Reads → Deallocated → List ℕ
+known_text lba start reads deallocated =
     codes " first " ++ (decimal lba
-    ++ (codes " start " ++ (start_word start ++ (codes " reads " ++ (reads_word reads ++ codes "\n")))))
+    ++ (codes " start " ++ (start_word start
+    ++ (codes " reads " ++ (reads_word reads ++ (deallocated_text deallocated ++ codes "\n"))))))
 
 -- the numbers of a namespace
 abbrev pub numbers_in : Namespace → Numbers
@@ -41,7 +51,7 @@ numbers_in ns =
     record { nsze = ns.nsze; block = ns.block_size; nabsn = ns.nabsn; nabo = ns.nabo; nawun = ns.nawun; nacwu = ns.nacwu }
 
 abbrev pub head_line : TraceView → List ℕ
-head_line t = numbers_text (numbers_in t.namespace) ++ known_text t.first t.start t.reads
+head_line t = numbers_text (numbers_in t.namespace) ++ known_text t.first t.start t.reads t.deallocated
 
 -- when it ended, if it did
 abbrev pub time_of : Option Ending → Option ℕ

@@ -7,7 +7,7 @@ use thiserror::Error;
 #[derive(Clone, Copy, Debug, PartialEq, Eq, Error)]
 pub enum TraceExpected {
     /// The first line with words is no head.
-    #[error("expected trace, then nsze, block, nabsn, nabo, nawun, nacwu and first, each with its number, start zeroes or start unknown, and reads whole or reads by-blocks")]
+    #[error("expected trace, then nsze, block, nabsn, nabo, nawun and nacwu, each with its number, maybe awun and acwu with theirs, first with its number, start zeroes or start unknown, reads atomic, reads whole or reads by-blocks, and maybe deallocated zeroes, deallocated ones or deallocated either")]
     Head,
     /// The head's numbers are no namespace's.
     #[error("expected the numbers of a namespace: {0}")]

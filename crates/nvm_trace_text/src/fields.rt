@@ -65,6 +65,22 @@ pub(crate) fn keyed<'a>(
     }
 }
 
+/// The same, or 0 where another word stands here.
+pub(crate) fn keyed_or_zero<'a>(
+    words: &'a [u8],
+    key: &[u8],
+    most: u64,
+) -> Result<(u64, &'a [u8]), TraceExpected>
+    ensures { AnswersWith (λ x. (x.0, words_in x.1.now)) result (head.keyed_or_zero key.now most (words_in words.now)) }
+{
+    let (word, _) = first_word(words);
+    if word == key {
+        keyed(words, key, most)
+    } else {
+        Ok((0, words))
+    }
+}
+
 /// Whether no word stands here.
 pub(crate) fn is_end(words: &[u8]) -> bool
     ensures { result ≡ head.is_end (words_in words.now) }

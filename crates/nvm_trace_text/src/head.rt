@@ -4,9 +4,9 @@ ghost use Rattle.nvm_trace_text.specs.Head as spec;
 ghost use Rattle.nvm_trace_text.specs.Inside.Answers.{AnswersWith};
 
 use crate::expected::TraceExpected;
-use crate::fields::{behind_key, is_end, keyed};
+use crate::fields::{behind_key, is_end, keyed, keyed_or_zero};
 use nvm_list::first_word;
-use nvm_trace::{Reads, Start};
+use nvm_trace::{Deallocated, Reads, Start};
 
 /// What the head of a text says.
 #[derive(Clone, Copy)]
@@ -15,6 +15,7 @@ pub(crate) struct Head {
     pub(crate) first: u64,
     pub(crate) start: Start,
     pub(crate) reads: Reads,
+    pub(crate) deallocated: Deallocated,
 }
 
 /// Six numbers, which may be a namespace's.
@@ -45,6 +46,7 @@ fn head_with(numbers: Numbers, words: &[u8]) -> Result<Head, TraceExpected>
     let (first, rest) = keyed(words, b"first", u64::MAX)?;
     let (start, rest) = start_of(rest)?;
     let (reads, rest) = reads_of(rest)?;
+    let (deallocated, rest) = deallocated_of(rest)?;
     if !is_end(rest) {
         return Err(TraceExpected::Head);
     }
@@ -53,6 +55,7 @@ fn head_with(numbers: Numbers, words: &[u8]) -> Result<Head, TraceExpected>
         first,
         start,
         reads,
+        deallocated,
     })
 }
 
@@ -67,15 +70,29 @@ fn numbers_of(words: &[u8]) -> Result<(Numbers, &[u8]), TraceExpected>
     let (nabo, rest) = keyed(rest, b"nabo", u64::from(u16::MAX))?;
     let (nawun, rest) = keyed(rest, b"nawun", u64::from(u16::MAX))?;
     let (nacwu, rest) = keyed(rest, b"nacwu", u64::from(u16::MAX))?;
+    let (awun, rest) = keyed_or_zero(rest, b"awun", u64::from(u16::MAX))?;
+    let (acwu, rest) = keyed_or_zero(rest, b"acwu", u64::from(u16::MAX))?;
     let numbers = Numbers {
         nsze,
         block: block as u32,
         nabsn: nabsn as u16,
         nabo: nabo as u16,
-        nawun: nawun as u16,
-        nacwu: nacwu as u16,
+        nawun: limit_of(nabsn as u16, nawun as u16, awun as u16),
+        nacwu: limit_of(nabsn as u16, nacwu as u16, acwu as u16),
     };
     Ok((numbers, rest))
+}
+
+/// A limit of the namespace, or the controller's where it is 0, and no more than a boundary leaves.
+fn limit_of(nabsn: u16, own: u16, controllers: u16) -> u16
+    ensures { result ≡ spec.limit_of nabsn own controllers }
+{
+    let limit = if own == 0 { controllers } else { own };
+    if nabsn > 0 && limit > nabsn {
+        nabsn
+    } else {
+        limit
+    }
 }
 
 /// What was known of the blocks, and what stands after it.
@@ -97,10 +114,31 @@ fn reads_of(words: &[u8]) -> Result<(Reads, &[u8]), TraceExpected>
     ensures { AnswersWith (λ x. (x.0, words_in x.1.now)) result (spec.reads_of (words_in words.now)) }
 {
     let (word, rest) = first_word(behind_key(words, b"reads")?);
-    if word == b"whole".as_slice() {
+    if word == b"atomic".as_slice() {
+        Ok((Reads::Atomic, rest))
+    } else if word == b"whole".as_slice() {
         Ok((Reads::Whole, rest))
     } else if word == b"by-blocks".as_slice() {
         Ok((Reads::ByBlocks, rest))
+    } else {
+        Err(TraceExpected::Head)
+    }
+}
+
+/// What a deallocated block may read as, where words stand here that say it, and what stands after them.
+fn deallocated_of(words: &[u8]) -> Result<(Deallocated, &[u8]), TraceExpected>
+    ensures { AnswersWith (λ x. (x.0, words_in x.1.now)) result (spec.deallocated_of (words_in words.now)) }
+{
+    if is_end(words) {
+        return Ok((Deallocated::Either, words));
+    }
+    let (word, rest) = first_word(behind_key(words, b"deallocated")?);
+    if word == b"zeroes".as_slice() {
+        Ok((Deallocated::Zeroes, rest))
+    } else if word == b"ones".as_slice() {
+        Ok((Deallocated::Ones, rest))
+    } else if word == b"either".as_slice() {
+        Ok((Deallocated::Either, rest))
     } else {
         Err(TraceExpected::Head)
     }

@@ -6,7 +6,7 @@ use crate::head::Numbers;
 use crate::job_text::{BodyText, ReplyText, TimeText, time_of};
 use nvm_geometry::Geometry;
 use nvm_record::NoMemory;
-use nvm_trace::{Reads, Start, Trace, TracedJob};
+use nvm_trace::{Deallocated, Reads, Start, Trace, TracedJob};
 use std::alloc::Global;
 
 /// The text of a trace: its head, and a line for each job.
@@ -18,7 +18,13 @@ pub fn text_of_trace(alloc: Global, trace: &Trace) -> Result<String, NoMemory>
 {
     let mut text = String::new(alloc);
     push_numbers(&mut text, numbers_of(trace.geometry))?;
-    push_known(&mut text, trace.first, trace.start, trace.reads)?;
+    push_known(
+        &mut text,
+        trace.first,
+        trace.start,
+        trace.reads,
+        trace.deallocated,
+    )?;
     for job in &trace.jobs {
         push_job(&mut text, job)?;
     }
@@ -60,12 +66,22 @@ fn push_numbers(text: &mut String, numbers: Numbers) -> Result<(), NoMemory>
 
 /// Appends the rest of the head.
 #[tactic(auto, unfolding(crate::specs::Listing::known_text))]
-fn push_known(text: &mut String, first: u64, start: Start, reads: Reads) -> Result<(), NoMemory>
-    ensures { OnOk result (string_bytes text.new ≡ string_bytes text.old ++ spec.known_text first start reads) }
+fn push_known(
+    text: &mut String,
+    first: u64,
+    start: Start,
+    reads: Reads,
+    deallocated: Deallocated,
+) -> Result<(), NoMemory>
+    ensures { OnOk result (string_bytes text.new ≡ string_bytes text.old ++ spec.known_text first start reads deallocated) }
 {
     let start = start_word(start);
     let reads = reads_word(reads);
-    write!(text, " first {first} start {start} reads {reads}\n")
+    let deallocated = deallocated_words(deallocated);
+    write!(
+        text,
+        " first {first} start {start} reads {reads}{deallocated}\n"
+    )
 }
 
 /// The word for what was known of the blocks.
@@ -83,8 +99,20 @@ fn reads_word(reads: Reads) -> &'static str
     ensures { result.now ≡ spec.reads_word reads }
 {
     match reads {
+        Reads::Atomic => "atomic",
         Reads::Whole => "whole",
         Reads::ByBlocks => "by-blocks",
+    }
+}
+
+/// The words for what a deallocated block may read as: none where it may be either.
+fn deallocated_words(deallocated: Deallocated) -> &'static str
+    ensures { result.now ≡ spec.deallocated_text deallocated }
+{
+    match deallocated {
+        Deallocated::Zeroes => " deallocated zeroes",
+        Deallocated::Ones => " deallocated ones",
+        Deallocated::Either => "",
     }
 }
 

@@ -54,7 +54,14 @@ fn under_head(alloc: Global, words: &[u8], line: u64) -> Result<Trace, TextFault
         Err(expected) => return Err(TextFault::Line { line, expected }),
     };
     match geometry_of(head.numbers) {
-        Ok(geometry) => Ok(Trace::new(alloc, geometry, head.first, head.start, head.reads)),
+        Ok(geometry) => Ok(Trace::new(
+            alloc,
+            geometry,
+            head.first,
+            head.start,
+            head.reads,
+            head.deallocated,
+        )),
         Err(fault) => Err(TextFault::Line {
             line,
             expected: TraceExpected::Geometry(fault),

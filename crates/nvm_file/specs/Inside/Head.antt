@@ -25,5 +25,6 @@ trace_frame_by total head =
       first = head.first;
       start = head.start;
       reads = head.reads;
+      deallocated = head.deallocated;
       jobs = head.jobs;
     }

@@ -5,7 +5,8 @@ ghost use Rattle.nvm_file.specs.Counted.{counted};
 ghost use Rattle.nvm_file.specs.Fits.{NumbersFit};
 ghost use Rattle.nvm_file.specs.TraceFile.{IsTraceFile};
 ghost use Rattle.nvm_file.specs.TraceFits.{EndingFits, TraceFits, TracedJobFits};
-ghost use Rattle.nvm_file.specs.TraceSpelling.{ended_bytes, ending_bytes, reads_byte, start_byte, trace_bytes, trace_head_bytes, traced_bytes};
+ghost use Rattle.nvm_file.specs.TraceSpelling as spec;
+ghost use Rattle.nvm_file.specs.TraceSpelling.{ended_bytes, ending_bytes, promise_byte, start_byte, trace_bytes, trace_head_bytes, traced_bytes};
 ghost use Rattle.nvm_write.specs.Handed.{TakesFront};
 
 use super::bytes::{count_bytes, eight_bytes};
@@ -15,7 +16,7 @@ use super::jobs::write_job;
 use crate::laws::spellings_are_traces;
 use crate::traced_job::NEVER;
 use byteorder::{ByteOrder, LittleEndian};
-use nvm_trace::{Ending, Reads, Start, Trace, TracedJob};
+use nvm_trace::{Deallocated, Ending, Reads, Start, Trace, TracedJob};
 use nvm_write::hand;
 use std::io;
 use std::io::{ErrorKind, Write};
@@ -47,17 +48,20 @@ fn write_trace_head<W: Write>(writer: &mut W, trace: &Trace) -> io::Result<()>
 {
     hand(writer, b"NVT1")?;
     hand(writer, &namespace_bytes(trace.geometry))?;
-    hand(writer, &window_bytes(trace.first, trace.start, trace.reads))
+    hand(
+        writer,
+        &window_bytes(trace.first, trace.start, trace.reads, trace.deallocated),
+    )
 }
 
-/// The first LBA, what was known of the blocks, and what Reads are held to.
-fn window_bytes(first: u64, start: Start, reads: Reads) -> [u8; 10]
-    ensures { result ≡ little_bytes 8 first ++ (start_byte start ∷ reads_byte reads ∷ []) }
+/// The first LBA, what was known of the blocks, and what the device promises.
+fn window_bytes(first: u64, start: Start, reads: Reads, deallocated: Deallocated) -> [u8; 10]
+    ensures { result ≡ little_bytes 8 first ++ (start_byte start ∷ promise_byte reads deallocated ∷ []) }
 {
     let mut bytes = [0; 10];
     LittleEndian::write_u64(&mut bytes, first);
     bytes[8] = start_code(start);
-    bytes[9] = reads_code(reads);
+    bytes[9] = promise_code(reads, deallocated);
     bytes
 }
 
@@ -70,12 +74,29 @@ fn start_code(start: Start) -> u8
     }
 }
 
+fn promise_code(reads: Reads, deallocated: Deallocated) -> u8
+    ensures { result ≡ promise_byte reads deallocated }
+{
+    reads_code(reads) + 3 * deallocated_code(deallocated)
+}
+
 fn reads_code(reads: Reads) -> u8
-    ensures { result ≡ reads_byte reads }
+    ensures { result ≡ spec.reads_code reads }
 {
     match reads {
         Reads::Whole => 0,
         Reads::ByBlocks => 1,
+        Reads::Atomic => 2,
+    }
+}
+
+fn deallocated_code(deallocated: Deallocated) -> u8
+    ensures { result ≡ spec.deallocated_code deallocated }
+{
+    match deallocated {
+        Deallocated::Either => 0,
+        Deallocated::Zeroes => 1,
+        Deallocated::Ones => 2,
     }
 }
 
