@@ -51,6 +51,7 @@ impl<'a> Rest<'a> {
         requires { count ≤ length (left_of self) }
         ensures { left_of result ≡ drop count (left_of self.entry) }
     {
+        let _length = self.file.len();
         Rest {
             file: self.file,
             from: self.from + count,
