@@ -33,8 +33,6 @@ from witness_model import DIFFERS, MARKED, SUCCESS, sent
 
 PROGRAMS = {name: os.path.join(TOP, "crates", name, "out", name) for name in ("nvq", "nvmu")}
 ROWS = os.path.join(TOP, "bench", "standard", "rows.txt")
-# Traces among those rows whose head has a limit above its boundary, which is refused still.
-REFUSED = ("pair_limit_above_the_boundary", "write_limit_above_the_boundary")
 # The first words of the verdicts, their exit statuses, and what the standard must not say then.
 EXPLAINED, CONTRADICTION, UNKNOWN = "explained", "contradiction", "unknown"
 STATUSES = {EXPLAINED: 0, CONTRADICTION: 2, UNKNOWN: 3}
@@ -83,6 +81,12 @@ def written(ended, *found, **more):
     return trace_of(sent(1, ended, write(0, 0x41), **more), *reads)
 
 
+def cleared_to(byte, deallocated="either"):
+    """A Write of a block, a Deallocate of it, and a Read that found this byte."""
+    jobs = sent(1, 2, write(0, 0x41)), sent(3, 4, dataset((0, 1))), sent(5, 6, read(0, 1), found=(byte,))
+    return replace(trace_of(*jobs), deallocated=deallocated)
+
+
 def of_a_block(*jobs):
     """A trace of Writes and Reads of one block: of each when it began and when it ended, what it is, and its byte."""
     return trace_of(*(sent(began, ended, write(0, byte)) if asked == WRITE else sent(began, ended, read(0, 1), found=(byte,)) for began, ended, asked, byte in jobs))
@@ -100,6 +104,11 @@ TORN_AND_STALE = replace(
     ),
     namespace=Namespace(nabsn=7, nawun=1, nacwu=1),
     reads="by-blocks",
+)
+NO_SNAPSHOT = trace_of(
+    sent(1, 9, read(0, 2), found=(0, 0x42)),
+    sent(2, 3, write(0, 0x41), host=2),
+    sent(4, 5, write(1, 0x42), host=2),
 )
 # A Read that found in the first of two units what began to be written when it had ended.
 FORESEEN = trace_of(sent(3, 4, read(7, 1), found=(0x41,)), sent(10, None, write(7, 0x41, 0x41)))
@@ -215,6 +224,17 @@ BY_HAND = [
     (torn(nawun=0), (), EXPLAINED),
     # A Read may be torn where the trace says that each of its blocks has a moment of its own.
     (replace(TORN, reads="by-blocks"), (), EXPLAINED),
+    (TORN, ("--reads", "by-blocks"), EXPLAINED),
+    # A Read of two blocks found the second as it was after a Write that came behind one of the first, and the first as it was before: no snapshot. `whole` of
+    # a head doesn't ask for one.
+    *((replace(NO_SNAPSHOT, reads=reads), (), EXPLAINED) for reads in ("atomic", "whole", "by-blocks")),
+    (replace(NO_SNAPSHOT, reads="by-blocks"), ("--reads", "whole"), CONTRADICTION),
+    # What a deallocated block reads as.
+    *((cleared_to(byte), (), EXPLAINED) for byte in (0, 0x41, 0xFF)),
+    *((cleared_to(byte, "zeroes"), (), wanted) for byte, wanted in ((0, EXPLAINED), (0x41, EXPLAINED), (0xFF, CONTRADICTION))),
+    *((cleared_to(byte, "ones"), (), wanted) for byte, wanted in ((0, CONTRADICTION), (0x41, EXPLAINED), (0xFF, EXPLAINED))),
+    *((cleared_to(0xFF, "zeroes"), ("--deallocated", word), EXPLAINED) for word in ("either", "ones")),
+    (cleared_to(0xFF, "ones"), ("--deallocated", "zeroes"), CONTRADICTION),
     (replace(TORN, reads="by-blocks"), ("--reads", "whole"), CONTRADICTION),
     # A success that no check allows says nothing of what was done.
     (trace_of(sent(1, 2, write(0, 0x41)), sent(3, 4, write(1_000, 0x41))), (), EXPLAINED),
@@ -377,8 +397,9 @@ def by_the_standard(text, words=()):
     if text.count("\n") > SHORT:
         return None
     asked = dict(zip((it.removeprefix("--") for it in words[::2]), words[1::2]))
-    by_head = "by-blocks" if text.split("\n", 1)[0].endswith("by-blocks") else "atomic"
-    return standard.verdict(*standard.trace(text), asked.get("reads", by_head), asked.get("deallocated", "either"))
+    head, jobs = standard.trace(text)
+    said = standard.promised(head)
+    return standard.verdict(head, jobs, asked.get("reads", said[0]), asked.get("deallocated", said[1]))
 
 
 def judged(folder, text, words=(), wanted=""):
@@ -405,7 +426,7 @@ def of_the_standard(folder):
     for row in rows:
         named, *lines = [line for line in row.splitlines() if line]
         name, *asked = named.removeprefix("# ").split("; ")
-        for one in asked if name not in REFUSED else ():
+        for one in asked:
             *said, verdict = one.split()
             words = tuple(word if place % 2 else f"--{word}" for place, word in enumerate(said))
             wanted = (EXPLAINED,) if verdict == "explained" else (UNKNOWN,) if (name, one) in UNSHOWN else (CONTRADICTION,)

@@ -8,9 +8,10 @@ from host_files import compare, dataset, file_of, pair, read, unknown, write, ze
 from recorded import jobs_of, recorded
 from records import DONE, FAILED, KIND_WRITE, LOOKED, Done, Entry, Record
 from records import spelled as record_bytes
-from trace_files import Seen, Trace, spelled, text_of, trace_bytes, with_seen
+from trace_files import DEALLOCATED, READS, Seen, Trace, spelled, text_of, trace_bytes, with_seen
 
 HEAD = "expected trace, then nsze, block, nabsn, nabo, nawun and nacwu, each with its number, maybe awun and acwu with theirs, first with its number, start zeroes or start unknown, reads atomic, reads whole or reads by-blocks, and maybe deallocated zeroes, deallocated ones or deallocated either"
+HEAD_OF = "trace nsze 32 block 512 {} first 0 start zeroes reads atomic"
 SUCCESS = ((0, 0),)
 
 
@@ -170,6 +171,7 @@ WIDE = Trace(
     first=2**64 - 1,
     unknown=True,
     reads="by-blocks",
+    deallocated="ones",
 )
 
 
@@ -181,6 +183,21 @@ SPELLED = """# by hand
 12 - 64 65535 write 31 1 500*00,12*ff
 20 21 2 0 compare 4 1 00 first + 7 write 4 1 55 second cid=7 = 2/85 0/09
 """
+# Limits as devices report them, and as they are taken.
+LIMITS = (
+    ("nabsn 7 nabo 0 nawun 8 nacwu 65535", "nabsn 7 nabo 0 nawun 7 nacwu 7"),
+    ("nabsn 7 nabo 0 nawun 7 nacwu 8", "nabsn 7 nabo 0 nawun 7 nacwu 7"),
+    ("nabsn 0 nabo 0 nawun 8 nacwu 65535", "nabsn 0 nabo 0 nawun 8 nacwu 65535"),
+    ("nabsn 7 nabo 0 nawun 0 nacwu 0 awun 5 acwu 4", "nabsn 7 nabo 0 nawun 5 nacwu 4"),
+    ("nabsn 7 nabo 0 nawun 0 nacwu 0 awun 5", "nabsn 7 nabo 0 nawun 5 nacwu 0"),
+    ("nabsn 7 nabo 0 nawun 0 nacwu 0 acwu 4", "nabsn 7 nabo 0 nawun 0 nacwu 4"),
+    ("nabsn 7 nabo 0 nawun 0 nacwu 0 awun 65535 acwu 8", "nabsn 7 nabo 0 nawun 7 nacwu 7"),
+    ("nabsn 0 nabo 0 nawun 0 nacwu 0 awun 65535 acwu 8", "nabsn 0 nabo 0 nawun 65535 nacwu 8"),
+    # A limit of the namespace's own stands before the controller's.
+    ("nabsn 7 nabo 0 nawun 1 nacwu 2 awun 5 acwu 4", "nabsn 7 nabo 0 nawun 1 nacwu 2"),
+    ("nabsn 7 nabo 0 nawun 1 nacwu 0 awun 5 acwu 4", "nabsn 7 nabo 0 nawun 1 nacwu 4"),
+    ("nabsn 7 nabo 0 nawun 0 nacwu 0 awun 0 acwu 0", "nabsn 7 nabo 0 nawun 0 nacwu 0"),
+)
 LISTED = """trace nsze 32 block 512 nabsn 7 nabo 0 nawun 7 nacwu 3 first 64 start unknown reads by-blocks
 12 17 1 4 read 0 1 = 0/00 512*41
 12 - 64 65535 write 31 1 500*00,12*ff
@@ -190,7 +207,8 @@ LISTED = """trace nsze 32 block 512 nabsn 7 nabo 0 nawun 7 nacwu 3 first 64 star
 
 def traces(run):
     run.keep("two.nvr", record_bytes(TWO))
-    for trace in (TRACE, FOUND, LONG, WIDE, replace(WIDE, jobs=())):
+    promises = [replace(WIDE, jobs=(), reads=reads, deallocated=deallocated) for reads in READS for deallocated in DEALLOCATED]
+    for trace in (TRACE, FOUND, LONG, WIDE, *promises):
         text = text_of(trace)
         run.keep("text", f"# a trace\n\n{text}# its end\n")
         run.expect(["nvq", "trace", "text", "kept.nvt"], files={"kept.nvt": spelled(trace)})
@@ -198,6 +216,11 @@ def traces(run):
         run.expect(["nvq", "list", "kept.nvt"], out=text)
     run.expect(["nvq", "trace", "-", "spelled.nvt"], given=SPELLED.encode())
     run.expect(["nvq", "list", "spelled.nvt"], out=LISTED)
+    for limits, taken in LIMITS:
+        run.expect(["nvq", "trace", "-", "limits.nvt"], given=f"{HEAD_OF.format(limits)}\n".encode())
+        run.expect(["nvq", "list", "limits.nvt"], out=f"{HEAD_OF.format(taken)}\n")
+    run.expect(["nvq", "trace", "-", "either.nvt"], given=f"{HEAD_OF.format(taken)} deallocated either\n".encode())
+    run.expect(["nvq", "list", "either.nvt"], out=f"{HEAD_OF.format(taken)}\n")
     for trace, record, line, *words in WITNESSED:
         run.keep("trace.nvt", spelled(trace))
         run.keep("record.nvr", record_bytes(record))
@@ -222,6 +245,24 @@ def faults_of_texts(run):
         ("walk", HEAD),
         (head.replace("start zeroes", "start ones"), HEAD),
         ("trace nsze 32", HEAD),
+        (head.replace("reads atomic", "reads atomic-all"), HEAD),
+        (head.replace("reads atomic", "reads"), HEAD),
+        # What a deallocated block may read as: no word, another one, one more, and words in another place.
+        (f"{head} deallocated", HEAD),
+        (f"{head} deallocated twos", HEAD),
+        (f"{head} deallocated zeroes ones", HEAD),
+        (f"{head} zeroes", HEAD),
+        (f"{head} deallocated zeroes deallocated zeroes", HEAD),
+        (head.replace("reads", "deallocated zeroes reads"), HEAD),
+        # The controller's limits: no number, one too high, in another order, twice, and in another place.
+        (head.replace("first", "awun first"), HEAD),
+        (head.replace("first", "awun 65536 first"), HEAD),
+        (head.replace("first", "acwu 65536 first"), HEAD),
+        (head.replace("first", "acwu 0 awun 0 first"), HEAD),
+        (head.replace("first", "awun 0 awun 0 first"), HEAD),
+        (head.replace("first", "acwu 0 acwu 0 first"), HEAD),
+        (head.replace("nacwu", "awun 0 nacwu"), HEAD),
+        (f"{head} awun 0", HEAD),
         (head.replace("nabo 0", "nabo 9"), "expected the numbers of a namespace: OffsetAboveBoundary"),
         (head.replace("block 512", "block 513"), "expected the numbers of a namespace: BlockSize"),
     ):
@@ -276,10 +317,11 @@ def faults_of_files(run):
     run.expect(["nvmu", "witness", "cut.nvt", "two.nvr"], 1, err=f"nvmu: trace: trailing at {len(whole)}\n")
     run.expect(["nvq", "list", "cut.nvt"], 1, err=f"nvq: cut.nvt: trailing at {len(whole)}\n")
     for offset, value, fault, field in (
-        # NABO above NABSN, and what none of the three flags can be: what was known, what Reads are held to, and a job's kind.
+        # NABO above NABSN, and what none of the three flags can be: what was known, what the device promises, and a job's kind.
         (18, 9, "bad value at 4", "the numbers of the namespace"),
         (32, 2, "bad value at 32", "what was known of the blocks before"),
-        (33, 2, "bad value at 33", "what Reads and Compares are held to"),
+        (33, 9, "bad value at 33", "what the device promises"),
+        (33, 255, "bad value at 33", "what the device promises"),
         (40, 2, "bad value at 40", "the kind of job 0"),
         # A host above 64, and an unnamed bit of an entry.
         (38, 65, "bad value at 38", "the host of job 0"),

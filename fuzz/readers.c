@@ -277,7 +277,7 @@ static void judge_device(const uint8_t *in, size_t size, struct profile profile)
     device.text = open_memstream(&text, &length);
     if (!device.text)
         abort();
-    fprintf(device.text, "trace nsze %d block 512 nabsn %d nabo 0 nawun %d nacwu %d first 0 start zeroes reads whole\n", BLOCKS, UNIT - 1, UNIT - 1, UNIT - 1);
+    fprintf(device.text, "trace nsze %d block 512 nabsn %d nabo 0 nawun %d nacwu %d first 0 start zeroes reads atomic\n", BLOCKS, UNIT - 1, UNIT - 1, UNIT - 1);
     bool is_right = in[0] % 2 == 0;
     uint64_t now = 20;
     unsigned number = 0;

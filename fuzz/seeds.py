@@ -55,6 +55,7 @@ def seeds():
     """The inputs of each target."""
     records, seen = of_kind(Record), of_kind(Trace)
     texts = [text_of(it).encode() for it in seen] + [it.encode() for it in vars(contradictions).values() if isinstance(it, str) and it.startswith("trace ")]
+    texts += [f"{traces.HEAD_OF.format(limits)}\n".encode() for limits, _ in traces.LIMITS]
     hosts = [mixed(number, 4 * number, 16) for number in range(4)] + [*kept("*.nvq")]
     files = [*map(record_bytes, records), *map(trace_bytes, seen), *hosts]
     refuting = [contradictions.NOBODY, contradictions.PAIR, *(it for it, _ in contradictions.STALE), *(it for _, it, *_ in contradictions.RULES)]

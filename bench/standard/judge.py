@@ -4,7 +4,7 @@
     judge.py TRACE [--reads atomic|atomic-all|whole|by-blocks] [--deallocated zeroes|ones|either] [--bound STATES]
 
 prints `explained`, `contradicted` or `too large` and ends with 0, 2 or 3. It was written from that page alone and
-shares nothing with the product. The head's own word for Reads isn't looked at: `--reads` is `atomic` unless given.
+shares nothing with the product. Where a word isn't given the head's stands; `whole` of a head is taken for `atomic`.
 """
 import argparse
 import collections
@@ -85,6 +85,11 @@ def trace(text):
     return head, [job(number, words, head["block"]) for number, words in enumerate(lines[1:])]
 
 
+def promised(head):
+    """The words of a head for Reads and for deallocated blocks."""
+    return "by-blocks" if head["reads"] == "by-blocks" else "atomic", head.get("deallocated", "either")
+
+
 # The page's table
 
 
@@ -139,7 +144,7 @@ class Table:
         if told != "done":
             return [self.each(job, values, True, sure=False, late=told == "host")]
         entry = command.name == "write" or self.reads in ("atomic-all", "whole")
-        if entry and self.within(command, self.head["nawun"]):
+        if entry and self.within(command, self.head["nawun"] or self.head.get("awun", 0)):
             return [[self.point(job, {}, values)]]
         return [self.each(job, values, True)]
 
@@ -205,7 +210,7 @@ class Table:
         if job.statuses and told not in ("done", "host") and then == "done" or (first, second) == ((0, 0), (0, 0x09)):
             return None
         if told == then == "done":
-            if self.within(write, self.head["nacwu"]):
+            if self.within(write, self.head["nacwu"] or self.head.get("acwu", 0)):
                 return [[self.point(job, finds, puts)]]
             return [found + self.each(job, puts, True)]
         if first == (2, 0x85):
@@ -332,14 +337,16 @@ def verdict(head, jobs, reads="atomic", deallocated="either", bound=100000):
 def options():
     parser = argparse.ArgumentParser()
     parser.add_argument("trace")
-    parser.add_argument("--reads", choices=["atomic", "atomic-all", "whole", "by-blocks"], default="atomic")
-    parser.add_argument("--deallocated", choices=["zeroes", "ones", "either"], default="either")
+    parser.add_argument("--reads", choices=["atomic", "atomic-all", "whole", "by-blocks"])
+    parser.add_argument("--deallocated", choices=["zeroes", "ones", "either"])
     parser.add_argument("--bound", type=int, default=100000)
     return parser.parse_args()
 
 
 if __name__ == "__main__":
     asked = options()
-    said = verdict(*trace(open(asked.trace).read()), asked.reads, asked.deallocated, asked.bound)
+    head, jobs = trace(open(asked.trace).read())
+    reads, deallocated = promised(head)
+    said = verdict(head, jobs, asked.reads or reads, asked.deallocated or deallocated, asked.bound)
     print(said)
     sys.exit({"explained": 0, "contradicted": 2, "too large": 3}[said])

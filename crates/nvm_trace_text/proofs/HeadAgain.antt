@@ -1,7 +1,7 @@
 -- The head of a trace's text is read as this head.
-use Rattle.std.proofs.Common.{◌≡◌, ◌≢◌, ℕ, zero, suc, ◌==◌, ◌^◌, ◌<◌, ◌≤◌, true, cond, List, [], ◌∷◌, ◌++◌, codes, decimal, bytes_eq, Option, Result, Ok, Err, refl, sym, ap, ◌∙◌, append_assoc, append-nil, inl, inr, arith}
+use Rattle.std.proofs.Common.{◌≡◌, ◌≢◌, ℕ, zero, suc, ◌==◌, ◌^◌, ◌<◌, ◌≤◌, true, cond, Bool, ◌&&◌, ltb, List, [], ◌∷◌, ◌++◌, codes, decimal, bytes_eq, Option, Result, Ok, Err, refl, sym, ap, ◌∙◌, append_assoc, append-nil, inl, inr, arith}
 use Rattle.std.specs.List.{AllByRecursion}
-use Rattle.std.proofs.lemmas.Bool.{cond-true, le-ltb}
+use Rattle.std.proofs.lemmas.Bool.{cond-true, le-ltb, lt-ltb, ne_eqb}
 use Rattle.nvm_geometry.specs.Boundaries.{units_of}
 use Rattle.nvm_geometry.specs.Faults.{IsValid, HasNoFault}
 use Rattle.nvm_geometry.specs.Namespace.{Namespace}
@@ -192,11 +192,13 @@ numbers_chained n w0 w1 w2 w3 w4 w5 w6 a b c d e f g h = rw (a, b, c, d, e, f, g
 -- A limit that a boundary leaves is taken as it is.
 within_again : (nabsn limit : ℕ) → (nabsn ≢ 0 → limit ≤ nabsn) → within_boundary nabsn limit ≡ limit
 within_again zero limit h = refl
-within_again (suc n) limit h = ap (λ b. cond b (suc n) limit) (le-ltb (suc n) limit (h (λ no. absurd (omega (arith, no)))))
+within_again (suc n) limit h =
+    ap (λ (b : Bool). cond (b && ltb (suc n) limit) (suc n) limit) (lt-ltb 0 (suc n) (omega arith))
+    ∙ ap (λ (b : Bool). cond b (suc n) limit) (le-ltb (suc n) limit (h (λ no. absurd (omega (arith, no)))))
 
 own_again : (limit : ℕ) → cond (limit == 0) 0 limit ≡ limit
 own_again zero = refl
-own_again (suc n) = refl
+own_again (suc n) = ap (λ (b : Bool). cond b 0 (suc n)) (ne_eqb (suc n) 0 (omega arith))
 
 limit_again : (nabsn limit : ℕ) → (nabsn ≢ 0 → limit ≤ nabsn) → limit_of nabsn limit 0 ≡ limit
 limit_again nabsn limit h = ap (within_boundary nabsn) (own_again limit) ∙ within_again nabsn limit h

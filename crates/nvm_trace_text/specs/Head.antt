@@ -109,6 +109,10 @@ numbers_of words = do
     acwu.1,
   )
 
+abbrev pub head_that_says : Numbers → ℕ → Start → Reads → Deallocated → Head
+head_that_says numbers lba start reads deallocated =
+    record { numbers = numbers; first = lba; start = start; reads = reads; deallocated = deallocated }
+
 -- the head of these numbers, and of the words behind them
 unfoldable pub head_with : Numbers → List (List ℕ) → Result Head TraceExpected
 head_with numbers words = do
@@ -116,9 +120,7 @@ head_with numbers words = do
   start ← start_of lba.1
   reads ← reads_of start.1
   deallocated ← deallocated_of reads.1
-  ended_with
-  (record { numbers = numbers; first = lba.0; start = start.0; reads = reads.0; deallocated = deallocated.0 })
-  expecting.Head deallocated.1
+  ended_with (head_that_says numbers lba.0 start.0 reads.0 deallocated.0) expecting.Head deallocated.1
 
 -- the head that the words of a line say
 abbrev pub head : List (List ℕ) → Result Head TraceExpected

@@ -18,7 +18,7 @@ pub(crate) fn told_in_trace(
         ("the numbers of the namespace", 20),
         ("the LBA at which the window begins", 8),
         ("what was known of the blocks before", 1),
-        ("what Reads and Compares are held to", 1),
+        ("what the device promises", 1),
         ("the number of jobs", 4),
     ]);
     if let Some(field) = head {
