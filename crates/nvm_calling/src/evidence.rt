@@ -18,7 +18,7 @@ pub fn evidence_file_of(
     match judgment {
         Judgment::Explained(order) => Ok(Some(write_order(alloc, profile, order)?)),
         Judgment::Contradicted(found) => Ok(Some(write_contradiction(alloc, profile, found)?)),
-        Judgment::Wrong { .. } | Judgment::Unknown => Ok(None),
+        Judgment::Wrong { .. } | Judgment::Unknown(_) => Ok(None),
     }
 }
 

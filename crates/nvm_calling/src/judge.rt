@@ -22,6 +22,6 @@ pub fn is_explained(
     match judge(alloc, trace, profile, effort)? {
         Judgment::Explained(_) => Ok(Some(true)),
         Judgment::Contradicted(_) | Judgment::Wrong { .. } => Ok(Some(false)),
-        Judgment::Unknown => Ok(None),
+        Judgment::Unknown(_) => Ok(None),
     }
 }

@@ -19,7 +19,7 @@ use nvm_evidence::{
     unknown_object, unknown_text, write_contradiction, write_order, wrong_object, wrong_text,
 };
 use nvm_front::{Progress, STANDARD, Telling};
-use nvm_judge::{Judgment, judge};
+use nvm_judge::{Judgment, Stop, judge};
 use nvm_orders::Order;
 use nvm_points::Profile;
 use nvm_record::NoMemory;
@@ -125,7 +125,7 @@ fn found(alloc: Global, words: &CertifyWords, trace: &Trace) -> Result<Certified
             by_contradiction(alloc, words.telling, trace, profile, &contradiction)
         }
         Judgment::Wrong { command } => by_reply(alloc, words.telling, trace, command),
-        Judgment::Unknown => by_nothing(alloc, words.telling, profile),
+        Judgment::Unknown(stop) => by_nothing(alloc, words.telling, profile, stop),
     }
 }
 
@@ -205,12 +205,17 @@ fn by_reply(
 }
 
 /// That neither an order nor a contradiction was found.
-fn by_nothing(alloc: Global, telling: Telling, profile: Profile) -> Result<CertifiedTrace, NoMemory>
+fn by_nothing(
+    alloc: Global,
+    telling: Telling,
+    profile: Profile,
+    stop: Stop,
+) -> Result<CertifiedTrace, NoMemory>
     ensures { (t : TraceView) → IfOk result (IsToldOf t) }
 {
     let text = match telling {
-        Telling::Lines => unknown_text(alloc, profile)?,
-        Telling::Object => unknown_object(alloc, profile)?,
+        Telling::Lines => unknown_text(alloc, profile, stop)?,
+        Telling::Object => unknown_object(alloc, profile, stop)?,
     };
     Ok(CertifiedTrace {
         finding: Finding::Unknown,

@@ -2,6 +2,7 @@
 use crate::contradicted::push_command;
 use crate::ordered::OrderNumbers;
 use crate::words::{deallocated_word, held_word};
+use nvm_judge::Stop;
 use nvm_points::Profile;
 use nvm_record::NoMemory;
 use nvm_trace::Trace;
@@ -26,23 +27,35 @@ pub fn explained_object(alloc: Global, numbers: OrderNumbers) -> Result<String, 
     )
 }
 
-/// Why nothing is known.
-const WHY: &str =
-    "neither an order of its points nor a contradiction was found: a higher --effort may find one";
+/// Why nothing is known, in a word and in words.
+fn stop_words(stop: Stop) -> (&'static str, &'static str) {
+    match stop {
+        Stop::Effort => (
+            "effort",
+            "neither an order of its points nor a contradiction was found: a higher --effort may find one",
+        ),
+        Stop::Everything => (
+            "everything",
+            "every order was tried and none explains it, but no contradiction by the rules was found",
+        ),
+    }
+}
 
-/// The lines of a trace of which nothing is known, held to this profile.
-pub fn unknown_text(alloc: Global, profile: Profile) -> Result<String, NoMemory> {
+/// The lines of a trace of which nothing is known, held to this profile, and why the search for an order ended.
+pub fn unknown_text(alloc: Global, profile: Profile, stop: Stop) -> Result<String, NoMemory> {
+    let (_, why) = stop_words(stop);
     let reads = held_word(profile.held);
     let deallocated = deallocated_word(profile.deallocated);
-    format!(in alloc; "unknown reads {reads} deallocated {deallocated}\n{WHY}\n")
+    format!(in alloc; "unknown reads {reads} deallocated {deallocated}\n{why}\n")
 }
 
 /// The same as an object of JSON, with its line feed.
-pub fn unknown_object(alloc: Global, profile: Profile) -> Result<String, NoMemory> {
+pub fn unknown_object(alloc: Global, profile: Profile, stop: Stop) -> Result<String, NoMemory> {
+    let (word, why) = stop_words(stop);
     let reads = held_word(profile.held);
     let deallocated = deallocated_word(profile.deallocated);
     format!(in alloc;
-        "{{\"verdict\":\"unknown\",\"reads\":\"{reads}\",\"deallocated\":\"{deallocated}\",\"why\":\"{WHY}\"}}\n"
+        "{{\"verdict\":\"unknown\",\"reads\":\"{reads}\",\"deallocated\":\"{deallocated}\",\"stop\":\"{word}\",\"why\":\"{why}\"}}\n"
     )
 }
 

@@ -14,11 +14,11 @@ abbrev pub IsJudged : TraceView → Profile → Judgment → Type 0
 IsJudged t profile (Explained order) = IsExplainedBy t profile (seen_order order)
 IsJudged t profile (Contradicted contradiction) = IsContradictedBy t profile contradiction
 IsJudged t profile (Wrong command) = IsWrong t profile command
-IsJudged t profile Unknown = Unit {0}
+IsJudged t profile (Unknown stop) = Unit {0}
 
 -- What is found among the points of a table.
 abbrev pub IsFoundOf : TableView → Judgment → Type 0
 IsFoundOf t (Explained order) = IsExplanation t (seen_order order)
 IsFoundOf t (Contradicted contradiction) = AreContradicted t contradiction
 IsFoundOf t (Wrong command) = ⊥
-IsFoundOf t Unknown = Unit {0}
+IsFoundOf t (Unknown stop) = Unit {0}

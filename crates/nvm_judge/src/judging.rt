@@ -5,7 +5,7 @@ ghost use Rattle.nvm_points.specs.PointView.{seen_table};
 use crate::judgment::Judgment;
 use nvm_contradiction::{ContradictionFault, contradicts};
 use nvm_contradiction_search::contradiction_of;
-use nvm_order_search::order_of;
+use nvm_order_search::{Stop, order_of};
 use nvm_orders::{OrderFault, explains};
 use nvm_points::{Held, Points, PointsFault, Profile, points_of};
 use nvm_record::NoMemory;
@@ -30,21 +30,22 @@ pub fn profile_of(trace: &Trace) -> Profile {
     }
 }
 
-/// What a search for a contradiction of the points finds out.
+/// What a search for a contradiction of the points finds out. `stop`: why one for an order ended.
 fn contradicted<'t>(
     alloc: Global,
     points: &Points<'t>,
     effort: u32,
+    stop: Stop,
 ) -> Result<Judgment<'t>, NoMemory>
     ensures { IfOk result (IsFoundOf (seen_table points.now)) }
 {
     let Some(contradiction) = contradiction_of(alloc, points, effort)? else {
-        return Ok(Judgment::Unknown);
+        return Ok(Judgment::Unknown(stop));
     };
     match contradicts(alloc, points, &contradiction) {
         Ok(()) => Ok(Judgment::Contradicted(contradiction)),
         Err(ContradictionFault::NoMemory) => Err(AllocError),
-        Err(_) => Ok(Judgment::Unknown),
+        Err(_) => Ok(Judgment::Unknown(stop)),
     }
 }
 
@@ -52,13 +53,14 @@ fn contradicted<'t>(
 fn ordered<'t>(alloc: Global, points: &Points<'t>, effort: u32) -> Result<Judgment<'t>, NoMemory>
     ensures { IfOk result (IsFoundOf (seen_table points.now)) }
 {
-    let Some(order) = order_of(alloc, points, effort)? else {
-        return Ok(Judgment::Unknown);
+    let order = match order_of(alloc, points, effort)? {
+        Ok(order) => order,
+        Err(stop) => return Ok(Judgment::Unknown(stop)),
     };
     match explains(alloc, points, &order) {
         Ok(()) => Ok(Judgment::Explained(order)),
         Err(OrderFault::NoMemory) => Err(AllocError),
-        Err(_) => Ok(Judgment::Unknown),
+        Err(_) => Ok(Judgment::Unknown(Stop::Effort)),
     }
 }
 
@@ -73,19 +75,20 @@ fn searched<'t>(alloc: Global, points: &Points<'t>, effort: u32) -> Result<Judgm
     ensures { IfOk result (IsFoundOf (seen_table points.now)) }
 {
     let short = short_effort(points);
-    match ordered(alloc, points, effort.min(short))? {
-        Judgment::Unknown => {}
+    let stop = match ordered(alloc, points, effort.min(short))? {
+        Judgment::Unknown(stop) => stop,
         found => return Ok(found),
-    }
-    match contradicted(alloc, &*points, effort)? {
-        Judgment::Unknown if effort > short => ordered(alloc, points, effort),
+    };
+    match contradicted(alloc, &*points, effort, stop)? {
+        Judgment::Unknown(Stop::Effort) if effort > short => ordered(alloc, points, effort),
         found => Ok(found),
     }
 }
 
 /// Whether an order explains the trace, held to this profile, or a contradiction shows that none does, or a reply is wrong by itself.
 ///
-/// Each search goes on for as long as `effort` allows. `Unknown` is given where both found nothing, or nothing that is taken.
+/// Each search goes on for as long as `effort` allows. `Unknown` is given where both found nothing, or nothing that is taken, with
+/// why the one for an order ended.
 /// `NoMemory` is returned where a growth was refused: nothing is known then.
 #[tactic(auto, using(crate::proofs::Wrong::is_wrong))]
 pub fn judge<'t>(

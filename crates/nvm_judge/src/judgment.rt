@@ -1,4 +1,5 @@
 use nvm_contradiction::Contradiction;
+use nvm_order_search::Stop;
 use nvm_orders::Order;
 
 /// What was found out about a trace.
@@ -10,6 +11,6 @@ pub enum Judgment<'t> {
     Contradicted(Contradiction),
     /// No device may end the command of this number as it ended, whatever was done: nothing explains the trace. It is the first such.
     Wrong { command: u32 },
-    /// Neither an order that explains the trace nor a contradiction was found.
-    Unknown,
+    /// Neither an order that explains the trace nor a contradiction was found: why the search for an order ended.
+    Unknown(Stop),
 }

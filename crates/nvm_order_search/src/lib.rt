@@ -15,6 +15,8 @@ mod ranks;
 mod search;
 mod slots;
 mod state;
+mod stop;
 mod together;
 
 pub use merging::order_of;
+pub use stop::Stop;

@@ -4,6 +4,7 @@ use crate::making::{Known, Part, part_of};
 use crate::parts::{Share, shares_of};
 use crate::ranks::Ranks;
 use crate::search::{Search, Step};
+use crate::stop::Stop;
 use crate::together::done_together;
 use nvm_numbers::{MARK, Numbers, Values, ZERO, block_at, to_u32};
 use nvm_orders::{Content, FirstContent, Order, Placed, Value};
@@ -396,12 +397,13 @@ fn search_all<'t>(
     Ok(Some(all))
 }
 
-/// An order that explains the points, if one is found. For each of `effort` some hundred acts are looked at. Where none is found there may be one all the same.
+/// An order that explains the points, if one is found, or else why the search for one ended. For each of `effort` some hundred acts are
+/// looked at.
 pub fn order_of<'t>(
     alloc: Global,
     points: &Points<'t>,
     effort: u32,
-) -> Result<Option<Order<'t>>, NoMemory> {
+) -> Result<Result<Order<'t>, Stop>, NoMemory> {
     let mut shares = shares_of(alloc, &points.points, points.nsze)?;
     let ranges = ranges_of(alloc, &shares)?;
     let mut values = Values::new(alloc)?;
@@ -409,7 +411,7 @@ pub fn order_of<'t>(
     known.left = u64::from(effort).saturating_mul(EACH);
     number_parts(&mut shares, &mut known);
     let Some(all) = search_all(&mut known, &mut values, &shares, &ranges)? else {
-        return Ok(None);
+        return Ok(Err(Stop::Effort));
     };
     let mut steps = Vec::new(alloc);
     let mut first = Vec::new(alloc);
@@ -419,5 +421,5 @@ pub fn order_of<'t>(
     }
     steps.sort()?;
     let placed = place_all(alloc, points, &values, known.ones, &steps)?;
-    Ok(Some(Order { first, placed }))
+    Ok(Ok(Order { first, placed }))
 }
