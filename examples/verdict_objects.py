@@ -33,6 +33,11 @@ SAYS = {
     "tied after": "it does in LBA {by}, and {entry} put both at one moment",
 }
 FIRST_UNKNOWN = "{reader} found what was there at first, and nobody else can have left that"
+# What stopped the search for an order, by the words for it.
+STOPS = {
+    "neither an order of its points nor a contradiction was found: a higher --effort may find one": "effort",
+    "no order of its points explains it, but no contradiction by the rules was found": "everything",
+}
 CONCLUSIONS = {
     "loop": (("job",), "so {job} comes before itself"),
     "nobody": (("lba", "reader"), "{reader} found in LBA {lba} what nobody can have left there"),
@@ -106,7 +111,8 @@ def text_of(printed):
     if verdict == "explained":
         return f"explained{numbers(told, ('jobs', 'points', *PROFILE))}\n"
     if verdict == "unknown":
-        why = told.pop("why")
+        stop, why = told.pop("stop"), told.pop("why")
+        held(stop, STOPS[why])
         return f"unknown{numbers(told, PROFILE)}\n{why}\n"
     reads, deallocated, commands, facts, concluded = named(told, *PROFILE, "commands", "facts", "conclusion")
     by_number = {it["job"]: it for it in commands}

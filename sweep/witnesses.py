@@ -205,7 +205,7 @@ def certified(kept):
     )
     unsettled = f"unknown {PROFILE}\nneither an order of its points nor a contradiction was found: a higher --effort may find one\n"
     unsettled_object = (
-        '{"verdict":"unknown","reads":"atomic","deallocated":"either",'
+        '{"verdict":"unknown","reads":"atomic","deallocated":"either","stop":"effort",'
         '"why":"neither an order of its points nor a contradiction was found: a higher --effort may find one"}\n'
     )
     stale = (

@@ -36,7 +36,7 @@ fn stop_words(stop: Stop) -> (&'static str, &'static str) {
         ),
         Stop::Everything => (
             "everything",
-            "every order was tried and none explains it, but no contradiction by the rules was found",
+            "no order of its points explains it, but no contradiction by the rules was found",
         ),
     }
 }

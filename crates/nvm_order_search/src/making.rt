@@ -83,6 +83,8 @@ pub struct Part {
     pub zeroes_deallocated: bool,
     pub ones_deallocated: bool,
     pub starts_unknown: bool,
+    /// Whether points that have blocks in other parts, too, were taken or left out by choice.
+    pub is_chosen: bool,
     pub lists: ActLists,
 }
 
@@ -126,6 +128,7 @@ struct Making<'m, 'a, 't> {
     acts: Vec<Act>,
     cells: Vec<Cell>,
     slots: Vec<Slot>,
+    is_chosen: bool,
 }
 
 impl<'m, 'a, 't> Making<'m, 'a, 't> {
@@ -385,6 +388,17 @@ fn first_slots(known: &Known<'_, '_>, blocks: u32) -> Result<Vec<Slot>, NoMemory
     Ok(slots)
 }
 
+/// Whether the point has blocks in several parts of which one or all are done.
+fn is_choice(known: &Known<'_, '_>, point: u32) -> bool {
+    if known.first_part.at(point) == known.last_part.at(point) {
+        return false;
+    }
+    match known.points.points.get(point as usize) {
+        Some(point) => point.presence == Presence::OneOf || point.presence == Presence::Together,
+        None => false,
+    }
+}
+
 /// Whether the point is done only after the one before it.
 fn is_after(known: &Known<'_, '_>, point: u32) -> bool {
     match known.points.points.get(point as usize) {
@@ -407,6 +421,7 @@ fn acts_of<'m, 'a, 't>(
         acts: Vec::new(known.alloc),
         cells: Vec::new(known.alloc),
         slots,
+        is_chosen: false,
     };
     let mut last = NONE;
     let mut last_act = 0u32;
@@ -414,6 +429,7 @@ fn acts_of<'m, 'a, 't>(
         let share = *share;
         let is_elsewhere = known.met.at(share.point) == 1
             && known.holder.at(share.point) != share.part;
+        making.is_chosen = making.is_chosen || is_choice(known, share.point);
         if is_elsewhere || is_left_out(known, share) {
             continue;
         }
@@ -528,6 +544,7 @@ pub fn part_of<'t>(
         acts,
         mut cells,
         slots,
+        is_chosen,
         ..
     } = acts_of(known, values, shares, first, slots)?;
     let slots = Slots::new(known.alloc, slots)?;
@@ -551,6 +568,7 @@ pub fn part_of<'t>(
         zeroes_deallocated: known.points.deallocated != Deallocated::Ones,
         ones_deallocated: known.points.deallocated != Deallocated::Zeroes,
         starts_unknown: known.points.start == Start::Unknown,
+        is_chosen,
         lists,
     })
 }

@@ -138,15 +138,23 @@ struct Found<'t> {
     first: Vec<FirstContent<'t>>,
 }
 
-/// An order of the part's points. The error is the point at which the search got stuck. Unless it is the last try, it doesn't go on for as
-/// long as it might.
+/// Why nothing was found for a part.
+#[derive(Clone, Copy, Debug)]
+enum Miss {
+    /// The search got stuck at this point.
+    Stuck(u32),
+    /// No order explains the part's points.
+    Nothing,
+}
+
+/// An order of the part's points. Unless it is the last try, it doesn't go on for as long as it might.
 fn found_for<'t>(
     known: &mut Known<'_, 't>,
     values: &mut Values<'t>,
     number: u32,
     shares: &[Share],
     is_last: bool,
-) -> Result<Result<Found<'t>, u32>, NoMemory> {
+) -> Result<Result<Found<'t>, Miss>, NoMemory> {
     let alloc = known.alloc;
     let part = part_of(known, values, shares)?;
     let few = u64::from(part.count())
@@ -160,6 +168,11 @@ fn found_for<'t>(
         .saturating_sub(few.saturating_sub(search.left_in_all));
     if !is_found {
         let order = Derivation::new(alloc, &part)?;
+        if let Some(order) = &order {
+            if order.order.is_absurd() && !part.is_chosen {
+                return Ok(Err(Miss::Nothing));
+            }
+        }
         let most = if is_last {
             known.left
         } else {
@@ -172,7 +185,8 @@ fn found_for<'t>(
             .saturating_sub(most.saturating_sub(search.left_in_all));
     }
     if !is_found {
-        return Ok(Err(search.stuck_at()));
+        known.left = known.left.saturating_sub(u64::from(part.count()));
+        return Ok(Err(Miss::Stuck(search.stuck_at())));
     }
     let mut found = Found {
         steps: Vec::with_capacity(alloc, search.steps.len())?,
@@ -348,13 +362,13 @@ fn other_holders(
     Ok(others)
 }
 
-/// What was found for each part, if something was for all.
+/// What was found for each part, or why nothing was for one.
 fn search_all<'t>(
     known: &mut Known<'_, 't>,
     values: &mut Values<'t>,
     shares: &Vec<Share>,
     ranges: &Vec<(usize, usize)>,
-) -> Result<Option<Vec<Found<'t>>>, NoMemory> {
+) -> Result<Result<Vec<Found<'t>>, Stop>, NoMemory> {
     let alloc = known.alloc;
     let mut waiting = Vec::with_capacity(alloc, ranges.len())?;
     let mut all = Vec::with_capacity(alloc, ranges.len())?;
@@ -381,11 +395,15 @@ fn search_all<'t>(
                     *place = found;
                 }
             }
-            Err(point) => {
+            Err(Miss::Nothing) => return Ok(Err(Stop::Everything)),
+            Err(Miss::Stuck(point)) => {
+                if known.left == 0 {
+                    return Ok(Err(Stop::Effort));
+                }
                 let others = holders_instead(known, shares, ranges, part, point)?;
                 if others.is_empty() {
                     if is_last {
-                        return Ok(None);
+                        return Ok(Err(Stop::Effort));
                     }
                     tried.put(number, 1);
                 }
@@ -394,7 +412,7 @@ fn search_all<'t>(
             }
         }
     }
-    Ok(Some(all))
+    Ok(Ok(all))
 }
 
 /// An order that explains the points, if one is found, or else why the search for one ended. For each of `effort` some hundred acts are
@@ -410,8 +428,9 @@ pub fn order_of<'t>(
     let mut known = known_of(alloc, points, &mut values)?;
     known.left = u64::from(effort).saturating_mul(EACH);
     number_parts(&mut shares, &mut known);
-    let Some(all) = search_all(&mut known, &mut values, &shares, &ranges)? else {
-        return Ok(Err(Stop::Effort));
+    let all = match search_all(&mut known, &mut values, &shares, &ranges)? {
+        Ok(all) => all,
+        Err(stop) => return Ok(Err(stop)),
     };
     let mut steps = Vec::new(alloc);
     let mut first = Vec::new(alloc);

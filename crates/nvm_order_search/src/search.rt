@@ -73,6 +73,8 @@ const FEW: u32 = 100;
 const SHORT: usize = 8;
 
 const DOUBLED: u32 = 10;
+/// How many changes of a state are as much work as a look at an act.
+const CHANGES: u32 = 16;
 /// How many of those who gave a slot are looked at for one that needn't have yet.
 const MOST_BLAMED: u32 = 64;
 /// How often the search begins again after no move was left: which were left out may be wrong.
@@ -619,8 +621,18 @@ impl<'p> Search<'p> {
         }
     }
 
-    /// Takes back all that was done since the turn.
+    /// Takes back all that was done since the turn. That was work.
     fn return_to(&mut self, turn: &Turn) {
+        let changes = self
+            .state
+            .mark()
+            .saturating_sub(turn.mark)
+            .saturating_add(self.known_mark().0.saturating_sub(turn.known_mark.0));
+        let steps = self.steps.len().saturating_sub(turn.steps);
+        self.left_in_all = self
+            .left_in_all
+            .saturating_sub(steps as u64)
+            .saturating_sub(u64::from(changes / CHANGES));
         self.state.back(turn.mark);
         if let Some(known) = &mut self.known {
             known.back(turn.known_mark);

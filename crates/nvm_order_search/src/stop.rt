@@ -3,6 +3,6 @@
 pub enum Stop {
     /// It went on for as long as it might: a longer one may find an order.
     Effort,
-    /// It tried every order.
+    /// No order explains the points.
     Everything,
 }

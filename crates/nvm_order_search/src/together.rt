@@ -62,6 +62,28 @@ fn finds(point: &Point<'_>, size: BlockSize, block: u32, bytes: &[u8], from: u64
     }
 }
 
+/// When the point has surely put something in the block.
+fn written_by(point: &Point<'_>, block: u32) -> Option<u64> {
+    if point.presence != Presence::Sure || matches!(&point.put, Put::Nothing) {
+        return None;
+    }
+    let place = block.checked_sub(point.first)?;
+    if place < point.blocks {
+        point.until
+    } else {
+        None
+    }
+}
+
+/// The earlier of two times, either of which may be none.
+fn earlier(one: Option<u64>, other: Option<u64>) -> Option<u64> {
+    match (one, other) {
+        (Some(one), Some(other)) => Some(one.min(other)),
+        (Some(one), None) => Some(one),
+        (None, other) => other,
+    }
+}
+
 /// Whether somebody found what the point puts in one of its blocks, and nobody else can have put it there.
 fn was_seen(points: &Points<'_>, number: usize) -> bool {
     let Some(point) = points.points.get(number) else {
@@ -73,8 +95,11 @@ fn was_seen(points: &Points<'_>, number: usize) -> bool {
     for place in 0..point.blocks {
         let block = point.first.saturating_add(place);
         let bytes = block_at(payload, points.block_size, place as usize);
-        let mut is_found = false;
-        let mut is_put = points.start == Start::Unknown || are_all(bytes, 0);
+        let of_start = points.start == Start::Unknown || are_all(bytes, 0);
+        // The latest beginning of those who found it, and the first time at which the start's content was surely gone.
+        let mut found = None;
+        let mut written = None;
+        let mut is_put = false;
         for other in 0..points.points.len() {
             if other == number {
                 continue;
@@ -82,11 +107,20 @@ fn was_seen(points: &Points<'_>, number: usize) -> bool {
             let Some(reader) = points.points.get(other) else {
                 break;
             };
-            is_found = is_found || finds(reader, points.block_size, block, bytes, point.from);
+            if finds(reader, points.block_size, block, bytes, point.from) {
+                found = Some(reader.from.max(found.unwrap_or(0)));
+            }
+            written = earlier(written, written_by(reader, block));
             is_put = is_put || may_put(points, other, block, bytes);
         }
-        if is_found && !is_put {
-            return true;
+        if let Some(found) = found {
+            let is_gone = match written {
+                Some(written) => written < found,
+                None => false,
+            };
+            if !is_put && (is_gone || !of_start) {
+                return true;
+            }
         }
     }
     false
