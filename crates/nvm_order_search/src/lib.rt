@@ -1,7 +1,8 @@
 //! The search for an order of points that explains a trace.
 //!
 //! [`order_of`] cuts the namespace where no entry joins two blocks, searches an order of the points of each part by itself, and merges
-//! them. Nothing here is trusted: an order counts only where [`explains`](nvm_orders::explains) takes it.
+//! them. Moves that look right are tried first, and where they lead to no order every one. Nothing here is trusted: an order counts only
+//! where [`explains`](nvm_orders::explains) takes it.
 #![tactic(auto)]
 
 mod acts;

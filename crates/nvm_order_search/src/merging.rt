@@ -184,9 +184,26 @@ fn found_for<'t>(
             .left
             .saturating_sub(most.saturating_sub(search.left_in_all));
     }
+    let stuck = search.stuck_at();
+    if !is_found && !part.starts_unknown && part.lists.anything.count() == 0 {
+        let most = if is_last {
+            known.left
+        } else {
+            known.left / TRIES
+        };
+        search = Search::new(alloc, &part, most, 0, None)?;
+        let answer = search.run_through()?;
+        known.left = known
+            .left
+            .saturating_sub(most.saturating_sub(search.left_in_all));
+        if answer == Some(false) && !part.is_chosen {
+            return Ok(Err(Miss::Nothing));
+        }
+        is_found = answer == Some(true);
+    }
     if !is_found {
         known.left = known.left.saturating_sub(u64::from(part.count()));
-        return Ok(Err(Miss::Stuck(search.stuck_at())));
+        return Ok(Err(Miss::Stuck(stuck)));
     }
     let mut found = Found {
         steps: Vec::with_capacity(alloc, search.steps.len())?,

@@ -1,5 +1,6 @@
 //! The search for an order of a part's acts.
 mod clearing;
+mod every;
 mod memory;
 mod moves;
 mod settling;
@@ -118,6 +119,8 @@ pub struct Search<'p> {
     most_urgent: u32,
     /// What comes before what.
     known: Option<Derivation>,
+    /// Whether every move is made, and not only those that look right.
+    tries_all: bool,
 }
 
 impl<'p> Search<'p> {
@@ -154,6 +157,7 @@ impl<'p> Search<'p> {
             most: 0,
             most_urgent: NONE,
             known,
+            tries_all: false,
         };
         search.begin()?;
         search.root = search.state.mark();

@@ -115,6 +115,9 @@ impl<'p> Search<'p> {
             if self.is_over(number) {
                 continue;
             }
+            if self.tries_all {
+                return Ok(Some((number, NONE)));
+            }
             let other = part.act(number);
             for at in other.cell..other.cells_end() {
                 if let Some(slot) = self.needed_of(number, &other, &part.cell(at), act.from)? {
