@@ -203,10 +203,10 @@ def certified(kept):
         '"sent":[{"cid":2,"command":"read 0 1"}],"statuses":["0/00"],"data":"512*43"}],"facts":[],'
         '"conclusion":{"conclusion":"nobody","lba":0,"reader":1,"text":"job 1 found in LBA 0 what nobody can have left there"}}\n'
     )
-    unsettled = f"unknown {PROFILE}\nneither an order of its points nor a contradiction was found: a higher --effort may find one\n"
+    unsettled = f"unknown {PROFILE}\nno order of its points explains it, but no contradiction by the rules was found\n"
     unsettled_object = (
-        '{"verdict":"unknown","reads":"atomic","deallocated":"either","stop":"effort",'
-        '"why":"neither an order of its points nor a contradiction was found: a higher --effort may find one"}\n'
+        '{"verdict":"unknown","reads":"atomic","deallocated":"either","stop":"everything",'
+        '"why":"no order of its points explains it, but no contradiction by the rules was found"}\n'
     )
     stale = (
         f"contradiction commands 2 {PROFILE}\njob 1 {line_of(STALE, 1)}job 2 {line_of(STALE, 2)}"
