@@ -8,7 +8,7 @@ use Rattle.nvm_contradiction.specs.Inside.Derived.{AreDerived}
 use Rattle.nvm_contradiction.specs.Inside.Noted.{IsNoted, IsNotedThere, noted}
 use Rattle.nvm_contradiction.specs.Knowledge.{IsWithin}
 use Rattle.nvm_contradiction.specs.Rules.{IsGiven}
-use Rattle.nvm_contradiction.specs.Standing.{IsAtFirst, IsBeforeWith, IsFrom, IsSourceThere, IsSure, IsThereWith, IsUpTo, known_by, known_with, order, order_of}
+use Rattle.nvm_contradiction.specs.Standing.{IsAtFirst, IsBeforeWith, IsFrom, IsThereBy, IsSure, IsThereWith, IsUpTo, known_by, known_with, order, order_of}
 use Rattle.nvm_contradiction.specs.declared.contradiction.Conclusion.{Conclusion}
 use Rattle.nvm_contradiction.specs.declared.fact.Fact.{Fact}
 use Rattle.nvm_contradiction.specs.declared.known.Known.{Known}
@@ -49,7 +49,7 @@ before_there There Here Before all (Some o) x y (inr both) = inr (up_to both.0, 
 
 -- What is noted of a fact follows from it and from what was noted.
 pub fact_noted : (t : TableView) (fact : Fact) (old new : Known)
-    → ((a : Node) → Contains new.there.items a → Contains old.there.items a ⊎ IsSourceThere t (noted t old) fact a)
+    → ((a : Node) → Contains new.there.items a → Contains old.there.items a ⊎ IsThereBy t (noted t old) fact a)
     → ((a : Node) → Contains new.firsts.items a → Contains old.firsts.items a ⊎ IsAtFirst fact a)
     → ((x y : Node) → IsNoted new.orders.items x y → IsBeforeWith (IsNotedThere t new.there.items) (IsNoted old.orders.items) (order_of t fact) x y)
     → IsWithin (noted t new) (known_with t (noted t old) (Some fact))

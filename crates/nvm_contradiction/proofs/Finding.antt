@@ -15,10 +15,10 @@ use Rattle.nvm_orders.specs.Places.{IsDoneAt}
 use Rattle.nvm_orders.specs.Presence.{IsDone}
 use Rattle.nvm_contradiction.specs.Knowledge.{Knowledge}
 use Rattle.nvm_contradiction.specs.Nodes.{node}
-use Rattle.nvm_contradiction.specs.Readings.{FindsNotFirst, IsReadingOf, IsExcused, IsServedBy, NoOtherServes, WasPut, IsSource, IsUnserved}
+use Rattle.nvm_contradiction.specs.Readings.{Divides, DividesBefore, FindsNotFirst, FindsOther, IsReadingOf, IsExcused, IsServedBy, NoOtherServes, WasPut, IsSource, IsUnserved}
 use Rattle.nvm_contradiction.specs.Serving.{CanFindFrom, FindsThere, SurelyPuts}
 use Rattle.nvm_contradiction.proofs.Done.{IsFirst, fits_of, from_named, of_done, once_done, stands_done}
-use Rattle.nvm_contradiction.proofs.Holding.{LeftBy, LeftFirst, Silent, left, puts_some}
+use Rattle.nvm_contradiction.proofs.Holding.{LeftBy, LeftFirst, Silent, left, puts_some, same_on}
 use Rattle.nvm_contradiction.proofs.Timing.{comes, truth}
 
 -- At an earlier position the writer was done in the block, and nothing was put there since.
@@ -52,20 +52,50 @@ module _ (t : TableView) (o : OrderView) (e : IsExplanation t o) where
       let fits = fits_of t o e j d.p sure.point s in
       puts_some t sure.point.put d.p.value (x - sure.point.first) sure.puts fits.value (silent j d.p sure.point low below s d.block)
 
-  excused : (n reader x i k : ℕ) → IsExcused t K n reader x → IsDoneAt o n x i → IsDoneAt o reader x k → i < k
-      → Silent t o (i + 1) k x → ⊥
-  excused n reader x i k (inl before) d r less silent =
-      let more = comes t o e reader n x k i before r d in omega (arith, less, more)
-  excused n reader x i k (inr between) d r less silent =
-      let w = between.writer in
-      let there = sure_done w x between.is.puts in
-      let j = there.position in
-      let after = comes t o e n w x i j between.after d there.done in
-      let before = comes t o e w reader x j k between.is.before there.done r in
-      not_silent w x (i + 1) j k between.is.puts there.done (omega (arith, after)) before silent
-
   finds : (reader x k : ℕ) (q : PointView) → slice_get t.points reader ≡ Some q → IsDoneAt o reader x k → FindsThere t q x (blocks_before t o k x)
   finds reader x k q its r = e.contents k r.p q x (stands_done t o e reader x k q r its) r.block
+
+  -- What another found is none of what q finds.
+  differ : (x : ℕ) (q other : PointView) → FindsOther t q x other → (b : Block) → FindsThere t other x b → FindsThere t q x b → ⊥
+  differ x q other not b held found =
+      let is : b ≡ Bytes (bytes_at t.block_size not.payload (x - other.first)) =
+      subst (λ (f : FoundView). MayFind t.block_size f (x - other.first) b) not.found held in
+      not.differs (subst (λ (c : Block). FindsThere t q x c) is found)
+
+  -- What divides is done,
+  dividing : (q : PointView) (n x : ℕ) → Divides t K q n x → IsDone o n x
+  dividing q n x (inl sure) = sure_done n x sure
+  dividing q n x (inr found) =
+      let there = found.there in
+      record { position = there.position; done = from_named t o e n x there.position found.point found.its found.block there.done }
+
+  -- and not where the block keeps what the reader finds.
+  not_kept : (q : PointView) (n reader x i k : ℕ) → slice_get t.points reader ≡ Some q → IsDoneAt o reader x k → (d : DividesBefore t K q reader x n)
+      → i ≤ (dividing q n x d.divides).position → Silent t o i k x → ⊥
+  not_kept q n reader x i k its r d low silent =
+      let there = dividing q n x d.divides in
+      let j = there.position in
+      let below = comes t o e n reader x j k d.before there.done r in
+      by d.divides j there.done low below
+    where
+      by : Divides t K q n x → (j : ℕ) → IsDoneAt o n x j → i ≤ j → j < k → ⊥
+      by (inl sure) j done low below = not_silent n x i j k sure done low below silent
+      by (inr other) j done low below =
+          let inside = slice_get_within o.placed k r.p r.placed in
+          let same : blocks_before t o k x ≡ blocks_before t o j x =
+          same_on t o x e i j k low (omega (arith, below)) (omega (arith, inside)) silent in
+          differ x q other.point other.differs (blocks_before t o j x) (finds n x j other.point other.its done)
+          (subst (λ (b : Block). FindsThere t q x b) same (finds reader x k q its r))
+
+  excused : (q : PointView) (n reader x i k : ℕ) → slice_get t.points reader ≡ Some q → IsExcused t K q n reader x → IsDoneAt o n x i
+      → IsDoneAt o reader x k → i < k → Silent t o (i + 1) k x → ⊥
+  excused q n reader x i k its (inl before) d r less silent =
+      let more = comes t o e reader n x k i before r d in omega (arith, less, more)
+  excused q n reader x i k its (inr between) d r less silent =
+      let m = between.number in
+      let there = dividing q m x between.is.divides in
+      let after = comes t o e n m x i there.position between.after d there.done in
+      not_kept q m reader x (i + 1) k its r between.is (omega (arith, after)) silent
 
   -- What a position finds that another put is what that may put there.
   served : (reader x k : ℕ) (q : PointView) → slice_get t.points reader ≡ Some q → IsDoneAt o reader x k → (l : LeftBy t o k x)
@@ -92,17 +122,12 @@ module _ (t : TableView) (o : OrderView) (e : IsExplanation t o) where
         | inl same ↦
             let at : IsDoneAt o reader x l.i = subst (λ (m : ℕ). IsDoneAt o m x l.i) same d in
             let one = once_done t o e reader x l.i k q reads.its reads.once at r in absurd (omega (arith, below, one))
-        | inr other ↦ elim other [ inl same ↦ same | inr out ↦ absurd (excused n reader x l.i k out d r below l.silent) ]
+        | inr other ↦ elim other [ inl same ↦ same | inr out ↦ absurd (excused q n reader x l.i k reads.its out d r below l.silent) ]
       ]
 
   other_first : (x : ℕ) (q : PointView) → FindsNotFirst t K q x → FindsThere t q x (first_blocks t o x) → ⊥
   other_first x q not found =
-      let other = not.other in
-      let differs = not.differs in
-      let held : FindsThere t other x (first_blocks t o x) = not.first other not.its in
-      let is : first_blocks t o x ≡ Bytes (bytes_at t.block_size differs.payload (x - other.first)) =
-      subst (λ (f : FoundView). MayFind t.block_size f (x - other.first) (first_blocks t o x)) differs.found held in
-      differs.differs (subst (λ (b : Block). FindsThere t q x b) is found)
+      differ x q not.other not.differs (first_blocks t o x) (not.first not.other not.its) found
 
   not_first : (reader x k : ℕ) (q : PointView) → IsReadingOf t reader x q → WasPut t K q reader x → IsDoneAt o reader x k
       → LeftFirst t o k x → ⊥
@@ -114,11 +139,7 @@ module _ (t : TableView) (o : OrderView) (e : IsExplanation t o) where
       by : WasPut t K q reader x → ⊥
       by (inl cannot) = cannot (first_of t o q x t.start e.start found)
       by (inr (inl not)) = other_first x q not found
-      by (inr (inr writer)) =
-          let there = sure_done writer.0 x writer.1.puts in
-          let j = there.position in
-          let before = comes t o e writer.0 reader x j k writer.1.before there.done r in
-          not_silent writer.0 x 0 j k writer.1.puts there.done (omega arith) before l.silent
+      by (inr (inr other)) = not_kept q other.0 reader x 0 k reads.its r other.1 (omega arith) l.silent
 
   left_there : (n x k : ℕ) → IsDoneAt o n x k → LeftBy t o k x ⊎ LeftFirst t o k x
   left_there n x k d =

@@ -69,11 +69,46 @@ module _ (t : TableView) (o : OrderView) (x : ℕ) where
             (subst (λ (r : PointView). put_at t.block_size r.put p.value (x - r.first) ≡ None) (sym eq) (none has'))
       ]
 
+  next : (k : ℕ) (p : PlacedView) (q : PointView) → StandsAt t o k p q
+      → blocks_before t o (k + 1) x ≡ after_point t.block_size (Some q) p (blocks_before t o k) x
+  next k p q s = ap (λ (n : Medium). n x) (before_next t o k p q s) ∙ after_is t q p (blocks_before t o k) x s.its
+
   -- Nothing was put at the position.
-  kept : (k : ℕ) (p : PlacedView) (q : PointView) → StandsAt t o k p q → blocks_before t o (k + 1) x ≡ blocks_before t o k x
+  unchanged : (k : ℕ) (p : PlacedView) (q : PointView) → StandsAt t o k p q
+      → (HasBlock p x → put_at t.block_size q.put p.value (x - q.first) ≡ None) → (b : Bool) → has_block p x ≡ b
+      → blocks_before t o (k + 1) x ≡ blocks_before t o k x
+  unchanged k p q s none false e = next k p q s ∙ there t.block_size q p (blocks_before t o k) x e
+  unchanged k p q s none true e =
+      let has = has_it p x e in
+      next k p q s ∙ (here t.block_size q p (blocks_before t o k) x has ∙ ap (λ (n : Option Block). put_over n (blocks_before t o k x)) (none has))
+
+  -- Where nothing is put, the block holds what it held.
+  pub same_on : IsExplanation t o → (i j k : ℕ) → i ≤ j → j ≤ k → k ≤ length o.placed → Silent t o i k x
+      → blocks_before t o k x ≡ blocks_before t o j x
+  same_on ex i j zero low up most silent =
+      let e : zero ≡ j = omega (arith, up) in subst (λ (n : ℕ). blocks_before t o zero x ≡ blocks_before t o n x) e refl
+  same_on ex i j (suc k) low up most silent = elim (earlier_or_last j (suc k) (omega (arith, up))) [
+    | inl less ↦
+        let d : PlacedView = record { point = 0; first = 0; blocks = 0; value = as_is } in
+        let inside : k < length o.placed = omega (arith, most) in
+        let p = get_or o.placed k d in
+        let right : IsPlacedRight t p = ex.fits k d inside in
+        let s : StandsAt t o k p right.point = record { placed = slice_get-get_or o.placed k d inside; its = right.its } in
+        let more : k + 1 ≡ suc k = omega arith in
+        let one : blocks_before t o (k + 1) x ≡ blocks_before t o k x =
+        unchanged k p right.point s (silent k p right.point (omega (arith, low, less)) (omega arith) s) (has_block p x) refl in
+        subst (λ (n : ℕ). blocks_before t o n x ≡ blocks_before t o j x) more
+        (one
+        ∙ same_on ex i j k low (omega (arith, less)) (omega (arith, most))
+        (λ m p' q' from below s' has. silent m p' q' from (omega (arith, below)) s' has))
+    | inr same ↦ subst (λ (n : ℕ). blocks_before t o (suc k) x ≡ blocks_before t o n x) (sym same) refl
+  ]
+
+  kept : (k : ℕ) (p : PlacedView) (q : PointView) → StandsAt t o k p q
       → (HasBlock p x → put_at t.block_size q.put p.value (x - q.first) ≡ None) → LeftBy t o k x ⊎ LeftFirst t o k x
       → LeftBy t o (k + 1) x ⊎ LeftFirst t o (k + 1) x
-  kept k p q s same none (inl by) =
+  kept k p q s none (inl by) =
+      let same = unchanged k p q s none (has_block p x) refl in
       let below = by.below in
       inl (record {
         i = by.i;
@@ -85,7 +120,8 @@ module _ (t : TableView) (o : OrderView) (x : ℕ) where
         puts = by.puts ∙ ap Some (sym same);
         silent = silent_more (by.i + 1) k p q s none by.silent;
       })
-  kept k p q s same none (inr first) = inr (record { is = same ∙ first.is; silent = silent_more 0 k p q s none first.silent })
+  kept k p q s none (inr first) =
+      inr (record { is = unchanged k p q s none (has_block p x) refl ∙ first.is; silent = silent_more 0 k p q s none first.silent })
 
   step : (k : ℕ) (p : PlacedView) (q : PointView) → StandsAt t o k p q → LeftBy t o k x ⊎ LeftFirst t o k x → (b : Bool) → has_block p x ≡ b
       → (r : Option Block) → put_at t.block_size q.put p.value (x - q.first) ≡ r → LeftBy t o (k + 1) x ⊎ LeftFirst t o (k + 1) x
@@ -94,17 +130,13 @@ module _ (t : TableView) (o : OrderView) (x : ℕ) where
       m : Medium
       m = blocks_before t o k
 
-      next : blocks_before t o (k + 1) x ≡ after_point t.block_size (Some q) p m x
-      next = ap (λ (n : Medium). n x) (before_next t o k p q s) ∙ after_is t q p m x s.its
-
       by : (b : Bool) → has_block p x ≡ b → (r : Option Block) → put_at t.block_size q.put p.value (x - q.first) ≡ r
           → LeftBy t o (k + 1) x ⊎ LeftFirst t o (k + 1) x
-      by false e r put = kept k p q s (next ∙ there t.block_size q p m x e) (λ has. absurd (not_it p x e has)) before
-      by true e None put =
-          kept k p q s (next ∙ (here t.block_size q p m x (has_it p x e) ∙ ap (λ (n : Option Block). put_over n (m x)) put)) (λ _. put) before
+      by false e r put = kept k p q s (λ has. absurd (not_it p x e has)) before
+      by true e None put = kept k p q s (λ _. put) before
       by true e (Some new) put =
           let is : blocks_before t o (k + 1) x ≡ new =
-          next ∙ (here t.block_size q p m x (has_it p x e) ∙ ap (λ (n : Option Block). put_over n (m x)) put) in
+          next k p q s ∙ (here t.block_size q p m x (has_it p x e) ∙ ap (λ (n : Option Block). put_over n (m x)) put) in
           inl (record {
             i = k;
             below = omega arith;

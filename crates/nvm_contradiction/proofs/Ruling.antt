@@ -8,13 +8,13 @@ use Rattle.nvm_orders.specs.Presence.{IsDone}
 use Rattle.nvm_contradiction.specs.Knowledge.{Knowledge}
 use Rattle.nvm_contradiction.specs.Nodes.{node_at}
 use Rattle.nvm_contradiction.specs.Readings.{IsSource, IsUnserved}
-use Rattle.nvm_contradiction.specs.Rules.{IsDeallocate, IsOnce, IsOwn, IsOverwritten, IsTied}
+use Rattle.nvm_contradiction.specs.Rules.{IsOnce, IsOwn, IsOverwritten, IsTied}
 use Rattle.nvm_contradiction.specs.Serving.{SurelyPuts}
-use Rattle.nvm_contradiction.specs.Times.{ComesBefore}
+use Rattle.nvm_contradiction.specs.Times.{ComesBefore, IsDeallocate}
 use Rattle.nvm_contradiction.specs.declared.node.Node.{Node}
 use Rattle.nvm_contradiction.proofs.Done.{Precedes, from_named, its_of, once_done, stands_done, to_named, whole_done}
 use Rattle.nvm_contradiction.proofs.Finding.{from_first, from_source, not_silent}
-use Rattle.nvm_contradiction.proofs.Timing.{apart, comes, earlier, over, truth}
+use Rattle.nvm_contradiction.proofs.Timing.{apart, comes, deallocated, earlier, truth}
 
 module _ (t : TableView) (o : OrderView) (e : IsExplanation t o) where
   abbrev K : Knowledge
@@ -25,12 +25,8 @@ module _ (t : TableView) (o : OrderView) (e : IsExplanation t o) where
 
   pub by_deallocate : (n w x : ℕ) → IsDeallocate t n w x → Before (node_at t n x) (node_at t w x)
   by_deallocate n w x is i j dn dw =
-      let d = from_named t o e n x i is.first is.first_is is.deallocated dn in
-      let f = from_named t o e w x j is.second is.second_is is.written dw in
-      earlier i j (apart t o e n w x x i j is.other d f)
-      (λ less. over is.first.over is.second.from is.over
-      (e.deallocates j i x f.p d.p is.second is.first less (stands_done t o e w x j is.second f is.second_is) is.sure is.puts f.block
-      (stands_done t o e n x i is.first d is.first_is) d.block))
+      deallocated t o e n w x i j is (from_named t o e n x i is.first is.first_is is.deallocated dn)
+      (from_named t o e w x j is.second is.second_is is.written dw)
 
   pub by_own : (n x : ℕ) → IsOwn t n x → Before (node_at t (n - 1) x) (node_at t n x)
   by_own n x is i j db dn =

@@ -1,5 +1,5 @@
 -- What a contradiction says would be so in an explanation: so there is none.
-use Rattle.std.proofs.Common.{◌≡◌, ℕ, zero, suc, List, Option, Some, None, length, slice_get, refl, sym, subst, inl, inr, arith}
+use Rattle.std.proofs.Common.{◌≡◌, ℕ, ◌-◌, zero, suc, List, Option, Some, None, length, slice_get, refl, sym, subst, inl, inr, arith}
 use Rattle.nvm_points.specs.PointView.{PointView, TableView}
 use Rattle.nvm_points.specs.declared.point.Presence.{Presence}
 use Rattle.nvm_points.specs.declared.point.Presence.TheVariants.{Sure, Optional, OneOf, Together, Repeated}
@@ -11,8 +11,8 @@ use Rattle.nvm_contradiction.specs.Absurd.{IsAbsurd, IsContradiction, IsNobody}
 use Rattle.nvm_contradiction.specs.Knowledge.{IsWithin, Knowledge}
 use Rattle.nvm_contradiction.specs.Nodes.{node, node_at}
 use Rattle.nvm_contradiction.specs.Readings.{IsSource, IsUnserved}
-use Rattle.nvm_contradiction.specs.Rules.{IsGiven}
-use Rattle.nvm_contradiction.specs.Standing.{order_of, IsAtFirst, IsBeforeWith, IsFrom, IsSourceThere, IsSure, IsSureAt, IsThereWith, IsUpTo, known_by, known_with}
+use Rattle.nvm_contradiction.specs.Rules.{IsGiven, IsOwn}
+use Rattle.nvm_contradiction.specs.Standing.{order_of, IsAtFirst, IsBeforeWith, IsFollowed, IsFrom, IsThereBy, IsSure, IsSureAt, IsThereWith, IsUpTo, known_by, known_with}
 use Rattle.nvm_contradiction.specs.declared.contradiction.Conclusion.{Conclusion}
 use Rattle.nvm_contradiction.specs.declared.contradiction.Conclusion.TheVariants.{Loop, Nobody, Nowhere}
 use Rattle.nvm_contradiction.specs.declared.fact.Fact.{Fact}
@@ -64,10 +64,26 @@ module _ (t : TableView) (o : OrderView) (e : IsExplanation t o) where
       let from = from_source t o e w r x k source d in
       record { position = from.i; done = to_named t o e w x from.i from.done }
 
-  is_there : (fact : Fact) (a : Node) → IsGiven t K fact → IsSourceThere t K fact a → There a
+  -- The point before one that is there is there.
+  before_there : (n x : ℕ) → IsOwn t n x → IsFollowed t K n x → There (node_at t (n - 1) x)
+  before_there n x is (inl there) =
+      let d = from_named t o e n x there.position is.point is.its is.block there.done in
+      let f = (e.present n is.point is.its).after is.after x there.position d in
+      let next = f.next in
+      let same : f.before ≡ n - 1 = omega (arith, next) in
+      record { position = f.position; done = to_named t o e (n - 1) x f.position (subst (λ (m : ℕ). IsDoneAt o m x f.position) same f.done) }
+  before_there n x is (inr whole) =
+      let f = (e.present n is.point is.its).after is.after whole.by whole.there.position whole.there.done in
+      let next = f.next in
+      let same : f.before ≡ n - 1 = omega (arith, next) in
+      let some : IsDoneAt o (n - 1) whole.by f.position = subst (λ (m : ℕ). IsDoneAt o m whole.by f.position) same f.done in
+      let there = (e.present (n - 1) whole.point whole.its).together whole.together whole.by x f.position some whole.block in
+      record { position = there.position; done = to_named t o e (n - 1) x there.position there.done }
+
+  is_there : (fact : Fact) (a : Node) → IsGiven t K fact → IsThereBy t K fact a → There a
   is_there (Time earlier later) a g is = absurd is
   is_there (Deallocate deallocate writer x) a g is = absurd is
-  is_there (Own later x) a g is = absurd is
+  is_there (Own n x) a g is = subst There (sym is.0) (before_there n x g is.1)
   is_there (Source w r x) a g is = subst There (sym is.0) (source_there w r x g.1 is.1)
   is_there (Over reader writer x source) a g is = absurd is
   is_there (Under writer source x reader) a g is = absurd is

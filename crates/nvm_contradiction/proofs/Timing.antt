@@ -7,7 +7,7 @@ use Rattle.nvm_orders.specs.OrderView.{OrderView}
 use Rattle.nvm_orders.specs.Places.{IsDoneAt}
 use Rattle.nvm_orders.specs.Presence.{IsDone}
 use Rattle.nvm_contradiction.specs.Knowledge.{Knowledge}
-use Rattle.nvm_contradiction.specs.Times.{ComesBefore, IsTime, WasOver}
+use Rattle.nvm_contradiction.specs.Times.{ComesBefore, IsDeallocate, IsTime, WasOver}
 use Rattle.nvm_contradiction.proofs.Done.{IsFirst, Precedes, one_there, stands_done, to_named}
 
 -- what is so in an explanation
@@ -41,6 +41,14 @@ module _ (t : TableView) (o : OrderView) (e : IsExplanation t o) where
       (e.time j i f.p d.p is.second is.first less (stands_done t o e m y j is.second f is.second_is)
       (stands_done t o e n x i is.first d is.first_is)))
 
+  pub deallocated : (n w x i j : ℕ) → IsDeallocate t n w x → IsDoneAt o n x i → IsDoneAt o w x j → i < j
+  deallocated n w x i j is d f =
+      earlier i j (apart n w x x i j is.other d f)
+      (λ less. over is.first.over is.second.from is.over
+      (e.deallocates j i x f.p d.p is.second is.first less (stands_done t o e w x j is.second f is.second_is) is.sure is.puts f.block
+      (stands_done t o e n x i is.first d is.first_is) d.block))
+
   pub comes : (n m x i j : ℕ) → ComesBefore t (truth t o) n m x → IsDoneAt o n x i → IsDoneAt o m x j → i < j
   comes n m x i j (inl before) d f = before i j (to_named t o e n x i d) (to_named t o e m x j f)
-  comes n m x i j (inr is) d f = by_time n m x x i j is d f
+  comes n m x i j (inr (inl is)) d f = by_time n m x x i j is d f
+  comes n m x i j (inr (inr is)) d f = deallocated n m x i j is d f

@@ -9,10 +9,10 @@ use Rattle.nvm_contradiction.specs.declared.known.Order.{Order}
 use Rattle.nvm_contradiction.specs.declared.node.Node.{Node}
 use Rattle.nvm_contradiction.specs.Absurd.{IsAbsurd}
 use Rattle.nvm_contradiction.specs.Knowledge.{IsWithin, Knowledge}
-use Rattle.nvm_contradiction.specs.Readings.{FindsNotFirst, IsExcused, IsSource, IsUnserved, IsWriterBefore, NoOtherServes, WasPut}
+use Rattle.nvm_contradiction.specs.Readings.{Divides, DividesBefore, FindsNotFirst, IsExcused, IsSource, IsUnserved, NoOtherServes, WasPut}
 use Rattle.nvm_contradiction.specs.Rules.{IsGiven, IsOverwritten, IsTied, IsUnder}
 use Rattle.nvm_contradiction.specs.Serving.{SurelyPuts}
-use Rattle.nvm_contradiction.specs.Standing.{IsBeforeWith, IsFrom, IsSourceThere, IsThereWith, IsUpTo, known_with}
+use Rattle.nvm_contradiction.specs.Standing.{IsBeforeWith, IsFollowed, IsFrom, IsThereBy, IsThereWith, IsUpTo, known_with}
 use Rattle.nvm_contradiction.specs.Times.{ComesBefore}
 
 module _ (t : TableView) (K L : Knowledge) (within : IsWithin K L) where
@@ -23,18 +23,23 @@ module _ (t : TableView) (K L : Knowledge) (within : IsWithin K L) where
   puts : (n x : ℕ) → SurelyPuts t K n x → SurelyPuts t L n x
   puts n x s = record { point = s.point; its = s.its; puts = s.puts; block = s.block; there = within.there _ s.there }
 
-  writer : (reader x w : ℕ) → IsWriterBefore t K reader x w → IsWriterBefore t L reader x w
-  writer reader x w s = record { puts = puts w x s.puts; before = comes w reader x s.before }
+  divides : (q : PointView) (n x : ℕ) → Divides t K q n x → Divides t L q n x
+  divides q n x (inl sure) = inl (puts n x sure)
+  divides q n x (inr s) =
+      inr (record { point = s.point; its = s.its; block = s.block; there = within.there _ s.there; differs = s.differs })
 
-  excused : (n reader x : ℕ) → IsExcused t K n reader x → IsExcused t L n reader x
-  excused n reader x (inl before) = inl (comes reader n x before)
-  excused n reader x (inr s) =
-      inr (record { writer = s.writer; is = writer reader x s.writer s.is; after = comes n s.writer x s.after })
+  before : (q : PointView) (reader x n : ℕ) → DividesBefore t K q reader x n → DividesBefore t L q reader x n
+  before q reader x n s = record { divides = divides q n x s.divides; before = comes n reader x s.before }
+
+  excused : (q : PointView) (n reader x : ℕ) → IsExcused t K q n reader x → IsExcused t L q n reader x
+  excused q n reader x (inl after) = inl (comes reader n x after)
+  excused q n reader x (inr s) =
+      inr (record { number = s.number; is = before q reader x s.number s.is; after = comes n s.number x s.after })
 
   only : (q : PointView) (reader x w : ℕ) → NoOtherServes t K q reader x w → NoOtherServes t L q reader x w
   only q reader x w none n serves = elim (none n serves) [
     | inl itself ↦ inl itself
-    | inr other ↦ elim other [ inl its ↦ inr (inl its) | inr out ↦ inr (inr (excused n reader x out)) ]
+    | inr other ↦ elim other [ inl its ↦ inr (inl its) | inr out ↦ inr (inr (excused q n reader x out)) ]
   ]
 
   not_first : (q : PointView) (x : ℕ) → FindsNotFirst t K q x → FindsNotFirst t L q x
@@ -44,7 +49,7 @@ module _ (t : TableView) (K L : Knowledge) (within : IsWithin K L) where
   was_put : (q : PointView) (reader x : ℕ) → WasPut t K q reader x → WasPut t L q reader x
   was_put q reader x (inl cannot) = inl cannot
   was_put q reader x (inr (inl first)) = inr (inl (not_first q x first))
-  was_put q reader x (inr (inr w)) = inr (inr (w.0, writer reader x w.0 w.1))
+  was_put q reader x (inr (inr n)) = inr (inr (n.0, before q reader x n.0 n.1))
 
   source_wider : (w reader x : ℕ) → IsSource t K w reader x → IsSource t L w reader x
   source_wider w reader x s = record {
@@ -109,21 +114,26 @@ module _ (t : TableView) (K L : Knowledge) (within : IsWithin K L) where
     each = λ x of. source_wider reader reader x (s.each x of);
   }
 
-  source_there : (fact : Fact) (a : Node) → IsSourceThere t K fact a → IsSourceThere t L fact a
-  source_there (Time earlier later) a is = is
-  source_there (Deallocate deallocate w x) a is = is
-  source_there (Own later x) a is = is
-  source_there (Source w r x) a is = (is.0, within.there _ is.1)
-  source_there (Over reader w x source) a is = is
-  source_there (Under w source x reader) a is = is
-  source_there (First reader w x) a is = is
-  source_there (AtFirst reader x) a is = is
-  source_there (TiedBefore reader x entry y) a is = is
-  source_there (TiedAfter entry reader x y) a is = is
+  followed : (later x : ℕ) → IsFollowed t K later x → IsFollowed t L later x
+  followed later x (inl there) = inl (within.there _ there)
+  followed later x (inr s) =
+      inr (record { point = s.point; its = s.its; together = s.together; block = s.block; by = s.by; there = within.there _ s.there })
+
+  there_by : (fact : Fact) (a : Node) → IsThereBy t K fact a → IsThereBy t L fact a
+  there_by (Time earlier later) a is = is
+  there_by (Deallocate deallocate w x) a is = is
+  there_by (Own later x) a is = (is.0, followed later x is.1)
+  there_by (Source w r x) a is = (is.0, within.there _ is.1)
+  there_by (Over reader w x source) a is = is
+  there_by (Under w source x reader) a is = is
+  there_by (First reader w x) a is = is
+  there_by (AtFirst reader x) a is = is
+  there_by (TiedBefore reader x entry y) a is = is
+  there_by (TiedAfter entry reader x y) a is = is
 
   there_with : (fact : Fact) (a : Node) → IsThereWith t K fact a → IsThereWith t L fact a
   there_with fact a (inl old) = inl (within.there a old)
-  there_with fact a (inr new) = inr (source_there fact a new)
+  there_with fact a (inr new) = inr (there_by fact a new)
 
   before_with : (fact : Fact) (o : Option Order) (x y : Node) → IsBeforeWith (IsThereWith t K fact) K.before o x y
       → IsBeforeWith (IsThereWith t L fact) L.before o x y

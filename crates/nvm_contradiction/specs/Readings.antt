@@ -7,7 +7,7 @@ use Rattle.nvm_points.specs.declared.point.Presence.TheVariants.{Repeated}
 use Rattle.nvm_orders.specs.Contents.{bytes_at}
 use Rattle.nvm_orders.specs.Places.{IsOf}
 use Rattle.nvm_contradiction.specs.Knowledge.{Knowledge}
-use Rattle.nvm_contradiction.specs.Nodes.{node}
+use Rattle.nvm_contradiction.specs.Nodes.{node, node_at}
 use Rattle.nvm_contradiction.specs.Serving.{CanServe, CanFindFirst, FindsThere, SurelyPuts}
 use Rattle.nvm_contradiction.specs.Times.{ComesBefore}
 
@@ -17,20 +17,39 @@ pub record IsReadingOf (t : TableView) (reader x : ℕ) (q : PointView) : Type 0
   pub block : IsOf q x
   pub once : q.presence ≢ Repeated
 
--- The writer surely puts the block, and comes before the reader.
-pub record IsWriterBefore (t : TableView) (K : Knowledge) (reader x writer : ℕ) : Type 0 where
-  pub puts : SurelyPuts t K writer x
-  pub before : ComesBefore t K writer reader x
+-- The other found bytes in the block that the reader, whose point is q, can't find there.
+pub record FindsOther (t : TableView) (q : PointView) (x : ℕ) (other : PointView) : Type 0 where
+  pub payload : List ℕ
+  pub found : other.found ≡ bytes payload
+  pub differs : FindsThere t q x (Bytes (bytes_at t.block_size payload (x - other.first))) → ⊥
 
--- The writer does so, and comes after the earlier point.
-pub record HasWriterBetween (t : TableView) (K : Knowledge) (earlier reader x : ℕ) : Type 0 where
-  pub writer : ℕ
-  pub is : IsWriterBefore t K reader x writer
-  pub after : ComesBefore t K earlier writer x
+-- The point of number n is there, and did so.
+pub record FoundOther (t : TableView) (K : Knowledge) (q : PointView) (n x : ℕ) : Type 0 where
+  pub point : PointView
+  pub its : slice_get t.points n ≡ Some point
+  pub block : IsOf point x
+  pub there : K.there (node_at t n x)
+  pub differs : FindsOther t q x point
 
--- The reader found nothing that the point of number n put in the block: that point comes after it, or another was put over it before.
-abbrev pub IsExcused : TableView → Knowledge → ℕ → ℕ → ℕ → Type 0
-IsExcused t K n reader x = ComesBefore t K reader n x ⊎ HasWriterBetween t K n reader x
+-- What the reader, whose point is q, found in the block wasn't there before the point of number n, or not after it.
+abbrev pub Divides : TableView → Knowledge → PointView → ℕ → ℕ → Type 0
+Divides t K q n x = SurelyPuts t K n x ⊎ FoundOther t K q n x
+
+-- It does so, and comes before the reader.
+pub record DividesBefore (t : TableView) (K : Knowledge) (q : PointView) (reader x n : ℕ) : Type 0 where
+  pub divides : Divides t K q n x
+  pub before : ComesBefore t K n reader x
+
+-- Some point does so, and comes after the earlier one.
+pub record HasBetween (t : TableView) (K : Knowledge) (q : PointView) (earlier reader x : ℕ) : Type 0 where
+  pub number : ℕ
+  pub is : DividesBefore t K q reader x number
+  pub after : ComesBefore t K earlier number x
+
+-- The reader, whose point is q, found nothing that the point of number n put in the block: that point comes after it, or another divides
+-- the two.
+abbrev pub IsExcused : TableView → Knowledge → PointView → ℕ → ℕ → ℕ → Type 0
+IsExcused t K q n reader x = ComesBefore t K reader n x ⊎ HasBetween t K q n reader x
 
 -- The point of number n can serve the reader, whose point is q.
 pub record IsServedBy (t : TableView) (q : PointView) (n x : ℕ) : Type 0 where
@@ -41,13 +60,7 @@ pub record IsServedBy (t : TableView) (q : PointView) (n x : ℕ) : Type 0 where
 
 -- Of all points but two, each that can serve the reader, whose point is q, is excused.
 abbrev pub NoOtherServes : TableView → Knowledge → PointView → ℕ → ℕ → ℕ → Type 0
-NoOtherServes t K q reader x writer = (n : ℕ) → IsServedBy t q n x → (n ≡ reader) ⊎ ((n ≡ writer) ⊎ IsExcused t K n reader x)
-
--- The other found bytes in the block that the reader, whose point is q, can't find there.
-pub record FindsOther (t : TableView) (q : PointView) (x : ℕ) (other : PointView) : Type 0 where
-  pub payload : List ℕ
-  pub found : other.found ≡ bytes payload
-  pub differs : FindsThere t q x (Bytes (bytes_at t.block_size payload (x - other.first))) → ⊥
+NoOtherServes t K q reader x writer = (n : ℕ) → IsServedBy t q n x → (n ≡ reader) ⊎ ((n ≡ writer) ⊎ IsExcused t K q n reader x)
 
 -- It is known what was in the block at first, and the reader, whose point is q, can't find that.
 pub record FindsNotFirst (t : TableView) (K : Knowledge) (q : PointView) (x : ℕ) : Type 0 where
@@ -59,7 +72,7 @@ pub record FindsNotFirst (t : TableView) (K : Knowledge) (q : PointView) (x : �
 
 -- What the reader, whose point is q, found isn't what was there at first.
 abbrev pub WasPut : TableView → Knowledge → PointView → ℕ → ℕ → Type 0
-WasPut t K q reader x = (CanFindFirst t q x → ⊥) ⊎ (FindsNotFirst t K q x ⊎ ((writer : ℕ) × IsWriterBefore t K reader x writer))
+WasPut t K q reader x = (CanFindFirst t q x → ⊥) ⊎ (FindsNotFirst t K q x ⊎ ((n : ℕ) × DividesBefore t K q reader x n))
 
 -- What the reader found in the block was put there, and of the other points none but the writer can have put it.
 pub record IsSource (t : TableView) (K : Knowledge) (writer reader x : ℕ) : Type 0 where

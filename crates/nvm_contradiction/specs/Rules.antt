@@ -1,7 +1,7 @@
 -- The rules by which a fact is given, by what is known (own).
 use Rattle.std.specs.Prelude.{◌≡◌, ◌≢◌, ℕ, ◌-◌, ◌<◌, true, false, Some, slice_get}
 use Rattle.nvm_points.specs.PointView.{PointView, TableView}
-use Rattle.nvm_points.specs.declared.point.Presence.TheVariants.{Repeated, Sure}
+use Rattle.nvm_points.specs.declared.point.Presence.TheVariants.{Repeated}
 use Rattle.nvm_orders.specs.Clauses.{is_put}
 use Rattle.nvm_orders.specs.Places.{IsOf}
 use Rattle.nvm_contradiction.specs.declared.fact.Fact.{Fact}
@@ -10,20 +10,7 @@ use Rattle.nvm_contradiction.specs.Knowledge.{Knowledge}
 use Rattle.nvm_contradiction.specs.Nodes.{node_at}
 use Rattle.nvm_contradiction.specs.Readings.{IsSource, IsUnserved}
 use Rattle.nvm_contradiction.specs.Serving.{SurelyPuts}
-use Rattle.nvm_contradiction.specs.Times.{ComesBefore, IsTime, WasOver}
-
--- The Deallocate was over before the writer began, which is sure and puts the block.
-pub record IsDeallocate (t : TableView) (deallocate writer x : ℕ) : Type 0 where
-  pub other : deallocate ≢ writer
-  pub first : PointView
-  pub first_is : slice_get t.points deallocate ≡ Some first
-  pub deallocated : IsOf first x
-  pub second : PointView
-  pub second_is : slice_get t.points writer ≡ Some second
-  pub sure : second.presence ≡ Sure
-  pub puts : is_put second.put ≡ true
-  pub written : IsOf second x
-  pub over : WasOver first.over second.from
+use Rattle.nvm_contradiction.specs.Times.{ComesBefore, IsDeallocate, IsTime}
 
 -- Where the table has the point, none of its blocks is done any number of times.
 abbrev pub IsOnce : TableView → ℕ → Type 0

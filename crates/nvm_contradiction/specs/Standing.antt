@@ -44,18 +44,31 @@ pub record IsSure (t : TableView) (node : Node) : Type 0 where
   pub its : slice_get t.points node.point ≡ Some point
   pub sure : IsSureAt point.presence point node.block
 
--- By the fact it is the source of a reader that is there.
-abbrev pub IsSourceThere : TableView → Knowledge → Fact → Node → Type 0
-IsSourceThere t K (Time earlier later) a = ⊥
-IsSourceThere t K (Deallocate deallocate writer x) a = ⊥
-IsSourceThere t K (Own later x) a = ⊥
-IsSourceThere t K (Source writer reader x) a = (a ≡ node_at t writer x) × K.there (node_at t reader x)
-IsSourceThere t K (Over reader writer x source) a = ⊥
-IsSourceThere t K (Under writer source x reader) a = ⊥
-IsSourceThere t K (First reader writer x) a = ⊥
-IsSourceThere t K (AtFirst reader x) a = ⊥
-IsSourceThere t K (TiedBefore reader x entry y) a = ⊥
-IsSourceThere t K (TiedAfter entry reader x y) a = ⊥
+-- The point before the later one is done in all of its blocks or none, and the later one is there in some block.
+pub record IsWhollyThere (t : TableView) (K : Knowledge) (later x : ℕ) : Type 0 where
+  pub point : PointView
+  pub its : slice_get t.points (later - 1) ≡ Some point
+  pub together : point.presence ≡ Together
+  pub block : IsOf point x
+  pub by : ℕ
+  pub there : K.there (node later by)
+
+-- The point before the later one is there at the block, since the later one is.
+abbrev pub IsFollowed : TableView → Knowledge → ℕ → ℕ → Type 0
+IsFollowed t K later x = K.there (node_at t later x) ⊎ IsWhollyThere t K later x
+
+-- By the fact it is there: the source of a reader that is, or the point before one that is.
+abbrev pub IsThereBy : TableView → Knowledge → Fact → Node → Type 0
+IsThereBy t K (Time earlier later) a = ⊥
+IsThereBy t K (Deallocate deallocate writer x) a = ⊥
+IsThereBy t K (Own later x) a = (a ≡ node_at t (later - 1) x) × IsFollowed t K later x
+IsThereBy t K (Source writer reader x) a = (a ≡ node_at t writer x) × K.there (node_at t reader x)
+IsThereBy t K (Over reader writer x source) a = ⊥
+IsThereBy t K (Under writer source x reader) a = ⊥
+IsThereBy t K (First reader writer x) a = ⊥
+IsThereBy t K (AtFirst reader x) a = ⊥
+IsThereBy t K (TiedBefore reader x entry y) a = ⊥
+IsThereBy t K (TiedAfter entry reader x y) a = ⊥
 
 -- By the fact it found what was in its block at first.
 abbrev pub IsAtFirst : Fact → Node → Type 0
@@ -86,7 +99,7 @@ IsBeforeWith There Before (Some o) x y = Before x y ⊎ (IsUpTo There Before x o
 
 -- what is there with one fact more
 abbrev pub IsThereWith : TableView → Knowledge → Fact → Node → Type 0
-IsThereWith t K fact a = K.there a ⊎ IsSourceThere t K fact a
+IsThereWith t K fact a = K.there a ⊎ IsThereBy t K fact a
 
 -- what is known with one fact more
 abbrev pub known_with : TableView → Knowledge → Option Fact → Knowledge

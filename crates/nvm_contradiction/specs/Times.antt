@@ -1,6 +1,9 @@
 -- What comes before what by the times of commands (own).
-use Rattle.std.specs.Prelude.{◌≡◌, ◌≢◌, ◌⊎◌, ℕ, ◌<◌, Option, Some, slice_get}
+use Rattle.std.specs.Prelude.{◌≡◌, ◌≢◌, ◌⊎◌, ℕ, ◌<◌, true, Option, Some, slice_get}
 use Rattle.nvm_points.specs.PointView.{PointView, TableView}
+use Rattle.nvm_points.specs.declared.point.Presence.TheVariants.{Sure}
+use Rattle.nvm_orders.specs.Clauses.{is_put}
+use Rattle.nvm_orders.specs.Places.{IsOf}
 use Rattle.nvm_contradiction.specs.Knowledge.{Knowledge}
 use Rattle.nvm_contradiction.specs.Nodes.{node_at}
 
@@ -19,6 +22,20 @@ pub record IsTime (t : TableView) (earlier later : ℕ) : Type 0 where
   pub second_is : slice_get t.points later ≡ Some second
   pub over : WasOver first.until second.from
 
+-- The Deallocate was over before the writer began, which is sure and puts the block.
+pub record IsDeallocate (t : TableView) (deallocate writer x : ℕ) : Type 0 where
+  pub other : deallocate ≢ writer
+  pub first : PointView
+  pub first_is : slice_get t.points deallocate ≡ Some first
+  pub deallocated : IsOf first x
+  pub second : PointView
+  pub second_is : slice_get t.points writer ≡ Some second
+  pub sure : second.presence ≡ Sure
+  pub puts : is_put second.put ≡ true
+  pub written : IsOf second x
+  pub over : WasOver first.over second.from
+
 -- At the block the one comes before the other: that is known, or by their times.
 abbrev pub ComesBefore : TableView → Knowledge → ℕ → ℕ → ℕ → Type 0
-ComesBefore t K earlier later x = K.before (node_at t earlier x) (node_at t later x) ⊎ IsTime t earlier later
+ComesBefore t K earlier later x =
+    K.before (node_at t earlier x) (node_at t later x) ⊎ (IsTime t earlier later ⊎ IsDeallocate t earlier later x)

@@ -4,15 +4,18 @@ use crate::node::Node;
 ///
 /// Points are named by their numbers in the table. The rules use these words:
 ///
-/// - *There* is what is sure, a point that is done in one of its blocks and has no other, and the source of what is there.
-/// - One point *comes before* another at a block if its time was over before the other's began, or by the facts before. These are
-///   followed along a chain where its inner links are there: a fact that leads on from a source is given after it, or once more.
+/// - *There* is what is sure, a point that is done in one of its blocks and has no other, the source of what is there, and what something
+///   that is there comes only after.
+/// - One point *comes before* another at a block if its time was over before the other's began, if it is a Deallocate that may not be done
+///   after the other, or by the facts before. These are followed along a chain where its inner links are there: a fact that leads on from
+///   a source is given after it, or once more.
 /// - A point *surely puts* a block if it has it, is there, and puts something.
 /// - It *can serve* a reader if something that it may put in the block is what the reader may find there.
-/// - It is *excused* if it comes after the reader, or before something that surely puts the block and comes before the reader.
+/// - It *divides* a reader from what was before if it surely puts the block, or is there and found bytes there that the reader can't find.
+/// - It is *excused* if it comes after the reader, or before something that divides and comes before the reader.
 /// - What the reader found *was put* if it can't have been there at first: where the trace starts from zeroes, which the reader
-///   doesn't find, or another reader found what was there at first, which isn't what this one found, or something that surely puts the
-///   block comes before the reader.
+///   doesn't find, or another reader found what was there at first, which isn't what this one found, or something that divides comes
+///   before the reader.
 #[derive(Clone, Copy, Debug, PartialEq, Eq)]
 pub enum Fact {
     /// The time of the earlier, which is another point, was over before the later one's began.
@@ -26,7 +29,8 @@ pub enum Fact {
         writer: u32,
         block: u32,
     },
-    /// The point comes at the block only after the one before it in the table.
+    /// The point comes at the block only after the one before it in the table, which is there if it is. If that one is done in all of its
+    /// blocks or none, it is there at the block if the point is there at any.
     Own {
         later: u32,
         block: u32,

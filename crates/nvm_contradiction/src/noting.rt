@@ -1,15 +1,16 @@
-ghost use Rattle.std.specs.Prelude.{◌≡◌, ◌⊎◌, Contains, OnOk, Some};
+ghost use Rattle.std.specs.Prelude.{◌≡◌, ◌⊎◌, ℕ, Contains, IsTrue, OnOk, Some};
 ghost use Rattle.nvm_points.specs.PointView.{seen_table};
 ghost use Rattle.nvm_contradiction.specs.Inside.Noted.{IsNoted, IsNotedThere, noted};
 ghost use Rattle.nvm_contradiction.specs.Knowledge.{IsWithin};
+ghost use Rattle.nvm_contradiction.specs.Nodes.{node};
 ghost use Rattle.nvm_contradiction.specs.Standing as standing;
-ghost use Rattle.nvm_contradiction.specs.Standing.{IsAtFirst, IsBeforeWith, IsSourceThere, known_with};
+ghost use Rattle.nvm_contradiction.specs.Standing.{IsAtFirst, IsBeforeWith, IsFollowed, IsThereBy, IsWhollyThere, known_with};
 ghost use Rattle.nvm_contradiction.specs.declared.node.Node.{Node as NodeSpec};
 
 use crate::fact::Fact;
 use crate::known::{Known, Order, is_there, note};
-use crate::node::{named, node_at};
-use nvm_points::Points;
+use crate::node::{has_block, named, node_at, point_at};
+use nvm_points::{Points, Presence};
 use nvm_record::NoMemory;
 use std::alloc::Global;
 
@@ -76,22 +77,66 @@ fn order_at(points: &Points<'_>, earlier: u32, later: u32, block: u32) -> Order
     }
 }
 
-/// Notes that a source is there, where its reader is.
-fn note_source(points: &Points<'_>, known: &mut Known, fact: Fact) -> Result<(), NoMemory>
+/// Whether the point of this number is noted to be there in some block.
+fn is_noted_somewhere(points: &Points<'_>, known: &Known, number: u32) -> bool
+    ensures { IsTrue result → (x : ℕ) × IsNotedThere (seen_table points.now) known.now.there.items (node number x) }
+{
+    for one in &known.there {
+        if one.point == number && is_there(points, &known.there, named(number, one.block)) {
+            return true;
+        }
+    }
+    false
+}
+
+/// Whether the point before the later one is done in all of its blocks or none, has this one, and the later one is noted to be there in
+/// some block.
+fn is_wholly_there(points: &Points<'_>, known: &Known, later: u32, block: u32) -> bool
+    ensures { IsTrue result → IsWhollyThere (seen_table points.now) (noted (seen_table points.now) known.now) later block }
+{
+    match point_at(points, later.saturating_sub(1)) {
+        Some(point) => {
+            point.presence == Presence::Together
+                && has_block(point, block)
+                && is_noted_somewhere(points, known, later)
+        }
+        None => false,
+    }
+}
+
+/// Whether the point before the later one is there at the block, since the later one is.
+fn is_followed(points: &Points<'_>, known: &Known, later: u32, block: u32) -> bool
+    ensures { IsTrue result → IsFollowed (seen_table points.now) (noted (seen_table points.now) known.now) later block }
+{
+    is_there(points, &known.there, node_at(points, later, block))
+        || is_wholly_there(points, known, later, block)
+}
+
+/// Notes what is there by the fact: the source of a reader that is, or the point before one that is.
+fn note_there(points: &Points<'_>, known: &mut Known, fact: Fact) -> Result<(), NoMemory>
     ensures there { OnOk result ((a : NodeSpec) → Contains known.new.there.items a
-        → Contains known.old.there.items a ⊎ IsSourceThere (seen_table points.now) (noted (seen_table points.now) known.old) fact a) }
+        → Contains known.old.there.items a ⊎ IsThereBy (seen_table points.now) (noted (seen_table points.now) known.old) fact a) }
     ensures orders { known.new.orders ≡ known.old.orders }
     ensures firsts { known.new.firsts ≡ known.old.firsts }
 {
-    if let Fact::Source {
-        writer,
-        reader,
-        block,
-    } = fact
-    {
-        if is_there(points, &known.there, node_at(points, reader, block)) {
-            known.there.push(node_at(points, writer, block))?;
+    match fact {
+        Fact::Source {
+            writer,
+            reader,
+            block,
+        } => {
+            if is_there(points, &known.there, node_at(points, reader, block)) {
+                known.there.push(node_at(points, writer, block))?;
+            }
         }
+        Fact::Own { later, block } => {
+            if is_followed(points, known, later, block) {
+                known
+                    .there
+                    .push(node_at(points, later.saturating_sub(1), block))?;
+            }
+        }
+        _ => {}
     }
     Ok(())
 }
@@ -137,7 +182,7 @@ pub(crate) fn note_fact(
     ensures { OnOk result (IsWithin (noted (seen_table points.now) known.new)
         (known_with (seen_table points.now) (noted (seen_table points.now) known.old) (Some fact))) }
 {
-    note_source(points, known, fact)?;
+    note_there(points, known, fact)?;
     note_first(known, fact)?;
     note_order(alloc, points, known, fact)
 }

@@ -2,35 +2,90 @@ ghost use Rattle.std.specs.Prelude.{◌≡◌, ◌↔◌, ◌≤◌, ℕ, IfSome
 ghost use Rattle.nvm_points.specs.PointView.{seen, seen_table};
 ghost use Rattle.nvm_points.specs.declared.point.Presence.TheVariants.{Repeated};
 ghost use Rattle.nvm_contradiction.specs.Inside.Noted.{noted};
-ghost use Rattle.nvm_contradiction.specs.Readings.{FindsNotFirst, FindsOther, HasWriterBetween, IsExcused, IsReadingOf, IsServedBy, IsSource, IsUnserved, IsWriterBefore, NoOtherServes, WasPut};
+ghost use Rattle.nvm_contradiction.specs.Readings.{Divides, DividesBefore, FindsNotFirst, FindsOther, FoundOther, HasBetween, IsExcused, IsReadingOf, IsServedBy, IsSource, IsUnserved, NoOtherServes, WasPut};
 
-use crate::known::Known;
+use crate::known::{Known, is_there};
 use crate::node::{Node, has_block, node_at, point_at};
 use crate::serving::{can_find_first, can_serve, may_find_there, surely_puts};
-use crate::times::{comes_before, is_time};
+use crate::times::{comes_before, is_sure_writer, is_time};
 use nvm_orders::{Content, bytes_at};
 use nvm_points::{Found, Point, Points, Presence};
 
-/// Whether the writer surely puts the block and comes before the reader.
-fn is_writer_before(points: &Points<'_>, known: &Known, writer: u32, reader: Node) -> bool
-    ensures { IsTrue result → IsWriterBefore (seen_table points.now) (noted (seen_table points.now) known.now) reader.point reader.block writer }
+/// Whether the other reader found bytes in the block that this one, which has it, can't find there.
+fn finds_other(points: &Points<'_>, reading: &Point<'_>, block: u32, other: &Point<'_>) -> bool
+    requires { reading.now.first ≤ block }
+    ensures { IsTrue result → FindsOther (seen_table points.now) (seen reading.now) block (seen other.now) }
 {
-    surely_puts(points, known, writer, reader.block)
-        && comes_before(points, known, writer, reader.point, reader.block)
+    match other.found {
+        Found::Bytes(payload) => {
+            let place = block.saturating_sub(other.first);
+            let bytes = bytes_at(points.block_size.bytes(), payload, place);
+            !may_find_there(points, reading, block, Content::Bytes(bytes))
+        }
+        _ => false,
+    }
 }
 
-/// Whether the writer surely puts the block, and comes after the earlier point and before the reader.
-fn is_writer_between(
+/// Whether the point of this number is there and found bytes in the block that the reader, which has it, can't find there.
+fn found_other(
     points: &Points<'_>,
     known: &Known,
-    writer: u32,
+    reading: &Point<'_>,
+    number: u32,
+    block: u32,
+) -> bool
+    requires { reading.now.first ≤ block }
+    ensures { IsTrue result → FoundOther (seen_table points.now) (noted (seen_table points.now) known.now) (seen reading.now) number block }
+{
+    match point_at(points, number) {
+        Some(other) => {
+            has_block(other, block)
+                && finds_other(points, reading, block, other)
+                && is_there(points, &known.there, node_at(points, number, block))
+        }
+        None => false,
+    }
+}
+
+/// Whether what the reader, which has the block, found there wasn't there before the point of this number, or not after it.
+fn divides(points: &Points<'_>, known: &Known, reading: &Point<'_>, number: u32, block: u32) -> bool
+    requires { reading.now.first ≤ block }
+    ensures { IsTrue result → Divides (seen_table points.now) (noted (seen_table points.now) known.now) (seen reading.now) number block }
+{
+    surely_puts(points, known, number, block) || found_other(points, known, reading, number, block)
+}
+
+/// Whether that point comes before the reader.
+fn divides_before(
+    points: &Points<'_>,
+    known: &Known,
+    reading: &Point<'_>,
+    number: u32,
+    reader: Node,
+) -> bool
+    requires { reading.now.first ≤ reader.block }
+    ensures { IsTrue result → DividesBefore (seen_table points.now) (noted (seen_table points.now) known.now) (seen reading.now)
+        reader.point reader.block number }
+{
+    comes_before(points, known, number, reader.point, reader.block)
+        && divides(points, known, reading, number, reader.block)
+}
+
+/// Whether it comes after the earlier one, too.
+fn divides_between(
+    points: &Points<'_>,
+    known: &Known,
+    reading: &Point<'_>,
+    number: u32,
     earlier: u32,
     reader: Node,
 ) -> bool
-    ensures { IsTrue result → HasWriterBetween (seen_table points.now) (noted (seen_table points.now) known.now) earlier reader.point reader.block }
+    requires { reading.now.first ≤ reader.block }
+    ensures { IsTrue result → HasBetween (seen_table points.now) (noted (seen_table points.now) known.now) (seen reading.now)
+        earlier reader.point reader.block }
 {
-    comes_before(points, known, earlier, writer, reader.block)
-        && is_writer_before(points, known, writer, reader)
+    comes_before(points, known, earlier, number, reader.block)
+        && divides_before(points, known, reading, number, reader)
 }
 
 /// Whether the point of this number begins later than the other, if there is another.
@@ -54,48 +109,115 @@ fn many(points: &Points<'_>) -> u32
     points.points.len().min(0xffff_ffff) as u32
 }
 
-/// Of what surely puts the block and was over before the reader began, that which begins last, if there is any: if something comes between
-/// by times alone, this does.
-fn last_writer(points: &Points<'_>, known: &Known, reader: Node) -> Option<u32> {
-    let mut last = None;
+/// What divides a reader from what was before by times alone.
+#[derive(Clone, Copy)]
+struct Last {
+    /// Of those that were over before the reader began the one that began last.
+    any: Option<u32>,
+    /// The same of those that are sure, and put the block.
+    sure: Option<u32>,
+}
+
+/// What divides the reader from what was before by times alone: if something comes between by these, one of the two does.
+fn last_dividing(points: &Points<'_>, known: &Known, reading: &Point<'_>, reader: Node) -> Last
+    requires { reading.now.first ≤ reader.block }
+{
+    let mut last = Last {
+        any: None,
+        sure: None,
+    };
     for number in 0..many(points) {
-        if is_time(points, number, reader.point)
-            && begins_later(points, number, last)
-            && surely_puts(points, known, number, reader.block)
+        if !is_time(points, number, reader.point) {
+            continue;
+        }
+        if begins_later(points, number, last.sure) && is_sure_writer(points, number, reader.block) {
+            last.sure = Some(number);
+        }
+        if begins_later(points, number, last.any)
+            && divides(points, known, reading, number, reader.block)
         {
-            last = Some(number);
+            last.any = Some(number);
         }
     }
     last
 }
 
-/// Whether something that is noted to come before the reader surely puts the block.
-fn has_noted_writer(points: &Points<'_>, known: &Known, reader: Node) -> bool
-    ensures { IsTrue result → (writer : ℕ) × IsWriterBefore (seen_table points.now) (noted (seen_table points.now) known.now) reader.point reader.block writer }
+/// Whether there is a point of this number, and it divides the reader from the earlier one.
+fn is_between(
+    points: &Points<'_>,
+    known: &Known,
+    reading: &Point<'_>,
+    number: Option<u32>,
+    earlier: u32,
+    reader: Node,
+) -> bool
+    requires { reading.now.first ≤ reader.block }
+    ensures { IsTrue result → HasBetween (seen_table points.now) (noted (seen_table points.now) known.now) (seen reading.now)
+        earlier reader.point reader.block }
+{
+    match number {
+        Some(number) => divides_between(points, known, reading, number, earlier, reader),
+        None => false,
+    }
+}
+
+/// Whether there is a point of this number, and it divides the reader from all that was before it.
+fn is_before(
+    points: &Points<'_>,
+    known: &Known,
+    reading: &Point<'_>,
+    number: Option<u32>,
+    reader: Node,
+) -> bool
+    requires { reading.now.first ≤ reader.block }
+    ensures { IsTrue result → (n : ℕ) × DividesBefore (seen_table points.now) (noted (seen_table points.now) known.now) (seen reading.now)
+        reader.point reader.block n }
+{
+    match number {
+        Some(number) => divides_before(points, known, reading, number, reader),
+        None => false,
+    }
+}
+
+/// Whether something that is noted to come before the reader divides it from what was before.
+fn has_noted(points: &Points<'_>, known: &Known, reading: &Point<'_>, reader: Node) -> bool
+    requires { reading.now.first ≤ reader.block }
+    ensures { IsTrue result → (n : ℕ) × DividesBefore (seen_table points.now) (noted (seen_table points.now) known.now) (seen reading.now)
+        reader.point reader.block n }
 {
     let later = node_at(points, reader.point, reader.block);
     for order in &known.orders {
-        if order.later == later && is_writer_before(points, known, order.earlier.point, reader) {
+        if order.later == later
+            && divides_before(points, known, reading, order.earlier.point, reader)
+        {
             return true;
         }
     }
     false
 }
 
-/// Whether something that is noted to come before the reader or after the earlier point comes between the two, and surely puts the block.
-fn has_noted_between(points: &Points<'_>, known: &Known, earlier: u32, reader: Node) -> bool
-    ensures { IsTrue result → HasWriterBetween (seen_table points.now) (noted (seen_table points.now) known.now) earlier reader.point reader.block }
+/// Whether something that is noted to come before the reader or after the earlier point divides the two.
+fn has_noted_between(
+    points: &Points<'_>,
+    known: &Known,
+    reading: &Point<'_>,
+    earlier: u32,
+    reader: Node,
+) -> bool
+    requires { reading.now.first ≤ reader.block }
+    ensures { IsTrue result → HasBetween (seen_table points.now) (noted (seen_table points.now) known.now) (seen reading.now)
+        earlier reader.point reader.block }
 {
     let from = node_at(points, earlier, reader.block);
     let to = node_at(points, reader.point, reader.block);
     for order in &known.orders {
         if order.later == to
-            && is_writer_between(points, known, order.earlier.point, earlier, reader)
+            && divides_between(points, known, reading, order.earlier.point, earlier, reader)
         {
             return true;
         }
         if order.earlier == from
-            && is_writer_between(points, known, order.later.point, earlier, reader)
+            && divides_between(points, known, reading, order.later.point, earlier, reader)
         {
             return true;
         }
@@ -103,23 +225,23 @@ fn has_noted_between(points: &Points<'_>, known: &Known, earlier: u32, reader: N
     false
 }
 
-/// Whether the reader found nothing that the point of this number put in the block. `last` is its last writer by times.
+/// Whether the reader found nothing that the point of this number put in the block. `last` is what divides it from others by times.
 fn is_excused(
     points: &Points<'_>,
     known: &Known,
-    last: Option<u32>,
+    reading: &Point<'_>,
+    last: &Last,
     number: u32,
     reader: Node,
 ) -> bool
-    ensures { IsTrue result → IsExcused (seen_table points.now) (noted (seen_table points.now) known.now) number reader.point reader.block }
+    requires { reading.now.first ≤ reader.block }
+    ensures { IsTrue result → IsExcused (seen_table points.now) (noted (seen_table points.now) known.now) (seen reading.now)
+        number reader.point reader.block }
 {
-    if let Some(writer) = last {
-        if is_writer_between(points, known, writer, number, reader) {
-            return true;
-        }
-    }
-    comes_before(points, known, reader.point, number, reader.block)
-        || has_noted_between(points, known, number, reader)
+    is_between(points, known, reading, last.any, number, reader)
+        || is_between(points, known, reading, last.sure, number, reader)
+        || comes_before(points, known, reader.point, number, reader.block)
+        || has_noted_between(points, known, reading, number, reader)
 }
 
 /// Whether the point of this number can't serve the reader, which has the block.
@@ -148,12 +270,12 @@ fn no_other_serves(
     if points.points.len() > 0xffff_ffff {
         return false;
     }
-    let last = last_writer(points, known, reader);
+    let last = last_dividing(points, known, reading, reader);
     for number in 0..many(points) {
         if number != reader.point
             && number != writer
             && !cannot_serve(points, number, reading, reader.block)
-            && !is_excused(points, known, last, number, reader)
+            && !is_excused(points, known, reading, &last, number, reader)
         {
             return false;
         }
@@ -187,21 +309,6 @@ fn reading_of<'a, 't>(points: &'a Points<'t>, reader: Node) -> Option<&'a Point<
     }
 }
 
-/// Whether the other reader found bytes in the block that this one, which has it, can't find there.
-fn finds_other(points: &Points<'_>, reading: &Point<'_>, block: u32, other: &Point<'_>) -> bool
-    requires { reading.now.first ≤ block }
-    ensures { IsTrue result → FindsOther (seen_table points.now) (seen reading.now) block (seen other.now) }
-{
-    match other.found {
-        Found::Bytes(payload) => {
-            let place = block.saturating_sub(other.first);
-            let bytes = bytes_at(points.block_size.bytes(), payload, place);
-            !may_find_there(points, reading, block, Content::Bytes(bytes))
-        }
-        _ => false,
-    }
-}
-
 /// Whether it is noted what was in the block at first, and the reader, which has it, can't find that.
 fn finds_not_first(points: &Points<'_>, known: &Known, reading: &Point<'_>, block: u32) -> bool
     requires { reading.now.first ≤ block }
@@ -224,14 +331,11 @@ fn was_put(points: &Points<'_>, known: &Known, reading: &Point<'_>, reader: Node
     requires { reading.now.first ≤ reader.block }
     ensures { IsTrue result → WasPut (seen_table points.now) (noted (seen_table points.now) known.now) (seen reading.now) reader.point reader.block }
 {
-    if let Some(writer) = last_writer(points, known, reader) {
-        if is_writer_before(points, known, writer, reader) {
-            return true;
-        }
-    }
-    !can_find_first(points, reading, reader.block)
+    let last = last_dividing(points, known, reading, reader);
+    is_before(points, known, reading, last.any, reader)
+        || !can_find_first(points, reading, reader.block)
         || finds_not_first(points, known, reading, reader.block)
-        || has_noted_writer(points, known, reader)
+        || has_noted(points, known, reading, reader)
 }
 
 /// Whether what the reader found was put, and of the other points none but the writer can have put it.

@@ -1,49 +1,16 @@
-ghost use Rattle.std.specs.Prelude.{◌≡◌, IsTrue, true};
-ghost use Rattle.nvm_points.specs.PointView.{seen, seen_put, seen_table};
-ghost use Rattle.nvm_points.specs.declared.point.Presence.TheVariants.{Sure};
-ghost use Rattle.nvm_orders.specs.Clauses.{is_put as spec_is_put};
-ghost use Rattle.nvm_orders.specs.Places.{IsOf};
+ghost use Rattle.std.specs.Prelude.{IsTrue};
+ghost use Rattle.nvm_points.specs.PointView.{seen, seen_table};
 ghost use Rattle.nvm_contradiction.specs.Inside.Noted.{noted};
-ghost use Rattle.nvm_contradiction.specs.Rules.{IsDeallocate, IsEntryOf, IsGiven, IsOnce, IsOverwritten, IsOwn, IsTied, IsUnder};
+ghost use Rattle.nvm_contradiction.specs.Rules.{IsEntryOf, IsGiven, IsOnce, IsOverwritten, IsOwn, IsTied, IsUnder};
 
 use crate::fact::Fact;
 use crate::known::{Known, is_there};
 use crate::node::{Node, has_block, named, node_at, point_at};
 use crate::readings::{is_repeated, is_source, is_unserved};
 use crate::serving::surely_puts;
-use crate::times::{comes_before, is_time, was_over};
+use crate::times::{comes_before, is_deallocate, is_time};
 use nvm_orders::is_put;
-use nvm_points::{Point, Points, Presence};
-
-/// Whether the point is sure, and puts the block.
-fn is_sure_put(point: &Point<'_>, block: u32) -> bool
-    ensures sure { IsTrue result → point.now.presence ≡ Sure }
-    ensures puts { IsTrue result → spec_is_put (seen_put point.now.put) ≡ true }
-    ensures block { IsTrue result → IsOf (seen point.now) block }
-{
-    match point.presence {
-        Presence::Sure => is_put(point.put) && has_block(point, block),
-        _ => false,
-    }
-}
-
-/// Whether the Deallocate was over before the writer began, which is sure and puts the block.
-fn is_deallocate(points: &Points<'_>, deallocate: u32, writer: u32, block: u32) -> bool
-    ensures { IsTrue result → IsDeallocate (seen_table points.now) deallocate writer block }
-{
-    match point_at(points, deallocate) {
-        Some(first) => match point_at(points, writer) {
-            Some(second) => {
-                deallocate != writer
-                    && has_block(first, block)
-                    && is_sure_put(second, block)
-                    && was_over(first.over, second.from)
-            }
-            None => false,
-        },
-        None => false,
-    }
-}
+use nvm_points::{Point, Points};
 
 /// Whether the block of the point of this number is done once at most, if the table has it.
 fn is_once(points: &Points<'_>, number: u32) -> bool

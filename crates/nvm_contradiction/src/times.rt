@@ -1,11 +1,15 @@
-ghost use Rattle.std.specs.Prelude.{IsTrue};
-ghost use Rattle.nvm_points.specs.PointView.{seen_table};
+ghost use Rattle.std.specs.Prelude.{◌≡◌, IsTrue, true};
+ghost use Rattle.nvm_points.specs.PointView.{seen, seen_put, seen_table};
+ghost use Rattle.nvm_points.specs.declared.point.Presence.TheVariants.{Sure};
+ghost use Rattle.nvm_orders.specs.Clauses.{is_put as spec_is_put};
+ghost use Rattle.nvm_orders.specs.Places.{IsOf};
 ghost use Rattle.nvm_contradiction.specs.Inside.Noted.{noted};
-ghost use Rattle.nvm_contradiction.specs.Times.{ComesBefore, IsTime, WasOver};
+ghost use Rattle.nvm_contradiction.specs.Times.{ComesBefore, IsDeallocate, IsTime, WasOver};
 
 use crate::known::{Known, is_noted};
-use crate::node::{node_at, point_at};
-use nvm_points::Points;
+use crate::node::{has_block, node_at, point_at};
+use nvm_orders::is_put;
+use nvm_points::{Point, Points, Presence};
 
 /// Whether there is a time, and it is before that.
 pub(crate) fn was_over(time: Option<u64>, from: u64) -> bool
@@ -30,6 +34,44 @@ pub(crate) fn is_time(points: &Points<'_>, earlier: u32, later: u32) -> bool
     }
 }
 
+/// Whether the point is sure, and puts the block.
+fn is_sure_put(point: &Point<'_>, block: u32) -> bool
+    ensures sure { IsTrue result → point.now.presence ≡ Sure }
+    ensures puts { IsTrue result → spec_is_put (seen_put point.now.put) ≡ true }
+    ensures block { IsTrue result → IsOf (seen point.now) block }
+{
+    match point.presence {
+        Presence::Sure => is_put(point.put) && has_block(point, block),
+        _ => false,
+    }
+}
+
+/// Whether the point of this number is sure, and puts the block.
+pub(crate) fn is_sure_writer(points: &Points<'_>, number: u32, block: u32) -> bool {
+    match point_at(points, number) {
+        Some(point) => is_sure_put(point, block),
+        None => false,
+    }
+}
+
+/// Whether the Deallocate was over before the writer began, which is sure and puts the block.
+pub(crate) fn is_deallocate(points: &Points<'_>, deallocate: u32, writer: u32, block: u32) -> bool
+    ensures { IsTrue result → IsDeallocate (seen_table points.now) deallocate writer block }
+{
+    match point_at(points, deallocate) {
+        Some(first) => match point_at(points, writer) {
+            Some(second) => {
+                deallocate != writer
+                    && has_block(first, block)
+                    && is_sure_put(second, block)
+                    && was_over(first.over, second.from)
+            }
+            None => false,
+        },
+        None => false,
+    }
+}
+
 /// Whether the one comes before the other at the block, by their times or by what is noted.
 pub(crate) fn comes_before(
     points: &Points<'_>,
@@ -41,6 +83,7 @@ pub(crate) fn comes_before(
     ensures { IsTrue result → ComesBefore (seen_table points.now) (noted (seen_table points.now) known.now) earlier later block }
 {
     is_time(points, earlier, later)
+        || is_deallocate(points, earlier, later, block)
         || is_noted(
             &known.orders,
             node_at(points, earlier, block),

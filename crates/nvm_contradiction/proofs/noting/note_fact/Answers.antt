@@ -16,7 +16,7 @@ returns c =
     let new = c.note_order.new.known in
     let order = c.note_order.ensures in
     let first = c.in_ok-note_first.ensures in
-    let source = c.in_ok-note_source.ensures in
+    let source = c.in_ok-note_there.ensures in
     on_ok_weaker c.note_order.result
     (λ orders.
     fact_noted t fact old new

@@ -13,7 +13,7 @@ loop-number-preserved c = λ n below.
     let t = seen_table c.args.points.now in
     let Excused : ℕ → Type 0 =
     λ m. IsServedBy t (seen c.args.reading.now) m c.args.reader.block → (m ≡ c.args.reader.point)
-    ⊎ ((m ≡ c.args.writer) ⊎ IsExcused t (noted t c.args.known.now) m c.args.reader.point c.args.reader.block) in
+    ⊎ ((m ≡ c.args.writer) ⊎ IsExcused t (noted t c.args.known.now) (seen c.args.reading.now) m c.args.reader.point c.args.reader.block) in
     elim (earlier_or_last n c.loop-number.number below) [
       | inl h ↦ c.loop-number.invariant n h
       | inr same ↦ subst Excused (sym same) (elim c.else-number-reader.branch [

@@ -8,4 +8,4 @@ abbrev pub invariant-loop-number : goal.invariant-loop-number
 invariant-loop-number l =
     (n : ℕ) → n < l.number → IsServedBy (seen_table l.points) (seen l.reading) n l.reader.block
     → (n ≡ l.reader.point)
-    ⊎ ((n ≡ l.writer) ⊎ IsExcused (seen_table l.points) (noted (seen_table l.points) l.known) n l.reader.point l.reader.block)
+    ⊎ ((n ≡ l.writer) ⊎ IsExcused (seen_table l.points) (noted (seen_table l.points) l.known) (seen l.reading) n l.reader.point l.reader.block)
