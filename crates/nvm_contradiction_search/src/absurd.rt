@@ -66,7 +66,7 @@ pub fn absurd_of(
         if derivation.whose(place) != Some(Whose::Nobody) {
             continue;
         }
-        if find.is_sure {
+        if derivation.is_there(window, history, find.reader) {
             absurd.push(Absurd::Nobody { find: place })?;
         } else if let Some(finds) = nowhere(alloc, window, history, derivation, place)? {
             absurd.push(Absurd::Nowhere { finds })?;

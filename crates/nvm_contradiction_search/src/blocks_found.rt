@@ -5,10 +5,10 @@ use std::alloc::Global;
 /// The most blocks of commands without data of their own that are listed.
 pub const MOST_WIDE: usize = 1 << 22;
 
-/// Whether the point surely found some bytes, or failed to find them.
+/// Whether the point found some bytes, or failed to find them, at least if another was done.
 fn is_reader(point: &Point<'_>) -> bool {
     match (point.found, point.presence) {
-        (Found::Bytes(_), Presence::Sure) | (Found::OtherThan(_), _) => true,
+        (Found::Bytes(_), Presence::Sure | Presence::Together) | (Found::OtherThan(_), _) => true,
         _ => false,
     }
 }

@@ -3,11 +3,12 @@ use crate::derived::{Derived, Rule};
 use crate::grounds::Grounds;
 use crate::history::History;
 use crate::orders::Orders;
+use crate::paths::Link;
 use crate::place_set::PlaceSet;
 use crate::settling::{Condition, Settled, Whose, who_put};
 use crate::sought::Sought;
 use crate::window::{Window, WindowFind};
-use nvm_points::Put;
+use nvm_points::{Presence, Put};
 use nvm_record::NoMemory;
 use std::alloc::Global;
 use std::mem;
@@ -26,12 +27,14 @@ pub struct Derivation {
     settled: Vec<Option<Settled>>,
     /// For each block the nodes that surely put something there, as far as it is known.
     sure: Vec<PlaceSet>,
-    /// Whether one was added since all finds were gone through.
-    is_more_sure: bool,
+    /// Whether something was found to be there since all finds were gone through.
+    is_more_there: bool,
     /// For each block where in `derived` it is said what was there at first.
     firsts: Vec<Option<AtFirst>>,
     /// For each node those that are derived to come after it.
     laters: Vec<PlaceSet>,
+    /// The nodes that come only after others, each after its own.
+    owns: Vec<(usize, usize)>,
 }
 
 /// What was in a block at first, and where in `derived` it is said.
@@ -84,9 +87,10 @@ impl Derivation {
             there: vec![in alloc; None; places]?,
             settled,
             sure,
-            is_more_sure: false,
+            is_more_there: false,
             firsts,
             laters,
+            owns: Vec::new(alloc),
         })
     }
 
@@ -126,7 +130,8 @@ impl Derivation {
             if point.after && member.point > 0 {
                 let before = window.place(history, member.point - 1, member.block);
                 if let Some(before) = before {
-                    self.put(before, place, Rule::Own)?;
+                    self.put(before, place, Rule::Own { by: place })?;
+                    self.owns.push((before, place))?;
                 }
             }
             if let (Put::Deallocated, Some(over), Ok(block)) = (
@@ -169,26 +174,34 @@ impl Derivation {
         &self,
         alloc: Global,
         window: &Window,
+        history: &History<'_, '_>,
         place: usize,
     ) -> Result<Option<Settled>, NoMemory> {
         let Some(find) = window.finds.get(place) else {
             return Ok(None);
         };
         let is_other = self.other_first(find).is_some();
+        let is_there = self.is_there(window, history, find.reader);
         match self.whose(place) {
             Some(Whose::First) if is_other => {}
             Some(_) => return Ok(None),
             None => {}
         }
         match self.sure.get(find.block) {
-            Some(sure) => who_put(alloc, &self.orders, find, sure, is_other),
+            Some(sure) => who_put(alloc, &self.orders, find, sure, is_other, is_there),
             None => Ok(None),
         }
     }
 
     /// Settles who put what was found, if that is known by now and wasn't before.
-    fn settle(&mut self, alloc: Global, window: &Window, place: usize) -> Result<bool, NoMemory> {
-        let Some(new) = self.newly_settled(alloc, window, place)? else {
+    fn settle(
+        &mut self,
+        alloc: Global,
+        window: &Window,
+        history: &History<'_, '_>,
+        place: usize,
+    ) -> Result<bool, NoMemory> {
+        let Some(new) = self.newly_settled(alloc, window, history, place)? else {
             return Ok(false);
         };
         if let Some(settled) = self.settled.get_mut(place) {
@@ -227,7 +240,7 @@ impl Derivation {
                 }
                 if let Some(sure) = self.sure.get_mut(find.block) {
                     sure.put(source);
-                    self.is_more_sure = true;
+                    self.is_more_there = true;
                 }
                 self.put_anyway(source, find.reader, by)
             }
@@ -269,52 +282,84 @@ impl Derivation {
         Ok(())
     }
 
-    /// What a find gives of the sure writers of its block that come after its source.
-    fn put_over(
+    /// What a find gives of the sure writers of its block: where `is_over` of those that come after its source, and else of those that
+    /// come before its reader.
+    fn put_beside(
         &mut self,
         alloc: Global,
         window: &Window,
         place: usize,
         source: usize,
+        is_over: bool,
     ) -> Result<(), NoMemory> {
         let Some(find) = window.finds.get(place) else {
             return Ok(());
         };
-        let writers = among(
-            alloc,
-            self.sure.get(find.block),
-            self.orders.after(source),
-            self.orders.after(find.reader),
-        )?;
-        for writer in &writers {
-            if *writer != source && *writer != find.reader {
-                self.put(find.reader, *writer, Rule::Over { find: place })?;
+        let reader = find.reader;
+        let (kept, known) = if is_over {
+            (self.orders.after(source), self.orders.after(reader))
+        } else {
+            (self.orders.before(reader), self.orders.before(source))
+        };
+        for writer in &among(alloc, self.sure.get(find.block), kept, known)? {
+            if *writer == source || *writer == reader {
+                continue;
+            }
+            if is_over {
+                self.put(reader, *writer, Rule::Over { find: place })?;
+            } else {
+                self.put(*writer, source, Rule::Under { find: place })?;
             }
         }
         Ok(())
     }
 
-    /// What a find gives of the sure writers of its block that come before its reader.
-    fn put_under(
-        &mut self,
-        alloc: Global,
+    /// Whether a node of the later one's point is there of which all blocks of the point before are, and which one.
+    fn there_by(
+        &self,
         window: &Window,
-        place: usize,
-        source: usize,
-    ) -> Result<(), NoMemory> {
-        let Some(find) = window.finds.get(place) else {
-            return Ok(());
+        history: &History<'_, '_>,
+        before: usize,
+        later: usize,
+    ) -> Option<usize> {
+        if self.is_there(window, history, later) {
+            return Some(later);
+        }
+        let (Some(first), Some(second)) = (window.members.get(before), window.members.get(later))
+        else {
+            return None;
         };
-        let writers = among(
-            alloc,
-            self.sure.get(find.block),
-            self.orders.before(find.reader),
-            self.orders.before(source),
-        )?;
-        for writer in &writers {
-            if *writer != source && *writer != find.reader {
-                self.put(*writer, source, Rule::Under { find: place })?;
+        match history.point(first.point) {
+            Some(point) if point.presence == Presence::Together => {}
+            _ => return None,
+        }
+        for (_, other) in &self.owns {
+            match window.members.get(*other) {
+                Some(member) if member.point == second.point => {}
+                _ => continue,
             }
+            if self.is_there(window, history, *other) {
+                return Some(*other);
+            }
+        }
+        None
+    }
+
+    /// Notes of points that come before others that they are there, since those are.
+    fn put_owns(&mut self, window: &Window, history: &History<'_, '_>) -> Result<(), NoMemory> {
+        for at in 0..self.owns.len() {
+            let (before, later) = self.owns[at];
+            if self.is_there(window, history, before) {
+                continue;
+            }
+            let Some(by) = self.there_by(window, history, before, later) else {
+                continue;
+            };
+            if let Some(there) = self.there.get_mut(before) {
+                *there = Some(self.derived.len());
+            }
+            self.is_more_there = true;
+            self.put_anyway(before, later, Rule::Own { by })?;
         }
         Ok(())
     }
@@ -367,13 +412,14 @@ impl Derivation {
         history: &History<'_, '_>,
     ) -> Result<bool, NoMemory> {
         let changed = self.orders.take_changed(alloc)?;
-        let all = mem::replace(&mut self.is_more_sure, false);
+        let all = mem::replace(&mut self.is_more_there, false);
         let known = self.derived.len();
         let mut is_new = all;
+        self.put_owns(window, history)?;
         for (place, find) in window.finds.iter().enumerate() {
-            let settled = self.settle(alloc, window, place)?;
+            let settled = self.settle(alloc, window, history, place)?;
             is_new = is_new || settled;
-            if !find.is_sure {
+            if !self.is_there(window, history, find.reader) {
                 continue;
             }
             if settled {
@@ -382,10 +428,10 @@ impl Derivation {
             match self.whose(place) {
                 Some(Whose::Writer(source)) => {
                     if settled || all || changed.after.has(source) {
-                        self.put_over(alloc, window, place, source)?;
+                        self.put_beside(alloc, window, place, source, true)?;
                     }
                     if settled || all || changed.before.has(find.reader) {
-                        self.put_under(alloc, window, place, source)?;
+                        self.put_beside(alloc, window, place, source, false)?;
                     }
                 }
                 Some(Whose::First) if all => self.put_first(alloc, find, place)?,
@@ -394,7 +440,21 @@ impl Derivation {
         }
         self.put_ties(window)?;
         self.note_from(alloc, known)?;
-        Ok(is_new || self.is_more_sure || self.derived.len() > known)
+        Ok(is_new || self.is_more_there || self.derived.len() > known)
+    }
+
+    /// Whether the table says by itself that the one comes before the other.
+    pub fn is_said_by_the_table(&self, link: Link) -> bool {
+        match link.derived {
+            None => true,
+            Some(index) => match self.derived.get(index) {
+                Some(derived) => match derived.by {
+                    Rule::Deallocate => true,
+                    _ => false,
+                },
+                None => false,
+            },
+        }
     }
 
     /// What the rule of what was derived rests on.
@@ -406,13 +466,14 @@ impl Derivation {
     ) -> Result<Grounds, NoMemory> {
         let mut grounds = Grounds::new(alloc);
         match derived.by {
-            Rule::Deallocate | Rule::Own => {}
+            Rule::Deallocate => {}
+            Rule::Own { by } => grounds.there.push(by)?,
             Rule::Source { find } => self.put_grounds(&mut grounds, window, find)?,
             Rule::First { find } => {
-                self.put_unserved(&mut grounds, find)?;
+                self.put_unserved(&mut grounds, window, find)?;
                 grounds.there.push(derived.later)?;
             }
-            Rule::AtFirst { find } => self.put_unserved(&mut grounds, find)?,
+            Rule::AtFirst { find } => self.put_unserved(&mut grounds, window, find)?,
             Rule::Over { find } => {
                 self.put_grounds(&mut grounds, window, find)?;
                 grounds.there.push(derived.later)?;
@@ -445,11 +506,19 @@ impl Derivation {
         Ok(grounds)
     }
 
-    /// Puts down why no other can have put what was found.
-    fn put_unserved(&self, grounds: &mut Grounds, find: usize) -> Result<(), NoMemory> {
+    /// Puts down that the reader is there, and why no other can have put what it found.
+    fn put_unserved(
+        &self,
+        grounds: &mut Grounds,
+        window: &Window,
+        find: usize,
+    ) -> Result<(), NoMemory> {
+        if let Some(its) = window.finds.get(find) {
+            grounds.there.push(its.reader)?;
+        }
         if let Some(Some(settled)) = self.settled.get(find) {
             grounds.conditions.extend_from_slice(&settled.conditions)?;
-            grounds.there.extend_from_slice(&settled.writers)?;
+            grounds.there.extend_from_slice(&settled.between)?;
         }
         Ok(())
     }
@@ -461,7 +530,7 @@ impl Derivation {
         window: &Window,
         find: usize,
     ) -> Result<(), NoMemory> {
-        self.put_unserved(grounds, find)?;
+        self.put_unserved(grounds, window, find)?;
         if let (Some(Some(settled)), Some(its)) = (self.settled.get(find), window.finds.get(find)) {
             if let (true, Some(first)) = (settled.is_other, self.other_first(its)) {
                 grounds.derived.push(first.index)?;

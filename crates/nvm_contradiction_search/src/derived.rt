@@ -2,7 +2,8 @@
 #[derive(Clone, Copy)]
 pub enum Rule {
     Deallocate,
-    Own,
+    /// The later one is there, or it is at the place `by`.
+    Own { by: usize },
     Source { find: usize },
     Over { find: usize },
     Under { find: usize },

@@ -219,7 +219,7 @@ impl<'a, 't> History<'a, 't> {
             return None;
         }
         match (point.found, point.presence) {
-            (Found::Bytes(_), Presence::Sure) => {
+            (Found::Bytes(_), Presence::Sure | Presence::Together) => {
                 Some(Sought::Value(self.contents.found(number, place)?))
             }
             (Found::AnyBytes, Presence::Sure) => Some(Sought::Bytes),

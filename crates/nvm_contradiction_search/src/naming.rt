@@ -10,7 +10,7 @@ const FEW: usize = 3;
 #[derive(Drop)]
 pub struct Named {
     pub contradiction: Contradiction,
-    /// The nodes that it names.
+    /// The nodes that it names, and others of which it speaks.
     pub nodes: Vec<Node>,
     /// The numbers of their commands, rising.
     pub commands: Vec<u32>,
@@ -107,20 +107,22 @@ impl Named {
         alloc: Global,
         history: &History<'_, '_>,
         contradiction: Contradiction,
+        others: &Vec<Node>,
     ) -> Result<Named, NoMemory> {
         let mut nodes = Vec::new(alloc);
         for fact in &contradiction.facts {
             put_named(&mut nodes, history, *fact)?;
         }
         put_concluded(&mut nodes, history, contradiction.conclusion)?;
-        nodes.sort_unstable_by_key(|node| (node.point, node.block));
-        nodes.dedup();
         let mut commands = Vec::new(alloc);
         for node in &nodes {
             commands.push(history.command(node.point))?;
         }
         commands.sort_unstable();
         commands.dedup();
+        nodes.extend_from_slice(others)?;
+        nodes.sort_unstable_by_key(|node| (node.point, node.block));
+        nodes.dedup();
         Ok(Named {
             contradiction,
             nodes,

@@ -7,6 +7,7 @@ use crate::paths::{Link, path};
 use crate::place_set::PlaceSet;
 use crate::settling::Condition;
 use crate::window::Window;
+use nvm_contradiction::Node;
 use nvm_record::NoMemory;
 use std::alloc::Global;
 
@@ -15,16 +16,53 @@ use std::alloc::Global;
 pub struct Reasons {
     /// What comes before what by the times.
     pub times: Vec<Link>,
+    /// The same where it goes without saying.
+    pub spare: Vec<Link>,
     /// What was derived, by its places there, rising.
     pub derived: Vec<usize>,
     /// The finds that are looked at.
     pub finds: PlaceSet,
 }
 
+impl Reasons {
+    /// The nodes of which nothing may be said: those that can have put what was found, and those between them and their readers.
+    pub fn nodes(&self, alloc: Global, window: &Window) -> Result<Vec<Node>, NoMemory> {
+        let mut nodes = Vec::new(alloc);
+        for find in &self.finds.places(alloc)? {
+            if let Some(find) = window.finds.get(*find) {
+                for writer in &find.writers {
+                    if let Some(node) = window.node(*writer) {
+                        nodes.push(node)?;
+                    }
+                }
+            }
+        }
+        for link in &self.spare {
+            if let (Some(earlier), Some(later)) = (
+                window.node(link.earlier),
+                window.node(link.later),
+            ) {
+                nodes.push(earlier)?;
+                nodes.push(later)?;
+            }
+        }
+        Ok(nodes)
+    }
+}
+
+/// Puts the link at the end, if it isn't there.
+fn put_once(links: &mut Vec<Link>, link: Link) -> Result<(), NoMemory> {
+    if !links.contains(&link) {
+        links.push(link)?;
+    }
+    Ok(())
+}
+
 /// What is known to be needed, before it is in its order.
 #[derive(Drop)]
 struct Needed {
     times: Vec<Link>,
+    spare: Vec<Link>,
     derived: PlaceSet,
     finds: PlaceSet,
 }
@@ -38,21 +76,22 @@ impl Needed {
         }
     }
 
-    /// The links of a path, whose inner nodes have to be there.
+    /// The links of a path, whose inner nodes have to be there. One alone goes without saying if the table says it.
     fn put_links(
         &mut self,
         derivation: &Derivation,
         first: usize,
         links: &Vec<Link>,
     ) -> Result<(), NoMemory> {
+        if let (1, Some(link)) = (links.len(), links.first()) {
+            if derivation.is_said_by_the_table(*link) {
+                return put_once(&mut self.spare, *link);
+            }
+        }
         for (place, link) in links.iter().enumerate() {
             match link.derived {
                 Some(index) => self.derived.put(index),
-                None => {
-                    if !self.times.contains(link) {
-                        self.times.push(*link)?;
-                    }
-                }
+                None => put_once(&mut self.times, *link)?,
             }
             if place > 0 {
                 self.put_there(derivation, first, link.earlier);
@@ -129,6 +168,7 @@ pub fn reasons_of(
     let count = derivation.derived.len();
     let mut needed = Needed {
         times: Vec::new(alloc),
+        spare: Vec::new(alloc),
         derived: PlaceSet::new(alloc, count)?,
         finds: PlaceSet::new(alloc, window.finds.len())?,
     };
@@ -149,7 +189,10 @@ pub fn reasons_of(
             | Rule::Under { find }
             | Rule::First { find }
             | Rule::AtFirst { find } => needed.finds.put(find),
-            Rule::Deallocate | Rule::Own | Rule::TiedBefore { .. } | Rule::TiedAfter { .. } => {}
+            Rule::Deallocate
+            | Rule::Own { .. }
+            | Rule::TiedBefore { .. }
+            | Rule::TiedAfter { .. } => {}
         }
         let grounds = derivation.grounds(alloc, window, its)?;
         if !needed.put_grounds(alloc, history, window, derivation, index, &grounds)? {
@@ -157,9 +200,15 @@ pub fn reasons_of(
         }
     }
     derived.reverse();
-    let Needed { times, finds, .. } = needed;
+    let Needed {
+        times,
+        spare,
+        finds,
+        ..
+    } = needed;
     Ok(Some(Reasons {
         times,
+        spare,
         derived,
         finds,
     }))

@@ -28,22 +28,23 @@ pub struct Settled {
     pub whose: Whose,
     /// The orders by which they can't.
     pub conditions: Vec<Condition>,
-    /// The writers among these that surely put the block, so that they have to be there.
-    pub writers: Vec<usize>,
+    /// Those that come between, which have to be there.
+    pub between: Vec<usize>,
     /// Whether it rests on what another found at first.
     pub is_other: bool,
 }
 
 impl Settled {
     /// Puts down by which orders the reader can't have found what the writer put, if it can't: the writer comes after it, or one that
-    /// surely put something there comes between them.
+    /// surely put something there or found something else comes between them.
     fn put_excuse(
         &mut self,
         orders: &Orders,
         sure: &PlaceSet,
+        find: &WindowFind,
         writer: usize,
-        reader: usize,
     ) -> Result<bool, NoMemory> {
+        let reader = find.reader;
         if orders.has(reader, writer) {
             self.conditions.push(Condition {
                 earlier: reader,
@@ -54,7 +55,7 @@ impl Settled {
         let (Some(after), Some(before)) = (orders.after(writer), orders.before(reader)) else {
             return Ok(false);
         };
-        let Some(between) = sure.first_with(after, before) else {
+        let Some(between) = first_between(sure, find, after, before) else {
             return Ok(false);
         };
         self.conditions.push(Condition {
@@ -65,7 +66,7 @@ impl Settled {
             earlier: between,
             later: reader,
         })?;
-        self.writers.push(between)?;
+        self.between.push(between)?;
         Ok(true)
     }
 
@@ -74,50 +75,65 @@ impl Settled {
         &mut self,
         orders: &Orders,
         sure: &PlaceSet,
-        reader: usize,
+        find: &WindowFind,
     ) -> Result<bool, NoMemory> {
-        let Some(before) = orders.before(reader) else {
+        let Some(before) = orders.before(find.reader) else {
             return Ok(false);
         };
-        let Some(earlier) = sure.first_with(before, before) else {
+        let Some(earlier) = first_between(sure, find, before, before) else {
             return Ok(false);
         };
         self.conditions.push(Condition {
             earlier,
-            later: reader,
+            later: find.reader,
         })?;
-        self.writers.push(earlier)?;
+        self.between.push(earlier)?;
         Ok(true)
+    }
+}
+
+/// Of what is in both sets the first that surely put something in the find's block, or that found something else there.
+fn first_between(
+    sure: &PlaceSet,
+    find: &WindowFind,
+    after: &PlaceSet,
+    before: &PlaceSet,
+) -> Option<usize> {
+    match sure.first_with(after, before) {
+        Some(writer) => Some(writer),
+        None => find.others.first_with(after, before),
     }
 }
 
 /// Who put what was found, where the orders leave one.
 ///
-/// `sure` are those that surely put something in the block. `is_other` says that another is known to have been there at first.
+/// `sure` are those that surely put something in the block. `is_other` says that another is known to have been there at first, and
+/// `is_there` that the reader is known to be there.
 pub fn who_put(
     alloc: Global,
     orders: &Orders,
     find: &WindowFind,
     sure: &PlaceSet,
     is_other: bool,
+    is_there: bool,
 ) -> Result<Option<Settled>, NoMemory> {
     let mut settled = Settled {
         whose: Whose::Nobody,
         conditions: Vec::new(alloc),
-        writers: Vec::new(alloc),
+        between: Vec::new(alloc),
         is_other: false,
     };
     let mut source = None;
     for writer in &find.writers {
-        if !settled.put_excuse(orders, sure, *writer, find.reader)? {
-            if source.is_some() || !find.is_sure {
+        if !settled.put_excuse(orders, sure, find, *writer)? {
+            if source.is_some() || !is_there {
                 return Ok(None);
             }
             source = Some(*writer);
         }
     }
     let mut may_be_first = false;
-    if find.was_first && !settled.put_first_excuse(orders, sure, find.reader)? {
+    if find.was_first && !settled.put_first_excuse(orders, sure, find)? {
         settled.is_other = is_other;
         may_be_first = !is_other;
     }
@@ -127,7 +143,7 @@ pub fn who_put(
         (Some(source), false) => Whose::Writer(source),
         (Some(_), true) => return Ok(None),
     };
-    if settled.whose == Whose::First && !find.is_sure {
+    if settled.whose == Whose::First && !is_there {
         return Ok(None);
     }
     Ok(Some(settled))

@@ -40,7 +40,9 @@ pub fn contradiction_among(
             continue;
         };
         if let Some(contradiction) = told(alloc, history, &window, &derivation, one, &reasons)? {
-            best = shorter(best, Some(Named::of(alloc, history, contradiction)?));
+            let others = reasons.nodes(alloc, &window)?;
+            let named = Named::of(alloc, history, contradiction, &others)?;
+            best = shorter(best, Some(named));
         }
     }
     Ok(best)

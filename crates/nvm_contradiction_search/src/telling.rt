@@ -8,12 +8,15 @@ use crate::reasons::Reasons;
 use crate::settling::Whose;
 use crate::window::Window;
 use nvm_contradiction::{Conclusion, Contradiction, Fact, Node};
-use nvm_points::Put;
+use nvm_points::{Point, Put};
 use nvm_record::NoMemory;
 use std::alloc::Global;
 
 /// Where so many others can have put what was found, it is said why they can't have.
 const FEW: usize = 2;
+
+/// So many orders that go without saying are said.
+const MOST_SPARE: usize = 4;
 
 /// Puts the fact at the end, if it isn't there.
 fn put_once(facts: &mut Vec<Fact>, fact: Fact) -> Result<(), NoMemory> {
@@ -23,12 +26,15 @@ fn put_once(facts: &mut Vec<Fact>, fact: Fact) -> Result<(), NoMemory> {
     Ok(())
 }
 
-/// What is so by the times, as a fact.
-fn time_fact(window: &Window, link: Link) -> Option<Fact> {
-    Some(Fact::Time {
-        earlier: window.node(link.earlier)?,
-        later: window.node(link.later)?,
-    })
+/// A link as a fact.
+fn link_fact(window: &Window, derivation: &Derivation, link: Link) -> Option<Fact> {
+    match link.derived {
+        Some(index) => derived_fact(window, derivation, *derivation.derived.get(index)?),
+        None => Some(Fact::Time {
+            earlier: window.node(link.earlier)?,
+            later: window.node(link.later)?,
+        }),
+    }
 }
 
 /// The number of the point of a window's node.
@@ -60,7 +66,7 @@ fn derived_fact(window: &Window, derivation: &Derivation, derived: Derived) -> O
             writer: later.point,
             block: earlier.block,
         },
-        Rule::Own => Fact::Own {
+        Rule::Own { .. } => Fact::Own {
             later: later.point,
             block: later.block,
         },
@@ -119,54 +125,35 @@ fn conclusion_of(window: &Window, absurd: &Absurd) -> Option<Conclusion> {
     })
 }
 
-/// Why the point can't have put what the reader found in the block, if it can't by the times: it began after the reader's time was over,
-/// or the writer surely put the block between them. That goes without saying, if it isn't a Deallocate.
+/// Why the point, which began by then, can't have put what the reader found in the block by the times: the writer surely put it between.
 fn put_excuse(
     facts: &mut Vec<Fact>,
     history: &History<'_, '_>,
-    reader: Node,
     block: u32,
     server: u32,
-    is_said: bool,
+    writer: u32,
 ) -> Result<(), NoMemory> {
-    let served = history.node(server, block);
-    if history.until(reader.point) < history.from(server) {
-        return put_time(facts, reader, served, is_said);
-    }
-    let writer = history.last_sure(block, history.from(reader.point));
-    let (Some(writer), Some(point)) = (writer, history.point(server)) else {
-        return Ok(());
-    };
-    let between = history.node(writer, block);
-    match point.put {
-        Put::Deallocated => put_once(
-            facts,
-            Fact::Deallocate {
-                deallocate: server,
-                writer,
-                block,
+    let fact = match history.point(server) {
+        Some(
+            Point {
+                put: Put::Deallocated,
+                ..
             },
-        )?,
-        _ => put_time(facts, served, between, is_said)?,
-    }
-    put_time(facts, between, reader, is_said)
-}
-
-/// Puts at the end that the one is before the other by the times, if that is to be said.
-fn put_time(
-    facts: &mut Vec<Fact>,
-    earlier: Node,
-    later: Node,
-    is_said: bool,
-) -> Result<(), NoMemory> {
-    if is_said {
-        put_once(facts, Fact::Time { earlier, later })?;
-    }
-    Ok(())
+        ) => Fact::Deallocate {
+            deallocate: server,
+            writer,
+            block,
+        },
+        _ => Fact::Time {
+            earlier: history.node(server, block),
+            later: history.node(writer, block),
+        },
+    };
+    put_once(facts, fact)
 }
 
 /// Why what was found wasn't there at first, if it can have been, and why those that can have put it, and aren't in question by the times,
-/// aren't. What goes without saying is said where they are few.
+/// aren't: who put the block last before the reader, and what goes without saying of each where they are few.
 fn put_excuses(
     alloc: Global,
     facts: &mut Vec<Fact>,
@@ -181,22 +168,43 @@ fn put_excuses(
         return Ok(());
     };
     let servers = history.all_servers(alloc, reader.point, block, find.sought)?;
-    let is_said = servers.len() <= FEW;
-    if !history.is_never_first(find.sought) {
-        if let Some(writer) = history.last_sure(block, history.from(reader.point)) {
-            put_time(facts, history.node(writer, block), reader, is_said)?;
-        }
-    }
+    let last = history.last_sure(block, history.from(reader.point));
+    let mut is_overwritten = !history.is_never_first(find.sought);
     for server in &servers {
         let is_in_question = match window.place(history, *server, block) {
             Some(place) => find.writers.contains(&place),
             None => false,
         };
-        if !is_in_question {
-            put_excuse(facts, history, reader, block, *server, is_said)?;
+        if is_in_question {
+            continue;
+        }
+        let is_later = history.until(reader.point) < history.from(*server);
+        is_overwritten = is_overwritten || !is_later;
+        if servers.len() > FEW {
+            continue;
+        }
+        match last {
+            _ if is_later => put_once(
+                facts,
+                Fact::Time {
+                    earlier: reader,
+                    later: history.node(*server, block),
+                },
+            )?,
+            Some(writer) => put_excuse(facts, history, block, *server, writer)?,
+            None => {}
         }
     }
-    Ok(())
+    match last {
+        Some(writer) if is_overwritten => put_once(
+            facts,
+            Fact::Time {
+                earlier: history.node(writer, block),
+                later: reader,
+            },
+        ),
+        _ => Ok(()),
+    }
 }
 
 /// The reasons why it can't be, as a contradiction.
@@ -210,8 +218,15 @@ pub fn told(
 ) -> Result<Option<Contradiction>, NoMemory> {
     let mut facts = Vec::new(alloc);
     for link in &reasons.times {
-        if let Some(fact) = time_fact(window, *link) {
+        if let Some(fact) = link_fact(window, derivation, *link) {
             put_once(&mut facts, fact)?;
+        }
+    }
+    if reasons.spare.len() <= MOST_SPARE {
+        for link in &reasons.spare {
+            if let Some(fact) = link_fact(window, derivation, *link) {
+                put_once(&mut facts, fact)?;
+            }
         }
     }
     for find in &reasons.finds.places(alloc)? {

@@ -28,8 +28,8 @@ pub struct WindowFind {
     pub writers: Vec<usize>,
     /// Whether it can have been there at first, by the times.
     pub was_first: bool,
-    /// Whether the reader surely is there.
-    pub is_sure: bool,
+    /// Those that surely found something else in the block.
+    pub others: PlaceSet,
 }
 
 /// An entry, and two or more nodes of a tied point at blocks of the entry.
@@ -131,6 +131,7 @@ impl Window {
         window.put_blocks(history)?;
         window.put_sure(alloc, history)?;
         window.put_finds(alloc, history)?;
+        window.put_others(alloc, history)?;
         window.put_ties(alloc, history)?;
         Ok(window)
     }
@@ -256,7 +257,7 @@ impl Window {
             sought,
             writers,
             was_first: history.may_be_first(member.point, *block, sought),
-            is_sure: history.is_there(member.point),
+            others: PlaceSet::new(alloc, self.members.len())?,
         }))
     }
 
@@ -266,6 +267,48 @@ impl Window {
             for at in from..to {
                 if let Some(find) = self.find_of(alloc, history, reader, at)? {
                     self.finds.push(find)?;
+                }
+            }
+        }
+        Ok(())
+    }
+
+    /// The readers that surely found something, of each block: what, and by which node.
+    fn found(
+        &self,
+        alloc: Global,
+        history: &History<'_, '_>,
+    ) -> Result<Vec<Vec<(u32, usize)>>, NoMemory> {
+        let mut found = Vec::with_capacity(alloc, self.blocks.len())?;
+        for _block in &self.blocks {
+            found.push(Vec::new(alloc))?;
+        }
+        for (reader, member) in self.members.iter().enumerate() {
+            if !history.is_there(member.point) {
+                continue;
+            }
+            let (from, to) = self.blocks_at(history, reader);
+            for at in from..to {
+                let (Some(block), Some(found)) = (self.blocks.get(at), found.get_mut(at)) else {
+                    break;
+                };
+                if let Some(Sought::Value(value)) = history.sought(member.point, *block) {
+                    found.push((value, reader))?;
+                }
+            }
+        }
+        Ok(found)
+    }
+
+    fn put_others(&mut self, alloc: Global, history: &History<'_, '_>) -> Result<(), NoMemory> {
+        let found = self.found(alloc, history)?;
+        for find in self.finds.iter_mut() {
+            let Some(found) = found.get(find.block) else {
+                continue;
+            };
+            for (value, reader) in found {
+                if !find.sought.may_be(*value) {
+                    find.others.put(*reader);
                 }
             }
         }
