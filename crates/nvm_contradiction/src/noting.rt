@@ -1,7 +1,8 @@
-ghost use Rattle.std.specs.Prelude.{◌≡◌, ◌⊎◌, ℕ, Contains, IsTrue, OnOk, Some};
+ghost use Rattle.std.specs.Prelude.{◌≡◌, ◌⊎◌, ◌-◌, ℕ, Contains, IsTrue, OnOk, Some};
 ghost use Rattle.nvm_points.specs.PointView.{seen_table};
 ghost use Rattle.nvm_contradiction.specs.Inside.Noted.{IsNoted, IsNotedThere, noted};
 ghost use Rattle.nvm_contradiction.specs.Knowledge.{IsWithin};
+ghost use Rattle.nvm_contradiction.specs.Nodes as spec;
 ghost use Rattle.nvm_contradiction.specs.Nodes.{node};
 ghost use Rattle.nvm_contradiction.specs.Standing as standing;
 ghost use Rattle.nvm_contradiction.specs.Standing.{IsAtFirst, IsBeforeWith, IsFollowed, IsThereBy, IsWhollyThere, known_with};
@@ -9,7 +10,7 @@ ghost use Rattle.nvm_contradiction.specs.declared.node.Node.{Node as NodeSpec};
 
 use crate::fact::Fact;
 use crate::known::{Known, Order, is_there, note};
-use crate::node::{has_block, named, node_at, point_at};
+use crate::node::{Node, has_block, named, node_at, point_at};
 use nvm_points::{Points, Presence};
 use nvm_record::NoMemory;
 use std::alloc::Global;
@@ -77,6 +78,13 @@ fn order_at(points: &Points<'_>, earlier: u32, later: u32, block: u32) -> Order
     }
 }
 
+/// The point before the later one, at the block.
+fn node_before(points: &Points<'_>, later: u32, block: u32) -> Node
+    ensures { result ≡ spec.node_at (seen_table points.now) (later - 1) block }
+{
+    node_at(points, later.saturating_sub(1), block)
+}
+
 /// Whether the point of this number is noted to be there in some block.
 fn is_noted_somewhere(points: &Points<'_>, known: &Known, number: u32) -> bool
     ensures { IsTrue result → (x : ℕ) × IsNotedThere (seen_table points.now) known.now.there.items (node number x) }
@@ -131,9 +139,7 @@ fn note_there(points: &Points<'_>, known: &mut Known, fact: Fact) -> Result<(), 
         }
         Fact::Own { later, block } => {
             if is_followed(points, known, later, block) {
-                known
-                    .there
-                    .push(node_at(points, later.saturating_sub(1), block))?;
+                known.there.push(node_before(points, later, block))?;
             }
         }
         _ => {}
