@@ -1,6 +1,5 @@
 -- What is found of a trace that a record or an order is to explain, by the bytes of their files: a code, and a line of text.
-use Rattle.std.specs.Prelude.{◌≡◌, ◌⊎◌, ℕ, List, [], ◌∷◌, take, Bool, true, false, Result, Ok, Err, codes}
-use Rattle.std.specs.Str.{bytes_eq}
+use Rattle.std.specs.Prelude.{◌≡◌, ◌⊎◌, ℕ, List, Bool, true, false, Result, Ok, Err, codes}
 use Rattle.nvm_audit.specs.RecordView.{RecordView}
 use Rattle.nvm_file.specs.Reading.{record_at}
 use Rattle.nvm_file.specs.TraceReading.{trace_at}
@@ -13,8 +12,8 @@ use Rattle.nvm_trace.specs.declared.judging.Judging.{Judging}
 use Rattle.nvm_trace.specs.declared.judging.Judging.TheVariants.{Standard, Strict}
 use Rattle.nvm_trace.specs.declared.witness_fault.WitnessFault.{WitnessFault}
 use Rattle.nvm_trace_text.specs.WitnessLine.{witness_line}
-use Rattle.nvm_points.specs.declared.profile.Profile.{Profile}
-use Rattle.nvm_orders.specs.OrderView.{OrderView}
+use Rattle.nvm_evidence.specs.FrontReading.{is_evidence}
+use Rattle.nvm_evidence.specs.OrderReading.{HeldOrderView, IsOrderFile, order_at}
 use Rattle.nvm_evidence.specs.OrderedLine.{ordered_line}
 use Rattle.nvm_evidence.specs.Witnessed.{IsOrdered}
 use Rattle.nvm_evidence.specs.declared.evidence_fault.EvidenceFault.{EvidenceFault}
@@ -45,24 +44,25 @@ code_of_order (come_to.Explained numbers) = Explained
 code_of_order (come_to.Wrong command) = Unexplained
 code_of_order (come_to.Unexplained fault) = Unexplained
 
--- The code and the line are those of what some order comes to: where the code is `Explained`, that order explains the trace.
-pub record IsOrderRuling (t : TraceView) (code : TraceCode) (line : List ℕ) : Type 0 where
-  pub profile : Profile
-  pub order : OrderView
+-- The code and the line are those of what the order of these bytes comes to: where the code is `Explained`, it explains the trace.
+pub record IsOrderRuling (t : TraceView) (bytes : List ℕ) (code : TraceCode) (line : List ℕ) : Type 0 where
+  pub held : HeldOrderView
+  pub held_file : IsOrderFile bytes held
   pub answer : Ordered
-  pub ordered : IsOrdered t profile order answer
+  pub ordered : IsOrdered t held.profile held.order answer
   pub code_is : code ≡ code_of_order answer
   pub line_is : line ≡ ordered_line answer
 
 -- The bytes are no order's file, and the line tells their first fault.
-pub record IsNoOrder (code : TraceCode) (line : List ℕ) : Type 0 where
+pub record IsNoOrder (bytes : List ℕ) (code : TraceCode) (line : List ℕ) : Type 0 where
   pub fault : EvidenceFault
+  pub fault_is : order_at bytes ≡ Err fault
   pub code_is : code ≡ BadRecord
   pub line_is : line ≡ evidence_fault_line (codes "order") fault
 
 -- Whether the bytes are to be an order's file: they begin with `NVE1`, and the device isn't judged strictly.
 abbrev pub is_order : Judging → List ℕ → Bool
-is_order Standard bytes = bytes_eq (take 4 bytes) (78 ∷ 86 ∷ 69 ∷ 49 ∷ [])
+is_order Standard bytes = is_evidence bytes
 is_order Strict bytes = false
 
 -- what is found of the trace, by how the record's file is read
@@ -72,7 +72,7 @@ IsFoundByRecord judging t (Ok r) code line = IsRuling judging t r code line
 
 -- the same, by whether the bytes are to be an order's file
 abbrev pub IsFoundBy : Judging → TraceView → Bool → List ℕ → TraceCode → List ℕ → Type 0
-IsFoundBy judging t true held code line = IsNoOrder code line ⊎ IsOrderRuling t code line
+IsFoundBy judging t true held code line = IsNoOrder held code line ⊎ IsOrderRuling t held code line
 IsFoundBy judging t false held code line = IsFoundByRecord judging t (record_at held) code line
 
 -- what is found, by how the trace's file is read: its first fault comes before one of the other

@@ -194,7 +194,7 @@ pub extern "C" fn zk_refute(
     contradiction: &[u8],
     line: &mut [u8],
 ) -> i32
-    ensures { (code : TraceAnswer) × (result ≡ trace_number code) × IsAnswer (IsRefuted trace.now) code line.old line.new }
+    ensures { (code : TraceAnswer) × (result ≡ trace_number code) × IsAnswer (IsRefuted trace.now contradiction.now) code line.old line.new }
 {
     refuted(alloc, trace, contradiction, line).number()
 }

@@ -1,24 +1,22 @@
 //! A trace that C has judged by an order, as the bytes of its file.
-ghost use Rattle.std.specs.Prelude.{◌≡◌, ◌⊎◌, IfOk};
+ghost use Rattle.std.specs.Prelude.{◌≡◌, ◌⊎◌, Err, IfOk};
+ghost use Rattle.nvm_evidence.specs.OrderReading.{IsOrderFile, order_at, seen_held_order};
 ghost use Rattle.nvm_c.specs.Witnessed as spec;
 ghost use Rattle.nvm_c.specs.Witnessed.{IsNoOrder, IsOrderRuling};
 
 use crate::finding::Finding;
 use crate::trace_code::TraceCode;
-use nvm_evidence::{EvidenceFault, HeldOrder, Ordered, read_order, witness_order};
+use nvm_evidence::{EvidenceFault, HeldOrder, Ordered, is_evidence, read_order, witness_order};
 use nvm_record::NoMemory;
 use nvm_trace::{Judging, Trace};
-use std::alloc::Global;
-
-/// Each order's file begins with these bytes.
-const NAME: &[u8; 4] = b"NVE1";
+use std::alloc::{AllocError, Global};
 
 /// Whether the bytes are to be an order's file. No order is judged strictly.
 pub(crate) fn is_order(judging: Judging, bytes: &[u8]) -> bool
     ensures { result ≡ spec.is_order judging bytes.now }
 {
     match judging {
-        Judging::Standard => bytes.starts_with(NAME),
+        Judging::Standard => is_evidence(bytes),
         Judging::Strict => false,
     }
 }
@@ -30,24 +28,32 @@ pub(crate) fn finding_by_order(
     order: &[u8],
 ) -> Result<Finding, NoMemory>
     ensures { IfOk result
-        (λ finding. IsNoOrder finding.code finding.line.items ⊎ IsOrderRuling trace.now finding.code finding.line.items) }
+        (λ finding. IsNoOrder order.now finding.code finding.line.items ⊎ IsOrderRuling trace.now order.now finding.code finding.line.items) }
 {
     match read_order(alloc, order) {
-        Ok(held) => order_ruling(alloc, trace, &held),
-        Err(fault) => no_order(alloc, fault),
+        Ok(held) => order_ruling(alloc, trace, order, &held),
+        Err(EvidenceFault::NoMemory) => Err(AllocError),
+        Err(fault) => no_order(alloc, order, fault),
     }
 }
 
-/// What is found of bytes that are no order's file.
-fn no_order(alloc: Global, fault: EvidenceFault) -> Result<Finding, NoMemory>
-    ensures { IfOk result (λ finding. IsNoOrder finding.code finding.line.items) }
+/// What is found of bytes that are no order's file, by this fault.
+fn no_order(alloc: Global, bytes: &[u8], fault: EvidenceFault) -> Result<Finding, NoMemory>
+    requires { order_at bytes.now ≡ Err fault }
+    ensures { IfOk result (λ finding. IsNoOrder bytes.now finding.code finding.line.items) }
 {
     Finding::bad_evidence(alloc, TraceCode::BadRecord, "order", fault)
 }
 
-/// What is found of the trace and the order.
-fn order_ruling(alloc: Global, trace: &Trace, held: &HeldOrder<'_>) -> Result<Finding, NoMemory>
-    ensures { IfOk result (λ finding. IsOrderRuling trace.now finding.code finding.line.items) }
+/// What is found of the trace and the order of these bytes.
+fn order_ruling(
+    alloc: Global,
+    trace: &Trace,
+    bytes: &[u8],
+    held: &HeldOrder<'_>,
+) -> Result<Finding, NoMemory>
+    requires { IsOrderFile bytes.now (seen_held_order held.now) }
+    ensures { IfOk result (λ finding. IsOrderRuling trace.now bytes.now finding.code finding.line.items) }
 {
     let ordered = witness_order(alloc, trace, held)?;
     let line = ordered.line(alloc)?;

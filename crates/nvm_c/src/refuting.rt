@@ -1,5 +1,6 @@
 //! A trace that C has judged by a contradiction, each as the bytes of its file.
-ghost use Rattle.std.specs.Prelude.{◌≡◌, ◌⊎◌, IfOk};
+ghost use Rattle.std.specs.Prelude.{◌≡◌, ◌⊎◌, Err, IfOk};
+ghost use Rattle.nvm_evidence.specs.ContradictionReading.{IsContradictionFile, contradiction_at};
 ghost use Rattle.nvm_c.specs.Refuted as spec;
 ghost use Rattle.nvm_c.specs.Refuted.{IsRefuted, IsRuling, IsUnread};
 ghost use Rattle.nvm_c.specs.TraceAnswer.{IsAnswer};
@@ -12,7 +13,7 @@ use nvm_evidence::{
 use nvm_file::read_trace;
 use nvm_record::{NoMemory, Payload};
 use nvm_trace::Trace;
-use std::alloc::Global;
+use std::alloc::{AllocError, Global};
 
 /// Judges the trace of the one file by the contradiction of the other, and writes the line of that with a byte of 0 after it. Nothing is
 /// written where the room is too short.
@@ -22,7 +23,7 @@ pub(crate) fn refuted(
     contradiction: &[u8],
     room: &mut [u8],
 ) -> TraceCode
-    ensures { IsAnswer (IsRefuted trace.now) result room.old room.new }
+    ensures { IsAnswer (IsRefuted trace.now contradiction.now) result room.old room.new }
 {
     match finding_in(alloc, trace, contradiction) {
         Ok(finding) => finding.put(room),
@@ -32,7 +33,7 @@ pub(crate) fn refuted(
 
 /// What is found in the bytes of the two files.
 fn finding_in(alloc: Global, trace: &[u8], contradiction: &[u8]) -> Result<Finding, NoMemory>
-    ensures { IfOk result (λ finding. IsRefuted trace.now finding.code finding.line.items) }
+    ensures { IfOk result (λ finding. IsRefuted trace.now contradiction.now finding.code finding.line.items) }
 {
     let trace = Payload::copy_of(alloc, trace)?;
     match read_trace(alloc, &trace) {
@@ -44,24 +45,32 @@ fn finding_in(alloc: Global, trace: &[u8], contradiction: &[u8]) -> Result<Findi
 /// What is found of the trace in the bytes of a contradiction's file.
 fn finding_of(alloc: Global, trace: &Trace, contradiction: &[u8]) -> Result<Finding, NoMemory>
     ensures { IfOk result
-        (λ finding. IsUnread finding.code finding.line.items ⊎ IsRuling trace.now finding.code finding.line.items) }
+        (λ finding. IsUnread contradiction.now finding.code finding.line.items ⊎ IsRuling trace.now contradiction.now finding.code finding.line.items) }
 {
     match read_contradiction(alloc, contradiction) {
-        Ok(held) => ruling(alloc, trace, &held),
-        Err(fault) => unread(alloc, fault),
+        Ok(held) => ruling(alloc, trace, contradiction, &held),
+        Err(EvidenceFault::NoMemory) => Err(AllocError),
+        Err(fault) => unread(alloc, contradiction, fault),
     }
 }
 
-/// What is found of bytes that are no contradiction's file.
-fn unread(alloc: Global, fault: EvidenceFault) -> Result<Finding, NoMemory>
-    ensures { IfOk result (λ finding. IsUnread finding.code finding.line.items) }
+/// What is found of bytes that are no contradiction's file, by this fault.
+fn unread(alloc: Global, bytes: &[u8], fault: EvidenceFault) -> Result<Finding, NoMemory>
+    requires { contradiction_at bytes.now ≡ Err fault }
+    ensures { IfOk result (λ finding. IsUnread bytes.now finding.code finding.line.items) }
 {
     Finding::bad_evidence(alloc, TraceCode::BadContradiction, "contradiction", fault)
 }
 
-/// What is found of the trace and the contradiction.
-fn ruling(alloc: Global, trace: &Trace, held: &HeldContradiction) -> Result<Finding, NoMemory>
-    ensures { IfOk result (λ finding. IsRuling trace.now finding.code finding.line.items) }
+/// What is found of the trace and the contradiction of these bytes.
+fn ruling(
+    alloc: Global,
+    trace: &Trace,
+    bytes: &[u8],
+    held: &HeldContradiction,
+) -> Result<Finding, NoMemory>
+    requires { IsContradictionFile bytes.now held.now }
+    ensures { IfOk result (λ finding. IsRuling trace.now bytes.now finding.code finding.line.items) }
 {
     let refuted = refute_contradiction(alloc, trace, held)?;
     let line = refuted.line(alloc)?;

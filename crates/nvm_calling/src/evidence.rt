@@ -1,5 +1,5 @@
-ghost use Rattle.std.specs.Prelude.{IfOk};
-ghost use Rattle.nvm_evidence.specs.Refuted.{IsRefutedFile};
+ghost use Rattle.std.specs.Prelude.{IfErr, IfOk};
+ghost use Rattle.nvm_evidence.specs.Refuted.{AreRefutedFiles, IsRefuteFault};
 
 use nvm_evidence::{
     RefuteBytesFault, Refuted, refute_contradiction_bytes, write_contradiction, write_order,
@@ -28,7 +28,8 @@ pub fn refute_files(
     trace: &Payload,
     contradiction: &[u8],
 ) -> Result<Refuted, RefuteBytesFault>
-    ensures { IfOk result (IsRefutedFile trace.now) }
+    ensures refuted { IfOk result (AreRefutedFiles trace.now contradiction.now) }
+    ensures fault { IfErr result (IsRefuteFault trace.now contradiction.now) }
 {
     refute_contradiction_bytes(alloc, trace, contradiction)
 }

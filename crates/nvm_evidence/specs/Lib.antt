@@ -1,3 +1,8 @@
+pub mod Fields
+pub mod FrontReading
+pub mod OrderReading
+pub mod ContradictionReading
+pub mod EvidenceReading
 pub mod OrderedLine
 pub mod RefutedLine
 pub mod Named

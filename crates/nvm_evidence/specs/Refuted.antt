@@ -1,4 +1,4 @@
--- What is answered of a trace and a contradiction, and of the bytes of a trace's file.
+-- What is answered of a trace and a contradiction, and of the bytes of their files.
 use Rattle.std.specs.Prelude.{◌≡◌, ℕ, List, length, Err}
 use Rattle.nvm_contradiction.specs.declared.contradiction.Contradiction.{Contradiction}
 use Rattle.nvm_file.specs.TraceFile.{IsTraceFile}
@@ -8,7 +8,10 @@ use Rattle.nvm_judge.specs.Explained.{IsWrong}
 use Rattle.nvm_points.specs.Table.{table_of}
 use Rattle.nvm_points.specs.declared.profile.Profile.{Profile}
 use Rattle.nvm_trace.specs.TraceView.{TraceView}
+use Rattle.nvm_evidence.specs.ContradictionReading.{IsContradictionFile, contradiction_at}
 use Rattle.nvm_evidence.specs.Named.{IsCountNamed}
+use Rattle.nvm_evidence.specs.declared.evidence_fault.EvidenceFault.{EvidenceFault}
+use Rattle.nvm_evidence.specs.declared.held_contradiction.HeldContradiction.{HeldContradiction}
 use Rattle.nvm_evidence.specs.declared.refute_fault.RefuteBytesFault.{RefuteBytesFault}
 use Rattle.nvm_evidence.specs.declared.refute_fault.RefuteBytesFault.TheVariants as fault
 use Rattle.nvm_evidence.specs.declared.refuted.Refuted.{Refuted as RefutedType}
@@ -27,17 +30,22 @@ IsRefuted t profile c (Refuted commands facts held) = IsRefutedAs t profile c co
 IsRefuted t profile c (Wrong command) = IsWrong t profile command
 IsRefuted t profile c (Unrefuted fault) = Unit {0}
 
--- The bytes are the file of a trace, of which this is answered beside some contradiction. Which contradiction a file holds nothing here
--- says.
-pub record IsRefutedFile (bytes : List ℕ) (answer : RefutedType) : Type 0 where
+-- The bytes are the files of a trace and of a contradiction, and this is answered of the two.
+pub record AreRefutedFiles (trace contradiction : List ℕ) (answer : RefutedType) : Type 0 where
   pub seen : TraceView
-  pub seen_file : IsTraceFile bytes seen
-  pub profile : Profile
-  pub contradiction : Contradiction
-  pub refuted : IsRefuted seen profile contradiction answer
+  pub seen_file : IsTraceFile trace seen
+  pub held : HeldContradiction
+  pub held_file : IsContradictionFile contradiction held
+  pub refuted : IsRefuted seen held.profile held.contradiction answer
 
--- It is the first fault of the bytes as a trace's file, or one of the contradiction's, or want of memory.
-abbrev pub IsRefuteFault : List ℕ → RefuteBytesFault → Type 0
-IsRefuteFault bytes (fault.Trace of_trace) = trace_at bytes ≡ Err of_trace
-IsRefuteFault bytes (fault.Contradiction of_contradiction) = Unit {0}
-IsRefuteFault bytes fault.NoMemory = Unit {0}
+-- The one is a trace's file, and this is the first fault of the other as a contradiction's.
+pub record IsFaultOfContradiction (trace contradiction : List ℕ) (fault : EvidenceFault) : Type 0 where
+  pub seen : TraceView
+  pub seen_file : IsTraceFile trace seen
+  pub its : contradiction_at contradiction ≡ Err fault
+
+-- It is the first fault of the one as a trace's file, or else of the other as a contradiction's, or want of memory.
+abbrev pub IsRefuteFault : List ℕ → List ℕ → RefuteBytesFault → Type 0
+IsRefuteFault trace contradiction (fault.Trace of_trace) = trace_at trace ≡ Err of_trace
+IsRefuteFault trace contradiction (fault.Contradiction of_contradiction) = IsFaultOfContradiction trace contradiction of_contradiction
+IsRefuteFault trace contradiction fault.NoMemory = Unit {0}

@@ -1,4 +1,4 @@
--- What is answered of a trace and an order, and of the bytes of a trace's file.
+-- What is answered of a trace and an order, and of the bytes of their files.
 use Rattle.std.specs.Prelude.{◌≡◌, ℕ, List, length, Err}
 use Rattle.nvm_file.specs.TraceFile.{IsTraceFile}
 use Rattle.nvm_file.specs.TraceReading.{trace_at}
@@ -7,6 +7,8 @@ use Rattle.nvm_judge.specs.Faults.{IsUnexplainedFor}
 use Rattle.nvm_orders.specs.OrderView.{OrderView}
 use Rattle.nvm_points.specs.declared.profile.Profile.{Profile}
 use Rattle.nvm_trace.specs.TraceView.{TraceView}
+use Rattle.nvm_evidence.specs.OrderReading.{HeldOrderView, IsOrderFile, order_at}
+use Rattle.nvm_evidence.specs.declared.evidence_fault.EvidenceFault.{EvidenceFault}
 use Rattle.nvm_evidence.specs.declared.ordered.OrderNumbers.{OrderNumbers}
 use Rattle.nvm_evidence.specs.declared.ordered.Ordered.{Ordered}
 use Rattle.nvm_evidence.specs.declared.ordered.Ordered.TheVariants.{Explained, Wrong, Unexplained}
@@ -26,16 +28,22 @@ IsOrdered t profile o (Explained numbers) = IsExplainedAs t profile o numbers
 IsOrdered t profile o (Wrong command) = IsWrong t profile command
 IsOrdered t profile o (Unexplained fault) = IsUnexplainedFor fault t profile o
 
--- The bytes are the file of a trace, of which this is answered beside some order. Which order a file holds nothing here says.
-pub record IsOrderedFile (bytes : List ℕ) (answer : Ordered) : Type 0 where
+-- The bytes are the files of a trace and of an order, and this is answered of the two.
+pub record AreOrderedFiles (trace order : List ℕ) (answer : Ordered) : Type 0 where
   pub seen : TraceView
-  pub seen_file : IsTraceFile bytes seen
-  pub profile : Profile
-  pub order : OrderView
-  pub ordered : IsOrdered seen profile order answer
+  pub seen_file : IsTraceFile trace seen
+  pub held : HeldOrderView
+  pub held_file : IsOrderFile order held
+  pub ordered : IsOrdered seen held.profile held.order answer
 
--- It is the first fault of the bytes as a trace's file, or one of the order's, or want of memory.
-abbrev pub IsOrderFault : List ℕ → OrderWitnessFault → Type 0
-IsOrderFault bytes (fault.Trace of_trace) = trace_at bytes ≡ Err of_trace
-IsOrderFault bytes (fault.Order of_order) = Unit {0}
-IsOrderFault bytes fault.NoMemory = Unit {0}
+-- The one is a trace's file, and this is the first fault of the other as an order's.
+pub record IsFaultOfOrder (trace order : List ℕ) (fault : EvidenceFault) : Type 0 where
+  pub seen : TraceView
+  pub seen_file : IsTraceFile trace seen
+  pub its : order_at order ≡ Err fault
+
+-- It is the first fault of the one as a trace's file, or else of the other as an order's, or want of memory.
+abbrev pub IsOrderFault : List ℕ → List ℕ → OrderWitnessFault → Type 0
+IsOrderFault trace order (fault.Trace of_trace) = trace_at trace ≡ Err of_trace
+IsOrderFault trace order (fault.Order of_order) = IsFaultOfOrder trace order of_order
+IsOrderFault trace order fault.NoMemory = Unit {0}

@@ -1,44 +1,64 @@
 //! A fact: a byte for its kind, and its numbers.
+ghost use Rattle.std.specs.Prelude.{◌≡◌};
+ghost use Rattle.nvm_evidence.specs.ContradictionReading.{fact_at, four_at, three_at, two_at};
+ghost use Rattle.nvm_evidence.specs.ContradictionReading as spec;
+ghost use Rattle.nvm_evidence.specs.Fields.{Gives};
+
 use crate::evidence_fault::EvidenceFault;
-use crate::fields::{bad_value, u8_of, u32_of};
+use crate::fields::{kind_of, u32_of};
 use nvm_contradiction::{Fact, Node};
 
 /// Two numbers.
-fn two_of<'f>(total: usize, from: &'f [u8]) -> Result<((u32, u32), &'f [u8]), EvidenceFault> {
+#[tactic(auto, unfolding(crate::specs::ContradictionReading::two_at))]
+pub(crate) fn two_of(total: usize, from: &[u8]) -> Result<((u32, u32), &[u8]), EvidenceFault>
+    ensures { Gives (λ x. (x.0, x.1.now)) result (two_at total from.now) }
+{
     let (first, rest) = u32_of(total, from)?;
     let (second, rest) = u32_of(total, rest)?;
     Ok(((first, second), rest))
 }
 
 /// Three numbers.
-fn three_of<'f>(
-    total: usize,
-    from: &'f [u8],
-) -> Result<((u32, u32, u32), &'f [u8]), EvidenceFault> {
-    let ((first, second), rest) = two_of(total, from)?;
-    let (third, rest) = u32_of(total, rest)?;
+#[tactic(auto, unfolding(crate::specs::ContradictionReading::three_at))]
+fn three_of(total: usize, from: &[u8]) -> Result<((u32, u32, u32), &[u8]), EvidenceFault>
+    ensures { Gives (λ x. (x.0, x.1.now)) result (three_at total from.now) }
+{
+    let (first, rest) = u32_of(total, from)?;
+    let ((second, third), rest) = two_of(total, rest)?;
     Ok(((first, second, third), rest))
 }
 
 /// Four numbers.
-fn four_of<'f>(
-    total: usize,
-    from: &'f [u8],
-) -> Result<((u32, u32, u32, u32), &'f [u8]), EvidenceFault> {
-    let ((first, second, third), rest) = three_of(total, from)?;
-    let (fourth, rest) = u32_of(total, rest)?;
+#[tactic(auto, unfolding(crate::specs::ContradictionReading::four_at))]
+fn four_of(total: usize, from: &[u8]) -> Result<((u32, u32, u32, u32), &[u8]), EvidenceFault>
+    ensures { Gives (λ x. (x.0, x.1.now)) result (four_at total from.now) }
+{
+    let (first, rest) = u32_of(total, from)?;
+    let ((second, third, fourth), rest) = three_of(total, rest)?;
     Ok(((first, second, third, fourth), rest))
 }
 
 /// The next fact, and what comes after it.
-pub(crate) fn fact_of<'f>(total: usize, from: &'f [u8]) -> Result<(Fact, &'f [u8]), EvidenceFault> {
-    let (kind, rest) = u8_of(total, from)?;
+#[tactic(auto, unfolding(crate::specs::ContradictionReading::fact_at))]
+pub(crate) fn fact_of(total: usize, from: &[u8]) -> Result<(Fact, &[u8]), EvidenceFault>
+    ensures { Gives (λ x. (x.0, x.1.now)) result (fact_at total from.now) }
+{
+    let (kind, rest) = kind_of(total, 0, 9, from)?;
+    fact_by(total, kind, rest)
+}
+
+/// The fact of this kind, 0 to 9.
+fn fact_by(total: usize, kind: u8, rest: &[u8]) -> Result<(Fact, &[u8]), EvidenceFault>
+    ensures { Gives (λ x. (x.0, x.1.now)) result (spec.fact_by total kind rest.now) }
+{
     match kind {
         0 => {
-            let ((point, block), rest) = two_of(total, rest)?;
+            let ((point, block, later_point, later_block), rest) = four_of(total, rest)?;
             let earlier = Node { point, block };
-            let ((point, block), rest) = two_of(total, rest)?;
-            let later = Node { point, block };
+            let later = Node {
+                point: later_point,
+                block: later_block,
+            };
             Ok((Fact::Time { earlier, later }, rest))
         }
         1 => {
@@ -118,7 +138,7 @@ pub(crate) fn fact_of<'f>(total: usize, from: &'f [u8]) -> Result<(Fact, &'f [u8
                 rest,
             ))
         }
-        9 => {
+        _ => {
             let ((entry, reader, block, by), rest) = four_of(total, rest)?;
             Ok((
                 Fact::TiedAfter {
@@ -130,6 +150,5 @@ pub(crate) fn fact_of<'f>(total: usize, from: &'f [u8]) -> Result<(Fact, &'f [u8
                 rest,
             ))
         }
-        _ => Err(bad_value(total, from)),
     }
 }

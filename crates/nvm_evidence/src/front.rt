@@ -1,6 +1,11 @@
 //! How each file of evidence begins: its name, what kind of evidence it is, and what the device was held to.
+ghost use Rattle.std.specs.Prelude.{◌≡◌};
+ghost use Rattle.nvm_evidence.specs.Fields.{Gives};
+ghost use Rattle.nvm_evidence.specs.FrontReading as spec;
+ghost use Rattle.nvm_evidence.specs.FrontReading.{evidence_kind_at, front_at, name_at, profile_at};
+
 use crate::evidence_fault::EvidenceFault;
-use crate::fields::{bad_value, offset_of, u8_of};
+use crate::fields::{kind_of, offset_of};
 use nvm_points::{Deallocated, Held, Profile};
 use std::alloc::{AllocError, Global};
 
@@ -14,72 +19,79 @@ pub(crate) const ORDER: u8 = 1;
 pub(crate) const CONTRADICTION: u8 = 2;
 
 /// Whether the bytes begin as those of a file of evidence.
-pub fn is_evidence(bytes: &[u8]) -> bool {
+pub fn is_evidence(bytes: &[u8]) -> bool
+    ensures { result ≡ spec.is_evidence bytes.now }
+{
     bytes.starts_with(NAME)
 }
 
-/// What kind of evidence the file holds, if its name is right, and what comes after that.
-pub(crate) fn kind_of(bytes: &[u8]) -> Result<(u8, &[u8]), EvidenceFault> {
-    if !bytes.starts_with(NAME) {
+/// The file's name.
+#[tactic(auto, unfolding(crate::specs::FrontReading::name_at))]
+fn name_of(bytes: &[u8]) -> Result<&[u8], EvidenceFault>
+    ensures { Gives (λ x. x.now) result (name_at bytes.now) }
+{
+    if !is_evidence(bytes) {
         return Err(EvidenceFault::BadName);
     }
-    u8_of(bytes.len(), &bytes[NAME.len()..])
+    Ok(&bytes[NAME.len()..])
 }
 
-/// The byte of the kind stands for nothing, or not for what is asked for.
-pub(crate) fn bad_kind() -> EvidenceFault {
-    EvidenceFault::BadValue {
-        at: NAME.len() as u64,
-    }
+/// What kind of evidence the file holds, from `low` to `high`, and what comes after that.
+#[tactic(auto, unfolding(crate::specs::FrontReading::evidence_kind_at))]
+pub(crate) fn evidence_kind_of(
+    low: u8,
+    high: u8,
+    bytes: &[u8],
+) -> Result<(u8, &[u8]), EvidenceFault>
+    ensures { Gives (λ x. (x.0, x.1.now)) result (evidence_kind_at low high bytes.now) }
+{
+    let rest = name_of(bytes)?;
+    kind_of(bytes.len(), low, high, rest)
 }
 
 /// What the device was held to in a file of this kind of evidence, and what comes after that.
-pub(crate) fn front_of(bytes: &[u8], wanted: u8) -> Result<(Profile, &[u8]), EvidenceFault> {
-    let total = bytes.len();
-    let (kind, rest) = kind_of(bytes)?;
-    if kind != wanted {
-        return Err(bad_kind());
-    }
-    let (held, rest) = held_of(total, rest)?;
-    let (deallocated, rest) = deallocated_of(total, rest)?;
-    let profile = Profile { held, deallocated };
+#[tactic(auto, unfolding(crate::specs::FrontReading::front_at))]
+pub(crate) fn front_of(kind: u8, bytes: &[u8]) -> Result<(Profile, &[u8]), EvidenceFault>
+    ensures { Gives (λ x. (x.0, x.1.now)) result (front_at kind bytes.now) }
+{
+    let (_, rest) = evidence_kind_of(kind, kind, bytes)?;
+    profile_of(bytes.len(), rest)
+}
+
+/// What the device was held to.
+#[tactic(auto, unfolding(crate::specs::FrontReading::profile_at))]
+fn profile_of(total: usize, rest: &[u8]) -> Result<(Profile, &[u8]), EvidenceFault>
+    ensures { Gives (λ x. (x.0, x.1.now)) result (profile_at total rest.now) }
+{
+    let (held, rest) = kind_of(total, 0, 3, rest)?;
+    let (deallocated, rest) = kind_of(total, 0, 2, rest)?;
+    let profile = Profile {
+        held: held_by(held),
+        deallocated: deallocated_by(deallocated),
+    };
     Ok((profile, rest))
 }
 
-/// Nothing may come after the last item.
-pub(crate) fn check_end(total: usize, rest: &[u8]) -> Result<(), EvidenceFault> {
-    if rest.is_empty() {
-        Ok(())
-    } else {
-        Err(EvidenceFault::Trailing {
-            at: offset_of(total, rest),
-        })
+/// What Reads are held to, by its code.
+fn held_by(code: u8) -> Held
+    ensures { result ≡ spec.held_of code }
+{
+    match code {
+        0 => Held::Atomic,
+        1 => Held::AtomicAll,
+        2 => Held::Whole,
+        _ => Held::ByBlocks,
     }
 }
 
-/// What Reads are held to.
-fn held_of<'f>(total: usize, from: &'f [u8]) -> Result<(Held, &'f [u8]), EvidenceFault> {
-    let (byte, rest) = u8_of(total, from)?;
-    match byte {
-        0 => Ok((Held::Atomic, rest)),
-        1 => Ok((Held::AtomicAll, rest)),
-        2 => Ok((Held::Whole, rest)),
-        3 => Ok((Held::ByBlocks, rest)),
-        _ => Err(bad_value(total, from)),
-    }
-}
-
-/// What a deallocated block may read as.
-fn deallocated_of<'f>(
-    total: usize,
-    from: &'f [u8],
-) -> Result<(Deallocated, &'f [u8]), EvidenceFault> {
-    let (byte, rest) = u8_of(total, from)?;
-    match byte {
-        0 => Ok((Deallocated::Zeroes, rest)),
-        1 => Ok((Deallocated::Ones, rest)),
-        2 => Ok((Deallocated::Either, rest)),
-        _ => Err(bad_value(total, from)),
+/// What a deallocated block may read as, by its code.
+fn deallocated_by(code: u8) -> Deallocated
+    ensures { result ≡ spec.deallocated_of code }
+{
+    match code {
+        0 => Deallocated::Zeroes,
+        1 => Deallocated::Ones,
+        _ => Deallocated::Either,
     }
 }
 

@@ -33,6 +33,7 @@ mod reading;
 mod refute_fault;
 mod refuted;
 mod refuting;
+mod trace_reading;
 mod values;
 mod verdict;
 mod witness_fault;

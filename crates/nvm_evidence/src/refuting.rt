@@ -1,7 +1,9 @@
 ghost use Rattle.std.specs.Prelude.{ℕ, IfErr, IfOk, List};
-ghost use Rattle.nvm_evidence.specs.Refuted.{IsRefuted, IsRefutedFile, IsRefuteFault};
 ghost use Rattle.nvm_file.specs.TraceFile.{IsTraceFile};
 ghost use Rattle.nvm_judge.specs.Contradicted.{IsContradictedBy};
+ghost use Rattle.nvm_trace.specs.TraceView.{TraceView};
+ghost use Rattle.nvm_evidence.specs.ContradictionReading.{IsContradictionFile};
+ghost use Rattle.nvm_evidence.specs.Refuted.{AreRefutedFiles, IsRefuted, IsRefuteFault};
 
 use crate::contradiction_reading::read_contradiction;
 use crate::evidence_fault::EvidenceFault;
@@ -9,7 +11,7 @@ use crate::held_contradiction::HeldContradiction;
 use crate::named::commands_named;
 use crate::refute_fault::RefuteBytesFault;
 use crate::refuted::Refuted;
-use nvm_file::{TraceFileFault, read_trace};
+use crate::trace_reading::trace_of;
 use nvm_judge::{RefuteFault, check_contradiction};
 use nvm_points::{PointsFault, points_of};
 use nvm_record::{NoMemory, Payload};
@@ -58,29 +60,22 @@ pub fn refute_contradiction_bytes(
     trace: &Payload,
     contradiction: &[u8],
 ) -> Result<Refuted, RefuteBytesFault>
-    ensures refuted { IfOk result (IsRefutedFile trace.now) }
-    ensures fault { IfErr result (IsRefuteFault trace.now) }
+    ensures refuted { IfOk result (AreRefutedFiles trace.now contradiction.now) }
+    ensures fault { IfErr result (IsRefuteFault trace.now contradiction.now) }
 {
-    let seen = trace_of(alloc, trace)?;
-    let held = contradiction_of(alloc, contradiction)?;
-    Ok(refute_contradiction(alloc, &seen, &held)?)
-}
-
-/// The trace that a file holds.
-fn trace_of(alloc: Global, bytes: &Payload) -> Result<Trace, RefuteBytesFault>
-    ensures read { IfOk result (λ t. IsTraceFile bytes.now t) }
-    ensures fault { IfErr result (IsRefuteFault bytes.now) }
-{
-    match read_trace(alloc, bytes) {
-        Ok(trace) => Ok(trace),
-        Err(TraceFileFault::NoMemory) => Err(RefuteBytesFault::NoMemory),
+    match trace_of(alloc, trace)? {
+        Ok(seen) => {
+            let held = contradiction_of(alloc, contradiction)?;
+            Ok(refute_contradiction(alloc, &seen, &held)?)
+        }
         Err(fault) => Err(RefuteBytesFault::Trace(fault)),
     }
 }
 
 /// The contradiction that a file holds.
 fn contradiction_of(alloc: Global, bytes: &[u8]) -> Result<HeldContradiction, RefuteBytesFault>
-    ensures { (trace : List ℕ) → IfErr result (IsRefuteFault trace) }
+    ensures read { IfOk result (λ held. IsContradictionFile bytes.now held) }
+    ensures fault { (trace : List ℕ) (seen : TraceView) → IsTraceFile trace seen → IfErr result (IsRefuteFault trace bytes.now) }
 {
     match read_contradiction(alloc, bytes) {
         Ok(held) => Ok(held),

@@ -1,14 +1,16 @@
 ghost use Rattle.std.specs.Prelude.{ℕ, IfErr, IfOk, List};
-ghost use Rattle.nvm_evidence.specs.Witnessed.{IsOrdered, IsOrderedFile, IsOrderFault};
 ghost use Rattle.nvm_file.specs.TraceFile.{IsTraceFile};
 ghost use Rattle.nvm_orders.specs.OrderView.{seen_order};
+ghost use Rattle.nvm_trace.specs.TraceView.{TraceView};
+ghost use Rattle.nvm_evidence.specs.OrderReading.{IsOrderFile, seen_held_order};
+ghost use Rattle.nvm_evidence.specs.Witnessed.{AreOrderedFiles, IsOrdered, IsOrderFault};
 
 use crate::evidence_fault::EvidenceFault;
 use crate::held_order::HeldOrder;
 use crate::order_reading::read_order;
 use crate::ordered::{OrderNumbers, Ordered};
+use crate::trace_reading::trace_of;
 use crate::witness_fault::OrderWitnessFault;
-use nvm_file::{TraceFileFault, read_trace};
 use nvm_judge::{CheckFault, check_order};
 use nvm_record::{NoMemory, Payload};
 use nvm_trace::Trace;
@@ -41,29 +43,22 @@ pub fn witness_order_bytes(
     trace: &Payload,
     order: &[u8],
 ) -> Result<Ordered, OrderWitnessFault>
-    ensures ordered { IfOk result (IsOrderedFile trace.now) }
-    ensures fault { IfErr result (IsOrderFault trace.now) }
+    ensures ordered { IfOk result (AreOrderedFiles trace.now order.now) }
+    ensures fault { IfErr result (IsOrderFault trace.now order.now) }
 {
-    let seen = trace_of(alloc, trace)?;
-    let held = order_of(alloc, order)?;
-    Ok(witness_order(alloc, &seen, &held)?)
-}
-
-/// The trace that a file holds.
-fn trace_of(alloc: Global, bytes: &Payload) -> Result<Trace, OrderWitnessFault>
-    ensures read { IfOk result (λ t. IsTraceFile bytes.now t) }
-    ensures fault { IfErr result (IsOrderFault bytes.now) }
-{
-    match read_trace(alloc, bytes) {
-        Ok(trace) => Ok(trace),
-        Err(TraceFileFault::NoMemory) => Err(OrderWitnessFault::NoMemory),
+    match trace_of(alloc, trace)? {
+        Ok(seen) => {
+            let held = order_of(alloc, order)?;
+            Ok(witness_order(alloc, &seen, &held)?)
+        }
         Err(fault) => Err(OrderWitnessFault::Trace(fault)),
     }
 }
 
 /// The order that a file holds.
 fn order_of<'f>(alloc: Global, bytes: &'f [u8]) -> Result<HeldOrder<'f>, OrderWitnessFault>
-    ensures { (trace : List ℕ) → IfErr result (IsOrderFault trace) }
+    ensures read { IfOk result (λ held. IsOrderFile bytes.now (seen_held_order held)) }
+    ensures fault { (trace : List ℕ) (seen : TraceView) → IsTraceFile trace seen → IfErr result (IsOrderFault trace bytes.now) }
 {
     match read_order(alloc, bytes) {
         Ok(held) => Ok(held),

@@ -8,7 +8,7 @@ use Rattle.nvm_engine.specs.VerdictObject.{answer_object}
 use Rattle.nvm_engine.specs.Witnessed.{IsWitnessed, witness_status}
 use Rattle.nvm_evidence.specs.OrderedLine.{ordered_line, ordered_status}
 use Rattle.nvm_evidence.specs.RefutedLine.{refuted_line, refuted_status}
-use Rattle.nvm_evidence.specs.Witnessed.{IsOrderedFile}
+use Rattle.nvm_evidence.specs.Witnessed.{AreOrderedFiles}
 use Rattle.nvm_trace.specs.declared.judging.Judging.{Judging}
 use Rattle.nvm_trace.specs.declared.judging.Judging.TheVariants.{Standard}
 use Rattle.nvm_trace_text.specs.WitnessLine.{witness_line}
@@ -41,7 +41,7 @@ status_of (Refuted refuted) = refuted_status refuted
 -- It is what a witness answers of the bytes of a trace and of a record, or of a trace and an order.
 abbrev pub IsWitnessedBy : Judging → List ℕ → List ℕ → Answer → Type 0
 IsWitnessedBy judging seen held (Witnessed witnessed) = IsWitnessed judging seen held witnessed
-IsWitnessedBy judging seen held (Ordered ordered) = (judging ≡ Standard) × IsOrderedFile seen ordered
+IsWitnessedBy judging seen held (Ordered ordered) = (judging ≡ Standard) × AreOrderedFiles seen held ordered
 IsWitnessedBy judging seen held answer = ⊥
 
 -- It is that of the bytes of two files.

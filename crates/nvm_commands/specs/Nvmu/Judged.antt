@@ -5,7 +5,7 @@ use Rattle.nvm_audit.specs.declared.audit_fault.AuditFault.{AuditFault}
 use Rattle.nvm_audit.specs.declared.verdict.Verdict.{Verdict}
 use Rattle.nvm_engine.specs.Judged.{IsJudged, IsUnreadFault}
 use Rattle.nvm_engine.specs.Witnessed.{IsUnwitnessedFault}
-use Rattle.nvm_evidence.specs.Refuted.{IsRefutedFile, IsRefuteFault as IsFaultOfBytes}
+use Rattle.nvm_evidence.specs.Refuted.{AreRefutedFiles as AreRefutedBytes, IsRefuteFault as IsFaultOfBytes}
 use Rattle.nvm_evidence.specs.Witnessed.{IsOrderFault}
 use Rattle.nvm_evidence.specs.declared.refuted.Refuted.{Refuted}
 use Rattle.nvm_commands.specs.Nvmu.Files.{IsReadFault}
@@ -20,13 +20,13 @@ IsAuditFault bytes fault = ⊥
 -- It is the first fault of exactly these bytes: of the one as a trace, or of the other as a record, or as an order.
 abbrev pub IsWitnessFault : List ℕ → List ℕ → Fault → Type 0
 IsWitnessFault seen held (Engine fault) = IsUnwitnessedFault seen held fault
-IsWitnessFault seen held (Order fault) = IsOrderFault seen fault
+IsWitnessFault seen held (Order fault) = IsOrderFault seen held fault
 IsWitnessFault seen held fault = ⊥
 
--- It is the first fault of exactly these bytes as a trace, or one of the contradiction's.
-abbrev pub IsRefuteFault : List ℕ → Fault → Type 0
-IsRefuteFault seen (Refute fault) = IsFaultOfBytes seen fault
-IsRefuteFault seen fault = ⊥
+-- It is the first fault of exactly these bytes: of the one as a trace, or of the other as a contradiction.
+abbrev pub IsRefuteFault : List ℕ → List ℕ → Fault → Type 0
+IsRefuteFault seen held (Refute fault) = IsFaultOfBytes seen held fault
+IsRefuteFault seen held fault = ⊥
 
 -- It is the answer of an audit of a file's bytes.
 abbrev pub IsJudgedFile : Result Verdict AuditFault → Type 0
@@ -45,11 +45,11 @@ abbrev pub IsWitnessFaultOn : List ℕ → List ℕ → Fault → Type 0
 IsWitnessFaultOn trace run fault =
     IsPairFault trace run fault ⊎ ((seen : List ℕ) × (held : List ℕ) × IsWitnessFault seen held fault)
 
--- It is what a contradiction says of the trace of a file.
+-- It is what the contradiction of a file says of the trace of another.
 abbrev pub AreRefutedFiles : Refuted → Type 0
-AreRefutedFiles answer = (seen : List ℕ) × IsRefutedFile seen answer
+AreRefutedFiles answer = (seen : List ℕ) × (held : List ℕ) × AreRefutedBytes seen held answer
 
 -- One of the files at these paths couldn't be read, or else it is the first fault of the bytes of two files.
 abbrev pub IsRefuteFaultOn : List ℕ → List ℕ → Fault → Type 0
 IsRefuteFaultOn trace contradiction fault =
-    IsPairFault trace contradiction fault ⊎ ((seen : List ℕ) × IsRefuteFault seen fault)
+    IsPairFault trace contradiction fault ⊎ ((seen : List ℕ) × (held : List ℕ) × IsRefuteFault seen held fault)

@@ -1,6 +1,6 @@
 //! `nvmu refute`: whether a contradiction is one of a trace.
 ghost use Rattle.std.specs.Prelude.{IfOk, IfErr};
-ghost use Rattle.nvm_evidence.specs.Refuted.{IsRefutedFile};
+ghost use Rattle.nvm_evidence.specs.Refuted.{AreRefutedFiles as AreRefutedBytes};
 ghost use Rattle.nvm_commands.specs.Nvmu.Judged.{AreRefutedFiles, IsRefuteFault, IsRefuteFaultOn};
 
 use crate::nvmu::fault::Fault;
@@ -27,8 +27,8 @@ pub fn refuted<R: AllocGlobal + Files + Input + Eprint>(
 
 /// Judges the bytes of a trace by those of a contradiction.
 fn refuted_of(alloc: Global, seen: &Payload, held: &Payload) -> Result<Refuted, Fault>
-    ensures refuted { IfOk result (IsRefutedFile seen.now) }
-    ensures fault { IfErr result (IsRefuteFault seen.now) }
+    ensures refuted { IfOk result (AreRefutedBytes seen.now held.now) }
+    ensures fault { IfErr result (IsRefuteFault seen.now held.now) }
 {
     match refute_contradiction_bytes(alloc, seen, held.as_slice()) {
         Ok(refuted) => Ok(refuted),

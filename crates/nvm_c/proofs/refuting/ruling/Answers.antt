@@ -3,8 +3,8 @@ use Rattle.nvm_c.proofs.refuting.ruling.Goals as goal
 
 pub returns : goal.returns
 returns c = record {
-  profile = c.args.held.now.profile;
-  contradiction = c.args.held.now.contradiction;
+  held = c.args.held.now;
+  held_file = c.requires;
   answer = c.in_ok-refuted.refuted;
   refuted = c.in_ok-refuted.ensures;
   code_is = c.code_of.ensures;

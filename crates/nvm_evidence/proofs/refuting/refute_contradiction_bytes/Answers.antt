@@ -1,8 +1,12 @@
-use Rattle.std.proofs.lemmas.Result.{err_from_is_err_and}
+use Rattle.std.proofs.Common.{◌∙◌}
 use Rattle.nvm_evidence.proofs.refuting.refute_contradiction_bytes.Goals as goal
 
--- The contradiction's fault is returned as it is.
-pub returns-in_err-held-clause-fault : goal.returns-in_err-held-clause-fault
-returns-in_err-held-clause-fault c =
-    let p = err_from_is_err_and c.from_residual-in_err-held.result c.from_residual-in_err-held.ensures.1 in
-    rw (p.1, p.2) (c.in_err-held.ensures c.args.trace.now)
+-- The contradiction is the one that was read.
+pub returns-in_ok-refute_contradiction-in-Ok-clause-refuted : goal.returns-in_ok-refute_contradiction-in-Ok-clause-refuted
+returns-in_ok-refute_contradiction-in-Ok-clause-refuted c = record {
+  seen = c.in-Ok.seen;
+  seen_file = c.in_ok-seen.ensures ∙ c.in-Ok.is;
+  held = c.in_ok-held-in-Ok.held;
+  held_file = c.in_ok-held-in-Ok.ensures.read;
+  refuted = c.in_ok-refute_contradiction-in-Ok.ensures;
+}

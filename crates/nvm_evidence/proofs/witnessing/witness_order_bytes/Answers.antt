@@ -1,8 +1,0 @@
-use Rattle.std.proofs.lemmas.Result.{err_from_is_err_and}
-use Rattle.nvm_evidence.proofs.witnessing.witness_order_bytes.Goals as goal
-
--- The order's fault is returned as it is.
-pub returns-in_err-held-clause-fault : goal.returns-in_err-held-clause-fault
-returns-in_err-held-clause-fault c =
-    let p = err_from_is_err_and c.from_residual-in_err-held.result c.from_residual-in_err-held.ensures.1 in
-    rw (p.1, p.2) (c.in_err-held.ensures c.args.trace.now)
