@@ -1,4 +1,5 @@
-ghost use Rattle.std.specs.Prelude.{IfOk};
+ghost use Rattle.std.specs.Prelude.{◌≡◌, IfOk};
+ghost use Rattle.nvm_judge.specs.HeadProfile.{head_profile};
 ghost use Rattle.nvm_judge.specs.Judged.{IsFoundOf, IsJudged};
 ghost use Rattle.nvm_points.specs.PointView.{seen_table};
 
@@ -19,7 +20,9 @@ const POINTS: usize = 10;
 
 /// What the device of a trace is held to where nobody asks for more: what the head says that it promises. A head that says `whole` is
 /// held as one that says `atomic`, since recorders have written that word of any device.
-pub fn profile_of(trace: &Trace) -> Profile {
+pub fn profile_of(trace: &Trace) -> Profile
+    ensures { result ≡ head_profile «trace».now }
+{
     let held = match trace.reads {
         Reads::Atomic | Reads::Whole => Held::Atomic,
         Reads::ByBlocks => Held::ByBlocks,
