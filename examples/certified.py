@@ -27,7 +27,7 @@ import judge as standard
 from host_files import compare, dataset, pair, read, uncorrectable, write, zeroes
 from model import READ, WRITE, Namespace
 from simulated import PLANTED, device_trace, small_trace
-from trace_files import text_of
+from trace_files import text_of, together, together_line
 from verdict_objects import text_of as text_of_object
 from witness_model import DIFFERS, MARKED, SUCCESS, sent
 
@@ -347,6 +347,12 @@ def traced(folder, name, text):
     return answer(folder, "nvq", "list", name)[1]
 
 
+def times_of(line):
+    """When the command of a trace's line began and ended."""
+    began, ended, *_ = line.split()
+    return int(began), None if ended == "-" else int(ended)
+
+
 def certified(folder, text, words=()):
     """What is printed of the trace of a text. Its evidence, its object and the standard's page say the same."""
     trace, evidence = (f"{os.getpid()}.{kind}" for kind in ("nvt", "nve"))
@@ -361,8 +367,9 @@ def certified(folder, text, words=()):
     path = os.path.join(folder, evidence)
     hold("evidence", os.path.exists(path), verdict != UNKNOWN and not is_reply)
     if verdict == EXPLAINED:
-        hold("all that is told", told, f"{first}\n")
-        hold("witness", answer(folder, "nvmu", "witness", trace, evidence), (0, told))
+        hold("all that is told", told, f"{first}\n{together_line(together([*map(times_of, lines)]))}")
+        for name in ("nvmu", "nvq"):
+            hold("witness", answer(folder, name, "witness", trace, evidence), (0, f"{first}\n"))
         hold("explain", answer(folder, "nvq", "explain", trace, evidence)[1].splitlines()[0], first)
     elif os.path.exists(path):
         held_to_commands(lines, told)

@@ -7,11 +7,12 @@ import os
 import subprocess
 
 from hints import FOLDER, IS_OUTPUT, MISSING, NO_SPACE, told
-from trace_files import spelled, text_of, with_seen
+from trace_files import spelled, text_of, told_together, with_seen
 from traces import TRACE
 
 PROFILE = "reads atomic deallocated either"
 EXPLAINED = f"explained jobs 3 points 3 {PROFILE}\n"
+CERTIFIED = EXPLAINED + told_together(TRACE)
 # A Read of what nobody wrote: job 2, in LBA 0.
 WRONG = with_seen(TRACE, 2, data=b"\x43" * 512)
 WRONG_LINES = f"job 2 {text_of(WRONG).splitlines()[3]}\njob 2 found in LBA 0 what nobody can have left there\n"
@@ -264,8 +265,9 @@ def contradictions(run):
         run.expect(["nvq", "certify", "wrong.nvt", "--evidence", name], 2, out=CONTRADICTION, files={name: NOBODY})
     run.keep("kept", b"old")
     for name in ("right.nve", "kept"):
-        run.expect(["nvq", "certify", "--evidence", name, "right.nvt"], out=EXPLAINED)
-        run.expect(["nvmu", "witness", "right.nvt", name], out=EXPLAINED)
+        run.expect(["nvq", "certify", "--evidence", name, "right.nvt"], out=CERTIFIED)
+        for judge in ("nvmu", "nvq"):
+            run.expect([judge, "witness", "right.nvt", name], out=EXPLAINED)
     contradictions_judged(run)
     contradictions_changed(run)
     contradictions_misplaced(run)
@@ -381,3 +383,4 @@ def words_of_refute(run):
         run.hold(f"nvq {words}", (status, said.decode().partition("\n")[2]), (1, f"  {hint}\n"))
     run.keep("it", contradiction())
     run.expect(["nvmu", "witness", "wrong.nvt", "it"], 1, err="nvmu: order: bad value at 4\n")
+    run.expect(["nvq", "witness", "wrong.nvt", "it"], 1, err=told("nvq: it: bad value at 4", hint))

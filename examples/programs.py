@@ -14,7 +14,7 @@ TOP = os.path.dirname(HERE)
 sys.dont_write_bytecode = True
 sys.path[:0] = [HERE, os.path.join(TOP, "sweep")]
 
-from contradictions import CONTRADICTION, EXPLAINED, PAIR_TEXT, PROFILE, WRONG, contradictions
+from contradictions import CERTIFIED, CONTRADICTION, EXPLAINED, PAIR_TEXT, PROFILE, WRONG, contradictions
 from crowds import crowds
 from devices import devices
 from entries import entries
@@ -34,7 +34,7 @@ from progress import progress
 from rows import rows
 from runs import runs
 from trace_files import spelled, text_of
-from traces import TRACE, traces
+from traces import HEAD, TRACE, traces
 from two_owners import two_owners
 from unbuilt import unbuilt
 from words import (
@@ -287,7 +287,7 @@ def words_of_nvq(run):
 
 
 # The verdicts of contradictions.py as objects.
-EXPLAINED_OBJECT = '{"verdict":"explained","jobs":3,"points":3,"reads":"atomic","deallocated":"either"}\n'
+EXPLAINED_OBJECT = '{"verdict":"explained","jobs":3,"points":3,"together":1,"reads":"atomic","deallocated":"either"}\n'
 CONTRADICTION_OBJECT = (
     '{"verdict":"contradiction","reads":"atomic","deallocated":"either","commands":[{"job":2,"began":30,"ended":35,"host":1,"sent":[{"cid":2,"command":"read 0 1"}],'
     '"statuses":["0/00"],"data":"512*43"}],"facts":[],"conclusion":{"conclusion":"nobody","lba":0,"reader":2,"text":"job 2 found in LBA 0 what nobody can have left there"}}\n'
@@ -298,31 +298,67 @@ PAIR_OBJECT = (
     '"sent":[{"cid":3,"command":"read 7 2"}],"statuses":["0/00"],"data":"1024*00"}],"facts":[{"fact":"time","before":0,"after":1,"text":"job 0 comes before job 1: it had ended at 20, and job 1 began at 21"}],'
     '"conclusion":{"conclusion":"nobody","lba":7,"reader":1,"text":"job 1 found in LBA 7 what nobody can have left there"}}\n'
 )
-# What should be a trace, its fault, and what helps.
+# What begins as a file and should be a trace, its fault, and what helps.
 NO_TRACES = [
-    (b"", "bad name", "it is empty, and a trace begins with NVT1"),
     (b"NVT2", "bad name", "it is no trace, which begins with NVT1"),
+    (b"NV", "bad name", "it is no trace, which begins with NVT1"),
     (file_of([]), "bad name", "it is a host file: nvmu run does its commands and writes a record"),
     (b"NVR2", "bad name", "it is a record: nvq audit it judges it; the trace comes first, and then the record"),
-    (text_of(TRACE).encode(), "bad name", "it is text: nvq trace it TRACE makes a trace of its lines"),
     (b"NVT1", "truncated at 4", ""),
     (spelled(TRACE) + b"0", f"trailing at {len(spelled(TRACE))}", ""),
     (spelled(TRACE)[:32] + b"\2" + spelled(TRACE)[33:], "bad value at 32", "it is what was known of the blocks before"),
 ]
+# What should be a trace's text, its fault, and what helps.
+NO_TEXTS = [
+    (b"", "expected a trace's head", ""),
+    (b"# nothing\n", "expected a trace's head", ""),
+    (b"walk\n", f"line 1: {HEAD}", the_line("walk")),
+    (b"\n# a list\nread 0 1 # it\n", f"line 3: {HEAD}", "it is a command list: nvq run it does its commands"),
+    (b"op-7f 0 1\n", f"line 1: {HEAD}", "it is a command list: nvq run it does its commands"),
+    (text_of(TRACE).encode() + b"1 2 65 1 read 0 1\n", f"line {len(TRACE.jobs) + 2}: expected a host from 1 to 64", the_line("1 2 65 1 read 0 1")),
+    (b"\0NVT1", f"line 1: {HEAD}", ""),
+]
+# Where a trace's text isn't taken.
+IS_TEXT = "it is a trace's text: nvq certify it judges it, nvq trace it TRACE makes its file"
+
+
+def texts_of_traces(run):
+    """A trace is taken as its text, too, and a fault of it is told as `nvq trace` tells it."""
+    run.keep("right.nvt", spelled(TRACE))
+    run.keep("right.txt", text_of(TRACE))
+    run.keep("wrong.txt", text_of(WRONG))
+    run.expect(["nvq", "certify", "right.txt"], out=CERTIFIED)
+    run.expect(["nvq", "certify", "--evidence", "text.nve", "-"], given=text_of(TRACE).encode(), out=CERTIFIED)
+    run.expect(["nvq", "certify", "wrong.txt"], 2, out=CONTRADICTION)
+    run.expect(["nvq", "witness", "right.txt", "text.nve"], out=EXPLAINED)
+    run.expect(["nvmu", "witness", "right.nvt", "text.nve"], out=EXPLAINED)
+    run.expect(["nvq", "witness", "-", "text.nve"], given=text_of(TRACE).encode(), out=EXPLAINED)
+    run.expect(["nvq", "explain", "right.txt", "text.nve"], out=run.SOME)
+    run.expect(["nvmu", "witness", "right.txt", "text.nve"], 1, err="nvmu: trace: bad name\n")
+    run.expect(["nvq", "witness", "--strict", "right.txt", "text.nve"], 1, err=told("nvq: text.nve: bad name", "text.nve is an order: nvmu witness TRACE text.nve judges a trace by it, nvq explain TRACE text.nve shows it"))
+    for content, fault, hint in NO_TEXTS:
+        run.keep("it", content)
+        for words in (["certify", "it"], ["witness", "it", "text.nve"], ["explain", "it", "text.nve"], ["trace", "it", "out"]):
+            run.expect(["nvq", *words], 1, err=told(f"nvq: {fault}", hint))
+    run.keep("it", text_of(TRACE))
+    for words in ("audit it", "explain it", "list it", "list --json it", "witness right.nvt it"):
+        run.expect(["nvq", *words.split()], 1, err=told("nvq: it: bad name", IS_TEXT))
+    status, said = run.status_of(["nvq", "run", "it"], stdout=subprocess.DEVNULL)
+    run.hold("nvq run it", (status, said.decode().partition("\n")[2]), (1, f"  {IS_TEXT}\n"))
 
 
 def words_of_certify(run):
     run.keep("right.nvt", spelled(TRACE))
     run.keep("wrong.nvt", spelled(WRONG))
     for words in ("", "--effort 4294967295", "--effort=1000 --reads atomic", "--deallocated=either"):
-        run.expect(["nvq", "certify", *words.split(), "right.nvt"], out=EXPLAINED)
+        run.expect(["nvq", "certify", *words.split(), "right.nvt"], out=CERTIFIED)
         run.expect(["nvq", "certify", *words.split(), "wrong.nvt"], 2, out=CONTRADICTION)
     for reads in ("atomic", "atomic-all", "whole", "by-blocks"):
         for deallocated in ("zeroes", "ones", "either"):
             words, held = ["--reads", reads, "--deallocated", deallocated], f"reads {reads} deallocated {deallocated}"
-            run.expect(["nvq", "certify", *words, "right.nvt"], out=EXPLAINED.replace(PROFILE, held))
+            run.expect(["nvq", "certify", *words, "right.nvt"], out=CERTIFIED.replace(PROFILE, held))
             run.expect(["nvq", "certify", *words, "wrong.nvt"], 2, out=CONTRADICTION.replace(PROFILE, held))
-    run.expect(["nvq", "certify", "-"], given=spelled(TRACE), out=EXPLAINED)
+    run.expect(["nvq", "certify", "-"], given=spelled(TRACE), out=CERTIFIED)
     run.expect(["nvq", "certify", "--json", "right.nvt"], out=EXPLAINED_OBJECT)
     run.expect(["nvq", "certify", "--json", "wrong.nvt"], 2, out=CONTRADICTION_OBJECT)
     run.expect(["nvq", "certify", "--json", "--evidence", "object.nve", "-"], given=spelled(TRACE), out=EXPLAINED_OBJECT)
@@ -345,7 +381,7 @@ def words_of_certify(run):
 
 TABLES = [lists, wrong_lists, words_of_nvq, listings, listed_objects, lists_run, lists_expected, objects_run, lists_generated, explained, outs_of_nvq, words_of_nvmu, files_of_nvmu, files_that_stop, several_workers]
 TABLES += [versions, standard_input, files_of_another_kind, outs_that_are_read]
-TABLES += [traces, words_of_certify, contradictions, devices, outs_of_nvmu, shown_nowhere, progress, runs, rows, crowds, entries, forged, spoiled, faulty, two_owners, unbuilt]
+TABLES += [traces, words_of_certify, texts_of_traces, contradictions, devices, outs_of_nvmu, shown_nowhere, progress, runs, rows, crowds, entries, forged, spoiled, faulty, two_owners, unbuilt]
 
 
 # What a table runs that runs something else than both programs for people.

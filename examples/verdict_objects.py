@@ -4,7 +4,12 @@ The object has all that the text says, so the one must give the other to the byt
 """
 
 import json
+import os
 import re
+import sys
+
+sys.path.insert(0, os.path.join(os.path.dirname(os.path.abspath(__file__)), "..", "sweep"))
+from trace_files import together_line
 
 PROFILE = ("reads", "deallocated")
 # The members of each fact behind its name, and behind its order.
@@ -109,7 +114,8 @@ def text_of(printed):
     told = json.loads(printed)
     verdict = told.pop("verdict")
     if verdict == "explained":
-        return f"explained{numbers(told, ('jobs', 'points', *PROFILE))}\n"
+        line = together_line(told.pop("together")) if list(told)[2] == "together" else ""
+        return f"explained{numbers(told, ('jobs', 'points', *PROFILE))}\n{line}"
     if verdict == "unknown":
         stop, why = told.pop("stop"), told.pop("why")
         held(stop, STOPS[why])

@@ -71,6 +71,13 @@ static bool is_same_file(const char *name, const uint8_t *bytes, size_t size)
     return file && file->size == size && (size == 0 || memcmp(file->bytes, bytes, size) == 0);
 }
 
+/* The text's first line. */
+static struct text first_line(struct text text)
+{
+    const char *end = memchr(text.bytes, '\n', text.size);
+    return (struct text) { text.bytes, end ? (size_t) (end - text.bytes) + 1 : text.size };
+}
+
 /* What comes after the text's first line. */
 static struct text after_first_line(struct text text)
 {
@@ -97,7 +104,7 @@ static int certify(struct profile profile)
     bool is_contradiction = status == 2 && strncmp(verdict.bytes, "contradiction job ", 18) != 0;
     hold(!!file_of("evidence") == (status == 0 || is_contradiction), "evidence is there exactly where an order or a contradiction is");
     if (status == 0)
-        hold(begins(RAN(RIGHT, "explain", "in", "evidence"), verdict), "an order is told as certify says");
+        hold(begins(RAN(RIGHT, "explain", "in", "evidence"), first_line(verdict)), "an order is told as certify says");
     if (is_contradiction)
         hold(is_line_and(RAN(RIGHT, "explain", "in", "evidence"), after_first_line(verdict)), "a contradiction is told as certify says");
     if (status != 1) {

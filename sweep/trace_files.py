@@ -131,3 +131,17 @@ def with_seen(trace, number, **changed):
     jobs = list(trace.jobs)
     jobs[number] = replace(jobs[number], **changed)
     return replace(trace, jobs=tuple(jobs))
+
+
+def together(times):
+    """How many of the commands that began and ended at these times were under way together at most."""
+    return max((sum(began <= at and (ended is None or ended >= at) for began, ended in times) for at, _ in times), default=0)
+
+
+def together_line(count):
+    """What `nvq certify` says of that."""
+    return f"at most {count} commands were under way together\n" if count > 1 else "no two commands were under way together\n"
+
+
+def told_together(trace):
+    return together_line(together([(job.began, job.ended) for job in trace.jobs]))

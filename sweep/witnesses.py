@@ -1,6 +1,7 @@
 """Traces as the programs are swept with them: judged by records, made of text, and listed."""
 
 import os
+from dataclasses import replace
 
 from auditor import all_faults, verdict
 from cases import Run
@@ -11,7 +12,7 @@ from record_explaining import lawful_explanation
 from recorded import recorded
 from records import record_of as parsed
 from records import spelled as record_bytes
-from trace_files import Seen, Trace, in_turn, spelled, text_of, with_seen
+from trace_files import Seen, Trace, in_turn, spelled, text_of, told_together, with_seen
 
 RECORD = recorded(Namespace(nabsn=7), [file_of([write(0, 0x41), read(0, 1), *pair(compare(0, 0x41), write(0, 0x42)), zeroes(9, 2), read(7, 2)])])
 TRACE = in_turn(RECORD)
@@ -128,6 +129,7 @@ def judged(kept):
     cut, wrong = kept("cut-to-judge.nvr", record_bytes(RECORD)[:-1]), kept("wrong.nvt", spelled(with_seen(TRACE, 1, data=b"\x42" * 512)))
     unlawful = bytearray(record_bytes(RECORD))
     unlawful[-1] ^= 1
+    nobody = kept("nobody.nve", NOBODY)
 
     def done(name, words, out, status=0):
         return Run(name, "nvq", words, status, out=out, units=UNITS)
@@ -140,6 +142,8 @@ def judged(kept):
         done("an object of an audit by nvq", ["audit", "--json", record], '{"verdict":"lawful","jobs":5,"units":%d,"changes":3,"refused":0}\n' % UNITS),
         done("a witness by nvq", ["witness", trace, record], f"explained jobs 5 units {UNITS} steps 6 excused 0 preparations 0\n"),
         done("a wrong trace by nvq", ["witness", wrong, record], "unexplained ReplyDiffers job 1 unit - place -\n", 2),
+        Run("a trace that an order explains, to nvq", "nvq", ["witness", kept("keeping.nvt", spelled(KEEPING)), kept("keeping.nve", ORDER)], out=ORDERED),
+        Run("a contradiction for an order, to nvq", "nvq", ["witness", kept("stale.nvt", spelled(STALE)), nobody], 1, err=told(f"nvq: {nobody}: bad value at 4", f"{nobody} is a contradiction: nvmu refute TRACE {nobody} judges it, nvq explain TRACE {nobody} shows it")),
         Run("a cut record to audit", "nvq", ["audit", cut], 1, err=f"nvq: {cut}: truncated at {len(record_bytes(RECORD)) - 1024}\n"),
         Run("standard input named twice to judge", "nvq", ["witness", "-", "-"], 1, err="nvq: standard input is named twice\n"),
         Run("no record to audit", "nvq", ["audit"], 1),
@@ -196,7 +200,7 @@ def certified(kept):
     wrong, missing = with_seen(TRACE, 1, data=b"\x43" * 512), kept("certified.nvt", spelled(TRACE)) + "-missing"
     right, cut = kept("certified.nvt", spelled(TRACE)), kept("cut-to-certify.nvt", spelled(TRACE)[:-1])
     not_explained = kept("not-explained.nvt", spelled(wrong))
-    explained = f"explained jobs 5 points 5 {PROFILE}\n"
+    explained = f"explained jobs 5 points 5 {PROFILE}\n{told_together(TRACE)}"
     contradiction = f"contradiction commands 1 {PROFILE}\njob 1 {line_of(wrong, 1)}job 1 found in LBA 0 what nobody can have left there\n"
     contradiction_object = (
         f'{{"verdict":"contradiction","reads":"atomic","deallocated":"either","commands":[{{"job":1,"began":{wrong.jobs[1].began},"ended":{wrong.jobs[1].ended},"host":1,'
@@ -222,9 +226,10 @@ def certified(kept):
         "job 4 found in LBA 0 what nobody can have left there\n"
     )
     keeping, odd = kept("keeping.nvt", spelled(KEEPING)), kept("odd.nvt", spelled(odd_reply()))
-    ordered_object = '{"verdict":"explained","jobs":3,"points":2,"reads":"atomic","deallocated":"either"}\n'
+    ordered_object = '{"verdict":"explained","jobs":3,"points":2,"together":1,"reads":"atomic","deallocated":"either"}\n'
     odd_text = f"contradiction job 0\njob 0 {line_of(odd_reply(), 0)}no device may end a pair so: by the one status the comparison held, and by the other it didn't\n"
     odd_object = '{"verdict":"contradiction","rule":"wrong reply","job":0}\n'
+    walked = kept("walked.txt", text_of(replace(TRACE, jobs=())).encode() + b"walk\n")
     order, nobody, before = {"it": RIGHT_ORDER}, {"it": NOBODY}, {"it": b"old"}
 
     def done(name, trace, out, *words, status=0, **more):
@@ -237,6 +242,8 @@ def certified(kept):
         done("a trace that is explained", right, explained, "--evidence", "it", files=order),
         done("a trace that is explained, and a file before", right, explained, "--evidence", "it", files=order, before=before),
         done("a trace that is explained, read from standard input", "-", explained, input=right),
+        done("a trace's text that is explained", kept("certified.txt", text_of(TRACE).encode()), explained),
+        fault("a wrong line of a trace's text", "line 2: expected a time from 1 at which it began", walked, hint=the_line("walk")),
         done("a trace that nothing explains", not_explained, contradiction, status=2),
         done("a contradiction that nothing explains a trace", not_explained, contradiction, "--evidence", "it", status=2, files=nobody),
         done("a contradiction, and a file before", not_explained, contradiction, "--evidence", "it", status=2, files=nobody, before=before),
@@ -245,7 +252,7 @@ def certified(kept):
         done("a trace of which neither is found", kept("unsettled.nvt", spelled(UNSETTLED)), unsettled, "--evidence", "it", status=3, before=before),
         done("an object of a trace of which neither is found", kept("unsettled.nvt", spelled(UNSETTLED)), unsettled_object, "--json", status=3),
         done("an object of a trace that nothing explains", not_explained, contradiction_object, "--json", status=2),
-        done("a trace that an order explains, by nvq", keeping, ORDERED, "--evidence", "it", files={"it": ORDER}),
+        done("a trace that an order explains, by nvq", keeping, ORDERED + told_together(KEEPING), "--evidence", "it", files={"it": ORDER}),
         done("an object of a trace that an order explains", keeping, ordered_object, "--json"),
         done("a reply that is wrong by itself", odd, odd_text, status=2),
         done("an object of a reply that is wrong by itself", odd, odd_object, "--json", status=2),

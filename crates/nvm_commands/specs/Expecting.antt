@@ -1,6 +1,5 @@
 -- Why the expectations of a list can't be read, and what is printed of those of a run.
-use Rattle.std.specs.Prelude.{◌≡◌, ℕ, nat_lt, if◌then◌else◌, Bool, true, false, List, Option, Some, None, Err, length, string_bytes}
-use Rattle.std.specs.List.{Contains}
+use Rattle.std.specs.Prelude.{◌≡◌, ◌⊎◌, ℕ, nat_lt, if◌then◌else◌, Bool, true, false, List, Option, Some, None, Err, length, string_bytes}
 use Rattle.nvm_audit.specs.LawfulRecord.{IsLawfulRecord}
 use Rattle.nvm_audit.specs.RecordView.{RecordView}
 use Rattle.nvm_expect.specs.CheckText.{checks_text, unmet_count}
@@ -8,6 +7,7 @@ use Rattle.nvm_expect.specs.Checks.{Lists, AreChecksOf}
 use Rattle.nvm_expect.specs.Expectations.{expectations}
 use Rattle.nvm_expect.specs.declared.check.Check.{Check}
 use Rattle.nvm_expect.specs.declared.fault.ExpectationFault.TheVariants.{Line}
+use Rattle.nvm_commands.specs.Paths.{IsOfOne}
 use Rattle.nvm_commands.specs.declared.checked.Checked.{Checked}
 use Rattle.nvm_commands.specs.declared.fault.Fault.{Fault}
 use Rattle.nvm_commands.specs.declared.fault.Fault.TheVariants.{Expectation, NoMemory}
@@ -20,10 +20,8 @@ IsExpectationFault path list fault = ⊥
 
 -- The same of a list at one of these paths.
 abbrev pub IsExpectingFault : List (List ℕ) → Fault → Type 0
-IsExpectingFault paths (Expectation shown line expected) =
-    Contains paths (string_bytes shown) × ((list : List ℕ) × (expectations list ≡ Err (Line line expected)))
-IsExpectingFault paths NoMemory = Unit {0}
-IsExpectingFault paths fault = ⊥
+IsExpectingFault paths fault =
+    (fault ≡ NoMemory) ⊎ IsOfOne (λ path of. (list : List ℕ) × IsExpectationFault path list of) paths fault
 
 -- What is printed is the text of the expectations of the lists, beside the statuses of the record.
 pub record IsCheckedOf (lists : Lists) (r : RecordView) (told : Checked) : Type 0 where

@@ -1,5 +1,5 @@
 -- The faults of lists, of host files and of records, as the program prints them.
-use Rattle.std.specs.Prelude.{◌≡◌, ◌⊎◌, ℕ, String, List, Err, string_bytes}
+use Rattle.std.specs.Prelude.{◌≡◌, ◌⊎◌, ℕ, Bool, true, false, String, List, Err, string_bytes}
 use Rattle.std.specs.Global.{Global}
 use Rattle.nvm_record.specs.declared.host_fault.HostFault.{HostFault}
 use Rattle.nvm_record.specs.declared.host_fault.HostFault.TheVariants as of_file
@@ -18,6 +18,7 @@ use Rattle.nvm_file.specs.declared.trace_file_fault.TraceFileFault.TheVariants a
 use Rattle.nvm_trace_text.specs.Texts.{IsTextFault}
 use Rattle.nvm_trace_text.specs.declared.fault.TextFault.{TextFault}
 use Rattle.nvm_trace_text.specs.declared.fault.TextFault.TheVariants as of_text
+use Rattle.nvm_commands.specs.Traced.{begins_as_file}
 use Rattle.nvm_commands.specs.declared.fault.Fault.{Fault}
 use Rattle.nvm_commands.specs.declared.fault.Fault.TheVariants.{Line, TraceLine, NoHead, BadName, Truncated, TooMany, UnknownVersion, Trailing, BadValue, BeganAtZero, EndedBefore, NoMemory}
 
@@ -74,10 +75,6 @@ IsFaultOfText text e = ((f : TextFault) × IsTextFault text f × (e ≡ fault_of
 abbrev pub IsFaultOfTrace : String Global → List ℕ → Fault → Type 0
 IsFaultOfTrace path file e = ((f : TraceFileFault) × (trace_at file ≡ Err f) × (e ≡ fault_of_trace path f)) ⊎ (e ≡ NoMemory)
 
--- The same of the file at a path whose bytes are these.
-abbrev pub IsFaultOfTraceAt : List ℕ → Fault → Type 0
-IsFaultOfTraceAt path e = (shown : String Global) × (string_bytes shown ≡ path) × ((file : List ℕ) × IsFaultOfTrace shown file e)
-
 -- The fault of a list, or want of memory.
 abbrev pub IsFaultOfList : ℕ → List ℕ → Fault → Type 0
 IsFaultOfList size list e = ((f : ListFault) × (commands size list ≡ Err f) × (e ≡ fault_of_list f)) ⊎ (e ≡ NoMemory)
@@ -90,17 +87,26 @@ IsFaultOfFile path size file e = (f : HostFault) × IsAnsweredFault size file f 
 abbrev pub IsFaultOfRecord : String Global → List ℕ → Fault → Type 0
 IsFaultOfRecord path file e = ((f : RecordFault) × (record_at file ≡ Err f) × (e ≡ fault_of_record path f)) ⊎ (e ≡ NoMemory)
 
--- The same of the file at a path whose bytes are these.
-abbrev pub IsFaultOfRecordAt : List ℕ → Fault → Type 0
-IsFaultOfRecordAt path e = (shown : String Global) × (string_bytes shown ≡ path) × ((file : List ℕ) × IsFaultOfRecord shown file e)
-
 -- Want of memory, or else the first fault of the record in the file at this path, which has these bytes.
 abbrev pub IsFaultOfRecordIn : List ℕ → List ℕ → Fault → Type 0
 IsFaultOfRecordIn path file e = (e ≡ NoMemory) ⊎ ((shown : String Global) × (string_bytes shown ≡ path) × IsFaultOfRecord shown file e)
 
--- The same of a trace.
+-- The same of some file.
+abbrev pub IsFaultOfRecordAt : List ℕ → Fault → Type 0
+IsFaultOfRecordAt path e = (file : List ℕ) × IsFaultOfRecordIn path file e
+
+-- Want of memory, or else the first fault of the trace's file at this path, or of its text.
+abbrev pub IsFaultOfTraceAs : Bool → List ℕ → List ℕ → Fault → Type 0
+IsFaultOfTraceAs true path bytes e = (e ≡ NoMemory) ⊎ ((shown : String Global) × (string_bytes shown ≡ path) × IsFaultOfTrace shown bytes e)
+IsFaultOfTraceAs false path bytes e = IsFaultOfText bytes e
+
+-- The same of the trace that these bytes, which were read from this path, should say.
 abbrev pub IsFaultOfTraceIn : List ℕ → List ℕ → Fault → Type 0
-IsFaultOfTraceIn path file e = (e ≡ NoMemory) ⊎ ((shown : String Global) × (string_bytes shown ≡ path) × IsFaultOfTrace shown file e)
+IsFaultOfTraceIn path bytes e = IsFaultOfTraceAs (begins_as_file bytes) path bytes e
+
+-- The same of some bytes.
+abbrev pub IsFaultOfTraceAt : List ℕ → Fault → Type 0
+IsFaultOfTraceAt path e = (bytes : List ℕ) × IsFaultOfTraceIn path bytes e
 
 -- Want of memory, or else a fault of the order or the contradiction at this path.
 abbrev pub IsFaultOfEvidenceAt : List ℕ → Fault → Type 0

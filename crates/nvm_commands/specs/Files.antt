@@ -1,11 +1,11 @@
 -- Why a file wasn't read, or not written.
 use Rattle.std.specs.Prelude.{◌≡◌, ◌⊎◌, ℕ, String, List, codes, string_bytes}
 use Rattle.std.specs.Global.{Global}
-use Rattle.std.specs.List.{Contains}
 use Rattle.nvm_expect.specs.Expectations.{without_expectations}
 use Rattle.nvm_commands.specs.Expecting.{IsExpectationFault}
 use Rattle.nvm_commands.specs.Fault.{IsFaultOfList, IsFaultOfText}
 use Rattle.nvm_commands.specs.Listed.{IsListFault}
+use Rattle.nvm_commands.specs.Paths.{IsOfOne}
 use Rattle.nvm_commands.specs.declared.fault.Fault.{Fault}
 use Rattle.nvm_commands.specs.declared.fault.Fault.TheVariants.{CannotRead, CannotWrite, NoMemory}
 
@@ -17,9 +17,7 @@ IsReadFault path fault = ⊥
 
 -- It is the fault of the file at one of these paths, or memory was refused.
 abbrev pub IsReadingFault : List (List ℕ) → Fault → Type 0
-IsReadingFault paths (CannotRead shown) = Contains paths (string_bytes shown)
-IsReadingFault paths NoMemory = Unit {0}
-IsReadingFault paths fault = ⊥
+IsReadingFault paths fault = (fault ≡ NoMemory) ⊎ IsOfOne IsReadFault paths fault
 
 -- The file at this path couldn't be written, or memory was refused.
 abbrev pub IsWriteFault : List ℕ → Fault → Type 0
@@ -29,9 +27,7 @@ IsWriteFault path fault = ⊥
 
 -- A file at one of these paths couldn't be written, or memory was refused.
 abbrev pub IsWritingFault : List (List ℕ) → Fault → Type 0
-IsWritingFault paths (CannotWrite shown) = Contains paths (string_bytes shown)
-IsWritingFault paths NoMemory = Unit {0}
-IsWritingFault paths fault = ⊥
+IsWritingFault paths fault = (fault ≡ NoMemory) ⊎ IsOfOne IsWriteFault paths fault
 
 -- The list at this path couldn't be read, or else it is its first wrong expectation, or else the first fault of a list, or else the
 -- host file couldn't be written to `out`.

@@ -1,3 +1,4 @@
+pub mod Asked
 pub mod Audited
 pub mod Certified
 pub mod Explained
@@ -7,7 +8,9 @@ pub mod Files
 pub mod Generated
 pub mod Listed
 pub mod Nvmu
+pub mod Paths
 pub mod Ran
 pub mod RunFaults
 pub mod ToldRun
+pub mod Traced
 pub mod Words

@@ -1,5 +1,4 @@
 pub mod Words
-pub mod Files
 pub mod Runs
 pub mod Judged
 pub mod Answer

@@ -1,18 +1,21 @@
-//! `nvq audit` and `nvq witness`: whether a record is lawful, and whether it explains a trace. Each prints one line, but for
+//! `nvq audit` and `nvq witness`: whether a record is lawful, and whether it, or an order, explains a trace. Each prints one line, but for
 //! `nvq audit --all`, which prints one for each unit in which something is wrong.
 ghost use Rattle.std.specs.Prelude.{◌≡◌, ◌⊎◌, IfOk, IfErr};
 ghost use Rattle.nvm_engine.specs.VerdictLine.{answer_line};
-ghost use Rattle.nvm_commands.specs.Audited.{AreFaultsOfFile, AreWitnessedFiles, answer_told, IsAuditedFile, IsAuditingFault, IsUnwitnessed, IsWitnessingFault};
-ghost use Rattle.nvm_commands.specs.Fault.{IsFaultOfRecordAt};
+ghost use Rattle.nvm_commands.specs.Audited.{AreFaultsOfFile, AreWitnessedFiles, answer_told, IsAuditedFile, IsAuditingFault, IsToldByOrder, IsToldByRecord, IsUnwitnessed, IsWitnessedTrace, IsWitnessingFault};
+ghost use Rattle.nvm_commands.specs.Fault.{IsFaultOfEvidenceAt, IsFaultOfRecordAt, IsFaultOfRecordIn};
 ghost use Rattle.nvm_commands.specs.Files.{IsReadFault};
 
 use crate::failure::Failure;
-use crate::files::{check_apart, read_as_record, read_as_trace, write_bytes};
+use crate::files::{
+    check_apart, order_in, payload_of, read_as_record, read_as_trace, record_in, write_bytes,
+};
 use nvm_engine::{Judged, judge_watched, witness_record};
-use nvm_front::{Progress, STANDARD, Telling};
+use nvm_evidence::{is_evidence, witness_order};
+use nvm_front::{InputKind, Progress, STANDARD, Telling};
 use nvm_listing::{all_faults, list_faults};
-use nvm_record::NoMemory;
-use nvm_trace::Judging;
+use nvm_record::{NoMemory, Payload};
+use nvm_trace::{Judging, Trace};
 use std::alloc::{AllocError, Global};
 use std::rt::Files;
 use std::thread::Threads;
@@ -24,7 +27,7 @@ pub struct AuditedRecord {
     pub status: u8,
 }
 
-/// What a witness answers of a trace and a record, and the exit status.
+/// What a witness answers of a trace and a record or an order, and the exit status.
 #[derive(Drop)]
 pub struct WitnessedTrace {
     pub line: String,
@@ -112,7 +115,7 @@ fn line_of(alloc: Global, judged: &Judged) -> Result<Vec<u8>, NoMemory>
     }
 }
 
-/// Judges the trace at a path by the record at another, prints the line of that, and gives the exit status. The two can't both be
+/// Judges the trace at a path by the record or the order at another, prints the line of that, and gives the exit status. The two can't both be
 /// standard input.
 pub fn run_witness<R: AllocGlobal + Files + Input + Print + Eprint + Threads + Sync>(
     rt: &R,
@@ -128,7 +131,7 @@ pub fn run_witness<R: AllocGlobal + Files + Input + Print + Eprint + Threads + S
     Ok(status)
 }
 
-/// What a witness answers of the trace at a path and the record at another.
+/// What a witness answers of the trace at a path, and of the record or the order at another.
 fn witnessed<R: AllocGlobal + Files + Input + Eprint + Threads + Sync>(
     rt: &R,
     judging: Judging,
@@ -141,9 +144,55 @@ fn witnessed<R: AllocGlobal + Files + Input + Eprint + Threads + Sync>(
 {
     check_apart(trace, record)?;
     let seen = read_as_trace(rt, trace, progress)?;
-    let held = read_as_record(rt, record, progress)?;
-    let witnessed = witness_record(rt, rt.alloc(), judging, &seen, &held)?;
+    let held = payload_of(rt, InputKind::File, record, progress)?;
+    witnessed_by(rt, judging, &seen, record, &held)
+}
+
+/// What is answered of the trace by the record or the order in the bytes of a file that was read from a path. An order isn't judged strictly.
+fn witnessed_by<R: AllocGlobal + Threads + Sync>(
+    rt: &R,
+    judging: Judging,
+    seen: &Trace,
+    path: &str,
+    held: &Payload,
+) -> Result<WitnessedTrace, Failure>
+    ensures witnessed { IfOk result (IsWitnessedTrace judging «seen».now held.now) }
+    ensures fault { IfErr result (λ failure. IsFaultOfRecordIn path.now held.now failure.fault ⊎ IsFaultOfEvidenceAt path.now failure.fault) }
+{
+    match judging {
+        Judging::Standard if is_evidence(held.as_slice()) => {
+            by_order(rt.alloc(), seen, path, held.as_slice())
+        }
+        _ => by_record(rt, judging, seen, path, held),
+    }
+}
+
+/// What is answered of the trace by the record in the bytes of a file that was read from a path.
+fn by_record<R: AllocGlobal + Threads + Sync>(
+    rt: &R,
+    judging: Judging,
+    seen: &Trace,
+    path: &str,
+    held: &Payload,
+) -> Result<WitnessedTrace, Failure>
+    ensures witnessed { IfOk result (IsToldByRecord judging «seen».now held.now) }
+    ensures fault { IfErr result (λ failure. IsFaultOfRecordIn path.now held.now failure.fault) }
+{
+    let held = record_in(rt.alloc(), path, held)?;
+    let witnessed = witness_record(rt, rt.alloc(), judging, seen, &held)?;
     let line = witnessed.line(rt.alloc())?;
     let status = witnessed.status();
+    Ok(WitnessedTrace { line, status })
+}
+
+/// What is answered of the trace by the order in the bytes of a file that was read from a path.
+fn by_order(alloc: Global, seen: &Trace, path: &str, held: &[u8]) -> Result<WitnessedTrace, Failure>
+    ensures witnessed { IfOk result (IsToldByOrder «seen».now) }
+    ensures fault { IfErr result (λ failure. IsFaultOfEvidenceAt path.now failure.fault) }
+{
+    let held = order_in(alloc, path, held)?;
+    let ordered = witness_order(alloc, seen, &held)?;
+    let line = ordered.line(alloc)?;
+    let status = ordered.status();
     Ok(WitnessedTrace { line, status })
 }

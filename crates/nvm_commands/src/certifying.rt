@@ -1,5 +1,6 @@
 //! `nvq certify`: an order of points that explains a trace, or a contradiction that nothing does.
 ghost use Rattle.std.specs.Prelude.{◌≡◌, ◌⊎◌, IfOk, IfErr, Some, string_bytes};
+ghost use Rattle.nvm_commands.specs.Asked.{profile_asked};
 ghost use Rattle.nvm_commands.specs.Certified.{IsCertifiedFile, IsCertifyingFault, IsEvidenceFault, IsToldOf};
 ghost use Rattle.nvm_commands.specs.Fault.{IsFaultOfTraceAt};
 ghost use Rattle.nvm_commands.specs.Files.{IsReadFault, IsWriteFault};
@@ -7,6 +8,7 @@ ghost use Rattle.nvm_judge.specs.Contradicted.{IsContradictedBy};
 ghost use Rattle.nvm_judge.specs.Explained.{IsExplainedBy};
 ghost use Rattle.nvm_orders.specs.OrderView.{seen_order};
 ghost use Rattle.nvm_points.specs.Table.{first_wrong};
+ghost use Rattle.nvm_points.specs.declared.profile.Profile.{Profile};
 ghost use Rattle.nvm_trace.specs.TraceView.{TraceView};
 
 use crate::certifying_words::CertifyWords;
@@ -16,7 +18,8 @@ use crate::files::{check_no_lines, check_output, read_as_trace, write_bytes};
 use nvm_contradiction::Contradiction;
 use nvm_evidence::{
     OrderNumbers, contradiction_object, contradiction_text, explained_object, explained_text,
-    unknown_object, unknown_text, write_contradiction, write_order, wrong_object, wrong_text,
+    most_together, unknown_object, unknown_text, write_contradiction, write_order, wrong_object,
+    wrong_text,
 };
 use nvm_front::{Progress, STANDARD, Telling};
 use nvm_judge::{Judgment, Stop, judge};
@@ -106,7 +109,7 @@ fn certified<R: AllocGlobal + Files + Input + Eprint>(
     words: &CertifyWords,
     progress: &Progress<'_, R>,
 ) -> Result<CertifiedTrace, Failure>
-    ensures certified { IfOk result IsCertifiedFile }
+    ensures certified { IfOk result (IsCertifiedFile words.now) }
     ensures fault { IfErr result (λ failure. IsReadFault (string_bytes words.now.trace) failure.fault
         ⊎ IsFaultOfTraceAt (string_bytes words.now.trace) failure.fault) }
 {
@@ -116,7 +119,7 @@ fn certified<R: AllocGlobal + Files + Input + Eprint>(
 
 /// What is found out about the trace.
 fn found(alloc: Global, words: &CertifyWords, trace: &Trace) -> Result<CertifiedTrace, NoMemory>
-    ensures { IfOk result (IsToldOf «trace».now) }
+    ensures { IfOk result (IsToldOf (profile_asked words.now «trace».now) «trace».now) }
 {
     let profile = words.profile(trace);
     match judge(alloc, trace, profile, words.effort)? {
@@ -138,16 +141,17 @@ fn by_order(
     order: &Order<'_>,
 ) -> Result<CertifiedTrace, NoMemory>
     requires { IsExplainedBy «trace».now profile (seen_order order.now) }
-    ensures { IfOk result (IsToldOf «trace».now) }
+    ensures { IfOk result (IsToldOf profile «trace».now) }
 {
     let numbers = OrderNumbers {
         jobs: trace.jobs.len(),
         points: order.placed.len(),
         profile,
     };
+    let together = most_together(alloc, trace)?;
     let text = match telling {
-        Telling::Lines => explained_text(alloc, numbers)?,
-        Telling::Object => explained_object(alloc, numbers)?,
+        Telling::Lines => explained_text(alloc, numbers, together)?,
+        Telling::Object => explained_object(alloc, numbers, together)?,
     };
     let file = write_order(alloc, profile, order)?;
     Ok(CertifiedTrace {
@@ -167,7 +171,7 @@ fn by_contradiction(
     contradiction: &Contradiction,
 ) -> Result<CertifiedTrace, NoMemory>
     requires { IsContradictedBy «trace».now profile contradiction.now }
-    ensures { IfOk result (IsToldOf «trace».now) }
+    ensures { IfOk result (IsToldOf profile «trace».now) }
 {
     let text = match telling {
         Telling::Lines => contradiction_text(alloc, trace, profile, contradiction)?,
@@ -190,7 +194,7 @@ fn by_reply(
     command: u32,
 ) -> Result<CertifiedTrace, NoMemory>
     requires { first_wrong «trace».now.jobs ≡ Some command }
-    ensures { IfOk result (IsToldOf «trace».now) }
+    ensures { (asked : Profile) → IfOk result (IsToldOf asked «trace».now) }
 {
     let text = match telling {
         Telling::Lines => wrong_text(alloc, trace, command)?,
@@ -211,7 +215,7 @@ fn by_nothing(
     profile: Profile,
     stop: Stop,
 ) -> Result<CertifiedTrace, NoMemory>
-    ensures { (t : TraceView) → IfOk result (IsToldOf t) }
+    ensures { (asked : Profile) (t : TraceView) → IfOk result (IsToldOf asked t) }
 {
     let text = match telling {
         Telling::Lines => unknown_text(alloc, profile, stop)?,

@@ -1,4 +1,7 @@
 //! The words of `nvq certify`.
+ghost use Rattle.std.specs.Prelude.{◌≡◌};
+ghost use Rattle.nvm_commands.specs.Asked.{profile_asked};
+
 use clap::{Arg, ArgMatches, Command, Error};
 use nvm_front::{
     Telling, WordFault, json, number_of_32_bits, number_option, path_given, path_option,
@@ -26,7 +29,9 @@ pub struct CertifyWords {
 
 impl CertifyWords {
     /// What the device of the trace is held to.
-    pub fn profile(&self, trace: &Trace) -> Profile {
+    pub fn profile(&self, trace: &Trace) -> Profile
+        ensures { result ≡ profile_asked self.now «trace».now }
+    {
         let said = profile_of(trace);
         let held = match self.reads {
             Some(held) => held,
@@ -40,27 +45,24 @@ impl CertifyWords {
     }
 }
 
-/// What the words say, or `None` where a value is missing.
-pub fn read_certify(
-    alloc: Global,
-    words: &ArgMatches<'_>,
-) -> Result<Option<CertifyWords>, WordFault> {
+/// What the words say.
+pub fn read_certify(alloc: Global, words: &ArgMatches<'_>) -> Result<CertifyWords, WordFault> {
     let (Some(effort), Some(trace)) = (
         number_of_32_bits(alloc, words, "effort")?,
         words.get_str("trace"),
     ) else {
-        return Ok(None);
+        return Err(WordFault::Missing);
     };
     let evidence = path_given(alloc, words, "evidence")?;
     let trace = String::from_str(alloc, trace)?;
-    Ok(Some(CertifyWords {
+    Ok(CertifyWords {
         telling: telling_of(words),
         effort,
         reads: reads_of(words),
         deallocated: deallocated_of(words),
         evidence,
         trace,
-    }))
+    })
 }
 
 /// What the device is to hold Reads to, if the words say so.
@@ -128,7 +130,7 @@ pub fn certify_command<'a>(alloc: Global) -> Result<Command<'a>, Error> {
             "Says whether a device may answer as in a trace: an order of points explains it, or a contradiction shows that nothing does",
         )
         .after_help(
-            "Orders and contradictions hold a device to what the standard promises, and to nothing more. Each is checked before it is told.",
+            "TRACE is a trace's file or its text. Orders and contradictions hold a device to what the standard promises, and to nothing more. Each is checked before it is told.",
         );
     Ok(
         command

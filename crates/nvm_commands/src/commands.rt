@@ -6,7 +6,7 @@ use crate::certifying::run_certify;
 use crate::conversion::{file_of, list_of};
 use crate::explaining::run_explain;
 use crate::failure::{Failure, of_file};
-use crate::files::{bytes_of, check_output, unwritten, write_bytes};
+use crate::files::{bytes_of, check_output, payload_of, unwritten, write_bytes};
 use crate::generating::run_generate;
 use crate::hint::refusal;
 use crate::list_failure::of_commands;
@@ -16,7 +16,7 @@ use crate::running::run_lists;
 use crate::tracing::run_trace;
 use crate::words::{Asked, read_words};
 use nvm_front::{InputKind, Progress, WordFault, failed, tell, texts_of, words_given};
-use nvm_record::{BlockSize, Payload};
+use nvm_record::BlockSize;
 use std::rt::{Env, Files};
 use std::sync::Wait;
 use std::thread::Threads;
@@ -118,10 +118,7 @@ fn run_list<R: AllocGlobal + Files + Input + Print + Eprint>(
 ) -> Result<(), Failure>
     ensures { IfErr result (λ failure. IsListingFault size (string_bytes file) failure.fault) }
 {
-    let bytes = Payload::new(
-        rt.alloc(),
-        bytes_of(rt, InputKind::File, file.as_str(), progress)?,
-    )?;
+    let bytes = payload_of(rt, InputKind::File, file.as_str(), progress)?;
     let path = String::from_str(rt.alloc(), file.as_str())?;
     match list_of(rt.alloc(), path, &bytes, size) {
         Ok(text) => write_bytes(rt, "-", text.as_bytes(), progress),

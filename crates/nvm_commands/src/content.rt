@@ -1,4 +1,5 @@
 use nvm_evidence::is_evidence;
+use nvm_list::{first_word, without_comment};
 
 /// What a file's bytes look like, by their front.
 #[derive(Clone, Copy, Debug, PartialEq, Eq)]
@@ -15,7 +16,11 @@ pub enum Content {
     Order,
     /// A contradiction, `NVE1` and a byte 2.
     Contradiction,
-    /// Text, as a command list is.
+    /// The text of a trace, by its first word.
+    TraceText,
+    /// A command list, by its first word.
+    List,
+    /// Other text.
     Text,
     /// None of these.
     Unknown,
@@ -44,11 +49,34 @@ impl Content {
         } else if is_evidence(front) {
             Content::Order
         } else if front.len() >= NAME && front.iter().all(|byte| is_of_text(*byte)) {
-            Content::Text
+            Content::of_text(first_word_of(front))
         } else {
             Content::Unknown
         }
     }
+
+    /// What a text with this first word looks like.
+    fn of_text(word: &[u8]) -> Content {
+        match word {
+            b"trace" => Content::TraceText,
+            b"write" | b"read" | b"compare" | b"zeroes" | b"uncorrectable" | b"dataset" => {
+                Content::List
+            }
+            _ if word.starts_with(b"op-") => Content::List,
+            _ => Content::Text,
+        }
+    }
+}
+
+/// The first word of a text that is in no comment, which is empty where there is none.
+fn first_word_of(text: &[u8]) -> &[u8] {
+    for line in text.split(|byte| *byte == b'\n') {
+        let (word, _) = first_word(without_comment(line));
+        if !word.is_empty() {
+            return word;
+        }
+    }
+    b""
 }
 
 /// Whether a byte can be in text: no control character but tab, line feed and carriage return.

@@ -1,5 +1,5 @@
 //! The words of the commands that convert a file: `nvq assemble`, `nvq trace` and `nvq list`.
-ghost use Rattle.std.specs.Prelude.{IfOk, IfSome};
+ghost use Rattle.std.specs.Prelude.{IfOk};
 ghost use Rattle.nvm_commands.specs.Words.{IsAsked};
 
 use crate::namespace_words::block;
@@ -8,46 +8,46 @@ use clap::{ArgMatches, Command, Error};
 use nvm_front::{WordFault, file_argument, flag, size_given};
 use std::alloc::Global;
 
-/// What `nvq assemble` is asked, or `None` where a value is missing.
-pub fn assemble_asked(alloc: Global, words: &ArgMatches<'_>) -> Result<Option<Asked>, WordFault>
-    ensures { IfOk result (λ asked. IfSome asked IsAsked) }
+/// What `nvq assemble` is asked.
+pub fn assemble_asked(alloc: Global, words: &ArgMatches<'_>) -> Result<Asked, WordFault>
+    ensures { IfOk result IsAsked }
 {
     let (Some(size), Some(list), Some(out)) = (
         size_given(alloc, words)?,
         words.get_str("list"),
         words.get_str("out"),
     ) else {
-        return Ok(None);
+        return Err(WordFault::Missing);
     };
     let list = String::from_str(alloc, list)?;
     let out = String::from_str(alloc, out)?;
-    Ok(Some(Asked::Assemble { size, list, out }))
+    Ok(Asked::Assemble { size, list, out })
 }
 
-/// What `nvq trace` is asked, or `None` where a path is missing.
-pub fn trace_asked(alloc: Global, words: &ArgMatches<'_>) -> Result<Option<Asked>, WordFault>
-    ensures { IfOk result (λ asked. IfSome asked IsAsked) }
+/// What `nvq trace` is asked.
+pub fn trace_asked(alloc: Global, words: &ArgMatches<'_>) -> Result<Asked, WordFault>
+    ensures { IfOk result IsAsked }
 {
     let (Some(text), Some(out)) = (words.get_str("text"), words.get_str("out")) else {
-        return Ok(None);
+        return Err(WordFault::Missing);
     };
     let text = String::from_str(alloc, text)?;
     let out = String::from_str(alloc, out)?;
-    Ok(Some(Asked::Trace { text, out }))
+    Ok(Asked::Trace { text, out })
 }
 
-/// What `nvq list` is asked, or `None` where a value is missing.
-pub fn list_asked(alloc: Global, words: &ArgMatches<'_>) -> Result<Option<Asked>, WordFault>
-    ensures { IfOk result (λ asked. IfSome asked IsAsked) }
+/// What `nvq list` is asked.
+pub fn list_asked(alloc: Global, words: &ArgMatches<'_>) -> Result<Asked, WordFault>
+    ensures { IfOk result IsAsked }
 {
     let (Some(size), Some(file)) = (size_given(alloc, words)?, words.get_str("file")) else {
-        return Ok(None);
+        return Err(WordFault::Missing);
     };
     let file = String::from_str(alloc, file)?;
     if words.get_flag("json") {
-        Ok(Some(Asked::ListObjects(file)))
+        Ok(Asked::ListObjects(file))
     } else {
-        Ok(Some(Asked::List { size, file }))
+        Ok(Asked::List { size, file })
     }
 }
 

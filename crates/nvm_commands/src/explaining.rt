@@ -1,13 +1,14 @@
 //! `nvq explain`: what is wrong with a record, or what there is in a lawful one; and what a record, an order or a contradiction says of a
 //! trace.
 ghost use Rattle.std.specs.Prelude.{◌⊎◌, IfErr};
-ghost use Rattle.nvm_commands.specs.Explained.{IsExplainingFault, IsStoryFault, IsUnjudged, IsUntold};
+ghost use Rattle.nvm_commands.specs.Audited.{IsUnwitnessed};
+ghost use Rattle.nvm_commands.specs.Explained.{IsExplainingFault, IsStoryFault, IsUntold};
 ghost use Rattle.nvm_commands.specs.Fault.{IsFaultOfEvidenceAt, IsFaultOfRecordAt, IsFaultOfRecordIn};
 ghost use Rattle.nvm_commands.specs.Files.{IsReadFault};
 
 use crate::explaining_words::ExplainWords;
 use crate::failure::Failure;
-use crate::files::{bytes_of, check_apart, evidence_in, record_in, trace_in, write_bytes};
+use crate::files::{check_apart, evidence_in, payload_of, record_in, trace_in, write_bytes};
 use nvm_evidence::{Evidence, contradiction_story, is_evidence, order_story};
 use nvm_explain::explain;
 use nvm_front::{InputKind, Progress, STANDARD};
@@ -56,7 +57,7 @@ fn record_explained<R: AllocGlobal + Files + Input + Eprint + Threads + Sync>(
 ) -> Result<String, Failure>
     ensures { IfErr result (λ failure. IsReadFault path.now failure.fault ⊎ IsFaultOfRecordAt path.now failure.fault) }
 {
-    let held = Payload::new(rt.alloc(), bytes_of(rt, InputKind::File, path, progress)?)?;
+    let held = payload_of(rt, InputKind::File, path, progress)?;
     explained_of(rt, path, &held, progress)
 }
 
@@ -68,14 +69,11 @@ fn trace_explained<R: AllocGlobal + Files + Input + Eprint + Threads + Sync>(
     evidence: &str,
     progress: &Progress<'_, R>,
 ) -> Result<String, Failure>
-    ensures { IfErr result (λ failure. IsUnjudged trace.now evidence.now failure.fault) }
+    ensures { IfErr result (λ failure. IsUnwitnessed trace.now evidence.now failure.fault) }
 {
     check_apart(trace, evidence)?;
-    let seen = Payload::new(rt.alloc(), bytes_of(rt, InputKind::File, trace, progress)?)?;
-    let held = Payload::new(
-        rt.alloc(),
-        bytes_of(rt, InputKind::File, evidence, progress)?,
-    )?;
+    let seen = payload_of(rt, InputKind::Text, trace, progress)?;
+    let held = payload_of(rt, InputKind::File, evidence, progress)?;
     story_of(rt, judging, trace, &seen, evidence, &held)
 }
 
@@ -92,8 +90,8 @@ fn explained_of<R: AllocGlobal + Eprint + Threads + Sync>(
     Ok(explain(rt, rt.alloc(), &run, progress)?)
 }
 
-/// The explanation of the trace in the bytes of a file that was read from a path, and of the record or the evidence in those of another; or
-/// the fault of the trace's file, or else of the other.
+/// The explanation of the trace that bytes say which were read from a path, and of the record or the evidence in those of another file; or
+/// the fault of the one, or else of the other.
 fn story_of<R: AllocGlobal + Threads + Sync>(
     rt: &R,
     judging: Judging,

@@ -19,24 +19,21 @@ pub enum ExplainWords {
     },
 }
 
-/// What the words say, or `None` where a path is missing. One path is a record's; of two the first is a trace's.
-pub fn read_explain(
-    alloc: Global,
-    words: &ArgMatches<'_>,
-) -> Result<Option<ExplainWords>, WordFault> {
+/// What the words say. One path is a record's; of two the first is a trace's.
+pub fn read_explain(alloc: Global, words: &ArgMatches<'_>) -> Result<ExplainWords, WordFault> {
     let Some(file) = words.get_str("file") else {
-        return Ok(None);
+        return Err(WordFault::Missing);
     };
     let file = String::from_str(alloc, file)?;
     let Some(evidence) = words.get_str("evidence") else {
-        return Ok(Some(ExplainWords::Record { record: file }));
+        return Ok(ExplainWords::Record { record: file });
     };
     let evidence = String::from_str(alloc, evidence)?;
-    Ok(Some(ExplainWords::Trace {
+    Ok(ExplainWords::Trace {
         judging: judging_of(words),
         trace: file,
         evidence,
-    }))
+    })
 }
 
 /// `nvq explain`.

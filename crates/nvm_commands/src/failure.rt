@@ -1,9 +1,11 @@
 ghost use Rattle.std.specs.Prelude.{◌≡◌};
 ghost use Rattle.nvm_commands.specs.declared.fault.Fault.TheVariants.{NoMemory};
 
+use crate::content::Content;
 use crate::fault::Fault;
 use crate::hint::{
-    VERSIONS, no_host_file, no_list, no_namespace, no_record, no_trace, other_block,
+    VERSIONS, no_host_file, no_list, no_namespace, no_record, no_trace, no_trace_text,
+    of_contradiction, other_block,
 };
 use nvm_record::{BlockSize, Payload};
 use nvm_where::field_told;
@@ -79,7 +81,9 @@ pub fn of_list(alloc: Global, fault: Fault, path: &str, list: &[u8]) -> Failure
     ensures { result.fault ≡ fault }
 {
     let hint = match fault {
-        Fault::Expectation { line, .. } => wrong_line(alloc, path, list, line),
+        Fault::Expectation { line, .. } => {
+            or_line(alloc, no_list(alloc, path, list), list, line)
+        }
         _ => Ok(None),
     };
     Failure::hinted(fault, hint)
@@ -145,21 +149,34 @@ pub fn of_text(alloc: Global, fault: Fault, path: &str, text: &[u8]) -> Failure
     ensures { result.fault ≡ fault }
 {
     let hint = match fault {
-        Fault::TraceLine { line, .. } => wrong_line(alloc, path, text, line),
+        Fault::TraceLine { line, .. } => {
+            or_line(alloc, no_trace_text(alloc, path, text), text, line)
+        }
+        _ => Ok(None),
+    };
+    Failure::hinted(fault, hint)
+}
+
+/// The failure of a file of evidence that was read from a path and should be an order.
+pub fn of_order(alloc: Global, fault: Fault, path: &str, file: &[u8]) -> Failure
+    ensures { result.fault ≡ fault }
+{
+    let hint = match Content::of(file) {
+        Content::Contradiction => of_contradiction(alloc, path).map(Some),
         _ => Ok(None),
     };
     Failure::hinted(fault, hint)
 }
 
 /// What helps where a line of text is wrong: what the file is instead, or else the line.
-fn wrong_line(
+fn or_line(
     alloc: Global,
-    path: &str,
-    list: &[u8],
+    instead: Result<Option<String>, AllocError>,
+    text: &[u8],
     line: u64,
 ) -> Result<Option<String>, AllocError> {
-    match no_list(alloc, path, list)? {
-        None => line_of(alloc, list, line),
+    match instead? {
+        None => line_of(alloc, text, line),
         told => Ok(told),
     }
 }

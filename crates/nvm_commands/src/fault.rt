@@ -2,7 +2,8 @@ ghost use Rattle.std.specs.Prelude.{◌≡◌};
 ghost use Rattle.nvm_commands.specs.declared.fault.Fault.TheVariants.{NoMemory};
 ghost use Rattle.nvm_commands.specs.Fault.{fault_of_list, fault_of_file, fault_of_evidence, fault_of_record, fault_of_text, fault_of_trace};
 
-use nvm_evidence::EvidenceFault;
+use nvm_engine::Fault as EngineFault;
+use nvm_evidence::{EvidenceFault, OrderWitnessFault, RefuteBytesFault};
 use nvm_expect::Expected as Unexpected;
 use nvm_file::{RecordFault, TraceFileFault};
 use nvm_geometry::GeometryFault;
@@ -114,6 +115,15 @@ pub enum Fault {
         path: String,
         at: u64,
     },
+    /// What the engine says to `nvmu`: the options, a host file, a record or a trace isn't one, or memory was refused.
+    #[error("{0}")]
+    Engine(EngineFault),
+    /// What an order's witness says to `nvmu`: a trace or an order isn't one, or memory was refused.
+    #[error("{0}")]
+    Order(OrderWitnessFault),
+    /// What `nvmu` is told of a contradiction: a trace or a contradiction isn't one, or memory was refused.
+    #[error("{0}")]
+    Refute(RefuteBytesFault),
     /// Memory was asked for and refused.
     #[error("no memory")]
     NoMemory,

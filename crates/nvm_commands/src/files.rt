@@ -1,22 +1,25 @@
-ghost use Rattle.std.specs.Prelude.{◌≡◌, ◌⊎◌, ℕ, List, Ok, IfOk, IfErr};
+ghost use Rattle.std.specs.Prelude.{◌≡◌, ◌⊎◌, ℕ, true, List, Ok, IfOk, IfErr};
 ghost use Rattle.nvm_file.specs.Reading.{record_at};
 ghost use Rattle.nvm_file.specs.TraceFile.{IsTraceFile};
 ghost use Rattle.nvm_commands.specs.Audited.{IsInputTwice};
-ghost use Rattle.nvm_commands.specs.Fault.{IsFaultOfEvidenceAt, IsFaultOfRecordAt, IsFaultOfRecordIn, IsFaultOfTraceAt, IsFaultOfTraceIn};
+ghost use Rattle.nvm_trace_text.specs.Texts.{IsTextOf};
+ghost use Rattle.nvm_commands.specs.Fault.{IsFaultOfEvidenceAt, IsFaultOfRecordAt, IsFaultOfRecordIn, IsFaultOfText, IsFaultOfTraceAs, IsFaultOfTraceAt, IsFaultOfTraceIn};
 ghost use Rattle.nvm_commands.specs.Files.{IsReadFault, IsWriteFault};
+ghost use Rattle.nvm_commands.specs.Traced.{SaysTrace, begins_as_file};
 
 use crate::conversion::{record_of, trace_of};
-use crate::failure::{Failure, of_record, of_trace, plain};
+use crate::failure::{Failure, of_order, of_record, of_text, of_trace, plain};
 use crate::fault::Fault;
 use crate::hint::refusal;
 use nvm_audit::Record;
-use nvm_evidence::{Evidence, read_evidence};
+use nvm_evidence::{Evidence, HeldOrder, read_evidence, read_order};
 use nvm_front::{
     FileFault, InputKind, Progress, STANDARD, is_input, is_output, is_read, read_input, write,
     write_run,
 };
 use nvm_record::Payload;
 use nvm_trace::Trace;
+use nvm_trace_text::trace_of_text;
 use std::alloc::{AllocError, Global};
 use std::rt::Files;
 
@@ -36,6 +39,19 @@ pub fn bytes_of<R: Files + AllocGlobal + Input + Eprint>(
     }
 }
 
+/// The same, as bytes that are shared.
+pub fn payload_of<R: Files + AllocGlobal + Input + Eprint>(
+    rt: &R,
+    kind: InputKind,
+    path: &str,
+    progress: &Progress<'_, R>,
+) -> Result<Payload, Failure>
+    ensures { IfErr result (λ failure. IsReadFault path.now failure.fault) }
+{
+    let bytes = bytes_of(rt, kind, path, progress)?;
+    Ok(Payload::new(rt.alloc(), bytes)?)
+}
+
 /// The record at a path, or on standard input.
 pub fn read_as_record<R: Files + AllocGlobal + Input + Eprint>(
     rt: &R,
@@ -45,7 +61,7 @@ pub fn read_as_record<R: Files + AllocGlobal + Input + Eprint>(
     ensures run { IfOk result (λ run. (file : List ℕ) × (record_at file ≡ Ok run)) }
     ensures fault { IfErr result (λ failure. IsReadFault path.now failure.fault ⊎ IsFaultOfRecordAt path.now failure.fault) }
 {
-    let bytes = Payload::new(rt.alloc(), bytes_of(rt, InputKind::File, path, progress)?)?;
+    let bytes = payload_of(rt, InputKind::File, path, progress)?;
     record_in(rt.alloc(), path, &bytes)
 }
 
@@ -72,28 +88,70 @@ pub fn evidence_in<'f>(alloc: Global, path: &str, file: &'f [u8]) -> Result<Evid
     }
 }
 
-/// The trace at a path, or on standard input.
+/// The order in the bytes of a file that was read from a path, or the file's fault and what helps.
+pub fn order_in<'f>(alloc: Global, path: &str, file: &'f [u8]) -> Result<HeldOrder<'f>, Failure>
+    ensures { IfErr result (λ failure. IsFaultOfEvidenceAt path.now failure.fault) }
+{
+    let named = String::from_str(alloc, path)?;
+    match read_order(alloc, file) {
+        Ok(held) => Ok(held),
+        Err(fault) => Err(of_order(alloc, Fault::of_evidence(named, fault), path, file)),
+    }
+}
+
+/// The trace at a path, or on standard input: its file, or its text.
 pub fn read_as_trace<R: Files + AllocGlobal + Input + Eprint>(
     rt: &R,
     path: &str,
     progress: &Progress<'_, R>,
 ) -> Result<Trace, Failure>
-    ensures trace { IfOk result (λ trace. (file : List ℕ) × IsTraceFile file trace) }
+    ensures trace { IfOk result (λ trace. (bytes : List ℕ) × SaysTrace bytes trace) }
     ensures fault { IfErr result (λ failure. IsReadFault path.now failure.fault ⊎ IsFaultOfTraceAt path.now failure.fault) }
 {
-    let bytes = Payload::new(rt.alloc(), bytes_of(rt, InputKind::File, path, progress)?)?;
+    let bytes = payload_of(rt, InputKind::Text, path, progress)?;
     trace_in(rt.alloc(), path, &bytes)
 }
 
+/// The trace that bytes say which were read from a path, as its file where they begin with `NV`, and else as its text. Or their fault and
+/// what helps.
+pub fn trace_in(alloc: Global, path: &str, bytes: &Payload) -> Result<Trace, Failure>
+    ensures trace { IfOk result (SaysTrace bytes.now) }
+    ensures fault { IfErr result (λ failure. IsFaultOfTraceIn path.now bytes.now failure.fault) }
+{
+    if is_file(bytes.as_slice()) {
+        trace_of_file(alloc, path, bytes)
+    } else {
+        trace_of_lines(alloc, path, bytes.as_slice())
+    }
+}
+
+/// Whether the bytes begin as those of a file of ours.
+fn is_file(bytes: &[u8]) -> bool
+    ensures { result ≡ begins_as_file bytes.now }
+{
+    bytes.starts_with(b"NV")
+}
+
 /// The trace in the bytes of a file that was read from a path, or the file's fault and what helps.
-pub fn trace_in(alloc: Global, path: &str, file: &Payload) -> Result<Trace, Failure>
+fn trace_of_file(alloc: Global, path: &str, file: &Payload) -> Result<Trace, Failure>
     ensures trace { IfOk result (IsTraceFile file.now) }
-    ensures fault { IfErr result (λ failure. IsFaultOfTraceIn path.now file.now failure.fault) }
+    ensures fault { IfErr result (λ failure. IsFaultOfTraceAs true path.now file.now failure.fault) }
 {
     let named = String::from_str(alloc, path)?;
     match trace_of(alloc, named, file) {
         Ok(trace) => Ok(trace),
         Err(fault) => Err(of_trace(alloc, fault, path, file.as_slice())),
+    }
+}
+
+/// The trace that a text says which was read from a path, or the text's fault and what helps.
+pub fn trace_of_lines(alloc: Global, path: &str, text: &[u8]) -> Result<Trace, Failure>
+    ensures trace { IfOk result (IsTextOf text.now) }
+    ensures fault { IfErr result (λ failure. IsFaultOfText text.now failure.fault) }
+{
+    match trace_of_text(alloc, text) {
+        Ok(trace) => Ok(trace),
+        Err(fault) => Err(of_text(alloc, Fault::from(fault), path, text)),
     }
 }
 
@@ -171,6 +229,21 @@ pub fn check_no_lines<R: Files + AllocGlobal>(rt: &R, out: &str) -> Result<(), F
     }
 }
 
+/// Refuses a path to write at which one of the files to read is, or which is standard output's.
+pub fn check_place<R: Files + AllocGlobal>(
+    rt: &R,
+    out: &str,
+    read: &[String],
+    why: &str,
+) -> Result<(), Failure>
+    ensures { IfErr result (λ failure. IsWriteFault out.now failure.fault) }
+{
+    for path in read {
+        check_output(rt, out, path.as_str(), why)?;
+    }
+    check_no_lines(rt, out)
+}
+
 /// The failure of what couldn't be written to a path.
 pub fn unmade(alloc: Global, path: &str, fault: FileFault) -> Failure
     ensures { IsWriteFault path.now result.fault }
@@ -181,8 +254,8 @@ pub fn unmade(alloc: Global, path: &str, fault: FileFault) -> Failure
     }
 }
 
-/// The failure of a file that can't be read, or want of memory for its path.
-fn unread(alloc: Global, path: &str, why: Option<&str>) -> Failure
+/// The failure of a file that can't be read, or want of memory for its path. The hint below the fault says why.
+pub fn unread(alloc: Global, path: &str, why: Option<&str>) -> Failure
     ensures { IsReadFault path.now result.fault }
 {
     match String::from_str(alloc, path) {

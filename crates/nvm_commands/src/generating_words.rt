@@ -1,5 +1,5 @@
 //! The words of `nvq generate`.
-ghost use Rattle.std.specs.Prelude.{◌≤◌, IfOk, IfSome, length};
+ghost use Rattle.std.specs.Prelude.{◌≤◌, IfOk, length};
 
 use crate::namespace_words::{NamespaceWords, read_namespace, with_namespace};
 use clap::{Arg, ArgMatches, Command, Error};
@@ -22,37 +22,34 @@ pub struct GenerateWords {
     pub outs: Vec<String>,
 }
 
-/// What the words say, or `None` where a value is missing or out of its range.
-pub fn read_generate(
-    alloc: Global,
-    words: &ArgMatches<'_>,
-) -> Result<Option<GenerateWords>, WordFault>
-    ensures { IfOk result (λ read. IfSome read (λ load. 1 ≤ length load.outs.items)) }
+/// What the words say.
+pub fn read_generate(alloc: Global, words: &ArgMatches<'_>) -> Result<GenerateWords, WordFault>
+    ensures { IfOk result (λ load. 1 ≤ length load.outs.items) }
 {
-    let (Some(seed), Some(commands), Some(namespace), Some(mix), Some(paths)) = (
+    let (Some(seed), Some(commands), Some(paths)) = (
         number_of_64_bits(alloc, words, "seed")?,
         number_given(alloc, words, "commands", 1, 65_535)?,
-        read_namespace(alloc, words)?,
-        mix_of(alloc, words)?,
         words.get_strs("out"),
     ) else {
-        return Ok(None);
+        return Err(WordFault::Missing);
     };
     if paths.is_empty() {
-        return Ok(None);
+        return Err(WordFault::Missing);
     }
+    let namespace = read_namespace(alloc, words)?;
+    let mix = mix_of(alloc, words)?;
     let outs = owned(alloc, paths)?;
-    Ok(Some(GenerateWords {
+    Ok(GenerateWords {
         seed,
         commands: commands as u16,
         namespace,
         mix,
         outs,
-    }))
+    })
 }
 
-/// The weights of the kinds, or `None` where one is missing.
-fn mix_of(alloc: Global, words: &ArgMatches<'_>) -> Result<Option<Mix>, WordFault> {
+/// The weights of the kinds.
+fn mix_of(alloc: Global, words: &ArgMatches<'_>) -> Result<Mix, WordFault> {
     let (
         Some(write),
         Some(read),
@@ -70,9 +67,9 @@ fn mix_of(alloc: Global, words: &ArgMatches<'_>) -> Result<Option<Mix>, WordFaul
         number_of_16_bits(alloc, words, "uncorrectable")?,
         number_of_16_bits(alloc, words, "deallocate")?,
     ) else {
-        return Ok(None);
+        return Err(WordFault::Missing);
     };
-    Ok(Some(Mix {
+    Ok(Mix {
         write,
         read,
         compare,
@@ -80,7 +77,7 @@ fn mix_of(alloc: Global, words: &ArgMatches<'_>) -> Result<Option<Mix>, WordFaul
         zeroes,
         uncorrectable,
         deallocate,
-    }))
+    })
 }
 
 /// `nvq generate`.

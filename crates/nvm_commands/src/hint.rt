@@ -31,7 +31,8 @@ pub fn no_host_file(alloc: Global, path: &str, bytes: &[u8]) -> Result<String, A
     let name = name_of(path);
     match Content::of(bytes) {
         Content::Empty => format!(in alloc; "{name} is empty, and a host file begins with NVQ1"),
-        Content::Text => {
+        Content::TraceText => of_trace_text(alloc, path),
+        Content::List | Content::Text => {
             format!(in alloc;
                 "{name} is text: nvq run {path} does the commands of a list, nvq assemble {path} HOSTFILE makes a host file of it"
             )
@@ -61,7 +62,8 @@ pub fn no_record(alloc: Global, path: &str, bytes: &[u8]) -> Result<String, Allo
         Content::Empty => {
             format!(in alloc; "{name} is empty, and a record begins with NVR1 or NVR2")
         }
-        Content::Text => {
+        Content::TraceText => of_trace_text(alloc, path),
+        Content::List | Content::Text => {
             format!(in alloc;
                 "{name} is text, which no record is: nvmu run and nvq run write records"
             )
@@ -84,14 +86,10 @@ pub fn no_record(alloc: Global, path: &str, bytes: &[u8]) -> Result<String, Allo
     }
 }
 
-/// What a file is, of which a trace was expected at its front.
+/// What a file of ours is, of which a trace was expected at its front.
 pub fn no_trace(alloc: Global, path: &str, bytes: &[u8]) -> Result<String, AllocError> {
     let name = name_of(path);
     match Content::of(bytes) {
-        Content::Empty => format!(in alloc; "{name} is empty, and a trace begins with NVT1"),
-        Content::Text => {
-            format!(in alloc; "{name} is text: nvq trace {path} TRACE makes a trace of its lines")
-        }
         Content::HostFile => {
             format!(in alloc;
                 "{name} is a host file: nvmu run does its commands and writes a record"
@@ -104,9 +102,7 @@ pub fn no_trace(alloc: Global, path: &str, bytes: &[u8]) -> Result<String, Alloc
         }
         Content::Order => of_order(alloc, path),
         Content::Contradiction => of_contradiction(alloc, path),
-        Content::Trace | Content::Unknown => {
-            format!(in alloc; "{name} is no trace, which begins with NVT1")
-        }
+        _ => format!(in alloc; "{name} is no trace, which begins with NVT1"),
     }
 }
 
@@ -125,8 +121,35 @@ pub fn no_list(alloc: Global, path: &str, bytes: &[u8]) -> Result<Option<String>
         )?)),
         Content::Order => Ok(Some(of_order(alloc, path)?)),
         Content::Contradiction => Ok(Some(of_contradiction(alloc, path)?)),
-        Content::Empty | Content::Text | Content::Unknown => Ok(None),
+        Content::TraceText => Ok(Some(of_trace_text(alloc, path)?)),
+        Content::Empty | Content::List | Content::Text | Content::Unknown => Ok(None),
     }
+}
+
+/// What a file is, of which a trace's text was expected, where it is none: a file of ours or a command list.
+pub fn no_trace_text(
+    alloc: Global,
+    path: &str,
+    bytes: &[u8],
+) -> Result<Option<String>, AllocError> {
+    match Content::of(bytes) {
+        Content::TraceText => Ok(None),
+        Content::List => {
+            let name = name_of(path);
+            Ok(Some(format!(in alloc;
+                "{name} is a command list: nvq run {path} does its commands"
+            )?))
+        }
+        _ => no_list(alloc, path, bytes),
+    }
+}
+
+/// What the text of a trace is, where another file was expected.
+fn of_trace_text(alloc: Global, path: &str) -> Result<String, AllocError> {
+    let name = name_of(path);
+    format!(in alloc;
+        "{name} is a trace's text: nvq certify {path} judges it, nvq trace {path} TRACE makes its file"
+    )
 }
 
 /// What an order's file is, where another was expected.
@@ -138,7 +161,7 @@ fn of_order(alloc: Global, path: &str) -> Result<String, AllocError> {
 }
 
 /// What a contradiction's file is, where another was expected.
-fn of_contradiction(alloc: Global, path: &str) -> Result<String, AllocError> {
+pub fn of_contradiction(alloc: Global, path: &str) -> Result<String, AllocError> {
     let name = name_of(path);
     format!(in alloc;
         "{name} is a contradiction: nvmu refute TRACE {path} judges it, nvq explain TRACE {path} shows it"

@@ -20,29 +20,26 @@ pub struct NamespaceWords {
     pub nacwu: u16,
 }
 
-/// What the words say, or `None` where a value is missing or out of its range.
-pub fn read_namespace(
-    alloc: Global,
-    words: &ArgMatches<'_>,
-) -> Result<Option<NamespaceWords>, WordFault> {
+/// What the words say.
+pub fn read_namespace(alloc: Global, words: &ArgMatches<'_>) -> Result<NamespaceWords, WordFault> {
     let (Some(size), Some(nsze), Some(nabsn), Some(nabo)) = (
         size_given(alloc, words)?,
         number_of_64_bits(alloc, words, "nsze")?,
         number_of_16_bits(alloc, words, "nabsn")?,
         number_of_16_bits(alloc, words, "nabo")?,
     ) else {
-        return Ok(None);
+        return Err(WordFault::Missing);
     };
     let nawun = number_of_16_bits(alloc, words, "nawun")?;
     let nacwu = number_of_16_bits(alloc, words, "nacwu")?;
-    Ok(Some(NamespaceWords {
+    Ok(NamespaceWords {
         size,
         nsze,
         nabsn,
         nabo,
         nawun: nawun.unwrap_or(whole_unit(nabsn)),
         nacwu: nacwu.unwrap_or(whole_unit(nabsn)),
-    }))
+    })
 }
 
 /// The zeroes-based number of blocks of a whole unit. Without boundaries it is the highest number.

@@ -7,16 +7,16 @@ ghost use Rattle.nvm_commands.specs.Nvmu.Asked.{IsAnswerTo};
 
 mod answer;
 mod auditing;
-mod fault;
 mod files;
 mod refute_words;
 mod refuting;
 mod running;
 mod words;
 
+use crate::failure::Failure;
+use crate::fault::Fault;
 use crate::nvmu::answer::Answer;
 use crate::nvmu::auditing::{audited, witnessed};
-use crate::nvmu::fault::Fault;
 use crate::nvmu::refuting::refuted;
 use crate::nvmu::running::recorded;
 use crate::nvmu::words::{Asked, read_words};
@@ -70,7 +70,7 @@ fn done<R: AllocGlobal + Files + Input + Print + Eprint + Threads + Wait + Sync>
             let written = print(rt.alloc(), &answer, output);
             ended(rt, &answer, written)
         }
-        Err(fault) => failed(rt, NVMU, fault),
+        Err(Failure { fault, .. }) => failed(rt, NVMU, fault),
     }
 }
 
@@ -79,7 +79,7 @@ fn answer_to<R: AllocGlobal + Files + Input + Print + Eprint + Threads + Wait + 
     rt: &R,
     asked: &Asked,
     progress: &Progress<'_, R>,
-) -> Result<Answer, Fault>
+) -> Result<Answer, Failure>
     ensures { IfOk result (IsAnswerTo asked.now) }
 {
     match asked {

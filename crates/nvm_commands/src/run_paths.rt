@@ -2,12 +2,11 @@
 ghost use Rattle.std.specs.Prelude.{◌≡◌, IfOk, IfErr, string_bytes};
 ghost use Rattle.std.specs.List.{count_by};
 ghost use Rattle.nvm_front.specs.Standard.{names_input};
-ghost use Rattle.nvm_commands.specs.Files.{IsWriteFault};
 ghost use Rattle.nvm_commands.specs.RunFaults.{FitNames, IsKeepingFault, IsNamesFault};
 
 use crate::failure::{Failure, plain};
 use crate::fault::Fault;
-use crate::files::{check_no_lines, check_output};
+use crate::files::check_place;
 use crate::running_words::RunWords;
 use nvm_front::{STANDARD, is_input};
 use std::rt::Files;
@@ -44,17 +43,12 @@ pub fn check_record<R: Files + AllocGlobal>(rt: &R, words: &RunWords) -> Result<
     ensures { IfErr result (λ failure. IsKeepingFault words.now.«record» failure.fault) }
 {
     match &words.record {
-        Some(record) => check_place(rt, record.as_str(), words.lists.as_slice()),
+        Some(record) => check_place(
+            rt,
+            record.as_str(),
+            words.lists.as_slice(),
+            "it is the list",
+        ),
         None => Ok(()),
     }
-}
-
-/// The record's path is none of the lists', and not that of standard output.
-fn check_place<R: Files + AllocGlobal>(rt: &R, path: &str, lists: &[String]) -> Result<(), Failure>
-    ensures { IfErr result (λ failure. IsWriteFault path.now failure.fault) }
-{
-    for list in lists {
-        check_output(rt, path, list.as_str(), "it is the list")?;
-    }
-    check_no_lines(rt, path)
 }

@@ -1,5 +1,5 @@
 //! The words of `nvq run`.
-ghost use Rattle.std.specs.Prelude.{◌≤◌, IfOk, IfSome, length};
+ghost use Rattle.std.specs.Prelude.{◌≤◌, IfOk, length};
 
 use crate::namespace_words::{NamespaceWords, read_namespace, with_namespace};
 use clap::{ArgMatches, Command, Error};
@@ -28,19 +28,16 @@ pub struct RunWords {
     pub lists: Vec<String>,
 }
 
-/// What the words say, or `None` where a value is missing or out of its range.
-pub fn read_run(alloc: Global, words: &ArgMatches<'_>) -> Result<Option<RunWords>, WordFault>
-    ensures { IfOk result (λ read. IfSome read (λ run. 1 ≤ length run.lists.items)) }
+/// What the words say.
+pub fn read_run(alloc: Global, words: &ArgMatches<'_>) -> Result<RunWords, WordFault>
+    ensures { IfOk result (λ run. 1 ≤ length run.lists.items) }
 {
-    let (Some(namespace), Some(limit), Some(paths)) = (
-        read_namespace(alloc, words)?,
-        limit_given(alloc, words)?,
-        words.get_strs("list"),
-    ) else {
-        return Ok(None);
+    let namespace = read_namespace(alloc, words)?;
+    let (Some(limit), Some(paths)) = (limit_given(alloc, words)?, words.get_strs("list")) else {
+        return Err(WordFault::Missing);
     };
     if paths.is_empty() {
-        return Ok(None);
+        return Err(WordFault::Missing);
     }
     let workers = match workers_given(alloc, words)? {
         Some(count) => Workers::new(count),
@@ -48,7 +45,7 @@ pub fn read_run(alloc: Global, words: &ArgMatches<'_>) -> Result<Option<RunWords
     };
     let record = path_given(alloc, words, "record")?;
     let lists = owned(alloc, paths)?;
-    Ok(Some(RunWords {
+    Ok(RunWords {
         namespace,
         workers,
         limit,
@@ -56,7 +53,7 @@ pub fn read_run(alloc: Global, words: &ArgMatches<'_>) -> Result<Option<RunWords
         check: words.get_flag("check"),
         telling: telling_of(words),
         lists,
-    }))
+    })
 }
 
 /// `nvq run`.

@@ -5,13 +5,11 @@ ghost use Rattle.nvm_trace_text.specs.Texts.{IsTextOf};
 ghost use Rattle.nvm_commands.specs.Fault.{IsFaultOfText};
 ghost use Rattle.nvm_commands.specs.Files.{IsTracingFault};
 
-use crate::failure::{Failure, of_text};
-use crate::fault::Fault;
-use crate::files::{bytes_of, check_output, write_bytes};
+use crate::failure::Failure;
+use crate::files::{bytes_of, check_output, trace_of_lines, write_bytes};
 use nvm_file::write_trace;
 use nvm_front::{InputKind, Progress};
-use nvm_trace_text::trace_of_text;
-use std::alloc::Global;
+use std::alloc::{AllocError, Global};
 use std::rt::Files;
 
 /// Makes the text of a trace into its file.
@@ -25,21 +23,19 @@ pub fn run_trace<R: AllocGlobal + Files + Input + Print + Eprint>(
 {
     check_output(rt, out, text, "it is the text")?;
     let bytes = bytes_of(rt, InputKind::Text, text, progress)?;
-    match trace_file_of(rt.alloc(), &bytes) {
-        Ok(file) => write_bytes(rt, out, &file, progress),
-        Err(fault) => Err(of_text(rt.alloc(), fault, text, &bytes)),
-    }
+    let file = trace_file_of(rt.alloc(), text, &bytes)?;
+    write_bytes(rt, out, &file, progress)
 }
 
-/// The file of the trace that a text says, or the text's fault.
-fn trace_file_of(alloc: Global, text: &[u8]) -> Result<Vec<u8>, Fault>
+/// The file of the trace that a text says which was read from a path, or the text's fault.
+fn trace_file_of(alloc: Global, path: &str, text: &[u8]) -> Result<Vec<u8>, Failure>
     ensures file { IfOk result (λ file. (t : TraceView) × IsTextOf text.now t × IsTraceFile file.items t) }
-    ensures fault { IfErr result (IsFaultOfText text.now) }
+    ensures fault { IfErr result (λ failure. IsFaultOfText text.now failure.fault) }
 {
-    let trace = trace_of_text(alloc, text)?;
+    let trace = trace_of_lines(alloc, path, text)?;
     let mut file = Vec::new(alloc);
     match write_trace(&mut file, &trace) {
         Ok(()) => Ok(file),
-        Err(_) => Err(Fault::NoMemory),
+        Err(_) => Err(Failure::from(AllocError)),
     }
 }

@@ -1,4 +1,4 @@
-ghost use Rattle.std.specs.Prelude.{IfOk, IfSome};
+ghost use Rattle.std.specs.Prelude.{IfOk};
 ghost use Rattle.nvm_commands.specs.Words.{IsAsked};
 
 use crate::auditing_words::auditing_command;
@@ -11,8 +11,7 @@ use crate::generating_words::{GenerateWords, generate_command, read_generate};
 use crate::running_words::{RunWords, read_run, run_command};
 use clap::{ArgMatches, Command, Error};
 use nvm_front::{
-    AuditWords, VERSION, WitnessWords, WordFault, missing, read_audit, read_witness,
-    witness_command,
+    AuditWords, VERSION, WitnessWords, WordFault, read_audit, read_witness, witness_command,
 };
 use nvm_record::BlockSize;
 use std::alloc::Global;
@@ -60,91 +59,36 @@ pub fn read_words<'a>(alloc: Global, words: &'a [&'a str]) -> Result<Asked, Word
 {
     let mut command = program(alloc)?;
     let matches = command.try_get_matches_from_mut(words)?;
-    match asked_of(alloc, &matches)? {
-        Some(asked) => Ok(asked),
-        None => Err(missing(&mut command)),
-    }
+    asked_of(alloc, &matches)
 }
 
-/// What the matches ask for, or `None` where something is missing.
-fn asked_of(alloc: Global, matches: &ArgMatches<'_>) -> Result<Option<Asked>, WordFault>
-    ensures { IfOk result (λ asked. IfSome asked IsAsked) }
+/// What the matches ask for.
+fn asked_of(alloc: Global, matches: &ArgMatches<'_>) -> Result<Asked, WordFault>
+    ensures { IfOk result IsAsked }
 {
     match matches.subcommand() {
         Some(("assemble", words)) => assemble_asked(alloc, words),
         Some(("trace", words)) => trace_asked(alloc, words),
         Some(("list", words)) => list_asked(alloc, words),
-        Some(("run", words)) => run_asked(alloc, words),
-        Some(("generate", words)) => generate_asked(alloc, words),
+        Some(("run", words)) => Ok(Asked::Run(read_run(alloc, words)?)),
+        Some(("generate", words)) => Ok(Asked::Generate(read_generate(alloc, words)?)),
         Some(("audit", words)) => audit_asked(alloc, words),
-        Some(("witness", words)) => witness_asked(alloc, words),
-        Some(("certify", words)) => certify_asked(alloc, words),
-        Some(("explain", words)) => explain_asked(alloc, words),
-        _ => Ok(None),
+        Some(("witness", words)) => Ok(Asked::Witness(read_witness(alloc, words)?)),
+        Some(("certify", words)) => Ok(Asked::Certify(read_certify(alloc, words)?)),
+        Some(("explain", words)) => Ok(Asked::Explain(read_explain(alloc, words)?)),
+        _ => Err(WordFault::Missing),
     }
 }
 
-/// What `nvq run` is asked, or `None` where a value is missing.
-fn run_asked(alloc: Global, words: &ArgMatches<'_>) -> Result<Option<Asked>, WordFault>
-    ensures { IfOk result (λ asked. IfSome asked IsAsked) }
+/// What `nvq audit` is asked.
+fn audit_asked(alloc: Global, words: &ArgMatches<'_>) -> Result<Asked, WordFault>
+    ensures { IfOk result IsAsked }
 {
-    match read_run(alloc, words)? {
-        Some(run) => Ok(Some(Asked::Run(run))),
-        None => Ok(None),
-    }
-}
-
-/// What `nvq generate` is asked, or `None` where a value is missing.
-fn generate_asked(alloc: Global, words: &ArgMatches<'_>) -> Result<Option<Asked>, WordFault>
-    ensures { IfOk result (λ asked. IfSome asked IsAsked) }
-{
-    match read_generate(alloc, words)? {
-        Some(generate) => Ok(Some(Asked::Generate(generate))),
-        None => Ok(None),
-    }
-}
-
-/// What `nvq audit` is asked, or `None` where the path is missing.
-fn audit_asked(alloc: Global, words: &ArgMatches<'_>) -> Result<Option<Asked>, WordFault>
-    ensures { IfOk result (λ asked. IfSome asked IsAsked) }
-{
-    let Some(audit) = read_audit(alloc, words)? else {
-        return Ok(None);
-    };
+    let audit = read_audit(alloc, words)?;
     if words.get_flag("all") {
-        Ok(Some(Asked::AuditAll(audit)))
+        Ok(Asked::AuditAll(audit))
     } else {
-        Ok(Some(Asked::Audit(audit)))
-    }
-}
-
-/// What `nvq witness` is asked, or `None` where a path is missing.
-fn witness_asked(alloc: Global, words: &ArgMatches<'_>) -> Result<Option<Asked>, WordFault>
-    ensures { IfOk result (λ asked. IfSome asked IsAsked) }
-{
-    match read_witness(alloc, words)? {
-        Some(witness) => Ok(Some(Asked::Witness(witness))),
-        None => Ok(None),
-    }
-}
-
-/// What `nvq certify` is asked, or `None` where a value is missing.
-fn certify_asked(alloc: Global, words: &ArgMatches<'_>) -> Result<Option<Asked>, WordFault>
-    ensures { IfOk result (λ asked. IfSome asked IsAsked) }
-{
-    match read_certify(alloc, words)? {
-        Some(certify) => Ok(Some(Asked::Certify(certify))),
-        None => Ok(None),
-    }
-}
-
-/// What `nvq explain` is asked, or `None` where a path is missing.
-fn explain_asked(alloc: Global, words: &ArgMatches<'_>) -> Result<Option<Asked>, WordFault>
-    ensures { IfOk result (λ asked. IfSome asked IsAsked) }
-{
-    match read_explain(alloc, words)? {
-        Some(explain) => Ok(Some(Asked::Explain(explain))),
-        None => Ok(None),
+        Ok(Asked::Audit(audit))
     }
 }
 

@@ -33,6 +33,7 @@ mod reading;
 mod refute_fault;
 mod refuted;
 mod refuting;
+mod together;
 mod trace_reading;
 mod values;
 mod verdict;
@@ -57,6 +58,7 @@ pub use reading::read_evidence;
 pub use refute_fault::RefuteBytesFault;
 pub use refuted::Refuted;
 pub use refuting::{refute_contradiction, refute_contradiction_bytes};
+pub use together::most_together;
 pub use verdict::{
     explained_object, explained_text, unknown_object, unknown_text, wrong_object, wrong_text,
 };

@@ -8,13 +8,30 @@ use nvm_record::NoMemory;
 use nvm_trace::Trace;
 use std::alloc::Global;
 
-/// The line of a trace that an order explains: that of a witness.
-pub fn explained_text(alloc: Global, numbers: OrderNumbers) -> Result<String, NoMemory> {
-    numbers.line(alloc)
+/// The lines of a trace that an order explains: that of a witness, and how many of its commands were under way together.
+pub fn explained_text(
+    alloc: Global,
+    numbers: OrderNumbers,
+    together: usize,
+) -> Result<String, NoMemory> {
+    let mut text = numbers.line(alloc)?;
+    if together > 1 {
+        write!(
+            text,
+            "at most {together} commands were under way together\n"
+        )?;
+    } else {
+        text.push_str("no two commands were under way together\n")?;
+    }
+    Ok(text)
 }
 
 /// The same as an object of JSON, with its line feed.
-pub fn explained_object(alloc: Global, numbers: OrderNumbers) -> Result<String, NoMemory> {
+pub fn explained_object(
+    alloc: Global,
+    numbers: OrderNumbers,
+    together: usize,
+) -> Result<String, NoMemory> {
     let OrderNumbers {
         jobs,
         points,
@@ -23,7 +40,7 @@ pub fn explained_object(alloc: Global, numbers: OrderNumbers) -> Result<String, 
     let reads = held_word(profile.held);
     let deallocated = deallocated_word(profile.deallocated);
     format!(in alloc;
-        "{{\"verdict\":\"explained\",\"jobs\":{jobs},\"points\":{points},\"reads\":\"{reads}\",\"deallocated\":\"{deallocated}\"}}\n"
+        "{{\"verdict\":\"explained\",\"jobs\":{jobs},\"points\":{points},\"together\":{together},\"reads\":\"{reads}\",\"deallocated\":\"{deallocated}\"}}\n"
     )
 }
 

@@ -29,15 +29,15 @@ pub struct WitnessWords {
     pub record: String,
 }
 
-/// What the words of `audit` say, or `None` where the path is missing.
-pub fn read_audit(alloc: Global, words: &ArgMatches<'_>) -> Result<Option<AuditWords>, WordFault> {
+/// What the words of `audit` say.
+pub fn read_audit(alloc: Global, words: &ArgMatches<'_>) -> Result<AuditWords, WordFault> {
     let Some(record) = words.get_str("record") else {
-        return Ok(None);
+        return Err(WordFault::Missing);
     };
-    Ok(Some(AuditWords {
+    Ok(AuditWords {
         telling: telling_of(words),
         record: String::from_str(alloc, record)?,
-    }))
+    })
 }
 
 /// How a verdict is to be printed.
@@ -58,19 +58,16 @@ pub fn json<'a>(alloc: Global) -> Arg<'a> {
     )
 }
 
-/// What the words of `witness` say, or `None` where a path is missing.
-pub fn read_witness(
-    alloc: Global,
-    words: &ArgMatches<'_>,
-) -> Result<Option<WitnessWords>, WordFault> {
+/// What the words of `witness` say.
+pub fn read_witness(alloc: Global, words: &ArgMatches<'_>) -> Result<WitnessWords, WordFault> {
     let (Some(trace), Some(record)) = (words.get_str("trace"), words.get_str("record")) else {
-        return Ok(None);
+        return Err(WordFault::Missing);
     };
-    Ok(Some(WitnessWords {
+    Ok(WitnessWords {
         judging: judging_of(words),
         trace: String::from_str(alloc, trace)?,
         record: String::from_str(alloc, record)?,
-    }))
+    })
 }
 
 /// By what a trace is to be judged.
@@ -121,10 +118,10 @@ pub fn witness_command<'a>(alloc: Global) -> Result<Command<'a>, Error> {
         alloc,
         "record",
         "REC",
-        "The record that is to explain it, or - for standard input",
+        "The record or the order that is to explain it, or - for standard input",
     );
     let command = Command::new(alloc, "witness").about(
-        "Says whether a record explains a trace, and if not, what is the first fault",
+        "Says whether a record or an order explains a trace, and if not, what is the first fault",
     );
     Ok(command.arg(strict(alloc))?.arg(trace(alloc))?.arg(record)?)
 }

@@ -37,4 +37,4 @@ pub use output::Output;
 pub use progress::{JobProgress, Progress};
 pub use run_options::{limit, limit_given, nabo, nabsn, nsze, workers_given};
 pub use version::VERSION;
-pub use words::{UNWRITTEN, WordFault, missing, owned, tell, texts_of, words_given};
+pub use words::{UNWRITTEN, WordFault, owned, tell, texts_of, words_given};

@@ -1,8 +1,8 @@
 ghost use Rattle.std.specs.Prelude.{◌≡◌, IfOk, length};
 
 use crate::number_options::Expected;
+use clap::Error;
 use clap::error::ErrorKind;
-use clap::{Command, Error};
 use std::alloc::{AllocError, AllocFailed, Global};
 use std::rt::Env;
 use std::{env, io};
@@ -18,6 +18,8 @@ pub enum WordFault {
         word: String,
         expected: Expected,
     },
+    /// Something is missing in them, although `clap` took them.
+    Missing,
     /// One of them isn't UTF-8, or they couldn't be had.
     NotText,
     /// Memory was asked for and refused.
@@ -83,14 +85,6 @@ pub fn owned(alloc: Global, texts: &[&str]) -> Result<Vec<String>, AllocError>
     Ok(strings)
 }
 
-/// The fault of words that `clap` took although something is missing in them.
-pub fn missing(command: &mut Command<'_>) -> WordFault {
-    match command.error(ErrorKind::MissingRequiredArgument, "a value is missing") {
-        Ok(error) => WordFault::from(error),
-        Err(_) => WordFault::NoMemory,
-    }
-}
-
 /// The fault where standard output couldn't be written.
 pub const UNWRITTEN: &str = "cannot write standard output";
 
@@ -119,6 +113,10 @@ pub fn tell<R: AllocGlobal + Print + Eprint>(
             let _ = eprintln!(rt;
                 "error: invalid value '{word}' for '--{option}': {expected}\n\nFor more information, try '--help'."
             );
+            Ok(1)
+        }
+        WordFault::Missing => {
+            let _ = rt.eprintln("error: a value is missing\n\nFor more information, try '--help'.");
             Ok(1)
         }
         WordFault::NotText => {

@@ -8,9 +8,9 @@ use Rattle.nvm_engine.specs.Witnessed.{IsUnwitnessedFault}
 use Rattle.nvm_evidence.specs.Refuted.{AreRefutedFiles as AreRefutedBytes, IsRefuteFault as IsFaultOfBytes}
 use Rattle.nvm_evidence.specs.Witnessed.{IsOrderFault}
 use Rattle.nvm_evidence.specs.declared.refuted.Refuted.{Refuted}
-use Rattle.nvm_commands.specs.Nvmu.Files.{IsReadFault}
-use Rattle.nvm_commands.specs.declared.nvmu.fault.Fault.{Fault}
-use Rattle.nvm_commands.specs.declared.nvmu.fault.Fault.TheVariants.{Engine, Order, Refute}
+use Rattle.nvm_commands.specs.Files.{IsReadFault}
+use Rattle.nvm_commands.specs.declared.fault.Fault.{Fault}
+use Rattle.nvm_commands.specs.declared.fault.Fault.TheVariants.{Engine, Order, Refute}
 
 -- It is the first fault of exactly these bytes as a record.
 abbrev pub IsAuditFault : List ℕ → Fault → Type 0

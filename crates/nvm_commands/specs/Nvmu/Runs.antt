@@ -5,9 +5,9 @@ use Rattle.nvm_audit.specs.RecordView.{RecordView}
 use Rattle.nvm_engine.specs.Fault.{IsFirstRunFault}
 use Rattle.nvm_engine.specs.Shown.{IsShown}
 use Rattle.nvm_engine.specs.declared.settings.Settings.{Settings}
-use Rattle.nvm_commands.specs.Nvmu.Files.{IsReadingFault, IsWriteFault}
-use Rattle.nvm_commands.specs.declared.nvmu.fault.Fault.{Fault}
-use Rattle.nvm_commands.specs.declared.nvmu.fault.Fault.TheVariants.{Engine}
+use Rattle.nvm_commands.specs.Files.{IsReadingFault, IsWriteFault}
+use Rattle.nvm_commands.specs.declared.fault.Fault.{Fault}
+use Rattle.nvm_commands.specs.declared.fault.Fault.TheVariants.{Engine}
 
 -- It is the first fault of a run of the settings on exactly these files.
 abbrev pub IsRunFault : Settings → List (List ℕ) → Fault → Type 0

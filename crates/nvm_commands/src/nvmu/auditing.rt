@@ -5,12 +5,14 @@ ghost use Rattle.nvm_commands.specs.Nvmu.Judged.{IsAuditFault, IsJudgedFile, IsJ
 ghost use Rattle.nvm_commands.specs.Nvmu.Answer.{AreWitnessedFiles, IsWitnessedBy};
 ghost use Rattle.nvm_trace.specs.declared.judging.Judging.TheVariants.{Standard};
 
+use crate::failure::{Failure, plain};
+use crate::fault::Fault;
+use crate::files::payload_of;
 use crate::nvmu::answer::Answer;
-use crate::nvmu::fault::Fault;
-use crate::nvmu::files::{bytes_of, read_pair};
+use crate::nvmu::files::read_pair;
 use nvm_engine::{Judged, audit_bytes_watched, witness_bytes};
 use nvm_evidence::{is_evidence, witness_order_bytes};
-use nvm_front::Progress;
+use nvm_front::{InputKind, Progress};
 use nvm_record::Payload;
 use nvm_trace::Judging;
 use std::alloc::Global;
@@ -22,11 +24,11 @@ pub fn audited<R: AllocGlobal + Files + Input + Eprint + Threads + Sync>(
     rt: &R,
     path: &str,
     progress: &Progress<'_, R>,
-) -> Result<Judged, Fault>
+) -> Result<Judged, Failure>
     ensures judged { IfOk result IsJudgedFile }
-    ensures fault { IfErr result (IsJudgeFaultOn path.now) }
+    ensures fault { IfErr result (λ failure. IsJudgeFaultOn path.now failure.fault) }
 {
-    let bytes = bytes_of(rt, path, progress)?;
+    let bytes = payload_of(rt, InputKind::File, path, progress)?;
     judged_of(rt, &bytes, progress)
 }
 
@@ -35,13 +37,13 @@ fn judged_of<R: AllocGlobal + Eprint + Threads + Sync>(
     rt: &R,
     bytes: &Payload,
     progress: &Progress<'_, R>,
-) -> Result<Judged, Fault>
+) -> Result<Judged, Failure>
     ensures judged { IfOk result (IsJudged bytes.now) }
-    ensures fault { IfErr result (IsAuditFault bytes.now) }
+    ensures fault { IfErr result (λ failure. IsAuditFault bytes.now failure.fault) }
 {
     match audit_bytes_watched(rt, rt.alloc(), bytes, progress) {
         Ok(judged) => Ok(judged),
-        Err(fault) => Err(Fault::Engine(fault)),
+        Err(fault) => Err(plain(Fault::Engine(fault))),
     }
 }
 
@@ -52,9 +54,9 @@ pub fn witnessed<R: AllocGlobal + Files + Input + Eprint + Threads + Sync>(
     trace: &str,
     record: &str,
     progress: &Progress<'_, R>,
-) -> Result<Answer, Fault>
+) -> Result<Answer, Failure>
     ensures witnessed { IfOk result (AreWitnessedFiles judging) }
-    ensures fault { IfErr result (IsWitnessFaultOn trace.now «record».now) }
+    ensures fault { IfErr result (λ failure. IsWitnessFaultOn trace.now «record».now failure.fault) }
 {
     let (seen, held) = read_pair(rt, trace, record, progress)?;
     witnessed_of(rt, judging, &seen, &held)
@@ -66,9 +68,9 @@ fn witnessed_of<R: AllocGlobal + Threads + Sync>(
     judging: Judging,
     seen: &Payload,
     held: &Payload,
-) -> Result<Answer, Fault>
+) -> Result<Answer, Failure>
     ensures witnessed { IfOk result (IsWitnessedBy judging seen.now held.now) }
-    ensures fault { IfErr result (IsWitnessFault seen.now held.now) }
+    ensures fault { IfErr result (λ failure. IsWitnessFault seen.now held.now failure.fault) }
 {
     match judging {
         Judging::Standard if is_evidence(held.as_slice()) => by_order(rt.alloc(), seen, held),
@@ -77,13 +79,13 @@ fn witnessed_of<R: AllocGlobal + Threads + Sync>(
 }
 
 /// Judges the bytes of a trace by those of an order.
-fn by_order(alloc: Global, seen: &Payload, held: &Payload) -> Result<Answer, Fault>
+fn by_order(alloc: Global, seen: &Payload, held: &Payload) -> Result<Answer, Failure>
     ensures witnessed { IfOk result (IsWitnessedBy Standard seen.now held.now) }
-    ensures fault { IfErr result (IsWitnessFault seen.now held.now) }
+    ensures fault { IfErr result (λ failure. IsWitnessFault seen.now held.now failure.fault) }
 {
     match witness_order_bytes(alloc, seen, held.as_slice()) {
         Ok(ordered) => Ok(Answer::Ordered(ordered)),
-        Err(fault) => Err(Fault::Order(fault)),
+        Err(fault) => Err(plain(Fault::Order(fault))),
     }
 }
 
@@ -93,12 +95,12 @@ fn by_record<R: AllocGlobal + Threads + Sync>(
     judging: Judging,
     seen: &Payload,
     held: &Payload,
-) -> Result<Answer, Fault>
+) -> Result<Answer, Failure>
     ensures witnessed { IfOk result (IsWitnessedBy judging seen.now held.now) }
-    ensures fault { IfErr result (IsWitnessFault seen.now held.now) }
+    ensures fault { IfErr result (λ failure. IsWitnessFault seen.now held.now failure.fault) }
 {
     match witness_bytes(rt, rt.alloc(), judging, seen, held) {
         Ok(witnessed) => Ok(Answer::Witnessed(witnessed)),
-        Err(fault) => Err(Fault::Engine(fault)),
+        Err(fault) => Err(plain(Fault::Engine(fault))),
     }
 }

@@ -1,5 +1,5 @@
 //! The words of `nvmu refute`.
-ghost use Rattle.std.specs.Prelude.{IfOk, IfSome};
+ghost use Rattle.std.specs.Prelude.{IfOk};
 ghost use Rattle.nvm_commands.specs.Nvmu.Words.{IsAsked};
 
 use crate::nvmu::words::Asked;
@@ -7,20 +7,20 @@ use clap::{ArgMatches, Command, Error};
 use nvm_front::{WordFault, file_argument, trace};
 use std::alloc::Global;
 
-/// What `nvmu refute` is asked, or `None` where a path is missing.
-pub fn refute_asked(alloc: Global, refute: &ArgMatches<'_>) -> Result<Option<Asked>, WordFault>
-    ensures { IfOk result (λ asked. IfSome asked IsAsked) }
+/// What `nvmu refute` is asked.
+pub fn refute_asked(alloc: Global, refute: &ArgMatches<'_>) -> Result<Asked, WordFault>
+    ensures { IfOk result IsAsked }
 {
     let (Some(trace), Some(contradiction)) = (
         refute.get_str("trace"),
         refute.get_str("contradiction"),
     ) else {
-        return Ok(None);
+        return Err(WordFault::Missing);
     };
-    Ok(Some(Asked::Refute {
+    Ok(Asked::Refute {
         trace: String::from_str(alloc, trace)?,
         contradiction: String::from_str(alloc, contradiction)?,
-    }))
+    })
 }
 
 /// `nvmu refute`.

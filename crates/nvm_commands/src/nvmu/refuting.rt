@@ -3,7 +3,8 @@ ghost use Rattle.std.specs.Prelude.{IfOk, IfErr};
 ghost use Rattle.nvm_evidence.specs.Refuted.{AreRefutedFiles as AreRefutedBytes};
 ghost use Rattle.nvm_commands.specs.Nvmu.Judged.{AreRefutedFiles, IsRefuteFault, IsRefuteFaultOn};
 
-use crate::nvmu::fault::Fault;
+use crate::failure::{Failure, plain};
+use crate::fault::Fault;
 use crate::nvmu::files::read_pair;
 use nvm_evidence::{Refuted, refute_contradiction_bytes};
 use nvm_front::Progress;
@@ -17,21 +18,21 @@ pub fn refuted<R: AllocGlobal + Files + Input + Eprint>(
     trace: &str,
     contradiction: &str,
     progress: &Progress<'_, R>,
-) -> Result<Refuted, Fault>
+) -> Result<Refuted, Failure>
     ensures refuted { IfOk result AreRefutedFiles }
-    ensures fault { IfErr result (IsRefuteFaultOn trace.now contradiction.now) }
+    ensures fault { IfErr result (λ failure. IsRefuteFaultOn trace.now contradiction.now failure.fault) }
 {
     let (seen, held) = read_pair(rt, trace, contradiction, progress)?;
     refuted_of(rt.alloc(), &seen, &held)
 }
 
 /// Judges the bytes of a trace by those of a contradiction.
-fn refuted_of(alloc: Global, seen: &Payload, held: &Payload) -> Result<Refuted, Fault>
+fn refuted_of(alloc: Global, seen: &Payload, held: &Payload) -> Result<Refuted, Failure>
     ensures refuted { IfOk result (AreRefutedBytes seen.now held.now) }
-    ensures fault { IfErr result (IsRefuteFault seen.now held.now) }
+    ensures fault { IfErr result (λ failure. IsRefuteFault seen.now held.now failure.fault) }
 {
     match refute_contradiction_bytes(alloc, seen, held.as_slice()) {
         Ok(refuted) => Ok(refuted),
-        Err(fault) => Err(Fault::Refute(fault)),
+        Err(fault) => Err(plain(Fault::Refute(fault))),
     }
 }

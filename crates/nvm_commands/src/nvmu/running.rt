@@ -3,8 +3,10 @@ ghost use Rattle.std.specs.Prelude.{IfOk, IfErr, map, string_bytes};
 ghost use Rattle.nvm_engine.specs.Shown.{IsShown};
 ghost use Rattle.nvm_commands.specs.Nvmu.Runs.{IsShownOn, IsRunFault, IsRunFaultOn};
 
-use crate::nvmu::fault::Fault;
-use crate::nvmu::files::{check_output, read_files, write_file};
+use crate::failure::{Failure, plain};
+use crate::fault::Fault;
+use crate::files::keep;
+use crate::nvmu::files::{check_record, read_files};
 use nvm_engine::{Settings, Shown, execute_watched};
 use nvm_front::Progress;
 use nvm_record::Payload;
@@ -19,14 +21,14 @@ pub fn recorded<R: AllocGlobal + Files + Input + Print + Eprint + Threads + Wait
     out: &str,
     paths: &[String],
     progress: &Progress<'_, R>,
-) -> Result<Shown, Fault>
+) -> Result<Shown, Failure>
     ensures shown { IfOk result (IsShownOn settings.now (map (λ path. string_bytes path) paths.now)) }
-    ensures fault { IfErr result (IsRunFaultOn settings.now out.now (map (λ path. string_bytes path) paths.now)) }
+    ensures fault { IfErr result (λ failure. IsRunFaultOn settings.now out.now (map (λ path. string_bytes path) paths.now) failure.fault) }
 {
     let files = read_files(rt, paths, progress)?;
     let shown = shown_of(rt, settings, files.as_slice(), progress)?;
-    check_output(rt, out, paths)?;
-    write_file(rt, out, shown.record(), progress)?;
+    check_record(rt, out, paths)?;
+    keep(rt, out, shown.record(), progress)?;
     Ok(shown)
 }
 
@@ -36,13 +38,13 @@ fn shown_of<R: AllocGlobal + Eprint + Threads + Wait + Sync>(
     settings: &Settings,
     files: &[Payload],
     progress: &Progress<'_, R>,
-) -> Result<Shown, Fault>
+) -> Result<Shown, Failure>
     ensures shown { IfOk result (IsShown settings.now files.now) }
-    ensures fault { IfErr result (IsRunFault settings.now files.now) }
+    ensures fault { IfErr result (λ failure. IsRunFault settings.now files.now failure.fault) }
 {
     let gate = progress.jobs();
     match execute_watched(rt, rt.alloc(), settings, files, &gate, progress) {
         Ok(shown) => Ok(shown),
-        Err(fault) => Err(Fault::Engine(fault)),
+        Err(fault) => Err(plain(Fault::Engine(fault))),
     }
 }

@@ -1,4 +1,4 @@
-ghost use Rattle.std.specs.Prelude.{IfOk, IfSome};
+ghost use Rattle.std.specs.Prelude.{IfOk};
 ghost use Rattle.nvm_commands.specs.Nvmu.Words.{IsAsked};
 
 use crate::nvmu::refute_words::{refute_asked, refute_command};
@@ -6,9 +6,8 @@ use clap::{Arg, ArgMatches, Command, Error};
 use nvm_engine::{Settings, Workers};
 use nvm_front::{
     AuditWords, VERSION, WitnessWords, WordFault, audit_command, file_arguments, limit,
-    limit_given, missing, nabo, nabsn, nsze, number_of_16_bits, number_of_32_bits,
-    number_of_64_bits, number_option, owned, path_option, read_audit, read_witness,
-    witness_command, workers_given,
+    limit_given, nabo, nabsn, nsze, number_of_16_bits, number_of_32_bits, number_of_64_bits,
+    number_option, owned, path_option, read_audit, read_witness, witness_command, workers_given,
 };
 use std::alloc::Global;
 
@@ -43,70 +42,44 @@ pub fn read_words<'a>(alloc: Global, words: &'a [&'a str]) -> Result<Asked, Word
 {
     let mut command = program(alloc)?;
     let matches = command.try_get_matches_from_mut(words)?;
-    match asked_of(alloc, &matches)? {
-        Some(asked) => Ok(asked),
-        None => Err(missing(&mut command)),
-    }
+    asked_of(alloc, &matches)
 }
 
-/// What the matches ask for, or `None` where something is missing or out of its range.
-fn asked_of(alloc: Global, matches: &ArgMatches<'_>) -> Result<Option<Asked>, WordFault>
-    ensures { IfOk result (λ asked. IfSome asked IsAsked) }
+/// What the matches ask for.
+fn asked_of(alloc: Global, matches: &ArgMatches<'_>) -> Result<Asked, WordFault>
+    ensures { IfOk result IsAsked }
 {
     match matches.subcommand() {
         Some(("run", run)) => run_asked(alloc, run),
-        Some(("audit", words)) => audit_asked(alloc, words),
-        Some(("witness", words)) => witness_asked(alloc, words),
+        Some(("audit", words)) => Ok(Asked::Audit(read_audit(alloc, words)?)),
+        Some(("witness", words)) => Ok(Asked::Witness(read_witness(alloc, words)?)),
         Some(("refute", words)) => refute_asked(alloc, words),
-        _ => Ok(None),
+        _ => Err(WordFault::Missing),
     }
 }
 
-/// What `nvmu run` is asked, or `None` where a value is missing or out of its range.
-fn run_asked(alloc: Global, run: &ArgMatches<'_>) -> Result<Option<Asked>, WordFault>
-    ensures { IfOk result (λ asked. IfSome asked IsAsked) }
+/// What `nvmu run` is asked.
+fn run_asked(alloc: Global, run: &ArgMatches<'_>) -> Result<Asked, WordFault>
+    ensures { IfOk result IsAsked }
 {
-    let (Some(settings), Some(out), Some(paths)) = (
-        settings_of(alloc, run)?,
-        run.get_str("out"),
-        run.get_strs("file"),
-    ) else {
-        return Ok(None);
+    let (Some(out), Some(paths)) = (run.get_str("out"), run.get_strs("file")) else {
+        return Err(WordFault::Missing);
     };
     if paths.is_empty() {
-        return Ok(None);
+        return Err(WordFault::Missing);
     }
+    let settings = settings_of(alloc, run)?;
     let out = String::from_str(alloc, out)?;
     let files = owned(alloc, paths)?;
-    Ok(Some(Asked::Run {
+    Ok(Asked::Run {
         settings,
         out,
         files,
-    }))
+    })
 }
 
-/// What `nvmu audit` is asked, or `None` where the path is missing.
-fn audit_asked(alloc: Global, words: &ArgMatches<'_>) -> Result<Option<Asked>, WordFault>
-    ensures { IfOk result (λ asked. IfSome asked IsAsked) }
-{
-    match read_audit(alloc, words)? {
-        Some(audit) => Ok(Some(Asked::Audit(audit))),
-        None => Ok(None),
-    }
-}
-
-/// What `nvmu witness` is asked, or `None` where a path is missing.
-fn witness_asked(alloc: Global, words: &ArgMatches<'_>) -> Result<Option<Asked>, WordFault>
-    ensures { IfOk result (λ asked. IfSome asked IsAsked) }
-{
-    match read_witness(alloc, words)? {
-        Some(witness) => Ok(Some(Asked::Witness(witness))),
-        None => Ok(None),
-    }
-}
-
-/// The options that are numbers, or `None` where one is missing.
-fn settings_of(alloc: Global, run: &ArgMatches<'_>) -> Result<Option<Settings>, WordFault> {
+/// The options that are numbers.
+fn settings_of(alloc: Global, run: &ArgMatches<'_>) -> Result<Settings, WordFault> {
     let (Some(nsze), Some(block), Some(nabsn), Some(nabo), Some(nawun), Some(nacwu)) = (
         number_of_64_bits(alloc, run, "nsze")?,
         number_of_32_bits(alloc, run, "block")?,
@@ -115,15 +88,15 @@ fn settings_of(alloc: Global, run: &ArgMatches<'_>) -> Result<Option<Settings>, 
         number_of_16_bits(alloc, run, "nawun")?,
         number_of_16_bits(alloc, run, "nacwu")?,
     ) else {
-        return Ok(None);
+        return Err(WordFault::Missing);
     };
     let (Some(workers), Some(limit)) = (workers_given(alloc, run)?, limit_given(alloc, run)?) else {
-        return Ok(None);
+        return Err(WordFault::Missing);
     };
     let Some(workers) = Workers::new(workers) else {
-        return Ok(None);
+        return Err(WordFault::Missing);
     };
-    Ok(Some(Settings {
+    Ok(Settings {
         nsze,
         block,
         nabsn,
@@ -132,7 +105,7 @@ fn settings_of(alloc: Global, run: &ArgMatches<'_>) -> Result<Option<Settings>, 
         nacwu,
         workers,
         limit,
-    }))
+    })
 }
 
 /// The command line of the program.

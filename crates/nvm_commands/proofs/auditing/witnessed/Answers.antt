@@ -1,5 +1,6 @@
 use Rattle.std.proofs.Common.{inl, inr}
-use Rattle.std.proofs.lemmas.Result.{err_from_is_err_and}
+use Rattle.std.proofs.lemmas.Result.{err_from_is_err_and, IfErr-weaker}
+use Rattle.nvm_commands.proofs.Held.{judged_fault}
 use Rattle.nvm_commands.proofs.auditing.witnessed.Goals as goal
 
 -- The trace's fault is returned as it is.
@@ -8,8 +9,15 @@ returns-in_err-seen-clause-fault g c =
     let p = err_from_is_err_and c.from_residual-in_err-seen.result c.from_residual-in_err-seen.ensures.1 in
     rw (p.1, p.2) (inr (inl c.in_err-seen.ensures.fault))
 
--- And so is the record's.
+-- And so is that of reading the other file.
 pub returns-in_err-held-clause-fault : goal.returns-in_err-held-clause-fault
 returns-in_err-held-clause-fault g c =
     let p = err_from_is_err_and c.from_residual-in_err-held.result c.from_residual-in_err-held.ensures.1 in
-    rw (p.1, p.2) (inr (inr c.in_err-held.ensures.fault))
+    rw (p.1, p.2) (inr (inr (inl c.in_err-held.ensures)))
+
+-- And what is first wrong in it.
+pub returns-clause-fault : goal.returns-clause-fault
+returns-clause-fault g c =
+    IfErr-weaker c.witnessed_by.result _ _
+    (λ failure is. judged_fault c.args.trace.now c.args.record.now c.in_ok-held.held failure.fault is)
+    c.witnessed_by.ensures.fault

@@ -1,5 +1,5 @@
+use Rattle.std.proofs.Common.{inr}
 use Rattle.std.proofs.lemmas.Result.{IfErr-weaker, IfOk-weaker}
-use Rattle.nvm_commands.proofs.Held.{record_fault}
 use Rattle.nvm_commands.proofs.files.read_as_record.Goals as goal
 
 pub returns-clause-run : goal.returns-clause-run
@@ -8,5 +8,4 @@ returns-clause-run g c =
 
 pub returns-clause-fault : goal.returns-clause-fault
 returns-clause-fault g c =
-    IfErr-weaker c.record_in.result _ _ (λ failure is. record_fault c.args.path.now c.in_ok-bytes.bytes failure.fault is)
-    c.record_in.ensures.fault
+    IfErr-weaker c.record_in.result _ _ (λ failure is. inr (c.in_ok-bytes.bytes, is)) c.record_in.ensures.fault

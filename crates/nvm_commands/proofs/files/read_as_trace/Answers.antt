@@ -1,5 +1,5 @@
+use Rattle.std.proofs.Common.{inr}
 use Rattle.std.proofs.lemmas.Result.{IfErr-weaker, IfOk-weaker}
-use Rattle.nvm_commands.proofs.Held.{trace_fault}
 use Rattle.nvm_commands.proofs.files.read_as_trace.Goals as goal
 
 pub returns-clause-trace : goal.returns-clause-trace
@@ -8,5 +8,4 @@ returns-clause-trace g c =
 
 pub returns-clause-fault : goal.returns-clause-fault
 returns-clause-fault g c =
-    IfErr-weaker c.trace_in.result _ _ (λ failure is. trace_fault c.args.path.now c.in_ok-bytes.bytes failure.fault is)
-    c.trace_in.ensures.fault
+    IfErr-weaker c.trace_in.result _ _ (λ failure is. inr (c.in_ok-bytes.bytes, is)) c.trace_in.ensures.fault

@@ -1,7 +1,7 @@
 use Rattle.std.proofs.Common.{inr, sym, subst}
 use Rattle.nvm_commands.specs.Fault.{IsFaultOfTrace}
 use Rattle.nvm_commands.specs.declared.fault.Fault.{Fault}
-use Rattle.nvm_commands.proofs.files.trace_in.Goals as goal
+use Rattle.nvm_commands.proofs.files.trace_of_file.Goals as goal
 
 pub returns-in-Err-clause-fault : goal.returns-in-Err-clause-fault
 returns-in-Err-clause-fault c =
