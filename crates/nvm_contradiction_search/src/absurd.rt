@@ -1,6 +1,5 @@
 use crate::derivation::Derivation;
 use crate::history::History;
-use crate::settling::Whose;
 use crate::window::Window;
 use nvm_points::Presence;
 use nvm_record::NoMemory;
@@ -12,6 +11,17 @@ pub enum Absurd {
     Loop { place: usize },
     Nobody { find: usize },
     Nowhere { finds: Vec<usize> },
+}
+
+impl Absurd {
+    /// Whether it is of the find that it can't be.
+    pub fn is_of(&self, number: usize) -> bool {
+        match self {
+            Absurd::Loop { .. } => false,
+            Absurd::Nobody { find } => *find == number,
+            Absurd::Nowhere { finds } => finds.contains(&number),
+        }
+    }
 }
 
 /// The finds of a point that is done in one of its blocks, if nobody can have put any of them, and this is the first.
@@ -41,10 +51,10 @@ fn nowhere(
             None => false,
         };
         if is_its {
-            match derivation.whose(number) {
-                Some(Whose::Nobody) => finds.push(number)?,
-                _ => return Ok(None),
+            if !derivation.is_nobody(window, number) {
+                return Ok(None);
             }
+            finds.push(number)?;
         }
     }
     if finds.len() == point.blocks as usize {
@@ -63,7 +73,7 @@ pub fn absurd_of(
 ) -> Result<Vec<Absurd>, NoMemory> {
     let mut absurd = Vec::new(alloc);
     for (place, find) in window.finds.iter().enumerate() {
-        if derivation.whose(place) != Some(Whose::Nobody) {
+        if !derivation.is_nobody(window, place) {
             continue;
         }
         if derivation.is_there(window, history, find.reader) {

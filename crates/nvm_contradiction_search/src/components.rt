@@ -24,7 +24,10 @@ pub struct Components {
 
 /// Whether the blocks of the point have to do with each other.
 fn joins(point: &Point<'_>) -> bool {
-    !point.each || point.tied || point.presence == Presence::OneOf
+    match point.presence {
+        Presence::OneOf | Presence::Together => true,
+        _ => !point.each || point.tied,
+    }
 }
 
 /// For each of the blocks in which something was found the number of its component.

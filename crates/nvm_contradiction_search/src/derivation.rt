@@ -470,10 +470,10 @@ impl Derivation {
             Rule::Own { by } => grounds.there.push(by)?,
             Rule::Source { find } => self.put_grounds(&mut grounds, window, find)?,
             Rule::First { find } => {
-                self.put_unserved(&mut grounds, window, find)?;
+                self.put_grounds(&mut grounds, window, find)?;
                 grounds.there.push(derived.later)?;
             }
-            Rule::AtFirst { find } => self.put_unserved(&mut grounds, window, find)?,
+            Rule::AtFirst { find } => self.put_grounds(&mut grounds, window, find)?,
             Rule::Over { find } => {
                 self.put_grounds(&mut grounds, window, find)?;
                 grounds.there.push(derived.later)?;
@@ -506,37 +506,71 @@ impl Derivation {
         Ok(grounds)
     }
 
-    /// Puts down that the reader is there, and why no other can have put what it found.
-    fn put_unserved(
+    /// Puts down why no other can have put what was found, and why it wasn't there at first.
+    fn put_grounds(
         &self,
         grounds: &mut Grounds,
         window: &Window,
         find: usize,
     ) -> Result<(), NoMemory> {
-        if let Some(its) = window.finds.get(find) {
-            grounds.there.push(its.reader)?;
+        match (self.settled.get(find), window.finds.get(find)) {
+            (Some(Some(settled)), Some(its)) => self.put_grounds_of(grounds, its, settled),
+            _ => Ok(()),
         }
-        if let Some(Some(settled)) = self.settled.get(find) {
-            grounds.conditions.extend_from_slice(&settled.conditions)?;
-            grounds.there.extend_from_slice(&settled.between)?;
+    }
+
+    fn put_grounds_of(
+        &self,
+        grounds: &mut Grounds,
+        find: &WindowFind,
+        settled: &Settled,
+    ) -> Result<(), NoMemory> {
+        grounds.there.push(find.reader)?;
+        grounds.there.extend_from_slice(&settled.between)?;
+        grounds.conditions.extend_from_slice(&settled.conditions)?;
+        if let (true, Some(first)) = (settled.is_other, self.other_first(find)) {
+            grounds.derived.push(first.index)?;
         }
         Ok(())
     }
 
-    /// Puts down why no other can have put what was found, and why it wasn't there at first.
-    pub fn put_grounds(
+    /// Whether nobody can have put what was found: that is settled, or something else was found between who put it and its reader.
+    pub fn is_nobody(&self, window: &Window, find: usize) -> bool {
+        let Some(its) = window.finds.get(find) else {
+            return false;
+        };
+        let before = self.orders.before(its.reader);
+        let since = match self.whose(find) {
+            Some(Whose::Nobody) => return true,
+            Some(Whose::Writer(source)) => self.orders.after(source),
+            Some(Whose::First) => before,
+            None => return false,
+        };
+        match (since, before) {
+            (Some(since), Some(before)) => its.others.first_with(since, before) != None,
+            _ => false,
+        }
+    }
+
+    /// Puts down why nobody can have.
+    pub fn put_nobody(
         &self,
+        alloc: Global,
         grounds: &mut Grounds,
         window: &Window,
         find: usize,
     ) -> Result<(), NoMemory> {
-        self.put_unserved(grounds, window, find)?;
-        if let (Some(Some(settled)), Some(its)) = (self.settled.get(find), window.finds.get(find)) {
-            if let (true, Some(first)) = (settled.is_other, self.other_first(its)) {
-                grounds.derived.push(first.index)?;
-            }
+        let Some(its) = window.finds.get(find) else {
+            return Ok(());
+        };
+        let Some(sure) = self.sure.get(its.block) else {
+            return Ok(());
+        };
+        let is_other = self.other_first(its).is_some();
+        match who_put(alloc, &self.orders, its, sure, is_other, true)? {
+            Some(settled) => self.put_grounds_of(grounds, its, &settled),
+            None => Ok(()),
         }
-        Ok(())
     }
 }
 

@@ -145,12 +145,12 @@ fn grounds_of(
         }
         Absurd::Nobody { find } => {
             finds.put(*find);
-            derivation.put_grounds(&mut grounds, window, *find)?;
+            derivation.put_nobody(alloc, &mut grounds, window, *find)?;
         }
         Absurd::Nowhere { finds: each } => {
             for find in each {
                 finds.put(*find);
-                derivation.put_grounds(&mut grounds, window, *find)?;
+                derivation.put_nobody(alloc, &mut grounds, window, *find)?;
             }
         }
     }

@@ -153,13 +153,15 @@ fn put_excuse(
 }
 
 /// Why what was found wasn't there at first, if it can have been, and why those that can have put it, and aren't in question by the times,
-/// aren't: who put the block last before the reader, and what goes without saying of each where they are few.
+/// aren't: what goes without saying of each where they are few, and where they are or the conclusion is of the find, who put the block
+/// last before the reader.
 fn put_excuses(
     alloc: Global,
     facts: &mut Vec<Fact>,
     history: &History<'_, '_>,
     window: &Window,
     number: usize,
+    is_concluded: bool,
 ) -> Result<(), NoMemory> {
     let Some(find) = window.finds.get(number) else {
         return Ok(());
@@ -196,7 +198,7 @@ fn put_excuses(
         }
     }
     match last {
-        Some(writer) if is_overwritten => put_once(
+        Some(writer) if is_overwritten && (is_concluded || servers.len() <= FEW) => put_once(
             facts,
             Fact::Time {
                 earlier: history.node(writer, block),
@@ -230,7 +232,8 @@ pub fn told(
         }
     }
     for find in &reasons.finds.places(alloc)? {
-        put_excuses(alloc, &mut facts, history, window, *find)?;
+        let is_concluded = absurd.is_of(*find);
+        put_excuses(alloc, &mut facts, history, window, *find, is_concluded)?;
     }
     for index in &reasons.derived {
         let Some(derived) = derivation.derived.get(*index) else {
