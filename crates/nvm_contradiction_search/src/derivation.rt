@@ -296,12 +296,14 @@ impl Derivation {
             return Ok(());
         };
         let reader = find.reader;
-        let (kept, known) = if is_over {
-            (self.orders.after(source), self.orders.after(reader))
+        let sure = self.sure.get(find.block);
+        let orders = &self.orders;
+        let writers = if is_over {
+            among(alloc, sure, orders.after(source), orders.after(reader))?
         } else {
-            (self.orders.before(reader), self.orders.before(source))
+            among(alloc, sure, orders.before(reader), orders.before(source))?
         };
-        for writer in &among(alloc, self.sure.get(find.block), kept, known)? {
+        for writer in &writers {
             if *writer == source || *writer == reader {
                 continue;
             }
@@ -348,7 +350,10 @@ impl Derivation {
     /// Notes of points that come before others that they are there, since those are.
     fn put_owns(&mut self, window: &Window, history: &History<'_, '_>) -> Result<(), NoMemory> {
         for at in 0..self.owns.len() {
-            let (before, later) = self.owns[at];
+            let Some(own) = self.owns.get(at) else {
+                continue;
+            };
+            let (before, later) = *own;
             if self.is_there(window, history, before) {
                 continue;
             }
