@@ -298,12 +298,7 @@ BY_HAND = [
 ]
 
 # Verdicts on the standard's traces that no order explains, of which no contradiction is found.
-UNSHOWN = {
-    ("deallocated_value_changes", "reads atomic contradicted"),
-    ("copy_writes_late", "reads atomic contradicted"),
-    ("pair_compared_in_the_lower_unit_alone", "reads atomic contradicted"),
-    ("pair_compared_in_the_upper_unit_alone", "reads atomic contradicted"),
-}
+UNSHOWN = {("copy_writes_late", "reads atomic contradicted")}
 
 # Of each device the number that makes its run, and the verdict.
 DEVICES = {

@@ -169,8 +169,11 @@ STALE = on_a_block((1, 2, write(0, 1), None), (3, 4, write(0, 2), None), (5, 6, 
 STALE_FIRST = bytes.fromhex("4e564531 020002 00 0200000000000000 06 02000000 00000000 00000000 00 00000000 00000000 02000000 00000000")
 # Of three Writes at once two leave the same.
 TWICE = on_a_block(*((1, 10, write(0, it), None) for it in (1, 2, 1)), (11, 12, read(0, 1), 2), (13, 14, read(0, 1), 1), (15, 16, read(0, 1), 2))
-# What a Deallocate left was found to be two things, of which no rule of a contradiction speaks.
-UNSETTLED = on_a_block((1, 2, write(0, 1), None), (3, 4, dataset((0, 1)), None), (5, 6, read(0, 1), 0), (7, 8, read(0, 1), 0xFF))
+# What two Writes at once left was found three times, and something else between: no rule of a contradiction says which of them was found when.
+UNSETTLED = on_a_block(
+    *((1, 20, write(0, it), None) for it in (1, 2, 1, 2)),
+    *((at, at + 1, read(0, 1), found) for at, found in ((3, 1), (5, 2), (7, 1), (9, 2), (11, 1))),
+)
 
 # The order of what was seen in turn.
 RIGHT_ORDER = bytes.fromhex(
