@@ -297,8 +297,6 @@ BY_HAND = [
     ),
 ]
 
-# Verdicts on the standard's traces that no order explains, of which no contradiction is found.
-UNSHOWN = {("copy_writes_late", "reads atomic contradicted")}
 
 # Of each device the number that makes its run, and the verdict.
 DEVICES = {
@@ -362,7 +360,7 @@ def certified(folder, text, words=()):
     path = os.path.join(folder, evidence)
     hold("evidence", os.path.exists(path), verdict != UNKNOWN and not is_reply)
     if verdict == EXPLAINED:
-        hold("all that is told", told, f"{first}\n{together_line(together([*map(times_of, lines)]))}")
+        hold("all that is told", told, f"{first}\n{together_line(together([*map(times_of, lines[1:])]))}")
         for name in ("nvmu", "nvq"):
             hold("witness", answer(folder, name, "witness", trace, evidence), (0, f"{first}\n"))
         hold("explain", answer(folder, "nvq", "explain", trace, evidence)[1].splitlines()[0], first)
@@ -431,7 +429,7 @@ def of_the_standard(folder):
         for one in asked:
             *said, verdict = one.split()
             words = tuple(word if place % 2 else f"--{word}" for place, word in enumerate(said))
-            wanted = (EXPLAINED,) if verdict == "explained" else (UNKNOWN,) if (name, one) in UNSHOWN else (CONTRADICTION,)
+            wanted = (EXPLAINED,) if verdict == "explained" else (CONTRADICTION,)
             wrong = judged(folder, "".join(f"{line}\n" for line in lines), words, wanted)[1]
             yield wrong and f"{name}: {one}: {wrong}"
 

@@ -160,7 +160,7 @@ so job 1 comes before itself
 job 3 found in LBA 0 what nobody can have left there
 """,
     ),
-    (CROSSED, contradiction(conclusion=nobody(3)), NOTHING),
+    (CROSSED, contradiction(conclusion=nobody(3)), (3,), "job 3 found in LBA 0 what nobody can have left there\n"),
     (
         ZEROED,
         contradiction(source(1, 2), over(3, 1, 0), time(2, 3)),
@@ -179,7 +179,7 @@ so job 2 comes before itself
 job 3 found in LBA 0 what nobody can have left there
 """,
     ),
-    (DEALLOCATED, contradiction(conclusion=nobody(3)), NOTHING),
+    (DEALLOCATED, contradiction(conclusion=nobody(3)), (3,), "job 3 found in LBA 0 what nobody can have left there\n"),
     (DEALLOCATED, contradiction(fact(1, 1, 0, 0)), "unrefuted FactWrong fact 0"),
     (
         OWN,
@@ -195,7 +195,7 @@ job 3 found in LBA 0 what nobody can have left there
         (0, 1),
         "job 0 found in LBA 0 what was there at first: nobody else can have left that\njob 1 found in LBA 0 what nobody can have left there\n",
     ),
-    (UNKNOWN, contradiction(conclusion=nobody(1)), NOTHING),
+    (UNKNOWN, contradiction(conclusion=nobody(1)), (1,), "job 1 found in LBA 0 what nobody can have left there\n"),
     (
         TORN,
         contradiction(first(1, 0, 1), TIED_BEFORE, source(0, 1)),
