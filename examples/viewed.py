@@ -232,7 +232,7 @@ def traces(rows, folder):
     rows.hold("the page of a long contradiction", written([kept("long.txt", LONG), page]), (0, ""))
     said = looked(folder, "page.html", [], 14)
     rows.hold("an error in it", said.get("error"), None)
-    rows.hold("the others that did something in the block", [it for it in said.get("why", []) if "other commands" in it], ["9 other commands: LBA 9 in the filters lists them"])
+    rows.hold("the others that did something in the block", [it for it in said.get("why", []) if "other commands" in it], ["8 other commands: LBA 9 in the filters lists them"])
     rows.has("the Write before the Read", said.get("why", []), "job 12 (Write 9+1) put 512*42")
     rows.hold("a jump to a command that isn't shown", (said.get("jumped"), said.get("shown")), ("job 14: Write 20+1", "all"))
 
