@@ -131,11 +131,13 @@ def calls_in(text):
 
 
 def ends_of(text, begin, end):
-    """From where to where each Ok goes that a body answers, and not one that it matches."""
+    """From where to where each Ok goes that a body answers, and not one that it matches, or that stands in another."""
+    reached = begin
     for found in re.finditer(r"(?<![\w:])Ok\(", text[begin:end]):
         at = begin + found.start()
         last = closing(text, begin + found.end() - 1) + 1
-        if not re.match(r"\s*(=>|=[^=]|if )", text[last:]):
+        if at >= reached and not re.match(r"\s*(=>|=[^=]|if )", text[last:]):
+            reached = last
             yield at, last
 
 
