@@ -50,7 +50,7 @@ def witnesses(kept):
         judged("a time that goes back", with_seen(TRACE, 2, began=1, ended=2), "unexplained TimeBack job 2 unit 0 place 1"),
         fault("a cut trace", whole[:-1], f"truncated at {len(whole) - 1024}"),
         fault("no trace", record_bytes(RECORD)[:2], "bad name"),
-        Run("a missing trace", "nvmu", ["witness", missing, record], 1, err=f"nvmu: cannot read {missing}\n"),
+        Run("a missing trace", "nvmu", ["witness", missing, record], 1, err=f"nvmu: cannot read {missing}\n", hides_wants=True),
         Run("a trace that an order explains", "nvmu", ["witness", kept("keeping.nvt", spelled(KEEPING)), kept("keeping.nve", ORDER)], out=ORDERED),
         Run("a cut order", "nvmu", ["witness", kept("keeping.nvt", spelled(KEEPING)), kept("cut.nve", ORDER[:-1])], 1, err=f"nvmu: order: truncated at {len(ORDER) - 1}\n"),
         Run("no record of a trace", "nvmu", ["witness", record], 1),
@@ -220,13 +220,10 @@ def certified(kept):
         "job 1 comes before job 2: it had ended at 4, and job 2 began at 5\njob 2 found in LBA 0 what nobody can have left there\n"
     )
     twice = (
-        f"contradiction commands 5 {PROFILE}\n{''.join(f'job {it} {line_of(TWICE, it)}' for it in range(5))}"
+        f"contradiction commands 3 {PROFILE}\n{''.join(f'job {it} {line_of(TWICE, it)}' for it in (1, 4, 5))}"
         "job 1 comes before job 4: it had ended at 10, and job 4 began at 13\n"
-        "job 2 comes before job 3: it had ended at 10, and job 3 began at 11\n"
-        "job 0 comes before job 3: it had ended at 10, and job 3 began at 11\n"
-        "job 0 comes before job 1 in LBA 0: job 0 put something there, comes before job 3, and job 3 found job 1's data\n"
-        "job 2 comes before job 1 in LBA 0: job 2 put something there, comes before job 3, and job 3 found job 1's data\n"
-        "job 4 found in LBA 0 what nobody can have left there\n"
+        "job 4 comes before job 5: it had ended at 14, and job 5 began at 15\n"
+        "job 5 found in LBA 0 what nobody can have left there\n"
     )
     keeping, odd = kept("keeping.nvt", spelled(KEEPING)), kept("odd.nvt", spelled(odd_reply()))
     ordered_object = '{"verdict":"explained","jobs":3,"points":2,"together":1,"reads":"atomic","deallocated":"either"}\n'
