@@ -1,6 +1,7 @@
 /* The engine that one would write by hand, without a proof and without a record: the blocks are one array, an atomic unit has a mutex, and a command does its
  * part of each unit with that unit's mutex held, in ascending order up to the first part that fails. It answers zk_open, zk_submit and zk_close as include/zalkvorn.h has them,
- * for what bench/c_load.c asks; nothing is ever pending. It is what zk_submit is measured beside (bench/c_beside), and not for use. */
+ * for what bench/c_load.c asks, and zk_identify for clients/nvme-tcp/target.c; nothing is ever pending, and nothing is recorded. It is what zk_submit is measured beside (bench/c_beside, bench/wire), and not for
+ * use. */
 #include <pthread.h>
 #include <stdlib.h>
 #include <string.h>
@@ -12,6 +13,9 @@
 #undef zk_close
 #undef zk_submit
 #undef zk_poll
+#undef zk_identify
+#undef zk_record
+#undef zk_audit
 
 struct engine {
     struct zk_namespace ns;
@@ -266,4 +270,38 @@ int zk_poll(struct zk_port *port, uint8_t *data, size_t data_length, uint8_t *co
 {
     (void)data, (void)data_length, (void)completions, (void)completions_length;
     return port->opaque[0] ? ZK_IDLE : ZK_NOT_OPEN;
+}
+
+uint32_t zk_version(void)
+{
+    return ZK_VERSION;
+}
+
+int zk_identify(struct zk_port *port, uint8_t *data, size_t data_length)
+{
+    struct engine *of = (struct engine *)(uintptr_t)port->opaque[0];
+    if (!of)
+        return ZK_NOT_OPEN;
+    if (data_length != ZK_IDENTIFY_BYTES)
+        return ZK_BAD_LENGTH;
+    memset(data, 0, data_length);
+    memcpy(data, &of->ns.nsze, 8);
+    data[24] = 2;
+    memcpy(data + 34, &of->ns.nawun, 2);
+    memcpy(data + 38, &of->ns.nacwu, 2);
+    memcpy(data + 40, &of->ns.nabsn, 2);
+    memcpy(data + 42, &of->ns.nabo, 2);
+    return ZK_DONE;
+}
+
+int zk_record(struct zk_port *ports, size_t count, uint8_t *bytes, size_t room, size_t *length)
+{
+    (void)ports, (void)count, (void)bytes, (void)room, (void)length;
+    return ZK_NO_RECORD;
+}
+
+int zk_audit(const uint8_t *bytes, size_t length, char *line, size_t room)
+{
+    (void)bytes, (void)length, (void)line, (void)room;
+    return ZK_BAD_RECORD;
 }

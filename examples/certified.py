@@ -23,6 +23,7 @@ sys.dont_write_bytecode = True
 sys.path[:0] = [HERE, os.path.join(TOP, "sweep"), os.path.join(TOP, "bench", "standard")]
 
 from devices import BUGS, CLEARED, TORN, crossing, left, trace_of
+import briefs
 import judge as standard
 from host_files import compare, dataset, pair, read, uncorrectable, write, zeroes
 from model import READ, WRITE, Namespace
@@ -297,9 +298,6 @@ BY_HAND = [
     ),
 ]
 
-# Verdicts on the standard's traces that no order explains, of which no contradiction is found.
-UNSHOWN = {("copy_writes_late", "reads atomic contradicted")}
-
 # Of each device the number that makes its run, and the verdict.
 DEVICES = {
     None: (0, EXPLAINED),
@@ -352,7 +350,7 @@ def certified(folder, text, words=()):
     """What is printed of the trace of a text. Its evidence, its object and the standard's page say the same."""
     trace, evidence = (f"{os.getpid()}.{kind}" for kind in ("nvt", "nve"))
     lines = traced(folder, trace, text).splitlines()
-    status, told = answer(folder, "nvq", "certify", *words, "--evidence", evidence, trace)
+    status, told = answer(folder, "nvq", "certify", *words, "--data", "--evidence", evidence, trace)
     first = told.splitlines()[0]
     verdict = first.split()[0]
     hold("status", status, STATUSES[verdict])
@@ -368,8 +366,11 @@ def certified(folder, text, words=()):
         hold("explain", answer(folder, "nvq", "explain", trace, evidence)[1].splitlines()[0], first)
     elif os.path.exists(path):
         held_to_commands(lines, told)
+        status, brief = answer(folder, "nvq", "certify", *words, trace)
+        hold("status in brief", status, STATUSES[verdict])
+        briefs.held(lines, brief, told)
         hold("refute", answer(folder, "nvmu", "refute", trace, evidence), (0, refuted(told)))
-        hold("explain", answer(folder, "nvq", "explain", trace, evidence), (0, told.replace(f"{first}\n", refuted(told), 1)))
+        hold("explain", answer(folder, "nvq", "explain", trace, evidence), (0, brief.replace(f"{first}\n", refuted(told), 1)))
     if os.path.exists(path):
         os.remove(path)
     hold("the standard says otherwise", by_the_standard(text, words) == DENIED[verdict], False)
@@ -431,7 +432,7 @@ def of_the_standard(folder):
         for one in asked:
             *said, verdict = one.split()
             words = tuple(word if place % 2 else f"--{word}" for place, word in enumerate(said))
-            wanted = (EXPLAINED,) if verdict == "explained" else (UNKNOWN,) if (name, one) in UNSHOWN else (CONTRADICTION,)
+            wanted = (EXPLAINED,) if verdict == "explained" else (CONTRADICTION,)
             wrong = judged(folder, "".join(f"{line}\n" for line in lines), words, wanted)[1]
             yield wrong and f"{name}: {one}: {wrong}"
 

@@ -15,7 +15,7 @@ EXPLAINED = f"explained jobs 3 points 3 {PROFILE}\n"
 CERTIFIED = EXPLAINED + told_together(TRACE)
 # A Read of what nobody wrote: job 2, in LBA 0.
 WRONG = with_seen(TRACE, 2, data=b"\x43" * 512)
-WRONG_LINES = f"job 2 {text_of(WRONG).splitlines()[3]}\njob 2 found in LBA 0 what nobody can have left there\n"
+WRONG_LINES = f"Job 2 found in LBA 0 bytes that no other command put there.\njob 2 {text_of(WRONG).splitlines()[3]}\njob 2 found in LBA 0 what nobody can have left there\n"
 CONTRADICTION = f"contradiction commands 1 {PROFILE}\n{WRONG_LINES}"
 NOBODY = bytes.fromhex("4e564531 02 00 02 01 02000000 00000000 0000000000000000")
 # A pair, and a Read of the zeroes that it took away: the example of docs/FORMATS.md.
@@ -139,12 +139,15 @@ TORN = f"""{HEAD}10 40 1 1 write 0 2 1024*41 = 0/00
 BLIND = f"{HEAD}1 2 1 1 compare 0 2 1024*00 = 2/85\n"
 TIED_BEFORE, TIED_AFTER = fact(8, 1, 0, 0, 1), fact(9, 0, 1, 1, 0)
 
-# Traces, facts and a conclusion, what they come to, the jobs that they name, and the lines of the facts and the conclusion, where they are taken.
+NO_ORDER = "No order of these commands gives what their hosts saw."
+# Traces, facts and a conclusion, and what they come to; or, where they are taken, the jobs that they name, the sentence that says what is wrong, and
+# the lines of the facts and the conclusion.
 RULES = [
     (
         CROSSED,
         contradiction(under(0, 1, 2), over(3, 1, 0), time(1, 3)),
         (0, 1, 2, 3),
+        NO_ORDER,
         """job 0 comes before job 1 in LBA 0: job 0 put something there, comes before job 2, and job 2 found job 1's data
 job 3 comes before job 1 in LBA 0: job 1 put something there after job 0, whose data job 3 found
 job 1 comes before job 3: it had ended at 9, and job 3 began at 12
@@ -156,15 +159,24 @@ so job 1 comes before itself
         CROSSED,
         contradiction(under(0, 1, 2), conclusion=nobody(3)),
         (0, 1, 2, 3),
+        "Job 3 found in LBA 0 what job 0 had left there, though job 1 had put other data there since.",
         """job 0 comes before job 1 in LBA 0: job 0 put something there, comes before job 2, and job 2 found job 1's data
 job 3 found in LBA 0 what nobody can have left there
 """,
     ),
-    (CROSSED, contradiction(conclusion=nobody(3)), (3,), "job 3 found in LBA 0 what nobody can have left there\n"),
+    (
+        CROSSED,
+        contradiction(conclusion=nobody(3)),
+        (3,),
+        # Of the two Writes nobody knows yet which came first.
+        "Job 3 found in LBA 0 what job 0 had left there, though job 2 had found other data there since.",
+        "job 3 found in LBA 0 what nobody can have left there\n",
+    ),
     (
         ZEROED,
         contradiction(source(1, 2), over(3, 1, 0), time(2, 3)),
         (0, 1, 2, 3),
+        NO_ORDER,
         """job 1 comes before job 2 in LBA 0: only job 1 can have put what job 2 found there
 job 3 comes before job 1 in LBA 0: job 1 put something there after job 0, whose data job 3 found
 job 2 comes before job 3: it had ended at 5, and job 3 began at 6
@@ -175,16 +187,24 @@ so job 2 comes before itself
         DEALLOCATED,
         contradiction(fact(1, 1, 2, 0), conclusion=nobody(3)),
         (1, 2, 3),
+        "Job 3 found in LBA 0 what job 1 had left there, though job 2 had put other data there since.",
         """job 1 comes before job 2 in LBA 0: a Deallocate that had ended at 4 isn't done after a later write, and job 2 began at 5
 job 3 found in LBA 0 what nobody can have left there
 """,
     ),
-    (DEALLOCATED, contradiction(conclusion=nobody(3)), (3,), "job 3 found in LBA 0 what nobody can have left there\n"),
+    (
+        DEALLOCATED,
+        contradiction(conclusion=nobody(3)),
+        (3,),
+        "Job 3 found in LBA 0 what job 1 had left there, though job 2 had put other data there since.",
+        "job 3 found in LBA 0 what nobody can have left there\n",
+    ),
     (DEALLOCATED, contradiction(fact(1, 1, 0, 0)), "unrefuted FactWrong fact 0"),
     (
         OWN,
         contradiction(fact(2, 1, 1), conclusion=nobody(0, 1)),
         (0,),
+        "Job 0 found in LBA 1 bytes that no other command put there.",
         "job 0's Compare comes before its Write in LBA 1\njob 0's Compare found in LBA 1 what nobody can have left there\n",
     ),
     (OWN, contradiction(fact(2, 1, 1), conclusion=nobody(0, 0)), NOTHING),
@@ -193,13 +213,21 @@ job 3 found in LBA 0 what nobody can have left there
         UNKNOWN,
         contradiction(at_first(0), conclusion=nobody(1)),
         (0, 1),
+        "Job 1 found in LBA 0 bytes that no other command put there.",
         "job 0 found in LBA 0 what was there at first: nobody else can have left that\njob 1 found in LBA 0 what nobody can have left there\n",
     ),
-    (UNKNOWN, contradiction(conclusion=nobody(1)), (1,), "job 1 found in LBA 0 what nobody can have left there\n"),
+    (
+        UNKNOWN,
+        contradiction(conclusion=nobody(1)),
+        (1,),
+        "Job 1 found in LBA 0 bytes that no other command put there.",
+        "job 1 found in LBA 0 what nobody can have left there\n",
+    ),
     (
         TORN,
         contradiction(first(1, 0, 1), TIED_BEFORE, source(0, 1)),
         (0, 1),
+        "Job 1 found job 0 half done: what it put was in LBA 0, and not in LBA 1.",
         """job 1 comes before job 0 in LBA 1: job 1 found the zeroes there that were in LBA 1 at first, and nobody can have left zeroes there
 job 1 comes before job 0 in LBA 0: it does in LBA 1, and job 0 put both at one moment
 job 0 comes before job 1 in LBA 0: only job 0 can have put what job 1 found there
@@ -210,6 +238,7 @@ so job 0 comes before itself
         TORN,
         contradiction(source(0, 1), TIED_AFTER, first(1, 0, 1)),
         (0, 1),
+        "Job 1 found job 0 half done: what it put was in LBA 0, and not in LBA 1.",
         """job 0 comes before job 1 in LBA 0: only job 0 can have put what job 1 found there
 job 0 comes before job 1 in LBA 1: it does in LBA 0, and job 0 put both at one moment
 job 1 comes before job 0 in LBA 1: job 1 found the zeroes there that were in LBA 1 at first, and nobody can have left zeroes there
@@ -221,6 +250,7 @@ so job 1 comes before itself
         BLIND,
         contradiction(conclusion=nowhere(0)),
         (0,),
+        "Job 0 failed to compare, though each of its blocks held what it compared.",
         "job 0 failed to compare, and found in none of its blocks anything but what it compared\n",
     ),
     (BLIND.replace("1024*00", "512*00,512*41"), contradiction(conclusion=nowhere(0)), NOTHING),
@@ -297,7 +327,7 @@ def contradictions_judged(run):
     run.expect(["nvmu", "refute", "unknown.nvt", "stale.nve"], out=f"{refuted}")
 
 
-def judged_by_rules(run, text, file, said, lines=""):
+def judged_by_rules(run, text, file, said, sentence="", lines=""):
     """What a contradiction comes to by its rules: a line, or the jobs that it names and what else is told of it."""
     trace_of(run, "ruled.nvt", text)
     run.keep("ruled.nve", file)
@@ -308,7 +338,7 @@ def judged_by_rules(run, text, file, said, lines=""):
     line = f"refuted commands {len(said)} facts {lines.count(chr(10)) - 1} {PROFILE}\n"
     run.expect(["nvmu", "refute", "ruled.nvt", "ruled.nve"], out=line)
     jobs = "".join(f"job {job} {text.splitlines()[1 + job]}\n" for job in said)
-    run.expect(["nvq", "explain", "ruled.nvt", "ruled.nve"], out=f"{line}{jobs}{lines}")
+    run.expect(["nvq", "explain", "ruled.nvt", "ruled.nve"], out=f"{line}{sentence}\n{jobs}{lines}")
 
 
 def contradictions_changed(run):

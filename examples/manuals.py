@@ -14,7 +14,7 @@ from dataclasses import dataclass
 
 PROGRAMS = ("nvmu", "nvq")
 WORDS = (
-    "nvq is for people, and nvmu for other programs. Both have audit and witness, which print the same of a record; nvmu witness takes orders, too.",
+    "nvq is for people, and nvmu for other programs. Both have audit and witness, which print the same.",
     "An option's number is decimal, or hexadecimal after 0x. It may end in k, m or g, for 1,024, 1,048,576 or 1,073,741,824 times as much.",
     "A file whose name is - is written ./-.",
     "A short input may ask for much: each Read of 65,536 blocks has a run hold 32 MiB and more, and all of an input is read before any of it is judged. Where you don't trust an input, set ulimit -v. Memory that is refused then is told as no memory, with status 1, or ends a command with 0/06.",

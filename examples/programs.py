@@ -310,12 +310,12 @@ NO_TRACES = [
 ]
 # What should be a trace's text, its fault, and what helps.
 NO_TEXTS = [
-    (b"", "expected a trace's head", ""),
-    (b"# nothing\n", "expected a trace's head", ""),
-    (b"walk\n", f"line 1: {HEAD}", the_line("walk")),
+    (b"", "expected a trace's head", "it has no line with words"),
+    (b"# nothing\n", "expected a trace's head", "it has no line with words"),
+    (b"walk\n1 2 65 1 read 0 1\n", f"line 1: {HEAD}", the_line("walk", of="it")),
     (b"\n# a list\nread 0 1 # it\n", f"line 3: {HEAD}", "it is a command list: nvq run it does its commands"),
     (b"op-7f 0 1\n", f"line 1: {HEAD}", "it is a command list: nvq run it does its commands"),
-    (text_of(TRACE).encode() + b"1 2 65 1 read 0 1\n", f"line {len(TRACE.jobs) + 2}: expected a host from 1 to 64", the_line("1 2 65 1 read 0 1")),
+    (text_of(TRACE).encode() + b"1 2 65 1 read 0 1\n", f"line {len(TRACE.jobs) + 2}: expected a host from 1 to 64", the_line("1 2 65 1 read 0 1", of="it")),
     (b"\0NVT1", f"line 1: {HEAD}", ""),
 ]
 # Where a trace's text isn't taken.

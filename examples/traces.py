@@ -287,7 +287,7 @@ def faults_of_texts(run):
         ("1 1 1 4 read 0 1 = 0/00 41 42", "expected nothing more in this line"),
     ):
         # Behind other lines, and before another wrong one.
-        err = told(f"nvq: line 4: {expected}", the_line(wrong))
+        err = told(f"nvq: line 4: {expected}", the_line(wrong, "line 5: expected a time from 1 at which it began"))
         run.expect(["nvq", "trace", "-", "-"], 1, given=f"{head}\n{line}\n\n{wrong}\nanother\n".encode(), err=err)
     for wrong, why in (
         ("2 1 1 4 zeroes 0 1 = 0/00", "it ended before it began"),
@@ -299,7 +299,14 @@ def faults_of_texts(run):
     ):
         err = told(f"nvq: line 2: expected what a trace can have, but {why}", the_line(wrong))
         run.expect(["nvq", "trace", "-", "-"], 1, given=f"{head}\n{wrong}\n".encode(), err=err)
-    run.expect(["nvq", "trace", "-", "-"], 1, given=b"# nothing\n", err="nvq: expected a trace's head\n")
+    run.expect(["nvq", "trace", "-", "-"], 1, given=b"# nothing\n", err=told("nvq: expected a trace's head", "standard input has no line with words"))
+    # All wrong lines are told, up to 21 of them.
+    for count, more in ((21, ()), (22, ("and more",))):
+        run.keep("wrong.txt", f"{head}\n" + f"walk\n{line}\n" * count)
+        others = [f"line {2 * place}: expected a time from 1 at which it began" for place in range(2, 22)]
+        err = told("nvq: line 2: expected a time from 1 at which it began", the_line("walk", *others, *more, of="wrong.txt"))
+        for words in ("trace wrong.txt out", "certify wrong.txt"):
+            run.expect(["nvq", *words.split()], 1, err=err)
     run.expect(["nvq", "trace", "missing", "-"], 1, err=told("nvq: cannot read missing", MISSING))
 
 

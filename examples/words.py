@@ -198,7 +198,8 @@ def nearest(run):
         status, said = run.status_of(words.split())
         tips = [line for line in said.decode().splitlines() if line.startswith("  tip: ") and "similar" in line]
         run.hold(f"what is near: {words}", (status, [f"'{near}'" in line for line in tips]), (1, [True]))
-    for words in ("nvq walk a", "nvq audit --bogus a"):
+    # A contradiction is judged by nvmu, and a verdict is searched for by nvq; pictures are gone.
+    for words in ("nvq walk a", "nvq audit --bogus a", "nvq refute a", "nvq draw a", "nvmu certify a"):
         status, said = run.status_of(words.split())
         run.hold(f"nothing is near: {words}", (status, b"similar" in said, words.split()[-2].encode() in said), (1, False, True))
 

@@ -2,9 +2,10 @@
  *
  *     flips audit RECORD
  *     flips witness TRACE RECORD PLACE     the file of place 0 or 1 is flipped
+ *     flips order TRACE ORDER PLACE
  *     flips refute TRACE CONTRADICTION PLACE
  *
- * The witness is strict. A file lies in a room that ends with it. */
+ * The witness of a record is strict. A file lies in a room that ends with it. */
 #include <stdio.h>
 #include <stdlib.h>
 #include <string.h>
@@ -39,7 +40,7 @@ static int answered(char call, const struct file *files)
         memcpy(own[i] + 1, files[i].bytes ? files[i].bytes : own[i], files[i].size);
     }
     int code = call == 'a' ? zk_audit(own[0] + 1, files[0].size, line, sizeof line)
-        : call == 'w' ? zk_witness(own[0] + 1, files[0].size, own[1] + 1, files[1].size, true, line, sizeof line)
+        : call == 'w' || call == 'o' ? zk_witness(own[0] + 1, files[0].size, own[1] + 1, files[1].size, call == 'w', line, sizeof line)
         : zk_refute(own[0] + 1, files[0].size, own[1] + 1, files[1].size, line, sizeof line);
     free(own[0]);
     free(own[1]);

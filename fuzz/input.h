@@ -12,26 +12,26 @@
 static inline uint8_t *expanded(const uint8_t *bytes, size_t size, size_t *length)
 {
     enum { MOST = 1 << 20 };
-    size_t room, runs = 0;
-    for (size_t i = 0; i < size; i++)
-        runs += bytes[i] == 0xfe;
-    room = size + runs * 0xffff;
-    if (room > MOST + 0xffff)
-        room = MOST + 0xffff;
-    uint8_t *to = malloc(room + 1);
-    if (!to)
-        abort();
+    uint8_t *to = NULL;
     size_t made = 0;
-    for (size_t i = 0; i < size && made < MOST; i++) {
-        if (bytes[i] == 0xfe && i + 3 < size) {
-            size_t run = bytes[i + 2] | (size_t)bytes[i + 3] << 8;
-            memset(to + made, bytes[i + 1], run);
+    /* They are counted first, so that the copy has as much room as they need. */
+    for (int turn = 0; turn < 2; turn++) {
+        if (turn && !(to = malloc(made + 1)))
+            abort();
+        made = 0;
+        for (size_t i = 0; i < size && made < MOST; i++) {
+            size_t run = 1;
+            uint8_t byte = bytes[i];
+            if (byte == 0xfe && i + 3 < size) {
+                byte = bytes[i + 1];
+                run = bytes[i + 2] | (size_t)bytes[i + 3] << 8;
+                i += 3;
+            } else if (byte == 0xfd && i + 1 < size) {
+                byte = bytes[++i];
+            }
+            if (to)
+                memset(to + made, byte, run);
             made += run;
-            i += 3;
-        } else if (bytes[i] == 0xfd && i + 1 < size) {
-            to[made++] = bytes[++i];
-        } else {
-            to[made++] = bytes[i];
         }
     }
     *length = made;

@@ -23,14 +23,19 @@ GEOMETRY = {
 }
 
 
+KIND = "not the kind of file that is expected"
+
+
 def told(line, hint=""):
-    """A fault's line, and what stands below it."""
+    """A fault's line, and what stands below it. For nvq a bad name is another kind of file, since the name that whoever calls it knows is that of the path."""
+    if line.startswith("nvq: ") and line.endswith(": bad name"):
+        line = line.removesuffix("bad name") + KIND
     return f"{line}\n  {hint}\n" if hint else f"{line}\n"
 
 
-def the_line(text, *others):
-    """What is said of a wrong line, and of other wrong ones of a list."""
-    return "\n  ".join([f"the line is: {text[:100]}", *others])
+def the_line(text, *others, of=""):
+    """What is said of a wrong line, and of other wrong ones of a list or a trace's text; of a trace's text that has a path with that."""
+    return "\n  ".join([f"the line{of and f' of {of}'} is: {text[:100]}", *others])
 
 
 def other_block(size):

@@ -265,10 +265,9 @@ def runs(folder):
         fault("too many commands", "host 1: too many commands", [many], hides_wants=True),
         fault("a second host's truncated file", "host 2: truncated at 644", [whole, cut, empty], hides_wants=True),
         fault("sixty-five hosts", "too many hosts", [nothing] * 65, nsze=0),
-        # nvmu makes a hint that it doesn't show.
-        fault("a missing file", f"cannot read {missing}", [missing], True),
-        fault("a second file that is missing", f"cannot read {missing}", [empty, missing], True, nsze=0),
-        fault("a folder", f"cannot read {folder}", [folder], True),
+        fault("a missing file", f"cannot read {missing}", [missing]),
+        fault("a second file that is missing", f"cannot read {missing}", [empty, missing], nsze=0),
+        fault("a folder", f"cannot read {folder}", [folder]),
         fault("no blocks", "geometry: Size", [empty], nsze=0),
         fault("blocks of 1000 bytes", "geometry: BlockSize", [whole], block=1000),
         fault("too many units", "geometry: TooManyUnits", [whole], nsze=65_536, nabsn=1, nawun=1, nacwu=1),

@@ -50,7 +50,7 @@ def witnesses(kept):
         judged("a time that goes back", with_seen(TRACE, 2, began=1, ended=2), "unexplained TimeBack job 2 unit 0 place 1"),
         fault("a cut trace", whole[:-1], f"truncated at {len(whole) - 1024}"),
         fault("no trace", record_bytes(RECORD)[:2], "bad name"),
-        Run("a missing trace", "nvmu", ["witness", missing, record], 1, err=f"nvmu: cannot read {missing}\n", hides_wants=True),
+        Run("a missing trace", "nvmu", ["witness", missing, record], 1, err=f"nvmu: cannot read {missing}\n"),
         Run("a trace that an order explains", "nvmu", ["witness", kept("keeping.nvt", spelled(KEEPING)), kept("keeping.nve", ORDER)], out=ORDERED),
         Run("a cut order", "nvmu", ["witness", kept("keeping.nvt", spelled(KEEPING)), kept("cut.nve", ORDER[:-1])], 1, err=f"nvmu: order: truncated at {len(ORDER) - 1}\n"),
         Run("no record of a trace", "nvmu", ["witness", record], 1),
@@ -71,7 +71,7 @@ def of_text(kept):
     path, file = kept("trace.txt", text.encode()), kept("trace.nvt", spelled(TRACE))
     wrong = kept("wrong.txt", text.replace("= 0/00\n", "= 0/0\n", 1).encode())
     line = text.split("\n")[1].replace("= 0/00", "= 0/0")
-    err = told("nvq: line 2: expected a status, as in 0/00", the_line(line))
+    err = told("nvq: line 2: expected a status, as in 0/00", the_line(line, of=wrong))
     return [
         Run("the text of a trace", "nvq", ["trace", path, "out.nvt"], out="", files={"out.nvt": spelled(TRACE)}),
         Run("a trace is listed", "nvq", ["list", file], out=text),
@@ -114,7 +114,7 @@ def explained(kept):
             "a trace and a contradiction",
             "nvq",
             ["explain", kept("stale.nvt", spelled(STALE)), kept("stale.nve", STALE_FIRST)],
-            out=f"refuted commands 2 facts 2 {PROFILE}\njob 0 {line_of(STALE, 0)}job 2 {line_of(STALE, 2)}"
+            out=f"refuted commands 2 facts 2 {PROFILE}\nNo order of these commands gives what their hosts saw.\njob 0 {line_of(STALE, 0)}job 2 {line_of(STALE, 2)}"
             "job 2 comes before job 0 in LBA 0: job 2 found the zeroes there that were in LBA 0 at first, and nobody can have left zeroes there\n"
             "job 0 comes before job 2: it had ended at 2, and job 2 began at 5\nso job 0 comes before itself\n",
         ),
@@ -174,6 +174,13 @@ UNSETTLED = on_a_block(
     *((1, 20, write(0, it), None) for it in (1, 2, 1, 2)),
     *((at, at + 1, read(0, 1), found) for at, found in ((3, 1), (5, 2), (7, 1), (9, 2), (11, 1))),
 )
+# Two Writes of stamps at once, and a Read of which one block has the front of one and the rest of the other.
+FRONTS, RESTS = [[f"64*{host:02x},64*00,64*{10 * host:02x},64*{block:02x}" for block in range(2)] for host in (1, 2)]
+STAMPED = f"""trace nsze 32 block 512 nabsn 7 nabo 0 nawun 7 nacwu 7 first 0 start zeroes reads atomic
+1 9 1 10 write 0 2 {FRONTS[0]},{FRONTS[0]},{FRONTS[1]},{FRONTS[1]} = 0/00
+1 9 2 20 write 0 2 {RESTS[0]},{RESTS[0]},{RESTS[1]},{RESTS[1]} = 0/00
+10 11 1 11 read 0 2 = 0/00 {FRONTS[0]},{RESTS[0]},{RESTS[1]},{RESTS[1]}
+"""
 
 # The order of what was seen in turn.
 RIGHT_ORDER = bytes.fromhex(
@@ -204,7 +211,8 @@ def certified(kept):
     right, cut = kept("certified.nvt", spelled(TRACE)), kept("cut-to-certify.nvt", spelled(TRACE)[:-1])
     not_explained = kept("not-explained.nvt", spelled(wrong))
     explained = f"explained jobs 5 points 5 {PROFILE}\n{told_together(TRACE)}"
-    contradiction = f"contradiction commands 1 {PROFILE}\njob 1 {line_of(wrong, 1)}job 1 found in LBA 0 what nobody can have left there\n"
+    sentence = "Job 1 found in LBA 0 bytes that no other command put there.\n"
+    contradiction = f"contradiction commands 1 {PROFILE}\n{sentence}job 1 {line_of(wrong, 1)}job 1 found in LBA 0 what nobody can have left there\n"
     contradiction_object = (
         f'{{"verdict":"contradiction","reads":"atomic","deallocated":"either","commands":[{{"job":1,"began":{wrong.jobs[1].began},"ended":{wrong.jobs[1].ended},"host":1,'
         '"sent":[{"cid":2,"command":"read 0 1"}],"statuses":["0/00"],"data":"512*43"}],"facts":[],'
@@ -216,14 +224,23 @@ def certified(kept):
         '"why":"no order of its points explains it, but no contradiction by the rules was found"}\n'
     )
     stale = (
-        f"contradiction commands 2 {PROFILE}\njob 1 {line_of(STALE, 1)}job 2 {line_of(STALE, 2)}"
+        f"contradiction commands 2 {PROFILE}\nJob 2 found in LBA 0 the zeroes that were there at first, though job 1 had put other data there since.\n"
+        f"job 1 {line_of(STALE, 1)}job 2 {line_of(STALE, 2)}"
         "job 1 comes before job 2: it had ended at 4, and job 2 began at 5\njob 2 found in LBA 0 what nobody can have left there\n"
     )
     twice = (
-        f"contradiction commands 3 {PROFILE}\n{''.join(f'job {it} {line_of(TWICE, it)}' for it in (1, 4, 5))}"
+        f"contradiction commands 3 {PROFILE}\nJob 5 found in LBA 0 what job 1 had left there, though job 4 had found other data there since.\n"
+        f"{''.join(f'job {it} {line_of(TWICE, it)}' for it in (1, 4, 5))}"
         "job 1 comes before job 4: it had ended at 10, and job 4 began at 13\n"
         "job 4 comes before job 5: it had ended at 14, and job 5 began at 15\n"
         "job 5 found in LBA 0 what nobody can have left there\n"
+    )
+    torn = (
+        f"contradiction commands 1 {PROFILE}\nJob 2 found LBA 0 torn: one part of it is of job 0, another of job 1.\n"
+        "job 2 10 11 1 11 read 0 2 = 0/00 ..\n"
+        "  found in LBA 0: torn: bytes 0 to 255 of job 0, bytes 256 to 511 of job 1\n"
+        "  found in LBA 1: job 1\n"
+        "job 2 found in LBA 0 what nobody can have left there\n"
     )
     keeping, odd = kept("keeping.nvt", spelled(KEEPING)), kept("odd.nvt", spelled(odd_reply()))
     ordered_object = '{"verdict":"explained","jobs":3,"points":2,"together":1,"reads":"atomic","deallocated":"either"}\n'
@@ -243,12 +260,14 @@ def certified(kept):
         done("a trace that is explained, and a file before", right, explained, "--evidence", "it", files=order, before=before),
         done("a trace that is explained, read from standard input", "-", explained, input=right),
         done("a trace's text that is explained", kept("certified.txt", text_of(TRACE).encode()), explained),
-        fault("a wrong line of a trace's text", "line 2: expected a time from 1 at which it began", walked, hint=the_line("walk")),
+        fault("a wrong line of a trace's text", "line 2: expected a time from 1 at which it began", walked, hint=the_line("walk", of=walked)),
         done("a trace that nothing explains", not_explained, contradiction, status=2),
         done("a contradiction that nothing explains a trace", not_explained, contradiction, "--evidence", "it", status=2, files=nobody),
         done("a contradiction, and a file before", not_explained, contradiction, "--evidence", "it", status=2, files=nobody, before=before),
         done("a Read of the first zeroes after two Writes", kept("stale.nvt", spelled(STALE)), stale, status=2),
         done("Reads of three Writes that no order gives", kept("twice.nvt", spelled(TWICE)), twice, status=2),
+        done("a block that is torn between two stamps", kept("stamped.txt", STAMPED.encode()), torn, status=2),
+        done("a contradiction with all data", not_explained, contradiction.replace(sentence, ""), "--data", status=2),
         done("a trace of which neither is found", kept("unsettled.nvt", spelled(UNSETTLED)), unsettled, "--evidence", "it", status=3, before=before),
         done("an object of a trace of which neither is found", kept("unsettled.nvt", spelled(UNSETTLED)), unsettled_object, "--json", status=3),
         done("an object of a trace that nothing explains", not_explained, contradiction_object, "--json", status=2),

@@ -2,15 +2,16 @@
 10.0.2.2, and a port of this loopback can lead to a guest's."""
 
 import contextlib
-import gzip
 import os
 import re
+import shutil
 import stat
 import subprocess
 import time
 from struct import pack
 
 PACKAGES = {"qemu-system-x86_64": "qemu-system-x86", "busybox": "busybox-static", "modprobe": "kmod", "dpkg": "dpkg"}
+PATH = os.environ["PATH"] + ":/sbin:/usr/sbin"
 ALWAYS = ("virtio_pci", "virtio_net", "crc32c_generic")
 BEGIN = """#!/bin/busybox sh
 export PATH=/bin
@@ -62,39 +63,74 @@ def archived(files):
     return bytes(out)
 
 
-def initramfs(kernel, script, modules, files):
-    """What the guest begins with: busybox, modules, files beside its /init, and the script."""
+def libraries(program):
+    """The libraries that a program of this machine is linked with, by their paths."""
+    told = subprocess.run(["ldd", program], stdout=subprocess.PIPE, text=True, check=True).stdout
+    return re.findall(r"(/\S+) \(0x", told)
+
+
+def initramfs(kernel, script, modules, files, programs):
+    """What the guest begins with: busybox, modules, files beside its /init, programs of this machine with their libraries, and the script."""
     paths = kernel.modules((*ALWAYS, *modules))
     regular = lambda name, path, mode=0o755: (name, stat.S_IFREG | mode, open(path, "rb").read())
-    entries = [(name, stat.S_IFDIR | 0o755, b"") for name in ("bin", "dev", "proc", "sys", "tmp", "modules")]
+    found = {name: shutil.which(name, path=PATH) for name in programs}
+    linked = sorted({path for program in found.values() for path in libraries(program)})
+    folders = {parent for path in linked for parent in [path[1:].rsplit("/", at)[0] for at in range(1, path.count("/"))]}
+    entries = [(name, stat.S_IFDIR | 0o755, b"") for name in ("bin", "dev", "proc", "sys", "tmp", "modules", *sorted(folders))]
     entries.append(regular("bin/busybox", "/bin/busybox"))
     commands = subprocess.run(["/bin/busybox", "--list"], stdout=subprocess.PIPE, text=True, check=True).stdout.split()
-    entries += [(f"bin/{name}", stat.S_IFLNK | 0o777, b"busybox") for name in commands if name != "busybox"]
+    entries += [(f"bin/{name}", stat.S_IFLNK | 0o777, b"busybox") for name in commands if name not in ("busybox", *programs)]
+    entries += [regular(f"bin/{name}", path) for name, path in found.items()] + [regular(path[1:], path) for path in linked]
     entries += [regular(f"modules/{os.path.basename(path)}", path) for path in paths] + [regular(os.path.basename(path), path) for path in files]
     begin = BEGIN.format(modules=" ".join(map(os.path.basename, paths)))
     entries.append(("init", stat.S_IFREG | 0o755, (begin + script + END).encode()))
-    return gzip.compress(archived(entries), 1)
+    return archived(entries)
+
+
+class Machine:
+    """A guest at work."""
+
+    def __init__(self, process, folder):
+        self.process, self.folder = process, folder
+
+    def told(self):
+        """The text of its console until now."""
+        with contextlib.suppress(FileNotFoundError), open(f"{self.folder}/console.txt", errors="replace") as file:
+            return file.read()
+        return ""
+
+    def done(self, seconds):
+        """The text of its console once the script is done."""
+        until = time.monotonic() + seconds
+        while "GUEST READY" not in (told := self.told()):
+            if self.process.poll() is not None or time.monotonic() > until:
+                raise TimeoutError(f"the guest isn't ready: {told[-1500:]}")
+            time.sleep(1)
+        return told
 
 
 @contextlib.contextmanager
-def guest(kernel, folder, script, modules, files=(), forward=None, seconds=300):
-    """A guest that has done the script, and its console's text. `forward` is a port of this machine's loopback, and one of the guest's."""
-    with open(f"{folder}/initramfs.gz", "wb") as file:
-        file.write(initramfs(kernel, script, modules, files))
+def machine(kernel, folder, script, modules, files=(), programs=(), forward=None, processors=4):
+    """A guest that begins to do the script. `forward` is a port of this machine's loopback, and one of the guest's."""
+    with open(f"{folder}/initramfs", "wb") as file:
+        file.write(initramfs(kernel, script, modules, files, programs))
+    # What another guest of this folder said isn't this one's.
+    with contextlib.suppress(FileNotFoundError):
+        os.remove(f"{folder}/console.txt")
     lead = f",hostfwd=tcp:127.0.0.1:{forward[0]}-:{forward[1]}" if forward else ""
-    words = ["qemu-system-x86_64", "-accel", "tcg,thread=multi", "-M", "q35", "-cpu", "max", "-m", "1024", "-smp", "4", "-display", "none", "-nodefaults", "-no-reboot"]
+    words = ["qemu-system-x86_64", "-accel", "tcg,thread=multi", "-M", "q35", "-cpu", "max", "-m", "1024", "-smp", str(processors), "-display", "none", "-nodefaults", "-no-reboot"]
     words += ["-serial", f"file:{folder}/console.txt", "-netdev", f"user,id=network{lead}", "-device", "virtio-net-pci,netdev=network"]
-    words += ["-kernel", kernel.image, "-initrd", f"{folder}/initramfs.gz", "-append", "console=ttyS0 quiet panic=-1 no_timer_check"]
+    words += ["-kernel", kernel.image, "-initrd", f"{folder}/initramfs", "-append", "console=ttyS0 quiet panic=-1 no_timer_check"]
     process = subprocess.Popen(["nice", "-n", "5", *words], stdin=subprocess.DEVNULL)
     try:
-        until, told = time.monotonic() + seconds, ""
-        while "GUEST READY" not in told:
-            if process.poll() is not None or time.monotonic() > until:
-                raise TimeoutError(f"the guest isn't ready: {told[-1500:]}")
-            time.sleep(1)
-            with contextlib.suppress(FileNotFoundError), open(f"{folder}/console.txt", errors="replace") as file:
-                told = file.read()
-        yield told
+        yield Machine(process, folder)
     finally:
         process.kill()
         process.wait()
+
+
+@contextlib.contextmanager
+def guest(*what, seconds=300, **how):
+    """A guest that has done the script, and its console's text."""
+    with machine(*what, **how) as it:
+        yield it.done(seconds)

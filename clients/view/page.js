@@ -1317,7 +1317,7 @@
       return list;
     };
     if (page.kind === "contradiction") {
-      why.append(element("h2", "Why"), listed("ol", page.facts.map((fact) => linked("li", fact.text, fact.isRed ? "bad" : ""))), linked("p", page.conclusion.text, "bad"));
+      why.append(element("h2", "Why"), linked("p", page.sentence, ""), listed("ol", page.facts.map((fact) => linked("li", fact.text, fact.isRed ? "bad" : ""))), linked("p", page.conclusion.text, "bad"));
       for (const lba of [...new Set([...page.facts, page.conclusion].filter((it) => "lba" in it).map((it) => it.lba))].sort((one, other) => one - other)) {
         why.append(element("h2", `LBA ${lba}`), listed("ul", deedsAt(lba)));
       }

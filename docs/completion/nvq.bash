@@ -36,7 +36,7 @@ _nvq() {
         valued=""
         ;;
     certify)
-        options="--evidence --effort --reads --deallocated --json -h --help"
+        options="--evidence --effort --reads --deallocated --data --json -h --help"
         valued="--evidence --effort --reads --deallocated"
         ;;
     explain)

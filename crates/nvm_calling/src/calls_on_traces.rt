@@ -1,6 +1,7 @@
 //! Calls on what hosts saw, and on the record of the same jobs.
 use crate::{audit, contradiction, evidence, file, judge, run, trace};
 use anyhow::{Result, bail};
+use nvm_audit::Record;
 use nvm_judge::Judgment;
 use nvm_plan::Job;
 use nvm_points::{Deallocated, Held, Profile, points_of};
@@ -51,14 +52,25 @@ pub fn recorded(
         bail!("there was no memory");
     };
     println!(rt; "record_of: {} jobs", done.jobs.len())?;
-    println!(rt; "file_of: {} bytes", file::file_of(alloc, &done)?.len())?;
-    println!(rt; "is_lawful: {}", audit::is_lawful(rt, alloc, &done)?)?;
-    let is_certified = trace::is_certified(rt, alloc, STRICT, seen, &done)?;
-    println!(rt; "is_certified: {is_certified}")?;
-    let explained = witness_alone(alloc, STRICT, seen, &done)?;
-    println!(rt; "witness_alone: {explained:?}")?;
+    kept(rt, seen, &done)?;
     let said = judge::is_explained(alloc, seen, PROFILE, 100)?;
     println!(rt; "is_explained: {said:?}")?;
+    Ok(())
+}
+
+/// Of this record, beside the trace that it explains.
+fn kept(
+    rt: &(impl AllocGlobal + Print + Threads + Sync),
+    seen: &Trace,
+    done: &Record,
+) -> Result<()> {
+    let alloc = rt.alloc();
+    println!(rt; "file_of: {} bytes", file::file_of(alloc, done)?.len())?;
+    println!(rt; "is_lawful: {}", audit::is_lawful(rt, alloc, done)?)?;
+    let is_certified = trace::is_certified(rt, alloc, STRICT, seen, done)?;
+    println!(rt; "is_certified: {is_certified}")?;
+    let explained = witness_alone(alloc, STRICT, seen, done)?;
+    println!(rt; "witness_alone: {explained:?}")?;
     Ok(())
 }
 
@@ -74,11 +86,17 @@ pub fn judged(rt: &(impl AllocGlobal + Print), text: &str) -> Result<()> {
     let points = points_of(alloc, &seen, PROFILE)?;
     let is_contradicted = contradiction::is_contradicted(alloc, &points, found)?;
     println!(rt; "is_contradicted: {is_contradicted}")?;
-    let Some(kept) = evidence::evidence_file_of(alloc, PROFILE, &judgment)? else {
+    sent(rt, &seen, &judgment)
+}
+
+/// Of what was found of the trace, as files.
+fn sent(rt: &(impl AllocGlobal + Print), seen: &Trace, judgment: &Judgment<'_>) -> Result<()> {
+    let alloc = rt.alloc();
+    let Some(kept) = evidence::evidence_file_of(alloc, PROFILE, judgment)? else {
         bail!("there is no evidence");
     };
     println!(rt; "evidence_file_of: {} bytes", kept.len())?;
-    let seen = file::trace_file_of(alloc, &seen)?;
+    let seen = file::trace_file_of(alloc, seen)?;
     println!(rt; "trace_file_of: {} bytes", seen.len())?;
     let refuted = evidence::refute_files(alloc, &seen, &kept)?;
     println!(rt; "refute_files: {refuted:?}")?;

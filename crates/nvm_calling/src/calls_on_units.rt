@@ -1,9 +1,11 @@
 //! Calls on commands, on the parts of one, on a unit and on ports.
+ghost use Rattle.nvm_plan.specs.Fits.{FitsNamespace};
+
 use crate::{generate, geometry, plan, record, space, store, unit};
 use anyhow::{Context, Result, bail, ensure};
 use nvm_geometry::Geometry;
 use nvm_plan::{Body, Job, fits};
-use nvm_record::{BlockSize, Op, Payload, push_spelling};
+use nvm_record::{BlockSize, Command, Op, Payload, push_spelling};
 use nvm_space::{Progress, Space};
 use nvm_store::{ActRef, Answer, Limit, Place, UnitBlocks};
 use nvm_unit::Unit;
@@ -31,22 +33,38 @@ pub fn taken(rt: &(impl AllocGlobal + Print), namespace: Geometry, jobs: &[Job])
     let Body::Single(read) = &job.body else {
         bail!("the last job is a pair");
     };
+    let flush = record::take_command(alloc, 3, &sent_behind_flush(alloc, read)?, size)?;
+    println!(rt; "take_command: {:?} {:?}", flush.command.op, flush.flushed)?;
+    let read = record::take_command(alloc, 3, &flush.rest, size)?;
+    planned(rt, namespace, read.command, flush.command)?;
+    let load = generate::load_without_pairs(alloc, namespace, 7, 30, 1)?;
+    println!(rt; "load_without_pairs: {} jobs", load.len())?;
+    Ok(())
+}
+
+/// What a host sends of a Flush and this command.
+fn sent_behind_flush(alloc: Global, read: &Command) -> Result<Payload> {
     let mut flush = read.clone()?;
     flush.op = Op::Other(0);
     let mut sent = Vec::new(alloc);
     push_spelling(&mut sent, &flush)?;
     push_spelling(&mut sent, read)?;
-    let sent = Payload::new(alloc, sent)?;
-    let flush = record::take_command(alloc, 3, &sent, size)?;
-    println!(rt; "take_command: {:?} {:?}", flush.command.op, flush.flushed)?;
-    let read = record::take_command(alloc, 3, &flush.rest, size)?;
-    let of_host_1 = vec![in alloc; read.command]?;
-    let of_host_2 = vec![in alloc; flush.command]?;
+    Ok(Payload::new(alloc, sent)?)
+}
+
+/// Of a command of each of two hosts.
+fn planned(
+    rt: &(impl AllocGlobal + Print),
+    namespace: Geometry,
+    of_host_1: Command,
+    of_host_2: Command,
+) -> Result<()> {
+    let alloc = rt.alloc();
+    let of_host_1 = vec![in alloc; of_host_1]?;
+    let of_host_2 = vec![in alloc; of_host_2]?;
     for planned in plan::planned_jobs(alloc, &namespace, of_host_1, of_host_2)? {
         println!(rt; "planned_jobs: {} {:?}", planned.job.host, planned.plan)?;
     }
-    let load = generate::load_without_pairs(alloc, namespace, 7, 30, 1)?;
-    println!(rt; "load_without_pairs: {} jobs", load.len())?;
     Ok(())
 }
 
@@ -117,14 +135,26 @@ pub fn polled(
     let alloc = rt.alloc();
     let job = jobs.first().context("there is no job")?;
     ensure!(fits(&namespace, job), "the job doesn't fit");
-    let alone = space::job_alone(rt, alloc, namespace, limit, job)?;
-    println!(rt; "job_alone: {:?}", alone.done)?;
-    println!(rt; "job_alone: {} units", alone.histories.len())?;
+    run_alone(rt, namespace, limit, job)?;
     let (space, mut ports) = Space::new(alloc, namespace, 1, limit)?;
     let begun = space.begin_job(alloc, 0, job);
     let Progress::Done(done) = space::poll_turn(alloc, &space, &mut ports[0], job, begun) else {
         bail!("another port changes a unit");
     };
     println!(rt; "poll_turn: {done:?}")?;
+    Ok(())
+}
+
+fn run_alone(
+    rt: &(impl AllocGlobal + Print + Wait),
+    namespace: Geometry,
+    limit: Limit,
+    job: &Job,
+) -> Result<()>
+    requires { FitsNamespace namespace job.now }
+{
+    let alone = space::job_alone(rt, rt.alloc(), namespace, limit, job)?;
+    println!(rt; "job_alone: {:?}", alone.done)?;
+    println!(rt; "job_alone: {} units", alone.histories.len())?;
     Ok(())
 }

@@ -17,9 +17,9 @@ use crate::fault::Fault;
 use crate::files::{check_no_lines, check_output, read_as_trace, write_bytes};
 use nvm_contradiction::Contradiction;
 use nvm_evidence::{
-    OrderNumbers, contradiction_object, contradiction_text, explained_object, explained_text,
-    most_together, unknown_object, unknown_text, write_contradiction, write_order, wrong_object,
-    wrong_text,
+    OrderNumbers, contradiction_brief, contradiction_object, contradiction_text, explained_object,
+    explained_text, most_together, unknown_object, unknown_text, write_contradiction, write_order,
+    wrong_object, wrong_text,
 };
 use nvm_front::{Progress, STANDARD, Telling};
 use nvm_judge::{Judgment, Stop, judge};
@@ -125,7 +125,7 @@ fn found(alloc: Global, words: &CertifyWords, trace: &Trace) -> Result<Certified
     match judge(alloc, trace, profile, words.effort)? {
         Judgment::Explained(order) => by_order(alloc, words.telling, trace, profile, &order),
         Judgment::Contradicted(contradiction) => {
-            by_contradiction(alloc, words.telling, trace, profile, &contradiction)
+            by_contradiction(alloc, words, trace, profile, &contradiction)
         }
         Judgment::Wrong { command } => by_reply(alloc, words.telling, trace, command),
         Judgment::Unknown(stop) => by_nothing(alloc, words.telling, profile, stop),
@@ -165,7 +165,7 @@ fn by_order(
 /// That by the contradiction no order explains the trace.
 fn by_contradiction(
     alloc: Global,
-    telling: Telling,
+    words: &CertifyWords,
     trace: &Trace,
     profile: Profile,
     contradiction: &Contradiction,
@@ -173,8 +173,9 @@ fn by_contradiction(
     requires { IsContradictedBy «trace».now profile contradiction.now }
     ensures { IfOk result (IsToldOf profile «trace».now) }
 {
-    let text = match telling {
-        Telling::Lines => contradiction_text(alloc, trace, profile, contradiction)?,
+    let text = match words.telling {
+        Telling::Lines if words.data => contradiction_text(alloc, trace, profile, contradiction)?,
+        Telling::Lines => contradiction_brief(alloc, trace, profile, contradiction)?,
         Telling::Object => contradiction_object(alloc, trace, profile, contradiction)?,
     };
     let file = write_contradiction(alloc, profile, contradiction)?;

@@ -4,7 +4,7 @@ ghost use Rattle.nvm_commands.specs.Asked.{profile_asked};
 
 use clap::{Arg, ArgMatches, Command, Error};
 use nvm_front::{
-    Telling, WordFault, json, number_of_32_bits, number_option, path_given, path_option,
+    Telling, WordFault, flag, json, number_of_32_bits, number_option, path_given, path_option,
     telling_of, trace,
 };
 use nvm_judge::profile_of;
@@ -16,6 +16,8 @@ use std::alloc::Global;
 #[derive(Drop)]
 pub struct CertifyWords {
     pub telling: Telling,
+    /// Whether lines of a contradiction have the data of its commands, and not whose that is.
+    pub data: bool,
     /// How much the searches may try.
     pub effort: u32,
     /// What the device is to hold Reads to, where that isn't what the trace says.
@@ -57,6 +59,7 @@ pub fn read_certify(alloc: Global, words: &ArgMatches<'_>) -> Result<CertifyWord
     let trace = String::from_str(alloc, trace)?;
     Ok(CertifyWords {
         telling: telling_of(words),
+        data: words.get_flag("data"),
         effort,
         reads: reads_of(words),
         deallocated: deallocated_of(words),
@@ -125,6 +128,11 @@ pub fn certify_command<'a>(alloc: Global) -> Result<Command<'a>, Error> {
         ["zeroes", "ones", "either"].as_slice(),
         "What a deallocated block may read as, if not what the trace says",
     )?;
+    let data = flag(
+        alloc,
+        "data",
+        "Prints a contradiction's commands with all their data, and not whose it is",
+    );
     let command = Command::new(alloc, "certify")
         .about(
             "Says whether a device may answer as in a trace: an order of points explains it, or a contradiction shows that nothing does",
@@ -138,6 +146,7 @@ pub fn certify_command<'a>(alloc: Global) -> Result<Command<'a>, Error> {
             .arg(effort)?
             .arg(reads)?
             .arg(deallocated)?
+            .arg(data)?
             .arg(json(alloc))?
             .arg(trace(alloc))?,
     )

@@ -3,10 +3,10 @@ ghost use Rattle.nvm_commands.specs.Files.{IsAssemblingFault, IsListingFault};
 
 use crate::auditing::{run_audit, run_audit_all, run_witness};
 use crate::certifying::run_certify;
-use crate::conversion::{file_of, list_of};
+use crate::conversion::{commands_of, list_of};
 use crate::explaining::run_explain;
 use crate::failure::{Failure, of_file};
-use crate::files::{bytes_of, check_output, payload_of, unwritten, write_bytes};
+use crate::files::{bytes_of, check_output, payload_of, unwritten, write_bytes, write_host_file};
 use crate::generating::run_generate;
 use crate::hint::refusal;
 use crate::list_failure::of_commands;
@@ -100,8 +100,8 @@ fn run_assemble<R: AllocGlobal + Files + Input + Print + Eprint>(
     check_output(rt, out, list, "it is the list")?;
     let text = bytes_of(rt, InputKind::Text, list, progress)?;
     let split = split_list(rt.alloc(), list, &text)?;
-    match file_of(rt.alloc(), &split.commands, size) {
-        Ok(file) => write_bytes(rt, out, &file, progress),
+    match commands_of(rt.alloc(), &split.commands, size) {
+        Ok(commands) => write_host_file(rt, out, &commands, progress),
         Err(fault) => {
             let commands = &split.commands;
             Err(of_commands(rt.alloc(), fault, list, &text, commands, size))

@@ -4,20 +4,37 @@ ghost use Rattle.nvm_commands.specs.declared.fault.Fault.TheVariants.{NoMemory};
 use crate::content::Content;
 use crate::fault::Fault;
 use crate::hint::{
-    VERSIONS, no_host_file, no_list, no_namespace, no_record, no_trace, no_trace_text,
-    of_contradiction, other_block,
+    VERSIONS, no_host_file, no_list, no_namespace, no_record, no_trace, no_words, of_contradiction,
+    other_block,
 };
+use crate::text_failure::wrong_text;
 use nvm_record::{BlockSize, Payload};
 use nvm_where::field_told;
 use std::alloc::{AllocError, AllocFailed, Global};
 use std::fmt;
+
+/// What helps whoever reads a fault: always the same text, or one that was made for it.
+#[derive(Debug, Drop)]
+pub enum Hint {
+    Known(&'static str),
+    Made(String),
+}
+
+impl fmt::Display for Hint {
+    fn fmt<W: fmt::Write>(&self, f: &mut fmt::Formatter<W>) -> fmt::Result {
+        match self {
+            Hint::Known(text) => f.write_str(text),
+            Hint::Made(text) => f.write_str(text.as_str()),
+        }
+    }
+}
 
 /// Why the program writes nothing, and what helps whoever reads it. It prints the fault's line, and the hint on the next line
 /// after two spaces.
 #[derive(Debug, Drop)]
 pub struct Failure {
     pub fault: Fault,
-    pub hint: Option<String>,
+    pub hint: Option<Hint>,
 }
 
 impl Failure {
@@ -26,20 +43,25 @@ impl Failure {
         ensures { result.fault ≡ fault }
     {
         match hint {
-            Ok(hint) => Failure { fault, hint },
-            Err(_) => Failure { fault, hint: None },
+            Ok(Some(hint)) => Failure {
+                fault,
+                hint: Some(Hint::Made(hint)),
+            },
+            Ok(None) | Err(_) => plain(fault),
         }
     }
 
-    /// A fault, and why it came, where that is known. A hint for which there is no memory is left out.
-    pub fn because(alloc: Global, fault: Fault, why: Option<&str>) -> Failure
+    /// A fault, and why it came, where that is known.
+    pub fn because(fault: Fault, why: Option<&'static str>) -> Failure
         ensures { result.fault ≡ fault }
     {
-        let hint = match why {
-            Some(why) => String::from_str(alloc, why).map(Some),
-            None => Ok(None),
-        };
-        Failure::hinted(fault, hint)
+        match why {
+            Some(why) => Failure {
+                fault,
+                hint: Some(Hint::Known(why)),
+            },
+            None => plain(fault),
+        }
     }
 }
 
@@ -93,12 +115,14 @@ pub fn of_list(alloc: Global, fault: Fault, path: &str, list: &[u8]) -> Failure
 pub fn of_run(alloc: Global, fault: Fault, count: usize) -> Failure
     ensures { result.fault ≡ fault }
 {
-    let hint = match &fault {
-        Fault::Geometry(fault) => String::from_str(alloc, no_namespace(*fault)).map(Some),
-        Fault::TooManyHosts => too_many(alloc, count),
-        _ => Ok(None),
-    };
-    Failure::hinted(fault, hint)
+    match &fault {
+        Fault::Geometry(cause) => {
+            let why = no_namespace(*cause);
+            Failure::because(fault, Some(why))
+        }
+        Fault::TooManyHosts => Failure::hinted(fault, too_many(alloc, count)),
+        _ => plain(fault),
+    }
 }
 
 /// The failure of a file that was read from a path and should be listed.
@@ -144,14 +168,13 @@ pub fn of_trace(alloc: Global, fault: Fault, path: &str, file: &[u8]) -> Failure
     Failure::hinted(fault, hint)
 }
 
-/// The failure of a trace's text that was read from a path. What helps is what the file is instead, or else the line.
+/// The failure of a trace's text that was read from a path. What helps is what the file is instead, or else the wrong lines.
 pub fn of_text(alloc: Global, fault: Fault, path: &str, text: &[u8]) -> Failure
     ensures { result.fault ≡ fault }
 {
     let hint = match fault {
-        Fault::TraceLine { line, .. } => {
-            or_line(alloc, no_trace_text(alloc, path, text), text, line)
-        }
+        Fault::TraceLine { line, expected } => wrong_text(alloc, path, text, line, expected),
+        Fault::NoHead => no_words(alloc, path).map(Some),
         _ => Ok(None),
     };
     Failure::hinted(fault, hint)
@@ -192,16 +215,22 @@ fn too_many(alloc: Global, count: usize) -> Result<Option<String>, AllocError> {
 
 /// The front of a list's line, from the first that is no blank. Lines count from 1. `None` where it isn't plain text.
 pub fn line_of(alloc: Global, list: &[u8], number: u64) -> Result<Option<String>, AllocError> {
-    let mut lines = list.split(|byte| *byte == b'\n');
-    let Some(line) = lines.nth(number.saturating_sub(1) as usize) else {
-        return Ok(None);
-    };
+    match shown_line(list, number) {
+        Some(shown) => Ok(Some(format!(in alloc; "the line is: {shown}")?)),
+        None => Ok(None),
+    }
+}
+
+/// The front of a text's line as it is shown.
+pub fn shown_line(text: &[u8], number: u64) -> Option<&str> {
+    let line = text
+        .split(|byte| *byte == b'\n')
+        .nth(number.saturating_sub(1) as usize)?;
     match str::from_utf8(line.trim_ascii()) {
         Ok(line) if !line.is_empty() && !line.chars().any(|letter| letter.is_control()) => {
-            let shown = front_of(line);
-            Ok(Some(format!(in alloc; "the line is: {shown}")?))
+            Some(front_of(line))
         }
-        _ => Ok(None),
+        _ => None,
     }
 }
 

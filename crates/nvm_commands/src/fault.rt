@@ -71,7 +71,7 @@ pub enum Fault {
     #[error("too many hosts")]
     TooManyHosts,
     /// The file begins as none of those that are expected.
-    #[error("{path}: bad name")]
+    #[error("{path}: not the kind of file that is expected")]
     BadName {
         path: String,
     },

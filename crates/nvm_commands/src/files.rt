@@ -11,13 +11,14 @@ use crate::conversion::{record_of, trace_of};
 use crate::failure::{Failure, of_order, of_record, of_text, of_trace, plain};
 use crate::fault::Fault;
 use crate::hint::refusal;
+use crate::host_writing::write_commands;
 use nvm_audit::Record;
 use nvm_evidence::{Evidence, HeldOrder, read_evidence, read_order};
 use nvm_front::{
-    FileFault, InputKind, Progress, STANDARD, is_input, is_output, is_read, read_input, write,
-    write_run,
+    FileFault, InputKind, Output, Progress, STANDARD, is_input, is_output, is_read, read_input,
+    write, write_run,
 };
-use nvm_record::Payload;
+use nvm_record::{Command, Payload};
 use nvm_trace::Trace;
 use nvm_trace_text::trace_of_text;
 use std::alloc::{AllocError, Global};
@@ -181,6 +182,34 @@ pub fn write_bytes<R: Files + AllocGlobal + Print + Eprint>(
     }
 }
 
+/// Writes the host file of commands to a file, or to standard output.
+pub fn write_host_file<R: Files + AllocGlobal + Print + Eprint>(
+    rt: &R,
+    path: &str,
+    commands: &[Command],
+    progress: &Progress<'_, R>,
+) -> Result<(), Failure>
+    ensures { IfErr result (λ failure. IsWriteFault path.now failure.fault) }
+{
+    match host_file_written(rt, path, commands, progress) {
+        Ok(()) => Ok(()),
+        Err(fault) => Err(unmade(rt.alloc(), path, fault)),
+    }
+}
+
+/// The same. A file appears whole or not at all.
+fn host_file_written<R: Files + AllocGlobal + Print + Eprint>(
+    rt: &R,
+    path: &str,
+    commands: &[Command],
+    progress: &Progress<'_, R>,
+) -> Result<(), FileFault> {
+    progress.clear();
+    let mut output = Output::new(rt, path, progress)?;
+    write_commands(&mut output, commands)?;
+    output.finish()
+}
+
 /// Writes the record's file. It appears whole or not at all.
 pub fn keep<R: AllocGlobal + Files + Print + Eprint>(
     rt: &R,
@@ -201,7 +230,7 @@ pub fn check_output<R: Files + AllocGlobal>(
     rt: &R,
     out: &str,
     read: &str,
-    why: &str,
+    why: &'static str,
 ) -> Result<(), Failure>
     ensures { IfErr result (λ failure. IsWriteFault out.now failure.fault) }
 {
@@ -234,7 +263,7 @@ pub fn check_place<R: Files + AllocGlobal>(
     rt: &R,
     out: &str,
     read: &[String],
-    why: &str,
+    why: &'static str,
 ) -> Result<(), Failure>
     ensures { IfErr result (λ failure. IsWriteFault out.now failure.fault) }
 {
@@ -255,21 +284,21 @@ pub fn unmade(alloc: Global, path: &str, fault: FileFault) -> Failure
 }
 
 /// The failure of a file that can't be read, or want of memory for its path. The hint below the fault says why.
-pub fn unread(alloc: Global, path: &str, why: Option<&str>) -> Failure
+pub fn unread(alloc: Global, path: &str, why: Option<&'static str>) -> Failure
     ensures { IsReadFault path.now result.fault }
 {
     match String::from_str(alloc, path) {
-        Ok(path) => Failure::because(alloc, Fault::CannotRead { path }, why),
+        Ok(path) => Failure::because(Fault::CannotRead { path }, why),
         Err(error) => Failure::from(error),
     }
 }
 
 /// The failure of a file that can't be written, or want of memory for its path. The hint below the fault says why.
-pub fn unwritten(alloc: Global, path: &str, why: Option<&str>) -> Failure
+pub fn unwritten(alloc: Global, path: &str, why: Option<&'static str>) -> Failure
     ensures { IsWriteFault path.now result.fault }
 {
     match String::from_str(alloc, path) {
-        Ok(path) => Failure::because(alloc, Fault::CannotWrite { path }, why),
+        Ok(path) => Failure::because(Fault::CannotWrite { path }, why),
         Err(error) => Failure::from(error),
     }
 }

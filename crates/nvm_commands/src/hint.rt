@@ -144,6 +144,12 @@ pub fn no_trace_text(
     }
 }
 
+/// What a file is that has no line of a trace.
+pub fn no_words(alloc: Global, path: &str) -> Result<String, AllocError> {
+    let name = name_of(path);
+    format!(in alloc; "{name} has no line with words")
+}
+
 /// What the text of a trace is, where another file was expected.
 fn of_trace_text(alloc: Global, path: &str) -> Result<String, AllocError> {
     let name = name_of(path);

@@ -9,7 +9,7 @@ use nvm_wrong_lines::{WrongLine, wrong_lines};
 use std::alloc::{AllocError, Global};
 
 /// The most wrong lines that are named after the first.
-const TOLD: usize = 20;
+pub(crate) const TOLD: usize = 20;
 
 /// The failure of a list that was read from a path, whose commands are those of a list without expectations. What helps is what the file is
 /// instead, or else the line, and the other lines that are no commands.
@@ -71,7 +71,7 @@ fn with_others(
 }
 
 /// The lines, each but the first after a line feed and two spaces; `None` where there are none.
-fn joined(alloc: Global, lines: &[String]) -> Result<Option<String>, AllocError> {
+pub(crate) fn joined(alloc: Global, lines: &[String]) -> Result<Option<String>, AllocError> {
     if lines.is_empty() {
         return Ok(None);
     }

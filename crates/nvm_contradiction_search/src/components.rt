@@ -1,7 +1,7 @@
 use crate::history::History;
 use nvm_contradiction::Node;
 use nvm_numbers::to_u32;
-use nvm_points::{Point, Presence, Put};
+use nvm_points::{Point, Presence};
 use nvm_record::NoMemory;
 use std::alloc::Global;
 
@@ -64,20 +64,12 @@ fn numbers_of(alloc: Global, history: &History<'_, '_>) -> Result<Vec<u32>, NoMe
     Ok(numbers)
 }
 
-/// Whether the point has anything to do with what is in the blocks that it names.
-fn is_node(point: &Point<'_>) -> bool {
-    match point.put {
-        Put::Anything => false,
-        _ => true,
-    }
-}
-
 impl Components {
     pub fn new(alloc: Global, history: &History<'_, '_>) -> Result<Components, NoMemory> {
         let numbers = numbers_of(alloc, history)?;
         let mut placed = Vec::new(alloc);
         for (number, point) in history.table.points.iter().enumerate() {
-            if !is_node(point) {
+            if history.is_wild(point) {
                 continue;
             }
             let (from, to) = history.found_among(point);

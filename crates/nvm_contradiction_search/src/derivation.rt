@@ -188,7 +188,15 @@ impl Derivation {
             None => {}
         }
         match self.sure.get(find.block) {
-            Some(sure) => who_put(alloc, &self.orders, find, sure, is_other, is_there),
+            Some(sure) => who_put(
+                alloc,
+                &self.orders,
+                find,
+                sure,
+                &window.repeated,
+                is_other,
+                is_there,
+            ),
             None => Ok(None),
         }
     }
@@ -572,7 +580,15 @@ impl Derivation {
             return Ok(());
         };
         let is_other = self.other_first(its).is_some();
-        match who_put(alloc, &self.orders, its, sure, is_other, true)? {
+        match who_put(
+            alloc,
+            &self.orders,
+            its,
+            sure,
+            &window.repeated,
+            is_other,
+            true,
+        )? {
             Some(settled) => self.put_grounds_of(grounds, its, &settled),
             None => Ok(()),
         }

@@ -10,6 +10,9 @@ use nvm_record::NoMemory;
 use nvm_trace::Start;
 use std::alloc::Global;
 
+/// A point that may put anything is looked at in each of its blocks where it has at most so many in which something was found.
+const MOST_TAME: usize = 64;
+
 /// Who can have put what in the blocks in which something was found, and who surely put something there.
 #[derive(Drop)]
 pub struct History<'a, 't> {
@@ -21,7 +24,7 @@ pub struct History<'a, 't> {
     by_value: Writers,
     /// The same by block alone.
     by_block: Writers,
-    /// Those that may put anything anywhere.
+    /// Those that may put anything in very many blocks.
     wild: Writers,
     sure: SureWriters,
 }
@@ -70,7 +73,7 @@ impl<'a, 't> History<'a, 't> {
             until: over_of(point),
             point: number,
         };
-        if let Put::Anything = point.put {
+        if self.is_wild(point) {
             self.wild.put(writer)?;
             return Ok(0);
         }
@@ -83,9 +86,18 @@ impl<'a, 't> History<'a, 't> {
             self.put_at(Writer { block, ..writer })?;
         }
         Ok(match point.put {
-            Put::Nothing | Put::Bytes(_) | Put::Anything => 0,
-            Put::Zeroes | Put::Mark | Put::Deallocated => to.saturating_sub(from),
+            Put::Nothing | Put::Bytes(_) => 0,
+            Put::Zeroes | Put::Mark | Put::Deallocated | Put::Anything => to.saturating_sub(from),
         })
+    }
+
+    /// Whether the point may put anything in so many blocks that it isn't looked at in each.
+    pub fn is_wild(&self, point: &Point<'_>) -> bool {
+        let (from, to) = self.found_among(point);
+        match point.put {
+            Put::Anything => to.saturating_sub(from) > MOST_TAME,
+            _ => false,
+        }
     }
 
     /// Lists what the writer's point can have put in its block.
@@ -109,7 +121,8 @@ impl<'a, 't> History<'a, 't> {
             return [None, None];
         };
         match point.put {
-            Put::Nothing | Put::Anything => [None, None],
+            Put::Nothing => [None, None],
+            Put::Anything => [Some(ANYTHING), None],
             Put::Bytes(_) => {
                 let place = block.saturating_sub(point.first);
                 [self.contents.put(number, place), None]
@@ -174,6 +187,14 @@ impl<'a, 't> History<'a, 't> {
                 Presence::OneOf => point.blocks == 1,
                 Presence::Optional | Presence::Together | Presence::Repeated => false,
             },
+            None => false,
+        }
+    }
+
+    /// Whether the point may be done more than once.
+    pub fn may_repeat(&self, number: u32) -> bool {
+        match self.point(number) {
+            Some(point) => point.presence == Presence::Repeated,
             None => false,
         }
     }
@@ -248,18 +269,23 @@ impl<'a, 't> History<'a, 't> {
         !self.is_never_first(sought) && self.last_sure(block, self.from(reader)).is_none()
     }
 
-    /// Those who can have put what was found in the block, among others, but for those that may put anything.
-    fn writers_of(&self, block: u32, sought: Sought) -> (&Writers, Run) {
+    /// Those who can have put what was found in the block, among others, and those that may have put anything there.
+    fn writers_of(&self, block: u32, sought: Sought) -> (&Writers, [Run; 2]) {
+        let anything = self.by_value.of_value(block, ANYTHING);
         match sought {
-            Sought::Value(value) => (&self.by_value, self.by_value.of_value(block, value)),
+            Sought::Value(value) => {
+                let run = self.by_value.of_value(block, value);
+                (&self.by_value, [run, anything])
+            }
             Sought::Bytes | Sought::OtherThan(_) => {
-                (&self.by_block, self.by_block.of_block(block))
+                let none = Run { from: 0, to: 0 };
+                (&self.by_block, [self.by_block.of_block(block), none])
             }
         }
     }
 
     /// The other points that can have put what was found, by the times, and none where they are more than `most`, or one of them may put
-    /// anything.
+    /// anything in very many blocks.
     pub fn servers(
         &self,
         alloc: Global,
@@ -281,9 +307,11 @@ impl<'a, 't> History<'a, 't> {
         let is_tame = self
             .wild
             .put_asked(&mut servers, self.wild.all(), asked, 0)?;
-        let (writers, run) = self.writers_of(block, sought);
-        if !is_tame || !writers.put_asked(&mut servers, run, asked, most)? {
-            return Ok(None);
+        let (writers, runs) = self.writers_of(block, sought);
+        for run in runs {
+            if !is_tame || !writers.put_asked(&mut servers, run, asked, most)? {
+                return Ok(None);
+            }
         }
         servers.sort_unstable();
         servers.dedup();
@@ -299,8 +327,10 @@ impl<'a, 't> History<'a, 't> {
         sought: Sought,
     ) -> Result<Vec<u32>, NoMemory> {
         let mut servers = Vec::new(alloc);
-        let (writers, run) = self.writers_of(block, sought);
-        writers.put_all(&mut servers, run, reader, sought)?;
+        let (writers, runs) = self.writers_of(block, sought);
+        for run in runs {
+            writers.put_all(&mut servers, run, reader, sought)?;
+        }
         self.wild
             .put_all(&mut servers, self.wild.all(), reader, sought)?;
         servers.sort_unstable();
@@ -313,8 +343,10 @@ impl<'a, 't> History<'a, 't> {
         let Some(sought) = self.sought(number, block) else {
             return 0;
         };
-        let (_, run) = self.writers_of(block, sought);
-        run.to.saturating_sub(run.from)
+        let (_, [run, anything]) = self.writers_of(block, sought);
+        run.to
+            .saturating_sub(run.from)
+            .saturating_add(anything.to.saturating_sub(anything.from))
     }
 
     /// Whether nobody can have put what the point found in the block, by the times alone.

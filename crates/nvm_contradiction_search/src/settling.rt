@@ -107,13 +107,14 @@ fn first_between(
 
 /// Who put what was found, where the orders leave one.
 ///
-/// `sure` are those that surely put something in the block. `is_other` says that another is known to have been there at first, and
-/// `is_there` that the reader is known to be there.
+/// `sure` are those that surely put something in the block, and `repeated` those that may be done more than once, of which none is said
+/// to be the one. `is_other` says that another is known to have been there at first, and `is_there` that the reader is known to be there.
 pub fn who_put(
     alloc: Global,
     orders: &Orders,
     find: &WindowFind,
     sure: &PlaceSet,
+    repeated: &PlaceSet,
     is_other: bool,
     is_there: bool,
 ) -> Result<Option<Settled>, NoMemory> {
@@ -126,7 +127,7 @@ pub fn who_put(
     let mut source = None;
     for writer in &find.writers {
         if !settled.put_excuse(orders, sure, find, *writer)? {
-            if source.is_some() || !is_there {
+            if source.is_some() || !is_there || repeated.has(*writer) {
                 return Ok(None);
             }
             source = Some(*writer);

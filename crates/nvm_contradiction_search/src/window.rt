@@ -60,6 +60,8 @@ pub struct Window {
     pub sure: Vec<PlaceSet>,
     pub finds: Vec<WindowFind>,
     pub ties: Vec<Tie>,
+    /// The nodes that may be done more than once.
+    pub repeated: PlaceSet,
 }
 
 /// The node as a member of a window.
@@ -119,6 +121,12 @@ impl Window {
         }
         members.sort_unstable();
         members.dedup();
+        let mut repeated = PlaceSet::new(alloc, members.len())?;
+        for (place, member) in members.iter().enumerate() {
+            if history.may_repeat(member.point) {
+                repeated.put(place);
+            }
+        }
         let mut window = Window {
             members,
             next: Vec::new(alloc),
@@ -126,6 +134,7 @@ impl Window {
             sure: Vec::new(alloc),
             finds: Vec::new(alloc),
             ties: Vec::new(alloc),
+            repeated,
         };
         window.put_next(history)?;
         window.put_blocks(history)?;

@@ -53,27 +53,31 @@ fn text_among(
     contradiction: &Contradiction,
 ) -> Result<String, NoMemory> {
     let commands = commands_named(alloc, points, contradiction)?;
-    let count = commands.len();
-    let reads = held_word(profile.held);
-    let deallocated = deallocated_word(profile.deallocated);
-    let mut text = format!(in alloc;
-        "contradiction commands {count} reads {reads} deallocated {deallocated}\n"
-    )?;
-    push_told(&mut text, trace, points, &commands, contradiction)?;
+    let mut text = first_line(alloc, profile, commands.len())?;
+    for number in &commands {
+        push_command(&mut text, trace, *number)?;
+    }
+    push_facts_told(&mut text, points, contradiction)?;
     Ok(text)
 }
 
-/// Appends the commands of these numbers, the facts and what they come to, a line each.
-pub(crate) fn push_told(
+/// The first line of a contradiction that names so many commands.
+pub(crate) fn first_line(
+    alloc: Global,
+    profile: Profile,
+    count: usize,
+) -> Result<String, NoMemory> {
+    let reads = held_word(profile.held);
+    let deallocated = deallocated_word(profile.deallocated);
+    format!(in alloc; "contradiction commands {count} reads {reads} deallocated {deallocated}\n")
+}
+
+/// Appends the facts and what they come to, a line each.
+pub(crate) fn push_facts_told(
     text: &mut String,
-    trace: &Trace,
     points: &Points<'_>,
-    commands: &[u32],
     contradiction: &Contradiction,
 ) -> Result<(), NoMemory> {
-    for number in commands {
-        push_command(text, trace, *number)?;
-    }
     for fact in &contradiction.facts {
         push_fact(text, points, *fact)?;
         text.push_str("\n")?;

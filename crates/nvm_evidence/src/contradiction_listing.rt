@@ -1,5 +1,5 @@
 //! What a contradiction says of a trace.
-use crate::contradicted::push_told;
+use crate::brief::push_brief;
 use crate::held_contradiction::HeldContradiction;
 use crate::named::commands_named;
 use crate::refuted::Refuted;
@@ -11,7 +11,7 @@ use nvm_trace::Trace;
 use std::alloc::{AllocError, Global};
 
 /// What a contradiction comes to against a trace, and, where it is taken, the commands that it names, its facts and what they come to, as
-/// [`contradiction_text`](crate::contradiction_text) has them. Where a reply of the trace is wrong by itself, its command and why.
+/// [`contradiction_brief`](crate::contradiction_brief) has them. Where a reply of the trace is wrong by itself, its command and why.
 pub fn contradiction_story(
     alloc: Global,
     trace: &Trace,
@@ -37,7 +37,7 @@ fn push_taken(
     match points_of(alloc, trace, held.profile) {
         Ok(points) => {
             let commands = commands_named(alloc, &points, &held.contradiction)?;
-            push_told(text, trace, &points, &commands, &held.contradiction)
+            push_brief(alloc, text, trace, &points, &commands, &held.contradiction)
         }
         Err(PointsFault::Wrong { .. }) => Ok(()),
         Err(PointsFault::NoMemory) => Err(AllocError),

@@ -7,6 +7,8 @@
 //! [`contradiction_story`] what the contradiction says. The lines and objects of a verdict are here, too.
 #![tactic(auto)]
 
+mod blocks;
+mod brief;
 mod command_object;
 mod contradicted;
 mod contradiction_listing;
@@ -33,6 +35,8 @@ mod reading;
 mod refute_fault;
 mod refuted;
 mod refuting;
+mod sentence;
+mod sources;
 mod together;
 mod trace_reading;
 mod values;
@@ -41,6 +45,7 @@ mod witness_fault;
 mod witnessing;
 mod words;
 
+pub use brief::contradiction_brief;
 pub use contradicted::{contradiction_object, contradiction_text};
 pub use contradiction_listing::contradiction_story;
 pub use contradiction_reading::read_contradiction;

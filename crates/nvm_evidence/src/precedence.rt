@@ -23,8 +23,16 @@ impl Display for Precedence {
     }
 }
 
-/// Which point the fact puts before which, if it says so.
-pub(crate) fn precedence_of(points: &Points<'_>, fact: Fact) -> Option<Precedence> {
+/// The numbers of two points of which the one comes before the other, in a block if one is named.
+#[derive(Clone, Copy)]
+pub(crate) struct PointOrder {
+    pub(crate) before: u32,
+    pub(crate) after: u32,
+    pub(crate) lba: Option<u32>,
+}
+
+/// The order of two points that the fact says, if it says one.
+pub(crate) fn order_of(fact: Fact) -> Option<PointOrder> {
     let (before, after, lba) = match fact {
         Fact::Time { earlier, later } => (earlier.point, later.point, None),
         Fact::Deallocate {
@@ -69,9 +77,17 @@ pub(crate) fn precedence_of(points: &Points<'_>, fact: Fact) -> Option<Precedenc
             ..
         } => (entry, reader, Some(block)),
     };
-    Some(Precedence {
-        before: name_of(points, before),
-        after: name_of(points, after),
-        lba,
-    })
+    Some(PointOrder { before, after, lba })
+}
+
+/// Which point the fact puts before which, if it says so.
+pub(crate) fn precedence_of(points: &Points<'_>, fact: Fact) -> Option<Precedence> {
+    match order_of(fact) {
+        Some(order) => Some(Precedence {
+            before: name_of(points, order.before),
+            after: name_of(points, order.after),
+            lba: order.lba,
+        }),
+        None => None,
+    }
 }

@@ -157,6 +157,8 @@ impl Derivation {
         }
         made.derive(part)?;
         made.note_open(alloc, part)?;
+        made.order.keep();
+        made.links.keep();
         Ok(Some(made))
     }
 
@@ -624,19 +626,58 @@ impl Derivation {
         }
     }
 
-    /// Notes that an act is done now.
-    pub fn set_done(&mut self, part: &Part, search: &Search<'_>, act: u32) -> Result<(), NoMemory> {
+    /// Notes that an act is done now, in such a turn.
+    pub fn set_done(
+        &mut self,
+        part: &Part,
+        search: &Search<'_>,
+        act: u32,
+        turn: u32,
+    ) -> Result<(), NoMemory> {
         let Some(node) = self.node(act) else {
             return Ok(());
         };
-        self.order.set_done(node)?;
-        self.follow(part)?;
         let done = part.act(act);
+        self.order.set_done(node, turn)?;
+        self.follow_done(part, node, &done)?;
+        self.follow(part)?;
         if done.is_look {
             return Ok(());
         }
         for at in done.cell..done.cells_end() {
             self.close(part, search, node, part.cell(at).block)?;
+        }
+        Ok(())
+    }
+
+    /// Draws the consequences of a node's being before all that aren't done, for those that put something in its blocks.
+    fn follow_done(&mut self, part: &Part, node: u32, done: &Act) -> Result<(), NoMemory> {
+        let list = &part.lists.writers;
+        let first = self.acts.at(self.order.first_word(node).saturating_mul(32));
+        for at in done.cell..done.cells_end() {
+            let block = part.cell(at).block;
+            let finders = self.finder_place(at);
+            let is_found = self.put_by(part, at) != NONE && self.links.at(finders) != 0;
+            if !is_found && !done.tied {
+                continue;
+            }
+            for place in list.first_from(block, part.act(first).from)..list.end(block) {
+                if list.time(place) > done.until {
+                    break;
+                }
+                let late = part.act(list.act(place));
+                let Some(other) = self.node(list.act(place)) else {
+                    continue;
+                };
+                if other == node || self.order.is_done(other) {
+                    continue;
+                }
+                let late_cell = self.cell_at(part, &late, block);
+                self.follow_block(part, node, other, at, late_cell)?;
+                if done.tied && late.cells > 1 {
+                    self.follow_tied(part, done, &late, other, true)?;
+                }
+            }
         }
         Ok(())
     }
@@ -691,7 +732,7 @@ impl Derivation {
         let Some(node) = self.node(act) else {
             return Ok(());
         };
-        for word in self.order.first_word(node)..self.order.last_word(node).saturating_add(1) {
+        for word in self.order.first_open(node)..self.order.last_word(node).saturating_add(1) {
             let mut left = self.order.missing(node, word);
             for _ in 0..32 {
                 if left == 0 {
@@ -723,7 +764,7 @@ impl Derivation {
         let Some(node) = self.node(act) else {
             return false;
         };
-        for word in self.order.first_word(node)..self.order.last_word(node).saturating_add(1) {
+        for word in self.order.first_open(node)..self.order.last_word(node).saturating_add(1) {
             if self.order.missing(node, word) != 0 {
                 return true;
             }

@@ -65,6 +65,8 @@ pub struct ActLists {
     pub by_until: Lists,
     /// All that may be done, put something, and may not be done after some time, by that time.
     pub optional: Lists,
+    /// Where in a state it stands how many acts from one of `by_from` on are over, as far as that is known.
+    pub skips_at: u32,
     /// How many numbers a state has.
     pub state_len: u32,
 }
@@ -479,7 +481,8 @@ fn listing_of(
     Ok(listing)
 }
 
-/// Sorts the lists. Their heads stand in a state behind two numbers, one for each act and slot, and four for each block.
+/// Sorts the lists. Their heads stand in a state behind two numbers, one for each act and slot, and four for each block. One for each act
+/// comes behind them.
 fn sorted(
     alloc: Global,
     listing: Listing,
@@ -528,7 +531,11 @@ fn sorted(
         by_until: Lists::new(alloc, by_until, 1, all_at.saturating_add(1))?,
         optional: Lists::new(alloc, optional, 1, all_at.saturating_add(2))?,
         changes: Lists::new(alloc, changes, 1, all_at.saturating_add(3))?,
-        state_len: all_at.saturating_add(slots).saturating_add(4),
+        skips_at: all_at.saturating_add(slots).saturating_add(4),
+        state_len: all_at
+            .saturating_add(slots)
+            .saturating_add(4)
+            .saturating_add(acts),
     })
 }
 

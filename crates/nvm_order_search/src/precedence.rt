@@ -75,8 +75,8 @@ impl Precedence {
             alloc,
             words
                 .saturating_add(count / 32)
-                .saturating_add(1)
-                .saturating_add(count),
+                .saturating_add(2)
+                .saturating_add(count.saturating_mul(2)),
         )?;
         made.note_times()?;
         Ok(Some(made))
@@ -169,7 +169,17 @@ impl Precedence {
 
     /// Whether the one comes before the other.
     pub fn is_before(&self, one: u32, other: u32) -> bool {
-        self.after(one, other / 32) & bit(other) != 0
+        match (self.turn(one), self.turn(other)) {
+            (0, 0) => self.after(one, other / 32) & bit(other) != 0,
+            (_, 0) => true,
+            (0, _) => false,
+            (early, late) => early < late,
+        }
+    }
+
+    /// When the node was done, counted from 1, or 0.
+    fn turn(&self, node: u32) -> u32 {
+        self.bits.at(self.turn_place(node))
     }
 
     /// Where the word of nodes that are done stands.
@@ -189,6 +199,16 @@ impl Precedence {
             .saturating_add(node)
     }
 
+    /// The first word of the node's rows that may have nodes which aren't done.
+    pub fn first_open(&self, node: u32) -> u32 {
+        self.first.at(node).max(self.bits.at(self.open_place()))
+    }
+
+    /// Where the first word stands that has nodes which aren't done.
+    fn open_place(&self) -> u32 {
+        self.turn_place(self.count())
+    }
+
     /// Which nodes of a word have to be done before the node and aren't.
     pub fn missing(&self, node: u32, word: u32) -> u32 {
         self.before(node, word) & !self.bits.at(self.done_place(word))
@@ -196,23 +216,40 @@ impl Precedence {
 
     /// Whether the node is done.
     pub fn is_done(&self, node: u32) -> bool {
-        self.bits.at(self.done_place(node / 32)) & bit(node) != 0
+        self.turn(node) != 0
     }
 
-    /// Notes that the node is done now: before all that aren't.
-    pub fn set_done(&mut self, node: u32) -> Result<(), NoMemory> {
+    /// Where it stands when the node was done.
+    fn turn_place(&self, node: u32) -> u32 {
+        self.end_place(self.count()).saturating_add(node)
+    }
+
+    /// Notes that the node is done now, in such a turn, counted from 1: after all that are done, and before all that aren't.
+    pub fn set_done(&mut self, node: u32, turn: u32) -> Result<(), NoMemory> {
+        for word in self.first_open(node)..self.last.at(node).saturating_add(1) {
+            if self.missing(node, word) != 0 {
+                self.is_absurd = true;
+            }
+        }
         let place = self.done_place(node / 32);
         let done = self.bits.at(place) | bit(node);
         self.bits.set(place, done)?;
-        for word in self.first.at(node)..self.last.at(node).saturating_add(1) {
-            if self.missing(node, word) != 0 {
-                self.is_absurd = true;
-                return Ok(());
+        let place = self.turn_place(node);
+        self.bits.set(place, turn)?;
+        let place = self.open_place();
+        let mut open = self.bits.at(place);
+        for word in open..self.count() / 32 {
+            if self.bits.at(self.done_place(word)) != u32::MAX {
+                break;
             }
-            let known = self.after(node, word) | self.bits.at(self.done_place(word));
-            self.note_after(node, word, self.nodes_of(word) & !known)?;
+            open = word.saturating_add(1);
         }
-        Ok(())
+        self.bits.set(place, open)
+    }
+
+    /// From now on what is noted can be taken back.
+    pub fn keep(&mut self) {
+        self.bits.keep();
     }
 
     pub fn is_absurd(&self) -> bool {
@@ -241,7 +278,7 @@ impl Precedence {
         self.is_absurd = false;
     }
 
-    /// Notes that the one comes before the other, and what follows by that alone.
+    /// Notes that the one comes before the other, and what follows by that alone. What is done needs no row: it comes before all that isn't.
     pub fn add(&mut self, one: u32, other: u32) -> Result<(), NoMemory> {
         if self.is_absurd || self.is_before(one, other) {
             return Ok(());
@@ -250,9 +287,10 @@ impl Precedence {
             self.is_absurd = true;
             return Ok(());
         }
-        for word in self.first.at(other)..self.last.at(other).saturating_add(1) {
+        for word in self.first_open(other)..self.last.at(other).saturating_add(1) {
             let own = if word == one / 32 { bit(one) } else { 0 };
-            let mut left = (self.before(one, word) | own) & !self.before(other, word);
+            let known = self.before(other, word) | self.bits.at(self.done_place(word));
+            let mut left = (self.before(one, word) | own) & !known;
             for _ in 0..32 {
                 if left == 0 {
                     break;
@@ -267,12 +305,15 @@ impl Precedence {
 
     /// Notes that the node comes before `other` and all after that.
     fn add_all_after(&mut self, node: u32, other: u32) -> Result<(), NoMemory> {
-        for word in self.first.at(node)..self.last.at(node).saturating_add(1) {
+        let first = self.first_open(node).max(self.first.at(other));
+        let mut place = self.place(node, first);
+        for word in first..self.last.at(node).saturating_add(1) {
             let own = if word == other / 32 { bit(other) } else { 0 };
-            let left = (self.after(other, word) | own) & !self.after(node, word);
+            let left = (self.after(other, word) | own) & !self.bits.at(place);
             if left != 0 {
                 self.note_after(node, word, left)?;
             }
+            place = place.saturating_add(1);
         }
         Ok(())
     }

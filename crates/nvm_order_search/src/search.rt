@@ -105,10 +105,8 @@ pub struct Search<'p> {
     pub left_in_all: u64,
     /// How often no move was left.
     exhausted: u32,
-    /// How many leaps were made since more acts were in order than ever before, and the state before any move.
+    /// How many leaps were made since more acts were in order than ever before.
     leaps: u32,
-    root: u32,
-    known_root: (u32, u32),
     /// The steps that were in the way where it got stuck, counted from 1, and the act that couldn't be done.
     conflict: Vec<u32>,
     wanted: u32,
@@ -149,8 +147,6 @@ impl<'p> Search<'p> {
             left_in_all: effort,
             leaps: 0,
             exhausted: 0,
-            root: 0,
-            known_root: (0, 0),
             conflict: Vec::new(alloc),
             wanted: NONE,
             conflicts: Vec::new(alloc),
@@ -160,8 +156,7 @@ impl<'p> Search<'p> {
             tries_all: false,
         };
         search.begin()?;
-        search.root = search.state.mark();
-        search.known_root = search.known_mark();
+        search.state.keep();
         Ok(search)
     }
 
@@ -479,7 +474,7 @@ impl<'p> Search<'p> {
             let mut known = None;
             std::mem::swap(&mut known, &mut self.known);
             if let Some(known) = &mut known {
-                known.set_done(self.part, &*self, number)?;
+                known.set_done(self.part, &*self, number, count)?;
             }
             std::mem::swap(&mut known, &mut self.known);
         }
@@ -656,8 +651,8 @@ impl<'p> Search<'p> {
         let distance = SHORT << (self.leaps % DOUBLED);
         let kept = self.most.saturating_sub(distance);
         let mut back = Turn {
-            mark: self.root,
-            known_mark: self.known_root,
+            mark: 0,
+            known_mark: (0, 0),
             steps: 0,
             hash: 0,
             start: 0,

@@ -15,6 +15,8 @@ struct Change {
 pub struct State {
     numbers: Numbers,
     changes: Vec<Change>,
+    /// Whether changes are kept by now, so that they can be taken back.
+    keeps: bool,
 }
 
 impl State {
@@ -23,7 +25,13 @@ impl State {
         Ok(State {
             numbers: Numbers::new(alloc, count, 0)?,
             changes: Vec::new(alloc),
+            keeps: false,
         })
+    }
+
+    /// From now on changes can be taken back.
+    pub fn keep(&mut self) {
+        self.keeps = true;
     }
 
     pub fn at(&self, place: u32) -> u32 {
@@ -33,7 +41,9 @@ impl State {
     pub fn set(&mut self, place: u32, number: u32) -> Result<(), NoMemory> {
         let old = self.numbers.at(place);
         if old != number {
-            self.changes.push(Change { place, old })?;
+            if self.keeps {
+                self.changes.push(Change { place, old })?;
+            }
             self.numbers.put(place, number);
         }
         Ok(())

@@ -15,7 +15,11 @@ pub const NUMBER: u32 = 5;
 pub fn job(alloc: Global, words: &[&str]) -> Result<Job, RowFault> {
     let mut hosts = Vec::with_capacity(alloc, 1)?;
     hosts.push(commands(alloc, words)?)?;
-    let mut jobs = jobs(alloc, hosts)?;
+    only(jobs(alloc, hosts)?)
+}
+
+fn only(jobs: Vec<Job>) -> Result<Job, RowFault> {
+    let mut jobs = jobs;
     let Some(job) = jobs.pop() else {
         return Err(RowFault::Unread);
     };

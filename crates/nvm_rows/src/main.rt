@@ -51,11 +51,17 @@ fn printed<R: AllocGlobal + Print + Wait>(
     row: &str,
 ) -> Result<(), RowFault> {
     if row.is_empty() || row.starts_with('#') {
-        return rt.println(row).map_err(|_| RowFault::Unwritten);
+        return shown(rt, row);
     }
     let words: Vec<&str> = row.split_whitespace().collect(rt.alloc())?;
-    let answer = answer(rt, opened, words.as_slice())?;
-    rt.println(answer.as_str()).map_err(|_| RowFault::Unwritten)
+    shown(rt, answer(rt, opened, words.as_slice())?.as_str())
+}
+
+fn shown<R: Print>(rt: &R, line: &str) -> Result<(), RowFault> {
+    match rt.println(line) {
+        Ok(()) => Ok(()),
+        Err(_) => Err(RowFault::Unwritten),
+    }
 }
 
 /// What the call of these words answers.

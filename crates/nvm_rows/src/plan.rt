@@ -7,7 +7,7 @@ use crate::words::geometry;
 use nvm_geometry::Geometry;
 use nvm_listing::ActText;
 use nvm_plan::{Job, LentPart, fits, job_part_count, job_part_in, job_units};
-use nvm_store::Look;
+use nvm_store::{ActRef, Look};
 use std::alloc::Global;
 
 /// What a call answers.
@@ -41,13 +41,20 @@ fn part_text(alloc: Global, geometry: &Geometry, job: &Job, unit: u16) -> Result
     requires { FitsNamespace geometry.now job.now }
 {
     match job_part_in(geometry, job, unit) {
-        Some(LentPart::Act(act)) => {
-            let act = act.to_act(alloc)?;
-            Ok(format!(in alloc; "{}", ActText(&act))?)
-        }
-        Some(LentPart::Look(Look::Read { first, blocks })) => {
-            Ok(format!(in alloc; " read {first} {blocks}")?)
-        }
+        Some(LentPart::Act(act)) => act_text(alloc, act),
+        Some(LentPart::Look(look)) => look_text(alloc, look),
+        None => Err(RowFault::Unread),
+    }
+}
+
+fn act_text(alloc: Global, act: ActRef<'_>) -> Result<String, RowFault> {
+    let act = act.to_act(alloc)?;
+    Ok(format!(in alloc; "{}", ActText(&act))?)
+}
+
+fn look_text(alloc: Global, look: Look<'_>) -> Result<String, RowFault> {
+    match look {
+        Look::Read { first, blocks } => Ok(format!(in alloc; " read {first} {blocks}")?),
         _ => Err(RowFault::Unread),
     }
 }

@@ -30,11 +30,14 @@ pub fn answer(alloc: Global, call: &[&str]) -> Result<String, RowFault> {
 
 /// The bytes of a copy of the completion, and its data.
 fn posted(alloc: Global, completion: &Completion) -> Result<String, RowFault> {
-    let completion = completion.clone()?;
+    posted_text(alloc, &completion.clone()?)
+}
+
+fn posted_text(alloc: Global, completion: &Completion) -> Result<String, RowFault> {
     if completion.status.sct > 7 {
         return Err(RowFault::Unread);
     }
-    let entry = completion_bytes(&completion);
+    let entry = completion_bytes(completion);
     let data = match &completion.payload {
         Some(data) => data.as_slice(),
         None => &[],
@@ -51,7 +54,11 @@ fn part(alloc: Global, from: usize, to: usize, whole: Payload) -> Result<String,
     let part = whole.part(from, to)?;
     let own = whole.own_part(alloc, from, to)?;
     let whole = whole.into_vec(alloc)?;
-    let part = part.into_vec(alloc)?;
+    parts_text(alloc, &part.into_vec(alloc)?, own, &whole)
+}
+
+/// The bytes of the three. Data that another shares isn't had alone.
+fn parts_text(alloc: Global, part: &[u8], own: Payload, whole: &[u8]) -> Result<String, RowFault> {
     let data = ReadData::shared(own);
     match data.clone()?.into_vec() {
         Ok(_) => Err(RowFault::Unread),
@@ -59,8 +66,8 @@ fn part(alloc: Global, from: usize, to: usize, whole: Payload) -> Result<String,
             let own = RunsText(data.as_slice());
             Ok(format!(in alloc;
                 "part {} own {own} whole {}",
-                RunsText(&part),
-                RunsText(&whole)
+                RunsText(part),
+                RunsText(whole)
             )?)
         }
     }
@@ -73,7 +80,11 @@ fn block(alloc: Global, payload: Payload) -> Result<String, RowFault> {
     } else {
         Block::Bytes(payload)
     };
-    match block.clone()? {
+    block_text(alloc, &block.clone()?)
+}
+
+fn block_text(alloc: Global, block: &Block) -> Result<String, RowFault> {
+    match block {
         Block::Bytes(payload) => Ok(format!(in alloc; "{}", RunsText(payload.as_slice()))?),
         Block::Uncorrectable => Ok(String::from_str(alloc, "marked")?),
     }

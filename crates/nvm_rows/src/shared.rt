@@ -1,8 +1,8 @@
 //! Calls on a shared unit and its two passes, or on a space and its two ports. `open` begins a new one.
 use crate::fault::RowFault;
-use crate::words::{limit, number};
+use crate::words::limit;
 use crate::{spaces, units};
-use nvm_store::History;
+use nvm_store::{History, Limit};
 use nvm_unit::{Count, Kept};
 use std::alloc::Global;
 use std::mem::replace;
@@ -39,23 +39,36 @@ pub fn answer(
 /// or one that counts, which has none.
 fn open(alloc: Global, row: &[&str]) -> Result<Opened, RowFault> {
     match row {
-        ["unit", _, "counted"] => Ok(Opened::CountedUnit(units::Ground::counted(alloc)?)),
-        ["unit", _, most] => {
-            Ok(Opened::Unit(units::Ground::recorded(alloc, limit(most)?, true)?))
-        }
-        ["unit", _, most, "plain"] => {
-            Ok(Opened::Unit(units::Ground::recorded(alloc, limit(most)?, false)?))
-        }
-        ["space", _, "counted"] => {
-            Ok(Opened::CountedSpace(spaces::Ground::counted(alloc, None)?))
-        }
-        ["space", _, "counted", most] => {
-            let most = Some(limit(most)?);
-            Ok(Opened::CountedSpace(spaces::Ground::counted(alloc, most)?))
-        }
-        ["space", _, most] => Ok(Opened::Space(spaces::Ground::recorded(alloc, limit(most)?)?)),
+        ["unit", _, of @ ..] => open_unit(alloc, of),
+        ["space", _, of @ ..] => open_space(alloc, of),
         _ => Err(RowFault::Unread),
     }
+}
+
+fn open_unit(alloc: Global, of: &[&str]) -> Result<Opened, RowFault> {
+    match of {
+        ["counted"] => Ok(Opened::CountedUnit(units::Ground::counted(alloc)?)),
+        [most] => recorded_unit(alloc, most, true),
+        [most, "plain"] => recorded_unit(alloc, most, false),
+        _ => Err(RowFault::Unread),
+    }
+}
+
+fn recorded_unit(alloc: Global, most: &str, versions: bool) -> Result<Opened, RowFault> {
+    Ok(Opened::Unit(units::Ground::recorded(alloc, limit(most)?, versions)?))
+}
+
+fn open_space(alloc: Global, of: &[&str]) -> Result<Opened, RowFault> {
+    match of {
+        ["counted"] => counted_space(alloc, None),
+        ["counted", most] => counted_space(alloc, Some(limit(most)?)),
+        [most] => Ok(Opened::Space(spaces::Ground::recorded(alloc, limit(most)?)?)),
+        _ => Err(RowFault::Unread),
+    }
+}
+
+fn counted_space(alloc: Global, most: Option<Limit>) -> Result<Opened, RowFault> {
+    Ok(Opened::CountedSpace(spaces::Ground::counted(alloc, most)?))
 }
 
 /// What a call on what is open answers.
@@ -65,26 +78,18 @@ fn asked(
     opened: &mut Opened,
     row: &[&str],
 ) -> Result<String, RowFault> {
-    match opened {
-        Opened::Nothing => Err(RowFault::Unread),
-        Opened::Unit(ground) => match row {
-            ["unit", pass, "history"] => ground.history(rt, alloc, pass),
-            ["unit", call @ ..] => ground.answer(rt, alloc, call),
+    match row {
+        ["unit", call @ ..] => match opened {
+            Opened::Unit(ground) => ground.asked(rt, alloc, call),
+            Opened::CountedUnit(ground) => ground.answer(rt, alloc, call),
             _ => Err(RowFault::Unread),
         },
-        Opened::CountedUnit(ground) => match row {
-            ["unit", call @ ..] => ground.answer(rt, alloc, call),
+        ["space", call @ ..] => match opened {
+            Opened::Space(ground) => ground.asked(rt, alloc, call),
+            Opened::CountedSpace(ground) => ground.answer(rt, alloc, call),
             _ => Err(RowFault::Unread),
         },
-        Opened::Space(ground) => match row {
-            ["space", port, "history", unit] => ground.history(rt, alloc, port, number(unit)?),
-            ["space", call @ ..] => ground.answer(rt, alloc, call),
-            _ => Err(RowFault::Unread),
-        },
-        Opened::CountedSpace(ground) => match row {
-            ["space", call @ ..] => ground.answer(rt, alloc, call),
-            _ => Err(RowFault::Unread),
-        },
+        _ => Err(RowFault::Unread),
     }
 }
 
@@ -92,14 +97,15 @@ fn asked(
 fn closed(alloc: Global, opened: Opened) -> Result<String, RowFault> {
     match opened {
         Opened::Nothing => Err(RowFault::Unread),
-        Opened::Unit(ground) => kept_text(alloc, [ground.close(alloc)?].as_slice()),
-        Opened::CountedUnit(ground) => kept_text(alloc, [ground.close(alloc)?].as_slice()),
-        Opened::Space(ground) => kept_text(alloc, ground.close(alloc)?.as_slice()),
-        Opened::CountedSpace(ground) => kept_text(alloc, ground.close(alloc)?.as_slice()),
+        Opened::Unit(ground) => ground.closed(alloc),
+        Opened::CountedUnit(ground) => ground.closed(alloc),
+        Opened::Space(ground) => ground.closed(alloc),
+        Opened::CountedSpace(ground) => ground.closed(alloc),
     }
 }
 
-fn kept_text<K: Kept>(alloc: Global, units: &[K]) -> Result<String, RowFault> {
+/// The numbers of entries of what units kept.
+pub fn kept_text<K: Kept>(alloc: Global, units: &[K]) -> Result<String, RowFault> {
     let mut text = String::from_str(alloc, "entries")?;
     for kept in units {
         let entries = kept.entries();

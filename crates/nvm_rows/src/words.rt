@@ -73,7 +73,11 @@ fn append_digits(bytes: &mut Vec<u8>, digits: &str) -> Result<(), RowFault> {
 /// The geometry of NSZE, a block's bytes, NABSN, NABO, NAWUN and NACWU, as `32/512/7/0/7/3`.
 pub fn geometry(alloc: Global, word: &str) -> Result<Geometry, RowFault> {
     let numbers: Vec<&str> = word.split('/').collect(alloc)?;
-    let [nsze, block, nabsn, nabo, nawun, nacwu] = numbers.as_slice() else {
+    geometry_of(numbers.as_slice())
+}
+
+fn geometry_of(numbers: &[&str]) -> Result<Geometry, RowFault> {
+    let [nsze, block, nabsn, nabo, nawun, nacwu] = numbers else {
         return Err(RowFault::Unread);
     };
     let geometry = Geometry::new(

@@ -4,9 +4,7 @@ use crate::search::{Move, Search, Turn};
 use nvm_numbers::ZERO;
 use nvm_record::NoMemory;
 
-/// How many acts that can't be next are as much work as a look at one, and how many looks one that can be next is.
-const SKIPPED: u64 = 8;
-
+/// How many looks it is to try an act that can be next.
 const TRIED: u64 = 8;
 
 impl<'p> Search<'p> {
@@ -64,24 +62,46 @@ impl<'p> Search<'p> {
             all: true,
         };
         let mut later = Vec::new(self.alloc);
-        let head = self.head(&part.lists.by_from, 0)?;
-        for at in head..part.lists.by_from.end(0) {
-            if part.lists.by_from.time(at) > self.horizon {
-                let skipped = u64::from(at.saturating_sub(head)) / SKIPPED;
-                self.left_in_all = self.left_in_all.saturating_sub(skipped);
+        let mut at = self.head(&part.lists.by_from, 0)?;
+        for _ in 0..part.lists.by_from.count() {
+            at = self.skip_over(at)?;
+            if at >= part.lists.by_from.end(0) || part.lists.by_from.time(at) > self.horizon {
                 break;
             }
             let number = part.lists.by_from.act(at);
-            if self.can_be_tried(number)? {
-                self.left_in_all = self.left_in_all.saturating_sub(TRIED);
+            let looks = if self.can_be_tried(number)? {
                 self.try_slots(number, &mut later)?;
-            }
+                TRIED
+            } else {
+                1
+            };
+            self.left_in_all = self.left_in_all.saturating_sub(looks);
+            at = at.saturating_add(1);
         }
         self.moves.extend_from_slice(&later)?;
         self.turns.push(turn)?;
         self.targets.clear();
         self.conflict.clear();
         Ok(())
+    }
+
+    /// The first place of all acts by beginning, from this one on, whose act isn't over.
+    fn skip_over(&mut self, place: u32) -> Result<u32, NoMemory> {
+        let part = self.part;
+        let list = &part.lists.by_from;
+        let skips = part.lists.skips_at;
+        let mut at = place;
+        for _ in place..list.end(0) {
+            if at >= list.end(0) || !self.is_over(list.act(at)) {
+                break;
+            }
+            at = at.saturating_add(self.state.at(skips.saturating_add(at)).max(1));
+        }
+        if at > place {
+            self.state
+                .set(skips.saturating_add(place), at.saturating_sub(place))?;
+        }
+        Ok(at)
     }
 
     /// Whether the act can be next in any order that goes on.

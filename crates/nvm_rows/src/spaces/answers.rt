@@ -48,9 +48,16 @@ pub fn read_text(alloc: Global, read: Result<ReadAnswer, ReadNow>) -> Result<Str
             push_data(&mut text, &payload)?;
             Ok(text)
         }
-        Err(ReadNow::OutOfRange) => Ok(String::from_str(alloc, "out of range")?),
-        Err(ReadNow::Crosses) => Ok(String::from_str(alloc, "crosses")?),
-        Err(ReadNow::Newer { count }) => Ok(format!(in alloc; "newer with {count}")?),
-        Err(ReadNow::NoMemory { point }) => Ok(format!(in alloc; "no memory at {point}")?),
+        Err(why) => unread_text(alloc, why),
     }
+}
+
+fn unread_text(alloc: Global, why: ReadNow) -> Result<String, RowFault> {
+    let text = match why {
+        ReadNow::OutOfRange => String::from_str(alloc, "out of range"),
+        ReadNow::Crosses => String::from_str(alloc, "crosses"),
+        ReadNow::Newer { count } => format!(in alloc; "newer with {count}"),
+        ReadNow::NoMemory { point } => format!(in alloc; "no memory at {point}"),
+    };
+    Ok(text?)
 }

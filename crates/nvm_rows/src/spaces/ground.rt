@@ -3,7 +3,9 @@ ghost use Rattle.std.specs.Prelude.{◌≡◌, IfOk};
 ghost use Rattle.nvm_space.specs.Ports.{AreAllPortsOf, IsPortOf};
 
 use crate::fault::RowFault;
+use crate::shared::kept_text;
 use crate::spaces::ports::{called, history};
+use crate::words::number;
 use nvm_geometry::Geometry;
 use nvm_record::NoMemory;
 use nvm_space::{Port, Space};
@@ -51,18 +53,21 @@ impl Ground<History> {
         }
     }
 
-    /// The history of the unit that a port finds.
-    pub fn history(
+    /// The history of a unit that a port finds, or what any other call answers.
+    pub fn asked(
         &mut self,
         rt: &impl Wait,
         alloc: Global,
-        port: &str,
-        unit: u16,
+        call: &[&str],
     ) -> Result<String, RowFault> {
-        match port {
-            "0" => history(rt, alloc, &self.space, &mut self.first, unit),
-            "1" => history(rt, alloc, &self.space, &mut self.second, unit),
-            _ => Err(RowFault::Unread),
+        match call {
+            ["0", "history", unit] => {
+                history(rt, alloc, &self.space, &mut self.first, number(unit)?)
+            }
+            ["1", "history", unit] => {
+                history(rt, alloc, &self.space, &mut self.second, number(unit)?)
+            }
+            _ => self.answer(rt, alloc, call),
         }
     }
 }
@@ -96,8 +101,13 @@ impl<K: Kept> Ground<K> {
         }
     }
 
+    /// How many entries the whole history of each unit has.
+    pub fn closed(self, alloc: Global) -> Result<String, RowFault> {
+        kept_text(alloc, self.close(alloc)?.as_slice())
+    }
+
     /// What is kept of the whole history of each unit.
-    pub fn close(self, alloc: Global) -> Result<Vec<K>, NoMemory> {
+    fn close(self, alloc: Global) -> Result<Vec<K>, NoMemory> {
         let Ground {
             space,
             first,

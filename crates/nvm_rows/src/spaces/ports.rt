@@ -64,12 +64,41 @@ fn done<K: Kept>(
         return Err(RowFault::Unread);
     }
     match call {
-        "run" => done_text(alloc, &space.run_job(rt, alloc, port, NUMBER, &job, &Open)),
-        "poll" => match polled_once(alloc, space, port, &job) {
-            Some(done) => done_text(alloc, &done),
-            None => Ok(String::from_str(alloc, "pending")?),
-        },
+        "run" => ran(rt, alloc, space, port, &job),
+        "poll" => polled(alloc, space, port, &job),
         _ => Err(RowFault::Unread),
+    }
+}
+
+fn ran<K: Kept>(
+    rt: &impl Wait,
+    alloc: Global,
+    space: &Space<K>,
+    port: &mut Port<K>,
+    job: &Job,
+) -> Result<String, RowFault>
+    requires of { IsPortOf space.now port.old }
+    requires fits { FitsNamespace space.now.namespace job.now }
+    ensures of { IsPortOf space.now port.new }
+    ensures number { port.new.number ≡ port.old.number }
+{
+    done_text(alloc, &space.run_job(rt, alloc, port, NUMBER, job, &Open))
+}
+
+fn polled<K: Kept>(
+    alloc: Global,
+    space: &Space<K>,
+    port: &mut Port<K>,
+    job: &Job,
+) -> Result<String, RowFault>
+    requires of { IsPortOf space.now port.old }
+    requires fits { FitsNamespace space.now.namespace job.now }
+    ensures of { IsPortOf space.now port.new }
+    ensures number { port.new.number ≡ port.old.number }
+{
+    match polled_once(alloc, space, port, job) {
+        Some(done) => done_text(alloc, &done),
+        None => Ok(String::from_str(alloc, "pending")?),
     }
 }
 

@@ -6,15 +6,16 @@ use nvm_unit::{Changed, LookFault, ObserveFault, Observed};
 use std::alloc::Global;
 
 pub fn changed_text(alloc: Global, changed: Changed) -> Result<String, RowFault> {
-    match changed {
-        Changed::Done { point } => Ok(format!(in alloc; "done at {point}")?),
+    let text = match changed {
+        Changed::Done { point } => format!(in alloc; "done at {point}"),
         Changed::Failed { point, statuses } => {
             let statuses = StatusesText(statuses);
-            Ok(format!(in alloc; "failed at {point}: {statuses}")?)
+            format!(in alloc; "failed at {point}: {statuses}")
         }
-        Changed::NoMemory { point } => Ok(format!(in alloc; "no memory at {point}")?),
-        Changed::Full { point } => Ok(format!(in alloc; "full at {point}")?),
-    }
+        Changed::NoMemory { point } => format!(in alloc; "no memory at {point}"),
+        Changed::Full { point } => format!(in alloc; "full at {point}"),
+    };
+    Ok(text?)
 }
 
 pub fn observed_text(
@@ -22,30 +23,31 @@ pub fn observed_text(
     observed: Result<Observed, ObserveFault>,
 ) -> Result<String, RowFault> {
     match observed {
-        Ok(observed) => answer_text(alloc, observed.clone()?),
+        Ok(observed) => answer_text(alloc, &observed.clone()?),
         Err(ObserveFault::NoMemory { point }) => Ok(format!(in alloc; "no memory at {point}")?),
     }
 }
 
 pub fn looked_text(alloc: Global, looked: Result<Observed, LookFault>) -> Result<String, RowFault> {
     match looked {
-        Ok(observed) => answer_text(alloc, observed),
+        Ok(observed) => answer_text(alloc, &observed),
         Err(LookFault::Newer { count }) => Ok(format!(in alloc; "newer with {count}")?),
         Err(LookFault::NoMemory { point }) => Ok(format!(in alloc; "no memory at {point}")?),
     }
 }
 
 /// The point, and the data or the status.
-fn answer_text(alloc: Global, observed: Observed) -> Result<String, RowFault> {
-    let Observed { point, answer } = observed;
-    match answer {
+fn answer_text(alloc: Global, observed: &Observed) -> Result<String, RowFault> {
+    let point = observed.point;
+    let text = match &observed.answer {
         Answer::Payload(data) => {
             let runs = RunsText(data.as_slice());
-            Ok(format!(in alloc; "at {point}: {runs}")?)
+            format!(in alloc; "at {point}: {runs}")
         }
         Answer::Status(status) => {
-            let status = StatusText(status);
-            Ok(format!(in alloc; "at {point}: {status}")?)
+            let status = StatusText(*status);
+            format!(in alloc; "at {point}: {status}")
         }
-    }
+    };
+    Ok(text?)
 }

@@ -4,6 +4,7 @@ ghost use Rattle.nvm_unit.specs.Ends.{new_passes};
 ghost use Rattle.nvm_unit.specs.Passes.{IsPassOf};
 
 use crate::fault::RowFault;
+use crate::shared::kept_text;
 use crate::units::passes::{Counting, called, history};
 use nvm_record::{BlockSize, NoMemory};
 use nvm_store::{History, Limit, Place};
@@ -53,17 +54,17 @@ impl Ground<History> {
         }
     }
 
-    /// The history that a pass finds.
-    pub fn history(
+    /// The history that a pass finds, or what any other call answers.
+    pub fn asked(
         &mut self,
         rt: &impl Wait,
         alloc: Global,
-        pass: &str,
+        call: &[&str],
     ) -> Result<String, RowFault> {
-        match pass {
-            "0" => history(rt, alloc, &self.unit, &mut self.first),
-            "1" => history(rt, alloc, &self.unit, &mut self.second),
-            _ => Err(RowFault::Unread),
+        match call {
+            ["0", "history"] => history(rt, alloc, &self.unit, &mut self.first),
+            ["1", "history"] => history(rt, alloc, &self.unit, &mut self.second),
+            _ => self.answer(rt, alloc, call),
         }
     }
 }
@@ -112,8 +113,15 @@ impl<K: Kept> Ground<K> {
         }
     }
 
+    /// How many entries the whole history has.
+    pub fn closed(self, alloc: Global) -> Result<String, RowFault> {
+        let mut kept = Vec::with_capacity(alloc, 1)?;
+        kept.push(self.close(alloc)?)?;
+        kept_text(alloc, kept.as_slice())
+    }
+
     /// What is kept of the whole history.
-    pub fn close(self, alloc: Global) -> Result<K, NoMemory> {
+    fn close(self, alloc: Global) -> Result<K, NoMemory> {
         let Ground {
             unit,
             first,

@@ -11,8 +11,8 @@ use crate::fault::RowFault;
 use crate::job::{NUMBER, entries_text, job};
 use crate::units::answers::{changed_text, looked_text, observed_text};
 use nvm_geometry::Geometry;
-use nvm_plan::{LentPart, fits, job_part_in};
-use nvm_store::{ActRef, Answer, History, Look, Place, answer, replay};
+use nvm_plan::{Job, LentPart, fits, job_part_in};
+use nvm_store::{ActRef, Answer, History, Look, Place, UnitBlocks, answer, replay};
 use nvm_text::{RunsText, StatusText};
 use nvm_unit::{Busy, Gate, Kept, Open, Pass, Unit};
 use std::alloc::Global;
@@ -71,13 +71,32 @@ pub fn called<K: Kept>(
         return Ok(String::from_str(alloc, "refreshed")?);
     }
     let job = job(alloc, of)?;
+    worked(rt, alloc, unit, pass, versions, gate, call, &job)
+}
+
+/// What the part of a job in the unit is answered.
+fn worked<K: Kept>(
+    rt: &impl Wait,
+    alloc: Global,
+    unit: &Unit<K>,
+    pass: &mut Pass<K>,
+    versions: bool,
+    gate: &Counting,
+    call: &str,
+    job: &Job,
+) -> Result<String, RowFault>
+    requires of { IsPassOf unit.now pass.old }
+    requires versions { unit.now.versions ≡ versions }
+    ensures of { IsPassOf unit.now pass.new }
+    ensures number { pass.new.view.number ≡ pass.old.view.number }
+{
     let Ok(namespace) = Geometry::new(16, 512, 7, 0, 7, 7) else {
         return Err(RowFault::Unread);
     };
-    if !fits(&namespace, &job) {
+    if !fits(&namespace, job) {
         return Err(RowFault::Unread);
     }
-    match job_part_in(&namespace, &job, 0) {
+    match job_part_in(&namespace, job, 0) {
         Some(LentPart::Act(act)) => changed(rt, alloc, unit, pass, gate, call, act),
         Some(LentPart::Look(look)) => looked(rt, alloc, unit, pass, versions, call, look),
         None => Err(RowFault::Unread),
@@ -186,17 +205,28 @@ fn with_blocks(
     let mut text = text;
     text.push_str("; then")?;
     for lba in first..first + u64::from(blocks) {
-        let look = Look::Read {
-            first: lba,
-            blocks: 1,
-        };
-        if !unit.covers_look(look) {
-            return Err(RowFault::Unread);
-        }
-        match answer(alloc, &unit, look)? {
-            Answer::Payload(read) => write!(text, " {}", RunsText(read.as_slice()))?,
-            Answer::Status(status) => write!(text, " {}", StatusText(status))?,
-        }
+        push_block(alloc, &mut text, &unit, lba)?;
     }
     Ok(text)
+}
+
+/// Appends what a Read of the block is answered.
+fn push_block(
+    alloc: Global,
+    text: &mut String,
+    unit: &UnitBlocks,
+    lba: u64,
+) -> Result<(), RowFault> {
+    let look = Look::Read {
+        first: lba,
+        blocks: 1,
+    };
+    if !unit.covers_look(look) {
+        return Err(RowFault::Unread);
+    }
+    match answer(alloc, unit, look)? {
+        Answer::Payload(read) => write!(text, " {}", RunsText(read.as_slice()))?,
+        Answer::Status(status) => write!(text, " {}", StatusText(status))?,
+    }
+    Ok(())
 }
