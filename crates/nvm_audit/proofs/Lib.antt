@@ -47,3 +47,8 @@ pub mod OneDone
 pub mod UnitsFound
 pub mod UnitByUnit
 pub mod BeforeUnits
+pub mod Noting
+pub mod Reading
+pub mod LawfulDone
+pub mod OneList
+pub mod Walking

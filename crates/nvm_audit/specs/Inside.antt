@@ -16,3 +16,5 @@ pub mod Grouped
 pub mod Gathered
 -- Units that are audited each by itself.
 pub mod UnitSearch
+-- Where done jobs are, while they are noted.
+pub mod Noted

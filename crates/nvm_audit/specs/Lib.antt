@@ -19,4 +19,6 @@ pub mod RecordedCalls
 pub mod OneThreadRun
 pub mod ReplyAtPoint
 pub mod OneAct
+pub mod DoneJobs
+pub mod DonePlaces
 pub mod Inside

@@ -21,6 +21,7 @@ ghost use Rattle.nvm_audit.specs.declared.audit_fault.AuditFault.{AuditFault};
 ghost use Rattle.nvm_audit.specs.declared.audit_fault.AuditFault.TheVariants.{NoMemory};
 ghost use Rattle.nvm_audit.specs.declared.record.TheConstants as named;
 ghost use Rattle.nvm_audit.specs.declared.version.Version.{Version as FileVersion};
+ghost use Rattle.nvm_audit.specs.DoneJobs.{AreDone, IsDoneJob};
 ghost use Rattle.nvm_audit.specs.LawfulRecord.{HaveShapes, IsLawfulRecord};
 ghost use Rattle.nvm_audit.specs.NamedUnit.{names_unit};
 ghost use Rattle.nvm_audit.specs.OneAct.{entry_alone, IsOfOneAct, HasJust};
@@ -190,3 +191,18 @@ pub fn done_jobs_are_outcomes()
     units_met_are_those_reached();
     whole_ranges_are_reached();
 }
+
+/// In a lawful record each job has one done job, and no other.
+pub fn each_job_has_one_done_job()
+    ensures some { (r : RecordView) (number : ℕ) → IsLawfulRecord r → number < length r.jobs
+        → (its : RecordedJob) × IsDoneJob r.done number its }
+    ensures alone { (r : RecordView) (number : ℕ) (its other : RecordedJob) → IsLawfulRecord r → IsDoneJob r.done number its
+        → IsDoneJob r.done number other → its ≡ other }
+{}
+
+/// The done jobs of a lawful record, in the order of its jobs, are one list, and no other.
+pub fn done_jobs_are_one_list()
+    ensures some { (r : RecordView) → IsLawfulRecord r → (its : List RecordedJob) × AreDone r.done 0 r.jobs its }
+    ensures alone { (r : RecordView) (its other : List RecordedJob) → IsLawfulRecord r → AreDone r.done 0 r.jobs its
+        → AreDone r.done 0 r.jobs other → its ≡ other }
+{}

@@ -4,7 +4,7 @@ use Rattle.nvm_plan.specs.declared.completions.Completions.{Completions}
 use Rattle.nvm_audit.specs.LawfulRecord.{IsLawfulRecord}
 use Rattle.nvm_audit.specs.RecordedJob.{RecordedJob}
 use Rattle.nvm_audit.specs.RecordView.{RecordView}
-use Rattle.nvm_done_jobs.proofs.OneList.{all_done, all_done_once}
+use Rattle.nvm_audit.proofs.OneList.{all_done, all_done_once}
 use Rattle.nvm_engine.specs.Lines.{job_lines}
 use Rattle.nvm_engine.specs.RecordLines.{IsTextOf}
 use Rattle.nvm_engine.specs.declared.form.Form.TheVariants.{Short}

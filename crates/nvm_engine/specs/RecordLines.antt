@@ -6,7 +6,7 @@ use Rattle.nvm_plan.specs.declared.completions.Completions.{Completions}
 use Rattle.nvm_plan.specs.declared.job.Job.{Job}
 use Rattle.nvm_audit.specs.RecordedJob.{RecordedJob}
 use Rattle.nvm_audit.specs.RecordView.{RecordView}
-use Rattle.nvm_done_jobs.specs.DoneJobs.{IsDoneJob}
+use Rattle.nvm_audit.specs.DoneJobs.{IsDoneJob}
 use Rattle.nvm_engine.specs.Lines.{job_lines}
 use Rattle.nvm_engine.specs.UnderLine.{Lists}
 use Rattle.nvm_engine.specs.declared.form.Form.{Form}

@@ -3,7 +3,7 @@ ghost use Rattle.std.specs.Prelude.{ℕ, List, OnErr, OnOk};
 ghost use Rattle.std.specs.Io.KnownBytes.{Appends};
 ghost use Rattle.nvm_write.specs.Handed.{TakesFront};
 ghost use Rattle.nvm_audit.specs.Verdict.{IsVerdict};
-ghost use Rattle.nvm_done_jobs.specs.DonePlaces.{AreDonePlaces};
+ghost use Rattle.nvm_audit.specs.DonePlaces.{AreDonePlaces};
 ghost use Rattle.nvm_engine.specs.Printed.{IsPrintedIn};
 ghost use Rattle.nvm_engine.specs.RecordLines.{AreLinesOf};
 ghost use Rattle.nvm_engine.specs.UnderLine.{lists_say};
@@ -11,8 +11,7 @@ ghost use Rattle.nvm_engine.specs.UnderLine.{lists_say};
 use crate::form::Form;
 use crate::lines::write_job;
 use crate::verdict_line::write_lawful;
-use nvm_audit::{Record, Verdict};
-use nvm_done_jobs::DoneJobs;
+use nvm_audit::{DoneJobs, Record, Verdict};
 use std::io;
 use std::io::Write;
 

@@ -9,8 +9,7 @@ ghost use Rattle.nvm_engine.specs.UnderLine.{lists_say};
 use crate::form::Form;
 use crate::judging::verdict_of;
 use crate::record_text::write_record_text;
-use nvm_audit::{Record, Verdict, Watcher};
-use nvm_done_jobs::DoneJobs;
+use nvm_audit::{DoneJobs, Record, Verdict, Watcher};
 use nvm_record::NoMemory;
 use std::alloc::Global;
 use std::io;
@@ -35,7 +34,7 @@ impl Model for Shown {
     ghost use Rattle.nvm_audit.specs.LawfulRecord.{IsLawfulRecord};
     ghost use Rattle.nvm_audit.specs.RecordView.{RecordView};
     ghost use Rattle.nvm_audit.specs.Verdict.{IsVerdict};
-    ghost use Rattle.nvm_done_jobs.specs.DonePlaces.{AreDonePlaces};
+    ghost use Rattle.nvm_audit.specs.DonePlaces.{AreDonePlaces};
 
     ghost Value = { RecordView };
 

@@ -11,7 +11,7 @@ use Rattle.nvm_plan.specs.declared.job.Body.TheVariants.{Single, Pair}
 use Rattle.nvm_plan.specs.declared.job.Job.{Job}
 use Rattle.nvm_audit.specs.RecordedJob.{RecordedJob}
 use Rattle.nvm_audit.specs.RecordView.{RecordView}
-use Rattle.nvm_done_jobs.specs.DoneJobs.{AreDone}
+use Rattle.nvm_audit.specs.DoneJobs.{AreDone}
 use Rattle.nvm_expect.specs.declared.check.Check.{Check}
 
 -- what each command of a list expects, of each list, host 1's first

@@ -6,8 +6,7 @@ ghost use Rattle.nvm_expect.specs.Checks as spec;
 ghost use Rattle.nvm_expect.specs.Checks.{AreChecksOf};
 
 use crate::check::Check;
-use nvm_audit::Record;
-use nvm_done_jobs::DoneJobs;
+use nvm_audit::{DoneJobs, Record};
 use nvm_plan::{Body, Job};
 use nvm_record::{Command, NoMemory, Status, Statuses};
 use std::alloc::Global;

@@ -9,7 +9,7 @@ use Rattle.nvm_plan.specs.declared.job.Body.TheVariants.{Single, Pair}
 use Rattle.nvm_plan.specs.declared.job.Job.{Job}
 use Rattle.nvm_audit.specs.RecordedJob.{RecordedJob}
 use Rattle.nvm_audit.specs.RecordView.{RecordView}
-use Rattle.nvm_done_jobs.specs.DoneJobs.{AreDone}
+use Rattle.nvm_audit.specs.DoneJobs.{AreDone}
 use Rattle.nvm_listing.specs.declared.answer.Answer.{Answer}
 
 -- the host's number, its command, the status, and the data of a Read, if there is any

@@ -4,8 +4,7 @@ ghost use Rattle.nvm_audit.specs.LawfulRecord.{IsLawfulRecord};
 ghost use Rattle.nvm_plan.specs.Shape.{IsForEach};
 ghost use Rattle.nvm_listing.specs.Answers.{AreAnswersOf, answer_of, answer_with, job_answers};
 
-use nvm_audit::{DoneJob, Record};
-use nvm_done_jobs::DoneJobs;
+use nvm_audit::{DoneJob, DoneJobs, Record};
 use nvm_plan::{Body, Job};
 use nvm_record::{Command, NoMemory, ReadData, Status, Statuses};
 use std::alloc::Global;

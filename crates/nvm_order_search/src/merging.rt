@@ -147,67 +147,107 @@ enum Miss {
     Nothing,
 }
 
-/// An order of the part's points. Unless it is the last try, it doesn't go on for as long as it might.
-fn found_for<'t>(
-    known: &mut Known<'_, 't>,
-    values: &mut Values<'t>,
-    number: u32,
-    shares: &[Share],
-    is_last: bool,
-) -> Result<Result<Found<'t>, Miss>, NoMemory> {
-    let alloc = known.alloc;
-    let part = part_of(known, values, shares)?;
+/// Takes from what is left what a search spent of the most that it might.
+fn take_spent(known: &mut Known<'_, '_>, most: u64, search: &Search<'_>) {
+    let spent = most.saturating_sub(search.left_in_all);
+    known.left = known.left.saturating_sub(spent);
+}
+
+/// What a search may spend: little of what is left, or a half where it is the last try.
+fn most_of(known: &Known<'_, '_>, is_last: bool) -> u64 {
+    known.left / if is_last { 2 } else { TRIES }
+}
+
+/// Searches without asking what comes before what.
+fn search_plainly<'p>(
+    known: &mut Known<'_, '_>,
+    part: &'p Part,
+) -> Result<(Search<'p>, bool), NoMemory> {
     let few = u64::from(part.count())
         .saturating_mul(EACH_ACT)
         .saturating_add(FEW);
     let few = few.min(known.left / 2);
-    let mut search = Search::new(alloc, &part, few, 0, None)?;
-    let mut is_found = search.run()?;
-    known.left = known
-        .left
-        .saturating_sub(few.saturating_sub(search.left_in_all));
-    if !is_found {
-        let order = Derivation::new(alloc, &part)?;
-        if let Some(order) = &order {
-            if order.order.is_absurd() && !part.is_chosen {
-                return Ok(Err(Miss::Nothing));
-            }
+    let mut search = Search::new(known.alloc, part, few, 0, None)?;
+    let is_found = search.run()?;
+    take_spent(known, few, &search);
+    Ok((search, is_found))
+}
+
+/// Searches by what comes before what. None where something would have to come before itself.
+fn search_by_precedence<'p>(
+    known: &mut Known<'_, '_>,
+    part: &'p Part,
+    is_last: bool,
+) -> Result<Option<(Search<'p>, bool)>, NoMemory> {
+    let order = Derivation::new(known.alloc, part)?;
+    if let Some(order) = &order {
+        if order.order.is_absurd() && !part.is_chosen {
+            return Ok(None);
         }
-        let most = if is_last {
-            known.left
-        } else {
-            known.left / TRIES
-        };
-        search = Search::new(alloc, &part, most, 1, order)?;
-        is_found = search.run()?;
-        known.left = known
-            .left
-            .saturating_sub(most.saturating_sub(search.left_in_all));
+    }
+    let most = most_of(known, is_last);
+    let mut search = Search::new(known.alloc, part, most, 1, order)?;
+    let is_found = search.run()?;
+    take_spent(known, most, &search);
+    Ok(Some((search, is_found)))
+}
+
+/// Tries all orders. None where there is none.
+fn search_through<'p>(
+    known: &mut Known<'_, '_>,
+    part: &'p Part,
+    is_last: bool,
+) -> Result<Option<(Search<'p>, bool)>, NoMemory> {
+    let most = most_of(known, is_last);
+    let mut search = Search::new(known.alloc, part, most, 0, None)?;
+    let answer = search.run_through()?;
+    take_spent(known, most, &search);
+    if answer == Some(false) && !part.is_chosen {
+        return Ok(None);
+    }
+    Ok(Some((search, answer == Some(true))))
+}
+
+/// A search that found an order of the part's points. Unless it is the last try, none goes on for as long as it might.
+fn searched<'p>(
+    known: &mut Known<'_, '_>,
+    part: &'p Part,
+    is_last: bool,
+) -> Result<Result<Search<'p>, Miss>, NoMemory> {
+    let (search, is_found) = search_plainly(known, part)?;
+    if is_found {
+        return Ok(Ok(search));
+    }
+    let Some((search, is_found)) = search_by_precedence(known, part, is_last)? else {
+        return Ok(Err(Miss::Nothing));
+    };
+    if is_found {
+        return Ok(Ok(search));
     }
     let stuck = search.stuck_at();
-    if !is_found && !part.starts_unknown && part.lists.anything.count() == 0 {
-        let most = if is_last {
-            known.left
-        } else {
-            known.left / TRIES
-        };
-        search = Search::new(alloc, &part, most, 0, None)?;
-        let answer = search.run_through()?;
-        known.left = known
-            .left
-            .saturating_sub(most.saturating_sub(search.left_in_all));
-        if answer == Some(false) && !part.is_chosen {
+    if !part.starts_unknown && part.lists.anything.count() == 0 {
+        let Some((search, is_found)) = search_through(known, part, is_last)? else {
             return Ok(Err(Miss::Nothing));
+        };
+        if is_found {
+            return Ok(Ok(search));
         }
-        is_found = answer == Some(true);
     }
-    if !is_found {
-        known.left = known.left.saturating_sub(u64::from(part.count()));
-        return Ok(Err(Miss::Stuck(stuck)));
-    }
+    known.left = known.left.saturating_sub(u64::from(part.count()));
+    Ok(Err(Miss::Stuck(stuck)))
+}
+
+/// What the search found, and notes which points are done in the part.
+fn found_by<'t>(
+    known: &mut Known<'_, 't>,
+    values: &Values<'t>,
+    number: u32,
+    part: &Part,
+    search: &Search<'_>,
+) -> Result<Found<'t>, NoMemory> {
     let mut found = Found {
-        steps: Vec::with_capacity(alloc, search.steps.len())?,
-        first: Vec::new(alloc),
+        steps: Vec::with_capacity(known.alloc, search.steps.len())?,
+        first: Vec::new(known.alloc),
     };
     for turn in 0..search.steps.len() {
         let step = search.steps[turn];
@@ -218,7 +258,7 @@ fn found_for<'t>(
         }
         found
             .steps
-            .push(step_of(&part, number, to_u32(turn), &step))?;
+            .push(step_of(part, number, to_u32(turn), &step))?;
     }
     for block in 0..part.blocks {
         let slot = search.first(block);
@@ -229,7 +269,22 @@ fn found_for<'t>(
             })?;
         }
     }
-    Ok(Ok(found))
+    Ok(found)
+}
+
+/// An order of the part's points.
+fn found_for<'t>(
+    known: &mut Known<'_, 't>,
+    values: &mut Values<'t>,
+    number: u32,
+    shares: &[Share],
+    is_last: bool,
+) -> Result<Result<Found<'t>, Miss>, NoMemory> {
+    let part = part_of(known, values, shares)?;
+    match searched(known, &part, is_last)? {
+        Ok(search) => Ok(Ok(found_by(known, &*values, number, &part, &search)?)),
+        Err(miss) => Ok(Err(miss)),
+    }
 }
 
 /// The shares of a part.

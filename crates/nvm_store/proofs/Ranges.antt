@@ -14,7 +14,7 @@ use Rattle.nvm_store.specs.Contents.{Contents, Holds, place_of}
 use Rattle.nvm_store.proofs.AtLemmas.{at_below, at_read, get_or_at_place}
 use Rattle.nvm_store.specs.Inside.Sound.{AreOfSize, AreSound, blocks_at}
 use Rattle.nvm_store.specs.Place.{IsWithin}
-use Rattle.nvm_blocks.specs.Rewrite.{IsRewritten}
+use Rattle.nvm_store.specs.Inside.Rewrite.{IsRewritten}
 
 -- These blocks are the medium's, from this LBA.
 abbrev pub AreAt : List Block → ℕ → Medium → Type 0

@@ -1,3 +1,9 @@
 -- What private functions' contracts say of the blocks as a unit keeps them, and what `==` of entries computes.
 pub mod SameEntries
 pub mod Sound
+-- The blocks of a unit as nodes of a tree.
+pub mod Rewrite
+pub mod Stored
+pub mod Tree
+pub mod Levels
+pub mod Source

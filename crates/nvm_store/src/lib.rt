@@ -9,6 +9,7 @@
 
 mod act;
 mod act_ref;
+mod blocks;
 mod comparison;
 mod cut_ranges;
 mod entry;

@@ -12,10 +12,10 @@ ghost use Rattle.nvm_store.specs.Place.{IsWithin, place_at};
 ghost use Rattle.nvm_store.specs.Inside.Sound.{blocks_at};
 
 use crate::act_ref::ActRef;
+use crate::blocks::Blocks;
 use crate::cut_ranges::lowest_cut;
 use crate::look::Look;
 use crate::place::Place;
-use nvm_blocks::Blocks;
 use nvm_record::laws::{cut_ranges_lie_within, steps_are_local};
 use nvm_record::{BlockSize, NoMemory, Payload};
 use std::alloc::Global;

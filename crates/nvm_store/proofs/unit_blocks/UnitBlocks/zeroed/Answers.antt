@@ -1,6 +1,6 @@
 use Rattle.std.proofs.Common.{◌≡◌, length, ap, ◌∙◌}
 use Rattle.std.proofs.lemmas.List.{length-replicate}
-use Rattle.nvm_blocks.specs.Rewrite.{zero_block}
+use Rattle.nvm_store.specs.Inside.Rewrite.{zero_block}
 use Rattle.nvm_store.proofs.Ranges.{zeroes_held, zeroes_sized}
 use Rattle.nvm_store.proofs.unit_blocks.UnitBlocks.zeroed.Goals as goal
 

@@ -1,4 +1,0 @@
-pub mod Data
-pub mod Parts
-pub mod Ranges
-pub mod Rewrites

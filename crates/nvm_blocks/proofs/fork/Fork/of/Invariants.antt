@@ -1,7 +1,0 @@
-use Rattle.std.proofs.Common.{◌≡◌, replicate}
-use Rattle.std.specs.Arc.{arc_value}
-use Rattle.nvm_blocks.specs.Inside.Tree.{parts_of}
-use Rattle.nvm_blocks.proofs.fork.Fork.of.Given as goal
-
-abbrev pub invariant-loop : goal.invariant-loop
-invariant-loop g l = parts_of g.T.Tree.blocks l.kids.items ≡ replicate l.counter (g.T.Tree.blocks (arc_value l.node))

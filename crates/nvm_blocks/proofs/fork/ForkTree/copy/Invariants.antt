@@ -1,7 +1,0 @@
-use Rattle.std.proofs.Common.{◌≡◌, take}
-use Rattle.nvm_blocks.specs.Inside.Tree.{parts_of}
-use Rattle.nvm_blocks.proofs.fork.ForkTree.copy.Given as goal
-
-abbrev pub invariant-loop-kid : goal.invariant-loop-kid
-invariant-loop-kid g l =
-    parts_of g.T.Tree.blocks l.copies.items ≡ take l.kid-index (parts_of g.T.Tree.blocks l.self-inside.kids.items)

@@ -1,5 +1,0 @@
-pub mod Noting
-pub mod Reading
-pub mod LawfulDone
-pub mod OneList
-pub mod Walking

@@ -1,2 +1,0 @@
--- What only the crate's own functions cite.
-pub mod Noted

@@ -1,3 +1,0 @@
-pub mod DoneJobs
-pub mod DonePlaces
-pub mod Inside

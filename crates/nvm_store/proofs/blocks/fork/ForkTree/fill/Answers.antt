@@ -1,0 +1,53 @@
+use Rattle.std.proofs.Common.{◌/◌, ◌%◌, ap, sym}
+use Rattle.std.proofs.lemmas.Result.{IfOk-weaker, on_err_weaker}
+use Rattle.std.specs.Arc.{arc_value}
+use Rattle.nvm_store.specs.Inside.Tree.{joined_parts}
+use Rattle.nvm_store.proofs.Parts.{place_in, within_part, filled_in_kids, same_in_kids, fork-set, filling_keeps_length}
+use Rattle.nvm_store.proofs.blocks.fork.ForkTree.fill.Goals as goal
+
+pub index_mut-requires : goal.index_mut-requires
+index_mut-requires g c =
+    let lies = place_in g.T.Tree.blocks c.self.inside.kids.items c.self.inside.span c.args.at c.self.invariant
+    (rw (← c.self.view_is) at c.requires.range) in
+    rw c.self.inside.kids.ok.0 lies.part
+
+pub fill_in-requires-clause-range : goal.fill_in-requires-clause-range
+fill_in-requires-clause-range g c =
+    let kids = c.self.inside.kids.items in
+    let span = c.self.inside.span in
+    let lies = place_in g.T.Tree.blocks kids span c.args.at c.self.invariant (rw (← c.self.view_is) at c.requires.range) in
+    within_part g.T.Tree.blocks kids span c.args.at c.index_mut.result.now c.self.invariant lies (sym c.index_mut.ensures.value)
+
+pub invariant_of-self : goal.invariant_of-self
+invariant_of-self g c =
+    let blocks = g.T.Tree.blocks in
+    let kids = c.self.inside.kids.items in
+    let span = c.self.inside.span in
+    let kid = c.index_mut.result.now in
+    let lies = place_in blocks kids span c.args.at c.self.invariant (rw (← c.self.view_is) at c.requires.range) in
+    fork-set blocks kids span c.args.at kid c.fill_in.new.node c.self.invariant lies (sym c.index_mut.ensures.value)
+    (filling_keeps_length c.fill_in.result c.args.source.now (c.args.at % span) c.args.from c.args.to c.args.least (blocks (arc_value kid))
+    (blocks (arc_value c.fill_in.new.node)) c.fill_in.ensures.ok c.fill_in.ensures.err)
+
+pub returns-clause-ok : goal.returns-clause-ok
+returns-clause-ok g c =
+    let blocks = g.T.Tree.blocks in
+    let kids = c.self.inside.kids.items in
+    let span = c.self.inside.span in
+    let lies = place_in blocks kids span c.args.at c.self.invariant (rw (← c.self.view_is) at c.requires.range) in
+    IfOk-weaker c.fill_in.result _ _
+    (λ n filled. rw (← c.self.view_is)
+    (filled_in_kids blocks kids span c.args.at c.args.from c.args.to c.args.least n c.args.source.now c.index_mut.result.now c.fill_in.new.node
+    c.self.invariant lies (sym c.index_mut.ensures.value) filled))
+    c.fill_in.ensures.ok
+
+pub returns-clause-err : goal.returns-clause-err
+returns-clause-err g c =
+    let kids = c.self.inside.kids.items in
+    let span = c.self.inside.span in
+    let lies = place_in g.T.Tree.blocks kids span c.args.at c.self.invariant (rw (← c.self.view_is) at c.requires.range) in
+    on_err_weaker c.fill_in.result
+    (λ same. rw (← c.self.view_is)
+    (ap joined_parts (same_in_kids g.T.Tree.blocks kids (c.args.at / span) c.index_mut.result.now c.fill_in.new.node lies.part
+    (sym c.index_mut.ensures.value) same)))
+    c.fill_in.ensures.err

@@ -1,0 +1,36 @@
+use Rattle.std.proofs.Common.{◌+◌, ◌*◌, ◌/◌, ap, ◌∙◌, arith, length}
+use Rattle.std.proofs.lemmas.List.{length-replicate}
+use Rattle.nvm_store.specs.Inside.Rewrite.{zero_block}
+use Rattle.nvm_store.proofs.blocks.levels.Levels.zeroed.Goals as goal
+
+pub returns-then-count-le-TWO : goal.returns-then-count-le-TWO
+returns-then-count-le-TWO c =
+    let block = zero_block c.args.size in
+    record {
+      all = (c.args.count / 8 + 1) * 8;
+      enough = omega arith;
+      are = c.in_ok-of.ensures block c.in_ok-leaf.ensures;
+    }
+
+pub returns-then-count-le-THREE : goal.returns-then-count-le-THREE
+returns-then-count-le-THREE c =
+    let block = zero_block c.args.size in
+    record {
+      all = (c.args.count / 128 + 1) * 128;
+      enough = omega arith;
+      are = c.in_ok-of-2.ensures block (c.in_ok-two.ensures block c.in_ok-leaf.ensures);
+    }
+
+pub of-requires-4-clause-span : goal.of-requires-4-clause-span
+of-requires-4-clause-span c =
+    let block = zero_block c.args.size in
+    ap length (c.in_ok-three.ensures block (c.in_ok-two.ensures block c.in_ok-leaf.ensures)) ∙ length-replicate 2048 block
+
+pub returns : goal.returns
+returns c =
+    let block = zero_block c.args.size in
+    record {
+      all = (c.args.count / 2048 + 1) * 2048;
+      enough = omega arith;
+      are = c.in_ok-of-3.ensures block (c.in_ok-three.ensures block (c.in_ok-two.ensures block c.in_ok-leaf.ensures));
+    }
