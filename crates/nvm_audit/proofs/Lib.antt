@@ -51,4 +51,4 @@ pub mod Noting
 pub mod Reading
 pub mod LawfulDone
 pub mod OneList
-pub mod Walking
+pub mod DoneWalk

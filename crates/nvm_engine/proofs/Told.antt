@@ -6,7 +6,7 @@ use Rattle.nvm_plan.specs.declared.job.Job.{Job}
 use Rattle.nvm_audit.specs.RecordedJob.{RecordedJob}
 use Rattle.nvm_audit.specs.RecordView.{RecordView}
 use Rattle.nvm_audit.specs.DoneJobs.{AreDone}
-use Rattle.nvm_audit.proofs.Walking.{Making}
+use Rattle.nvm_audit.proofs.DoneWalk.{Making}
 use Rattle.nvm_engine.specs.Lines.{after_body, body_lines, job_lines}
 use Rattle.nvm_engine.specs.RecordLines.{AreLinesOf, AreTold}
 use Rattle.nvm_engine.specs.UnderLine.{Lists}

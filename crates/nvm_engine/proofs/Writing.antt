@@ -16,7 +16,7 @@ use Rattle.nvm_audit.specs.DoneJobs.{IsDoneJob}
 use Rattle.nvm_audit.specs.DonePlaces.{AreDonePlaces}
 use Rattle.nvm_audit.specs.declared.done_jobs.DonePlace.{DonePlace}
 use Rattle.nvm_audit.proofs.Reading.{placed_done}
-use Rattle.nvm_audit.proofs.Walking.{IsWalk, all_walked, none_walked, one_walked, rest_walked}
+use Rattle.nvm_audit.proofs.DoneWalk.{IsWalk, all_walked, none_walked, one_walked, rest_walked}
 use Rattle.nvm_engine.specs.Lines.{after_body, body_lines}
 use Rattle.nvm_engine.specs.Printed.{IsPrintedIn}
 use Rattle.nvm_engine.specs.RecordLines.{AreLinesOf}

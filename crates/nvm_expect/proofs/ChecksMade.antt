@@ -1,6 +1,6 @@
 -- The checks of a record's jobs are made one job after the other.
 use Rattle.std.proofs.Common.{map, refl}
-use Rattle.nvm_audit.proofs.Walking.{Making}
+use Rattle.nvm_audit.proofs.DoneWalk.{Making}
 use Rattle.nvm_expect.specs.Checks.{Lists, behind_body, checks_in, checks_of}
 use Rattle.nvm_expect.specs.declared.check.Check.{Check}
 

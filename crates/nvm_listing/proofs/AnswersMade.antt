@@ -1,6 +1,6 @@
 -- The answers of a record's jobs are made one job after the other.
 use Rattle.std.proofs.Common.{refl}
-use Rattle.nvm_audit.proofs.Walking.{Making}
+use Rattle.nvm_audit.proofs.DoneWalk.{Making}
 use Rattle.nvm_listing.specs.Answers.{Answered, answers_of, job_answers}
 
 abbrev pub answers_made : Making (Unit {0}) Answered

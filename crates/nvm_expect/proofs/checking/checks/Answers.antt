@@ -7,7 +7,7 @@ use Rattle.nvm_audit.specs.RecordView.{RecordView}
 use Rattle.nvm_audit.specs.RecordedJob.{RecordedJob}
 use Rattle.nvm_audit.proofs.Places.{stands_read}
 use Rattle.nvm_audit.specs.DoneJobs.{IsDoneJob}
-use Rattle.nvm_audit.proofs.Walking.{all_walked, none_walked, one_walked}
+use Rattle.nvm_audit.proofs.DoneWalk.{all_walked, none_walked, one_walked}
 use Rattle.nvm_expect.specs.Checks.{Lists}
 use Rattle.nvm_expect.proofs.ChecksMade.{checks_made}
 use Rattle.nvm_expect.proofs.checking.checks.Goals as goal

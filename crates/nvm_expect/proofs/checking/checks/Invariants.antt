@@ -1,5 +1,5 @@
 use Rattle.std.proofs.Common.{map}
-use Rattle.nvm_audit.proofs.Walking.{IsWalk}
+use Rattle.nvm_audit.proofs.DoneWalk.{IsWalk}
 use Rattle.nvm_expect.proofs.ChecksMade.{checks_made}
 use Rattle.nvm_expect.proofs.checking.checks.Given as goal
 

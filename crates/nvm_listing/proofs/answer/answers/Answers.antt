@@ -3,7 +3,7 @@ use Rattle.nvm_record.specs.Lists.{IsAt}
 use Rattle.nvm_plan.specs.declared.job.Job.{Job}
 use Rattle.nvm_audit.specs.RecordView.{RecordView}
 use Rattle.nvm_audit.proofs.Places.{stands_read}
-use Rattle.nvm_audit.proofs.Walking.{all_walked, none_walked, one_walked}
+use Rattle.nvm_audit.proofs.DoneWalk.{all_walked, none_walked, one_walked}
 use Rattle.nvm_listing.specs.Answers.{answer_of}
 use Rattle.nvm_listing.specs.declared.answer.Answer.{Answer}
 use Rattle.nvm_listing.proofs.AnswersMade.{answers_made}

@@ -1,5 +1,5 @@
 use Rattle.std.proofs.Common.{map}
-use Rattle.nvm_audit.proofs.Walking.{IsWalk}
+use Rattle.nvm_audit.proofs.DoneWalk.{IsWalk}
 use Rattle.nvm_listing.specs.Answers.{answer_of}
 use Rattle.nvm_listing.proofs.AnswersMade.{answers_made}
 use Rattle.nvm_listing.proofs.answer.answers.Given as goal
