@@ -11,9 +11,9 @@ use crate::conversion::{record_of, trace_of};
 use crate::failure::{Failure, of_order, of_record, of_text, of_trace, plain};
 use crate::fault::Fault;
 use crate::hint::refusal;
-use crate::host_writing::write_commands;
 use nvm_audit::Record;
 use nvm_evidence::{Evidence, HeldOrder, read_evidence, read_order};
+use nvm_file::write_host;
 use nvm_front::{
     FileFault, InputKind, Output, Progress, STANDARD, is_input, is_output, is_read, read_input,
     write, write_run,
@@ -206,7 +206,7 @@ fn host_file_written<R: Files + AllocGlobal + Print + Eprint>(
 ) -> Result<(), FileFault> {
     progress.clear();
     let mut output = Output::new(rt, path, progress)?;
-    write_commands(&mut output, commands)?;
+    write_host(&mut output, commands)?;
     output.finish()
 }
 

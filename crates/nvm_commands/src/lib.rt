@@ -20,7 +20,6 @@ mod generating;
 mod generating_words;
 mod hint;
 mod host_files;
-mod host_writing;
 mod list_failure;
 mod listing;
 mod namespace_words;

@@ -1,4 +1,4 @@
-//! Records of runs as files, in two versions.
+//! Records of runs as files, in two versions, and the writing of host files.
 //!
 //! [`read_record`] reads a file from its front, and answers its record or the first fault that is met. A record has one spelling
 //! in its version: [`write_record`] hands it to a writer piece by piece. [`upgrade`] makes a record of the first version one of
@@ -35,4 +35,4 @@ pub use trace_file_fault::TraceFileFault;
 pub use trace_reading::read_trace;
 pub use upgrade_fault::UpgradeFault;
 pub use upgrading::upgrade;
-pub use writing::{write_record, write_trace};
+pub use writing::{write_host, write_record, write_trace};

@@ -14,12 +14,14 @@ mod bytes;
 mod done_jobs;
 mod entries;
 mod head;
+mod host;
 mod jobs;
 mod traces;
 
 use done_jobs::write_workers;
 use entries::write_units;
 use head::write_head;
+pub use host::write_host;
 use jobs::write_jobs;
 pub use traces::write_trace;
 

@@ -73,7 +73,7 @@ fn write_commands<W: Write>(writer: &mut W, body: &Body) -> io::Result<()>
 }
 
 /// Writes a command's submission entry, and its data.
-fn write_command<W: Write>(writer: &mut W, command: &Command) -> io::Result<()>
+pub fn write_command<W: Write>(writer: &mut W, command: &Command) -> io::Result<()>
     ensures whole { OnOk result (Appends (W.contents writer.old) (W.contents writer.new) (spelling_of command.now)) }
     ensures front { OnErr result (TakesFront (W.contents writer.old) (W.contents writer.new) (spelling_of command.now)) }
     ensures fits { HasFieldsInRange command.now }

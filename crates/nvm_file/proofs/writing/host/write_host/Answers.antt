@@ -5,7 +5,7 @@ use Rattle.std.proofs.lemmas.List.Concat.{flat_map-append, flat_map-cons}
 use Rattle.nvm_record.specs.Entry.{spelling_of}
 use Rattle.nvm_record.specs.HostFile.{file_name}
 use Rattle.nvm_write.proofs.Taking.{within, loop_front, loop_next}
-use Rattle.nvm_commands.proofs.host_writing.write_commands.Goals as goal
+use Rattle.nvm_file.proofs.writing.host.write_host.Goals as goal
 
 -- the bytes of one item more
 next_of : {T : Type 0} (f : T → List ℕ) (xs : List T) (i : ℕ) (x : T) → i < length xs → x ≡ get_or xs i x
