@@ -8,8 +8,8 @@ use crate::hint::{
     other_block,
 };
 use crate::text_failure::wrong_text;
+use nvm_explain::field_told;
 use nvm_record::{BlockSize, Payload};
-use nvm_where::field_told;
 use std::alloc::{AllocError, AllocFailed, Global};
 use std::fmt;
 

@@ -4,8 +4,8 @@ ghost use Rattle.std.specs.Prelude.{◌≡◌};
 use crate::failure::{Failure, line_of};
 use crate::fault::Fault;
 use crate::hint::no_list;
+use nvm_expect::{WrongLine, wrong_lines};
 use nvm_record::BlockSize;
-use nvm_wrong_lines::{WrongLine, wrong_lines};
 use std::alloc::{AllocError, Global};
 
 /// The most wrong lines that are named after the first.

@@ -1,6 +1,7 @@
 pub mod Changed
 pub mod Covering
 pub mod Few
+pub mod Late
 pub mod Meeting
 pub mod Places
 pub mod Ranges

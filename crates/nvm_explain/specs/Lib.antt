@@ -13,3 +13,5 @@ pub mod Ended
 pub mod Distinct
 pub mod Most
 pub mod ShapeFault
+pub mod Ordering
+pub mod Late

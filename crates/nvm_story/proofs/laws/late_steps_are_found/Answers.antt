@@ -1,5 +1,0 @@
-use Rattle.nvm_story.proofs.Late.{first_is_found}
-use Rattle.nvm_story.proofs.laws.late_steps_are_found.Goals as goal
-
-pub returns : goal.returns
-returns c = first_is_found
