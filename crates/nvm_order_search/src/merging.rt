@@ -196,13 +196,12 @@ fn search_by_precedence<'p>(
 fn search_through<'p>(
     known: &mut Known<'_, '_>,
     part: &'p Part,
-    is_last: bool,
+    most: u64,
 ) -> Result<Option<(Search<'p>, bool)>, NoMemory> {
-    let most = most_of(known, is_last);
     let mut search = Search::new(known.alloc, part, most, 0, None)?;
     let answer = search.run_through()?;
     take_spent(known, most, &search);
-    if answer == Some(false) && !part.is_chosen {
+    if answer == Some(false) && !part.is_chosen && !part.starts_unknown {
         return Ok(None);
     }
     Ok(Some((search, answer == Some(true))))
@@ -218,20 +217,32 @@ fn searched<'p>(
     if is_found {
         return Ok(Ok(search));
     }
-    let Some((search, is_found)) = search_by_precedence(known, part, is_last)? else {
-        return Ok(Err(Miss::Nothing));
-    };
-    if is_found {
-        return Ok(Ok(search));
-    }
-    let stuck = search.stuck_at();
-    if !part.starts_unknown && part.lists.anything.count() == 0 {
-        let Some((search, is_found)) = search_through(known, part, is_last)? else {
-            return Ok(Err(Miss::Nothing));
-        };
-        if is_found {
-            return Ok(Ok(search));
+    let mut tries = 0u32;
+    let mut stuck = search.stuck_at();
+    let has_all = part.lists.anything.count() == 0;
+    for guided in [false, true, false] {
+        if guided {
+            let Some((search, is_found)) = search_by_precedence(known, part, is_last)? else {
+                return Ok(Err(Miss::Nothing));
+            };
+            if is_found {
+                return Ok(Ok(search));
+            }
+            stuck = search.stuck_at();
+        } else if has_all {
+            let most = if tries == 0 {
+                most_of(known, false)
+            } else {
+                most_of(known, is_last)
+            };
+            let Some((search, is_found)) = search_through(known, part, most)? else {
+                return Ok(Err(Miss::Nothing));
+            };
+            if is_found {
+                return Ok(Ok(search));
+            }
         }
+        tries = tries.saturating_add(1);
     }
     known.left = known.left.saturating_sub(u64::from(part.count()));
     Ok(Err(Miss::Stuck(stuck)))

@@ -563,7 +563,7 @@ impl<'p> Search<'p> {
         };
         let made = *made;
         turn.next = turn.next.saturating_add(1);
-        self.make(made)?;
+        self.make_any(made)?;
         Ok(Way::On)
     }
 

@@ -1,11 +1,21 @@
 //! Every order of a part's acts, one after the other, where moves that look right lead to none.
-use crate::acts::{Act, Gives, NONE};
+use crate::acts::{Act, Cell, Gives, NONE, Wants};
+use crate::lists::Lists;
 use crate::search::{Move, Search, Turn};
 use nvm_numbers::ZERO;
 use nvm_record::NoMemory;
 
 /// How many looks it is to try an act that can be next.
 const TRIED: u64 = 8;
+/// Moves that are made behind others: before which something else seems to have to be done, and then of optional acts alone.
+#[derive(Drop)]
+struct Later {
+    unclear: Vec<Move>,
+    optional: Vec<Move>,
+}
+
+/// In the place of a move's slot: the act is done with its fellows, behind optional acts that put what they find.
+const FETCHED: u32 = NONE - 1;
 
 impl<'p> Search<'p> {
     /// Whether there is an order: then its steps are `steps`. None where the search went on for as long as it might. It begins anew, and
@@ -48,7 +58,8 @@ impl<'p> Search<'p> {
         Ok(false)
     }
 
-    /// A turn of all moves that can be made now: first those before which nothing else seems to have to be done.
+    /// A turn of all moves that can be made now: first those before which nothing else seems to have to be done, and last what needn't be
+    /// done at all.
     fn find_every_move(&mut self) -> Result<(), NoMemory> {
         let part = self.part;
         let start = self.moves.len();
@@ -61,7 +72,10 @@ impl<'p> Search<'p> {
             next: start,
             all: true,
         };
-        let mut later = Vec::new(self.alloc);
+        let mut later = Later {
+            unclear: Vec::new(self.alloc),
+            optional: Vec::new(self.alloc),
+        };
         let mut at = self.head(&part.lists.by_from, 0)?;
         for _ in 0..part.lists.by_from.count() {
             at = self.skip_over(at)?;
@@ -69,16 +83,14 @@ impl<'p> Search<'p> {
                 break;
             }
             let number = part.lists.by_from.act(at);
-            let looks = if self.can_be_tried(number)? {
-                self.try_slots(number, &mut later)?;
-                TRIED
-            } else {
-                1
-            };
-            self.left_in_all = self.left_in_all.saturating_sub(looks);
+            let is_tried = self.try_act(number, &mut later)?;
+            self.left_in_all = self
+                .left_in_all
+                .saturating_sub(if is_tried { TRIED } else { 1 });
             at = at.saturating_add(1);
         }
-        self.moves.extend_from_slice(&later)?;
+        self.moves.extend_from_slice(&later.unclear)?;
+        self.moves.extend_from_slice(&later.optional)?;
         self.turns.push(turn)?;
         self.targets.clear();
         self.conflict.clear();
@@ -128,6 +140,174 @@ impl<'p> Search<'p> {
             }
         }
         Ok(act.cells < 2 || !self.parts_tied(&act)?)
+    }
+
+    /// Adds the act's moves. Says whether it can be next.
+    fn try_act(&mut self, number: u32, later: &mut Later) -> Result<bool, NoMemory> {
+        let act = self.part.act(number);
+        if act.is_look && act.tied {
+            let is_tried = self.try_fetched(number, later)?;
+            if self.can_be_tried(number)? && self.may_be_apart(&act)? {
+                later.optional.push(Move {
+                    act: number,
+                    slot: NONE,
+                })?;
+                return Ok(true);
+            }
+            return Ok(is_tried);
+        }
+        if self.can_be_tried(number)? {
+            self.try_slots(number, later)?;
+            return Ok(true);
+        }
+        self.try_fetched(number, later)
+    }
+
+    /// Whether something of one block may come between the tied look and other blocks of its point.
+    fn may_be_apart(&mut self, look: &Act) -> Result<bool, NoMemory> {
+        let part = self.part;
+        let block = part.cell(look.cell).block;
+        for at in self.head(&part.lists.writers, block)?..part.lists.writers.end(block) {
+            if part.lists.writers.time(at) > self.horizon {
+                break;
+            }
+            let writer = part.lists.writers.act(at);
+            if part.act(writer).cells == 1 && !self.is_over(writer) {
+                return Ok(true);
+            }
+        }
+        Ok(false)
+    }
+
+    /// The acts that are done together with this one: of a tied look all of its point.
+    fn fellows(&self, number: u32) -> (u32, u32) {
+        let act = self.part.act(number);
+        if act.tied && act.is_look {
+            (act.sibling, act.siblings_end())
+        } else {
+            (number, number.saturating_add(1))
+        }
+    }
+
+    /// The first of an act's fellows that isn't done.
+    fn first_fellow(&self, number: u32) -> u32 {
+        let (from, to) = self.fellows(number);
+        for fellow in from..to {
+            if !self.is_placed(fellow) {
+                return fellow;
+            }
+        }
+        to
+    }
+
+    /// An optional act of one block that can put there now what the cell finds.
+    fn fetcher(&mut self, cell: &Cell) -> Result<Option<Move>, NoMemory> {
+        let part = self.part;
+        let Wants::Slot(slot) = cell.wants else {
+            return Ok(None);
+        };
+        for at in self.head(&part.lists.givers, slot)?..part.lists.givers.end(slot) {
+            if part.lists.givers.time(at) > self.horizon {
+                break;
+            }
+            let giver = part.lists.givers.act(at);
+            let act = part.act(giver);
+            if !act.sure && !act.is_look && act.cells == 1 && self.can_be_tried(giver)? {
+                return Ok(Some(Move { act: giver, slot }));
+            }
+        }
+        Ok(None)
+    }
+
+    /// Adds the move of doing an act with its fellows behind optional ones, if each block in which they don't find what they found can get
+    /// that so. Says whether it did.
+    fn try_fetched(&mut self, number: u32, later: &mut Later) -> Result<bool, NoMemory> {
+        let act = self.part.act(number);
+        if act.any || self.is_over(number) || self.first_fellow(number) != number {
+            return Ok(false);
+        }
+        if act.before != NONE && !self.is_placed(act.before) {
+            return Ok(false);
+        }
+        if !act.is_look && self.fits_all(&act, false) {
+            return Ok(false);
+        }
+        let made = Move {
+            act: number,
+            slot: FETCHED,
+        };
+        match self.is_fetched_clear(number)? {
+            Some(true) => self.moves.push(made)?,
+            Some(false) => later.unclear.push(made)?,
+            None => return Ok(false),
+        }
+        Ok(true)
+    }
+
+    /// Whether nothing seems to have to be done before the optional acts that put what the act and its fellows find. None where one can't get
+    /// that.
+    fn is_fetched_clear(&mut self, number: u32) -> Result<Option<bool>, NoMemory> {
+        let part = self.part;
+        let (from, to) = self.fellows(number);
+        let mut is_clear = true;
+        for fellow in from..to {
+            let act = part.act(fellow);
+            for at in act.cell..act.cells_end() {
+                let cell = part.cell(at);
+                if self.is_placed(fellow) || self.fits(&cell, false) {
+                    continue;
+                }
+                let Some(made) = self.fetcher(&cell)? else {
+                    return Ok(None);
+                };
+                let giver = part.act(made.act);
+                is_clear = is_clear && self.is_clear(made.act, &giver, made.slot)?;
+            }
+        }
+        Ok(Some(is_clear))
+    }
+
+    /// Makes the move.
+    pub(super) fn make_any(&mut self, made: Move) -> Result<(), NoMemory> {
+        if made.slot != FETCHED {
+            return self.make(made);
+        }
+        self.fetch(made.act)?;
+        let (from, to) = self.fellows(made.act);
+        for fellow in from..to {
+            if self.can_be_tried(fellow)? {
+                self.make(Move {
+                    act: fellow,
+                    slot: NONE,
+                })?;
+            }
+        }
+        Ok(())
+    }
+
+    /// Does the optional acts that put what the act and its fellows find, and then the looks that find it.
+    fn fetch(&mut self, number: u32) -> Result<(), NoMemory> {
+        let part = self.part;
+        let (from, to) = self.fellows(number);
+        for fellow in from..to {
+            let act = part.act(fellow);
+            for at in act.cell..act.cells_end() {
+                let cell = part.cell(at);
+                if self.is_placed(fellow) || self.fits(&cell, false) {
+                    continue;
+                }
+                if let Some(made) = self.fetcher(&cell)? {
+                    self.place(made.act, made.slot)?;
+                }
+            }
+        }
+        for fellow in from..to {
+            let act = part.act(fellow);
+            for at in act.cell..act.cells_end() {
+                self.settle_block(part.cell(at).block)?;
+            }
+        }
+        Ok(())
     }
 
     /// Whether somebody else than the act has to find what is in the block now, and nobody can put it there again in time.
@@ -181,7 +361,7 @@ impl<'p> Search<'p> {
     }
 
     /// Adds the act's moves, one for each slot that it may give.
-    fn try_slots(&mut self, number: u32, later: &mut Vec<Move>) -> Result<(), NoMemory> {
+    fn try_slots(&mut self, number: u32, later: &mut Later) -> Result<(), NoMemory> {
         let part = self.part;
         let cell = part.cell(part.act(number).cell);
         if cell.gives != Gives::Deallocated {
@@ -205,35 +385,47 @@ impl<'p> Search<'p> {
     }
 
     /// Adds the move, unless it is of no use.
-    fn add_try(&mut self, made: Move, later: &mut Vec<Move>) -> Result<(), NoMemory> {
+    fn add_try(&mut self, made: Move, later: &mut Later) -> Result<(), NoMemory> {
         let act = self.part.act(made.act);
-        if !act.sure && !act.is_look && !self.is_of_use(&act, made.slot)? {
-            return Ok(());
-        }
-        if act.is_look || self.is_clear(made.act, &act, made.slot)? {
+        if !act.sure && !act.is_look {
+            if self.is_of_use(&act, made.slot)? {
+                later.optional.push(made)?;
+            }
+        } else if act.is_look || self.is_clear(made.act, &act, made.slot)? {
             self.moves.push(made)?;
         } else {
-            later.push(made)?;
+            later.unclear.push(made)?;
         }
         Ok(())
     }
 
-    /// Whether somebody may find what the act puts.
+    /// Whether somebody who began may find what the act puts, or, where it can't wait, anybody.
     fn is_of_use(&mut self, act: &Act, slot: u32) -> Result<bool, NoMemory> {
         let part = self.part;
+        let most = if act.until < self.horizon {
+            NONE
+        } else {
+            self.horizon
+        };
         for at in act.cell..act.cells_end() {
             let cell = part.cell(at);
             let given = self.given(&cell, slot);
             if given == NONE || given == self.board(cell.block) {
                 continue;
             }
-            if self.head(&part.lists.finders, given)? < part.lists.finders.end(given)
-                || self.head(&part.lists.willing, given)? < part.lists.willing.end(given)
-                || self.head(&part.lists.loose, cell.block)? < part.lists.loose.end(cell.block)
+            if self.has_begun(&part.lists.finders, given, most)?
+                || self.has_begun(&part.lists.willing, given, most)?
+                || self.has_begun(&part.lists.loose, cell.block, most)?
             {
                 return Ok(true);
             }
         }
         Ok(false)
+    }
+
+    /// Whether an act of a list's group that isn't over begins by this time.
+    fn has_begun(&mut self, list: &Lists, group: u32, most: u32) -> Result<bool, NoMemory> {
+        let head = self.head(list, group)?;
+        Ok(head < list.end(group) && list.time(head) <= most)
     }
 }
