@@ -83,6 +83,16 @@ impl<'p> Search<'p> {
                 break;
             }
             let number = part.lists.by_from.act(at);
+            if self.is_unseen(number)? {
+                self.moves.truncate(start);
+                self.moves.push(Move {
+                    act: number,
+                    slot: NONE,
+                })?;
+                later.unclear.clear();
+                later.optional.clear();
+                break;
+            }
             let is_tried = self.try_act(number, &mut later)?;
             self.left_in_all = self
                 .left_in_all
@@ -163,7 +173,60 @@ impl<'p> Search<'p> {
         self.try_fetched(number, later)
     }
 
-    /// Whether something of one block may come between the tied look and other blocks of its point.
+    /// Whether the act can be next, has to be done, and nobody finds what it puts or, before it, what it puts that in the place of: then each
+    /// order that goes on from here does so as well with the act first.
+    fn is_unseen(&mut self, number: u32) -> Result<bool, NoMemory> {
+        let part = self.part;
+        let act = part.act(number);
+        if !act.sure || act.any || act.is_look || !self.can_be_tried(number)? {
+            return Ok(false);
+        }
+        if self.too_soon_for(&act)?.is_some() {
+            return Ok(false);
+        }
+        for at in act.cell..act.cells_end() {
+            let cell = part.cell(at);
+            let given = self.given(&cell, NONE);
+            let board = self.board(cell.block);
+            if cell.wants != Wants::Nothing
+                || given == NONE
+                || part.slots.is_unknown(board)
+                || self.has_begun(&part.lists.finders, given, NONE)?
+                || self.has_begun(&part.lists.willing, given, NONE)?
+                || self.has_begun(&part.lists.finders, board, act.until)?
+                || self.has_begun(&part.lists.willing, board, act.until)?
+                || self.has_loose(number, cell.block)?
+                || self.has_begun(&part.lists.deallocates, cell.block, act.from)?
+            {
+                return Ok(false);
+            }
+        }
+        Ok(true)
+    }
+
+    /// Whether somebody may find something in the block that isn't what was compared. Whoever comes behind something else that is surely put
+    /// there after the act doesn't count.
+    fn has_loose(&mut self, number: u32, block: u32) -> Result<bool, NoMemory> {
+        let part = self.part;
+        let until = self.rewritten_by(number, block)?;
+        self.has_begun(&part.lists.loose, block, until)
+    }
+
+    /// When something is surely in the block that was put there behind the act.
+    fn rewritten_by(&mut self, number: u32, block: u32) -> Result<u32, NoMemory> {
+        let part = self.part;
+        let writers = &part.lists.writers;
+        let after = part.act(number).until;
+        for at in self.head(writers, block)?..writers.end(block) {
+            let act = part.act(writers.act(at));
+            if writers.time(at) > after && act.sure && !act.any {
+                return Ok(act.until);
+            }
+        }
+        Ok(NONE)
+    }
+
+    /// Whether something may come between the tied look and another block of its point: what doesn't put anything there.
     fn may_be_apart(&mut self, look: &Act) -> Result<bool, NoMemory> {
         let part = self.part;
         let block = part.cell(look.cell).block;
@@ -172,11 +235,22 @@ impl<'p> Search<'p> {
                 break;
             }
             let writer = part.lists.writers.act(at);
-            if part.act(writer).cells == 1 && !self.is_over(writer) {
+            if !self.is_over(writer) && self.leaves_one(&part.act(writer), look) {
                 return Ok(true);
             }
         }
         Ok(false)
+    }
+
+    /// Whether a block of the look's point that isn't done is none of the writer's.
+    fn leaves_one(&self, writer: &Act, look: &Act) -> bool {
+        for sibling in look.sibling..look.siblings_end() {
+            let block = self.part.cell(self.part.act(sibling).cell).block;
+            if !self.is_placed(sibling) && self.part.cell_of(writer, block).is_none() {
+                return true;
+            }
+        }
+        false
     }
 
     /// The acts that are done together with this one: of a tied look all of its point.
@@ -399,10 +473,11 @@ impl<'p> Search<'p> {
         Ok(())
     }
 
-    /// Whether somebody who began may find what the act puts, or, where it can't wait, anybody.
+    /// Whether somebody may find what the act puts. What can be done right before that, which is so of one block where time is left, is of use
+    /// only to somebody who began.
     fn is_of_use(&mut self, act: &Act, slot: u32) -> Result<bool, NoMemory> {
         let part = self.part;
-        let most = if act.until < self.horizon {
+        let most = if act.cells > 1 || act.until < self.horizon {
             NONE
         } else {
             self.horizon
