@@ -209,9 +209,9 @@ int zk_audit(const uint8_t *bytes, size_t length, char *line, size_t room);
 /* Judges a trace, which is what the hosts of any device sent and saw, by a record or an order of what the device may have done inside. `trace` is the whole
  * file, as `nvq trace` or a test bench of yours writes it, and `evidence` that of a record, of either version, as `nvmu run` and zk_record write it, or, without `strict`, that of an
  * order, as `nvq certify --evidence` writes it. docs/FORMATS.md has the fields of each. `line` is as in zk_audit.
- * Where a record explains the trace, each atomic unit behaved as a store that does one step at a time, each between the beginning and the end of its command. With `strict`
+ * Where a record explains the trace, each atomic unit can have behaved as a store that does one step at a time, each between the beginning and the end of its command. With `strict`
  * each command is one step in each unit, as those of this library are; without it, a Write that the standard lets a device tear may be. A deallocated block is zeroes in each record.
- * Where an order explains it, the device did nothing that docs/STANDARD.md doesn't let it do; in the order stands what the device is held to.
+ * Where an order explains it, what the hosts saw can be explained by docs/STANDARD.md, held to what stands in the order; `by-blocks` asks less than the standard.
  * ZK_DONE: it explains the trace, and the line has the numbers, as `nvmu witness` prints them. Of a record look at the number after `excused`: it counts
  * the jobs that never ended, or ended with a reply that does not say what was done:
  *     explained jobs 3 units 1 steps 4 excused 0 preparations 0
@@ -229,8 +229,8 @@ int zk_witness(const uint8_t *trace, size_t trace_length, const uint8_t *evidenc
 
 /* Judges a trace by a contradiction: a list of facts, of which each follows from the trace and those before it, and a conclusion that can't be. `trace` and
  * `line` are as in zk_witness, and `contradiction` is the whole file, as `nvq certify --evidence` writes it. In that stands what the device is held to.
- * ZK_DONE: nothing that a device may do explains the trace, held to that, by docs/STANDARD.md: the device is wrong, or the trace is not what its hosts saw. Reads that
- * are held to `whole` or `atomic-all` are held to more than the standard says. The line has the number of commands that the contradiction names and of its facts, as `nvmu refute`
+ * ZK_DONE: nothing that a device may do explains the trace, held to that, by docs/STANDARD.md. By `atomic` or `by-blocks`, and `either` or what DLFEAT promises, the device is
+ * wrong, or the trace is not what its hosts saw; `whole`, `atomic-all`, and `zeroes` or `ones` without DLFEAT, ask more than the standard says. The line has the number of commands that the contradiction names and of its facts, as `nvmu refute`
  * prints them; or, where a pair's two statuses contradict each other, whatever the contradiction says, the number of that job:
  *     refuted commands 2 facts 2 reads atomic deallocated either
  *     refuted job 0
