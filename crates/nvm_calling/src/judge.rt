@@ -8,8 +8,8 @@ use nvm_record::NoMemory;
 use nvm_trace::Trace;
 use std::alloc::Global;
 
-/// Whether an order of points explains the trace, held to the profile: whether its device can have kept to the standard. `None` where that
-/// isn't known.
+/// Whether an order of points explains the trace, held to the profile: whether its device can have kept to that. `None` where that isn't
+/// known.
 pub fn is_explained(
     alloc: Global,
     trace: &Trace,
