@@ -1,4 +1,4 @@
-ghost use Rattle.std.specs.Prelude.{◌≡◌, ◌↔◌, ◌≤◌, [], IsTrue, IfOk, length, slice_range};
+ghost use Rattle.std.specs.Prelude.{◌≡◌, ◌↔◌, ◌≤◌, [], IsTrue, IfOk, false, length, slice_range, true};
 ghost use Rattle.nvm_record.specs.SharedBytes.{shared_bytes};
 
 use crate::NoMemory;
@@ -186,6 +186,28 @@ impl Payload {
             Ok(bytes) => Ok(bytes),
             Err(shared) => Vec::from_slice(alloc, shared.as_slice()),
         }
+    }
+
+    /// Puts these bytes in the place of its own, and says whether it did. It does where nobody shares its memory, which has its bytes and
+    /// no others, and these are as many. It takes no memory.
+    pub fn overwrite(&mut self, bytes: &[u8]) -> bool
+        ensures taken { result ≡ true → self.new ≡ bytes.now }
+        ensures left { result ≡ false → self.new ≡ self.old }
+    {
+        let Some(whole) = &mut self.whole else {
+            return false;
+        };
+        let Some(shared) = Arc::get_mut(whole) else {
+            return false;
+        };
+        let Some(own) = Arc::get_mut(shared) else {
+            return false;
+        };
+        if self.from > 0 || self.to != own.len() || bytes.len() != own.len() {
+            return false;
+        }
+        own.copy_from_slice(bytes);
+        true
     }
 
     /// How many bytes there are.

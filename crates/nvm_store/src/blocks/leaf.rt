@@ -42,7 +42,7 @@ impl Leaf {
         requires { at < length self.old }
         ensures { self.new ≡ slice_set self.old at block }
     {
-        self.kept[at] = block;
+        self.kept[at].put(block);
     }
 }
 

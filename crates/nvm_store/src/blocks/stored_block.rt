@@ -63,6 +63,21 @@ impl StoredBlock {
         }
     }
 
+    /// Becomes the other block. Data that nobody shares takes the other's bytes where they are as many, so that what wrote them has its
+    /// memory for itself again.
+    pub fn put(&mut self, block: StoredBlock)
+        ensures { self.new ≡ block }
+    {
+        if let Content::Data(data) = &block.content {
+            if let Content::Data(own) = &mut self.content {
+                if own.overwrite(data.as_slice()) {
+                    return;
+                }
+            }
+        }
+        *self = block;
+    }
+
     /// Whether the block is marked, and can't be read.
     pub fn is_marked(&self) -> bool
         ensures { result ≡ medium.is_marked self.now }
