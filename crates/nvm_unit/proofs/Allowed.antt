@@ -153,7 +153,6 @@ take_goes decides st b id old m first even rests filled s kept reached at is =
             b,
             s.history,
             record {
-              found = omega arith;
               after = ap (λ (k : ℕ). let y : Sits = (record { passes = map (looked false k) m.0.passes; held = Some s.history }, (0, book) ∷ m.1) in y) same
                   ∙ ap (λ (xs : List (ℕ × Slot)). let y : Sits = (record { passes = map (looked false (length s.history)) m.0.passes; held = Some s.history }, xs) in y) carried;
               fits = fitting b s kept id m.0 at;

@@ -9,6 +9,7 @@ pub mod Allowed
 pub mod Putting
 pub mod Joining
 pub mod Waiting
+pub mod Lending
 pub mod OnePass
 pub mod Later
 pub mod Recalling

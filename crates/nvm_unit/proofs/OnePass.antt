@@ -1,26 +1,27 @@
 -- One pass takes its unit, fails to, and gives it back: what the seat shows, said of the pass.
-use Rattle.std.proofs.Common.{◌≡◌, ◌⊎◌, ℕ, ◌+◌, ◌*◌, ◌/◌, ◌%◌, ◌^◌, ◌<◌, ◌≤◌, List, [], ◌∷◌, length, map, subst, refl, sym, ap, ◌∙◌, arith, inl, inr, Bool, false, None, Result, Ok, Err, IfOk, IfErr}
+use Rattle.std.proofs.Common.{◌≡◌, ◌⊎◌, ℕ, ◌+◌, ◌*◌, ◌/◌, ◌%◌, ◌^◌, ◌<◌, ◌≤◌, List, [], ◌∷◌, length, map, subst, refl, sym, ap, ◌∙◌, arith, inl, inr, Bool, false, Some, Result, Ok, Err, OnOk, IfErr}
 use Rattle.nvm_store.specs.HistoryEntry.{HistoryEntry}
 use Rattle.nvm_unit.specs.declared.bounds.Bounds.{Bounds}
 use Rattle.nvm_unit.specs.declared.pass.Parts.{Parts}
 use Rattle.nvm_unit.specs.declared.views.PassView.{PassView}
 use Rattle.nvm_unit.specs.Inside.Book.{Recorded, recorded}
-use Rattle.nvm_unit.specs.Inside.Holding.{HasHeld, HasMissed, CanGiveBack, GivesBack}
-use Rattle.nvm_unit.specs.Inside.Parts.{seated, IsFree, IsWhole, HasUnit, FailsAt, Recalls}
-use Rattle.nvm_unit.specs.Inside.Plays.{Sits, EachIn, Fits, resting, holding}
+use Rattle.nvm_unit.specs.Inside.Holding.{HasMissed}
+use Rattle.nvm_unit.specs.Inside.Parts.{seated, held_history, IsFree, IsWhole, HasUnit, FailsAt, Recalls}
+use Rattle.nvm_unit.specs.Inside.Plays.{Sits, EachIn, Fits, HasTaken, Takes, ReturnsAs, CanReturn, resting, holding}
 use Rattle.nvm_unit.specs.Passes.{UnitName, Finds, IsHistoryOf, IsNotAbove, IsProperPass}
 use Rattle.nvm_unit.specs.Replies.{Waits}
 use Rattle.nvm_unit.specs.Views.{looked, shown}
 use Rattle.nvm_unit.proofs.Groups.{at_single}
 use Rattle.nvm_unit.proofs.Histories.{begins_length, rise_after}
+use Rattle.nvm_unit.proofs.Lending.{lent, lent_same, found_is_old}
 
--- What a book or a word is taken for.
-pub of_book : (r : Result Recorded ℕ) (P Q : Recorded → Type 0) → ((book : Recorded) → P book → Q book) → IfOk r P → IfOk r Q
-of_book (Ok book) P Q so is = so book is
-of_book (Err word) P Q so is = tt
+-- What a unit that was taken, or a word, is taken for.
+pub of_taken : (r : Result (Unit {0}) ℕ) (P Q : Type 0) → (P → Q) → OnOk r P → OnOk r Q
+of_taken (Ok x) P Q so is = so is
+of_taken (Err word) P Q so is = tt
 
-pub of_word : (r : Result Recorded ℕ) (P Q : ℕ → Type 0) → ((word : ℕ) → P word → Q word) → IfErr r P → IfErr r Q
-of_word (Ok book) P Q so is = tt
+pub of_word : (r : Result (Unit {0}) ℕ) (P Q : ℕ → Type 0) → ((word : ℕ) → P word → Q word) → IfErr r P → IfErr r Q
+of_word (Ok x) P Q so is = tt
 of_word (Err word) P Q so is = so word is
 
 pub finds_of : (b : Bounds) (h : List HistoryEntry) (p : PassView) → Fits b h p → IsHistoryOf b h → Finds (length h) p h
@@ -75,56 +76,63 @@ fails unit decides word m m' free missed =
 
 -- The seat of the pass p has the unit, whose history is h.
 takes_here : (unit : UnitName) (h : List HistoryEntry) (p : PassView) → p.bounds ≡ unit.bounds → IsProperPass p → Fits unit.bounds h p → IsHistoryOf unit.bounds h
-    → HasUnit unit (recorded unit.bounds h) (holding (looked false (length h) p ∷ []) h None)
+    → HasUnit unit (holding (looked false (length h) p ∷ []) h (recorded unit.bounds h))
 takes_here unit h p bounds proper fits lawful =
     let finds = finds_of unit.bounds h p fits lawful in
     record {
       alone = refl;
       bounds = bounds;
-      pages = refl;
       below = fits.number;
       finds = record { count = refl; seen = finds.seen; floor = (omega arith); mine = finds.mine; lawful = finds.lawful };
       proper = proper_looked false (length h) p proper fits.floor;
     }
 
-pub takes : (unit : UnitName) (b : Bounds) (h : List HistoryEntry) (book : Recorded) (m m' : Sits) → IsFree unit m → HasHeld b h book m m'
-    → HasUnit unit book m' × Waits (seated m) (seated m')
-takes unit b h book m m' free held =
+pub takes : (unit : UnitName) (m m' : Sits) → IsFree unit m → Takes m m' → HasUnit unit m' × Waits (seated m) (seated m')
+takes unit m m' free taken =
     let p = seated m in
-    let alone : HasHeld b h book (resting (p ∷ [])) m' = subst (λ (x : Sits). HasHeld b h book x m') free.alone held in
-    let ours : b ≡ unit.bounds = sym (alone.fits 0 p refl).bounds ∙ free.bounds in
-    let here : HasHeld unit.bounds h book (resting (p ∷ [])) m' = subst (λ (x : Bounds). HasHeld x h book (resting (p ∷ [])) m') ours alone in
+    let h = taken.1 in
+    let alone : HasTaken taken.0 h (resting (p ∷ [])) m' = subst (λ (x : Sits). HasTaken taken.0 h x m') free.alone taken.2 in
+    let ours : taken.0 ≡ unit.bounds = sym (alone.fits 0 p refl).bounds ∙ free.bounds in
+    let here : HasTaken unit.bounds h (resting (p ∷ [])) m' = subst (λ (x : Bounds). HasTaken x h (resting (p ∷ [])) m') ours alone in
     let fits : Fits unit.bounds h p = here.fits 0 p refl in
     let within : length h ≤ p.bounds.limit = subst (λ (x : Bounds). length h ≤ x.limit) (sym free.bounds) here.lawful.within in (
-      subst (λ (x : Recorded). HasUnit unit x m') (sym here.pages)
-          (subst (HasUnit unit (recorded unit.bounds h)) (sym here.after) (takes_here unit h p free.bounds free.proper fits here.lawful)),
+      subst (HasUnit unit) (sym here.after) (takes_here unit h p free.bounds free.proper fits here.lawful),
       (length h, record { floor = fits.floor; seen = begins_length p.seen h fits.seen; limit = within }, ap seated here.after),
     )
 
-module _ (unit : UnitName) (book : Recorded) (m : Sits) (has : HasUnit unit book m) where
+module _ (unit : UnitName) (m : Sits) (has : HasUnit unit m) where
   -- A history's length fits 62 bits.
-  pub is_short : unit.bounds.limit ≤ 2 ^ 62 → length book.history ≤ 2 ^ 62
+  pub is_short : unit.bounds.limit ≤ 2 ^ 62 → length (held_history m) ≤ 2 ^ 62
   is_short limit =
-      let within : length book.history ≤ (seated m).bounds.limit = has.finds.lawful.within in
+      let within : length (held_history m) ≤ (seated m).bounds.limit = has.finds.lawful.within in
       let same : (seated m).bounds.limit ≡ unit.bounds.limit = ap (λ (x : Bounds). x.limit) has.bounds in
       let most : unit.bounds.limit ≤ 2 ^ 62 = limit in
       omega arith
 
-  pub can_give_back : (decides : ℕ → Bool) → CanGiveBack decides book m (seated m ∷ []) book.history unit.bounds
-  can_give_back decides =
+  -- The book that is lent is the unit's, and nothing changes before it does.
+  module _ (book : Recorded) (there : m.1 ≡ (0, Some book) ∷ []) where
+    pub book_of_unit : book ≡ recorded unit.bounds (held_history m)
+    book_of_unit = found_is_old m (seated m ∷ []) (held_history m) (recorded unit.bounds (held_history m)) has.alone book there
+
+    pub still_has : HasUnit unit (lent m book)
+    still_has = subst (HasUnit unit) (sym (lent_same m book there)) has
+
+  pub can_return : (decides : ℕ → Bool) (entries : ℕ) → entries ≡ length (held_history m) → CanReturn decides entries m (seated m ∷ []) (held_history m) unit.bounds
+  can_return decides entries count =
       record {
         at = has.alone;
-        pages = has.pages;
+        count = count;
         filled = omega arith;
         bounds = λ i q at. ap (λ (x : PassView). x.bounds) (sym (at_single (seated m) q i at)) ∙ has.bounds;
         alone = λ _. refl;
       }
 
-  pub gives_back : (decides : ℕ → Bool) (m' : Sits) → GivesBack decides book m m'
-      → IsFree unit m' × (seated m' ≡ shown (decides (2 * length book.history + 1)) (length book.history) book.history (seated m))
-  gives_back decides m' back =
-      let here = back (seated m ∷ []) book.history unit.bounds has.alone has.pages in (
+  pub gives_back : (decides : ℕ → Bool) (entries : ℕ) (m' : Sits) → entries ≡ length (held_history m) → ReturnsAs decides entries m m'
+      → IsFree unit m' × (seated m' ≡ shown (decides (2 * entries + 1)) entries (held_history m) (seated m))
+  gives_back decides entries m' count back =
+      let h = held_history m in
+      let here = back (seated m ∷ []) h (recorded unit.bounds h) has.alone count in (
         subst (IsFree unit) (sym here)
-            (record { alone = refl; bounds = has.bounds; proper = proper_shown (decides (2 * length book.history + 1)) (length book.history) (seated m) book.history has.proper has.finds }),
-        ap seated here,
+            (record { alone = refl; bounds = has.bounds; proper = proper_shown (decides (2 * length h + 1)) (length h) (seated m) h has.proper has.finds }),
+        ap seated here ∙ ap (λ (n : ℕ). shown (decides (2 * n + 1)) n h (seated m)) (sym count),
       )

@@ -15,6 +15,7 @@ use Rattle.nvm_unit.specs.Events.{adds, returns, Happens, IsReached, number_foun
 use Rattle.nvm_unit.specs.Knowledge.{IsKnown}
 use Rattle.nvm_unit.specs.Inside.Book.{recorded}
 use Rattle.nvm_unit.specs.Inside.Rule.{slots_of, IsRuled}
+use Rattle.nvm_unit.specs.Inside.Parts.{held_history}
 use Rattle.nvm_unit.specs.Inside.Plays.{Sits, resting, holding, EachIn, puts, CanReturn, CanAppend}
 use Rattle.nvm_unit.proofs.EventsKept.{FollowsLawfully}
 use Rattle.nvm_unit.proofs.Keeping.{found_is, keeps_return, keeps_put}
@@ -22,10 +23,6 @@ use Rattle.atomic_table.proofs.Lists.{set_here}
 use Rattle.nvm_unit.proofs.Lists.{at_below}
 use Rattle.nvm_unit.proofs.Reaching.{ruled_after}
 use Rattle.nvm_unit.proofs.Allowed.{Slot, Deciding, Goes, same_table, allowed}
-
-abbrev held_or : Option (List HistoryEntry) → List HistoryEntry
-held_or None = []
-held_or (Some h) = h
 
 abbrev book_or : List (ℕ × Slot) → Slot
 book_or [] = None
@@ -43,12 +40,9 @@ holder_is b s kept id ps h at =
     let rests : RestsAs (Some id) s.word s.slot s.history = subst (λ (x : Option ℕ). RestsAs x s.word s.slot s.history) hand.0 kept.sound.hold.rests in
     (hand.0, hand.1, rests.0, rests.1)
 
--- what a seat that holds the unit has in the slot, and holds
+-- the passes of a seat
 abbrev held_passes : Sits → List PassView
 held_passes m = m.0.passes
-
-abbrev held_history : Sits → List HistoryEntry
-held_history m = held_or m.0.held
 
 -- The passes of a group say what is settled of the unit.
 bounds_same : (b b' : Bounds) (s : UnitState) → IsKnown b s → (id : ℕ) (ps : List PassView) (h : List HistoryEntry) → IsAt s.groups id (record { passes = ps; held = Some h })
@@ -61,7 +55,7 @@ bounds_same b b' s kept id (p ∷ ps) h at filled each =
 return_goes : (decides : Deciding) (st : Step Slot) (b b' : Bounds) (id entries : ℕ) (ps : List PassView) (h : List HistoryEntry) → st.first ≡ 2 * entries → entries ≡ length h
     → 0 < length ps → EachIn (λ p. p.bounds ≡ b') ps → (decides (2 * length h + 1) ≡ true → length ps ≡ 1)
     → (s : UnitState) → IsKnown b s → IsReached b s → IsAt s.groups id (record { passes = ps; held = Some h })
-    → Goes b s id (holding ps h (Some (recorded b' h))) (λ word. puts decides st (holding ps h (Some (recorded b' h))) word) (2 * entries)
+    → Goes b s id (holding ps h (recorded b' h)) (λ word. puts decides st (holding ps h (recorded b' h)) word) (2 * entries)
 return_goes decides st b b' id entries ps h first count filled bounds alone s kept reached at =
     let x : Slot = Some (recorded b' h) in
     let g : Group = record { passes = ps; held = Some h } in
@@ -118,7 +112,7 @@ return_goes decides st b b' id entries ps h first count filled bounds alone s ke
 pub return_allowed : (decides : Deciding) (st : Step Slot) (b b' : Bounds) (slots id entries : ℕ) (m : Sits) (ps : List PassView) (h : List HistoryEntry) → st.first ≡ 2 * entries
     → CanReturn decides entries m ps h b' → Allows (IsRuled b) slots id m 0 (λ _. 2 * entries) (λ _. puts decides st m (2 * entries))
 return_allowed decides st b b' slots id entries m ps h first can =
-    let at : Sits = holding ps h (Some (recorded b' h)) in
+    let at : Sits = holding ps h (recorded b' h) in
     subst (λ (y : Sits). Allows (IsRuled b) slots id y 0 (λ _. 2 * entries) (λ _. puts decides st y (2 * entries))) (sym can.at)
     (allowed b slots id at (λ _. 2 * entries) (λ _. puts decides st at (2 * entries))
     (return_goes decides st b b' id entries ps h first can.count can.filled can.bounds can.alone))
@@ -127,7 +121,7 @@ return_allowed decides st b b' slots id entries m ps h first can =
 append_goes : FollowsLawfully → (decides : Deciding) (st : Step Slot) (b : Bounds) (id entries : ℕ) (p : PassView) (h : List HistoryEntry) (entry : HistoryEntry) → st.first ≡ 2 * entries → entries ≡ length h + 1
     → entry.pass ≡ p.number → CanFollow p.bounds.place h entry → length h < p.bounds.limit
     → (s : UnitState) → IsKnown b s → IsReached b s → IsAt s.groups id (record { passes = p ∷ []; held = Some h })
-    → Goes b s id (holding (p ∷ []) h (Some (recorded p.bounds (h ++ entry ∷ [])))) (λ word. puts decides st (holding (p ∷ []) h (Some (recorded p.bounds (h ++ entry ∷ [])))) word) (2 * entries)
+    → Goes b s id (holding (p ∷ []) h (recorded p.bounds (h ++ entry ∷ []))) (λ word. puts decides st (holding (p ∷ []) h (recorded p.bounds (h ++ entry ∷ []))) word) (2 * entries)
 append_goes law decides st b id entries p h entry first count number follows room s kept reached at =
     let x : Slot = Some (recorded p.bounds (h ++ entry ∷ [])) in
     let g : Group = record { passes = p ∷ []; held = Some h } in
@@ -196,7 +190,7 @@ append_goes law decides st b id entries p h entry first count number follows roo
 pub append_allowed : FollowsLawfully → (decides : Deciding) (st : Step Slot) (b : Bounds) (slots id entries : ℕ) (m : Sits) (p : PassView) (h : List HistoryEntry) (entry : HistoryEntry) → st.first ≡ 2 * entries
     → CanAppend entries m p h entry → Allows (IsRuled b) slots id m 0 (λ _. 2 * entries) (λ _. puts decides st m (2 * entries))
 append_allowed law decides st b slots id entries m p h entry first can =
-    let at : Sits = holding (p ∷ []) h (Some (recorded p.bounds (h ++ entry ∷ []))) in
+    let at : Sits = holding (p ∷ []) h (recorded p.bounds (h ++ entry ∷ [])) in
     subst (λ (y : Sits). Allows (IsRuled b) slots id y 0 (λ _. 2 * entries) (λ _. puts decides st y (2 * entries))) (sym can.at)
     (allowed b slots id at (λ _. 2 * entries) (λ _. puts decides st at (2 * entries))
     (append_goes law decides st b id entries p h entry first can.count can.number can.follows can.room))

@@ -1,5 +1,5 @@
 -- What a pass keeps of the last point that it has seen, and what it answers from that.
-use Rattle.std.proofs.Common.{◌≡◌, ◌≢◌, ℕ, ◌<◌, ◌≤◌, List, length, subst, refl, sym, ap, ◌∙◌, arith, true, Option, Some, None, Ok, Err, Result, IfSome, IsSome, is_some}
+use Rattle.std.proofs.Common.{◌≡◌, ◌≢◌, ℕ, ◌<◌, ◌≤◌, List, [], ◌∷◌, length, subst, refl, sym, ap, ◌∙◌, arith, true, Option, Some, None, Ok, Err, Result, IfSome, IsSome, is_some}
 use Rattle.nvm_record.specs.Medium.{Medium}
 use Rattle.nvm_record.specs.Step.{Operation, data_of}
 use Rattle.nvm_store.specs.Contents.{Contents, Covers, Holds}
@@ -17,34 +17,44 @@ use Rattle.nvm_unit.specs.declared.snapshot.Snapshot.{Snapshot}
 use Rattle.nvm_unit.specs.declared.views.PassView.{PassView}
 use Rattle.nvm_unit.specs.Inside.Attempt.{AnswersFrom}
 use Rattle.nvm_unit.specs.Inside.Book.{Recorded, recorded}
-use Rattle.nvm_unit.specs.Inside.Parts.{seated, HasUnit, Recalls}
+use Rattle.nvm_unit.specs.Inside.Parts.{seated, held_history, HasUnit, Recalls}
 use Rattle.nvm_unit.specs.Inside.Plays.{Sits}
 use Rattle.nvm_unit.specs.Inside.Snapshot.{IsSnapshotOf, IsVersionOf}
 use Rattle.nvm_unit.specs.Passes.{UnitName, Finds, IsProperPass}
 use Rattle.nvm_unit.specs.Replies.{AnswersLook, Learns, Looks, Observes, medium_at}
 use Rattle.nvm_unit.specs.Views.{looked, shown}
 use Rattle.nvm_unit.proofs.Histories.{begins_itself, begins_all}
+use Rattle.nvm_unit.proofs.OnePass.{book_of_unit}
 
 -- Only the data of a Read wants memory.
 pub wants_data : (fault : ObserveFault) (n : ℕ) (op : Operation) (m : Medium) → AnswersLook (Err fault) n op m → IsSome (data_of op m)
 wants_data (observe_fault.NoMemory point) n op m answers = answers.1
 
-module _ (unit : UnitName) (book : Recorded) (m : Sits) (has : HasUnit unit book m) where
-  -- A snapshot with as many entries as the book has shows the book.
-  pub recalls_book : (snapshot : Snapshot) → Recalls snapshot (seated m) → snapshot.entries ≡ length book.history → IsSnapshotOf snapshot book
-  recalls_book snapshot recalls count =
-      let all : book.history ≡ (seated m).seen = begins_all (seated m).seen book.history has.finds.seen (sym count ∙ recalls.0) in
-      subst (IsSnapshotOf snapshot) (ap (λ (h : List HistoryEntry). recorded (seated m).bounds h) (sym all) ∙ (ap (λ (b : Bounds). recorded b book.history) has.bounds ∙ sym has.pages)) recalls
+module _ (unit : UnitName) (m : Sits) (has : HasUnit unit m) where
+  -- The book that is found in the slot.
+  module _ (book : Recorded) (there : m.1 ≡ (0, Some book) ∷ []) where
+    pages : book ≡ recorded unit.bounds (held_history m)
+    pages = book_of_unit unit m has book there
 
-  pub book_covers : (op : Operation) → IsCovered unit.bounds.place op → IsCovered book.place op
-  book_covers op = subst (λ (x : Recorded). IsCovered x.place op) (sym has.pages)
+    -- A snapshot with as many entries as the book has shows the book.
+    pub recalls_book : (snapshot : Snapshot) → Recalls snapshot (seated m) → snapshot.entries ≡ length book.history → IsSnapshotOf snapshot book
+    recalls_book snapshot recalls count =
+        let long : length book.history ≡ length (held_history m) = ap (λ (x : Recorded). length x.history) pages in
+        let all : held_history m ≡ (seated m).seen = begins_all (seated m).seen (held_history m) has.finds.seen (sym long ∙ (sym count ∙ recalls.0)) in
+        subst (IsSnapshotOf snapshot) (ap (λ (h : List HistoryEntry). recorded (seated m).bounds h) (sym all) ∙ (ap (λ (b : Bounds). recorded b (held_history m)) has.bounds ∙ sym pages)) recalls
+
+    pub book_covers : (op : Operation) → IsCovered unit.bounds.place op → IsCovered book.place op
+    book_covers op = subst (λ (x : Recorded). IsCovered x.place op) (sym pages)
 
   -- A look at the book, by its pass.
-  pub looks_at_book : (answer : Result Observed ObserveFault) (op : Operation) (q : PassView) → q ≡ shown true (length book.history) book.history (seated m)
-      → AnswersLook answer (length book.history) op (replay_of book.place.size book.history) → Observes answer (seated m) op q
-  looks_at_book answer op q is answers =
-      let here = has.pages ∙ ap (λ (b : Bounds). recorded b book.history) (sym has.bounds) in
-      (book.history, has.finds, subst (λ (x : Recorded). AnswersLook answer (length book.history) op (replay_of x.place.size book.history)) here answers, is)
+  pub looks_at_book : (answer : Result Observed ObserveFault) (op : Operation) (q : PassView) → q ≡ shown true (length (held_history m)) (held_history m) (seated m)
+      → AnswersLook answer (length (held_history m)) op (replay_of unit.bounds.place.size (held_history m)) → Observes answer (seated m) op q
+  looks_at_book answer op q is answers = (
+    held_history m,
+    has.finds,
+    subst (λ (b : Bounds). AnswersLook answer (length (held_history m)) op (replay_of b.place.size (held_history m))) (sym has.bounds) answers,
+    is,
+  )
 
 -- A look at what the pass p keeps, where n entries were found.
 module _ (n : ℕ) (p : PassView) (snapshot : Snapshot) (recalls : Recalls snapshot p) where

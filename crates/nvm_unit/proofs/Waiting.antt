@@ -1,5 +1,5 @@
 -- What a seat knows after steps that found the unit in other hands: as much as before, and that its passes are no further.
-use Rattle.std.proofs.Common.{◌≡◌, ◌≢◌, ℕ, ◌/◌, ◌%◌, ◌≤◌, ◌&&◌, nat_eq, List, [], ◌∷◌, length, map, subst, refl, sym, ap, ◌∙◌, arith, inl, inr, ne_eqb, Bool, false, None}
+use Rattle.std.proofs.Common.{◌≡◌, ◌≢◌, ℕ, ◌/◌, ◌%◌, ◌≤◌, ◌&&◌, nat_eq, List, [], ◌∷◌, length, map, subst, refl, sym, ap, ◌∙◌, arith, inl, inr, ne_eqb, Bool, false}
 use mathlib.Core.Logic.{dite}
 use native.Mathlib.Decide.{ℕ_discrete}
 use Rattle.atomic_table.proofs.Lists.{at_map}
@@ -9,9 +9,9 @@ use Rattle.nvm_unit.specs.declared.bounds.Bounds.{Bounds}
 use Rattle.nvm_unit.specs.declared.views.PassView.{PassView}
 use Rattle.nvm_unit.specs.Views.{looked}
 use Rattle.nvm_unit.specs.Passes.{IsNotAbove}
-use Rattle.nvm_unit.specs.Inside.Book.{Recorded}
-use Rattle.nvm_unit.specs.Inside.Plays.{Sits, Fits, holding, EachIn, HasLooked}
-use Rattle.nvm_unit.specs.Inside.Holding.{HasWaited, HasMissed, HasHeld}
+use Rattle.nvm_unit.specs.Inside.Book.{recorded}
+use Rattle.nvm_unit.specs.Inside.Plays.{Sits, Fits, holding, EachIn, HasLooked, Takes}
+use Rattle.nvm_unit.specs.Inside.Holding.{HasWaited, HasMissed}
 
 -- One pass that found k entries and then isn't above n: k isn't above n either, and it wasn't above n to begin with.
 at_most : (k n : ℕ) (p : PassView) → IsNotAbove k p → IsNotAbove n (looked false k p) → (k ≤ n) × IsNotAbove n p
@@ -54,15 +54,20 @@ waited_more m m' m'' first =
     second)
     first
 
-pub waited_held : (b : Bounds) (history : List HistoryEntry) (book : Recorded) (m m' m'' : Sits) → HasWaited m m' → HasHeld b history book m' m'' → HasHeld b history book m m''
-waited_held b history book m m' m'' =
-    waiting m m' (λ x. HasHeld b history book x m'' → HasHeld b history book m m'') (λ held. held)
-    (λ k before held. record {
-      pages = held.pages;
-      after = held.after ∙ ap (λ (ps : List PassView). holding ps history None) (idle_hidden false (length history) k m.0.passes);
-      fits = λ i p there. fits_before k b history p (before i p there) (held.fits i (looked false k p) (at_map (looked false k) m.0.passes i p there));
-      lawful = held.lawful;
-    })
+pub waited_takes : (m m' m'' : Sits) → HasWaited m m' → Takes m' m'' → Takes m m''
+waited_takes m m' m'' =
+    waiting m m' (λ x. Takes x m'' → Takes m m'') (λ taken. taken)
+    (λ k before taken.
+    let b = taken.0 in
+    let history = taken.1 in (
+      b,
+      history,
+      record {
+        after = taken.2.after ∙ ap (λ (ps : List PassView). holding ps history (recorded b history)) (idle_hidden false (length history) k m.0.passes);
+        fits = λ i p there. fits_before k b history p (before i p there) (taken.2.fits i (looked false k p) (at_map (looked false k) m.0.passes i p there));
+        lawful = taken.2.lawful;
+      },
+    ))
 
 pub missed_waited : (word : ℕ) (m m' : Sits) → HasMissed (λ _. false) word m m' → HasWaited m m'
 missed_waited word m m' missed = inr (word / 2, missed.after, missed.later)

@@ -1,4 +1,5 @@
 -- What is in Inside is cited by private functions and invariants alone: no public clause needs it.
+pub mod Lending
 pub mod Telling
 pub mod Book
 pub mod Snapshot

@@ -15,8 +15,8 @@ use nvm_store::laws::{act_succeeds_unless_failed_pair, acts_and_looks};
 use nvm_store::{ActRef, Look, UnitBlocks, answer};
 use std::alloc::Global;
 
-/// Does the act on the book in hand, unless it is a pair whose comparison fails, the history is at its
-/// limit, or memory is refused.
+/// Does the act on the book, unless it is a pair whose comparison fails, the history is at its limit, or
+/// memory is refused.
 pub(crate) fn attempt<K: Kept>(
     alloc: Global,
     book: &mut Book<K>,

@@ -7,12 +7,12 @@ ghost use Rattle.nvm_unit.specs.Passes.{IsPassOf, IsProperPass};
 ghost use Rattle.nvm_unit.specs.Replies.{Makes, MakesOrLearns, Waits};
 
 use crate::attempt::attempt;
-use crate::book::Book;
 use crate::gate::Gate;
 use crate::kept::Kept;
 use crate::pass::{Parts, Pass};
 use crate::replies::{Busy, Changed};
 use crate::rule::{Always, Decides, Never};
+use crate::steps;
 use crate::unit::Unit;
 use nvm_store::ActRef;
 use nvm_store::laws::{acts_and_looks, lawful_with_one_more};
@@ -41,8 +41,8 @@ impl<K: Kept> Unit<K> {
     {
         // Each answer brings a new snapshot, so the old version goes before anybody has to wait for it.
         pass.parts.snapshot.drop_version();
-        let book = self.take(rt, &mut pass.parts.token);
-        let changed = self.change_held(alloc, &mut pass.parts, book, job, act, gate);
+        self.take(rt, &mut pass.parts.token);
+        let changed = self.change_held(alloc, &mut pass.parts, job, act, gate);
         self.wake();
         changed
     }
@@ -121,24 +121,23 @@ impl<K: Kept> Unit<K> {
         ensures failed { IfErr result (λ word. FailsAt word D.decides pass.old.view pass.new.view) }
         ensures proper { IsProperPass pass.new.view }
     {
-        let book = self.take_if_free::<D>(&mut pass.parts.token)?;
+        self.take_if_free::<D>(&mut pass.parts.token)?;
         // A version that is still kept would have the change copy its blocks.
         pass.parts.snapshot.drop_version();
-        Ok(self.change_held(alloc, &mut pass.parts, book, job, act, gate))
+        Ok(self.change_held(alloc, &mut pass.parts, job, act, gate))
     }
 
-    /// Does the act on the book in hand and gives the unit back, so that the parts are a pass again. It wakes nobody.
+    /// Does the act on the book in its slot and gives the unit back, so that the parts are a pass again. It wakes nobody.
     fn change_held<G: Gate>(
         &self,
         alloc: Global,
         parts: &mut Parts<K>,
-        book: Book<K>,
         job: u32,
         act: ActRef<'_>,
         gate: &G,
     ) -> Changed
         requires at { parts.old.token.seat.table_id ≡ self.now.table }
-        requires has { HasUnit self.now book parts.old.token.seat.me }
+        requires has { HasUnit self.now parts.old.token.seat.me }
         requires numbered { parts.old.number ≡ (seated parts.old.token.seat.me).number }
         requires covered { IsCovered self.now.bounds.place (lent_operation_of act) }
         ensures of { IsPassOf self.now (state_of parts.new) }
@@ -148,11 +147,12 @@ impl<K: Kept> Unit<K> {
     {
         lawful_with_one_more();
         acts_and_looks();
-        let mut book = book;
-        let changed = attempt(alloc, &mut book, self.bounds.limit, parts.number, job, act);
+        let book = parts.token.book_mut(&self.latch.desk);
+        let changed = attempt(alloc, book, self.bounds.limit, parts.number, job, act);
         gate.before_put(self.number, job);
         parts.snapshot = book.snapshot(self.versions);
-        self.latch.release::<Always>(&mut parts.token, book);
+        let entries = book.entries();
+        steps::put::<K, Always>(&self.latch.desk, &mut parts.token, entries);
         changed
     }
 }

@@ -1,12 +1,8 @@
-ghost use Rattle.std.specs.Prelude.{◌≡◌, ◌⊎◌, ℕ, ◌^◌, ◌<◌, ◌≤◌, List, [], ◌∷◌, length, is_some, true, IfOk, IfErr};
+ghost use Rattle.std.specs.Prelude.{◌≡◌, ℕ, ◌^◌, ◌<◌, ◌≤◌, [], ◌∷◌, length, is_some, true, OnOk, IfErr};
 ghost use Rattle.nvm_unit.specs.Inside.Seats.{only};
-ghost use Rattle.nvm_store.specs.HistoryEntry.{HistoryEntry};
-ghost use Rattle.nvm_unit.specs.declared.bounds.Bounds.{Bounds as UnitBounds};
-ghost use Rattle.nvm_unit.specs.declared.views.PassView.{PassView as View};
-ghost use Rattle.nvm_unit.specs.Inside.Plays.{resting};
-ghost use Rattle.nvm_unit.specs.Inside.Holding.{HasHeld, HasMissed, HasMet, CanGiveBack, CanGiveMore, GivesBack, GivesMore};
+ghost use Rattle.nvm_unit.specs.Inside.Plays.{resting, Takes};
+ghost use Rattle.nvm_unit.specs.Inside.Holding.{HasMissed, HasMet};
 
-use crate::book::Book;
 use crate::kept::Kept;
 use crate::rule::{Decides, IfHeld, Never};
 use crate::snapshot::Snapshot;
@@ -57,17 +53,15 @@ impl<K: Kept> Latch<K> {
         }
     }
 
-    /// Takes the unit and its book if that needs no wait. A load comes first, so that a word of a unit that is taken costs no
-    /// exchange; an exchange follows an even word. The error is the last word that was found, and `D` says whether an answer
-    /// rests on it.
-    pub(crate) fn try_hold<D: Decides>(&self, token: &mut Token<K>) -> Result<Book<K>, u64>
+    /// Takes the unit if that needs no wait. A load comes first, so that a word of a unit that is taken costs no exchange; an
+    /// exchange follows an even word. The error is the last word that was found, and `D` says whether an answer rests on it.
+    pub(crate) fn try_hold<D: Decides>(&self, token: &mut Token<K>) -> Result<(), u64>
         requires at { token.old.seat.table_id ≡ self.now.desk.table.shared.table_id }
         requires rests { token.old.seat.me.1 ≡ [] }
         requires filled { 0 < length token.old.seat.me.0.passes }
         requires alone { (word : ℕ) → D.decides word ≡ true → length token.old.seat.me.0.passes ≡ 1 }
         ensures at { token.new.seat.table_id ≡ token.old.seat.table_id }
-        ensures held { IfOk result (λ book. (b : UnitBounds) × (history : List HistoryEntry)
-            × HasHeld b history book token.old.seat.me token.new.seat.me) }
+        ensures held { OnOk result (Takes token.old.seat.me token.new.seat.me) }
         ensures missed { IfErr result (λ word. HasMissed D.decides word token.old.seat.me token.new.seat.me) }
     {
         let word = steps::load::<K, IfHeld<D>>(&self.desk, token);
@@ -78,22 +72,21 @@ impl<K: Kept> Latch<K> {
         if found != word {
             return Err(found);
         }
-        Ok(steps::take_book(&self.desk, token))
+        Ok(())
     }
 
-    /// Takes the unit and its book. It tries again at once where another pass was quicker, and pauses where one has the unit.
-    pub(crate) fn hold<R: Wait>(&self, rt: &R, token: &mut Token<K>) -> Book<K>
+    /// Takes the unit. It tries again at once where another pass was quicker, and pauses where one has the unit.
+    pub(crate) fn hold<R: Wait>(&self, rt: &R, token: &mut Token<K>)
         requires at { token.old.seat.table_id ≡ self.now.desk.table.shared.table_id }
         requires rests { token.old.seat.me.1 ≡ [] }
         requires filled { 0 < length token.old.seat.me.0.passes }
         ensures at { token.new.seat.table_id ≡ token.old.seat.table_id }
-        ensures held { (b : UnitBounds) × (history : List HistoryEntry)
-            × HasHeld b history result token.old.seat.me token.new.seat.me }
+        ensures held { Takes token.old.seat.me token.new.seat.me }
     {
         let mut turns = 0;
         for _ in rt.forever() {
             match self.try_hold::<Never>(token) {
-                Ok(book) => return book,
+                Ok(()) => return,
                 Err(word) => {
                     if word % 2 == 1 {
                         self.pause(rt, turns, word);
@@ -103,23 +96,6 @@ impl<K: Kept> Latch<K> {
             }
         }
         unreachable!()
-    }
-
-    /// Puts the book and the unit back. Those who sleep are left asleep: the caller wakes one.
-    pub(crate) fn release<D: Decides>(&self, token: &mut Token<K>, book: Book<K>)
-        requires at { token.old.seat.table_id ≡ self.now.desk.table.shared.table_id }
-        requires few { length book.history < 2 ^ 63 }
-        requires ready { ((ps : List View) × (history : List HistoryEntry) × (b : UnitBounds)
-            × CanGiveBack D.decides book token.old.seat.me ps history b)
-            ⊎ ((p : View) × (history : List HistoryEntry) × (entry : HistoryEntry)
-            × CanGiveMore book token.old.seat.me p history entry) }
-        ensures at { token.new.seat.table_id ≡ token.old.seat.table_id }
-        ensures back { GivesBack D.decides book token.old.seat.me token.new.seat.me }
-        ensures more { GivesMore book token.old.seat.me token.new.seat.me }
-    {
-        let entries = book.entries();
-        steps::lay_book(&self.desk, token, book);
-        steps::put::<K, D>(&self.desk, token, entries);
     }
 
     /// One step shows both passes the same history. Hands out a snapshot of it for each.
@@ -145,9 +121,11 @@ impl<K: Kept> Latch<K> {
         let spare = steps::split(&self.desk, one);
         let joining = mem::replace(other, spare);
         steps::join(&self.desk, one, joining);
-        let book = self.hold(rt, one);
+        self.hold(rt, one);
+        let book = one.book_mut(&self.desk);
         let snapshots = (book.snapshot(versions), book.snapshot(versions));
-        self.release::<Never>(one, book);
+        let entries = book.entries();
+        steps::put::<K, Never>(&self.desk, one, entries);
         self.wake();
         *other = steps::split(&self.desk, one);
         snapshots

@@ -3,14 +3,14 @@ ghost use Rattle.std.specs.Prelude.{◌≡◌, MatchOption, is_some, length, tru
 ghost use Rattle.nvm_store.specs.History.{replay_of};
 ghost use Rattle.nvm_store.specs.Look.{look_operation_of};
 ghost use Rattle.nvm_store.specs.Place.{IsCovered};
-ghost use Rattle.nvm_unit.specs.Inside.Parts.{HasUnit, IsFree, IsWhole, Recalls, seated, state_of};
+ghost use Rattle.nvm_unit.specs.Inside.Parts.{HasUnit, IsFree, IsWhole, Recalls, held_history, seated, state_of};
+ghost use Rattle.nvm_unit.specs.Inside.Book.{recorded};
 ghost use Rattle.nvm_unit.specs.Inside.Snapshot.{IsSnapshotOf};
 ghost use Rattle.nvm_unit.specs.Passes.{IsPassOf, IsProperPass};
 ghost use Rattle.nvm_unit.specs.Replies.{AnswersLook, Looks, Observes, Waits};
 ghost use Rattle.nvm_unit.specs.Views.{shown};
 
 use crate::attempt::{looked, observed};
-use crate::book::Book;
 use crate::gate::Gate;
 use crate::kept::Kept;
 use crate::pass::{Parts, Pass};
@@ -39,8 +39,8 @@ impl<K: Kept> Unit<K> {
         ensures observed { Observes result pass.old.view (look_operation_of look.entry) pass.new.view }
         ensures proper { IsProperPass pass.new.view }
     {
-        let book = self.take(rt, &mut pass.parts.token);
-        let answer = self.observe_held(alloc, &mut pass.parts, book, look);
+        self.take(rt, &mut pass.parts.token);
+        let answer = self.observe_held(alloc, &mut pass.parts, look);
         self.wake();
         answer
     }
@@ -63,8 +63,8 @@ impl<K: Kept> Unit<K> {
         ensures proper { IsProperPass pass.new.view }
     {
         match self.take_if_free::<Never>(&mut pass.parts.token) {
-            Ok(book) => {
-                let answer = self.observe_held(alloc, &mut pass.parts, book, look);
+            Ok(()) => {
+                let answer = self.observe_held(alloc, &mut pass.parts, look);
                 gate.after_put(self);
                 Some(answer)
             }
@@ -72,16 +72,15 @@ impl<K: Kept> Unit<K> {
         }
     }
 
-    /// Answers the look at the book in hand and gives the unit back, so that the parts are a pass again. It wakes nobody.
+    /// Answers the look at the book in its slot and gives the unit back, so that the parts are a pass again. It wakes nobody.
     fn observe_held(
         &self,
         alloc: Global,
         parts: &mut Parts<K>,
-        book: Book<K>,
         look: Look<'_>,
     ) -> Result<Observed, ObserveFault>
         requires at { parts.old.token.seat.table_id ≡ self.now.table }
-        requires has { HasUnit self.now book parts.old.token.seat.me }
+        requires has { HasUnit self.now parts.old.token.seat.me }
         requires numbered { parts.old.number ≡ (seated parts.old.token.seat.me).number }
         requires recalls { Recalls parts.old.snapshot (seated parts.old.token.seat.me) }
         requires kept { is_some parts.old.snapshot.version ≡ true → self.now.versions ≡ true }
@@ -91,8 +90,9 @@ impl<K: Kept> Unit<K> {
         ensures observed { Observes result (seated parts.old.token.seat.me) (look_operation_of look.entry)
             (seated parts.new.token.seat.me) }
     {
+        let book = parts.token.book_mut(&self.latch.desk);
         let old = book.renew(&mut parts.snapshot, self.versions);
-        let answer = self.answer_held(alloc, &mut parts.token, book, &parts.snapshot, look);
+        let answer = self.answer_held(alloc, &mut parts.token, &parts.snapshot, look);
         drop(old);
         answer
     }
@@ -103,30 +103,30 @@ impl<K: Kept> Unit<K> {
         &self,
         alloc: Global,
         token: &mut Token<K>,
-        book: Book<K>,
         snapshot: &Snapshot,
         look: Look<'_>,
     ) -> Result<Observed, ObserveFault>
         requires at { token.old.seat.table_id ≡ self.now.table }
-        requires has { HasUnit self.now book token.old.seat.me }
+        requires has { HasUnit self.now token.old.seat.me }
         requires covered { IsCovered self.now.bounds.place (look_operation_of look) }
-        requires snapshot { IsSnapshotOf snapshot.now book }
+        requires snapshot { IsSnapshotOf snapshot.now (recorded self.now.bounds (held_history token.old.seat.me)) }
         ensures at { token.new.seat.table_id ≡ token.old.seat.table_id }
         ensures free { IsFree self.now token.new.seat.me }
         ensures shown { seated token.new.seat.me
-            ≡ shown true (length book.history) book.history (seated token.old.seat.me) }
-        ensures answer { AnswersLook result (length book.history) (look_operation_of look.entry)
-            (replay_of book.place.size book.history) }
+            ≡ shown true (length (held_history token.old.seat.me)) (held_history token.old.seat.me) (seated token.old.seat.me) }
+        ensures answer { AnswersLook result (length (held_history token.old.seat.me)) (look_operation_of look.entry)
+            (replay_of self.now.bounds.place.size (held_history token.old.seat.me)) }
     {
         let point = snapshot.entries();
         match snapshot.version() {
             Some(version) => {
-                self.give_back::<Always>(token, book);
+                self.give_back::<Always>(token, point);
                 observed(alloc, point, version, look)
             }
             None => {
+                let book = token.book_mut(&self.latch.desk);
                 let answer = observed(alloc, point, book.blocks(), look);
-                self.give_back::<Always>(token, book);
+                self.give_back::<Always>(token, point);
                 answer
             }
         }

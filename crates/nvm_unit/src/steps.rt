@@ -23,7 +23,7 @@ use nvm_store::laws::lawful_with_one_more;
 use std::alloc::{AllocError, Global};
 use std::sync::Wait;
 
-/// The table of one unit: its word, and the slot that has its book while nobody holds the unit.
+/// The table of one unit: its word, and the slot that has its book.
 #[derive(Drop)]
 pub struct Desk<K: Kept> {
     table: Table<Option<Book<K>>, Group, Bounds, UnitRule, Global>,
@@ -34,6 +34,25 @@ pub struct Desk<K: Kept> {
 #[derive(Drop)]
 pub struct Token<K: Kept> {
     seat: Seat<Option<Book<K>>, Group>,
+}
+
+impl<K: Kept> Token<K> {
+    ghost use Rattle.std.specs.Borrow.{sem};
+    ghost use Rattle.nvm_unit.specs.Inside.Lending.{lends_book};
+
+    /// The book, in its slot. The seat holds the unit.
+    pub fn book_mut<'a>(&'a mut self, desk: &'a Desk<K>) -> &'a mut Book<K>
+        requires at { self.old.seat.table_id ≡ desk.now.table.shared.table_id }
+        requires held { (ps : List View) × (history : List HistoryEntry) × (book : Recorded)
+            × (self.old.seat.me ≡ holding ps history book) }
+        ensures* writes_back { sem 𝓛 (lends_book K.row K.Kept self.entry result) }
+        ensures value { self.old.seat.me.1 ≡ (0, Some result.now) ∷ [] }
+    {
+        match self.seat.slot_mut(&desk.table.shared, 0) {
+            Some(book) => book,
+            None => unreachable!(),
+        }
+    }
 }
 
 /// Loads the word, and gives it.
@@ -56,7 +75,7 @@ pub fn take<K: Kept, D: Decides>(desk: &Desk<K>, token: &mut Token<K>, word: u64
     requires alone { (word : ℕ) → D.decides word ≡ true → length token.old.seat.me.0.passes ≡ 1 }
     requires rests { token.old.seat.me.1 ≡ [] }
     ensures at { token.new.seat.table_id ≡ token.old.seat.table_id }
-    ensures taken { result ≡ word → Takes result token.old.seat.me token.new.seat.me }
+    ensures taken { result ≡ word → Takes token.old.seat.me token.new.seat.me }
     ensures lost { result ≢ word → HasLooked D.decides result token.old.seat.me token.new.seat.me }
     ensures taken_event { result ≡ word → WasEvent takes result token.old.seat.me token.new.seat.me }
     ensures lost_event { result ≢ word
@@ -113,33 +132,6 @@ pub fn split<K: Kept>(desk: &Desk<K>, token: &mut Token<K>) -> Token<K>
     Token {
         seat: desk.table.shared.split_seat::<FirstStays>(&mut token.seat),
     }
-}
-
-/// Takes the book out of the slot. The seat holds the unit.
-pub fn take_book<K: Kept>(desk: &Desk<K>, token: &mut Token<K>) -> Book<K>
-    requires at { token.old.seat.table_id ≡ desk.now.table.shared.table_id }
-    requires held { (ps : List View) × (history : List HistoryEntry) × (book : Recorded)
-        × (token.old.seat.me ≡ holding ps history (Some book)) }
-    ensures at { token.new.seat.table_id ≡ token.old.seat.table_id }
-    ensures taken { (ps : List View) (history : List HistoryEntry) (book : Recorded)
-        → token.old.seat.me ≡ holding ps history (Some book)
-        → (result ≡ book) × (token.new.seat.me ≡ holding ps history None) }
-{
-    match desk.table.shared.exchange(&mut token.seat, 0, None) {
-        Some(book) => book,
-        None => unreachable!(),
-    }
-}
-
-/// Lays a book into the slot. The seat holds the unit.
-pub fn lay_book<K: Kept>(desk: &Desk<K>, token: &mut Token<K>, book: Book<K>)
-    requires at { token.old.seat.table_id ≡ desk.now.table.shared.table_id }
-    requires held { (ps : List View) × (history : List HistoryEntry) × (token.old.seat.me ≡ holding ps history None) }
-    ensures at { token.new.seat.table_id ≡ token.old.seat.table_id }
-    ensures laid { (ps : List View) (history : List HistoryEntry) → token.old.seat.me ≡ holding ps history None
-        → token.new.seat.me ≡ holding ps history (Some book) }
-{
-    drop(desk.table.shared.exchange(&mut token.seat, 0, Some(book)));
 }
 
 /// Sleeps until a put, if the word is still this one, or returns for no reason.

@@ -1,10 +1,9 @@
 //! How one pass takes its unit and gives it back.
-ghost use Rattle.std.specs.Prelude.{◌≡◌, ◌+◌, ◌*◌, ℕ, IfErr, IfOk, length};
-ghost use Rattle.nvm_unit.specs.Inside.Parts.{FailsAt, HasUnit, IsFree, seated};
+ghost use Rattle.std.specs.Prelude.{◌≡◌, ◌+◌, ◌*◌, ℕ, IfErr, OnOk, length};
+ghost use Rattle.nvm_unit.specs.Inside.Parts.{FailsAt, HasUnit, IsFree, held_history, seated};
 ghost use Rattle.nvm_unit.specs.Replies.{Learns, Waits};
 ghost use Rattle.nvm_unit.specs.Views.{shown};
 
-use crate::book::Book;
 use crate::kept::Kept;
 use crate::rule::{Always, Decides};
 use crate::steps;
@@ -13,25 +12,25 @@ use crate::unit::Unit;
 use std::sync::Wait;
 
 impl<K: Kept> Unit<K> {
-    /// Waits until the token has the unit, and hands out its book.
-    pub(crate) fn take<R: Wait>(&self, rt: &R, token: &mut Token<K>) -> Book<K>
+    /// Waits until the token has the unit.
+    pub(crate) fn take<R: Wait>(&self, rt: &R, token: &mut Token<K>)
         requires at { token.old.seat.table_id ≡ self.now.table }
         requires free { IsFree self.now token.old.seat.me }
         ensures at { token.new.seat.table_id ≡ token.old.seat.table_id }
-        ensures has { HasUnit self.now result token.new.seat.me }
+        ensures has { HasUnit self.now token.new.seat.me }
         ensures waited { Waits (seated token.old.seat.me) (seated token.new.seat.me) }
     {
-        self.latch.hold(rt, token)
+        self.latch.hold(rt, token);
     }
 
     /// Takes the unit if nobody has it. Else the error is the word that was in the way, and `D` says whether the
     /// caller's answer rests on it.
-    pub(crate) fn take_if_free<D: Decides>(&self, token: &mut Token<K>) -> Result<Book<K>, u64>
+    pub(crate) fn take_if_free<D: Decides>(&self, token: &mut Token<K>) -> Result<(), u64>
         requires at { token.old.seat.table_id ≡ self.now.table }
         requires free { IsFree self.now token.old.seat.me }
         ensures at { token.new.seat.table_id ≡ token.old.seat.table_id }
-        ensures has { IfOk result (λ book. HasUnit self.now book token.new.seat.me) }
-        ensures waited { IfOk result (λ book. Waits (seated token.old.seat.me) (seated token.new.seat.me)) }
+        ensures has { OnOk result (HasUnit self.now token.new.seat.me) }
+        ensures waited { OnOk result (Waits (seated token.old.seat.me) (seated token.new.seat.me)) }
         ensures free { IfErr result (λ word. IsFree self.now token.new.seat.me) }
         ensures failed { IfErr result (λ word. FailsAt word D.decides (seated token.old.seat.me) (seated token.new.seat.me)) }
     {
@@ -43,16 +42,17 @@ impl<K: Kept> Unit<K> {
         self.latch.wake();
     }
 
-    /// Gives the unit back unchanged. It wakes nobody.
-    pub(crate) fn give_back<D: Decides>(&self, token: &mut Token<K>, book: Book<K>)
+    /// Gives the unit back unchanged, with as many entries as it has. It wakes nobody.
+    pub(crate) fn give_back<D: Decides>(&self, token: &mut Token<K>, entries: u64)
         requires at { token.old.seat.table_id ≡ self.now.table }
-        requires has { HasUnit self.now book token.old.seat.me }
+        requires has { HasUnit self.now token.old.seat.me }
+        requires count { entries ≡ length (held_history token.old.seat.me) }
         ensures at { token.new.seat.table_id ≡ token.old.seat.table_id }
         ensures free { IsFree self.now token.new.seat.me }
         ensures shown { seated token.new.seat.me
-            ≡ shown (D.decides (2 * length book.history + 1)) (length book.history) book.history (seated token.old.seat.me) }
+            ≡ shown (D.decides (2 * entries + 1)) entries (held_history token.old.seat.me) (seated token.old.seat.me) }
     {
-        self.latch.release::<D>(token, book);
+        steps::put::<K, D>(&self.latch.desk, token, entries);
     }
 
     /// The number of entries in the history at this moment, as a step on which the caller's answer rests.

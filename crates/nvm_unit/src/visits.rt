@@ -1,11 +1,10 @@
 //! The calls that bring passes up to the history.
 ghost use Rattle.std.specs.Prelude.{◌≡◌, IfOk, is_some, length, true, false};
-ghost use Rattle.nvm_unit.specs.Inside.Parts.{HasUnit, IsWhole, Recalls, seated, state_of};
+ghost use Rattle.nvm_unit.specs.Inside.Parts.{HasUnit, IsWhole, Recalls, held_history, seated, state_of};
 ghost use Rattle.nvm_unit.specs.Passes.{IsPassOf, IsProperPass};
 ghost use Rattle.nvm_unit.specs.Replies.{IsBroughtUp, Meet};
 ghost use Rattle.nvm_unit.specs.Views.{shown};
 
-use crate::book::Book;
 use crate::kept::{Kept, copy_of};
 use crate::pass::{Parts, Pass};
 use crate::rule::Never;
@@ -24,26 +23,29 @@ impl<K: Kept> Unit<K> {
         ensures up { IsBroughtUp pass.old.view pass.new.view }
         ensures proper { IsProperPass pass.new.view }
     {
-        let found = self.take(rt, &mut pass.parts.token);
-        self.leave(&mut pass.parts, found);
+        self.take(rt, &mut pass.parts.token);
+        self.leave(&mut pass.parts);
         self.wake();
     }
 
-    /// Brings the pass up to the book in hand and gives the unit back, so that the parts are a pass again. It leaves no mark, and
-    /// wakes nobody.
-    fn leave(&self, parts: &mut Parts<K>, book: Book<K>)
+    /// Brings the pass up to the book in its slot and gives the unit back, so that the parts are a pass again. It leaves no
+    /// mark, and wakes nobody.
+    fn leave(&self, parts: &mut Parts<K>)
         requires at { parts.old.token.seat.table_id ≡ self.now.table }
-        requires has { HasUnit self.now book parts.old.token.seat.me }
+        requires has { HasUnit self.now parts.old.token.seat.me }
         requires numbered { parts.old.number ≡ (seated parts.old.token.seat.me).number }
         requires recalls { Recalls parts.old.snapshot (seated parts.old.token.seat.me) }
         requires kept { is_some parts.old.snapshot.version ≡ true → self.now.versions ≡ true }
         ensures of { IsPassOf self.now (state_of parts.new) }
         ensures whole { IsWhole parts.new }
         ensures shown { seated parts.new.token.seat.me
-            ≡ shown false (length book.history) book.history (seated parts.old.token.seat.me) }
+            ≡ shown false (length (held_history parts.old.token.seat.me)) (held_history parts.old.token.seat.me)
+            (seated parts.old.token.seat.me) }
     {
+        let book = parts.token.book_mut(&self.latch.desk);
         let old = book.renew(&mut parts.snapshot, self.versions);
-        self.give_back::<Never>(&mut parts.token, book);
+        let entries = book.entries();
+        self.give_back::<Never>(&mut parts.token, entries);
         drop(old);
     }
 
@@ -87,9 +89,10 @@ impl Unit {
         ensures proper { IsProperPass pass.new.view }
         ensures seen { IfOk result (λ v. v.items ≡ pass.new.view.seen) }
     {
-        let book = self.take(rt, &mut pass.parts.token);
-        let copy = copy_of(alloc, book.kept());
-        self.leave(&mut pass.parts, book);
+        let token = &mut pass.parts.token;
+        self.take(rt, token);
+        let copy = copy_of(alloc, token.book_mut(&self.latch.desk).kept());
+        self.leave(&mut pass.parts);
         self.wake();
         copy
     }

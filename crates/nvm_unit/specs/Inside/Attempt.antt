@@ -1,4 +1,4 @@
--- What is answered of a book in hand, and what becomes of the book; and what is answered from what a pass keeps.
+-- What is answered of a book, and what becomes of it; and what is answered from what a pass keeps.
 use Rattle.std.specs.Prelude.{◌≡◌, ◌≢◌, ℕ, Ok, Err, Result, Some, IsSome, length}
 use Rattle.nvm_record.specs.Medium.{Medium}
 use Rattle.nvm_record.specs.Step.{Operation, data_of}

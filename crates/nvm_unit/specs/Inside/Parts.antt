@@ -1,9 +1,10 @@
 -- One pass at a seat of its own: at rest, and while it has the unit.
-use Rattle.std.specs.Prelude.{◌≡◌, ◌⊎◌, ℕ, ◌/◌, ◌%◌, ◌<◌, Bool, [], ◌∷◌, length, is_some, None}
+use Rattle.std.specs.Prelude.{◌≡◌, ◌⊎◌, ℕ, ◌/◌, ◌%◌, ◌<◌, Bool, List, [], ◌∷◌, length, is_some, unwrap_or}
+use Rattle.nvm_store.specs.HistoryEntry.{HistoryEntry}
 use Rattle.nvm_unit.specs.declared.pass.Parts.{Parts}
 use Rattle.nvm_unit.specs.declared.snapshot.Snapshot.{Snapshot}
 use Rattle.nvm_unit.specs.declared.views.PassView.{PassView}
-use Rattle.nvm_unit.specs.Inside.Book.{Recorded, recorded}
+use Rattle.nvm_unit.specs.Inside.Book.{recorded}
 use Rattle.nvm_unit.specs.Inside.Plays.{Sits, resting, holding}
 use Rattle.nvm_unit.specs.Inside.Seats.{only}
 use Rattle.nvm_unit.specs.Inside.Snapshot.{IsSnapshotOf}
@@ -13,6 +14,10 @@ use Rattle.nvm_unit.specs.Views.{looked}
 -- the pass at a seat
 abbrev pub seated : Sits → PassView
 seated m = only m.0.passes
+
+-- the history of the unit that a seat holds
+abbrev pub held_history : Sits → List HistoryEntry
+held_history m = unwrap_or m.0.held []
 
 -- what contracts see of a pass that has these parts
 abbrev pub state_of : {K : Type 0} → Parts K → PassState
@@ -40,13 +45,12 @@ pub record IsFree (unit : UnitName) (m : Sits) : Type 0 where
   pub bounds : (seated m).bounds ≡ unit.bounds
   pub proper : IsProperPass (seated m)
 
--- The seat has one pass, which has this unit and its book.
-pub record HasUnit (unit : UnitName) (book : Recorded) (m : Sits) : Type 0 where
-  pub alone : m ≡ holding (seated m ∷ []) book.history None
+-- The seat has one pass, which has this unit. The book is in the slot.
+pub record HasUnit (unit : UnitName) (m : Sits) : Type 0 where
+  pub alone : m ≡ holding (seated m ∷ []) (held_history m) (recorded unit.bounds (held_history m))
   pub bounds : (seated m).bounds ≡ unit.bounds
-  pub pages : book ≡ recorded unit.bounds book.history
   pub below : (seated m).number < unit.bounds.passes
-  pub finds : Finds (length book.history) (seated m) book.history
+  pub finds : Finds (length (held_history m)) (seated m) (held_history m)
   pub proper : IsProperPass (seated m)
 
 -- A pass tried for the unit and met this word instead: an odd one, or one of a longer history than it had seen.

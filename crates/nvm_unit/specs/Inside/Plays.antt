@@ -22,8 +22,8 @@ abbrev pub resting : List PassView → Sits
 resting passes = (idle passes, [])
 
 -- A seat with these passes, which holds the unit and its history. `book` is in the slot now.
-abbrev pub holding : List PassView → List HistoryEntry → Option Recorded → Sits
-holding passes history book = (record { passes = passes; held = Some history }, (0, book) ∷ [])
+abbrev pub holding : List PassView → List HistoryEntry → Recorded → Sits
+holding passes history book = (record { passes = passes; held = Some history }, (0, Some book) ∷ [])
 
 -- It is so of each of them.
 abbrev pub EachIn : (PassView → Type 0) → List PassView → Type 0
@@ -44,14 +44,13 @@ pub record HasLooked (decides : ℕ → Bool) (word : ℕ) (m m' : Sits) : Type 
   pub later : EachIn (IsNotAbove (word / 2)) m.0.passes
 
 -- A compare_exchange that takes the unit, with this history.
-pub record HasTaken (word : ℕ) (b : Bounds) (history : List HistoryEntry) (m m' : Sits) : Type 0 where
-  pub found : word ≡ 2 * length history
-  pub after : m' ≡ holding (map (looked false (length history)) m.0.passes) history (Some (recorded b history))
+pub record HasTaken (b : Bounds) (history : List HistoryEntry) (m m' : Sits) : Type 0 where
+  pub after : m' ≡ holding (map (looked false (length history)) m.0.passes) history (recorded b history)
   pub fits : EachIn (Fits b history) m.0.passes
   pub lawful : IsHistoryOf b history
 
-abbrev pub Takes : ℕ → Sits → Sits → Type 0
-Takes word m m' = (b : Bounds) × (history : List HistoryEntry) × HasTaken word b history m m'
+abbrev pub Takes : Sits → Sits → Type 0
+Takes m m' = (b : Bounds) × (history : List HistoryEntry) × HasTaken b history m m'
 
 -- The step was one event of this kind, by the seat's group, which found this word: it led from a state to
 -- which events lead to the next.
@@ -78,13 +77,13 @@ looks decides step m word m' = HasLooked decides word m m' × WasEvent (λ j. lo
 -- a compare_exchange of a free word for the one that says that the unit is held
 abbrev pub tries : (ℕ → Bool) → Step (Option Recorded) → Sits → ℕ → Sits → Type 0
 tries decides step m word m' =
-    (word ≡ step.first → Takes word m m' × WasEvent takes word m m')
+    (word ≡ step.first → Takes m m' × WasEvent takes word m m')
     × (word ≢ step.first → HasLooked decides word m m' × WasEvent (λ j. misses j (decides word)) word m m')
 
 -- The unit is put back as it was, with `entries` entries.
 abbrev pub ReturnsAs : (ℕ → Bool) → ℕ → Sits → Sits → Type 0
 ReturnsAs decides entries m m' =
-    (ps : List PassView) (history : List HistoryEntry) (book : Option Recorded)
+    (ps : List PassView) (history : List HistoryEntry) (book : Recorded)
     → m ≡ holding ps history book → entries ≡ length history
     → m' ≡ resting (map (shown (decides (2 * length history + 1)) (length history) history) ps)
 
@@ -92,7 +91,7 @@ ReturnsAs decides entries m m' =
 abbrev pub AddsAs : ℕ → Sits → Sits → Type 0
 AddsAs entries m m' =
     (p : PassView) (history : List HistoryEntry) (entry : HistoryEntry)
-    → m ≡ holding (p ∷ []) history (Some (recorded p.bounds (history ++ entry ∷ []))) → entries ≡ length history + 1
+    → m ≡ holding (p ∷ []) history (recorded p.bounds (history ++ entry ∷ [])) → entries ≡ length history + 1
     → m' ≡ resting (added (length history) history entry p ∷ [])
 
 -- a store that puts the unit back
@@ -102,7 +101,7 @@ puts decides step m word m' =
 
 -- The seat can put the unit back as it was: the slot has the book of the history that is held.
 pub record CanReturn (decides : ℕ → Bool) (entries : ℕ) (m : Sits) (ps : List PassView) (history : List HistoryEntry) (b : Bounds) : Type 0 where
-  pub at : m ≡ holding ps history (Some (recorded b history))
+  pub at : m ≡ holding ps history (recorded b history)
   pub count : entries ≡ length history
   pub filled : 0 < length ps
   pub bounds : EachIn (λ p. p.bounds ≡ b) ps
@@ -110,7 +109,7 @@ pub record CanReturn (decides : ℕ → Bool) (entries : ℕ) (m : Sits) (ps : L
 
 -- The seat can put the unit back with one entry more: the slot has its book.
 pub record CanAppend (entries : ℕ) (m : Sits) (p : PassView) (history : List HistoryEntry) (entry : HistoryEntry) : Type 0 where
-  pub at : m ≡ holding (p ∷ []) history (Some (recorded p.bounds (history ++ entry ∷ [])))
+  pub at : m ≡ holding (p ∷ []) history (recorded p.bounds (history ++ entry ∷ []))
   pub count : entries ≡ length history + 1
   pub number : entry.pass ≡ p.number
   pub follows : CanFollow p.bounds.place history entry

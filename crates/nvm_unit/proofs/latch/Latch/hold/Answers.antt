@@ -1,11 +1,9 @@
 use Rattle.std.proofs.Common.{◌∙◌}
-use Rattle.nvm_unit.proofs.Waiting.{missed_waited, waited_more, waited_held}
+use Rattle.nvm_unit.proofs.Waiting.{missed_waited, waited_more, waited_takes}
 use Rattle.nvm_unit.proofs.latch.Latch.hold.Goals as goal
 
 pub returns-in-Ok-clause-held : goal.returns-in-Ok-clause-held
-returns-in-Ok-clause-held g c =
-    let held = c.in-Ok.ensures.held in
-    (held.0, held.1, waited_held held.0 held.1 c.in-Ok.book _ c.loop.token.seat.me _ c.loop.invariant.waited held.2)
+returns-in-Ok-clause-held g c = waited_takes _ c.loop.token.seat.me _ c.loop.invariant.waited c.in-Ok.ensures.held
 
 pub loop-preserved-then-word-eq1 : goal.loop-preserved-then-word-eq1
 loop-preserved-then-word-eq1 g c =

@@ -12,4 +12,4 @@ returns-clause-made g c =
     let op = lent_operation_of c.args.act in
     let after = seated c.change_held.new.parts.token.seat.me in
     subst (λ (p : PassView). Makes c.change_held.result p c.args.job op after) (ap (λ (x : PassState). x.view) c.pass.view_is)
-    (made_later (seated c.pass.inside.parts.token.seat.me) _ c.in_ok-book.ensures.waited c.change_held.result after c.args.job op c.change_held.ensures.made)
+    (made_later (seated c.pass.inside.parts.token.seat.me) _ c.in_ok-take_if_free.ensures.waited c.change_held.result after c.args.job op c.change_held.ensures.made)

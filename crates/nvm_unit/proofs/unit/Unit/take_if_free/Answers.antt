@@ -1,25 +1,21 @@
-use Rattle.std.proofs.Common.{List}
-use Rattle.nvm_store.specs.HistoryEntry.{HistoryEntry}
-use Rattle.nvm_unit.specs.declared.bounds.Bounds.{Bounds}
-use Rattle.nvm_unit.specs.Inside.Holding.{HasHeld, HasMissed}
+use Rattle.nvm_unit.specs.Inside.Holding.{HasMissed}
 use Rattle.nvm_unit.specs.Inside.Parts.{FailsAt, HasUnit, IsFree, seated}
+use Rattle.nvm_unit.specs.Inside.Plays.{Takes}
 use Rattle.nvm_unit.specs.Replies.{Waits}
-use Rattle.nvm_unit.proofs.OnePass.{fails, of_book, of_word, takes}
+use Rattle.nvm_unit.proofs.OnePass.{fails, of_taken, of_word, takes}
 use Rattle.nvm_unit.proofs.unit.Unit.take_if_free.Goals as goal
 
 pub returns-clause-has : goal.returns-clause-has
 returns-clause-has g c =
     let m = c.args.token.now.seat.me in
     let m' = c.try_hold.new.token.seat.me in
-    of_book c.try_hold.result (λ book. (b : Bounds) × (h : List HistoryEntry) × HasHeld b h book m m') (λ book. HasUnit c.args.self.now book m')
-    (λ book held. (takes c.args.self.now held.0 held.1 book m m' c.requires.free held.2).0) c.try_hold.ensures.held
+    of_taken c.try_hold.result (Takes m m') (HasUnit c.args.self.now m') (λ taken. (takes c.args.self.now m m' c.requires.free taken).0) c.try_hold.ensures.held
 
 pub returns-clause-waited : goal.returns-clause-waited
 returns-clause-waited g c =
     let m = c.args.token.now.seat.me in
     let m' = c.try_hold.new.token.seat.me in
-    of_book c.try_hold.result (λ book. (b : Bounds) × (h : List HistoryEntry) × HasHeld b h book m m') (λ _. Waits (seated m) (seated m'))
-    (λ book held. (takes c.args.self.now held.0 held.1 book m m' c.requires.free held.2).1) c.try_hold.ensures.held
+    of_taken c.try_hold.result (Takes m m') (Waits (seated m) (seated m')) (λ taken. (takes c.args.self.now m m' c.requires.free taken).1) c.try_hold.ensures.held
 
 pub returns-clause-free : goal.returns-clause-free
 returns-clause-free g c =
