@@ -28,6 +28,7 @@ enum state {
     WRITING,    /* so a Write is pending in the first */
     STARVED,    /* all are open, and malloc refuses */
     SHUT_STARVED,
+    SETTLED,    /* all are open, without versions, the first has done Writes and a pair of LBA 0, and malloc refuses */
     RECORDED,   /* all are open, of a recorded namespace */
     MIXED,      /* so, but the third is of another one */
     ASKED,      /* the second has the unit of LBA 0, so a Read is pending in the first, of a recorded namespace */
@@ -114,6 +115,7 @@ static const struct row rows[] = {
     SUBMIT_ROW(ZK_NO_PAIR, OPEN, "FUSE 11b", 128, 2 * BLOCK, 32, FUSED(COMPARE, 3), SECOND_OF(WRITE)),
     SUBMIT_ROW(ZK_NO_PAIR, OPEN, "a pair with an unknown opcode", 128, BLOCK, 32, FIRST(0x7f), SECOND_OF(WRITE)),
     SUBMIT_ROW(ZK_NO_MEMORY, STARVED, "submit without memory", 64, BLOCK, 16, WRITE, 0),
+    SUBMIT_ROW(ZK_NO_MEMORY, SETTLED, "data of another length without memory", 64, RANGE_BYTES, 16, DATASET_MANAGEMENT, 0),
     SUBMIT_ROW(ZK_NO_MEMORY, STARVED, "a pair without memory", 128, 2 * BLOCK, 32, FIRST(COMPARE), SECOND_OF(WRITE)),
     POLL_ROW(ZK_NOT_OPEN, SHUT, "poll of a port that was never opened", BLOCK, 16),
     POLL_ROW(ZK_NOT_OPEN, CLOSED, "poll after close", BLOCK, 16),
@@ -160,6 +162,9 @@ static const struct row rows[] = {
     POLL_ROW(ZK_PENDING, PENDING, "poll while the unit is held", 2 * BLOCK, 16),
     POLL_ROW(ZK_PENDING, WRITING, "poll of a Write without its data", 0, 16),
     SUBMIT_ROW(ZK_DONE, OPEN, "a Write", 64, BLOCK, 16, WRITE, 0),
+    SUBMIT_ROW(ZK_DONE, SETTLED, "a Write in the place of another, without memory", 64, BLOCK, 16, WRITE, 0),
+    SUBMIT_ROW(ZK_DONE, SETTLED, "a Compare without memory", 64, BLOCK, 16, COMPARE, 0),
+    SUBMIT_ROW(ZK_DONE, SETTLED, "a pair in the place of another, without memory", 128, 2 * BLOCK, 32, FIRST(COMPARE), SECOND_OF(WRITE)),
     SUBMIT_ROW(ZK_DONE, OPEN, "a first by itself", 64, BLOCK, 16, FIRST(WRITE), 0),
     SUBMIT_ROW(ZK_DONE, OPEN, "a pair of a Write and a Compare", 128, 2 * BLOCK, 32, FIRST(WRITE), SECOND_OF(COMPARE)),
     SUBMIT_ROW(ZK_DONE, OPEN, "Flush", 64, 0, 16, 0x00, 0),
@@ -247,6 +252,23 @@ static int submit(struct zk_port *port, uint8_t opcode, uint32_t blocks)
     return zk_submit(port, entry, sizeof entry, data, blocks * BLOCK, told, sizeof told);
 }
 
+/* What the row of a call without memory writes. */
+enum { FILL = 0xa5 };
+
+/* Writes LBA 0, and again, and then by a pair, so that the port and the block have memory of their own. */
+static bool settle(struct zk_port *port)
+{
+    uint8_t entries[2 * ZK_ENTRY_BYTES], data[2 * BLOCK], told[2 * ZK_COMPLETION_BYTES];
+    memset(data, FILL, sizeof data);
+    entry_of(entries, WRITE, 0, 1, 0, 1);
+    for (int i = 0; i < 2; i++)
+        if (zk_submit(port, entries, ZK_ENTRY_BYTES, data, BLOCK, told, ZK_COMPLETION_BYTES) != ZK_DONE)
+            return false;
+    entry_of(entries, COMPARE, FUSED_FIRST, 1, 0, 1);
+    entry_of(entries + ZK_ENTRY_BYTES, WRITE, FUSED_SECOND, 2, 0, 1);
+    return zk_submit(port, entries, sizeof entries, data, sizeof data, told, sizeof told) == ZK_DONE;
+}
+
 /* Whether namespaces are opened with a record. */
 static bool recorded;
 
@@ -309,6 +331,8 @@ static bool prepare(enum state state, struct holder *holder)
         return mix();
     case PLAIN:
         return open_all(false);
+    case SETTLED:
+        return open_all(false) && settle(ports);
     case BEHIND:
         return open_all(true) && submit(&ports[1], WRITE, 1) == ZK_DONE;
     case TAKEN:
@@ -364,15 +388,20 @@ static bool holds(const struct row *row)
         fprintf(stderr, "misuses: %s: the ports couldn't be brought into the state\n", row->misuse);
         return false;
     }
-    memset(&written, 0xa5, sizeof written);
+    memset(&written, FILL, sizeof written);
     memcpy(&before, &written, sizeof written);
     memcpy(ports_before, ports, sizeof ports);
-    refuses = row->state == STARVED || row->state == SHUT_STARVED || row->state == RECORDED_STARVED;
+    refuses = row->state == STARVED || row->state == SHUT_STARVED || row->state == SETTLED || row->state == RECORDED_STARVED;
     int code = call(row, &written);
     refuses = false;
     bool right = code == row->code;
     if (!right)
         fprintf(stderr, "misuses: %s: %d, and not %d\n", row->misuse, code, row->code);
+    for (size_t at = 0; row->state == SETTLED && code == ZK_DONE && at < row->completions; at += ZK_COMPLETION_BYTES)
+        if (little(written.completions + at + 14, 2) != 0) {
+            fprintf(stderr, "misuses: %s: it didn't succeed\n", row->misuse);
+            right = false;
+        }
     if (code == ZK_SHORT_ROOM)
         before.length = written.length;
     if (code != ZK_DONE && memcmp(&written, &before, sizeof written) != 0) {

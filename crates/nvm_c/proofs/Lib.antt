@@ -1,5 +1,6 @@
 pub mod Ports
 pub mod Steps
+pub mod AtOnce
 pub mod ThreeBits
 pub mod Words
 pub mod Places

@@ -20,7 +20,16 @@ pub record ReadBuffers : Type 0 where
 
 -- the engine with another state of its port
 abbrev pub with_port : Engine → PortState → Engine
-with_port e port = record { space = e.space; port = port; number = e.number; pending = e.pending; log = e.log }
+with_port e port =
+    record {
+      space = e.space;
+      port = port;
+      number = e.number;
+      pending = e.pending;
+      spare = e.spare;
+      compared = e.compared;
+      log = e.log;
+    }
 
 -- the status as C reads it
 abbrev pub status_for_C : Status → ReadStatus

@@ -1,8 +1,11 @@
 //! The job for which C's entries ask.
-ghost use Rattle.std.specs.Prelude.{◌≡◌, ◌⊎◌, ◌++◌, ◌+◌, ◌*◌, ◌<◌, ◌≤◌, IfOk, IfErr, length};
+ghost use Rattle.std.specs.Prelude.{◌≡◌, ◌⊎◌, ◌++◌, ◌+◌, ◌*◌, ◌<◌, ◌≤◌, ℕ, List, IfOk, IfErr, drop, false, length};
+ghost use Rattle.byteorder.specs.Endian.{little_number};
 ghost use Rattle.std.specs.Bool.{OnTrue};
 ghost use Rattle.nvm_geometry.specs.Namespace.{Namespace};
-ghost use Rattle.nvm_record.specs.Entry.{IsSpelling, IsWhole, called_for};
+ghost use Rattle.nvm_record.specs.Entry.{IsSpelling, IsWhole, called_for, data_length};
+ghost use Rattle.nvm_record.specs.Op.{carries_ranges};
+ghost use Rattle.nvm_plan.specs.OnlyPart.{command_lent};
 ghost use Rattle.nvm_plan.specs.Fits.{FitsNamespace};
 ghost use Rattle.nvm_c.specs.Asked as spec;
 ghost use Rattle.nvm_c.specs.Asked.{IsAsked, IsAskedAlone, IsAskedTogether};
@@ -12,9 +15,11 @@ use crate::code::Code;
 use nvm_geometry::Geometry;
 use nvm_plan::{Body, Job, fits};
 use nvm_record::{
-    BlockSize, Command, CommandFault, NoMemory, Op, Payload, entry_fields, read_command,
+    BlockSize, Command, CommandFault, EntryFields, NoMemory, Op, Payload, entry_fields,
+    read_command,
 };
 use std::alloc::Global;
+use std::mem::replace;
 
 /// The job of one entry, or of two that are a fused pair.
 pub(crate) fn asked_job(
@@ -46,20 +51,30 @@ pub(crate) fn asked_job(
 
 /// Whether it is one entry, of a command without ranges.
 pub(crate) fn is_plain(entries: &[u8]) -> bool
-    ensures { OnTrue result (length entries.now ≡ 64) }
+    ensures one { OnTrue result (length entries.now ≡ 64) }
+    ensures plain { OnTrue result (carries_ranges (spec.op_in entries.now) ≡ false) }
 {
     entries.len() == 64 && !entry_fields(entries).op.carries_ranges()
 }
 
-/// The command of an entry by itself. The buffer is room for what a Read reads, and data of any other.
-// Inlined with `command_of`, since the command isn't moved then.
+/// The fields of the entry of a command without ranges. The entry, with data as long as it calls for, spells the command.
 #[inline(always)]
-pub(crate) fn asked_alone(
-    alloc: Global,
-    size: BlockSize,
-    entry: &[u8],
-    buffer: &[u8],
-) -> Result<Command, Code>
+pub(crate) fn plain_fields(entry: &[u8]) -> EntryFields
+    requires { length entry.now ≡ 64 }
+    ensures op { result.op ≡ spec.op_in entry.now }
+    ensures nlb { carries_ranges result.op ≡ false → result.nlb ≡ little_number 2 (drop 48 entry.now) }
+    ensures spelled { (size : ℕ) (bytes : List ℕ) → carries_ranges result.op ≡ false
+        → length bytes ≡ data_length size result.op result.nlb result.nr → IsSpelling size (entry.now ++ bytes) (command_lent result bytes) }
+    ensures called { (size : ℕ) → carries_ranges result.op ≡ false
+        → data_length size result.op result.nlb result.nr ≡ called_for size entry.now }
+    ensures whole { (size : ℕ) (bytes : List ℕ) → carries_ranges result.op ≡ false
+        → length bytes ≡ data_length size result.op result.nlb result.nr → IsWhole size (command_lent result bytes) }
+{
+    entry_fields(entry)
+}
+
+/// The command of an entry by itself. The buffer is room for what a Read reads, and data of any other.
+fn asked_alone(alloc: Global, size: BlockSize, entry: &[u8], buffer: &[u8]) -> Result<Command, Code>
     requires { length entry.now ≡ 64 }
     ensures asked { IfOk result (λ c. IsAskedAlone size entry.now buffer.now c) }
     ensures whole { IfOk result (λ c. IsWhole size c) }
@@ -75,14 +90,14 @@ pub(crate) fn asked_alone(
 }
 
 /// What of the buffer goes with a command: nothing with a Read.
-fn sent_with(op: Op, buffer: &[u8]) -> &[u8]
+pub(crate) fn sent_with(op: Op, buffer: &[u8]) -> &[u8]
     ensures { result.now ≡ spec.sent_with op buffer.now }
 {
     if reads(op) { &[] } else { buffer }
 }
 
 /// Whether it is a Read, for which the buffer is room.
-fn reads(op: Op) -> bool
+pub(crate) fn reads(op: Op) -> bool
     ensures { result ≡ spec.reads op }
 {
     matches!(op, Op::Read)
@@ -120,24 +135,30 @@ fn called(size: BlockSize, entry: &[u8]) -> usize
 }
 
 /// The command of the entry and this data, which has to be as long as it calls for. Data that isn't a list of ranges is copied as it is.
-#[inline(always)]
 fn command_of(alloc: Global, size: BlockSize, entry: &[u8], data: &[u8]) -> Result<Command, Code>
     requires { length entry.now ≡ 64 }
     ensures spelled { IfOk result (λ c. IsSpelling size (entry.now ++ data.now) c) }
     ensures whole { IfOk result (λ c. IsWhole size c) }
     ensures refused { IfErr result IsRefusal }
 {
-    let fields = entry_fields(entry);
+    let fields = plain_fields(entry);
     if fields.op.carries_ranges() {
         return command_of_ranges(alloc, size, entry, data);
     }
     if data.len() != fields.op.data_length(fields.nlb, fields.nr, size) {
         return Err(Code::BadLength);
     }
-    let Ok(payload) = payload_of(alloc, data) else {
-        return Err(Code::NoMemory);
-    };
-    Ok(Command {
+    match payload_of(alloc, data, &mut Payload::empty()) {
+        Ok(payload) => Ok(command_with(&fields, payload)),
+        Err(_) => Err(Code::NoMemory),
+    }
+}
+
+/// The command of an entry with these fields, and of this data.
+pub(crate) fn command_with(fields: &EntryFields, payload: Payload) -> Command
+    ensures { result ≡ command_lent fields.now payload }
+{
+    Command {
         cid: fields.cid,
         nsid: fields.nsid,
         fuse: fields.fuse,
@@ -145,16 +166,26 @@ fn command_of(alloc: Global, size: BlockSize, entry: &[u8], data: &[u8]) -> Resu
         slba: fields.slba,
         nlb: fields.nlb,
         payload,
-    })
+    }
 }
 
-/// The bytes, copied. No bytes take no memory.
-fn payload_of(alloc: Global, data: &[u8]) -> Result<Payload, NoMemory>
+/// The bytes, copied into the memory of the spare data where that is as long, and else into new. No bytes take no memory.
+#[inline(always)]
+pub(crate) fn payload_of(
+    alloc: Global,
+    data: &[u8],
+    spare: &mut Payload,
+) -> Result<Payload, NoMemory>
     ensures { IfOk result (λ p. p ≡ data.now) }
 {
     if data.is_empty() {
         return Ok(Payload::empty());
     }
+    if spare.overwrite(data) {
+        return Ok(replace(spare, Payload::empty()));
+    }
+    // A block that shares the spare data has it for itself from now on.
+    *spare = Payload::empty();
     Payload::copy_of(alloc, data)
 }
 

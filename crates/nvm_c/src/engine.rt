@@ -15,13 +15,13 @@ ghost use Rattle.nvm_c.specs.Logs.{HasRoomIn, kept_by};
 ghost use Rattle.nvm_c.specs.Submitted.{Polls, Progresses, Submits};
 ghost use Rattle.nvm_c.specs.Told.{FitEntries, posted_length, told_length};
 
-use crate::asking::{asked_alone, asked_job, is_plain};
+use crate::asking::{asked_job, is_plain};
 use crate::code::Code;
 use crate::log::{Log, draw, keep};
 use crate::quiet::Quiet;
 use crate::telling::{entries_length, tell};
 use nvm_plan::{Body, Job};
-use nvm_record::Op;
+use nvm_record::{Op, Payload};
 use nvm_space::{JobUnderWay, Port, Progress, Space};
 use nvm_unit::Count;
 use std::alloc::Global;
@@ -35,6 +35,10 @@ pub struct Engine {
     /// The number of the next job, where the namespace isn't recorded.
     pub(crate) number: u32,
     pub(crate) pending: Option<Pending>,
+    /// Data of a command that was done, whose memory the next one's takes.
+    pub(crate) spare: Payload,
+    /// The same of what a pair's Compare had.
+    pub(crate) compared: Payload,
     /// What it did, where the namespace is recorded.
     pub(crate) log: Option<Log>,
 }
@@ -67,23 +71,21 @@ impl Engine {
             None => {}
         }
         let host = self.port.number() + 1;
-        if !is_plain(entries) {
-            return self.submit_apart(alloc, host, entries, data, posted);
-        }
-        match asked_alone(alloc, self.space.geometry().block_size(), entries, data) {
-            Ok(command) => {
-                let body = Body::Single(command);
-                let mut held = Some(Job { host, body });
-                self.begin(alloc, &mut held, data, posted)
+        if self.log.is_none() && self.space.limit().is_none() {
+            if is_plain(entries) {
+                return self.submit_command(alloc, host, entries, data, posted);
             }
-            Err(code) => code,
+            if entries.len() == 128 {
+                return self.submit_pair(alloc, host, entries, data, posted);
+            }
         }
+        self.submit_job(alloc, host, entries, data, posted)
     }
 
-    /// Begins the job of a fused pair or of a command with ranges, and goes on with it.
-    // Not inlined, since any other command would clear the room that this takes.
+    /// Makes the job that the entries ask for, and begins it.
+    // Not inlined, since a command that is done at once would clear the room that this takes.
     #[inline(never)]
-    fn submit_apart(
+    pub(crate) fn submit_job(
         &mut self,
         alloc: Global,
         host: u16,
@@ -126,7 +128,6 @@ impl Engine {
             → Submits result self.old self.new entries
             (record { bytes = data.old; posted = posted.old }) (record { bytes = data.new; posted = posted.new })) }
     {
-        told_statuses_fit_their_entries();
         let Some(job) = &*held else {
             unreachable!("a job is held")
         };
@@ -135,6 +136,38 @@ impl Engine {
         }
         let Ok(number) = draw(&mut self.number, &mut self.log) else {
             return Code::NoMemory;
+        };
+        self.begin_numbered(alloc, number, held, data, posted)
+    }
+
+    /// Begins a job of this number, as `begin` does.
+    // Not inlined, for the same reason.
+    #[inline(never)]
+    pub(crate) fn begin_numbered(
+        &mut self,
+        alloc: Global,
+        number: u32,
+        held: &mut Option<Job>,
+        data: &mut [u8],
+        posted: &mut [u8],
+    ) -> Code
+        requires of { IsPortOf (space_of self.old) self.old.port }
+        requires few { self.old.port.number < 64 }
+        requires idle { self.old.pending ≡ None }
+        requires held { IsSome held.old }
+        requires fits { IfSome held.old (λ job. FitsNamespace (namespace_of self.old) job) }
+        requires log { HasRoomIn self.old.log }
+        requires room { IfSome held.old (λ job. length posted.old ≡ posted_length job.body) }
+        ensures sound { IsSound self.new }
+        ensures space { space_of self.new ≡ space_of self.old }
+        ensures number { self.new.number ≡ self.old.number }
+        ensures progress { IfSome held.old (λ job. Progresses result (space_of self.old) number job (seen_by self.old) (seen_by self.new)
+            self.new.pending (kept_by self.old.log) (kept_by self.new.log)
+            (record { bytes = data.old; posted = posted.old }) (record { bytes = data.new; posted = posted.new })) }
+    {
+        told_statuses_fit_their_entries();
+        let Some(job) = &*held else {
+            unreachable!("a job is held")
         };
         match self.space.begin_job(alloc, number, job) {
             Progress::Done(done) => {
@@ -243,7 +276,7 @@ fn room(job: &Job, space: &Space<Count>) -> usize {
 }
 
 /// Each status of a job that was done fits its entry, and there is an entry for each of the job's commands.
-fn told_statuses_fit_their_entries()
+pub(crate) fn told_statuses_fit_their_entries()
     ensures fit { (ns : Namespace) (lists : Bool) (number : ℕ) (job : Asked) (start now : List PassView) (done : Told)
         → DoesJob ns lists number job start now done → FitEntries done.completions }
     ensures each { (ns : Namespace) (lists : Bool) (number : ℕ) (job : Asked) (start now : List PassView) (done : Told)

@@ -6,6 +6,7 @@
 
 mod address;
 mod asking;
+mod at_once;
 mod audit_code;
 mod auditing;
 mod code;

@@ -18,6 +18,7 @@ pub(crate) fn entries_length(job: &Job) -> usize
 }
 
 /// Writes the completions' entries into `posted`, and what a Read read into the front of `data`.
+#[inline(always)]
 pub(crate) fn tell(completions: &Completions, data: &mut [u8], posted: &mut [u8])
     requires fit { FitEntries completions.now }
     requires room { length posted.old ≡ spec.told_length completions.now }

@@ -19,3 +19,4 @@ pub mod DataTold
 pub mod JobsFit
 pub mod JobParts
 pub mod ReachOfJobs
+pub mod OnlyParts

@@ -7,6 +7,7 @@ pub mod Fits
 pub mod UnitPlace
 pub mod JobPart
 pub mod LentPart
+pub mod OnlyPart
 pub mod Kinds
 pub mod Reply
 pub mod CallOf

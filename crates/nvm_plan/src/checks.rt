@@ -14,7 +14,7 @@ use nvm_geometry::laws::sharing_is_one_number;
 use nvm_record::{Command, Fuse, Op, Status, Statuses};
 
 /// The identifier of the one namespace that there is.
-const NAMESPACE_IDENTIFIER: u32 = 1;
+pub(crate) const NAMESPACE_IDENTIFIER: u32 = 1;
 
 /// Looks for the first check that applies to the job, which refuses it with that check's statuses: one
 /// for a single command, two for a pair. It takes no memory.

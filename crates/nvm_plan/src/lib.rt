@@ -3,7 +3,7 @@
 //!
 //! [`jobs`] pairs the hosts' commands and puts them in order, [`plan`] is the table of checks, and [`fits`]
 //! tests what a job must be before it. [`job_units`] are the units in which a job has a part, [`job_part_in`] is its
-//! act or look in one of them, [`Kind`] says what its parts do and how they can end, and [`Completions`] are what is reported
+//! act or look in one of them, [`only_part`] that of a command that lies in one unit, [`Kind`] says what its parts do and how they can end, and [`Completions`] are what is reported
 //! to its host. Where it is known that no check applies, [`ready_job_units`], [`ready_part_count`], [`next_job_unit`]
 //! and [`job_part_there`] do without another plan. What a job does to the medium and what
 //! its outcome is, only specs say; [`laws`] and [`job_laws`] have what holds of these.
@@ -18,6 +18,7 @@ pub mod job_laws;
 mod job_list;
 mod kind;
 pub mod laws;
+mod lent_command;
 mod lent_part;
 mod pairing;
 mod part;
@@ -33,6 +34,7 @@ pub use fit::{MOST_HOSTS, fits};
 pub use job::{Body, Job};
 pub use job_list::jobs;
 pub use kind::{Kind, is_read};
+pub use lent_command::{only_part, only_part_of_pair};
 pub use lent_part::{LentPart, job_part_in, job_part_there};
 pub use part::{Part, PartResult};
 pub use place::unit_place;

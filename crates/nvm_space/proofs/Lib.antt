@@ -9,6 +9,7 @@ pub mod DeedLemmas
 pub mod PartReplies
 pub mod Waiting
 pub mod PartByPart
+pub mod OnlyParts
 pub mod NextParts
 pub mod PortsKept
 pub mod AtUnits

@@ -4,6 +4,7 @@ pub mod Visits
 pub mod Trace
 pub mod UnderWay
 pub mod Progress
+pub mod AtOnce
 pub mod ReadNow
 pub mod Closing
 pub mod Shuffle

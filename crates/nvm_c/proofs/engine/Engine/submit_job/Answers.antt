@@ -3,7 +3,7 @@ use Rattle.nvm_geometry.specs.Namespace.{Namespace}
 use Rattle.nvm_space.specs.Spaces.{SpaceName}
 use Rattle.nvm_c.specs.Asked.{IsAsked}
 use Rattle.nvm_c.specs.Engines.{namespace_of}
-use Rattle.nvm_c.proofs.engine.Engine.submit_apart.Goals as goal
+use Rattle.nvm_c.proofs.engine.Engine.submit_job.Goals as goal
 
 pub returns-in-Ok-clause-submits : goal.returns-in-Ok-clause-submits
 returns-in-Ok-clause-submits c =

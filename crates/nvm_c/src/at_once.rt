@@ -1,0 +1,304 @@
+//! Commands that are done as they are submitted: one by itself, or a fused pair, that lies in one unit which is free.
+ghost use Rattle.std.specs.Prelude.{◌≡◌, ◌+◌, ◌*◌, ℕ, List, [], IsTrue, None, false, length};
+ghost use Rattle.std.specs.Bool.{OnTrue};
+ghost use Rattle.nvm_record.specs.Entry.{data_length};
+ghost use Rattle.nvm_record.specs.Op.{carries_ranges};
+ghost use Rattle.nvm_plan.specs.Completions.{completions_of};
+ghost use Rattle.nvm_plan.specs.Profile.{IsFusedPair};
+ghost use Rattle.nvm_plan.specs.OnlyPart.{command_lent};
+ghost use Rattle.nvm_plan.specs.Shape.{IsForEach};
+ghost use Rattle.nvm_plan.specs.declared.job.Body.TheVariants.{Pair, Single};
+ghost use Rattle.nvm_plan.specs.declared.job.Job.{Job as Asked};
+ghost use Rattle.nvm_c.specs.Asked as spec;
+ghost use Rattle.nvm_c.specs.Engines.{IsSound, space_of};
+ghost use Rattle.nvm_c.specs.Submitted.{Submits};
+
+use crate::asking::{command_with, payload_of, plain_fields, reads, sent_with};
+use crate::code::Code;
+use crate::engine::{Engine, Pending, told_statuses_fit_their_entries};
+use crate::log::draw;
+use crate::quiet::Quiet;
+use crate::telling::tell;
+use nvm_plan::{Body, Completions, Job};
+use nvm_record::{
+    BlockSize, Completion, EntryFields, Fuse, Op, Payload, ReadData, Status, Statuses,
+};
+use nvm_space::{AtOnce, JobDone};
+use std::alloc::Global;
+
+impl Engine {
+    /// Submits a command by itself without ranges.
+    #[inline(always)]
+    pub(crate) fn submit_command(
+        &mut self,
+        alloc: Global,
+        host: u16,
+        entry: &[u8],
+        data: &mut [u8],
+        posted: &mut [u8],
+    ) -> Code
+        requires sound { IsSound self.old }
+        requires idle { self.old.pending ≡ None }
+        requires unrecorded { self.old.log ≡ None }
+        requires unlisted { (space_of self.old).lists ≡ false }
+        requires host { host ≡ self.old.port.number + 1 }
+        requires one { length entry.now ≡ 64 }
+        requires plain { carries_ranges (spec.op_in entry.now) ≡ false }
+        ensures sound { IsSound self.new }
+        ensures submits { Submits result self.old self.new entry.now
+            (record { bytes = data.old; posted = posted.old }) (record { bytes = data.new; posted = posted.new }) }
+    {
+        told_statuses_fit_their_entries();
+        let fields = plain_fields(entry);
+        let size = self.space.geometry().block_size();
+        if !fits_buffer(&fields, size, data) || posted.len() != 16 {
+            return Code::BadLength;
+        }
+        let Ok(payload) = payload_of(alloc, sent_with(fields.op, data), &mut self.spare) else {
+            return Code::NoMemory;
+        };
+        let Ok(number) = draw(&mut self.number, &mut self.log) else {
+            return Code::NoMemory;
+        };
+        match self.space.poll_command(
+            alloc,
+            &mut self.port,
+            number,
+            &fields,
+            payload.lend(),
+            &Quiet,
+        ) {
+            AtOnce::Done {
+                statuses,
+                payload: read,
+            } => {
+                let done = command_done(alloc, host, &fields, statuses, read);
+                tell(&done.completions, data, posted);
+                keep_memory(&mut self.spare, payload);
+                Code::Done
+            }
+            AtOnce::Pending(under_way) => {
+                let job = job_of(host, &fields, payload);
+                self.pending = Some(Pending {
+                    number,
+                    job,
+                    under_way,
+                });
+                Code::Pending
+            }
+            AtOnce::Apart => {
+                let mut held = Some(job_of(host, &fields, payload));
+                self.begin_numbered(alloc, number, &mut held, data, posted)
+            }
+        }
+    }
+
+    /// Submits a fused pair of a Compare and a Write.
+    #[inline(never)]
+    pub(crate) fn submit_pair(
+        &mut self,
+        alloc: Global,
+        host: u16,
+        entries: &[u8],
+        data: &mut [u8],
+        posted: &mut [u8],
+    ) -> Code
+        requires sound { IsSound self.old }
+        requires idle { self.old.pending ≡ None }
+        requires unrecorded { self.old.log ≡ None }
+        requires unlisted { (space_of self.old).lists ≡ false }
+        requires host { host ≡ self.old.port.number + 1 }
+        requires two { length entries.now ≡ 128 }
+        ensures sound { IsSound self.new }
+        ensures submits { Submits result self.old self.new entries.now
+            (record { bytes = data.old; posted = posted.old }) (record { bytes = data.new; posted = posted.new }) }
+    {
+        told_statuses_fit_their_entries();
+        let (first, second) = entries.split_at(64);
+        let compare = plain_fields(first);
+        let write = plain_fields(second);
+        if !are_fused(&compare, &write) {
+            return self.submit_job(alloc, host, entries, data, posted);
+        }
+        let size = self.space.geometry().block_size();
+        let called = compare.op.data_length(compare.nlb, compare.nr, size);
+        if data.len() < called || posted.len() != 32 {
+            return Code::BadLength;
+        }
+        let (front, rest) = data.split_at(called);
+        if rest.len() != write.op.data_length(write.nlb, write.nr, size) {
+            return Code::BadLength;
+        }
+        let Ok(compared) = payload_of(alloc, front, &mut self.compared) else {
+            return Code::NoMemory;
+        };
+        let Ok(written) = payload_of(alloc, rest, &mut self.spare) else {
+            return Code::NoMemory;
+        };
+        let Ok(number) = draw(&mut self.number, &mut self.log) else {
+            return Code::NoMemory;
+        };
+        match self.space.poll_pair(
+            alloc,
+            &mut self.port,
+            number,
+            &compare,
+            &write,
+            compared.lend(),
+            written.lend(),
+            &Quiet,
+        ) {
+            AtOnce::Done {
+                statuses,
+                payload: _,
+            } => {
+                let done = pair_done(alloc, host, &compare, &write, statuses);
+                tell(&done.completions, data, posted);
+                keep_memory(&mut self.compared, compared);
+                keep_memory(&mut self.spare, written);
+                Code::Done
+            }
+            AtOnce::Pending(under_way) => {
+                let job = job_of_pair(host, &compare, &write, compared, written);
+                self.pending = Some(Pending {
+                    number,
+                    job,
+                    under_way,
+                });
+                Code::Pending
+            }
+            AtOnce::Apart => {
+                let mut held = Some(job_of_pair(host, &compare, &write, compared, written));
+                self.begin_numbered(alloc, number, &mut held, data, posted)
+            }
+        }
+    }
+}
+
+/// Keeps the memory of data that isn't needed any more, if it has some, for that of a later command.
+fn keep_memory(spare: &mut Payload, data: Payload) {
+    if !data.is_empty() {
+        *spare = data;
+    }
+}
+
+/// Whether they are a Compare and a Write that are the first and the second of a fused pair.
+fn are_fused(compare: &EntryFields, write: &EntryFields) -> bool
+    ensures plain { OnTrue result ((carries_ranges compare.now.op ≡ false) × (carries_ranges write.now.op ≡ false)) }
+    ensures fused { OnTrue result ((compared written : List ℕ) → IsFusedPair (command_lent compare.now compared) (command_lent write.now written)) }
+{
+    compare.op == Op::Compare
+        && write.op == Op::Write
+        && compare.fuse == Fuse::First
+        && write.fuse == Fuse::Second
+}
+
+/// Whether the buffer is as long as the command calls for: as what a Read reads, or the data of any other.
+fn fits_buffer(fields: &EntryFields, size: BlockSize, data: &[u8]) -> bool
+    ensures sent { OnTrue result (length (spec.sent_with fields.now.op data.now) ≡ data_length size fields.now.op fields.now.nlb fields.now.nr) }
+    ensures read { OnTrue result (IsTrue (spec.reads fields.now.op) → length data.now ≡ (fields.now.nlb + 1) * size) }
+{
+    if reads(fields.op) {
+        data.len() == (usize::from(fields.nlb) + 1) * size.bytes() as usize
+    } else {
+        data.len() == fields.op.data_length(fields.nlb, fields.nr, size)
+    }
+}
+
+/// What is reported about the job of a command by itself.
+#[inline(always)]
+fn command_done(
+    alloc: Global,
+    host: u16,
+    fields: &EntryFields,
+    statuses: Statuses,
+    payload: Option<ReadData>,
+) -> JobDone
+    requires { (bytes : List ℕ) × IsForEach (Single (command_lent fields.now bytes)) statuses }
+    ensures completions { (job : Asked) (bytes : List ℕ) → job ≡ record { host = host; body = Single (command_lent fields.now bytes) }
+        → result.completions ≡ completions_of job statuses payload }
+    ensures parts { result.parts.items ≡ [] }
+{
+    let Statuses::One(status) = statuses else {
+        unreachable!("a command by itself has one status")
+    };
+    JobDone {
+        completions: Completions::One(Completion {
+            host,
+            cid: fields.cid,
+            status,
+            payload,
+        }),
+        parts: Vec::new(alloc),
+    }
+}
+
+/// What is reported about the job of a pair.
+#[inline(always)]
+fn pair_done(
+    alloc: Global,
+    host: u16,
+    compare: &EntryFields,
+    write: &EntryFields,
+    statuses: Statuses,
+) -> JobDone
+    requires { (compared written : List ℕ) × IsForEach (Pair (command_lent compare.now compared) (command_lent write.now written)) statuses }
+    ensures completions { (job : Asked) (compared written : List ℕ)
+        → job ≡ record { host = host; body = Pair (command_lent compare.now compared) (command_lent write.now written) }
+        → result.completions ≡ completions_of job statuses None }
+    ensures parts { result.parts.items ≡ [] }
+{
+    let Statuses::Two(first, second) = statuses else {
+        unreachable!("a pair has two statuses")
+    };
+    JobDone {
+        completions: Completions::Two(
+            completion(host, compare, first),
+            completion(host, write, second),
+        ),
+        parts: Vec::new(alloc),
+    }
+}
+
+/// The completion of a command that reads nothing.
+fn completion(host: u16, fields: &EntryFields, status: Status) -> Completion
+    ensures { result ≡ record { host = host; cid = fields.now.cid; status = status; payload = None } }
+{
+    Completion {
+        host,
+        cid: fields.cid,
+        status,
+        payload: None,
+    }
+}
+
+/// The job of a command by itself.
+#[inline(never)]
+fn job_of(host: u16, fields: &EntryFields, payload: Payload) -> Job
+    ensures { result ≡ record { host = host; body = Single (command_lent fields.now payload) } }
+{
+    Job {
+        host,
+        body: Body::Single(command_with(fields, payload)),
+    }
+}
+
+/// The job of a pair.
+#[inline(never)]
+fn job_of_pair(
+    host: u16,
+    compare: &EntryFields,
+    write: &EntryFields,
+    compared: Payload,
+    written: Payload,
+) -> Job
+    ensures { result ≡ record { host = host; body = Pair (command_lent compare.now compared) (command_lent write.now written) } }
+{
+    Job {
+        host,
+        body: Body::Pair(
+            command_with(compare, compared),
+            command_with(write, written),
+        ),
+    }
+}
