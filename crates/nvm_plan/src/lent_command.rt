@@ -59,8 +59,8 @@ pub fn only_part<'a>(
     Some((geometry.unit_of(fields.slba), part))
 }
 
-/// The only part of the job of a fused pair, with its unit, as [`only_part`] gives that of a command by itself. It is `None` where a check refuses
-/// the pair, and where the two commands aren't the first and the second of one.
+/// The only part of the job of a fused pair, with its unit, as [`only_part`] gives that of a command by itself. It may be `None`; as it is written it is
+/// so where a check refuses the pair, and where the two commands aren't the first and the second of one.
 #[inline(always)]
 pub fn only_part_of_pair<'a>(
     geometry: &Geometry,

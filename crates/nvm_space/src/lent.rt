@@ -42,14 +42,14 @@ use std::alloc::Global;
 /// What became of a job that was to be done at once.
 #[derive(Drop)]
 pub enum AtOnce {
-    /// It was done, as one step of its unit, and this is reported to its host.
+    /// It was done, and this is reported to its host.
     Done {
         /// A status for each of its commands.
         statuses: Statuses,
         /// The data of a Read of status 0/00.
         payload: Option<ReadData>,
     },
-    /// Its unit was not to be had: it is under way, with no part done, and [`Space::poll_job`](crate::Space::poll_job) resumes it.
+    /// It is under way, since its unit was not to be had, and [`Space::poll_job`](crate::Space::poll_job) resumes it.
     Pending(JobUnderWay),
     /// It isn't done at once, and nothing was done.
     Apart,

@@ -25,6 +25,7 @@ pub struct PartReply {
 ghost use Rattle.nvm_space.specs.Inside.Parts.{IsGathered, reply_told};
 
 /// What is reported about a change.
+#[inline(always)]
 pub(crate) fn reply_of_change(unit: u16, act: ActRef<'_>, changed: Changed) -> PartReply
     ensures { reply_told result ≡ spec.reply_of_change unit (lent_operation_of act.entry).deed changed }
 {
@@ -44,6 +45,7 @@ pub(crate) fn reply_of_change(unit: u16, act: ActRef<'_>, changed: Changed) -> P
 }
 
 /// What is reported about a look.
+#[inline(always)]
 pub(crate) fn reply_of_look(
     unit: u16,
     look: Look<'_>,

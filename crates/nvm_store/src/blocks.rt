@@ -83,7 +83,8 @@ impl Blocks {
         })
     }
 
-    /// The `count` blocks from place `at` take the data, in blocks of `size` bytes, as parts of the payload.
+    /// The `count` blocks from place `at` take the data, in blocks of `size` bytes: one that is alone into its own memory if it can, and else as parts of the payload.
+    #[inline(always)]
     pub fn write(
         &mut self,
         alloc: Global,
@@ -190,6 +191,7 @@ impl Blocks {
     }
 
     /// The stored blocks from place `from`, as far as they are in one leaf, and at most `most`.
+    #[inline(always)]
     fn stretch(&self, from: usize, most: usize) -> &[StoredBlock]
         requires some { 0 < most }
         requires range { from + most ≤ length self.now }
@@ -203,6 +205,7 @@ impl Blocks {
     }
 
     /// Puts a block at place `at`.
+    #[inline(always)]
     fn set(&mut self, alloc: Global, at: usize, block: StoredBlock) -> Result<(), NoMemory>
         requires { at < length self.old }
         ensures ok { OnOk result (self.new ≡ slice_set self.old at block) }

@@ -20,6 +20,7 @@ use std::alloc::Global;
 /// The statuses that the act's command, or its two commands, complete with on these blocks: 0/00 for a
 /// single command. A pair has its comparison's status first, and then 0/00 where that is 0/00, else 0/09.
 /// It takes no memory, and changes nothing.
+#[inline(always)]
 pub fn judge(unit: &UnitBlocks, act: ActRef<'_>) -> Statuses
     requires { Covers unit.now (lent_operation_of act) }
     ensures { (m : Medium) → Holds unit.now m
@@ -77,6 +78,7 @@ pub fn apply(alloc: Global, unit: &UnitBlocks, act: ActRef<'_>) -> Result<UnitBl
 
 /// What the look is answered on these blocks. A Read's data has its room reserved once, at its full
 /// length. A Read that fails takes no memory, and a Compare takes none: it is always answered.
+#[inline(always)]
 pub fn answer(alloc: Global, unit: &UnitBlocks, look: Look<'_>) -> Result<Answer, NoMemory>
     requires { Covers unit.now (look_operation_of look) }
     ensures step { IfOk result (λ answer. (m : Medium) → Holds unit.now m

@@ -24,7 +24,7 @@ use std::marker::Model;
 /// The blocks of one unit, which lie on neighbouring LBAs of the namespace.
 ///
 /// Contracts see the first LBA, the block size in bytes, and the list of the blocks. A block's data is a
-/// part of the payload that was written, and copies of the unit share all blocks.
+/// part of the payload that was written, or a copy in memory of its own. Copies of the unit share all blocks.
 #[derive(Debug, Drop)]
 pub struct UnitBlocks {
     first: u64,
@@ -114,6 +114,7 @@ impl UnitBlocks {
     /// blocks that it clears. Where no other unit shares them, these are changed in place: one block that is
     /// written, and blocks of one leaf that are zeroed, marked, or cleared as the only run of a Deallocate.
     /// Where memory is refused, the unit is as it was.
+    #[inline(always)]
     pub fn change(&mut self, alloc: Global, act: ActRef<'_>) -> Result<(), NoMemory>
         requires covered { Covers self.old (lent_operation_of act) }
         requires success { Succeeds self.old (lent_operation_of act) }
@@ -152,6 +153,7 @@ impl UnitBlocks {
     }
 
     /// The `blocks` LBAs from `first` take the data.
+    #[inline(always)]
     fn write(
         &mut self,
         alloc: Global,

@@ -17,6 +17,7 @@ use std::alloc::Global;
 
 /// Does the act on the book, unless it is a pair whose comparison fails, the history is at its limit, or
 /// memory is refused.
+#[inline(always)]
 pub(crate) fn attempt<K: Kept>(
     alloc: Global,
     book: &mut Book<K>,
@@ -47,6 +48,7 @@ pub(crate) fn attempt<K: Kept>(
 }
 
 /// Asks the blocks, which are those at this point.
+#[inline(always)]
 pub(crate) fn observed(
     alloc: Global,
     point: u64,

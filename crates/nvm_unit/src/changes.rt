@@ -78,6 +78,7 @@ impl<K: Kept> Unit<K> {
     /// A [`change`](Unit::change) in pieces, for callers that may not wait: `None` says that the unit was not free,
     /// and the same call can be made again. All calls of one change leave one mark together, which is that of the last. Only
     /// the last calls the gate.
+    #[inline(always)]
     pub fn poll_change<G: Gate>(
         &self,
         alloc: Global,

@@ -47,6 +47,7 @@ impl<K: Kept> Unit<K> {
 
     /// An [`observe`](Unit::observe) in pieces, for callers that may not wait: `None` says that the unit was not free,
     /// and the same call can be made again. All calls of one look leave one mark together, which is that of the last.
+    #[inline(always)]
     pub fn poll_observe<G: Gate>(
         &self,
         alloc: Global,

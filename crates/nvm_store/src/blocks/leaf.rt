@@ -38,11 +38,12 @@ impl Leaf {
     }
 
     /// Puts a block at place `at`.
+    #[inline(always)]
     fn put(&mut self, at: usize, block: StoredBlock)
         requires { at < length self.old }
         ensures { self.new ≡ slice_set self.old at block }
     {
-        self.kept[at].put(block);
+        self.kept[at] = block;
     }
 }
 
@@ -54,7 +55,7 @@ impl Tree for Leaf {
     }
 
     fn set(&mut self, _alloc: Global, at: usize, block: StoredBlock) -> Result<(), NoMemory> {
-        self.put(at, block);
+        self.kept[at].put(block);
         Ok(())
     }
 

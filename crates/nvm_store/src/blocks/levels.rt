@@ -79,6 +79,7 @@ impl Levels {
     }
 
     /// Puts a block at place `at`. Where memory is refused, all blocks are as they were.
+    #[inline(always)]
     pub fn set(&mut self, alloc: Global, at: usize, block: StoredBlock) -> Result<(), NoMemory>
         requires { at < length (blocks_of self.old) }
         ensures ok { OnOk result (blocks_of self.new ≡ slice_set (blocks_of self.old) at block) }

@@ -34,6 +34,7 @@ impl Source {
     }
 
     /// The block for place `i` of the range. It takes no memory.
+    #[inline(always)]
     pub fn block(&self, i: usize) -> Result<StoredBlock, NoMemory>
         requires { HasBlocks self.now (i + 1) }
         ensures { IfOk result (λ block. block ≡ source_block self.now i) }

@@ -65,6 +65,7 @@ impl StoredBlock {
 
     /// Becomes the other block. Data that nobody shares takes the other's bytes where they are as many, so that what wrote them has its
     /// memory for itself again.
+    #[inline(always)]
     pub fn put(&mut self, block: StoredBlock)
         ensures { self.new ≡ block }
     {

@@ -72,6 +72,7 @@ pub trait Tree: Drop {
 
 /// Puts a block at place `at` of the node, in the node itself where nobody shares it, and else in a copy.
 /// Where memory is refused, all blocks are as they were.
+#[inline(always)]
 pub fn set_in<T: Tree>(
     node: &mut Arc<T>,
     alloc: Global,
