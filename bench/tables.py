@@ -5,6 +5,8 @@ import platform
 
 # The largest slope that is still linear.
 SLOPE_ALLOWED = 1.1
+# For GLIBC_TUNABLES: else memset and memcpy of the C library have one instruction for a large piece, which valgrind counts once for each byte.
+NO_REP = "glibc.cpu.x86_rep_stosb_threshold=4294967296:glibc.cpu.x86_rep_movsb_threshold=4294967296"
 
 
 class Series:
