@@ -5,11 +5,10 @@ ghost use Rattle.nvm_points.specs.PointView.{seen_table};
 
 use crate::judgment::Judgment;
 use nvm_contradiction::{ContradictionFault, contradicts};
-use nvm_contradiction_search::contradiction_of;
-use nvm_order_search::{Stop, order_of};
 use nvm_orders::{OrderFault, explains};
 use nvm_points::{Held, Points, PointsFault, Profile, points_of};
 use nvm_record::NoMemory;
+use nvm_search::{Stop, contradiction_of, order_of};
 use nvm_trace::{Reads, Trace};
 use std::alloc::{AllocError, Global};
 

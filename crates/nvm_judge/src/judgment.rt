@@ -1,6 +1,6 @@
 use nvm_contradiction::Contradiction;
-use nvm_order_search::Stop;
 use nvm_orders::Order;
+use nvm_search::Stop;
 
 /// What was found out about a trace.
 #[derive(Debug, Drop)]

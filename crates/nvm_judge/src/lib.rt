@@ -17,6 +17,6 @@ pub use check_fault::CheckFault;
 pub use checking::check_order;
 pub use judging::{judge, profile_of};
 pub use judgment::Judgment;
-pub use nvm_order_search::Stop;
+pub use nvm_search::Stop;
 pub use refute_fault::RefuteFault;
 pub use refuting::check_contradiction;

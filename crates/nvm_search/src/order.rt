@@ -1,0 +1,21 @@
+//! The search for an order of points that explains a trace.
+//!
+//! [`order_of`] cuts the namespace where no entry joins two blocks, searches an order of the points of each part by itself, and merges
+//! them. Moves that look right are tried first, and where they lead to no order every one.
+
+mod acts;
+mod derivation;
+mod lists;
+mod making;
+mod merging;
+mod parts;
+mod precedence;
+mod ranks;
+mod search;
+mod slots;
+mod state;
+mod stop;
+mod together;
+
+pub use merging::order_of;
+pub use stop::Stop;

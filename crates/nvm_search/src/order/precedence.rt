@@ -1,0 +1,365 @@
+//! Which acts come before which.
+use crate::numbers::{Numbers, to_u32};
+use crate::order::state::State;
+use nvm_record::NoMemory;
+use std::alloc::Global;
+
+/// How many words all rows may have together.
+const MOST_WORDS: u32 = 1 << 23;
+
+/// What comes before what among nodes, which are acts by beginning. It is closed: what comes before something comes before all that this
+/// comes before. Of each node only those are kept that its times leave open.
+#[derive(Drop)]
+pub struct Precedence {
+    /// The beginnings of the nodes, and their ends.
+    from: Numbers,
+    until: Numbers,
+    /// The first and the last word of each node's rows, and where its row stands among all words.
+    first: Numbers,
+    last: Numbers,
+    row: Numbers,
+    /// How many words there are. Rows of what comes after a node come first, and those of what comes before it so many words later.
+    words: u32,
+    bits: State,
+    /// Pairs that were found and whose consequences weren't drawn yet.
+    found: Vec<(u32, u32)>,
+    /// Whether something would have to come before itself.
+    is_absurd: bool,
+}
+
+/// The bit of a node in its word.
+fn bit(node: u32) -> u32 {
+    1u32 << (node % 32)
+}
+
+impl Precedence {
+    /// Nodes of these beginnings, rising, and ends, of which nothing but their times is known. None where there are too many.
+    pub fn new(alloc: Global, times: &Vec<(u32, u32)>) -> Result<Option<Precedence>, NoMemory> {
+        let count = times.len();
+        let mut made = Precedence {
+            from: Numbers::new(alloc, count, 0)?,
+            until: Numbers::new(alloc, count, 0)?,
+            first: Numbers::new(alloc, count, 0)?,
+            last: Numbers::new(alloc, count, 0)?,
+            row: Numbers::new(alloc, count, 0)?,
+            words: 0,
+            bits: State::new(alloc, 0)?,
+            found: Vec::new(alloc),
+            is_absurd: false,
+        };
+        let ends = ends_up_to(alloc, times)?;
+        for node in 0..to_u32(count) {
+            let Some(time) = times.get(node as usize) else {
+                break;
+            };
+            let (from, until) = *time;
+            let first = ends.partition_point(|end| *end < from);
+            let last = times
+                .partition_point(|time| time.0 <= until)
+                .saturating_sub(1);
+            made.from.put(node, from);
+            made.until.put(node, until);
+            made.first.put(node, to_u32(first) / 32);
+            made.last.put(node, to_u32(last) / 32);
+            made.row.put(node, made.words);
+            let words = (to_u32(last) / 32)
+                .saturating_sub(to_u32(first) / 32)
+                .saturating_add(1);
+            made.words = made.words.saturating_add(words);
+            if made.words > MOST_WORDS {
+                return Ok(None);
+            }
+        }
+        let words = (made.words as usize).saturating_mul(2);
+        made.bits = State::new(
+            alloc,
+            words
+                .saturating_add(count / 32)
+                .saturating_add(2)
+                .saturating_add(count.saturating_mul(2)),
+        )?;
+        made.note_times()?;
+        Ok(Some(made))
+    }
+
+    /// How many nodes there are.
+    pub fn count(&self) -> u32 {
+        to_u32(self.from.len())
+    }
+
+    /// Notes what the times say where rows have it.
+    fn note_times(&mut self) -> Result<(), NoMemory> {
+        for node in 0..self.count() {
+            let place = self.end_place(node);
+            self.bits.set(place, self.until.at(node))?;
+            for word in self.first.at(node)..self.last.at(node).saturating_add(1) {
+                let mut before = 0u32;
+                let mut after = 0u32;
+                for place in 0..32u32 {
+                    let other = word.saturating_mul(32).saturating_add(place);
+                    if other >= self.count() {
+                        break;
+                    }
+                    if self.until.at(other) < self.from.at(node) {
+                        before |= bit(other);
+                    }
+                    if self.until.at(node) < self.from.at(other) {
+                        after |= bit(other);
+                    }
+                }
+                let place = self
+                    .row
+                    .at(node)
+                    .saturating_add(word.saturating_sub(self.first.at(node)));
+                self.bits.set(place, after)?;
+                self.bits.set(place.saturating_add(self.words), before)?;
+            }
+        }
+        Ok(())
+    }
+
+    /// Where a word of a node's row of what comes after it stands.
+    fn place(&self, node: u32, word: u32) -> u32 {
+        self.row
+            .at(node)
+            .saturating_add(word.saturating_sub(self.first.at(node)))
+    }
+
+    /// The nodes of a word.
+    fn nodes_of(&self, word: u32) -> u32 {
+        let left = self.count().saturating_sub(word.saturating_mul(32));
+        if left >= 32 {
+            u32::MAX
+        } else {
+            bit(left).wrapping_sub(1)
+        }
+    }
+
+    /// Which nodes of a word come after the node.
+    pub fn after(&self, node: u32, word: u32) -> u32 {
+        if word < self.first.at(node) {
+            return 0;
+        }
+        if word > self.last.at(node) {
+            return self.nodes_of(word);
+        }
+        self.bits.at(self.place(node, word))
+    }
+
+    /// Which nodes of a word come before the node.
+    pub fn before(&self, node: u32, word: u32) -> u32 {
+        if word < self.first.at(node) {
+            return u32::MAX;
+        }
+        if word > self.last.at(node) {
+            return 0;
+        }
+        self.bits
+            .at(self.place(node, word).saturating_add(self.words))
+    }
+
+    /// The first word of what the node's times leave open, and the last.
+    pub fn first_word(&self, node: u32) -> u32 {
+        self.first.at(node)
+    }
+
+    pub fn last_word(&self, node: u32) -> u32 {
+        self.last.at(node)
+    }
+
+    /// Whether the one comes before the other.
+    pub fn is_before(&self, one: u32, other: u32) -> bool {
+        match (self.turn(one), self.turn(other)) {
+            (0, 0) => self.after(one, other / 32) & bit(other) != 0,
+            (_, 0) => true,
+            (0, _) => false,
+            (early, late) => early < late,
+        }
+    }
+
+    /// When the node was done, counted from 1, or 0.
+    fn turn(&self, node: u32) -> u32 {
+        self.bits.at(self.turn_place(node))
+    }
+
+    /// Where the word of nodes that are done stands.
+    fn done_place(&self, word: u32) -> u32 {
+        self.words.saturating_mul(2).saturating_add(word)
+    }
+
+    /// When the node has to be done at the latest: before the end of all that come after it.
+    pub fn end(&self, node: u32) -> u32 {
+        self.bits.at(self.end_place(node))
+    }
+
+    /// Where the end of a node stands.
+    fn end_place(&self, node: u32) -> u32 {
+        self.done_place(self.count() / 32)
+            .saturating_add(1)
+            .saturating_add(node)
+    }
+
+    /// The first word of the node's rows that may have nodes which aren't done.
+    pub fn first_open(&self, node: u32) -> u32 {
+        self.first.at(node).max(self.bits.at(self.open_place()))
+    }
+
+    /// Where the first word stands that has nodes which aren't done.
+    fn open_place(&self) -> u32 {
+        self.turn_place(self.count())
+    }
+
+    /// Which nodes of a word have to be done before the node and aren't.
+    pub fn missing(&self, node: u32, word: u32) -> u32 {
+        self.before(node, word) & !self.bits.at(self.done_place(word))
+    }
+
+    /// Whether the node is done.
+    pub fn is_done(&self, node: u32) -> bool {
+        self.turn(node) != 0
+    }
+
+    /// Where it stands when the node was done.
+    fn turn_place(&self, node: u32) -> u32 {
+        self.end_place(self.count()).saturating_add(node)
+    }
+
+    /// Notes that the node is done now, in such a turn, counted from 1: after all that are done, and before all that aren't.
+    pub fn set_done(&mut self, node: u32, turn: u32) -> Result<(), NoMemory> {
+        for word in self.first_open(node)..self.last.at(node).saturating_add(1) {
+            if self.missing(node, word) != 0 {
+                self.is_absurd = true;
+            }
+        }
+        let place = self.done_place(node / 32);
+        let done = self.bits.at(place) | bit(node);
+        self.bits.set(place, done)?;
+        let place = self.turn_place(node);
+        self.bits.set(place, turn)?;
+        let place = self.open_place();
+        let mut open = self.bits.at(place);
+        for word in open..self.count() / 32 {
+            if self.bits.at(self.done_place(word)) != u32::MAX {
+                break;
+            }
+            open = word.saturating_add(1);
+        }
+        self.bits.set(place, open)
+    }
+
+    /// From now on what is noted can be taken back.
+    pub fn keep(&mut self) {
+        self.bits.keep();
+    }
+
+    pub fn is_absurd(&self) -> bool {
+        self.is_absurd
+    }
+
+    /// Notes that something would have to come before itself.
+    pub fn set_absurd(&mut self) {
+        self.is_absurd = true;
+    }
+
+    /// A pair whose consequences weren't drawn yet.
+    pub fn next_found(&mut self) -> Option<(u32, u32)> {
+        self.found.pop()
+    }
+
+    /// A mark to go back to.
+    pub fn mark(&self) -> u32 {
+        self.bits.mark()
+    }
+
+    /// Goes back to the mark.
+    pub fn back(&mut self, mark: u32) {
+        self.bits.back(mark);
+        self.found.clear();
+        self.is_absurd = false;
+    }
+
+    /// Notes that the one comes before the other, and what follows by that alone. What is done needs no row: it comes before all that isn't.
+    pub fn add(&mut self, one: u32, other: u32) -> Result<(), NoMemory> {
+        if self.is_absurd || self.is_before(one, other) {
+            return Ok(());
+        }
+        if one == other || self.is_before(other, one) {
+            self.is_absurd = true;
+            return Ok(());
+        }
+        for word in self.first_open(other)..self.last.at(other).saturating_add(1) {
+            let own = if word == one / 32 { bit(one) } else { 0 };
+            let known = self.before(other, word) | self.bits.at(self.done_place(word));
+            let mut left = (self.before(one, word) | own) & !known;
+            for _ in 0..32 {
+                if left == 0 {
+                    break;
+                }
+                let place = left.trailing_zeros();
+                left &= left.wrapping_sub(1);
+                self.add_all_after(word.saturating_mul(32).saturating_add(place), other)?;
+            }
+        }
+        Ok(())
+    }
+
+    /// Notes that the node comes before `other` and all after that.
+    fn add_all_after(&mut self, node: u32, other: u32) -> Result<(), NoMemory> {
+        let first = self.first_open(node).max(self.first.at(other));
+        let mut place = self.place(node, first);
+        for word in first..self.last.at(node).saturating_add(1) {
+            let own = if word == other / 32 { bit(other) } else { 0 };
+            let left = (self.after(other, word) | own) & !self.bits.at(place);
+            if left != 0 {
+                self.note_after(node, word, left)?;
+            }
+            place = place.saturating_add(1);
+        }
+        Ok(())
+    }
+
+    /// Notes that these nodes of a word come after the node, of which that wasn't known.
+    fn note_after(&mut self, node: u32, word: u32, nodes: u32) -> Result<(), NoMemory> {
+        let place = self.place(node, word);
+        let known = self.bits.at(place);
+        self.bits.set(place, known | nodes)?;
+        let mut end = self.end(node);
+        let mut left = nodes;
+        for _ in 0..32 {
+            if left == 0 {
+                break;
+            }
+            let later = word
+                .saturating_mul(32)
+                .saturating_add(left.trailing_zeros());
+            left &= left.wrapping_sub(1);
+            self.note_before(later, node)?;
+            self.found.push((node, later))?;
+            end = end.min(self.until.at(later));
+        }
+        let place = self.end_place(node);
+        self.bits.set(place, end)
+    }
+
+    /// Notes in the node's row that another comes before it.
+    fn note_before(&mut self, node: u32, other: u32) -> Result<(), NoMemory> {
+        let word = other / 32;
+        if word < self.first.at(node) || word > self.last.at(node) {
+            return Ok(());
+        }
+        let place = self.place(node, word).saturating_add(self.words);
+        let known = self.bits.at(place);
+        self.bits.set(place, known | bit(other))
+    }
+}
+
+/// The latest end among the nodes up to each.
+fn ends_up_to(alloc: Global, times: &Vec<(u32, u32)>) -> Result<Vec<u32>, NoMemory> {
+    let mut ends = Vec::with_capacity(alloc, times.len())?;
+    let mut latest = 0;
+    for time in times {
+        latest = time.1.max(latest);
+        ends.push(latest)?;
+    }
+    Ok(ends)
+}

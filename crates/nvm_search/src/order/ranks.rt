@@ -1,0 +1,51 @@
+//! Times as ranks among all times of the trace.
+use crate::numbers::to_u32;
+use crate::order::acts::NONE;
+use nvm_points::Point;
+use nvm_record::NoMemory;
+use std::alloc::Global;
+
+/// All times at which a point may begin or has to be over, rising.
+#[derive(Drop)]
+pub struct Ranks {
+    times: Vec<u64>,
+}
+
+impl Ranks {
+    pub fn new(alloc: Global, points: &Vec<Point<'_>>) -> Result<Ranks, NoMemory> {
+        let mut all = Vec::with_capacity(alloc, points.len())?;
+        for point in points {
+            all.push(point.from)?;
+            if let Some(until) = point.until {
+                all.push(until)?;
+            }
+            if let Some(over) = point.over {
+                all.push(over)?;
+            }
+        }
+        all.sort()?;
+        let mut times = Vec::with_capacity(alloc, all.len())?;
+        let mut last = None;
+        for time in &all {
+            let time = *time;
+            if last != Some(time) {
+                times.push(time)?;
+                last = Some(time);
+            }
+        }
+        Ok(Ranks { times })
+    }
+
+    /// The rank of a time.
+    pub fn of(&self, time: u64) -> u32 {
+        to_u32(self.times.partition_point(|known| *known < time))
+    }
+
+    /// The rank of a time that may be none: the highest.
+    pub fn of_end(&self, time: Option<u64>) -> u32 {
+        match time {
+            Some(time) => self.of(time),
+            None => NONE,
+        }
+    }
+}

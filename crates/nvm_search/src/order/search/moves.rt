@@ -1,0 +1,302 @@
+//! Which acts can be next: the one that has to be done first, or what has to be done before it.
+use crate::order::acts::{Act, Cell, Gives, NONE, Wants};
+use crate::order::search::{Move, Search, Target};
+use crate::values::ZERO;
+use nvm_record::NoMemory;
+
+impl<'p> Search<'p> {
+    /// Finds moves that lead to the urgent act.
+    pub(super) fn find_moves(&mut self, urgent: u32) -> Result<(), NoMemory> {
+        self.round = self.round.saturating_add(1);
+        self.targets.clear();
+        self.aim(urgent, NONE)?;
+        self.visit_all()
+    }
+
+    /// Finds moves that lead to an act, but for those from `start` on.
+    pub(super) fn find_moves_but(&mut self, start: usize, wanted: u32) -> Result<(), NoMemory> {
+        self.skip_moves(start);
+        self.aim(wanted, NONE)?;
+        self.visit_all()
+    }
+
+    /// Begins a round in which the moves from `start` on aren't found again.
+    fn skip_moves(&mut self, start: usize) {
+        self.round = self.round.saturating_add(1);
+        for at in start..self.moves.len() {
+            if let Some(made) = self.moves.get(at) {
+                self.seen.put(made.act, self.round);
+            }
+        }
+    }
+
+    /// Finds the moves that lead to any change that has to be done, but for those from `start` on.
+    pub(super) fn find_all_moves(&mut self, start: usize) -> Result<(), NoMemory> {
+        let part = self.part;
+        self.skip_moves(start);
+        for at in self.head(&part.lists.changes, 0)?..part.lists.changes.end(0) {
+            if part.lists.changes.time(at) > self.horizon {
+                break;
+            }
+            let number = part.lists.changes.act(at);
+            if !self.is_over(number) {
+                self.aim(number, NONE)?;
+                self.visit_all()?;
+            }
+        }
+        Ok(())
+    }
+
+    /// Visits the targets until there is none.
+    fn visit_all(&mut self) -> Result<(), NoMemory> {
+        for _ in 0..u64::MAX {
+            let Some(target) = self.targets.pop() else {
+                break;
+            };
+            self.visit(target)?;
+        }
+        Ok(())
+    }
+
+    /// Makes the act a target.
+    pub(super) fn aim(&mut self, act: u32, slot: u32) -> Result<(), NoMemory> {
+        self.targets.push(Target {
+            act,
+            slot,
+            apart: false,
+        })?;
+        Ok(())
+    }
+
+    /// Adds the target's move if it can be next, or makes targets of what has to be done before.
+    fn visit(&mut self, target: Target) -> Result<(), NoMemory> {
+        self.left_in_all = self.left_in_all.saturating_sub(1);
+        let number = target.act;
+        let act = self.part.act(number);
+        if self.is_over(number) || act.from > self.horizon {
+            return Ok(());
+        }
+        if !target.apart {
+            if self.seen.at(number) == self.round {
+                return Ok(());
+            }
+            self.seen.put(number, self.round);
+        }
+        if self.aim_at_missing(number)?
+            || self.has_to_wait(&act)?
+            || !self.can_be_next(target, &act)?
+        {
+            return Ok(());
+        }
+        self.moves.push(Move {
+            act: number,
+            slot: target.slot,
+        })?;
+        Ok(())
+    }
+
+    /// Whether something that isn't done has to come before the act. That is made a target.
+    fn aim_at_missing(&mut self, number: u32) -> Result<bool, NoMemory> {
+        let mut missing = Vec::new(self.alloc);
+        if let Some(known) = &self.known {
+            known.missing_before(self.part, number, &mut missing)?;
+        }
+        for other in &missing {
+            self.aim(other.act, other.slot)?;
+        }
+        Ok(!missing.is_empty())
+    }
+
+    /// Whether something has to be done before the act, as far as its times and what it finds go. That is made a target.
+    fn has_to_wait(&mut self, act: &Act) -> Result<bool, NoMemory> {
+        if act.before != NONE && !self.is_placed(act.before) {
+            self.aim(act.before, NONE)?;
+            return Ok(true);
+        }
+        if !self.fits_all(act, false) {
+            self.aim_at_givers(act)?;
+            return Ok(true);
+        }
+        if let Some((needed, slot)) = self.too_soon_for(act)? {
+            self.aim(needed, slot)?;
+            return Ok(true);
+        }
+        Ok(false)
+    }
+
+    /// Whether the act can be next, as far as others go that find or put something. What has to be done before is made a target.
+    fn can_be_next(&mut self, target: Target, act: &Act) -> Result<bool, NoMemory> {
+        if !act.is_look {
+            return self.is_clear(target.act, act, target.slot);
+        }
+        if !act.tied {
+            return Ok(true);
+        }
+        if !target.apart && self.aim_at_siblings(target, act)? {
+            return Ok(false);
+        }
+        self.can_be_apart(target.act, act)
+    }
+
+    /// Where blocks of its point don't have yet what was found there, makes targets of those who put it, and then of the act apart.
+    fn aim_at_siblings(&mut self, target: Target, act: &Act) -> Result<bool, NoMemory> {
+        let part = self.part;
+        let mut is_apart = false;
+        for sibling in act.sibling..act.siblings_end() {
+            let other = part.act(sibling);
+            if self.is_placed(sibling) || self.fits_all(&other, false) {
+                continue;
+            }
+            if !is_apart {
+                is_apart = true;
+                self.targets.push(Target {
+                    apart: true,
+                    ..target
+                })?;
+            }
+            self.aim_at_givers(&other)?;
+        }
+        Ok(is_apart)
+    }
+
+    /// Makes targets of those who put what the act finds and what isn't there.
+    fn aim_at_givers(&mut self, act: &Act) -> Result<(), NoMemory> {
+        for at in act.cell..act.cells_end() {
+            let cell = self.part.cell(at);
+            if !self.fits(&cell, false) {
+                match cell.wants {
+                    Wants::Nothing => {}
+                    Wants::Slot(slot) => {
+                        self.blame(self.loser(slot))?;
+                        self.blame_givers(slot)?;
+                        self.aim_at_slot(slot)?
+                    }
+                    Wants::AnyBytes => {
+                        self.blame(self.setter(cell.block))?;
+                        self.aim_at_others(&cell, NONE)?
+                    }
+                    Wants::OtherThan(other) => {
+                        self.blame(self.setter(cell.block))?;
+                        self.aim_at_others(&cell, other)?
+                    }
+                }
+            }
+        }
+        Ok(())
+    }
+
+    /// Makes targets of those who put the slot: those that surely do come first.
+    fn aim_at_slot(&mut self, slot: u32) -> Result<(), NoMemory> {
+        let part = self.part;
+        let block = part.slots.block(slot);
+        for at in self.head(&part.lists.anything, block)?..part.lists.anything.end(block) {
+            if part.lists.anything.time(at) > self.horizon {
+                break;
+            }
+            self.aim(part.lists.anything.act(at), slot)?;
+        }
+        let head = self.head(&part.lists.givers, slot)?;
+        for sure in [false, true] {
+            for at in head..part.lists.givers.end(slot) {
+                if part.lists.givers.time(at) > self.horizon {
+                    break;
+                }
+                let giver = part.lists.givers.act(at);
+                if part.act(giver).sure == sure && !self.is_over(giver) {
+                    self.aim(giver, slot)?;
+                }
+            }
+        }
+        Ok(())
+    }
+
+    /// Makes targets of those who put bytes in the cell's block other than a slot's.
+    fn aim_at_others(&mut self, cell: &Cell, other: u32) -> Result<(), NoMemory> {
+        let part = self.part;
+        for at in self.head(&part.lists.writers, cell.block)?..part.lists.writers.end(cell.block) {
+            if part.lists.writers.time(at) > self.horizon {
+                break;
+            }
+            let writer = part.lists.writers.act(at);
+            let Some(given) = part.cell_of(&part.act(writer), cell.block) else {
+                continue;
+            };
+            let slot = match given.gives {
+                Gives::Nothing => NONE,
+                Gives::Slot(slot) => slot,
+                Gives::Anything => self.other_slot(cell.block, other)?,
+                Gives::Deallocated => self.deallocated_slot(cell.block, other)?,
+            };
+            if slot != NONE && slot != other && !part.slots.is_mark(slot) {
+                self.aim(writer, slot)?;
+            }
+        }
+        Ok(())
+    }
+
+    /// Whether each other block of its point can still get what was found there, by one that doesn't put this block, too.
+    fn can_be_apart(&mut self, number: u32, act: &Act) -> Result<bool, NoMemory> {
+        let part = self.part;
+        for sibling in act.sibling..act.siblings_end() {
+            let other = part.act(sibling);
+            if sibling == number || self.is_placed(sibling) || self.fits_all(&other, false) {
+                continue;
+            }
+            if !self.can_get(&other, act)? {
+                self.blame(self.setter(part.cell(act.cell).block))?;
+                self.blame(self.setter(part.cell(other.cell).block))?;
+                if let Wants::Slot(slot) = part.cell(other.cell).wants {
+                    self.blame(self.loser(slot))?;
+                }
+                return Ok(false);
+            }
+        }
+        Ok(true)
+    }
+
+    /// Whether a block of a point can still get what was found there, by one that doesn't put another block of it that is done then.
+    fn can_get(&mut self, act: &Act, done: &Act) -> Result<bool, NoMemory> {
+        let part = self.part;
+        let cell = part.cell(act.cell);
+        let block = part.cell(done.cell).block;
+        let Wants::Slot(slot) = cell.wants else {
+            return Ok(true);
+        };
+        let anything = self.head(&part.lists.anything, cell.block)?;
+        if anything < part.lists.anything.end(cell.block) {
+            return Ok(true);
+        }
+        for at in self.head(&part.lists.givers, slot)?..part.lists.givers.end(slot) {
+            if part.lists.givers.time(at) > act.until {
+                break;
+            }
+            let giver = part.lists.givers.act(at);
+            if self.is_over(giver) {
+                continue;
+            }
+            let giver = part.act(giver);
+            if part.cell_of(&giver, block).is_none() && self.begun_in(&giver, act) == 0 {
+                return Ok(true);
+            }
+        }
+        Ok(false)
+    }
+
+    /// What a Deallocate may leave in the block other than a slot: what somebody has to find there, if that is one.
+    fn deallocated_slot(&mut self, block: u32, other: u32) -> Result<u32, NoMemory> {
+        let part = self.part;
+        let mut chosen = NONE;
+        let zeroes = part.slots.of(block, ZERO);
+        let ones = part.slots.of(block, part.ones);
+        if part.zeroes_deallocated && zeroes != other {
+            chosen = zeroes;
+        }
+        if part.ones_deallocated && ones != other {
+            let head = self.head(&part.lists.finders, ones)?;
+            if chosen == NONE || head < part.lists.finders.end(ones) {
+                chosen = ones;
+            }
+        }
+        Ok(chosen)
+    }
+}
