@@ -4,7 +4,7 @@ use anyhow::{Result, bail};
 use nvm_audit::Record;
 use nvm_judge::Judgment;
 use nvm_plan::Job;
-use nvm_points::{Deallocated, Held, Profile, points_of};
+use nvm_standard::{Deallocated, Held, Profile, points_of};
 use nvm_store::Limit;
 use nvm_trace::{Judging, Trace, witness_alone};
 use nvm_trace_text::trace_of_text;

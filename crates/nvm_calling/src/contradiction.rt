@@ -1,11 +1,10 @@
 ghost use Rattle.std.specs.Prelude.{IfOk, IsTrue};
-ghost use Rattle.nvm_orders.specs.Explanation.{IsExplanation};
-ghost use Rattle.nvm_orders.specs.OrderView.{OrderView};
-ghost use Rattle.nvm_points.specs.PointView.{seen_table};
+ghost use Rattle.nvm_standard.specs.Explanation.{IsExplanation};
+ghost use Rattle.nvm_standard.specs.OrderView.{OrderView};
+ghost use Rattle.nvm_standard.specs.PointView.{seen_table};
 
-use nvm_contradiction::{Contradiction, ContradictionFault, contradicts};
-use nvm_points::Points;
 use nvm_record::NoMemory;
+use nvm_standard::{Contradiction, ContradictionFault, Points, contradicts};
 use std::alloc::{AllocError, Global};
 
 /// Whether a contradiction shows that no order of these points is an explanation. Of one that doesn't, nothing follows.

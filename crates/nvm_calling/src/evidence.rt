@@ -5,8 +5,8 @@ use nvm_evidence::{
     RefuteBytesFault, Refuted, refute_contradiction_bytes, write_contradiction, write_order,
 };
 use nvm_judge::Judgment;
-use nvm_points::Profile;
 use nvm_record::Payload;
+use nvm_standard::Profile;
 use std::alloc::{AllocError, Global};
 
 /// The bytes of the file of what was found of a trace, to be sent along with the trace's. `None` where there is nothing to be kept.

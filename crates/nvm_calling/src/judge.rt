@@ -1,10 +1,10 @@
 ghost use Rattle.std.specs.Prelude.{◌≡◌, IfOk, Some, false, true};
 ghost use Rattle.nvm_judge.specs.Explained.{IsExplainedBy};
-ghost use Rattle.nvm_orders.specs.OrderView.{OrderView};
+ghost use Rattle.nvm_standard.specs.OrderView.{OrderView};
 
 use nvm_judge::{Judgment, judge};
-use nvm_points::Profile;
 use nvm_record::NoMemory;
+use nvm_standard::Profile;
 use nvm_trace::Trace;
 use std::alloc::Global;
 

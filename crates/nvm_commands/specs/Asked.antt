@@ -1,7 +1,7 @@
 -- What a device is held to by the words of `nvq certify`.
 use Rattle.std.specs.Prelude.{Option, Some, None}
 use Rattle.nvm_judge.specs.HeadProfile.{head_profile}
-use Rattle.nvm_points.specs.declared.profile.Profile.{Profile}
+use Rattle.nvm_standard.specs.declared.profile.Profile.{Profile}
 use Rattle.nvm_trace.specs.TraceView.{TraceView}
 use Rattle.nvm_commands.specs.declared.certifying_words.CertifyWords.{CertifyWords}
 

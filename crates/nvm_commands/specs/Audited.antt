@@ -20,8 +20,8 @@ use Rattle.nvm_front.specs.Standard.{names_input}
 use Rattle.nvm_front.specs.declared.judging_words.Telling.{Telling}
 use Rattle.nvm_front.specs.declared.judging_words.Telling.TheVariants.{Lines, Object}
 use Rattle.nvm_trace.specs.declared.explained.Explained.{Explained}
-use Rattle.nvm_orders.specs.OrderView.{OrderView}
-use Rattle.nvm_points.specs.declared.profile.Profile.{Profile}
+use Rattle.nvm_standard.specs.OrderView.{OrderView}
+use Rattle.nvm_standard.specs.declared.profile.Profile.{Profile}
 use Rattle.nvm_trace.specs.TraceView.{TraceView}
 use Rattle.nvm_trace.specs.declared.judging.Judging.{Judging}
 use Rattle.nvm_trace.specs.declared.judging.Judging.TheVariants.{Standard}

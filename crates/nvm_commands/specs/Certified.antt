@@ -2,12 +2,12 @@
 -- its bytes are some.
 use Rattle.std.specs.Prelude.{◌≡◌, ◌⊎◌, ℕ, List, String, Option, Some, None, codes, string_bytes}
 use Rattle.std.specs.Global.{Global}
-use Rattle.nvm_contradiction.specs.declared.contradiction.Contradiction.{Contradiction}
+use Rattle.nvm_standard.specs.declared.contradiction.Contradiction.{Contradiction}
 use Rattle.nvm_judge.specs.Contradicted.{IsContradictedBy}
 use Rattle.nvm_judge.specs.Explained.{IsExplainedBy}
-use Rattle.nvm_orders.specs.OrderView.{OrderView}
-use Rattle.nvm_points.specs.Table.{first_wrong}
-use Rattle.nvm_points.specs.declared.profile.Profile.{Profile}
+use Rattle.nvm_standard.specs.OrderView.{OrderView}
+use Rattle.nvm_standard.specs.Table.{first_wrong}
+use Rattle.nvm_standard.specs.declared.profile.Profile.{Profile}
 use Rattle.nvm_trace.specs.TraceView.{TraceView}
 use Rattle.nvm_commands.specs.Asked.{profile_asked}
 use Rattle.nvm_commands.specs.Fault.{IsFaultOfTraceAt}

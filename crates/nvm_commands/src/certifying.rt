@@ -6,16 +6,15 @@ ghost use Rattle.nvm_commands.specs.Fault.{IsFaultOfTraceAt};
 ghost use Rattle.nvm_commands.specs.Files.{IsReadFault, IsWriteFault};
 ghost use Rattle.nvm_judge.specs.Contradicted.{IsContradictedBy};
 ghost use Rattle.nvm_judge.specs.Explained.{IsExplainedBy};
-ghost use Rattle.nvm_orders.specs.OrderView.{seen_order};
-ghost use Rattle.nvm_points.specs.Table.{first_wrong};
-ghost use Rattle.nvm_points.specs.declared.profile.Profile.{Profile};
+ghost use Rattle.nvm_standard.specs.OrderView.{seen_order};
+ghost use Rattle.nvm_standard.specs.Table.{first_wrong};
+ghost use Rattle.nvm_standard.specs.declared.profile.Profile.{Profile};
 ghost use Rattle.nvm_trace.specs.TraceView.{TraceView};
 
 use crate::certifying_words::CertifyWords;
 use crate::failure::{Failure, plain};
 use crate::fault::Fault;
 use crate::files::{check_no_lines, check_output, read_as_trace, write_bytes};
-use nvm_contradiction::Contradiction;
 use nvm_evidence::{
     OrderNumbers, contradiction_brief, contradiction_object, contradiction_text, explained_object,
     explained_text, most_together, unknown_object, unknown_text, write_contradiction, write_order,
@@ -23,9 +22,8 @@ use nvm_evidence::{
 };
 use nvm_front::{Progress, STANDARD, Telling};
 use nvm_judge::{Judgment, Stop, judge};
-use nvm_orders::Order;
-use nvm_points::Profile;
 use nvm_record::NoMemory;
+use nvm_standard::{Contradiction, Order, Profile};
 use nvm_trace::Trace;
 use std::alloc::Global;
 use std::rt::Files;

@@ -8,7 +8,7 @@ use nvm_front::{
     telling_of, trace,
 };
 use nvm_judge::profile_of;
-use nvm_points::{Deallocated, Held, Profile};
+use nvm_standard::{Deallocated, Held, Profile};
 use nvm_trace::Trace;
 use std::alloc::Global;
 

@@ -1,11 +1,11 @@
 -- A contradiction's file, read from its front (docs/FORMATS.md, "Contradiction").
 use Rattle.std.specs.Prelude.{◌≡◌, ℕ, ◌==◌, List, length, if◌then◌else◌, Result, Ok}
-use Rattle.nvm_points.specs.declared.profile.Profile.{Profile}
-use Rattle.nvm_contradiction.specs.Nodes.{node}
-use Rattle.nvm_contradiction.specs.declared.contradiction.Conclusion.{Conclusion}
-use Rattle.nvm_contradiction.specs.declared.contradiction.Conclusion.TheVariants.{Loop, Nobody, Nowhere}
-use Rattle.nvm_contradiction.specs.declared.fact.Fact.{Fact}
-use Rattle.nvm_contradiction.specs.declared.fact.Fact.TheVariants.{Time, Deallocate, Own, Source, Over, Under, First, AtFirst, TiedBefore, TiedAfter}
+use Rattle.nvm_standard.specs.declared.profile.Profile.{Profile}
+use Rattle.nvm_standard.specs.Nodes.{node}
+use Rattle.nvm_standard.specs.declared.contradiction.Conclusion.{Conclusion}
+use Rattle.nvm_standard.specs.declared.contradiction.Conclusion.TheVariants.{Loop, Nobody, Nowhere}
+use Rattle.nvm_standard.specs.declared.fact.Fact.{Fact}
+use Rattle.nvm_standard.specs.declared.fact.Fact.TheVariants.{Time, Deallocate, Own, Source, Over, Under, First, AtFirst, TiedBefore, TiedAfter}
 use Rattle.nvm_file.specs.Fields.{◌>>=◌}
 use Rattle.nvm_evidence.specs.declared.evidence_fault.EvidenceFault.{EvidenceFault}
 use Rattle.nvm_evidence.specs.declared.held_contradiction.HeldContradiction.{HeldContradiction}

@@ -3,9 +3,9 @@ use Rattle.std.specs.Prelude.{ℕ, ◌==◌, List, [], ◌∷◌, length, take, 
 use Rattle.std.specs.Str.{bytes_eq}
 use Rattle.nvm_trace.specs.declared.deallocated.Deallocated.{Deallocated}
 use Rattle.nvm_trace.specs.declared.deallocated.Deallocated.TheVariants.{Zeroes, Ones, Either}
-use Rattle.nvm_points.specs.declared.profile.Held.{Held}
-use Rattle.nvm_points.specs.declared.profile.Held.TheVariants.{Atomic, AtomicAll, Whole, ByBlocks}
-use Rattle.nvm_points.specs.declared.profile.Profile.{Profile}
+use Rattle.nvm_standard.specs.declared.profile.Held.{Held}
+use Rattle.nvm_standard.specs.declared.profile.Held.TheVariants.{Atomic, AtomicAll, Whole, ByBlocks}
+use Rattle.nvm_standard.specs.declared.profile.Profile.{Profile}
 use Rattle.nvm_file.specs.Fields.{◌>>=◌}
 use Rattle.nvm_evidence.specs.declared.evidence_fault.EvidenceFault.{EvidenceFault}
 use Rattle.nvm_evidence.specs.declared.evidence_fault.EvidenceFault.TheVariants.{BadName}

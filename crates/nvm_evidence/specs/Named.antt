@@ -2,12 +2,12 @@
 use Rattle.std.specs.Prelude.{◌≡◌, ◌↔◌, ℕ, ◌-◌, List, [], ◌∷◌, ◌++◌, length, Contains, Option, Some, None, slice_get}
 use Rattle.std.specs.List.{flat_map}
 use Rattle.std.specs.List.Sorted.{IsStrictlyIncreasing}
-use Rattle.nvm_contradiction.specs.declared.contradiction.Conclusion.{Conclusion}
-use Rattle.nvm_contradiction.specs.declared.contradiction.Conclusion.TheVariants.{Loop, Nobody, Nowhere}
-use Rattle.nvm_contradiction.specs.declared.contradiction.Contradiction.{Contradiction}
-use Rattle.nvm_contradiction.specs.declared.fact.Fact.{Fact}
-use Rattle.nvm_contradiction.specs.declared.fact.Fact.TheVariants.{Time, Deallocate, Own, Source, Over, Under, First, AtFirst, TiedBefore, TiedAfter}
-use Rattle.nvm_points.specs.PointView.{PointView, TableView}
+use Rattle.nvm_standard.specs.declared.contradiction.Conclusion.{Conclusion}
+use Rattle.nvm_standard.specs.declared.contradiction.Conclusion.TheVariants.{Loop, Nobody, Nowhere}
+use Rattle.nvm_standard.specs.declared.contradiction.Contradiction.{Contradiction}
+use Rattle.nvm_standard.specs.declared.fact.Fact.{Fact}
+use Rattle.nvm_standard.specs.declared.fact.Fact.TheVariants.{Time, Deallocate, Own, Source, Over, Under, First, AtFirst, TiedBefore, TiedAfter}
+use Rattle.nvm_standard.specs.PointView.{PointView, TableView}
 
 -- the numbers of the points that the fact names
 abbrev pub fact_points : Fact → List ℕ

@@ -1,7 +1,7 @@
 -- An order's file, read from its front (docs/FORMATS.md, "Order").
 use Rattle.std.specs.Prelude.{◌≡◌, ℕ, ◌==◌, List, length, if◌then◌else◌, Result, Ok}
-use Rattle.nvm_points.specs.declared.profile.Profile.{Profile}
-use Rattle.nvm_orders.specs.OrderView.{ContentView, ValueView, FirstView, PlacedView, OrderView, zeroes, ones, bytes as these, mark, as_is, puts, seen_order}
+use Rattle.nvm_standard.specs.declared.profile.Profile.{Profile}
+use Rattle.nvm_standard.specs.OrderView.{ContentView, ValueView, FirstView, PlacedView, OrderView, zeroes, ones, bytes as these, mark, as_is, puts, seen_order}
 use Rattle.nvm_file.specs.Fields.{◌>>=◌}
 use Rattle.nvm_evidence.specs.declared.evidence_fault.EvidenceFault.{EvidenceFault}
 use Rattle.nvm_evidence.specs.declared.held_order.HeldOrder.{HeldOrder}

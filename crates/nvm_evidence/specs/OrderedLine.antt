@@ -1,11 +1,11 @@
 -- What is printed of an order that is to explain a trace: one line, with how much was done, or with why it doesn't.
 use Rattle.std.specs.Prelude.{ℕ, List, ◌++◌, codes, decimal}
-use Rattle.nvm_orders.specs.declared.order_fault.OrderFault.{OrderFault}
-use Rattle.nvm_orders.specs.declared.order_fault.OrderFault.TheVariants.{FirstWrong, Misplaced, TimeBack, FindsOther, DeallocatesLate, DoneAgain, Absent, TooEarly, Between, Unkept, NoMemory}
+use Rattle.nvm_standard.specs.declared.order_fault.OrderFault.{OrderFault}
+use Rattle.nvm_standard.specs.declared.order_fault.OrderFault.TheVariants.{FirstWrong, Misplaced, TimeBack, FindsOther, DeallocatesLate, DoneAgain, Absent, TooEarly, Between, Unkept, NoMemory}
 use Rattle.nvm_trace.specs.declared.deallocated.Deallocated.{Deallocated}
 use Rattle.nvm_trace.specs.declared.deallocated.Deallocated.TheVariants.{Zeroes, Ones, Either}
-use Rattle.nvm_points.specs.declared.profile.Held.{Held}
-use Rattle.nvm_points.specs.declared.profile.Held.TheVariants.{Atomic, AtomicAll, Whole, ByBlocks}
+use Rattle.nvm_standard.specs.declared.profile.Held.{Held}
+use Rattle.nvm_standard.specs.declared.profile.Held.TheVariants.{Atomic, AtomicAll, Whole, ByBlocks}
 use Rattle.nvm_evidence.specs.declared.ordered.OrderNumbers.{OrderNumbers}
 use Rattle.nvm_evidence.specs.declared.ordered.Ordered.{Ordered}
 use Rattle.nvm_evidence.specs.declared.ordered.Ordered.TheVariants.{Explained, Wrong, Unexplained}

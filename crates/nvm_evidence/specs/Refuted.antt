@@ -1,12 +1,12 @@
 -- What is answered of a trace and a contradiction, and of the bytes of their files.
 use Rattle.std.specs.Prelude.{◌≡◌, ℕ, List, length, Err}
-use Rattle.nvm_contradiction.specs.declared.contradiction.Contradiction.{Contradiction}
+use Rattle.nvm_standard.specs.declared.contradiction.Contradiction.{Contradiction}
 use Rattle.nvm_file.specs.TraceFile.{IsTraceFile}
 use Rattle.nvm_file.specs.TraceReading.{trace_at}
 use Rattle.nvm_judge.specs.Contradicted.{IsContradictedBy}
 use Rattle.nvm_judge.specs.Explained.{IsWrong}
-use Rattle.nvm_points.specs.Table.{table_of}
-use Rattle.nvm_points.specs.declared.profile.Profile.{Profile}
+use Rattle.nvm_standard.specs.Table.{table_of}
+use Rattle.nvm_standard.specs.declared.profile.Profile.{Profile}
 use Rattle.nvm_trace.specs.TraceView.{TraceView}
 use Rattle.nvm_evidence.specs.ContradictionReading.{IsContradictionFile, contradiction_at}
 use Rattle.nvm_evidence.specs.Named.{IsCountNamed}

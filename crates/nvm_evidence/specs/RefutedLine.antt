@@ -1,8 +1,8 @@
 -- What is printed of a contradiction that is to refute a trace: one line, with how much it names, or with why it isn't taken.
 use Rattle.std.specs.Prelude.{ℕ, List, ◌++◌, codes, decimal}
-use Rattle.nvm_contradiction.specs.declared.contradiction_fault.ContradictionFault.{ContradictionFault}
-use Rattle.nvm_contradiction.specs.declared.contradiction_fault.ContradictionFault.TheVariants.{FactWrong, NothingContradicted, NoMemory}
-use Rattle.nvm_points.specs.declared.profile.Profile.{Profile}
+use Rattle.nvm_standard.specs.declared.contradiction_fault.ContradictionFault.{ContradictionFault}
+use Rattle.nvm_standard.specs.declared.contradiction_fault.ContradictionFault.TheVariants.{FactWrong, NothingContradicted, NoMemory}
+use Rattle.nvm_standard.specs.declared.profile.Profile.{Profile}
 use Rattle.nvm_evidence.specs.OrderedLine.{deallocated_word, held_word}
 use Rattle.nvm_evidence.specs.declared.refuted.Refuted.{Refuted as RefutedType}
 use Rattle.nvm_evidence.specs.declared.refuted.Refuted.TheVariants.{Refuted, Wrong, Unrefuted}

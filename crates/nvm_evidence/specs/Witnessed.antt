@@ -4,8 +4,8 @@ use Rattle.nvm_file.specs.TraceFile.{IsTraceFile}
 use Rattle.nvm_file.specs.TraceReading.{trace_at}
 use Rattle.nvm_judge.specs.Explained.{IsExplainedBy, IsWrong}
 use Rattle.nvm_judge.specs.Faults.{IsUnexplainedFor}
-use Rattle.nvm_orders.specs.OrderView.{OrderView}
-use Rattle.nvm_points.specs.declared.profile.Profile.{Profile}
+use Rattle.nvm_standard.specs.OrderView.{OrderView}
+use Rattle.nvm_standard.specs.declared.profile.Profile.{Profile}
 use Rattle.nvm_trace.specs.TraceView.{TraceView}
 use Rattle.nvm_evidence.specs.OrderReading.{HeldOrderView, IsOrderFile, order_at}
 use Rattle.nvm_evidence.specs.declared.evidence_fault.EvidenceFault.{EvidenceFault}

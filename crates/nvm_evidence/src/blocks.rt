@@ -1,7 +1,6 @@
 //! What the points of a trace find and put in a block, and whose that is.
 use crate::precedence::order_of;
-use nvm_contradiction::Fact;
-use nvm_points::{Deallocated, Found, Point, Points, Presence, Put};
+use nvm_standard::{Deallocated, Fact, Found, Point, Points, Presence, Put};
 use nvm_trace::Start;
 
 /// Whether the point has the block.

@@ -4,9 +4,8 @@ use crate::named::commands_named;
 use crate::sentence::push_sentence;
 use crate::sources::push_source;
 use crate::verdict::wrong_text;
-use nvm_contradiction::Contradiction;
-use nvm_points::{Found, Point, Points, PointsFault, Profile, points_of};
 use nvm_record::NoMemory;
+use nvm_standard::{Contradiction, Found, Point, Points, PointsFault, Profile, points_of};
 use nvm_trace::Trace;
 use std::alloc::{AllocError, Global};
 

@@ -5,8 +5,8 @@ use crate::named::commands_named;
 use crate::refuted::Refuted;
 use crate::refuting::refute_contradiction;
 use crate::verdict::push_wrong;
-use nvm_points::{PointsFault, points_of};
 use nvm_record::NoMemory;
+use nvm_standard::{PointsFault, points_of};
 use nvm_trace::Trace;
 use std::alloc::{AllocError, Global};
 

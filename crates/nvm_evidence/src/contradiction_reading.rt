@@ -9,7 +9,7 @@ use crate::fact_reading::{fact_of, two_of};
 use crate::fields::{kind_of, offset_of, u32_of, u64_of};
 use crate::front::{CONTRADICTION, front_of};
 use crate::held_contradiction::HeldContradiction;
-use nvm_contradiction::{Conclusion, Contradiction, Fact};
+use nvm_standard::{Conclusion, Contradiction, Fact};
 use std::alloc::Global;
 
 /// The fewest bytes of a fact: its kind and two numbers.

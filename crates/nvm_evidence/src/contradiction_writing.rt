@@ -1,7 +1,6 @@
 use crate::field_writing::{push_u32, push_u64};
 use crate::front::{CONTRADICTION, front_bytes};
-use nvm_contradiction::{Conclusion, Contradiction, Fact};
-use nvm_points::Profile;
+use nvm_standard::{Conclusion, Contradiction, Fact, Profile};
 use std::alloc::{AllocError, Global};
 
 /// The bytes of the contradiction's file, with what the device was held to. [`read_contradiction`](crate::read_contradiction) reads them as

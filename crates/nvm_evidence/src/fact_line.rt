@@ -1,9 +1,8 @@
 //! What a fact says, and by which rule, and what the facts come to.
 use crate::point_name::{PointName, name_of};
 use crate::precedence::precedence_of;
-use nvm_contradiction::{Conclusion, Fact};
-use nvm_points::Points;
 use nvm_record::NoMemory;
+use nvm_standard::{Conclusion, Fact, Points};
 use nvm_trace::Start;
 use nvm_trace_text::TimeText;
 use std::fmt;

@@ -2,9 +2,8 @@
 use crate::fact_line::{itself_of, push_conclusion, push_fact};
 use crate::point_name::name_of;
 use crate::precedence::{Precedence, precedence_of};
-use nvm_contradiction::{Conclusion, Fact};
-use nvm_points::Points;
 use nvm_record::NoMemory;
+use nvm_standard::{Conclusion, Fact, Points};
 use std::fmt;
 use std::fmt::{Display, Formatter};
 

@@ -6,7 +6,7 @@ ghost use Rattle.nvm_evidence.specs.Fields.{Gives};
 
 use crate::evidence_fault::EvidenceFault;
 use crate::fields::{kind_of, u32_of};
-use nvm_contradiction::{Fact, Node};
+use nvm_standard::{Fact, Node};
 
 /// Two numbers.
 #[tactic(auto, unfolding(crate::specs::ContradictionReading::two_at))]

@@ -6,7 +6,7 @@ ghost use Rattle.nvm_evidence.specs.FrontReading.{evidence_kind_at, front_at, na
 
 use crate::evidence_fault::EvidenceFault;
 use crate::fields::{kind_of, offset_of};
-use nvm_points::{Deallocated, Held, Profile};
+use nvm_standard::{Deallocated, Held, Profile};
 use std::alloc::{AllocError, Global};
 
 /// Each file of evidence begins with these bytes.

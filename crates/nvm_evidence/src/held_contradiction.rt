@@ -1,5 +1,4 @@
-use nvm_contradiction::Contradiction;
-use nvm_points::Profile;
+use nvm_standard::{Contradiction, Profile};
 
 /// A contradiction, and what the device was held to where it was found.
 #[derive(Debug, Drop)]

@@ -1,5 +1,4 @@
-use nvm_orders::Order;
-use nvm_points::Profile;
+use nvm_standard::{Order, Profile};
 
 /// An order, and what the device was held to where it was found. Bytes are lent.
 #[derive(Debug, Drop)]

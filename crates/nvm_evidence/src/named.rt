@@ -1,12 +1,11 @@
 //! Which commands a contradiction names.
 ghost use Rattle.std.specs.Prelude.{◌≡◌, ◌++◌, IfOk, OnOk};
-ghost use Rattle.nvm_points.specs.PointView.{seen_table};
+ghost use Rattle.nvm_standard.specs.PointView.{seen_table};
 ghost use Rattle.nvm_evidence.specs.Named as spec;
 ghost use Rattle.nvm_evidence.specs.Named.{AreNamed, AreRising};
 
-use nvm_contradiction::{Conclusion, Contradiction, Fact};
-use nvm_points::Points;
 use nvm_record::NoMemory;
+use nvm_standard::{Conclusion, Contradiction, Fact, Points};
 use std::alloc::Global;
 
 /// Appends the numbers of the points that the fact names.

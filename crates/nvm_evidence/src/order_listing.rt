@@ -1,9 +1,10 @@
 //! What was done in an order, one point a line.
 use crate::held_order::HeldOrder;
 use crate::witnessing::witness_order;
-use nvm_orders::{Content, FirstContent, Placed, Value};
-use nvm_points::{Found, Point, Points, PointsFault, Put, points_of};
 use nvm_record::NoMemory;
+use nvm_standard::{
+    Content, FirstContent, Found, Placed, Point, Points, PointsFault, Put, Value, points_of,
+};
 use nvm_text::RunsText;
 use nvm_trace::Trace;
 use std::alloc::{AllocError, Global};

@@ -1,5 +1,5 @@
 ghost use Rattle.std.specs.Prelude.{◌≡◌, map};
-ghost use Rattle.nvm_orders.specs.OrderView.{seen_content, seen_first, seen_placed, seen_value};
+ghost use Rattle.nvm_standard.specs.OrderView.{seen_content, seen_first, seen_placed, seen_value};
 ghost use Rattle.nvm_file.specs.Fields.{items_at};
 ghost use Rattle.nvm_evidence.specs.Fields.{Gives, counted_at};
 ghost use Rattle.nvm_evidence.specs.OrderReading.{content_at, first_at, order_at, placed_at, seen_held_order, these_at, value_at};
@@ -8,7 +8,7 @@ use crate::evidence_fault::EvidenceFault;
 use crate::fields::{bytes_of, kind_of, offset_of, u32_of, u64_of};
 use crate::front::{ORDER, front_of};
 use crate::held_order::HeldOrder;
-use nvm_orders::{Content, FirstContent, Order, Placed, Value};
+use nvm_standard::{Content, FirstContent, Order, Placed, Value};
 use std::alloc::Global;
 
 /// The fewest bytes of a first content: its block, and what kind of content it is.

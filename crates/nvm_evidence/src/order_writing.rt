@@ -1,7 +1,6 @@
 use crate::field_writing::{push_u32, push_u64};
 use crate::front::{ORDER, front_bytes};
-use nvm_orders::{Content, FirstContent, Order, Placed, Value};
-use nvm_points::Profile;
+use nvm_standard::{Content, FirstContent, Order, Placed, Profile, Value};
 use std::alloc::{AllocError, Global};
 
 /// The bytes of the order's file, with what the device was held to. [`read_order`](crate::read_order) reads them as this order.

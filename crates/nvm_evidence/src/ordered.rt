@@ -2,8 +2,7 @@ ghost use Rattle.std.specs.Prelude.{◌≡◌, IfOk, string_bytes};
 ghost use Rattle.nvm_evidence.specs.OrderedLine as spec;
 
 use crate::words::{deallocated_word, held_word};
-use nvm_orders::OrderFault;
-use nvm_points::Profile;
+use nvm_standard::{OrderFault, Profile};
 use std::alloc::{AllocError, Global};
 
 /// How many jobs an explained trace has, how many points its order places, and what the device was held to.

@@ -1,5 +1,5 @@
 //! How a point of a trace's table is named: by its command.
-use nvm_points::Points;
+use nvm_standard::Points;
 use std::fmt;
 use std::fmt::{Display, Formatter};
 

@@ -1,7 +1,6 @@
 //! Which point a fact puts before which.
 use crate::point_name::{PointName, name_of};
-use nvm_contradiction::Fact;
-use nvm_points::Points;
+use nvm_standard::{Fact, Points};
 use std::fmt;
 use std::fmt::{Display, Formatter};
 

@@ -2,8 +2,7 @@ ghost use Rattle.std.specs.Prelude.{◌≡◌, IfOk, string_bytes};
 ghost use Rattle.nvm_evidence.specs.RefutedLine as spec;
 
 use crate::words::{deallocated_word, held_word};
-use nvm_contradiction::ContradictionFault;
-use nvm_points::Profile;
+use nvm_standard::{ContradictionFault, Profile};
 use std::alloc::{AllocError, Global};
 
 /// What a contradiction comes to against a trace.

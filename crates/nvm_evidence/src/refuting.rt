@@ -13,8 +13,8 @@ use crate::refute_fault::RefuteBytesFault;
 use crate::refuted::Refuted;
 use crate::trace_reading::trace_of;
 use nvm_judge::{RefuteFault, check_contradiction};
-use nvm_points::{PointsFault, points_of};
 use nvm_record::{NoMemory, Payload};
+use nvm_standard::{PointsFault, points_of};
 use nvm_trace::Trace;
 use std::alloc::{AllocError, Global};
 

@@ -1,9 +1,8 @@
 //! What a contradiction comes to, in a sentence for whoever has to mend the device.
 use crate::blocks::{Other, found_at, is_before, is_named, other_at, was_at_first};
 use crate::sources::{Torn, command_of, torn_of, writers_of};
-use nvm_contradiction::{Conclusion, Contradiction, Fact};
-use nvm_points::{Found, Point, Points};
 use nvm_record::NoMemory;
+use nvm_standard::{Conclusion, Contradiction, Fact, Found, Point, Points};
 use std::alloc::Global;
 
 /// Appends the sentence, without a line feed.

@@ -1,7 +1,7 @@
 //! Whose data a command of a trace found in a block.
 use crate::blocks::{found_at, put_at, puts, was_at_first};
-use nvm_points::{Point, Points};
 use nvm_record::NoMemory;
+use nvm_standard::{Point, Points};
 use std::alloc::Global;
 
 /// So many commands are named at most that put the same bytes in a block.

@@ -3,8 +3,8 @@ use crate::contradicted::push_command;
 use crate::ordered::OrderNumbers;
 use crate::words::{deallocated_word, held_word};
 use nvm_judge::Stop;
-use nvm_points::Profile;
 use nvm_record::NoMemory;
+use nvm_standard::Profile;
 use nvm_trace::Trace;
 use std::alloc::Global;
 

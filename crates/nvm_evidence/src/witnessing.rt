@@ -1,6 +1,6 @@
 ghost use Rattle.std.specs.Prelude.{ℕ, IfErr, IfOk, List};
 ghost use Rattle.nvm_file.specs.TraceFile.{IsTraceFile};
-ghost use Rattle.nvm_orders.specs.OrderView.{seen_order};
+ghost use Rattle.nvm_standard.specs.OrderView.{seen_order};
 ghost use Rattle.nvm_trace.specs.TraceView.{TraceView};
 ghost use Rattle.nvm_evidence.specs.OrderReading.{IsOrderFile, seen_held_order};
 ghost use Rattle.nvm_evidence.specs.Witnessed.{AreOrderedFiles, IsOrdered, IsOrderFault};

@@ -2,7 +2,7 @@
 ghost use Rattle.std.specs.Prelude.{◌≡◌};
 ghost use Rattle.nvm_evidence.specs.OrderedLine as spec;
 
-use nvm_points::{Deallocated, Held};
+use nvm_standard::{Deallocated, Held};
 
 /// What Reads are held to.
 pub fn held_word(held: Held) -> &'static str

@@ -1,12 +1,12 @@
 -- When a contradiction shows that no order of points explains a trace.
 use Rattle.std.specs.Prelude.{◌≡◌, None}
-use Rattle.nvm_contradiction.specs.Absurd.{IsContradiction}
-use Rattle.nvm_contradiction.specs.declared.contradiction.Contradiction.{Contradiction}
-use Rattle.nvm_orders.specs.Explanation.{IsExplanation}
-use Rattle.nvm_orders.specs.OrderView.{OrderView}
-use Rattle.nvm_points.specs.PointView.{TableView}
-use Rattle.nvm_points.specs.Table.{first_wrong, table_of}
-use Rattle.nvm_points.specs.declared.profile.Profile.{Profile}
+use Rattle.nvm_standard.specs.Absurd.{IsContradiction}
+use Rattle.nvm_standard.specs.declared.contradiction.Contradiction.{Contradiction}
+use Rattle.nvm_standard.specs.Explanation.{IsExplanation}
+use Rattle.nvm_standard.specs.OrderView.{OrderView}
+use Rattle.nvm_standard.specs.PointView.{TableView}
+use Rattle.nvm_standard.specs.Table.{first_wrong, table_of}
+use Rattle.nvm_standard.specs.declared.profile.Profile.{Profile}
 use Rattle.nvm_trace.specs.TraceView.{TraceView}
 use Rattle.nvm_judge.specs.Explained.{IsExplainedBy}
 

@@ -1,9 +1,9 @@
 -- When an order of points explains a trace (docs/STANDARD.md), and when none can.
 use Rattle.std.specs.Prelude.{◌≡◌, ℕ, Some, None}
-use Rattle.nvm_orders.specs.Explanation.{IsExplanation}
-use Rattle.nvm_orders.specs.OrderView.{OrderView}
-use Rattle.nvm_points.specs.Table.{first_wrong, table_of}
-use Rattle.nvm_points.specs.declared.profile.Profile.{Profile}
+use Rattle.nvm_standard.specs.Explanation.{IsExplanation}
+use Rattle.nvm_standard.specs.OrderView.{OrderView}
+use Rattle.nvm_standard.specs.Table.{first_wrong, table_of}
+use Rattle.nvm_standard.specs.declared.profile.Profile.{Profile}
 use Rattle.nvm_trace.specs.TraceView.{TraceView}
 
 -- No reply is wrong by itself, and the order explains the trace's table.

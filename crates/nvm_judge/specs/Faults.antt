@@ -1,10 +1,10 @@
 -- Why an order doesn't explain a trace, and why a contradiction isn't taken.
-use Rattle.nvm_orders.specs.Explanation.{IsExplanation}
-use Rattle.nvm_orders.specs.OrderView.{OrderView}
-use Rattle.nvm_orders.specs.RightFault.{IsOfOrder}
-use Rattle.nvm_orders.specs.declared.order_fault.OrderFault.{OrderFault}
-use Rattle.nvm_points.specs.PointView.{TableView}
-use Rattle.nvm_points.specs.declared.profile.Profile.{Profile}
+use Rattle.nvm_standard.specs.Explanation.{IsExplanation}
+use Rattle.nvm_standard.specs.OrderView.{OrderView}
+use Rattle.nvm_standard.specs.RightFault.{IsOfOrder}
+use Rattle.nvm_standard.specs.declared.order_fault.OrderFault.{OrderFault}
+use Rattle.nvm_standard.specs.PointView.{TableView}
+use Rattle.nvm_standard.specs.declared.profile.Profile.{Profile}
 use Rattle.nvm_trace.specs.TraceView.{TraceView}
 use Rattle.nvm_judge.specs.Explained.{IsExplainedBy, IsWrong}
 use Rattle.nvm_judge.specs.declared.check_fault.CheckFault.{CheckFault}

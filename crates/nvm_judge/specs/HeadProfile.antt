@@ -1,7 +1,7 @@
 -- What the device of a trace is held to where nobody asks for more: what the trace's head says that it promises.
-use Rattle.nvm_points.specs.declared.profile.Held.{Held}
-use Rattle.nvm_points.specs.declared.profile.Held.TheVariants as of
-use Rattle.nvm_points.specs.declared.profile.Profile.{Profile}
+use Rattle.nvm_standard.specs.declared.profile.Held.{Held}
+use Rattle.nvm_standard.specs.declared.profile.Held.TheVariants as of
+use Rattle.nvm_standard.specs.declared.profile.Profile.{Profile}
 use Rattle.nvm_trace.specs.TraceView.{TraceView}
 use Rattle.nvm_trace.specs.declared.reads.Reads.{Reads}
 use Rattle.nvm_trace.specs.declared.reads.Reads.TheVariants.{Atomic, Whole, ByBlocks}

@@ -1,8 +1,8 @@
 -- What the judgment of a trace says.
-use Rattle.nvm_orders.specs.Explanation.{IsExplanation}
-use Rattle.nvm_orders.specs.OrderView.{seen_order}
-use Rattle.nvm_points.specs.PointView.{TableView}
-use Rattle.nvm_points.specs.declared.profile.Profile.{Profile}
+use Rattle.nvm_standard.specs.Explanation.{IsExplanation}
+use Rattle.nvm_standard.specs.OrderView.{seen_order}
+use Rattle.nvm_standard.specs.PointView.{TableView}
+use Rattle.nvm_standard.specs.declared.profile.Profile.{Profile}
 use Rattle.nvm_trace.specs.TraceView.{TraceView}
 use Rattle.nvm_judge.specs.Contradicted.{AreContradicted, IsContradictedBy}
 use Rattle.nvm_judge.specs.Explained.{IsExplainedBy, IsWrong}

@@ -1,4 +1,4 @@
-use nvm_orders::OrderFault;
+use nvm_standard::OrderFault;
 use thiserror::Error;
 
 /// Why an order doesn't explain a trace.

@@ -1,13 +1,12 @@
 ghost use Rattle.std.specs.Prelude.{IfErr, OnOk};
 ghost use Rattle.nvm_judge.specs.Explained.{IsExplainedBy};
 ghost use Rattle.nvm_judge.specs.Faults.{IsCheckFault, IsTableFault};
-ghost use Rattle.nvm_orders.specs.Explanation.{IsExplanation};
-ghost use Rattle.nvm_orders.specs.OrderView.{seen_order};
-ghost use Rattle.nvm_points.specs.PointView.{seen_table};
+ghost use Rattle.nvm_standard.specs.Explanation.{IsExplanation};
+ghost use Rattle.nvm_standard.specs.OrderView.{seen_order};
+ghost use Rattle.nvm_standard.specs.PointView.{seen_table};
 
 use crate::check_fault::CheckFault;
-use nvm_orders::{Order, OrderFault, explains};
-use nvm_points::{Points, PointsFault, Profile, points_of};
+use nvm_standard::{Order, OrderFault, Points, PointsFault, Profile, explains, points_of};
 use nvm_trace::Trace;
 use std::alloc::Global;
 

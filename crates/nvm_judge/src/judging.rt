@@ -1,14 +1,15 @@
 ghost use Rattle.std.specs.Prelude.{◌≡◌, IfOk};
 ghost use Rattle.nvm_judge.specs.HeadProfile.{head_profile};
 ghost use Rattle.nvm_judge.specs.Judged.{IsFoundOf, IsJudged};
-ghost use Rattle.nvm_points.specs.PointView.{seen_table};
+ghost use Rattle.nvm_standard.specs.PointView.{seen_table};
 
 use crate::judgment::Judgment;
-use nvm_contradiction::{ContradictionFault, contradicts};
-use nvm_orders::{OrderFault, explains};
-use nvm_points::{Held, Points, PointsFault, Profile, points_of};
 use nvm_record::NoMemory;
 use nvm_search::{Stop, contradiction_of, order_of};
+use nvm_standard::{
+    ContradictionFault, Held, OrderFault, Points, PointsFault, Profile, contradicts, explains,
+    points_of,
+};
 use nvm_trace::{Reads, Trace};
 use std::alloc::{AllocError, Global};
 

@@ -1,6 +1,5 @@
-use nvm_contradiction::Contradiction;
-use nvm_orders::Order;
 use nvm_search::Stop;
+use nvm_standard::{Contradiction, Order};
 
 /// What was found out about a trace.
 #[derive(Debug, Drop)]

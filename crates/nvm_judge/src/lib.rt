@@ -1,9 +1,9 @@
 //! Whether a trace is explained by an order of points, as docs/STANDARD.md asks, or contradicted: from the trace to a judgment that is proved.
 //!
 //! [`judge`] makes the table of the trace's points and searches for an order of them, and then for a contradiction. The searches need no
-//! trust: an order is given only where the walk of [nvm_orders](../nvm_orders) takes it, and a contradiction only where
-//! [nvm_contradiction](../nvm_contradiction) does. [`check_order`] says whether an order that comes from elsewhere explains a trace, and
-//! [`check_contradiction`] whether a contradiction shows that none does.
+//! trust: an order is given only where the walk of [nvm_standard](../nvm_standard) takes it, and so is a contradiction.
+//! [`check_order`] says whether an order that comes from elsewhere explains a trace, and [`check_contradiction`] whether a
+//! contradiction shows that none does.
 #![tactic(auto)]
 
 mod check_fault;

@@ -1,4 +1,4 @@
-use nvm_contradiction::ContradictionFault;
+use nvm_standard::ContradictionFault;
 use thiserror::Error;
 
 /// Why a contradiction isn't taken of a trace.

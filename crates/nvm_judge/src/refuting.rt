@@ -1,11 +1,12 @@
 ghost use Rattle.std.specs.Prelude.{IfErr, OnOk};
 ghost use Rattle.nvm_judge.specs.Contradicted.{AreContradicted, IsContradictedBy};
 ghost use Rattle.nvm_judge.specs.Faults.{IsNoReply, IsRefuteFault};
-ghost use Rattle.nvm_points.specs.PointView.{seen_table};
+ghost use Rattle.nvm_standard.specs.PointView.{seen_table};
 
 use crate::refute_fault::RefuteFault;
-use nvm_contradiction::{Contradiction, ContradictionFault, contradicts};
-use nvm_points::{Points, PointsFault, Profile, points_of};
+use nvm_standard::{
+    Contradiction, ContradictionFault, Points, PointsFault, Profile, contradicts, points_of,
+};
 use nvm_trace::Trace;
 use std::alloc::Global;
 

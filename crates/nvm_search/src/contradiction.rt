@@ -1,7 +1,7 @@
 //! Finds a contradiction among the points of a trace, and gives it by few facts.
 //!
 //! [`contradiction_of`] looks for nodes, points at their blocks, of which one would have to come before itself, or which found what nobody
-//! can have put there, and gives the facts in the words of [`nvm_contradiction`].
+//! can have put there, and gives the facts in the words of [`nvm_standard`].
 
 mod absurd;
 mod blocks_found;

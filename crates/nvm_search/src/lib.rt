@@ -2,8 +2,8 @@
 //!
 //! [`order_of`] looks for the one, and [`contradiction_of`] for the other. Both number what they compare: [`Values`](values::Values)
 //! numbers what blocks held, so that two blocks hold the same exactly if their numbers are the same, and [`Numbers`](numbers::Numbers) keeps
-//! what is noted of each number. Nothing here is trusted: an order counts only where [`explains`](nvm_orders::explains) takes it, and a
-//! contradiction only where [`contradicts`](nvm_contradiction::contradicts) does.
+//! what is noted of each number. Nothing here is trusted: an order counts only where [`explains`](nvm_standard::explains) takes it, and a
+//! contradiction only where [`contradicts`](nvm_standard::contradicts) does.
 #![tactic(auto)]
 
 mod contradiction;

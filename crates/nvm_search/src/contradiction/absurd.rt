@@ -1,8 +1,8 @@
 use crate::contradiction::derivation::Derivation;
 use crate::contradiction::history::History;
 use crate::contradiction::window::Window;
-use nvm_points::Presence;
 use nvm_record::NoMemory;
+use nvm_standard::Presence;
 use std::alloc::Global;
 
 /// What can't be, of finds by their places in the window's.

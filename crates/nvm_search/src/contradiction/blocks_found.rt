@@ -1,5 +1,5 @@
-use nvm_points::{Found, Point, Presence, Put};
 use nvm_record::NoMemory;
+use nvm_standard::{Found, Point, Presence, Put};
 use std::alloc::Global;
 
 /// The most blocks of commands without data of their own that are listed.

@@ -1,8 +1,7 @@
 use crate::contradiction::history::History;
 use crate::numbers::to_u32;
-use nvm_contradiction::Node;
-use nvm_points::{Point, Presence};
 use nvm_record::NoMemory;
+use nvm_standard::{Node, Point, Presence};
 use std::alloc::Global;
 
 /// A node, in its component. They are ordered by component and by when they began.

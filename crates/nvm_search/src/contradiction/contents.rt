@@ -1,7 +1,7 @@
 use crate::data::block_at;
 use crate::values::Values;
-use nvm_points::{Found, Points, Put};
 use nvm_record::{BlockSize, NoMemory};
+use nvm_standard::{Found, Points, Put};
 use std::alloc::Global;
 
 /// Bytes of FFh, as many as a block has at most.

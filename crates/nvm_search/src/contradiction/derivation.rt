@@ -8,8 +8,8 @@ use crate::contradiction::place_set::PlaceSet;
 use crate::contradiction::settling::{Condition, Settled, Whose, who_put};
 use crate::contradiction::sought::Sought;
 use crate::contradiction::window::{Window, WindowFind};
-use nvm_points::{Presence, Put};
 use nvm_record::NoMemory;
+use nvm_standard::{Presence, Put};
 use std::alloc::Global;
 use std::mem;
 

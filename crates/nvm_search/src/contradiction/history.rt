@@ -5,9 +5,8 @@ use crate::contradiction::sure_writers::SureWriters;
 use crate::contradiction::writers::{Asked, Run, Writer, Writers};
 use crate::numbers::to_u32;
 use crate::values::{MARK, ZERO};
-use nvm_contradiction::Node;
-use nvm_points::{Deallocated, Found, Point, Points, Presence, Put};
 use nvm_record::NoMemory;
+use nvm_standard::{Deallocated, Found, Node, Point, Points, Presence, Put};
 use nvm_trace::Start;
 use std::alloc::Global;
 

@@ -1,6 +1,6 @@
 use crate::contradiction::history::History;
-use nvm_contradiction::{Conclusion, Contradiction, Fact, Node};
 use nvm_record::NoMemory;
+use nvm_standard::{Conclusion, Contradiction, Fact, Node};
 use std::alloc::Global;
 
 /// So few commands a contradiction has that none with fewer is looked for.

@@ -7,8 +7,8 @@ use crate::contradiction::paths::{Link, path};
 use crate::contradiction::place_set::PlaceSet;
 use crate::contradiction::settling::Condition;
 use crate::contradiction::window::Window;
-use nvm_contradiction::Node;
 use nvm_record::NoMemory;
+use nvm_standard::Node;
 use std::alloc::Global;
 
 /// Why something of a window can't be.

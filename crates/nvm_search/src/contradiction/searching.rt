@@ -4,9 +4,8 @@ use crate::contradiction::naming::Named;
 use crate::contradiction::shortening::shorter;
 use crate::contradiction::stretches::in_stretches;
 use crate::contradiction::unserved::shortest_unserved;
-use nvm_contradiction::Contradiction;
-use nvm_points::Points;
 use nvm_record::NoMemory;
+use nvm_standard::{Contradiction, Points};
 use std::alloc::Global;
 
 /// How many nodes are looked at together, at least and at most.
@@ -16,7 +15,7 @@ const MOST: usize = 2_048;
 
 /// A contradiction of the points, if one is found.
 ///
-/// It needn't be trusted: [`contradicts`](nvm_contradiction::contradicts) checks it. `effort` is how many points, each at one of its blocks, are looked
+/// It needn't be trusted: [`contradicts`](nvm_standard::contradicts) checks it. `effort` is how many points, each at one of its blocks, are looked
 /// at together at most, from 64 to 2,048. Of more those that are near in time are, so a contradiction may be missed.
 pub fn contradiction_of(
     alloc: Global,

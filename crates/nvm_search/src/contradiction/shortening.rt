@@ -4,8 +4,8 @@ use crate::contradiction::naming::Named;
 use crate::contradiction::reasons::reasons_of;
 use crate::contradiction::telling::told;
 use crate::contradiction::window::Window;
-use nvm_contradiction::Node;
 use nvm_record::NoMemory;
+use nvm_standard::Node;
 use std::alloc::Global;
 
 /// Of how many things that can't be the reasons are looked at.

@@ -3,8 +3,8 @@ use crate::contradiction::history::History;
 use crate::contradiction::naming::Named;
 use crate::contradiction::shortening::{least_contradiction, shorter};
 use crate::contradiction::window::SERVERS;
-use nvm_contradiction::Node;
 use nvm_record::NoMemory;
+use nvm_standard::Node;
 use std::alloc::Global;
 
 /// How many nodes side by side are looked at, at least, where a component has too many to be looked at together.

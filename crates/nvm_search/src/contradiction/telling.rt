@@ -1,4 +1,4 @@
-//! Reasons as a contradiction in the words of nvm_contradiction.
+//! Reasons as a contradiction in the words of nvm_standard.
 use crate::contradiction::absurd::Absurd;
 use crate::contradiction::derivation::Derivation;
 use crate::contradiction::derived::{Derived, Rule};
@@ -7,9 +7,8 @@ use crate::contradiction::paths::Link;
 use crate::contradiction::reasons::Reasons;
 use crate::contradiction::settling::Whose;
 use crate::contradiction::window::Window;
-use nvm_contradiction::{Conclusion, Contradiction, Fact, Node};
-use nvm_points::{Point, Put};
 use nvm_record::NoMemory;
+use nvm_standard::{Conclusion, Contradiction, Fact, Node, Point, Put};
 use std::alloc::Global;
 
 /// Where so many others can have put what was found, it is said why they can't have.

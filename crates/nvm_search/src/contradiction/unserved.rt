@@ -3,8 +3,8 @@ use crate::contradiction::history::History;
 use crate::contradiction::naming::Named;
 use crate::contradiction::shortening::{least_contradiction, shorter};
 use crate::numbers::to_u32;
-use nvm_contradiction::Node;
 use nvm_record::NoMemory;
+use nvm_standard::Node;
 use std::alloc::Global;
 
 /// How many of them are looked at, those first of which fewest other points can have put what they found.

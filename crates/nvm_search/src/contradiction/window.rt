@@ -1,9 +1,8 @@
 use crate::contradiction::history::History;
 use crate::contradiction::place_set::PlaceSet;
 use crate::contradiction::sought::Sought;
-use nvm_contradiction::Node;
-use nvm_points::{Point, Put};
 use nvm_record::NoMemory;
+use nvm_standard::{Node, Point, Put};
 use std::alloc::Global;
 
 /// The most points that can have put what one found, where that is looked at.

@@ -8,8 +8,8 @@ use crate::order::ranks::Ranks;
 use crate::order::slots::{Slot, Slots, UNKNOWN};
 use crate::order::together::is_left_out;
 use crate::values::{MARK, Values, ZERO};
-use nvm_points::{Deallocated, Found, Point, Points, Presence, Put};
 use nvm_record::NoMemory;
+use nvm_standard::{Deallocated, Found, Point, Points, Presence, Put};
 use nvm_trace::Start;
 use std::alloc::Global;
 

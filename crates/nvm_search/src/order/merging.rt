@@ -9,9 +9,8 @@ use crate::order::search::{Search, Step};
 use crate::order::stop::Stop;
 use crate::order::together::done_together;
 use crate::values::{MARK, Values, ZERO};
-use nvm_orders::{Content, FirstContent, Order, Placed, Value};
-use nvm_points::{Point, Points, Presence};
 use nvm_record::NoMemory;
+use nvm_standard::{Content, FirstContent, Order, Placed, Point, Points, Presence, Value};
 use std::alloc::Global;
 
 /// The bytes of a block of FFh.

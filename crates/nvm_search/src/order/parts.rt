@@ -1,7 +1,7 @@
 //! The parts of a namespace, each of which is searched by itself.
 use crate::numbers::{Numbers, to_u32};
-use nvm_points::Point;
 use nvm_record::NoMemory;
+use nvm_standard::Point;
 use std::alloc::Global;
 
 /// The blocks of a point that lie in a part. They follow one another.

@@ -1,8 +1,8 @@
 //! Times as ranks among all times of the trace.
 use crate::numbers::to_u32;
 use crate::order::acts::NONE;
-use nvm_points::Point;
 use nvm_record::NoMemory;
+use nvm_standard::Point;
 use std::alloc::Global;
 
 /// All times at which a point may begin or has to be over, rising.

@@ -4,8 +4,8 @@ use crate::numbers::{Numbers, to_u32};
 use crate::order::acts::NONE;
 use crate::order::making::Known;
 use crate::order::parts::Share;
-use nvm_points::{Deallocated, Found, Point, Points, Presence, Put};
 use nvm_record::{BlockSize, NoMemory};
+use nvm_standard::{Deallocated, Found, Point, Points, Presence, Put};
 use nvm_trace::Start;
 use std::alloc::Global;
 

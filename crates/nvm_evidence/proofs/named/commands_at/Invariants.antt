@@ -1,5 +1,5 @@
 use Rattle.std.proofs.Common.{◌≡◌, ◌++◌, drop}
-use Rattle.nvm_points.specs.PointView.{seen_table}
+use Rattle.nvm_standard.specs.PointView.{seen_table}
 use Rattle.nvm_evidence.specs.Named.{commands_at}
 use Rattle.nvm_evidence.proofs.named.commands_at.Given as goal
 

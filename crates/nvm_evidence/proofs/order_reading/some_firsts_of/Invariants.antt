@@ -1,5 +1,5 @@
 use Rattle.std.proofs.Common.{map}
-use Rattle.nvm_orders.specs.OrderView.{seen_first}
+use Rattle.nvm_standard.specs.OrderView.{seen_first}
 use Rattle.nvm_evidence.specs.OrderReading.{first_at}
 use Rattle.nvm_evidence.proofs.ItemLoops.{HasRead}
 use Rattle.nvm_evidence.proofs.order_reading.some_firsts_of.Given as goal

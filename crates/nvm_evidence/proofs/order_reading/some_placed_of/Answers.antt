@@ -1,7 +1,7 @@
 use Rattle.std.proofs.Common.{map, [], ◌∷◌, rules, arith}
 use Rattle.std.proofs.lemmas.List.{map-append}
 use Rattle.std.proofs.lemmas.Result.{err_from_is_err_and}
-use Rattle.nvm_orders.specs.OrderView.{seen_placed}
+use Rattle.nvm_standard.specs.OrderView.{seen_placed}
 use Rattle.nvm_evidence.specs.OrderReading.{placed_at}
 use Rattle.nvm_evidence.proofs.ItemLoops.{begun, ended, failed, one_more}
 use Rattle.nvm_evidence.proofs.order_reading.some_placed_of.Goals as goal

@@ -1,5 +1,5 @@
 use Rattle.std.proofs.Common.{map}
-use Rattle.nvm_orders.specs.OrderView.{seen_placed}
+use Rattle.nvm_standard.specs.OrderView.{seen_placed}
 use Rattle.nvm_evidence.specs.OrderReading.{placed_at}
 use Rattle.nvm_evidence.proofs.ItemLoops.{HasRead}
 use Rattle.nvm_evidence.proofs.order_reading.some_placed_of.Given as goal

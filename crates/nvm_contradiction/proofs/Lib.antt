@@ -1,9 +1,0 @@
-pub mod Done
-pub mod Timing
-pub mod Holding
-pub mod Finding
-pub mod Ruling
-pub mod Wider
-pub mod Sound
-pub mod Pushed
-pub mod Deriving

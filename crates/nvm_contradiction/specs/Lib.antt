@@ -1,9 +1,0 @@
-pub mod Nodes
-pub mod Knowledge
-pub mod Times
-pub mod Serving
-pub mod Readings
-pub mod Rules
-pub mod Standing
-pub mod Absurd
-pub mod Inside

@@ -1,8 +1,0 @@
-use Rattle.nvm_points.specs.PointView.{seen_table}
-use Rattle.nvm_orders.specs.Explanation.{IsPlacedRight}
-use Rattle.nvm_orders.specs.OrderView.{seen_order}
-use Rattle.nvm_orders.proofs.Eaches.{EachTo}
-use Rattle.nvm_orders.proofs.fitting.misplaced.Given as goal
-
-abbrev pub invariant-loop-position : goal.invariant-loop-position
-invariant-loop-position l = EachTo (IsPlacedRight (seen_table l.points)) (seen_order l.order).placed l.position

@@ -1,7 +1,0 @@
-use Rattle.nvm_points.specs.PointView.{seen}
-use Rattle.nvm_orders.proofs.Noting.{empty_row_of}
-use Rattle.nvm_orders.proofs.rows.empty_row.Goals as goal
-
-pub returns : goal.returns
-returns c = λ o n.
-    empty_row_of o n c.row_len.result (seen c.args.point.now) c.in_ok-row.row.items (c.in_ok-row.ensures.items_if_clones_equal (λ y e. e)) c.row_len.ensures

@@ -1,8 +1,0 @@
--- What is kept of blocks and of points as an order is walked.
-pub mod Held
-pub mod Latest
-pub mod Done
--- What rows have to be like.
-pub mod Right
--- The times up to a position.
-pub mod Timely
