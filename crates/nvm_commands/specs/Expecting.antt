@@ -2,11 +2,11 @@
 use Rattle.std.specs.Prelude.{◌≡◌, ◌⊎◌, ℕ, nat_lt, if◌then◌else◌, Bool, true, false, List, Option, Some, None, Err, length, string_bytes}
 use Rattle.nvm_audit.specs.LawfulRecord.{IsLawfulRecord}
 use Rattle.nvm_audit.specs.RecordView.{RecordView}
-use Rattle.nvm_expect.specs.CheckText.{checks_text, unmet_count}
-use Rattle.nvm_expect.specs.Checks.{Lists, AreChecksOf}
-use Rattle.nvm_expect.specs.Expectations.{expectations}
-use Rattle.nvm_expect.specs.declared.check.Check.{Check}
-use Rattle.nvm_expect.specs.declared.fault.ExpectationFault.TheVariants.{Line}
+use Rattle.nvm_listing.specs.CheckText.{checks_text, unmet_count}
+use Rattle.nvm_listing.specs.Checks.{Lists, AreChecksOf}
+use Rattle.nvm_listing.specs.Expectations.{expectations}
+use Rattle.nvm_listing.specs.declared.check.Check.{Check}
+use Rattle.nvm_listing.specs.declared.expectation_fault.ExpectationFault.TheVariants.{Line}
 use Rattle.nvm_commands.specs.Paths.{IsOfOne}
 use Rattle.nvm_commands.specs.declared.checked.Checked.{Checked}
 use Rattle.nvm_commands.specs.declared.fault.Fault.{Fault}

@@ -1,7 +1,7 @@
 -- Why a file wasn't read, or not written.
 use Rattle.std.specs.Prelude.{◌≡◌, ◌⊎◌, ℕ, String, List, codes, string_bytes}
 use Rattle.std.specs.Global.{Global}
-use Rattle.nvm_expect.specs.Expectations.{without_expectations}
+use Rattle.nvm_listing.specs.Expectations.{without_expectations}
 use Rattle.nvm_commands.specs.Expecting.{IsExpectationFault}
 use Rattle.nvm_commands.specs.Fault.{IsFaultOfList, IsFaultOfText}
 use Rattle.nvm_commands.specs.Listed.{IsListFault}

@@ -6,7 +6,7 @@ ghost use Rattle.nvm_commands.specs.Expecting.{IsCheckedIf, IsCheckedOf, status_
 use crate::read_list::ReadList;
 use nvm_audit::Record;
 use nvm_engine::Shown;
-use nvm_expect::{checks, checks_text, unmet_count};
+use nvm_listing::{checks, checks_text, unmet_count};
 use nvm_record::{NoMemory, Status};
 use std::alloc::{AllocError, Global};
 

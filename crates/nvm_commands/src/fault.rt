@@ -4,10 +4,10 @@ ghost use Rattle.nvm_commands.specs.Fault.{fault_of_list, fault_of_file, fault_o
 
 use nvm_engine::Fault as EngineFault;
 use nvm_evidence::{EvidenceFault, OrderWitnessFault, RefuteBytesFault};
-use nvm_expect::Expected as Unexpected;
 use nvm_file::{RecordFault, TraceFileFault};
 use nvm_geometry::GeometryFault;
 use nvm_list::{Expected, ListFault};
+use nvm_listing::Expected as Unexpected;
 use nvm_record::HostFault;
 use nvm_trace_text::{TextFault, TraceExpected};
 use std::alloc::{AllocError, AllocFailed};

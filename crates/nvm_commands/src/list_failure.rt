@@ -4,7 +4,7 @@ ghost use Rattle.std.specs.Prelude.{◌≡◌};
 use crate::failure::{Failure, line_of};
 use crate::fault::Fault;
 use crate::hint::no_list;
-use nvm_expect::{WrongLine, wrong_lines};
+use nvm_listing::{WrongLine, wrong_lines};
 use nvm_record::BlockSize;
 use std::alloc::{AllocError, Global};
 

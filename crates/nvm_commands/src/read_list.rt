@@ -1,14 +1,14 @@
 //! Command lists as they are read, without what they expect, and that.
 ghost use Rattle.std.specs.Prelude.{◌≡◌, ◌⊎◌, IfOk, IfErr, Ok, map, string_bytes};
-ghost use Rattle.nvm_expect.specs.Expectations as spec;
+ghost use Rattle.nvm_listing.specs.Expectations as spec;
 ghost use Rattle.nvm_commands.specs.Expecting.{IsExpectationFault, IsExpectingFault};
 ghost use Rattle.nvm_commands.specs.Files.{IsReadingFault};
 
 use crate::failure::{Failure, of_list};
 use crate::fault::Fault;
 use crate::files::bytes_of;
-use nvm_expect::{ExpectationFault, expectations, without_expectations};
 use nvm_front::{InputKind, Progress};
+use nvm_listing::{ExpectationFault, expectations, without_expectations};
 use nvm_record::Status;
 use std::alloc::{AllocError, Global};
 use std::rt::Files;

@@ -1,4 +1,9 @@
 pub mod AllFaults
 pub mod Answers
 pub mod Items
+pub mod Expectation
+pub mod Expectations
+pub mod Checks
+pub mod CheckText
+pub mod WrongLines
 pub mod Inside

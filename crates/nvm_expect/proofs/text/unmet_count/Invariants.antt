@@ -1,6 +1,0 @@
-use Rattle.std.proofs.Common.{◌≡◌, take}
-use Rattle.nvm_expect.specs.CheckText as spec
-use Rattle.nvm_expect.proofs.text.unmet_count.Given as goal
-
-abbrev pub invariant-loop-check : goal.invariant-loop-check
-invariant-loop-check l = l.count ≡ spec.unmet_count (take l.check-index l.checks)
