@@ -35,7 +35,7 @@ LEFT_OUT = {
     ("nvm_engine", "witness_record_alone"): "nvm_c",
 }
 # An end whose refusal the programs can't tell by what they say: a hint that isn't there, or for which there was no memory.
-UNTOLD = ("nvm_front", "other_block", "Ok(None)")
+UNTOLD = ("nvm_commands", "other_block", "Ok(None)")
 
 
 @dataclass
@@ -64,12 +64,16 @@ def sources_of(crate):
         yield from (f"{at}/{name}" for name in sorted(names) if name.endswith(".rt") and name != "tests.rt")
 
 
-def made_public(crate):
-    """The names that the crate's page makes public."""
-    page = text_of(f"{TOP}/crates/{crate}/src/lib.rt")
-    names = set()
-    for uses in re.findall(r"^pub use [\w:]+::(\{[^}]*\}|\w+);", page, re.M):
-        names.update(re.findall(r"\w+", uses))
+def made_public(crate, path):
+    """The names that the crate's page makes public, or the page of a folder of its modules in which the file at the path is."""
+    top, folder, names = f"{TOP}/crates/{crate}/src", os.path.dirname(path), set()
+    pages = [f"{top}/lib.rt"]
+    while folder != top:
+        pages.append(f"{folder}.rt")
+        folder = os.path.dirname(folder)
+    for page in pages:
+        for uses in re.findall(r"^pub use [\w:]+::(\{[^}]*\}|\w+);", text_of(page), re.M):
+            names.update(re.findall(r"\w+", uses))
     return names
 
 
@@ -143,10 +147,9 @@ def ends_of(text, begin, end):
 
 def refusals_of(crate, word=""):
     """The refusals of the crate's calls whose names have the word, and the calls whose error isn't want of memory."""
-    public, left = made_public(crate), []
-    refusals = []
+    refusals, left = [], []
     for path in sources_of(crate):
-        text, place = text_of(path), os.path.relpath(path, TOP)
+        text, place, public = text_of(path), os.path.relpath(path, TOP), made_public(crate, path)
         for owner, is_public, name, signature, begin, end in calls_in(text):
             called = f"{owner}::{name}" if owner else name
             if not is_public or (owner or name) not in public or word not in called:

@@ -1,4 +1,5 @@
 pub mod Generated
 pub mod Held
 pub mod HostFiles
+mod NumberReading
 pub mod Reading

@@ -16,9 +16,9 @@ use Rattle.nvm_listing.specs.AllFaults.{AreFaults, faults_status}
 use Rattle.nvm_listing.specs.declared.faults.Faults.{Faults}
 use Rattle.nvm_file.specs.Reading.{record_at}
 use Rattle.nvm_file.specs.RecordFile.{IsRecordFile}
-use Rattle.nvm_front.specs.Standard.{names_input}
-use Rattle.nvm_front.specs.declared.judging_words.Telling.{Telling}
-use Rattle.nvm_front.specs.declared.judging_words.Telling.TheVariants.{Lines, Object}
+use Rattle.nvm_commands.specs.Standard.{names_input}
+use Rattle.nvm_commands.specs.declared.front.judging_words.Telling.{Telling}
+use Rattle.nvm_commands.specs.declared.front.judging_words.Telling.TheVariants.{Lines, Object}
 use Rattle.nvm_trace.specs.declared.explained.Explained.{Explained}
 use Rattle.nvm_standard.specs.OrderView.{OrderView}
 use Rattle.nvm_standard.specs.declared.profile.Profile.{Profile}

@@ -7,10 +7,12 @@ pub mod Expecting
 pub mod Files
 pub mod Generated
 pub mod Listed
+pub mod Numbers
 pub mod Nvmu
 pub mod Paths
 pub mod Ran
 pub mod RunFaults
+pub mod Standard
 pub mod ToldRun
 pub mod Traced
 pub mod Words

@@ -6,7 +6,7 @@ use Rattle.nvm_record.specs.declared.command.Command.{Command}
 use Rattle.nvm_list.specs.Lists.{commands}
 use Rattle.nvm_list.specs.declared.fault.ListFault.TheVariants as of_list
 use Rattle.nvm_engine.specs.declared.settings.Settings.{Settings}
-use Rattle.nvm_front.specs.Standard.{names_input}
+use Rattle.nvm_commands.specs.Standard.{names_input}
 use Rattle.nvm_commands.specs.Files.{IsWriteFault}
 use Rattle.nvm_commands.specs.declared.fault.Fault.{Fault}
 use Rattle.nvm_commands.specs.declared.fault.Fault.TheVariants.{InputTwice, ListLine, RecordAmongLines}

@@ -7,8 +7,8 @@ use Rattle.nvm_audit.specs.declared.verdict.Verdict.{Verdict}
 use Rattle.nvm_engine.specs.Shown.{IsShown}
 use Rattle.nvm_engine.specs.VerdictObject.{lawful_object}
 use Rattle.nvm_engine.specs.declared.settings.Settings.{Settings}
-use Rattle.nvm_front.specs.declared.judging_words.Telling.{Telling}
-use Rattle.nvm_front.specs.declared.judging_words.Telling.TheVariants.{Lines, Object}
+use Rattle.nvm_commands.specs.declared.front.judging_words.Telling.{Telling}
+use Rattle.nvm_commands.specs.declared.front.judging_words.Telling.TheVariants.{Lines, Object}
 use Rattle.nvm_commands.specs.declared.told_run.ToldRun.{ToldRun}
 
 -- The text is printed of the record. The verdict's object, which comes after those of the answers, is that of an audit of the record.

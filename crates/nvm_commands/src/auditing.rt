@@ -10,9 +10,9 @@ use crate::failure::Failure;
 use crate::files::{
     check_apart, order_in, payload_of, read_as_record, read_as_trace, record_in, write_bytes,
 };
+use crate::front::{InputKind, Progress, STANDARD, Telling};
 use nvm_engine::{Judged, judge_watched, witness_record};
 use nvm_evidence::{is_evidence, witness_order};
-use nvm_front::{InputKind, Progress, STANDARD, Telling};
 use nvm_listing::{all_faults, list_faults};
 use nvm_record::{NoMemory, Payload};
 use nvm_trace::{Judging, Trace};

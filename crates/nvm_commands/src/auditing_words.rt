@@ -1,6 +1,6 @@
 //! The words of `nvq audit`.
+use crate::front::{audit_command, flag};
 use clap::{Command, Error};
-use nvm_front::{audit_command, flag};
 use std::alloc::Global;
 
 /// `nvq audit`: the words that both programs have, and `--all`.

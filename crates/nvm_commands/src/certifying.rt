@@ -15,12 +15,12 @@ use crate::certifying_words::CertifyWords;
 use crate::failure::{Failure, plain};
 use crate::fault::Fault;
 use crate::files::{check_no_lines, check_output, read_as_trace, write_bytes};
+use crate::front::{Progress, STANDARD, Telling};
 use nvm_evidence::{
     OrderNumbers, contradiction_brief, contradiction_object, contradiction_text, explained_object,
     explained_text, most_together, unknown_object, unknown_text, write_contradiction, write_order,
     wrong_object, wrong_text,
 };
-use nvm_front::{Progress, STANDARD, Telling};
 use nvm_judge::{Judgment, Stop, judge};
 use nvm_record::NoMemory;
 use nvm_standard::{Contradiction, Order, Profile};

@@ -2,11 +2,11 @@
 ghost use Rattle.std.specs.Prelude.{◌≡◌};
 ghost use Rattle.nvm_commands.specs.Asked.{profile_asked};
 
-use clap::{Arg, ArgMatches, Command, Error};
-use nvm_front::{
+use crate::front::{
     Telling, WordFault, flag, json, number_of_32_bits, number_option, path_given, path_option,
     telling_of, trace,
 };
+use clap::{Arg, ArgMatches, Command, Error};
 use nvm_judge::profile_of;
 use nvm_standard::{Deallocated, Held, Profile};
 use nvm_trace::Trace;

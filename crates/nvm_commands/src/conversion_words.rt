@@ -2,10 +2,10 @@
 ghost use Rattle.std.specs.Prelude.{IfOk};
 ghost use Rattle.nvm_commands.specs.Words.{IsAsked};
 
+use crate::front::{WordFault, file_argument, flag, size_given};
 use crate::namespace_words::block;
 use crate::words::Asked;
 use clap::{ArgMatches, Command, Error};
-use nvm_front::{WordFault, file_argument, flag, size_given};
 use std::alloc::Global;
 
 /// What `nvq assemble` is asked.

@@ -1,6 +1,6 @@
 //! The words of `nvq explain`.
+use crate::front::{WordFault, file_argument, judging_of, strict};
 use clap::{Arg, ArgMatches, Command, Error};
-use nvm_front::{WordFault, file_argument, judging_of, strict};
 use nvm_trace::Judging;
 use std::alloc::Global;
 

@@ -10,14 +10,14 @@ ghost use Rattle.nvm_commands.specs.Traced.{SaysTrace, begins_as_file};
 use crate::conversion::{record_of, trace_of};
 use crate::failure::{Failure, of_order, of_record, of_text, of_trace, plain};
 use crate::fault::Fault;
+use crate::front::{
+    FileFault, InputKind, Output, Progress, STANDARD, is_input, is_output, is_read, read_input,
+    write, write_run,
+};
 use crate::hint::refusal;
 use nvm_audit::Record;
 use nvm_evidence::{Evidence, HeldOrder, read_evidence, read_order};
 use nvm_file::write_host;
-use nvm_front::{
-    FileFault, InputKind, Output, Progress, STANDARD, is_input, is_output, is_read, read_input,
-    write, write_run,
-};
 use nvm_record::{Command, Payload};
 use nvm_trace::Trace;
 use nvm_trace_text::trace_of_text;

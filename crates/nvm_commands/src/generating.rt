@@ -7,9 +7,9 @@ ghost use Rattle.nvm_commands.specs.Generated.{AreListsOfLoad, IsGeneratingFault
 use crate::failure::{Failure, of_run};
 use crate::fault::Fault;
 use crate::files::{unmade, unwritten};
+use crate::front::{FileFault, Output, Progress, is_one_output};
 use crate::generating_words::GenerateWords;
 use crate::namespace_words::NamespaceWords;
-use nvm_front::{FileFault, Output, Progress, is_one_output};
 use nvm_generate::{Load, list_of_load};
 use nvm_geometry::Geometry;
 use nvm_plan::MOST_HOSTS;

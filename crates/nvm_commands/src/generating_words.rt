@@ -1,12 +1,12 @@
 //! The words of `nvq generate`.
 ghost use Rattle.std.specs.Prelude.{◌≤◌, IfOk, length};
 
-use crate::namespace_words::{NamespaceWords, read_namespace, with_namespace};
-use clap::{Arg, ArgMatches, Command, Error};
-use nvm_front::{
+use crate::front::{
     WordFault, file_arguments, number_given, number_of_16_bits, number_of_64_bits, number_option,
     owned,
 };
+use crate::namespace_words::{NamespaceWords, read_namespace, with_namespace};
+use clap::{Arg, ArgMatches, Command, Error};
 use nvm_generate::Mix;
 use std::alloc::Global;
 

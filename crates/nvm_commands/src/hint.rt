@@ -1,6 +1,6 @@
 //! What helps whoever reads a fault. It is on the line below it, after two spaces.
 use crate::content::Content;
-use nvm_front::STANDARD;
+use crate::front::STANDARD;
 use nvm_geometry::GeometryFault;
 use nvm_record::{BlockSize, HostFault, Payload, read_host};
 use std::alloc::{AllocError, Global};

@@ -1,5 +1,7 @@
 //! What the programs `nvq` and `nvmu` do. `nvq` runs lists of commands, which people write or a seed gives, makes them into host files, lists those,
 //! records and traces, makes the text of traces into files, and judges and explains records and traces. `nvmu` runs host files, and judges.
+//!
+//! The module `front` has what both do with words, files and standard streams. How far long work is, a [`Progress`] says.
 #![tactic(auto)]
 
 mod auditing;
@@ -16,6 +18,7 @@ mod explaining_words;
 mod failure;
 mod fault;
 mod files;
+mod front;
 mod generating;
 mod generating_words;
 mod hint;
@@ -34,4 +37,5 @@ mod tracing;
 mod words;
 
 pub use commands::{NVQ, nvq_status};
+pub use front::Progress;
 pub use nvmu::{NVMU, nvmu_status};

@@ -7,8 +7,8 @@ ghost use Rattle.nvm_commands.specs.Listed.{AreObjectsOfFile};
 
 use crate::failure::Failure;
 use crate::files::{read_as_record, write_bytes};
+use crate::front::{Progress, STANDARD};
 use nvm_engine::judge_watched;
-use nvm_front::{Progress, STANDARD};
 use nvm_listing::list_as_objects;
 use std::rt::Files;
 use std::thread::Threads;

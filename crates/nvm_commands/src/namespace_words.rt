@@ -1,9 +1,9 @@
 //! The words that say what the namespace is like, of `nvq run` and `nvq generate`.
 
-use clap::{Arg, ArgMatches, Command, Error};
-use nvm_front::{
+use crate::front::{
     WordFault, nabo, nabsn, nsze, number_of_16_bits, number_of_64_bits, number_option, size_given,
 };
+use clap::{Arg, ArgMatches, Command, Error};
 use nvm_record::BlockSize;
 use std::alloc::Global;
 

@@ -15,14 +15,14 @@ mod words;
 
 use crate::failure::Failure;
 use crate::fault::Fault;
+use crate::front::{
+    FileFault, Output, Progress, UNWRITTEN, WordFault, failed, tell, texts_of, words_given,
+};
 use crate::nvmu::answer::Answer;
 use crate::nvmu::auditing::{audited, witnessed};
 use crate::nvmu::refuting::refuted;
 use crate::nvmu::running::recorded;
 use crate::nvmu::words::{Asked, read_words};
-use nvm_front::{
-    FileFault, Output, Progress, UNWRITTEN, WordFault, failed, tell, texts_of, words_given,
-};
 use std::alloc::Global;
 use std::rt::{Env, Files};
 use std::sync::Wait;

@@ -7,7 +7,7 @@ ghost use Rattle.nvm_commands.specs.Files.{IsReadingFault};
 use crate::failure::{Failure, of_list};
 use crate::fault::Fault;
 use crate::files::bytes_of;
-use nvm_front::{InputKind, Progress};
+use crate::front::{InputKind, Progress};
 use nvm_listing::{ExpectationFault, expectations, without_expectations};
 use nvm_record::Status;
 use std::alloc::{AllocError, Global};

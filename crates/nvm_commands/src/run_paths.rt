@@ -1,14 +1,14 @@
 //! The paths that the words of `nvq run` name, before a file is read or written.
 ghost use Rattle.std.specs.Prelude.{◌≡◌, IfOk, IfErr, string_bytes};
 ghost use Rattle.std.specs.List.{count_by};
-ghost use Rattle.nvm_front.specs.Standard.{names_input};
+ghost use Rattle.nvm_commands.specs.Standard.{names_input};
 ghost use Rattle.nvm_commands.specs.RunFaults.{FitNames, IsKeepingFault, IsNamesFault};
 
 use crate::failure::{Failure, plain};
 use crate::fault::Fault;
 use crate::files::check_place;
+use crate::front::{STANDARD, is_input};
 use crate::running_words::RunWords;
-use nvm_front::{STANDARD, is_input};
 use std::rt::Files;
 
 /// Standard input is named at most once, and standard output isn't the record's.

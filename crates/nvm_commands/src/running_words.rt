@@ -1,13 +1,13 @@
 //! The words of `nvq run`.
 ghost use Rattle.std.specs.Prelude.{◌≤◌, IfOk, length};
 
-use crate::namespace_words::{NamespaceWords, read_namespace, with_namespace};
-use clap::{ArgMatches, Command, Error};
-use nvm_engine::Workers;
-use nvm_front::{
+use crate::front::{
     Telling, WordFault, file_arguments, flag, limit, limit_given, number_option, owned, path_given,
     path_option, telling_of, workers_given,
 };
+use crate::namespace_words::{NamespaceWords, read_namespace, with_namespace};
+use clap::{ArgMatches, Command, Error};
+use nvm_engine::Workers;
 use nvm_store::Limit;
 use std::alloc::Global;
 

@@ -1,8 +1,8 @@
 //! What helps where lines of a trace's text are wrong.
 use crate::failure::shown_line;
+use crate::front::STANDARD;
 use crate::hint::no_trace_text;
 use crate::list_failure::{TOLD, joined};
-use nvm_front::STANDARD;
 use nvm_trace_text::{TextFault, TraceExpected, trace_of_text};
 use std::alloc::{AllocError, Global};
 

@@ -3,9 +3,9 @@ ghost use Rattle.std.specs.Prelude.{◌≡◌, IfOk, string_bytes};
 ghost use Rattle.nvm_audit.specs.LawfulRecord.{IsLawfulRecord};
 ghost use Rattle.nvm_commands.specs.ToldRun.{AreToldAs, IsObjectText};
 
+use crate::front::{Progress, Telling};
 use nvm_audit::Record;
 use nvm_engine::{Shown, judge_watched};
-use nvm_front::{Progress, Telling};
 use nvm_listing::{answers, answers_as_objects};
 use nvm_record::NoMemory;
 use std::thread::Threads;

@@ -7,8 +7,8 @@ ghost use Rattle.nvm_commands.specs.Files.{IsTracingFault};
 
 use crate::failure::Failure;
 use crate::files::{bytes_of, check_output, trace_of_lines, write_bytes};
+use crate::front::{InputKind, Progress};
 use nvm_file::write_trace;
-use nvm_front::{InputKind, Progress};
 use std::alloc::{AllocError, Global};
 use std::rt::Files;
 

@@ -7,12 +7,12 @@ use crate::conversion_words::{
     assemble_asked, assemble_command, list_asked, list_command, trace_asked, trace_command,
 };
 use crate::explaining_words::{ExplainWords, explain_command, read_explain};
+use crate::front::{
+    AuditWords, VERSION, WitnessWords, WordFault, read_audit, read_witness, witness_command,
+};
 use crate::generating_words::{GenerateWords, generate_command, read_generate};
 use crate::running_words::{RunWords, read_run, run_command};
 use clap::{ArgMatches, Command, Error};
-use nvm_front::{
-    AuditWords, VERSION, WitnessWords, WordFault, read_audit, read_witness, witness_command,
-};
 use nvm_record::BlockSize;
 use std::alloc::Global;
 

@@ -1,8 +1,7 @@
 //! The program `nvmu`, whose commands are in `nvm_commands`.
 #![tactic(auto)]
 
-use nvm_commands::{NVMU, nvmu_status};
-use nvm_front::Progress;
+use nvm_commands::{NVMU, Progress, nvmu_status};
 use std::io::IsTerminal;
 use std::process::ExitCode;
 

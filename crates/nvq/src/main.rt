@@ -1,8 +1,7 @@
 //! The program `nvq`, whose commands are in `nvm_commands`.
 #![tactic(auto)]
 
-use nvm_commands::{NVQ, nvq_status};
-use nvm_front::Progress;
+use nvm_commands::{NVQ, Progress, nvq_status};
 use std::io::IsTerminal;
 use std::process::ExitCode;
 

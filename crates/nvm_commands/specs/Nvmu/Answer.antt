@@ -12,8 +12,8 @@ use Rattle.nvm_evidence.specs.Witnessed.{AreOrderedFiles}
 use Rattle.nvm_trace.specs.declared.judging.Judging.{Judging}
 use Rattle.nvm_trace.specs.declared.judging.Judging.TheVariants.{Standard}
 use Rattle.nvm_trace_text.specs.WitnessLine.{witness_line}
-use Rattle.nvm_front.specs.declared.judging_words.Telling.{Telling}
-use Rattle.nvm_front.specs.declared.judging_words.Telling.TheVariants.{Lines, Object}
+use Rattle.nvm_commands.specs.declared.front.judging_words.Telling.{Telling}
+use Rattle.nvm_commands.specs.declared.front.judging_words.Telling.TheVariants.{Lines, Object}
 use Rattle.nvm_commands.specs.declared.nvmu.answer.Answer.{Answer}
 use Rattle.nvm_commands.specs.declared.nvmu.answer.Answer.TheVariants.{Ran, Audited, Witnessed, Ordered, Refuted}
 

@@ -2,9 +2,9 @@ ghost use Rattle.std.specs.Prelude.{◌≡◌, ℕ, List, OnOk};
 ghost use Rattle.std.specs.Io.KnownBytes.{Appends};
 ghost use Rattle.nvm_commands.specs.Nvmu.Answer.{IsTextOf, status_of};
 
+use crate::front::Telling;
 use nvm_engine::{Judged, Shown, Witnessed};
 use nvm_evidence::{Ordered, Refuted};
-use nvm_front::Telling;
 use std::alloc::Global;
 use std::io;
 use std::io::Write;

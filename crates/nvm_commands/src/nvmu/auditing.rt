@@ -8,11 +8,11 @@ ghost use Rattle.nvm_trace.specs.declared.judging.Judging.TheVariants.{Standard}
 use crate::failure::{Failure, plain};
 use crate::fault::Fault;
 use crate::files::payload_of;
+use crate::front::{InputKind, Progress};
 use crate::nvmu::answer::Answer;
 use crate::nvmu::files::read_pair;
 use nvm_engine::{Judged, audit_bytes_watched, witness_bytes};
 use nvm_evidence::{is_evidence, witness_order_bytes};
-use nvm_front::{InputKind, Progress};
 use nvm_record::Payload;
 use nvm_trace::Judging;
 use std::alloc::Global;

@@ -4,7 +4,7 @@ ghost use Rattle.nvm_commands.specs.Nvmu.Judged.{IsPairFault};
 
 use crate::failure::Failure;
 use crate::files::{check_place, payload_of, unread, unwritten};
-use nvm_front::{InputKind, Progress, STANDARD, is_input};
+use crate::front::{InputKind, Progress, STANDARD, is_input};
 use nvm_record::Payload;
 use std::rt::Files;
 

@@ -2,9 +2,9 @@
 ghost use Rattle.std.specs.Prelude.{IfOk};
 ghost use Rattle.nvm_commands.specs.Nvmu.Words.{IsAsked};
 
+use crate::front::{WordFault, file_argument, trace};
 use crate::nvmu::words::Asked;
 use clap::{ArgMatches, Command, Error};
-use nvm_front::{WordFault, file_argument, trace};
 use std::alloc::Global;
 
 /// What `nvmu refute` is asked.

@@ -5,9 +5,9 @@ ghost use Rattle.nvm_commands.specs.Nvmu.Judged.{AreRefutedFiles, IsRefuteFault,
 
 use crate::failure::{Failure, plain};
 use crate::fault::Fault;
+use crate::front::Progress;
 use crate::nvmu::files::read_pair;
 use nvm_evidence::{Refuted, refute_contradiction_bytes};
-use nvm_front::Progress;
 use nvm_record::Payload;
 use std::alloc::Global;
 use std::rt::Files;

@@ -1,14 +1,14 @@
 ghost use Rattle.std.specs.Prelude.{IfOk};
 ghost use Rattle.nvm_commands.specs.Nvmu.Words.{IsAsked};
 
-use crate::nvmu::refute_words::{refute_asked, refute_command};
-use clap::{Arg, ArgMatches, Command, Error};
-use nvm_engine::{Settings, Workers};
-use nvm_front::{
+use crate::front::{
     AuditWords, VERSION, WitnessWords, WordFault, audit_command, file_arguments, limit,
     limit_given, nabo, nabsn, nsze, number_of_16_bits, number_of_32_bits, number_of_64_bits,
     number_option, owned, path_option, read_audit, read_witness, witness_command, workers_given,
 };
+use crate::nvmu::refute_words::{refute_asked, refute_command};
+use clap::{Arg, ArgMatches, Command, Error};
+use nvm_engine::{Settings, Workers};
 use std::alloc::Global;
 
 /// What the words of the command line ask for.

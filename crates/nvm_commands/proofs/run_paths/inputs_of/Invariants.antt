@@ -1,6 +1,6 @@
 use Rattle.std.proofs.Common.{◌≡◌, take, string_bytes}
 use Rattle.std.specs.List.{count_by}
-use Rattle.nvm_front.specs.Standard.{names_input}
+use Rattle.nvm_commands.specs.Standard.{names_input}
 use Rattle.nvm_commands.proofs.run_paths.inputs_of.Given as goal
 
 abbrev pub invariant-loop-path : goal.invariant-loop-path

@@ -3,7 +3,6 @@
 //!
 //! Options that take a number read it by [`number`], whose contract says which words are which numbers. Of files and streams no clause can
 //! say what they hold, so few other functions here have one: `examples/check` holds the built programs to what they must say.
-#![tactic(auto)]
 
 mod arguments;
 mod failure;

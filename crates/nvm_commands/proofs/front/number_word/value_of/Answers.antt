@@ -1,8 +1,8 @@
 use Rattle.std.proofs.Common.{◌≡◌, ◌≤◌, ◌+◌, ◌*◌, ◌∙◌, ℕ, ap, sym, drop, get_or, subst}
 use Rattle.std.proofs.lemmas.List.{drop_more}
-use Rattle.nvm_front.specs.Numbers.{digit_value, value_after}
-use Rattle.nvm_front.proofs.NumberReading.{grows, none_above}
-use Rattle.nvm_front.proofs.number_word.value_of.Goals as goal
+use Rattle.nvm_commands.specs.Numbers.{digit_value, value_after}
+use Rattle.nvm_commands.proofs.NumberReading.{grows, none_above}
+use Rattle.nvm_commands.proofs.front.number_word.value_of.Goals as goal
 
 pub returns-in_err-value : goal.returns-in_err-value
 returns-in_err-value c =

@@ -1,6 +1,6 @@
 use Rattle.std.proofs.Common.{◌≡◌, ◌<◌, drop}
-use Rattle.nvm_front.specs.Numbers.{value_after}
-use Rattle.nvm_front.proofs.number_word.value_of.Given as goal
+use Rattle.nvm_commands.specs.Numbers.{value_after}
+use Rattle.nvm_commands.proofs.front.number_word.value_of.Given as goal
 
 abbrev pub invariant-loop-byte : goal.invariant-loop-byte
 invariant-loop-byte l = record {

@@ -2,7 +2,7 @@
 use Rattle.std.proofs.Common.{◌≡◌, ℕ, ◌+◌, ◌*◌, ◌≤◌, Bool, true, false, cond, nat_lt, List, [], ◌∷◌, Some, None, refl, arith}
 use Rattle.std.proofs.Math.Nat.{le-mul_of_pos_right}
 use Rattle.std.proofs.lemmas.Bool.{cond-false, ltb-false, le-ltb}
-use Rattle.nvm_front.specs.Numbers.{digit_value, value_after, within}
+use Rattle.nvm_commands.specs.Numbers.{digit_value, value_after, within}
 
 -- digits more make no number less
 pub grows : (radix n : ℕ) (bytes : List ℕ) → 1 ≤ radix → n ≤ value_after radix n bytes

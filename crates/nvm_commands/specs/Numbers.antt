@@ -1,7 +1,7 @@
 -- Numbers as the words of a command line write them.
 use Rattle.std.specs.Prelude.{◌≡◌, ℕ, ◌+◌, ◌-◌, ◌*◌, nat_lt, nat_le, ◌==◌, if◌then◌else◌, Bool, true, ◌&&◌, ◌||◌, List, [], ◌∷◌, length, take, drop, get_or, Option, Some, None, Result, Ok, Err}
-use Rattle.nvm_front.specs.declared.number_word.NumberFault.{NumberFault}
-use Rattle.nvm_front.specs.declared.number_word.NumberFault.TheVariants.{NoNumber, OutOfRange}
+use Rattle.nvm_commands.specs.declared.front.number_word.NumberFault.{NumberFault}
+use Rattle.nvm_commands.specs.declared.front.number_word.NumberFault.TheVariants.{NoNumber, OutOfRange}
 
 -- what the letters `k`, `m` and `g` stand for, in either case, and 1 for any other byte
 abbrev pub unit_letter : ℕ → ℕ

@@ -1,8 +1,8 @@
 ghost use Rattle.std.specs.Prelude.{◌≡◌};
-ghost use Rattle.nvm_front.specs.Standard.{names_input};
+ghost use Rattle.nvm_commands.specs.Standard.{names_input};
 
-use crate::output::Output;
-use crate::progress::Progress;
+use crate::front::output::Output;
+use crate::front::progress::Progress;
 use nvm_audit::Record;
 use nvm_file::write_record;
 use std::alloc::Global;

@@ -1,6 +1,6 @@
 //! The words of `audit` and `witness`, which both programs have, and what other commands that judge have of them.
-use crate::arguments::{file_argument, flag};
-use crate::words::WordFault;
+use crate::front::arguments::{file_argument, flag};
+use crate::front::words::WordFault;
 use clap::{Arg, ArgMatches, Command, Error};
 use nvm_trace::Judging;
 use std::alloc::Global;

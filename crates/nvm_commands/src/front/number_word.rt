@@ -1,7 +1,7 @@
 //! Numbers as the words of a command line write them: decimal, or hexadecimal after `0x`, with `k`, `m` or `g` after them for
 //! 1,024 and its powers.
 ghost use Rattle.std.specs.Prelude.{◌≡◌, ◌≤◌, ◌+◌, ◌*◌, IfOk};
-ghost use Rattle.nvm_front.specs.Numbers as spec;
+ghost use Rattle.nvm_commands.specs.Numbers as spec;
 
 /// Why a word gives no number.
 #[derive(Clone, Copy, Debug, PartialEq, Eq)]

@@ -1,10 +1,10 @@
 //! Options that take a number.
 ghost use Rattle.std.specs.Prelude.{◌≤◌, IfOk, IfSome, codes};
 ghost use Rattle.clap.specs.Matches.{first_value, found_of};
-ghost use Rattle.nvm_front.specs.Numbers.{IsGiven};
+ghost use Rattle.nvm_commands.specs.Numbers.{IsGiven};
 
-use crate::number_word::{NumberFault, number};
-use crate::words::WordFault;
+use crate::front::number_word::{NumberFault, number};
+use crate::front::words::WordFault;
 use clap::{Arg, ArgMatches};
 use nvm_record::BlockSize;
 use std::alloc::Global;

@@ -1,6 +1,6 @@
-use crate::files::{FileFault, STANDARD};
-use crate::progress::Progress;
-use crate::unfinished::Unfinished;
+use crate::front::files::{FileFault, STANDARD};
+use crate::front::progress::Progress;
+use crate::front::unfinished::Unfinished;
 use std::fs::{OpenFile, OpenOptions};
 use std::io::{BufWriter, ErrorKind, Printer, Write};
 use std::rt::Files;

@@ -1,10 +1,10 @@
 //! The options of `run` whose help or range is the same in both programs.
 ghost use Rattle.std.specs.Prelude.{IfOk, codes};
 ghost use Rattle.clap.specs.Matches.{first_value, found_of};
-ghost use Rattle.nvm_front.specs.Numbers.{IsGiven};
+ghost use Rattle.nvm_commands.specs.Numbers.{IsGiven};
 
-use crate::number_options::{number_given, number_option};
-use crate::words::WordFault;
+use crate::front::number_options::{number_given, number_option};
+use crate::front::words::WordFault;
 use clap::{Arg, ArgMatches};
 use nvm_store::Limit;
 use std::alloc::Global;
