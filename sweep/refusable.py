@@ -24,7 +24,7 @@ ANSWERS = {
     ("nvm_space", "Space::begin_job"): (f"Progress::Done({NO_PART})", IS_READY),
     ("nvm_space", "Space::poll_job"): (f"Progress::Done({NO_PART})", ""),
     ("nvm_trace", "Trace::push"): ("Err(std::alloc::AllocFailed { value: job })", ""),
-    ("nvm_run", "run"): ("Err(crate::run_fault::RunFailed { fault: crate::run_fault::RunFault::NoMemory, jobs })", ""),
+    ("nvm_engine", "run"): ("Err(crate::run_fault::RunFailed { fault: crate::run_fault::RunFault::NoMemory, jobs })", ""),
 }
 # Calls that no program makes, and who does.
 LEFT_OUT = {

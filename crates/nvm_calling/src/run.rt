@@ -2,12 +2,12 @@ ghost use Rattle.std.specs.Prelude.{◌↔◌, IfOk, IfSome, IsTrue};
 ghost use Rattle.nvm_plan.specs.Fits.{FitsNamespace};
 ghost use Rattle.nvm_audit.specs.Recordable.{HoldsBody};
 ghost use Rattle.nvm_audit.specs.declared.version.Version.TheVariants.{Two};
-ghost use Rattle.nvm_run.specs.RunRecord.{IsRecordOfRun};
+ghost use Rattle.nvm_engine.specs.RunRecord.{IsRecordOfRun};
 
 use nvm_audit::{MOST_JOBS, Record, Version};
+use nvm_engine::{RunFault, run};
 use nvm_geometry::Geometry;
 use nvm_plan::{Job, fits};
-use nvm_run::{RunFault, run};
 use nvm_store::Limit;
 use nvm_unit::Open;
 use std::alloc::Global;

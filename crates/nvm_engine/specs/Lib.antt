@@ -1,3 +1,9 @@
+pub mod Claims
+pub mod Counters
+pub mod DoneJobs
+pub mod Gathered
+pub mod RunRecord
+pub mod RunFaults
 pub mod Settings
 pub mod Fault
 pub mod StatusNames
@@ -10,3 +16,4 @@ pub mod Printed
 pub mod Shown
 pub mod Judged
 pub mod Witnessed
+pub mod Inside

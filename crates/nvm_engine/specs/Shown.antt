@@ -7,7 +7,7 @@ use Rattle.nvm_plan.specs.declared.job.Job.{Job}
 use Rattle.nvm_plan.specs.Fits.{most_hosts}
 use Rattle.nvm_audit.specs.Recordable.{IsRecordable}
 use Rattle.nvm_audit.specs.RecordView.{RecordView}
-use Rattle.nvm_run.specs.RunRecord.{IsRecordOfRun}
+use Rattle.nvm_engine.specs.RunRecord.{IsRecordOfRun}
 use Rattle.nvm_engine.specs.Settings.{IsNamespace, advertised}
 use Rattle.nvm_engine.specs.declared.settings.Settings.{Settings}
 

@@ -1,4 +1,4 @@
-use crate::workers::Workers;
+use crate::worker_count::Workers;
 use nvm_store::Limit;
 
 /// What the program runs with: the options of `nvmu run` that say what the namespace is, how many

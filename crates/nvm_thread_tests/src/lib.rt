@@ -1,4 +1,4 @@
-//! Tests with several threads, of `nvm_unit`, of `nvm_space`, and of `nvm_run` and `nvm_audit` by `nvm_engine`: what no clause can say of
+//! Tests with several threads, of `nvm_unit`, of `nvm_space`, and of `run` and `nvm_audit` by `nvm_engine`: what no clause can say of
 //! threads is that they do something at the same time, and that one which waits goes on.
 #![tactic(auto)]
 

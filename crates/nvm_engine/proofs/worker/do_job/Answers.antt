@@ -1,0 +1,18 @@
+use Rattle.std.proofs.Common.{Bool, subst}
+use Rattle.nvm_space.specs.Trace.{DoesJob}
+use Rattle.nvm_unit.specs.Ends.{views_of}
+use Rattle.nvm_engine.proofs.Places.{at_index}
+use Rattle.nvm_engine.proofs.Recorded.{done_job}
+use Rattle.nvm_engine.proofs.worker.do_job.Goals as goal
+
+pub returns-clause-done : goal.returns-clause-done
+returns-clause-done g c =
+    let ns = c.args.space.now.namespace in
+    let jobs = c.args.jobs.now in
+    let number = c.args.number in
+    let job = c.index-jobs-number.result in
+    done_job ns jobs number job c.run_job-done.result c.recorded.result _ _
+    (c.each_command_has_a_status.ensures.outcome ns job)
+    (λ replies told read outcome some. (c.data_comes_with_success.ensures.outcome ns job replies told read outcome some).3)
+    (at_index jobs number job c.requires.job c.index-jobs-number.is) c.recorded.ensures
+    (subst (λ (lists : Bool). DoesJob ns lists number job (views_of c.args.port.now.passes) (views_of c.run_job-done.new.port.passes) c.run_job-done.result) c.requires.lists c.run_job-done.ensures.does)

@@ -1,5 +1,0 @@
-use Rattle.nvm_run.proofs.DoneOnce.{done_once}
-use Rattle.nvm_run.proofs.laws.each_job_is_done_once.Goals as goal
-
-pub returns : goal.returns
-returns c = done_once
