@@ -3,8 +3,8 @@ use Rattle.std.proofs.Common.{◌≡◌, ℕ, ◌+◌, ◌≤◌, ◌<◌, List,
 use Rattle.std.specs.Io.KnownBytes.{Appends}
 use Rattle.std.proofs.KnownBytes.{Appends-nil, Appends-trans}
 use Rattle.nvm_record.specs.Lists.{IsAt}
-use Rattle.nvm_write.specs.Handed.{TakesFront}
-use Rattle.nvm_write.proofs.Taking.{takes_within, takes_behind}
+use Rattle.nvm_text.specs.Handed.{TakesFront}
+use Rattle.nvm_text.proofs.Taking.{takes_within, takes_behind}
 use Rattle.nvm_plan.specs.Completions.{completions_of}
 use Rattle.nvm_plan.specs.declared.job.Job.{Job}
 use Rattle.nvm_audit.specs.RecordedJob.{RecordedJob}

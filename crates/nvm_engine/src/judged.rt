@@ -1,6 +1,6 @@
 ghost use Rattle.std.specs.Prelude.{◌≡◌, ◌≢◌, Ok, Err, IfOk, OnErr, OnOk, string_bytes};
 ghost use Rattle.std.specs.Io.KnownBytes.{Appends};
-ghost use Rattle.nvm_write.specs.Handed.{TakesFront};
+ghost use Rattle.nvm_text.specs.Handed.{TakesFront};
 ghost use Rattle.nvm_audit.specs.declared.audit_fault.AuditFault.TheVariants.{NoMemory as NoMemoryFault};
 ghost use Rattle.nvm_engine.specs.VerdictLine.{answer_line, answer_status};
 ghost use Rattle.nvm_engine.specs.VerdictObject.{answer_object};

@@ -1,7 +1,7 @@
 //! The lines of a job's commands.
 ghost use Rattle.std.specs.Prelude.{◌≡◌, OnErr, OnOk};
 ghost use Rattle.std.specs.Io.KnownBytes.{Appends};
-ghost use Rattle.nvm_write.specs.Handed.{TakesFront};
+ghost use Rattle.nvm_text.specs.Handed.{TakesFront};
 ghost use Rattle.nvm_plan.specs.Completions.{completion, completions_of};
 ghost use Rattle.nvm_plan.specs.Shape.{IsForEach};
 ghost use Rattle.nvm_engine.specs.Lines.{after_body, body_lines, line_in};

@@ -1,7 +1,7 @@
 //! What is printed of a record.
 ghost use Rattle.std.specs.Prelude.{ℕ, List, OnErr, OnOk};
 ghost use Rattle.std.specs.Io.KnownBytes.{Appends};
-ghost use Rattle.nvm_write.specs.Handed.{TakesFront};
+ghost use Rattle.nvm_text.specs.Handed.{TakesFront};
 ghost use Rattle.nvm_audit.specs.Verdict.{IsVerdict};
 ghost use Rattle.nvm_audit.specs.DonePlaces.{AreDonePlaces};
 ghost use Rattle.nvm_engine.specs.Printed.{IsPrintedIn};

@@ -2,7 +2,7 @@
 ghost use Rattle.std.specs.Prelude.{◌≡◌, ◌≤◌, ◌+◌, ◌*◌, ◌++◌, OnErr, OnOk, drop, false};
 ghost use Rattle.std.specs.Fmt.{digits};
 ghost use Rattle.std.specs.Io.KnownBytes.{Appends};
-ghost use Rattle.nvm_write.specs.Handed.{TakesFront};
+ghost use Rattle.nvm_text.specs.Handed.{TakesFront};
 ghost use Rattle.nvm_text.specs.Lines.{hex2};
 ghost use Rattle.nvm_engine.specs.StatusNames.{status_digits};
 ghost use Rattle.nvm_engine.specs.UnderLine.{after_next, lists_say, named_text, next_of, number_text, under};
@@ -11,8 +11,7 @@ use crate::form::Form;
 use crate::status_names::status_name;
 use nvm_list::next_said;
 use nvm_record::Status;
-use nvm_text::Piece;
-use nvm_write::hand;
+use nvm_text::{Piece, hand};
 use std::io;
 use std::io::Write;
 

@@ -1,12 +1,11 @@
 //! The line that says how an audit ended.
 ghost use Rattle.std.specs.Prelude.{OnErr, OnOk};
 ghost use Rattle.std.specs.Io.KnownBytes.{Appends};
-ghost use Rattle.nvm_write.specs.Handed.{TakesFront};
+ghost use Rattle.nvm_text.specs.Handed.{TakesFront};
 ghost use Rattle.nvm_engine.specs.VerdictLine.{changes_text, count_text, lawful_line, place_text, spot_text, unlawful_line, unlawful_with};
 
 use nvm_audit::{AuditFault, Spot, Verdict};
-use nvm_text::write_decimal;
-use nvm_write::hand;
+use nvm_text::{hand, write_decimal};
 use std::io;
 use std::io::Write;
 

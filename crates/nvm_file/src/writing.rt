@@ -1,7 +1,7 @@
 ghost use Rattle.std.specs.Prelude.{OnErr, OnOk};
 ghost use Rattle.std.specs.Io.KnownBytes.{Appends};
+ghost use Rattle.nvm_text.specs.Handed.{TakesFront};
 ghost use Rattle.nvm_file.specs.Fits.{FitsItsFields};
-ghost use Rattle.nvm_write.specs.Handed.{TakesFront};
 ghost use Rattle.nvm_file.specs.RecordFile.{IsRecordFile};
 ghost use Rattle.nvm_file.specs.Spelling.{record_bytes};
 

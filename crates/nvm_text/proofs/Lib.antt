@@ -1,3 +1,4 @@
+pub mod Taking
 pub mod RunLemmas
 pub mod EqualBytes
 pub mod JoinedRuns

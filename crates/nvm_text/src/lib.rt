@@ -1,8 +1,8 @@
 //! What is printed of commands and their completions: a line for each command, with the data that a
-//! Read answers as runs of equal bytes.
+//! Read answers as runs of equal bytes. And bytes to a writer, of which it is known what it took.
 //!
 //! The functions `write_*` write to a writer, and take no memory of their own. Where the writer fails, its error is answered, and
-//! it has taken a front of the text and nothing else. Most pieces are short, so hand it a [`BufWriter`](std::io::BufWriter) where each write costs.
+//! it has taken a front of the text and nothing else: [`hand`] hands over bytes so. Most pieces are short, so hand it a [`BufWriter`](std::io::BufWriter) where each write costs.
 //!
 //! [`OpName`], [`StatusText`], [`StatusesText`], [`RunsText`] and [`HexByte`] are displayed as the same texts, so that other crates
 //! write a line by one `write!`.
@@ -12,6 +12,7 @@
 
 mod digit;
 mod front;
+mod handing;
 mod hex_byte;
 pub mod laws;
 mod line;
@@ -21,6 +22,7 @@ mod piece;
 mod run;
 mod status;
 
+pub use handing::hand;
 pub use hex_byte::HexByte;
 pub use line::write_line;
 pub use name::OpName;

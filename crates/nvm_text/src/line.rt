@@ -1,13 +1,13 @@
 ghost use Rattle.std.specs.Prelude.{OnErr, OnOk};
 ghost use Rattle.std.specs.Io.KnownBytes.{Appends};
-ghost use Rattle.nvm_write.specs.Handed.{TakesFront};
+ghost use Rattle.nvm_text.specs.Handed.{TakesFront};
 ghost use Rattle.nvm_text.specs.Lines as spec;
 ghost use Rattle.nvm_text.specs.Lines.{payload_text};
 
 use crate::front::front_of;
+use crate::handing::hand;
 use crate::run::write_runs;
 use nvm_record::{Op, ReadData, Status};
-use nvm_write::hand;
 use std::io;
 use std::io::Write;
 

@@ -1,9 +1,9 @@
 ghost use Rattle.std.specs.Prelude.{OnErr, OnOk, decimal};
 ghost use Rattle.std.specs.Io.KnownBytes.{Appends};
-ghost use Rattle.nvm_write.specs.Handed.{TakesFront};
+ghost use Rattle.nvm_text.specs.Handed.{TakesFront};
 
+use crate::handing::hand;
 use crate::piece::Piece;
-use nvm_write::hand;
 use std::io;
 use std::io::Write;
 

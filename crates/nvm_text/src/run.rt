@@ -1,13 +1,13 @@
 ghost use Rattle.std.specs.Prelude.{◌≡◌, ◌≢◌, ◌<◌, ◌≤◌, ◌++◌, ℕ, List, IfOk, OnOk, OnErr, Some, length, slice_index};
 ghost use Rattle.std.specs.Fmt.{HasWritten, IsPlainFormatter};
 ghost use Rattle.std.specs.Io.KnownBytes.{Appends};
-ghost use Rattle.nvm_write.specs.Handed.{TakesFront};
+ghost use Rattle.nvm_text.specs.Handed.{TakesFront};
 ghost use Rattle.nvm_text.specs.Runs.{runs, run_of};
 ghost use Rattle.nvm_text.specs.Lines.{comma_before, runs_text, run_text};
 
+use crate::handing::hand;
 use crate::hex_byte::HexByte;
 use crate::piece::Piece;
-use nvm_write::hand;
 use std::fmt::{Display, Formatter};
 use std::io::Write;
 use std::{fmt, io};

@@ -1,8 +1,8 @@
 ghost use Rattle.std.specs.Prelude.{◌≡◌, All, OnErr, OnOk, map};
 ghost use Rattle.std.specs.Io.KnownBytes.{Appends};
 ghost use Rattle.std.specs.List.{flat_map};
+ghost use Rattle.nvm_text.specs.Handed.{TakesFront};
 ghost use Rattle.nvm_file.specs.Fits.{DoneFits, PartFits, StatusesFit};
-ghost use Rattle.nvm_write.specs.Handed.{TakesFront};
 ghost use Rattle.nvm_file.specs.Inside.Short.{IsShortDone, IsShortWork};
 ghost use Rattle.nvm_file.specs.WorkSpelling as spec;
 ghost use Rattle.nvm_file.specs.WorkSpelling.{done_bytes, payload_bytes, result_byte, statuses_bytes, work_bytes};
@@ -12,7 +12,7 @@ use byteorder::{ByteOrder, LittleEndian};
 use nvm_audit::DoneJob;
 use nvm_plan::{Part, PartResult};
 use nvm_record::{ReadData, Statuses};
-use nvm_write::hand;
+use nvm_text::hand;
 use std::io;
 use std::io::Write;
 

@@ -5,16 +5,16 @@ ghost use Rattle.byteorder.specs.Endian.{little_bytes};
 ghost use Rattle.nvm_record.specs.Ranges.{most_ranges, ranges_of};
 ghost use Rattle.nvm_record.specs.Ranges as ranges;
 ghost use Rattle.nvm_store.specs.Act.{operation_of};
+ghost use Rattle.nvm_text.specs.Handed.{TakesFront};
 ghost use Rattle.nvm_file.specs.EntrySpelling as spec;
 ghost use Rattle.nvm_file.specs.EntrySpelling.{change_bytes, cut_bytes, entry_bytes, history_bytes, kind_of};
-ghost use Rattle.nvm_write.specs.Handed.{TakesFront};
 ghost use Rattle.nvm_file.specs.Inside.Short.{IsShortDeed, IsShortHistory};
 
 use super::bytes::{count_bytes, two_bytes};
 use byteorder::{ByteOrder, LittleEndian};
 use nvm_record::{LbaRange, range_count};
 use nvm_store::{Act, Entry, History};
-use nvm_write::hand;
+use nvm_text::hand;
 use std::io;
 use std::io::Write;
 

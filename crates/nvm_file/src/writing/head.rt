@@ -1,8 +1,8 @@
 ghost use Rattle.std.specs.Prelude.{◌≡◌, OnErr, OnOk};
 ghost use Rattle.std.specs.Io.KnownBytes.{Appends};
+ghost use Rattle.nvm_text.specs.Handed.{TakesFront};
 ghost use Rattle.nvm_audit.specs.Recordable.{HoldsLimit};
 ghost use Rattle.nvm_file.specs.Fits.{NumbersFit};
-ghost use Rattle.nvm_write.specs.Handed.{TakesFront};
 ghost use Rattle.nvm_file.specs.HeadSpelling as spec;
 ghost use Rattle.nvm_file.specs.HeadSpelling.{head_bytes, limit_bytes, name_of};
 
@@ -11,7 +11,7 @@ use byteorder::{ByteOrder, LittleEndian};
 use nvm_audit::{Record, Version};
 use nvm_geometry::Geometry;
 use nvm_store::Limit;
-use nvm_write::hand;
+use nvm_text::hand;
 use std::io;
 use std::io::Write;
 

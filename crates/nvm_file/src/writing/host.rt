@@ -1,11 +1,11 @@
 ghost use Rattle.std.specs.Prelude.{OnErr, OnOk};
 ghost use Rattle.std.specs.Io.KnownBytes.{Appends};
 ghost use Rattle.nvm_record.specs.HostFile.{file_of};
-ghost use Rattle.nvm_write.specs.Handed.{TakesFront};
+ghost use Rattle.nvm_text.specs.Handed.{TakesFront};
 
 use super::jobs::write_command;
 use nvm_record::Command;
-use nvm_write::hand;
+use nvm_text::hand;
 use std::io;
 use std::io::Write;
 

@@ -1,9 +1,9 @@
 ghost use Rattle.std.specs.Prelude.{◌≡◌, ◌<◌, ◌^◌, All, OnErr, OnOk, length};
 ghost use Rattle.std.specs.Io.KnownBytes.{Appends};
 ghost use Rattle.nvm_record.specs.Entry.{HasFieldsInRange, spelling_of};
+ghost use Rattle.nvm_text.specs.Handed.{TakesFront};
 ghost use Rattle.nvm_file.specs.Counted.{counted};
 ghost use Rattle.nvm_file.specs.Fits.{BodyFits, JobFits};
-ghost use Rattle.nvm_write.specs.Handed.{TakesFront};
 ghost use Rattle.nvm_file.specs.JobSpelling as spec;
 ghost use Rattle.nvm_file.specs.JobSpelling.{body_kind, commands_bytes, job_bytes};
 
@@ -11,7 +11,7 @@ use super::bytes::count_bytes;
 use byteorder::{ByteOrder, LittleEndian};
 use nvm_plan::{Body, Job};
 use nvm_record::{Command, command_bytes};
-use nvm_write::hand;
+use nvm_text::hand;
 use std::io;
 use std::io::Write;
 

@@ -1,13 +1,13 @@
 ghost use Rattle.std.specs.Prelude.{◌≡◌, ◌∷◌, [], ◌++◌, ◌<◌, ◌^◌, All, IfSome, OnErr, OnOk, length};
 ghost use Rattle.std.specs.Io.KnownBytes.{Appends};
 ghost use Rattle.byteorder.specs.Endian.{little_bytes};
+ghost use Rattle.nvm_text.specs.Handed.{TakesFront};
 ghost use Rattle.nvm_file.specs.Counted.{counted};
 ghost use Rattle.nvm_file.specs.Fits.{NumbersFit};
 ghost use Rattle.nvm_file.specs.TraceFile.{IsTraceFile};
 ghost use Rattle.nvm_file.specs.TraceFits.{EndingFits, TraceFits, TracedJobFits};
 ghost use Rattle.nvm_file.specs.TraceSpelling as spec;
 ghost use Rattle.nvm_file.specs.TraceSpelling.{ended_bytes, ending_bytes, promise_byte, start_byte, trace_bytes, trace_head_bytes, traced_bytes};
-ghost use Rattle.nvm_write.specs.Handed.{TakesFront};
 
 use super::bytes::{count_bytes, eight_bytes};
 use super::done_jobs::{write_payload, write_statuses};
@@ -16,8 +16,8 @@ use super::jobs::write_job;
 use crate::laws::spellings_are_traces;
 use crate::traced_job::NEVER;
 use byteorder::{ByteOrder, LittleEndian};
+use nvm_text::hand;
 use nvm_trace::{Deallocated, Ending, Reads, Start, Trace, TracedJob};
-use nvm_write::hand;
 use std::io;
 use std::io::{ErrorKind, Write};
 

@@ -1,7 +1,7 @@
 use Rattle.std.proofs.Common.{refl, ap}
-use Rattle.nvm_plan.specs.Completions.{completion}
 use Rattle.nvm_text.specs.Lines.{line}
-use Rattle.nvm_write.proofs.Taking.{then_front, then_whole, within}
+use Rattle.nvm_text.proofs.Taking.{then_front, then_whole, within}
+use Rattle.nvm_plan.specs.Completions.{completion}
 use Rattle.nvm_engine.specs.UnderLine.{lists_say, next_of, under}
 use Rattle.nvm_engine.proofs.lines.write_command.Goals as goal
 

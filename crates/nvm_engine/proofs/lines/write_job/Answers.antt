@@ -1,6 +1,6 @@
 use Rattle.std.proofs.Common.{None, refl, ap}
+use Rattle.nvm_text.proofs.Taking.{then_front, then_whole, within}
 use Rattle.nvm_plan.specs.Completions.{completion}
-use Rattle.nvm_write.proofs.Taking.{then_front, then_whole, within}
 use Rattle.nvm_engine.specs.Lines.{line_in}
 use Rattle.nvm_engine.specs.UnderLine.{Lists, after_next, lists_say, next_of}
 use Rattle.nvm_engine.proofs.lines.write_job.Goals as goal

@@ -1,9 +1,9 @@
 use Rattle.std.proofs.Common.{◌≤◌, length, sym, ap, ◌∙◌, subst, arith}
 use Rattle.nvm_record.specs.declared.status.Statuses.{Statuses}
+use Rattle.nvm_text.proofs.Taking.{on_err}
 use Rattle.nvm_plan.specs.Shape.{IsForEach}
 use Rattle.nvm_audit.specs.RecordView.{RecordView}
 use Rattle.nvm_audit.specs.RecordedJob.{RecordedJob}
-use Rattle.nvm_write.proofs.Taking.{on_err}
 use Rattle.nvm_engine.specs.UnderLine.{lists_say}
 use Rattle.nvm_engine.proofs.Writing.{all_written, none_written, one_more, read_job, within_one}
 use Rattle.nvm_engine.proofs.record_text.write_lines.Goals as goal

@@ -1,4 +1,4 @@
-use Rattle.nvm_write.proofs.Taking.{on_err, on_err_then, on_ok_then}
+use Rattle.nvm_text.proofs.Taking.{on_err, on_err_then, on_ok_then}
 use Rattle.nvm_engine.specs.UnderLine.{lists_say}
 use Rattle.nvm_engine.proofs.Writing.{all_printed, within_lines, within_verdict}
 use Rattle.nvm_engine.proofs.record_text.write_record_text.Goals as goal

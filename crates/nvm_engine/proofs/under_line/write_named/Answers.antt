@@ -1,5 +1,5 @@
 use Rattle.std.proofs.Common.{◌++◌, codes, refl}
-use Rattle.nvm_write.proofs.Taking.{behind, both, first_of, on_err, on_err_then, on_ok_then, within}
+use Rattle.nvm_text.proofs.Taking.{behind, both, first_of, on_err, on_err_then, on_ok_then, within}
 use Rattle.nvm_engine.specs.UnderLine.{named_text}
 use Rattle.nvm_engine.specs.StatusNames.{status_name}
 use Rattle.nvm_engine.proofs.under_line.write_named.Goals as goal

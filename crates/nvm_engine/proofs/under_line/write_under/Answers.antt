@@ -1,5 +1,5 @@
 use Rattle.std.proofs.Common.{refl}
-use Rattle.nvm_write.proofs.Taking.{then_front, within}
+use Rattle.nvm_text.proofs.Taking.{then_front, within}
 use Rattle.std.proofs.KnownBytes.{Appends-nil}
 use Rattle.nvm_engine.specs.UnderLine.{named_text, number_text}
 use Rattle.nvm_engine.proofs.under_line.write_under.Goals as goal

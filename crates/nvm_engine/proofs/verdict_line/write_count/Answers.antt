@@ -1,5 +1,5 @@
 use Rattle.std.proofs.Common.{decimal, refl}
-use Rattle.nvm_write.proofs.Taking.{within, then_front}
+use Rattle.nvm_text.proofs.Taking.{within, then_front}
 use Rattle.nvm_engine.specs.VerdictLine.{count_text}
 use Rattle.nvm_engine.proofs.verdict_line.write_count.Goals as goal
 

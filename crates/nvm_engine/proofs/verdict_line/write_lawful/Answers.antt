@@ -1,5 +1,5 @@
 use Rattle.std.proofs.Common.{◌++◌, ap, codes}
-use Rattle.nvm_write.proofs.Taking.{behind, both, first_of, on_err, on_err_then, on_ok_then, within}
+use Rattle.nvm_text.proofs.Taking.{behind, both, first_of, on_err, on_err_then, on_ok_then, within}
 use Rattle.nvm_engine.specs.VerdictLine.{changes_text, count_text}
 use Rattle.nvm_engine.proofs.verdict_line.write_lawful.Goals as goal
 

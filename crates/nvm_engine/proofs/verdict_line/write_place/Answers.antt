@@ -1,5 +1,5 @@
 use Rattle.std.proofs.Common.{◌++◌, ap, codes, refl}
-use Rattle.nvm_write.proofs.Taking.{behind, first_of, on_err, on_err_then, within}
+use Rattle.nvm_text.proofs.Taking.{behind, first_of, on_err, on_err_then, within}
 use Rattle.nvm_engine.specs.VerdictLine.{count_text, spot_text}
 use Rattle.nvm_engine.proofs.verdict_line.write_place.Goals as goal
 

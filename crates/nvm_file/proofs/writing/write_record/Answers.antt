@@ -1,6 +1,8 @@
 use Rattle.std.proofs.Common.{◌≡◌, ◌++◌, All, ap, map, refl, subst, sym}
 use Rattle.std.specs.List.{flat_map}
 use Rattle.std.proofs.lemmas.List.Elements.{All-map}
+use Rattle.nvm_text.specs.Handed.{TakesFront}
+use Rattle.nvm_text.proofs.Taking.{behind, first_of, on_err, on_err_then, on_ok_then, within}
 use Rattle.nvm_audit.specs.declared.record.Record.TheInside.{Inside}
 use Rattle.nvm_audit.specs.Recordable.{IsRecordable}
 use Rattle.nvm_audit.specs.RecordView.{RecordView}
@@ -8,13 +10,11 @@ use Rattle.nvm_audit.specs.Shown.{shown_by}
 use Rattle.nvm_file.specs.Counted.{counted}
 use Rattle.nvm_file.specs.EntrySpelling.{history_bytes}
 use Rattle.nvm_file.specs.Fits.{DoneFits, FitsItsFields, JobFits, NumbersFit}
-use Rattle.nvm_write.specs.Handed.{TakesFront}
 use Rattle.nvm_file.specs.HeadSpelling.{head_bytes}
 use Rattle.nvm_file.specs.JobSpelling.{job_bytes}
 use Rattle.nvm_file.specs.Spelling.{record_bytes}
 use Rattle.nvm_file.specs.WorkSpelling.{work_bytes}
 use Rattle.nvm_file.proofs.Lengths.{short_units, short_works}
-use Rattle.nvm_write.proofs.Taking.{behind, first_of, on_err, on_err_then, on_ok_then, within}
 use Rattle.nvm_file.proofs.writing.write_record.Goals as goal
 
 -- The numbers of a record fit where those of its parts do.

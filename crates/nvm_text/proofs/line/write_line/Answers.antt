@@ -1,6 +1,6 @@
 use Rattle.std.proofs.Common.{◌++◌, ◌∙◌, codes, refl, subst}
-use Rattle.nvm_write.specs.Handed.{TakesFront}
-use Rattle.nvm_write.proofs.Taking.{behind, first_of, on_err, on_err_then}
+use Rattle.nvm_text.specs.Handed.{TakesFront}
+use Rattle.nvm_text.proofs.Taking.{behind, first_of, on_err, on_err_then}
 use Rattle.nvm_text.specs.Lines.{identifiers, name_of, payload_text, status_text}
 use Rattle.nvm_text.proofs.TextPieces.{after_four}
 use Rattle.nvm_text.proofs.line.write_line.Goals as goal

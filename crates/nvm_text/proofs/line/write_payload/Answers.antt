@@ -1,5 +1,5 @@
 use Rattle.std.proofs.Common.{ap, codes, refl}
-use Rattle.nvm_write.proofs.Taking.{within, then_front}
+use Rattle.nvm_text.proofs.Taking.{within, then_front}
 use Rattle.nvm_text.specs.Runs.{runs}
 use Rattle.nvm_text.specs.Lines.{runs_text}
 use Rattle.nvm_text.proofs.line.write_payload.Goals as goal

@@ -1,7 +1,7 @@
 use Rattle.std.proofs.Common.{◌≡◌, ◌++◌, ◌∙◌, ap, get_or, subst, sym}
 use Rattle.std.specs.Io.KnownBytes.{Appends}
-use Rattle.nvm_write.specs.Handed.{TakesFront}
-use Rattle.nvm_write.proofs.Taking.{on_err, first_of}
+use Rattle.nvm_text.specs.Handed.{TakesFront}
+use Rattle.nvm_text.proofs.Taking.{on_err, first_of}
 use Rattle.nvm_text.specs.Runs.{run_of, runs}
 use Rattle.nvm_text.specs.Lines.{comma_before, run_text, runs_text}
 use Rattle.nvm_text.proofs.EqualBytes.{AreEqual}

@@ -1,7 +1,7 @@
 use Rattle.std.proofs.Common.{◌++◌, ◌∙◌, ap, append_assoc, subst, sym}
 use Rattle.std.proofs.KnownBytes.{Appends-trans}
-use Rattle.nvm_write.specs.Handed.{TakesFront}
-use Rattle.nvm_write.proofs.Taking.{on_err, takes_behind}
+use Rattle.nvm_text.specs.Handed.{TakesFront}
+use Rattle.nvm_text.proofs.Taking.{on_err, takes_behind}
 use Rattle.nvm_text.specs.Runs.{runs}
 use Rattle.nvm_text.specs.Lines.{runs_text}
 use Rattle.nvm_text.proofs.run.write_runs.Goals as goal

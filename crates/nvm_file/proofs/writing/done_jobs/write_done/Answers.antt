@@ -1,8 +1,8 @@
 use Rattle.std.proofs.Common.{◌++◌, ◌∙◌, ap, subst}
 use Rattle.std.specs.List.{flat_map}
-use Rattle.nvm_write.specs.Handed.{TakesFront}
+use Rattle.nvm_text.specs.Handed.{TakesFront}
+use Rattle.nvm_text.proofs.Taking.{within, behind, first_of, on_err, on_err_then}
 use Rattle.nvm_file.specs.WorkSpelling.{done_front, part_bytes, payload_bytes, statuses_bytes}
-use Rattle.nvm_write.proofs.Taking.{within, behind, first_of, on_err, on_err_then}
 use Rattle.nvm_file.proofs.writing.done_jobs.write_done.Goals as goal
 
 pub returns-in_err-hand-clause-front : goal.returns-in_err-hand-clause-front

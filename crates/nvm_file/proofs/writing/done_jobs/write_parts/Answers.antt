@@ -2,11 +2,11 @@ use Rattle.std.proofs.Common.{◌≡◌, ◌+◌, [], ◌++◌, take, arith}
 use Rattle.std.specs.List.{flat_map}
 use Rattle.std.proofs.lemmas.List.Elements.{All-more}
 use Rattle.std.proofs.lemmas.Grind.{common_steps}
+use Rattle.nvm_text.proofs.Taking.{loop_front, loop_next}
 use Rattle.nvm_plan.specs.declared.part.Part.{Part}
 use Rattle.nvm_plan.specs.declared.part.PartResult.TheVariants.{Done}
 use Rattle.nvm_file.specs.Fits.{PartFits}
 use Rattle.nvm_file.specs.WorkSpelling.{part_bytes}
-use Rattle.nvm_write.proofs.Taking.{loop_front, loop_next}
 use Rattle.nvm_file.proofs.writing.done_jobs.write_parts.Goals as goal
 
 pub returns-in_err-hand-clause-front : goal.returns-in_err-hand-clause-front

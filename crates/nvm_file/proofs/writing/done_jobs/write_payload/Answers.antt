@@ -1,5 +1,5 @@
 use Rattle.std.proofs.Common.{◌∷◌, [], refl}
-use Rattle.nvm_write.proofs.Taking.{within, then_front}
+use Rattle.nvm_text.proofs.Taking.{within, then_front}
 use Rattle.nvm_file.proofs.writing.done_jobs.write_payload.Goals as goal
 
 pub returns-in_err-hand-in-Some-clause-front : goal.returns-in_err-hand-in-Some-clause-front

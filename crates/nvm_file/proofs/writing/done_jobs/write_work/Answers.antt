@@ -3,9 +3,9 @@ use Rattle.std.specs.List.{flat_map}
 use Rattle.std.proofs.lemmas.List.Elements.{All-more}
 use Rattle.std.proofs.lemmas.Grind.{common_steps}
 use Rattle.byteorder.specs.Endian.{little_bytes}
+use Rattle.nvm_text.proofs.Taking.{within, loop_front, loop_next}
 use Rattle.nvm_file.specs.Fits.{DoneFits}
 use Rattle.nvm_file.specs.WorkSpelling.{done_bytes}
-use Rattle.nvm_write.proofs.Taking.{within, loop_front, loop_next}
 use Rattle.nvm_file.proofs.writing.done_jobs.write_work.Goals as goal
 
 pub returns-in_err-hand-clause-front : goal.returns-in_err-hand-clause-front

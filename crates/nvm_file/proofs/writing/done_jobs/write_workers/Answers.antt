@@ -1,8 +1,8 @@
 use Rattle.std.proofs.Common.{[], All, map, ap, subst, ◌∙◌}
 use Rattle.std.proofs.lemmas.List.Elements.{All-more}
+use Rattle.nvm_text.proofs.Taking.{loop_front, loop_next, next_of_map}
 use Rattle.nvm_file.specs.Fits.{DoneFits}
 use Rattle.nvm_file.specs.WorkSpelling.{work_bytes}
-use Rattle.nvm_write.proofs.Taking.{loop_front, loop_next, next_of_map}
 use Rattle.nvm_file.proofs.writing.done_jobs.write_workers.Goals as goal
 
 pub returns-in_err-write_work-clause-front : goal.returns-in_err-write_work-clause-front

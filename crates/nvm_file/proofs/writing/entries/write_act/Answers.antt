@@ -3,11 +3,11 @@ use Rattle.std.specs.Io.KnownBytes.{Appends}
 use Rattle.nvm_store.specs.Act.{operation_of}
 use Rattle.nvm_store.specs.declared.act.Act.{Act}
 use Rattle.nvm_store.specs.declared.act.Act.TheVariants.{Zeroes, Uncorrectable}
+use Rattle.nvm_text.specs.Handed.{TakesFront}
+use Rattle.nvm_text.proofs.Taking.{within, then_whole, then_front, first_of, behind, both, on_err, on_err_then, on_ok_then}
 use Rattle.nvm_file.specs.EntrySpelling.{change_bytes, extent_bytes}
-use Rattle.nvm_write.specs.Handed.{TakesFront}
 use Rattle.nvm_file.specs.Inside.Short.{IsShortDeed}
 use Rattle.nvm_file.proofs.CutRanges.{ranges_of_slice, few_in_slice}
-use Rattle.nvm_write.proofs.Taking.{within, then_whole, then_front, first_of, behind, both, on_err, on_err_then, on_ok_then}
 use Rattle.nvm_file.proofs.writing.entries.write_act.Goals as goal
 
 -- an act with a range of blocks alone

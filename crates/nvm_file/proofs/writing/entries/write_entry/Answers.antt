@@ -1,7 +1,7 @@
 use Rattle.std.proofs.Common.{ap}
 use Rattle.nvm_store.specs.HistoryEntry.{HistoryEntry}
+use Rattle.nvm_text.proofs.Taking.{within, then_front}
 use Rattle.nvm_file.specs.EntrySpelling.{change_bytes, entry_front}
-use Rattle.nvm_write.proofs.Taking.{within, then_front}
 use Rattle.nvm_file.proofs.writing.entries.write_entry.Goals as goal
 
 pub returns-in_err-hand-clause-front : goal.returns-in_err-hand-clause-front

@@ -2,8 +2,8 @@ use Rattle.std.proofs.Common.{◌≡◌, ◌+◌, ◌++◌, length, take, arith}
 use Rattle.std.specs.List.{flat_map}
 use Rattle.std.proofs.lemmas.Grind.{common_steps}
 use Rattle.byteorder.specs.Endian.{little_bytes}
+use Rattle.nvm_text.proofs.Taking.{within, loop_front, loop_next}
 use Rattle.nvm_file.specs.EntrySpelling.{entry_bytes}
-use Rattle.nvm_write.proofs.Taking.{within, loop_front, loop_next}
 use Rattle.nvm_file.proofs.writing.entries.write_history.Goals as goal
 
 pub returns-in_err-hand-clause-front : goal.returns-in_err-hand-clause-front

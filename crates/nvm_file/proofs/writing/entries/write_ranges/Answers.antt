@@ -3,9 +3,9 @@ use Rattle.std.specs.Io.KnownBytes.{Appends}
 use Rattle.std.specs.List.{flat_map}
 use Rattle.byteorder.specs.Endian.{little_bytes}
 use Rattle.nvm_record.specs.Ranges.{range_at, range_count, ranges_of}
+use Rattle.nvm_text.proofs.Taking.{within, loop_front, loop_next}
 use Rattle.nvm_file.specs.EntrySpelling.{cut_bytes}
 use Rattle.nvm_file.proofs.CutRanges.{next_range, all_ranges}
-use Rattle.nvm_write.proofs.Taking.{within, loop_front, loop_next}
 use Rattle.nvm_file.proofs.writing.entries.write_ranges.Goals as goal
 
 pub returns-in_err-hand-clause-front : goal.returns-in_err-hand-clause-front

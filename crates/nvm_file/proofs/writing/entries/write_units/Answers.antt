@@ -1,6 +1,6 @@
 use Rattle.std.proofs.Common.{[], map, ap, ◌∙◌}
+use Rattle.nvm_text.proofs.Taking.{loop_front, loop_next, next_of_map}
 use Rattle.nvm_file.specs.EntrySpelling.{history_bytes}
-use Rattle.nvm_write.proofs.Taking.{loop_front, loop_next, next_of_map}
 use Rattle.nvm_file.proofs.writing.entries.write_units.Goals as goal
 
 pub returns-in_err-write_history-clause-front : goal.returns-in_err-write_history-clause-front

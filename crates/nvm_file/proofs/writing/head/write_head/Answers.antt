@@ -1,9 +1,9 @@
 use Rattle.std.proofs.Common.{◌++◌, ap, refl, subst}
 use Rattle.std.specs.Io.KnownBytes.{Appends}
 use Rattle.byteorder.specs.Endian.{little_bytes}
+use Rattle.nvm_text.specs.Handed.{TakesFront}
+use Rattle.nvm_text.proofs.Taking.{behind, both, first_of, on_err, on_err_then, on_ok_then}
 use Rattle.nvm_file.specs.HeadSpelling.{head_bytes, limit_bytes, name_of, namespace_bytes}
-use Rattle.nvm_write.specs.Handed.{TakesFront}
-use Rattle.nvm_write.proofs.Taking.{behind, both, first_of, on_err, on_err_then, on_ok_then}
 use Rattle.nvm_file.proofs.writing.head.write_head.Goals as goal
 
 pub returns-in_err-hand-clause-front : goal.returns-in_err-hand-clause-front

@@ -4,7 +4,7 @@ use Rattle.std.proofs.lemmas.List.{take_more}
 use Rattle.std.proofs.lemmas.List.Concat.{flat_map-append, flat_map-cons}
 use Rattle.nvm_record.specs.Entry.{spelling_of}
 use Rattle.nvm_record.specs.HostFile.{file_name}
-use Rattle.nvm_write.proofs.Taking.{within, loop_front, loop_next}
+use Rattle.nvm_text.proofs.Taking.{within, loop_front, loop_next}
 use Rattle.nvm_file.proofs.writing.host.write_host.Goals as goal
 
 -- the bytes of one item more

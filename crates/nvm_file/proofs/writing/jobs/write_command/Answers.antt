@@ -1,5 +1,5 @@
 use Rattle.nvm_record.specs.Entry.{entry_of}
-use Rattle.nvm_write.proofs.Taking.{within, then_whole, then_front}
+use Rattle.nvm_text.proofs.Taking.{within, then_whole, then_front}
 use Rattle.nvm_file.proofs.writing.jobs.write_command.Goals as goal
 
 pub returns-in_err-hand-clause-front : goal.returns-in_err-hand-clause-front

@@ -1,6 +1,6 @@
 use Rattle.std.proofs.Common.{refl}
 use Rattle.nvm_record.specs.Entry.{spelling_of}
-use Rattle.nvm_write.proofs.Taking.{within, then_whole, then_front}
+use Rattle.nvm_text.proofs.Taking.{within, then_whole, then_front}
 use Rattle.nvm_file.proofs.writing.jobs.write_commands.Goals as goal
 
 pub returns-in_err-write_command-in-Pair-clause-front :

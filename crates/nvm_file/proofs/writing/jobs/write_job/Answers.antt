@@ -1,6 +1,6 @@
 use Rattle.std.proofs.Common.{refl}
+use Rattle.nvm_text.proofs.Taking.{within, then_front}
 use Rattle.nvm_file.specs.JobSpelling.{commands_bytes, job_front}
-use Rattle.nvm_write.proofs.Taking.{within, then_front}
 use Rattle.nvm_file.proofs.writing.jobs.write_job.Goals as goal
 
 pub returns-in_err-hand-clause-front : goal.returns-in_err-hand-clause-front

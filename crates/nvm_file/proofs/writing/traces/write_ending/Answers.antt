@@ -1,7 +1,7 @@
 use Rattle.std.proofs.Common.{◌++◌, refl}
 use Rattle.byteorder.specs.Endian.{little_bytes}
+use Rattle.nvm_text.proofs.Taking.{within, behind, first_of, on_err, on_err_then}
 use Rattle.nvm_file.specs.WorkSpelling.{payload_bytes, statuses_bytes}
-use Rattle.nvm_write.proofs.Taking.{within, behind, first_of, on_err, on_err_then}
 use Rattle.nvm_file.proofs.writing.traces.write_ending.Goals as goal
 
 pub returns-in_err-hand-clause-front : goal.returns-in_err-hand-clause-front

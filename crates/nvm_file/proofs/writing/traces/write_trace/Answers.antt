@@ -1,5 +1,7 @@
 use Rattle.std.proofs.Common.{◌≡◌, ◌^◌, ◌<◌, All, ap, refl, subst, sym}
 use Rattle.std.specs.Io.KnownBytes.{Appends}
+use Rattle.nvm_text.specs.Handed.{TakesFront}
+use Rattle.nvm_text.proofs.Taking.{behind, both, on_err_then, on_ok_then, within}
 use Rattle.nvm_trace.specs.declared.trace.Trace.TheInside.{Inside}
 use Rattle.nvm_trace.specs.Shown.{shown_by}
 use Rattle.nvm_trace.specs.Traceable.{IsTraceable}
@@ -8,8 +10,6 @@ use Rattle.nvm_file.specs.Counted.{counted}
 use Rattle.nvm_file.specs.Fits.{NumbersFit}
 use Rattle.nvm_file.specs.TraceFits.{TraceFits, TracedJobFits}
 use Rattle.nvm_file.specs.TraceSpelling.{trace_bytes, trace_head_bytes, traced_bytes}
-use Rattle.nvm_write.specs.Handed.{TakesFront}
-use Rattle.nvm_write.proofs.Taking.{behind, both, on_err_then, on_ok_then, within}
 use Rattle.nvm_file.proofs.writing.traces.write_trace.Goals as goal
 
 -- The numbers of a trace fit where those of its parts do.

@@ -1,11 +1,11 @@
 use Rattle.std.proofs.Common.{◌++◌, ap, refl, subst}
 use Rattle.std.specs.Io.KnownBytes.{Appends}
-use Rattle.nvm_write.specs.Handed.{TakesFront}
+use Rattle.nvm_text.specs.Handed.{TakesFront}
+use Rattle.nvm_text.proofs.Taking.{within, behind, both, first_of, on_err, on_err_then, on_ok_then}
+use Rattle.nvm_trace.specs.Shown.{shown_by}
 use Rattle.nvm_file.specs.HeadSpelling.{namespace_bytes}
 use Rattle.nvm_file.specs.TraceHeadReading.{trace_name}
 use Rattle.nvm_file.specs.TraceSpelling.{trace_head_bytes, window_bytes}
-use Rattle.nvm_trace.specs.Shown.{shown_by}
-use Rattle.nvm_write.proofs.Taking.{within, behind, both, first_of, on_err, on_err_then, on_ok_then}
 use Rattle.nvm_file.proofs.writing.traces.write_trace_head.Goals as goal
 
 pub returns-in_err-hand-clause-front : goal.returns-in_err-hand-clause-front

@@ -1,8 +1,8 @@
 use Rattle.std.proofs.Common.{◌++◌, refl}
 use Rattle.byteorder.specs.Endian.{little_bytes}
+use Rattle.nvm_text.proofs.Taking.{within, behind, first_of, on_err, on_err_then}
 use Rattle.nvm_file.specs.JobSpelling.{job_bytes}
 use Rattle.nvm_file.specs.TraceSpelling.{ended_bytes}
-use Rattle.nvm_write.proofs.Taking.{within, behind, first_of, on_err, on_err_then}
 use Rattle.nvm_file.proofs.writing.traces.write_traced_job.Goals as goal
 
 pub returns-in_err-write_job-clause-front : goal.returns-in_err-write_job-clause-front

@@ -2,8 +2,8 @@ use Rattle.std.proofs.Common.{◌≡◌, ℕ, ◌-◌, List, [], length, ◌++�
 use Rattle.std.specs.Io.KnownBytes.{Appends}
 use Rattle.std.proofs.lemmas.List.{take_rest}
 use Rattle.std.proofs.KnownBytes.{Appends-nil, Appends-kept, Appends-trans}
-use Rattle.nvm_write.proofs.handing.hand_rest.Goals as goal
-use Rattle.nvm_write.proofs.handing.hand_rest.Goals.{in-Ok, in-Err+else-ne}
+use Rattle.nvm_text.proofs.handing.hand_rest.Goals as goal
+use Rattle.nvm_text.proofs.handing.hand_rest.Goals.{in-Ok, in-Err+else-ne}
 
 -- the first n of what is left have been taken
 moves_on : (all done rest : List ℕ) (n : ℕ) → all ≡ done ++ rest → all ≡ (done ++ take n rest) ++ take (length rest - n) (drop n rest)

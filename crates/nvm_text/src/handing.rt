@@ -1,7 +1,7 @@
 //! Bytes to a writer, of which it is known how many it took where it fails.
 ghost use Rattle.std.specs.Prelude.{OnErr, OnOk};
 ghost use Rattle.std.specs.Io.KnownBytes.{Appends};
-ghost use Rattle.nvm_write.specs.Handed.{TakesFront};
+ghost use Rattle.nvm_text.specs.Handed.{TakesFront};
 
 use std::io;
 use std::io::{Error, ErrorKind, Write};

@@ -5,7 +5,7 @@ use Rattle.std.specs.List.{flat_map}
 use Rattle.std.proofs.lemmas.List.Concat.{flat_map-append, flat_map-cons}
 use Rattle.std.proofs.lemmas.List.{take_more, get_or-map, length-map}
 use Rattle.std.proofs.KnownBytes.{Appends-nil, Appends-kept, Appends-trans}
-use Rattle.nvm_write.specs.Handed.{TakesFront}
+use Rattle.nvm_text.specs.Handed.{TakesFront}
 
 -- It took none of them.
 pub takes_none : (a b : Option (List ℕ)) (bytes : List ℕ) → Keeps a b → TakesFront a b bytes

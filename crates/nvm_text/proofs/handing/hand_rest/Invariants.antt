@@ -1,7 +1,7 @@
 -- What the writer took is what is gone from the front of the bytes.
 use Rattle.std.proofs.Common.{◌≡◌, ℕ, List, ◌++◌}
 use Rattle.std.specs.Io.KnownBytes.{Appends}
-use Rattle.nvm_write.proofs.handing.hand_rest.Given as goal
+use Rattle.nvm_text.proofs.handing.hand_rest.Given as goal
 
 abbrev pub invariant-loop : goal.invariant-loop
 invariant-loop g l =

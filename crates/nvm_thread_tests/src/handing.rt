@@ -1,4 +1,4 @@
-use crate::hand;
+use nvm_text::hand;
 use std::io;
 use std::io::{Error, ErrorKind, Write};
 use std::test::Fail;
