@@ -1,5 +1,4 @@
-use crate::data::block_at;
-use crate::values::Values;
+use crate::numbers::{Values, block_at};
 use nvm_record::{BlockSize, NoMemory};
 use nvm_standard::{Found, Points, Put};
 use std::alloc::Global;

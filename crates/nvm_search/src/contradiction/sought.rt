@@ -1,4 +1,4 @@
-use crate::values::MARK;
+use crate::numbers::MARK;
 
 /// The number of what isn't known: anything.
 pub const ANYTHING: u32 = u32::MAX;

@@ -1,12 +1,11 @@
 //! What comes before what in each order of a part's acts.
-use crate::numbers::{Numbers, to_u32};
+use crate::numbers::{Numbers, ZERO, to_u32};
 use crate::order::acts::{Act, Gives, NONE, Wants};
 use crate::order::lists::{Entry, Lists};
 use crate::order::making::Part;
 use crate::order::precedence::Precedence;
 use crate::order::search::{Move, Search};
 use crate::order::state::State;
-use crate::values::ZERO;
 use nvm_record::NoMemory;
 use std::alloc::Global;
 

@@ -1,13 +1,11 @@
 //! The acts of a part.
-use crate::data::block_at;
-use crate::numbers::{Numbers, to_u32};
+use crate::numbers::{MARK, Numbers, Values, ZERO, block_at, to_u32};
 use crate::order::acts::{Act, Cell, Gives, NO_ACT, NO_CELL, NONE, Wants};
 use crate::order::lists::{Entry, Lists};
 use crate::order::parts::Share;
 use crate::order::ranks::Ranks;
 use crate::order::slots::{Slot, Slots, UNKNOWN};
 use crate::order::together::is_left_out;
-use crate::values::{MARK, Values, ZERO};
 use nvm_record::NoMemory;
 use nvm_standard::{Deallocated, Found, Point, Points, Presence, Put};
 use nvm_trace::Start;

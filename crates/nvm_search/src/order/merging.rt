@@ -1,5 +1,4 @@
-use crate::data::block_at;
-use crate::numbers::{Numbers, to_u32};
+use crate::numbers::{MARK, Numbers, Values, ZERO, block_at, to_u32};
 use crate::order::acts::{Gives, NONE};
 use crate::order::derivation::Derivation;
 use crate::order::making::{Known, Part, part_of};
@@ -8,7 +7,6 @@ use crate::order::ranks::Ranks;
 use crate::order::search::{Search, Step};
 use crate::order::stop::Stop;
 use crate::order::together::done_together;
-use crate::values::{MARK, Values, ZERO};
 use nvm_record::NoMemory;
 use nvm_standard::{Content, FirstContent, Order, Placed, Point, Points, Presence, Value};
 use std::alloc::Global;

@@ -5,7 +5,7 @@ mod memory;
 mod moves;
 mod settling;
 
-use crate::numbers::{Numbers, to_u32};
+use crate::numbers::{Numbers, ZERO, to_u32};
 use crate::order::acts::{Act, Cell, Gives, NONE, Wants};
 use crate::order::derivation::Derivation;
 use crate::order::lists::Lists;
@@ -13,7 +13,6 @@ use crate::order::making::Part;
 use crate::order::search::memory::{Memory, key};
 use crate::order::slots::UNKNOWN;
 use crate::order::state::State;
-use crate::values::ZERO;
 use nvm_record::NoMemory;
 use std::alloc::Global;
 

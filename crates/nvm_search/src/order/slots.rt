@@ -1,7 +1,6 @@
 //! The contents of a part's blocks.
-use crate::numbers::to_u32;
+use crate::numbers::{MARK, to_u32};
 use crate::order::acts::NONE;
-use crate::values::MARK;
 use nvm_record::NoMemory;
 use std::alloc::Global;
 

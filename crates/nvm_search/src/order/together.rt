@@ -1,6 +1,5 @@
 //! Pairs of which nothing says whether they were done.
-use crate::data::block_at;
-use crate::numbers::{Numbers, to_u32};
+use crate::numbers::{Numbers, block_at, to_u32};
 use crate::order::acts::NONE;
 use crate::order::making::Known;
 use crate::order::parts::Share;

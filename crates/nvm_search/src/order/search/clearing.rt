@@ -1,7 +1,7 @@
 //! What has to be done before an act that puts something.
+use crate::numbers::ZERO;
 use crate::order::acts::{Act, Gives, NONE, Wants};
 use crate::order::search::Search;
-use crate::values::ZERO;
 use nvm_record::NoMemory;
 
 impl<'p> Search<'p> {

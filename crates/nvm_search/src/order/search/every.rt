@@ -1,8 +1,8 @@
 //! Every order of a part's acts, one after the other, where moves that look right lead to none.
+use crate::numbers::ZERO;
 use crate::order::acts::{Act, Cell, Gives, NONE, Wants};
 use crate::order::lists::Lists;
 use crate::order::search::{Move, Search, Turn};
-use crate::values::ZERO;
 use nvm_record::NoMemory;
 
 /// How many looks it is to try an act that can be next.

@@ -1,7 +1,7 @@
 //! Which acts can be next: the one that has to be done first, or what has to be done before it.
+use crate::numbers::ZERO;
 use crate::order::acts::{Act, Cell, Gives, NONE, Wants};
 use crate::order::search::{Move, Search, Target};
-use crate::values::ZERO;
 use nvm_record::NoMemory;
 
 impl<'p> Search<'p> {

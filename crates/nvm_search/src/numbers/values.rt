@@ -1,6 +1,6 @@
-use crate::data::block_at;
-use crate::hash::hash_of;
-use crate::numbers::{Numbers, to_u32};
+use crate::numbers::by_place::{Numbers, to_u32};
+use crate::numbers::data::block_at;
+use crate::numbers::hash::hash_of;
 use nvm_record::{BlockSize, NoMemory};
 use std::alloc::Global;
 
