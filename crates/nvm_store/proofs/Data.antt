@@ -65,7 +65,7 @@ is_false false not = refl
 pub tells_other : (xs ys : List ℕ) → (xs ≡ ys → ⊥) → false ≡ bytes_eq xs ys
 tells_other xs ys differ = sym (is_false (bytes_eq xs ys) (λ same. differ ((bytes_eq-Decides xs ys).0 same)))
 
-none_left : (xs : List ℕ) → length xs ≡ 0 → [] ≡ xs
+pub none_left : (xs : List ℕ) → length xs ≡ 0 → [] ≡ xs
 none_left [] e = refl
 none_left (x ∷ xs) e = absurd (omega arith)
 

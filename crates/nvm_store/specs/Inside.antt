@@ -7,3 +7,6 @@ pub mod Stored
 pub mod Tree
 pub mod Levels
 pub mod Source
+-- The blocks of a unit in one piece of memory.
+pub mod Own
+pub mod Kept

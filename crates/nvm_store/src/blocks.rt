@@ -1,89 +1,115 @@
-ghost use Rattle.std.specs.Prelude.{◌≡◌, ◌+◌, ◌*◌, ◌++◌, ◌-◌, ◌<◌, ◌≤◌, IfOk, OnErr, OnOk, length, replicate, slice_set};
+ghost use Rattle.std.specs.Prelude.{◌≡◌, ◌+◌, ◌*◌, ◌^◌, ◌++◌, ◌<◌, ◌≤◌, IfOk, OnErr, OnOk, false, length, replicate};
 ghost use Rattle.std.specs.Str.{bytes_eq};
+ghost use Rattle.nvm_record.specs.PayloadRef.{lent_bytes};
 ghost use Rattle.nvm_record.specs.declared.block.Block.TheVariants.{Uncorrectable};
 ghost use Rattle.nvm_record.specs.Medium as medium;
 ghost use Rattle.nvm_record.specs.Step.{block_at};
-ghost use Rattle.nvm_store.specs.Inside.Rewrite.{stretch_of, IsRewritten, zero_block};
-ghost use Rattle.nvm_store.specs.Inside.Source.{source_block, HasBlocks, IsFilled};
+ghost use Rattle.nvm_store.specs.Inside.Rewrite.{IsRewritten, stretch_of, zero_block};
+ghost use Rattle.nvm_store.specs.Inside.Sound.{AreOfSize};
 
 mod content;
 mod fork;
 mod leaf;
 mod levels;
+mod own_blocks;
+mod shared_blocks;
 mod source;
 mod stored_block;
 mod stretches;
 mod tree;
 
-use crate::blocks::levels::{LEAF, Levels};
-use crate::blocks::source::Source;
-use crate::blocks::stored_block::StoredBlock;
-use nvm_record::{NoMemory, Payload};
+use crate::blocks::own_blocks::OwnBlocks;
+use crate::blocks::shared_blocks::SharedBlocks;
+use nvm_record::{NoMemory, PayloadRef};
 use std::alloc::Global;
 use std::fmt;
 use std::fmt::{Debug, Formatter, Write};
 use std::marker::Model;
 
-/// The blocks of one unit, which contracts see as their list.
-///
-/// They are in a tree of nodes that copies share. A change works in place where nobody shares a node
-/// on the way to its block, and copies the way where somebody does, so a copy of all blocks costs one
-/// count and stays as it is. After an `Err` all blocks are as they were.
+/// The most bytes of a unit whose blocks are in one piece of memory.
+pub const MOST_OWN_BYTES: usize = 65_536;
+
+/// The blocks of one unit, which contracts see as their list. After an `Err` all blocks are as they were.
 #[derive(Drop)]
 pub struct Blocks {
-    levels: Levels,
-    count: usize,
+    kept: Kept,
+}
+
+/// Where they are.
+#[derive(Drop)]
+pub enum Kept {
+    /// In a tree, which copies share.
+    Shared(SharedBlocks),
+    /// In one piece of memory, which is theirs alone.
+    Own(OwnBlocks),
 }
 
 impl Model for Blocks {
-    ghost use Rattle.std.specs.Prelude.{List, ◌≤◌, length, take};
+    ghost use Rattle.std.specs.Prelude.{List};
     ghost use Rattle.nvm_record.specs.declared.block.Block.{Block};
-    ghost use Rattle.nvm_store.specs.Inside.Levels.{blocks_of};
+    ghost use Rattle.nvm_store.specs.Inside.Kept.{listed};
 
     ghost Value = { List Block };
 
-    ghost view = { λ b. take b.count (blocks_of b.levels) };
-
-    ghost invariant = { λ b. b.count ≤ length (blocks_of b.levels) };
+    ghost view = { λ b. listed b.kept };
 }
 
 /// Shows how many blocks there are.
 impl Debug for Blocks {
     fn fmt<W: Write>(&self, f: &mut Formatter<W>) -> fmt::Result {
-        write!(f, "{} blocks", self.count)
+        write!(f, "{} blocks", self.len())
     }
 }
 
 impl Blocks {
-    /// `count` blocks of `size` zero bytes. They share one leaf, so they take the memory of one path of the
+    /// `count` blocks of `size` zero bytes, in a tree. They share one leaf, so they take the memory of one path of the
     /// tree.
     pub fn zeroed(alloc: Global, count: usize, size: usize) -> Result<Blocks, NoMemory>
         ensures { IfOk result (λ blocks. blocks ≡ replicate count (zero_block size)) }
     {
-        let levels = Levels::zeroed(alloc, count, size)?;
-        Ok(Blocks { levels, count })
+        let blocks = SharedBlocks::zeroed(alloc, count, size)?;
+        Ok(Blocks {
+            kept: Kept::Shared(blocks),
+        })
+    }
+
+    /// The same, in one piece of memory if they have at most `MOST_OWN_BYTES`, which is asked for when the first of them is written.
+    pub fn own(alloc: Global, count: usize, size: usize) -> Result<Blocks, NoMemory>
+        requires { count * size < 2 ^ 63 }
+        ensures { IfOk result (λ blocks. blocks ≡ replicate count (zero_block size)) }
+    {
+        if count * size > MOST_OWN_BYTES {
+            return Blocks::zeroed(alloc, count, size);
+        }
+        let blocks = OwnBlocks::zeroed(alloc, count, size);
+        Ok(Blocks {
+            kept: Kept::Own(blocks),
+        })
     }
 
     /// How many blocks there are.
     pub fn len(&self) -> usize
         ensures { result ≡ length self.now }
     {
-        self.count
+        match &self.kept {
+            Kept::Shared(blocks) => blocks.len(),
+            Kept::Own(blocks) => blocks.len(),
+        }
     }
 
-    /// The same blocks, shared: one more owner of the tree's top. It takes no memory, and is refused only
-    /// where 2^63 - 1 copies share it already.
+    /// The same blocks. Those of a tree are shared, at the cost of one more owner of its top: that takes no memory, and is refused
+    /// only where 2^63 - 1 copies share it already. Others are copied.
     pub fn share(&self) -> Result<Blocks, NoMemory>
         ensures { IfOk result (λ blocks. blocks ≡ self.now) }
     {
-        let levels = self.levels.share()?;
-        Ok(Blocks {
-            levels,
-            count: self.count,
-        })
+        let kept = match &self.kept {
+            Kept::Shared(blocks) => Kept::Shared(blocks.share()?),
+            Kept::Own(blocks) => Kept::Own(blocks.copy()?),
+        };
+        Ok(Blocks { kept })
     }
 
-    /// The `count` blocks from place `at` take the data, in blocks of `size` bytes: one that is alone into its own memory if it can, and else as parts of the payload.
+    /// The `count` blocks from place `at` take the data, in blocks of `size` bytes.
     #[inline(always)]
     pub fn write(
         &mut self,
@@ -91,14 +117,21 @@ impl Blocks {
         at: usize,
         count: usize,
         size: usize,
-        payload: Payload,
+        payload: PayloadRef<'_>,
     ) -> Result<(), NoMemory>
         requires range { at + count ≤ length self.old }
-        requires payload { length payload ≡ count * size }
-        ensures ok { OnOk result (IsRewritten at count (block_at size payload) self.old self.new) }
+        requires payload { length (lent_bytes payload) ≡ count * size }
+        requires sized { AreOfSize size self.old }
+        ensures ok { OnOk result (IsRewritten at count (block_at size (lent_bytes payload.entry)) self.old self.new) }
         ensures err { OnErr result (self.new ≡ self.old) }
     {
-        self.fill(alloc, at, count, &Source::Data { size, payload })
+        match &mut self.kept {
+            Kept::Shared(blocks) => {
+                let payload = payload.share()?;
+                blocks.write(alloc, at, count, size, payload)
+            }
+            Kept::Own(blocks) => blocks.write(at, count, size, payload.as_slice()),
+        }
     }
 
     /// The `count` blocks from place `at` become `size` zero bytes each.
@@ -109,21 +142,36 @@ impl Blocks {
         count: usize,
         size: usize,
     ) -> Result<(), NoMemory>
-        requires { at + count ≤ length self.old }
+        requires range { at + count ≤ length self.old }
+        requires sized { AreOfSize size self.old }
         ensures ok { OnOk result
             (IsRewritten at count (λ _. zero_block size) self.old self.new) }
         ensures err { OnErr result (self.new ≡ self.old) }
     {
-        self.fill(alloc, at, count, &Source::Zeroes { size })
+        match &mut self.kept {
+            Kept::Shared(blocks) => blocks.zero(alloc, at, count, size),
+            Kept::Own(blocks) => {
+                blocks.zero(alloc, at, count, size);
+                Ok(())
+            }
+        }
     }
 
-    /// The `count` blocks from place `at` are marked.
+    /// The `count` blocks from place `at` are marked. Blocks in one piece of memory move into a tree first.
     pub fn mark(&mut self, alloc: Global, at: usize, count: usize) -> Result<(), NoMemory>
         requires { at + count ≤ length self.old }
         ensures ok { OnOk result (IsRewritten at count (λ _. Uncorrectable) self.old self.new) }
         ensures err { OnErr result (self.new ≡ self.old) }
     {
-        self.fill(alloc, at, count, &Source::Marks)
+        match &mut self.kept {
+            Kept::Shared(blocks) => blocks.mark(alloc, at, count),
+            Kept::Own(blocks) => {
+                let mut after = blocks.shared(alloc)?;
+                after.mark(alloc, at, count)?;
+                self.kept = Kept::Shared(after);
+                Ok(())
+            }
+        }
     }
 
     /// Whether one of the `count` blocks from place `at` is marked.
@@ -131,43 +179,23 @@ impl Blocks {
         requires { at + count ≤ length self.now }
         ensures { result ≡ medium.has_mark (stretch_of at count self.now) }
     {
-        // The number of blocks fits, so each place up to it does.
-        let _len = self.len();
-        let mut from = at;
-        let mut left = count;
-        while left > 0 {
-            let stretch = self.stretch(from, left);
-            if stretches::has_mark(stretch) {
-                return true;
-            }
-            from += stretch.len();
-            left -= stretch.len();
+        match &self.kept {
+            Kept::Shared(blocks) => blocks.has_mark(at, count),
+            // Marked blocks are in a tree.
+            Kept::Own(_) => false,
         }
-        false
     }
 
     /// Whether the bytes of the `count` blocks from place `at`, one block after the other, are exactly the
-    /// data. It takes no memory, and looks at nothing past the first block that differs. A marked block
-    /// has no bytes.
+    /// data. It takes no memory. A marked block has no bytes.
     pub fn is_equal(&self, at: usize, count: usize, payload: &[u8]) -> bool
         requires { at + count ≤ length self.now }
         ensures { result ≡ bytes_eq (medium.joined (stretch_of at count self.now)) payload.now }
     {
-        // The number of blocks fits, so each place up to it does.
-        let _len = self.len();
-        let mut from = at;
-        let mut left = count;
-        let mut rest = payload;
-        while left > 0 {
-            let stretch = self.stretch(from, left);
-            let Some(behind) = stretches::behind(stretch, rest) else {
-                return false;
-            };
-            rest = behind;
-            from += stretch.len();
-            left -= stretch.len();
+        match &self.kept {
+            Kept::Shared(blocks) => blocks.is_equal(at, count, payload),
+            Kept::Own(blocks) => blocks.is_equal(at, count, payload),
         }
-        rest.is_empty()
     }
 
     /// Appends the bytes of the `count` blocks from place `at`, one block after the other. It takes no
@@ -177,112 +205,9 @@ impl Blocks {
         ensures { OnOk result
             (bytes.new.items ≡ bytes.old.items ++ medium.joined (stretch_of at count self.now)) }
     {
-        // The number of blocks fits, so each place up to it does.
-        let _len = self.len();
-        let mut from = at;
-        let mut left = count;
-        while left > 0 {
-            let stretch = self.stretch(from, left);
-            stretches::push_bytes(stretch, bytes)?;
-            from += stretch.len();
-            left -= stretch.len();
+        match &self.kept {
+            Kept::Shared(blocks) => blocks.push_bytes(at, count, bytes),
+            Kept::Own(blocks) => blocks.push_bytes(at, count, bytes),
         }
-        Ok(())
-    }
-
-    /// The stored blocks from place `from`, as far as they are in one leaf, and at most `most`.
-    #[inline(always)]
-    fn stretch(&self, from: usize, most: usize) -> &[StoredBlock]
-        requires some { 0 < most }
-        requires range { from + most ≤ length self.now }
-        ensures some { 0 < length result.now }
-        ensures few { length result.now ≤ most }
-        ensures is { stretch_of from (length result.now) self.now ≡ result.now }
-    {
-        let stretch = self.levels.stretch(from);
-        let len = stretch.len().min(most);
-        &stretch[..len]
-    }
-
-    /// Puts a block at place `at`.
-    #[inline(always)]
-    fn set(&mut self, alloc: Global, at: usize, block: StoredBlock) -> Result<(), NoMemory>
-        requires { at < length self.old }
-        ensures ok { OnOk result (self.new ≡ slice_set self.old at block) }
-        ensures err { OnErr result (self.new ≡ self.old) }
-    {
-        self.levels.set(alloc, at, block)
-    }
-
-    /// Puts the source's blocks from place `from` up to place `to` at the places from `at` on, as far as
-    /// these are in one leaf, and answers how many. Where fewer than `least` do, it answers 0 and does
-    /// nothing.
-    fn fill_stretch(
-        &mut self,
-        alloc: Global,
-        at: usize,
-        from: usize,
-        to: usize,
-        least: usize,
-        source: &Source,
-    ) -> Result<usize, NoMemory>
-        requires range { at + (to - from) ≤ length self.old }
-        requires some { from < to }
-        requires least { 0 < least }
-        requires source { HasBlocks source.now to }
-        ensures ok { IfOk result (λ n. IsFilled source.now at from to least n self.old self.new) }
-        ensures err { OnErr result (self.new ≡ self.old) }
-    {
-        self.levels.fill(alloc, at, from, to, least, source)
-    }
-
-    /// The `count` blocks from place `at` become the source's.
-    ///
-    /// One block is put in place, and so are several of one leaf. Those of several leaves are put into a shared
-    /// copy, which copies each node of their ways once, and takes this one's place where nothing was refused.
-    fn fill(
-        &mut self,
-        alloc: Global,
-        at: usize,
-        count: usize,
-        source: &Source,
-    ) -> Result<(), NoMemory>
-        requires range { at + count ≤ length self.old }
-        requires source { HasBlocks source.now count }
-        ensures ok { OnOk result (IsRewritten at count (source_block source.now) self.old self.new) }
-        ensures err { OnErr result (self.new ≡ self.old) }
-    {
-        if count == 1 {
-            let block = source.block(0)?;
-            return self.set(alloc, at, block);
-        }
-        if count > 0 && count <= LEAF - at % LEAF {
-            let done = self.fill_stretch(alloc, at, 0, count, count, source)?;
-            if done > 0 {
-                return Ok(());
-            }
-        }
-        *self = self.filled(alloc, at, count, source)?;
-        Ok(())
-    }
-
-    /// A copy of which the `count` blocks from place `at` are the source's.
-    fn filled(
-        &self,
-        alloc: Global,
-        at: usize,
-        count: usize,
-        source: &Source,
-    ) -> Result<Blocks, NoMemory>
-        requires range { at + count ≤ length self.now }
-        requires source { HasBlocks source.now count }
-        ensures { IfOk result (IsRewritten at count (source_block source.now) self.now) }
-    {
-        let mut after = self.share()?;
-        let mut done = 0;
-        while done < count {
-            done += after.fill_stretch(alloc, at + done, done, count, 1, source)?;
-        }
-        Ok(after)
     }
 }

@@ -3,6 +3,7 @@ ghost use Rattle.std.specs.Str.{bytes_eq};
 ghost use Rattle.nvm_record.specs.Medium as medium;
 ghost use Rattle.nvm_record.specs.Medium.{Medium, zero_medium, range};
 ghost use Rattle.nvm_record.specs.Step.{medium_after};
+ghost use Rattle.nvm_record.specs.PayloadRef.{lent_bytes};
 ghost use Rattle.nvm_record.specs.Ranges.{ranges_of};
 ghost use Rattle.nvm_store.specs.Operation.{write_operation, zeroes_operation, uncorrectable_operation, deallocate_operation};
 ghost use Rattle.nvm_store.specs.ActRef.{lent_operation_of};
@@ -17,7 +18,7 @@ use crate::cut_ranges::lowest_cut;
 use crate::look::Look;
 use crate::place::Place;
 use nvm_record::laws::{cut_ranges_lie_within, steps_are_local};
-use nvm_record::{BlockSize, NoMemory, Payload};
+use nvm_record::{BlockSize, NoMemory, PayloadRef};
 use std::alloc::Global;
 use std::marker::Model;
 
@@ -68,8 +69,29 @@ impl UnitBlocks {
         })
     }
 
+    /// The same as [`zeroed`](UnitBlocks::zeroed), of a unit that is to be changed in place. Where its blocks have at most 65,536 bytes they are in one piece of memory,
+    /// which the first Write asks for and a share of the unit copies. They move into a tree where one of them is marked.
+    pub fn own(
+        alloc: Global,
+        first: u64,
+        blocks: u32,
+        size: BlockSize,
+    ) -> Result<UnitBlocks, NoMemory>
+        requires some { 0 < blocks }
+        requires low { first + blocks ≤ 65536 }
+        ensures place { IfOk result (LiesAt (place_at first blocks size)) }
+        ensures zeroes { IfOk result (λ unit. Holds unit (zero_medium size)) }
+    {
+        let blocks = Blocks::own(alloc, blocks as usize, size.bytes() as usize)?;
+        Ok(UnitBlocks {
+            first,
+            size,
+            blocks,
+        })
+    }
+
     /// The same unit, which shares all blocks. It takes no memory, and is refused only where 2^63 - 1
-    /// units share them already.
+    /// units share them already; of a unit that was made by [`own`](UnitBlocks::own) it may copy them.
     pub fn share(&self) -> Result<UnitBlocks, NoMemory>
         ensures { IfOk result (λ unit. unit ≡ self.now) }
     {
@@ -128,10 +150,7 @@ impl UnitBlocks {
                 first,
                 blocks,
                 payload,
-            } => {
-                let payload = payload.share()?;
-                self.write(alloc, first, blocks, payload)
-            }
+            } => self.write(alloc, first, blocks, payload),
             ActRef::Zeroes { first, blocks } => self.zero(alloc, first, blocks),
             ActRef::Uncorrectable { first, blocks } => self.mark(alloc, first, blocks),
             // Its comparison holds, so it is its Write.
@@ -140,10 +159,7 @@ impl UnitBlocks {
                 blocks,
                 compare: _,
                 write,
-            } => {
-                let payload = write.share()?;
-                self.write(alloc, first, blocks, payload)
-            }
+            } => self.write(alloc, first, blocks, write),
             ActRef::Deallocate {
                 first,
                 blocks,
@@ -159,12 +175,12 @@ impl UnitBlocks {
         alloc: Global,
         first: u64,
         blocks: u32,
-        payload: Payload,
+        payload: PayloadRef<'_>,
     ) -> Result<(), NoMemory>
         requires range { IsWithin (place_of self.old) first blocks }
-        requires payload { length payload ≡ blocks * self.old.size }
+        requires payload { length (lent_bytes payload) ≡ blocks * self.old.size }
         ensures step { OnOk result ((m : Medium) → Holds self.old m
-            → Holds self.new (medium_after self.old.size (write_operation first blocks payload) m)) }
+            → Holds self.new (medium_after self.old.size (write_operation first blocks (lent_bytes payload.entry)) m)) }
         ensures place { StaysInPlace self.old self.new }
         ensures err { OnErr result (self.new ≡ self.old) }
     {

@@ -36,6 +36,10 @@ impl Kept for Count {
         }
     }
 
+    fn keeps_acts() -> bool {
+        false
+    }
+
     fn entries(&self) -> u64 {
         self.entries
     }

@@ -15,6 +15,9 @@ pub trait Kept: Drop {
     fn nothing(alloc: Global) -> Self
         ensures { told result ≡ [] };
 
+    /// Whether it keeps acts, which share their data with the blocks that they wrote.
+    fn keeps_acts() -> bool;
+
     /// The number of entries.
     fn entries(&self) -> u64
         ensures { result ≡ length (told self.now) };
@@ -37,6 +40,10 @@ impl Kept for History {
 
     fn nothing(alloc: Global) -> History {
         Vec::new(alloc)
+    }
+
+    fn keeps_acts() -> bool {
+        true
     }
 
     fn entries(&self) -> u64 {

@@ -165,7 +165,7 @@ impl<K: Kept> Unit<K> {
             passes,
             limit,
         };
-        let blocks = blocks_of(alloc, bounds)?;
+        let blocks = blocks_of(alloc, bounds, !versions && !K::keeps_acts())?;
         let book = Book::new(alloc, blocks.share()?);
         let (desk, token) = steps::open(alloc, bounds, book)?;
         let dealt = deal(alloc, &desk, token, passes, &blocks, versions)?;
@@ -223,13 +223,16 @@ impl<K: Kept> Unit<K> {
     }
 }
 
-/// The blocks of a new unit, all of them zero bytes.
-fn blocks_of(alloc: Global, bounds: Bounds) -> Result<UnitBlocks, NoMemory>
+/// The blocks of a new unit, all of them zero bytes: where nobody shares them, in memory of their own.
+fn blocks_of(alloc: Global, bounds: Bounds, own: bool) -> Result<UnitBlocks, NoMemory>
     requires some { 0 < bounds.place.blocks }
     requires low { bounds.place.first + bounds.place.blocks ≤ 65536 }
     ensures place { IfOk result (LiesAt bounds.place) }
     ensures zeroes { IfOk result (λ unit. Holds unit (zero_medium bounds.place.size)) }
 {
     let place = bounds.place;
+    if own {
+        return UnitBlocks::own(alloc, place.first, place.blocks, place.size);
+    }
     UnitBlocks::zeroed(alloc, place.first, place.blocks, place.size)
 }

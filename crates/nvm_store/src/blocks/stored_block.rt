@@ -108,16 +108,21 @@ impl StoredBlock {
         ensures { OnOk result (bytes.new.items ≡ bytes.old.items ++ bytes_of self.now) }
     {
         match &self.content {
-            Content::Zero { size } => {
-                let Some(len) = bytes.len().checked_add(*size) else {
-                    return Err(AllocError);
-                };
-                bytes.resize(len, 0)
-            }
+            Content::Zero { size } => push_zeroes(*size, bytes),
             Content::Data(own) => bytes.extend_from_slice(own.as_slice()),
             Content::Marked => Ok(()),
         }
     }
+}
+
+/// Appends `count` zero bytes.
+pub fn push_zeroes(count: usize, bytes: &mut Vec<u8>) -> Result<(), NoMemory>
+    ensures { OnOk result (bytes.new.items ≡ bytes.old.items ++ replicate count 0) }
+{
+    let Some(len) = bytes.len().checked_add(count) else {
+        return Err(AllocError);
+    };
+    bytes.resize(len, 0)
 }
 
 /// The data after `size` zero bytes, or `None` where it doesn't begin with them.
@@ -134,7 +139,7 @@ fn behind_zeroes(size: usize, payload: &[u8]) -> Option<&[u8]>
 }
 
 /// Whether all bytes are zero: the first is, and each is as the one before it.
-fn are_zero(bytes: &[u8]) -> bool
+pub fn are_zero(bytes: &[u8]) -> bool
     ensures { IsTrue result ↔ (bytes.now ≡ replicate (length bytes.now) 0) }
 {
     let len = bytes.len();

@@ -1,0 +1,279 @@
+ghost use Rattle.std.specs.Prelude.{◌≡◌, ◌+◌, ◌*◌, ◌++◌, ◌-◌, ◌<◌, ◌≤◌, IfOk, OnErr, OnOk, length, replicate, slice_set};
+ghost use Rattle.std.specs.Str.{bytes_eq};
+ghost use Rattle.nvm_record.specs.declared.block.Block.TheVariants.{Uncorrectable};
+ghost use Rattle.nvm_record.specs.Medium as medium;
+ghost use Rattle.nvm_record.specs.Step.{block_at};
+ghost use Rattle.nvm_store.specs.Inside.Rewrite.{stretch_of, IsRewritten, zero_block};
+ghost use Rattle.nvm_store.specs.Inside.Source.{source_block, HasBlocks, IsFilled};
+
+use crate::blocks::levels::{LEAF, Levels};
+use crate::blocks::source::Source;
+use crate::blocks::stored_block::StoredBlock;
+use crate::blocks::stretches;
+use nvm_record::{NoMemory, Payload};
+use std::alloc::Global;
+use std::fmt;
+use std::fmt::{Debug, Formatter, Write};
+use std::marker::Model;
+
+/// The blocks of one unit, which contracts see as their list.
+///
+/// They are in a tree of nodes that copies share. A change works in place where nobody shares a node
+/// on the way to its block, and copies the way where somebody does, so a copy of all blocks costs one
+/// count and stays as it is. After an `Err` all blocks are as they were.
+#[derive(Drop)]
+pub struct SharedBlocks {
+    levels: Levels,
+    count: usize,
+}
+
+impl Model for SharedBlocks {
+    ghost use Rattle.std.specs.Prelude.{List, ◌≤◌, length, take};
+    ghost use Rattle.nvm_record.specs.declared.block.Block.{Block};
+    ghost use Rattle.nvm_store.specs.Inside.Levels.{blocks_of};
+
+    ghost Value = { List Block };
+
+    ghost view = { λ b. take b.count (blocks_of b.levels) };
+
+    ghost invariant = { λ b. b.count ≤ length (blocks_of b.levels) };
+}
+
+/// Shows how many blocks there are.
+impl Debug for SharedBlocks {
+    fn fmt<W: Write>(&self, f: &mut Formatter<W>) -> fmt::Result {
+        write!(f, "{} blocks", self.count)
+    }
+}
+
+impl SharedBlocks {
+    /// `count` blocks of `size` zero bytes. They share one leaf, so they take the memory of one path of the
+    /// tree.
+    pub fn zeroed(alloc: Global, count: usize, size: usize) -> Result<SharedBlocks, NoMemory>
+        ensures { IfOk result (λ blocks. blocks ≡ replicate count (zero_block size)) }
+    {
+        let levels = Levels::zeroed(alloc, count, size)?;
+        Ok(SharedBlocks { levels, count })
+    }
+
+    /// How many blocks there are.
+    pub fn len(&self) -> usize
+        ensures { result ≡ length self.now }
+    {
+        self.count
+    }
+
+    /// The same blocks, shared: one more owner of the tree's top. It takes no memory, and is refused only
+    /// where 2^63 - 1 copies share it already.
+    pub fn share(&self) -> Result<SharedBlocks, NoMemory>
+        ensures { IfOk result (λ blocks. blocks ≡ self.now) }
+    {
+        let levels = self.levels.share()?;
+        Ok(SharedBlocks {
+            levels,
+            count: self.count,
+        })
+    }
+
+    /// The `count` blocks from place `at` take the data, in blocks of `size` bytes: one that is alone into its own memory if it can, and else as parts of the payload.
+    pub fn write(
+        &mut self,
+        alloc: Global,
+        at: usize,
+        count: usize,
+        size: usize,
+        payload: Payload,
+    ) -> Result<(), NoMemory>
+        requires range { at + count ≤ length self.old }
+        requires payload { length payload ≡ count * size }
+        ensures ok { OnOk result (IsRewritten at count (block_at size payload) self.old self.new) }
+        ensures err { OnErr result (self.new ≡ self.old) }
+    {
+        self.fill(alloc, at, count, &Source::Data { size, payload })
+    }
+
+    /// The `count` blocks from place `at` become `size` zero bytes each.
+    pub fn zero(
+        &mut self,
+        alloc: Global,
+        at: usize,
+        count: usize,
+        size: usize,
+    ) -> Result<(), NoMemory>
+        requires { at + count ≤ length self.old }
+        ensures ok { OnOk result
+            (IsRewritten at count (λ _. zero_block size) self.old self.new) }
+        ensures err { OnErr result (self.new ≡ self.old) }
+    {
+        self.fill(alloc, at, count, &Source::Zeroes { size })
+    }
+
+    /// The `count` blocks from place `at` are marked.
+    pub fn mark(&mut self, alloc: Global, at: usize, count: usize) -> Result<(), NoMemory>
+        requires { at + count ≤ length self.old }
+        ensures ok { OnOk result (IsRewritten at count (λ _. Uncorrectable) self.old self.new) }
+        ensures err { OnErr result (self.new ≡ self.old) }
+    {
+        self.fill(alloc, at, count, &Source::Marks)
+    }
+
+    /// Whether one of the `count` blocks from place `at` is marked.
+    pub fn has_mark(&self, at: usize, count: usize) -> bool
+        requires { at + count ≤ length self.now }
+        ensures { result ≡ medium.has_mark (stretch_of at count self.now) }
+    {
+        // The number of blocks fits, so each place up to it does.
+        let _len = self.len();
+        let mut from = at;
+        let mut left = count;
+        while left > 0 {
+            let stretch = self.stretch(from, left);
+            if stretches::has_mark(stretch) {
+                return true;
+            }
+            from += stretch.len();
+            left -= stretch.len();
+        }
+        false
+    }
+
+    /// Whether the bytes of the `count` blocks from place `at`, one block after the other, are exactly the
+    /// data. It takes no memory, and looks at nothing past the first block that differs. A marked block
+    /// has no bytes.
+    pub fn is_equal(&self, at: usize, count: usize, payload: &[u8]) -> bool
+        requires { at + count ≤ length self.now }
+        ensures { result ≡ bytes_eq (medium.joined (stretch_of at count self.now)) payload.now }
+    {
+        // The number of blocks fits, so each place up to it does.
+        let _len = self.len();
+        let mut from = at;
+        let mut left = count;
+        let mut rest = payload;
+        while left > 0 {
+            let stretch = self.stretch(from, left);
+            let Some(behind) = stretches::behind(stretch, rest) else {
+                return false;
+            };
+            rest = behind;
+            from += stretch.len();
+            left -= stretch.len();
+        }
+        rest.is_empty()
+    }
+
+    /// Appends the bytes of the `count` blocks from place `at`, one block after the other. It takes no
+    /// memory where `bytes` has room for them. A marked block has no bytes.
+    pub fn push_bytes(&self, at: usize, count: usize, bytes: &mut Vec<u8>) -> Result<(), NoMemory>
+        requires { at + count ≤ length self.now }
+        ensures { OnOk result
+            (bytes.new.items ≡ bytes.old.items ++ medium.joined (stretch_of at count self.now)) }
+    {
+        // The number of blocks fits, so each place up to it does.
+        let _len = self.len();
+        let mut from = at;
+        let mut left = count;
+        while left > 0 {
+            let stretch = self.stretch(from, left);
+            stretches::push_bytes(stretch, bytes)?;
+            from += stretch.len();
+            left -= stretch.len();
+        }
+        Ok(())
+    }
+
+    /// The stored blocks from place `from`, as far as they are in one leaf, and at most `most`.
+    #[inline(always)]
+    fn stretch(&self, from: usize, most: usize) -> &[StoredBlock]
+        requires some { 0 < most }
+        requires range { from + most ≤ length self.now }
+        ensures some { 0 < length result.now }
+        ensures few { length result.now ≤ most }
+        ensures is { stretch_of from (length result.now) self.now ≡ result.now }
+    {
+        let stretch = self.levels.stretch(from);
+        let len = stretch.len().min(most);
+        &stretch[..len]
+    }
+
+    /// Puts a block at place `at`.
+    #[inline(always)]
+    fn set(&mut self, alloc: Global, at: usize, block: StoredBlock) -> Result<(), NoMemory>
+        requires { at < length self.old }
+        ensures ok { OnOk result (self.new ≡ slice_set self.old at block) }
+        ensures err { OnErr result (self.new ≡ self.old) }
+    {
+        self.levels.set(alloc, at, block)
+    }
+
+    /// Puts the source's blocks from place `from` up to place `to` at the places from `at` on, as far as
+    /// these are in one leaf, and answers how many. Where fewer than `least` do, it answers 0 and does
+    /// nothing.
+    fn fill_stretch(
+        &mut self,
+        alloc: Global,
+        at: usize,
+        from: usize,
+        to: usize,
+        least: usize,
+        source: &Source,
+    ) -> Result<usize, NoMemory>
+        requires range { at + (to - from) ≤ length self.old }
+        requires some { from < to }
+        requires least { 0 < least }
+        requires source { HasBlocks source.now to }
+        ensures ok { IfOk result (λ n. IsFilled source.now at from to least n self.old self.new) }
+        ensures err { OnErr result (self.new ≡ self.old) }
+    {
+        self.levels.fill(alloc, at, from, to, least, source)
+    }
+
+    /// The `count` blocks from place `at` become the source's.
+    ///
+    /// One block is put in place, and so are several of one leaf. Those of several leaves are put into a shared
+    /// copy, which copies each node of their ways once, and takes this one's place where nothing was refused.
+    fn fill(
+        &mut self,
+        alloc: Global,
+        at: usize,
+        count: usize,
+        source: &Source,
+    ) -> Result<(), NoMemory>
+        requires range { at + count ≤ length self.old }
+        requires source { HasBlocks source.now count }
+        ensures ok { OnOk result (IsRewritten at count (source_block source.now) self.old self.new) }
+        ensures err { OnErr result (self.new ≡ self.old) }
+    {
+        if count == 1 {
+            let block = source.block(0)?;
+            return self.set(alloc, at, block);
+        }
+        if count > 0 && count <= LEAF - at % LEAF {
+            let done = self.fill_stretch(alloc, at, 0, count, count, source)?;
+            if done > 0 {
+                return Ok(());
+            }
+        }
+        *self = self.filled(alloc, at, count, source)?;
+        Ok(())
+    }
+
+    /// A copy of which the `count` blocks from place `at` are the source's.
+    fn filled(
+        &self,
+        alloc: Global,
+        at: usize,
+        count: usize,
+        source: &Source,
+    ) -> Result<SharedBlocks, NoMemory>
+        requires range { at + count ≤ length self.now }
+        requires source { HasBlocks source.now count }
+        ensures { IfOk result (IsRewritten at count (source_block source.now) self.now) }
+    {
+        let mut after = self.share()?;
+        let mut done = 0;
+        while done < count {
+            done += after.fill_stretch(alloc, at + done, done, count, 1, source)?;
+        }
+        Ok(after)
+    }
+}
