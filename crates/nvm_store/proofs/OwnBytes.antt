@@ -14,7 +14,7 @@ use Rattle.nvm_record.specs.declared.block.Block.TheVariants.{Bytes}
 use Rattle.nvm_record.specs.Lists.{IsAt}
 use Rattle.nvm_record.specs.Medium.{has_mark, joined}
 use Rattle.nvm_record.specs.Step.{block_at}
-use Rattle.nvm_store.specs.Inside.Own.{IsOwn, cut, kept_bytes, with_bytes}
+use Rattle.nvm_store.specs.Inside.Own.{cut, kept_bytes, with_bytes}
 use Rattle.nvm_store.specs.Inside.Rewrite.{IsRewritten, stretch_of, zero_block}
 use Rattle.nvm_store.specs.Inside.Sound.{AreOfSize}
 use Rattle.nvm_store.proofs.Data.{tells_other}

@@ -181,8 +181,7 @@ impl Blocks {
     {
         match &self.kept {
             Kept::Shared(blocks) => blocks.has_mark(at, count),
-            // Marked blocks are in a tree.
-            Kept::Own(_) => false,
+            Kept::Own(blocks) => blocks.has_mark(at, count),
         }
     }
 

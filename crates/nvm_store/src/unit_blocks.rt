@@ -69,8 +69,8 @@ impl UnitBlocks {
         })
     }
 
-    /// The same as [`zeroed`](UnitBlocks::zeroed), of a unit that is to be changed in place. Where its blocks have at most 65,536 bytes they are in one piece of memory,
-    /// which the first Write asks for and a share of the unit copies. They move into a tree where one of them is marked.
+    /// What [`zeroed`](UnitBlocks::zeroed) gives, to be changed in place. Where its blocks have at most 65,536 bytes they are in one piece of
+    /// memory, which the first Write asks for, and a share of the unit copies. They move into a tree once one of them is marked.
     pub fn own(
         alloc: Global,
         first: u64,

@@ -118,6 +118,17 @@ impl OwnBlocks {
         clear(&mut self.bytes, from, len);
     }
 
+    /// Whether one of the `count` blocks from place `at` is marked: none ever is.
+    #[inline(always)]
+    pub fn has_mark(&self, at: usize, count: usize) -> bool
+        requires { at + count ≤ length self.now }
+        ensures { result ≡ medium.has_mark (stretch_of at count self.now) }
+    {
+        // For the proof alone: each of them is cut from the bytes.
+        let _count = self.count;
+        false
+    }
+
     /// Whether the bytes of the `count` blocks from place `at` are exactly the data.
     #[inline(always)]
     pub fn is_equal(&self, at: usize, count: usize, payload: &[u8]) -> bool

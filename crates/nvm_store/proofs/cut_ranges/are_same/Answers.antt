@@ -2,7 +2,7 @@ use Rattle.std.proofs.Common.{◌≡◌, ◌≢◌, ◌<◌, ◌≤◌, List, le
 use Rattle.std.proofs.lemmas.Bool.{false≢true}
 use Rattle.std.proofs.lemmas.List.{same_lists}
 use Rattle.nvm_record.specs.declared.lba_range.LbaRange.{LbaRange}
-use Rattle.nvm_record.specs.Ranges.{range_at, range_count, ranges_of}
+use Rattle.nvm_record.specs.Ranges.{range_count, ranges_of}
 use Rattle.nvm_store.proofs.cut_ranges.are_same.Goals as goal
 
 pub returns-then-ne : goal.returns-then-ne

@@ -1,7 +1,7 @@
-use Rattle.std.proofs.Common.{◌≡◌, ◌+◌, ◌<◌, ◌≤◌, ◌∷◌, [], List, ap, sym, ◌∙◌, drop, length, arith, rules}
+use Rattle.std.proofs.Common.{◌+◌, ◌<◌, ◌≤◌, ◌∷◌, ap, sym, ◌∙◌, drop, length, arith, rules}
 use Rattle.std.proofs.lemmas.List.{drop_all}
 use Rattle.nvm_record.specs.declared.lba_range.LbaRange.{LbaRange}
-use Rattle.nvm_record.specs.Ranges.{cut_range, cut_ranges, range_at, ranges_of, range_count}
+use Rattle.nvm_record.specs.Ranges.{cut_ranges, range_at, ranges_of, range_count}
 use Rattle.nvm_store.proofs.Cuts.{cut_kept, cut_dropped, ranges_from}
 use Rattle.nvm_store.proofs.cut_ranges.next_cut.Goals as goal
 

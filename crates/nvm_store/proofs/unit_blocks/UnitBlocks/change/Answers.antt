@@ -4,14 +4,8 @@ use Rattle.nvm_record.specs.PayloadRef.{lent_bytes}
 use Rattle.nvm_store.proofs.Comparisons.{pair_is_write}
 use Rattle.nvm_store.proofs.unit_blocks.UnitBlocks.change.Goals as goal
 
-pub returns-in_ok-payload-in-Write-clause-step : goal.returns-in_ok-payload-in-Write-clause-step
-returns-in_ok-payload-in-Write-clause-step c =
-    on_ok_weaker c.write.result
-    (λ step m held. rw c.in-Write.is (rw c.in_ok-payload-in-Write.ensures at (step m held)))
-    c.write.ensures.step
-
-pub returns-in_ok-payload-in-Pair-clause-step : goal.returns-in_ok-payload-in-Pair-clause-step
-returns-in_ok-payload-in-Pair-clause-step c =
+pub returns-in-Pair-clause-step : goal.returns-in-Pair-clause-step
+returns-in-Pair-clause-step c =
     let pair = c.in-Pair in
     on_ok_weaker c.write-in-Pair.result
     (λ step m held i block at.
@@ -19,7 +13,7 @@ returns-in_ok-payload-in-Pair-clause-step c =
     let lba = c.write-in-Pair.new.self.first + i in
     rw pair.is
     (pair_is_write c.args.self.now.size pair.first pair.blocks (lent_bytes pair.compare) (lent_bytes pair.write) m lba success
-    ∙ rw c.in_ok-payload-in-Pair.ensures at (step m held i block at)))
+    ∙ step m held i block at))
     c.write-in-Pair.ensures.step
 
 pub returns-in-Deallocate-clause-step : goal.returns-in-Deallocate-clause-step

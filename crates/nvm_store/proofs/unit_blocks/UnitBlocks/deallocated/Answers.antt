@@ -1,4 +1,4 @@
-use Rattle.std.proofs.Common.{◌≡◌, ℕ, ◌+◌, ◌≤◌, [], List, ap, sym, ◌∙◌, arith, rules}
+use Rattle.std.proofs.Common.{◌≡◌, ℕ, ◌+◌, ◌≤◌, [], ap, sym, ◌∙◌, arith, rules}
 use Rattle.nvm_record.specs.Ranges.{cut_ranges, ranges_of}
 use Rattle.nvm_store.specs.declared.place.Place.{Place}
 use Rattle.nvm_store.specs.Contents.{StaysInPlace}

@@ -1,11 +1,8 @@
-use Rattle.std.proofs.Common.{◌≡◌, ℕ, ◌+◌, ◌-◌, refl, sym, ap, ◌∙◌, arith}
-use Rattle.std.proofs.lemmas.List.{length-replicate}
+use Rattle.std.proofs.Common.{◌≡◌, ◌+◌, ◌-◌, refl, arith}
 use Rattle.std.proofs.lemmas.Result.{on_ok_weaker}
-use Rattle.nvm_record.specs.Step.{block_at}
-use Rattle.nvm_store.specs.Inside.Rewrite.{zero_block}
 use Rattle.nvm_record.specs.declared.block.Block.TheVariants.{Uncorrectable}
-use Rattle.nvm_store.specs.Operation.{write_operation, zeroes_operation, uncorrectable_operation}
-use Rattle.nvm_store.proofs.Ranges.{sound_after, held-rewritten, data_sized}
+use Rattle.nvm_store.specs.Operation.{uncorrectable_operation}
+use Rattle.nvm_store.proofs.Ranges.{sound_after, held-rewritten}
 use Rattle.nvm_store.proofs.unit_blocks.UnitBlocks.mark.Goals as goal
 
 pub invariant_of-self : goal.invariant_of-self

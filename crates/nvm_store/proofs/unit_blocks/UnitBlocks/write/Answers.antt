@@ -1,18 +1,16 @@
-use Rattle.std.proofs.Common.{◌≡◌, ℕ, ◌+◌, ◌-◌, refl, sym, ap, ◌∙◌, arith}
-use Rattle.std.proofs.lemmas.List.{length-replicate}
+use Rattle.std.proofs.Common.{◌≡◌, ℕ, ◌+◌, ◌-◌, refl, ap, arith}
 use Rattle.std.proofs.lemmas.Result.{on_ok_weaker}
+use Rattle.nvm_record.specs.PayloadRef.{lent_bytes}
 use Rattle.nvm_record.specs.Step.{block_at}
-use Rattle.nvm_store.specs.Inside.Rewrite.{zero_block}
-use Rattle.nvm_record.specs.declared.block.Block.TheVariants.{Uncorrectable}
-use Rattle.nvm_store.specs.Operation.{write_operation, zeroes_operation, uncorrectable_operation}
+use Rattle.nvm_store.specs.Operation.{write_operation}
 use Rattle.nvm_store.proofs.Ranges.{sound_after, held-rewritten, data_sized}
 use Rattle.nvm_store.proofs.unit_blocks.UnitBlocks.write.Goals as goal
 
 pub invariant_of-self : goal.invariant_of-self
 invariant_of-self c =
     let at = c.args.first - c.self.inside.first in
-    sound_after c.write.result c.self.inside.first c.self.inside.size at c.args.blocks (block_at c.bytes-size.result c.args.payload) c.self.inside.blocks c.write.new.self
-    c.write.ensures.ok c.write.ensures.err c.self.invariant (λ i lt. rw c.bytes-size.ensures.value (data_sized c.self.inside.size c.args.blocks c.args.payload i (rw (← c.self.view_is) at c.requires.payload) lt))
+    sound_after c.write.result c.self.inside.first c.self.inside.size at c.args.blocks (block_at c.bytes-size.result (lent_bytes c.args.payload)) c.self.inside.blocks c.write.new.self
+    c.write.ensures.ok c.write.ensures.err c.self.invariant (λ i lt. rw c.bytes-size.ensures.value (data_sized c.self.inside.size c.args.blocks (lent_bytes c.args.payload) i (rw (← c.self.view_is) at c.requires.payload) lt))
 
 pub returns-clause-step : goal.returns-clause-step
 returns-clause-step c =
@@ -23,6 +21,6 @@ returns-clause-step c =
     (λ is m held.
     let held' = rw (← c.self.view_is) at held in
     rw (← c.self.view_is)
-    (held-rewritten c.steps_are_local.ensures.outside m c.self.inside.first c.self.inside.size at (write_operation c.args.first c.args.blocks c.args.payload)
-    (block_at c.bytes-size.result c.args.payload) c.self.inside.blocks c.write.new.self (λ lba. refl) held' place is (λ i lt. ap (λ (n : ℕ). block_at n c.args.payload i) c.bytes-size.ensures.value)))
+    (held-rewritten c.steps_are_local.ensures.outside m c.self.inside.first c.self.inside.size at (write_operation c.args.first c.args.blocks (lent_bytes c.args.payload))
+    (block_at c.bytes-size.result (lent_bytes c.args.payload)) c.self.inside.blocks c.write.new.self (λ lba. refl) held' place is (λ i lt. ap (λ (n : ℕ). block_at n (lent_bytes c.args.payload) i) c.bytes-size.ensures.value)))
     c.write.ensures.ok

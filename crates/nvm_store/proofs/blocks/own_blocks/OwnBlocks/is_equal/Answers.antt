@@ -2,9 +2,7 @@ use Rattle.std.proofs.Common.{◌≡◌, ℕ, ◌+◌, ◌-◌, ◌*◌, List, [
 use Rattle.std.specs.Str.{bytes_eq}
 use Rattle.std.proofs.lemmas.Bool.{eqb-true, eqb-false}
 use Rattle.std.proofs.lemmas.List.{length-replicate}
-use Rattle.nvm_record.specs.Medium.{joined}
 use Rattle.nvm_store.specs.Inside.Own.{kept_bytes}
-use Rattle.nvm_store.specs.Inside.Rewrite.{stretch_of}
 use Rattle.nvm_store.proofs.Data.{none_left}
 use Rattle.nvm_store.proofs.OwnBytes.{all_kept, joined_stretch, other_length, within_own, zeroes_equal, zeroes_part}
 use Rattle.nvm_store.proofs.blocks.own_blocks.OwnBlocks.is_equal.Goals as goal

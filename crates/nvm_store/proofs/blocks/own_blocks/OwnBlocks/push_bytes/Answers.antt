@@ -1,8 +1,6 @@
 use Rattle.std.proofs.Common.{◌≡◌, ℕ, ◌+◌, ◌-◌, ◌*◌, ◌++◌, List, [], length, take, drop, replicate, vec_len, sym, ap, ◌∙◌, arith}
 use Rattle.std.proofs.lemmas.Bool.{eqb-true, eqb-false}
-use Rattle.nvm_record.specs.Medium.{joined}
 use Rattle.nvm_store.specs.Inside.Own.{kept_bytes}
-use Rattle.nvm_store.specs.Inside.Rewrite.{stretch_of}
 use Rattle.nvm_store.proofs.Data.{none_left}
 use Rattle.nvm_store.proofs.OwnBytes.{all_kept, if_ok, joined_stretch, within_own, zeroes_part}
 use Rattle.nvm_store.proofs.blocks.own_blocks.OwnBlocks.push_bytes.Goals as goal

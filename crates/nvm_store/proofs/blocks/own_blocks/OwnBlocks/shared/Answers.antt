@@ -1,8 +1,7 @@
-use Rattle.std.proofs.Common.{◌≡◌, ℕ, ◌*◌, List, [], length, replicate, vec_len, sym, ap, subst, ◌∙◌, arith}
+use Rattle.std.proofs.Common.{◌≡◌, ℕ, ◌*◌, List, [], length, vec_len, sym, ap, subst, ◌∙◌, arith}
 use Rattle.std.proofs.lemmas.Bool.{eqb-true, eqb-false}
 use Rattle.std.proofs.lemmas.List.{length-replicate}
 use Rattle.nvm_record.specs.Step.{block_at}
-use Rattle.nvm_store.specs.Inside.Own.{kept_bytes}
 use Rattle.nvm_store.specs.Inside.Rewrite.{IsRewritten, zero_block}
 use Rattle.nvm_store.proofs.Data.{none_left}
 use Rattle.nvm_store.proofs.OwnBytes.{all_kept, all_rewritten, zeroes_cut}

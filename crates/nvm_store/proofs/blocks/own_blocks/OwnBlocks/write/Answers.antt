@@ -1,4 +1,4 @@
-use Rattle.std.proofs.Common.{◌≡◌, ℕ, ◌+◌, ◌*◌, ◌≤◌, List, length, refl, sym, ap, subst, ◌∙◌, arith, inr}
+use Rattle.std.proofs.Common.{◌≡◌, ℕ, ◌+◌, ◌*◌, List, length, refl, sym, ap, subst, ◌∙◌, arith, inr}
 use Rattle.nvm_record.specs.Step.{block_at}
 use Rattle.nvm_store.specs.Inside.Own.{cut, kept_bytes, with_bytes}
 use Rattle.nvm_store.specs.Inside.Rewrite.{IsRewritten}
