@@ -19,7 +19,7 @@ use crate::engine::{Engine, Pending, told_statuses_fit_their_entries};
 use crate::log::draw;
 use crate::quiet::Quiet;
 use crate::telling::tell;
-use nvm_plan::{Body, Completions, Job};
+use nvm_plan::{Body, BodyFields, Completions, Job};
 use nvm_record::{
     BlockSize, Completion, EntryFields, Fuse, Op, Payload, ReadData, Status, Statuses,
 };
@@ -57,40 +57,16 @@ impl Engine {
         let Ok(payload) = payload_of(alloc, sent_with(fields.op, data), &mut self.spare) else {
             return Code::NoMemory;
         };
-        let Ok(number) = draw(&mut self.number, &mut self.log) else {
-            return Code::NoMemory;
-        };
-        match self.space.poll_command(
+        let compared = Payload::empty();
+        self.submit_fields(
             alloc,
-            &mut self.port,
-            number,
-            &fields,
-            payload.lend(),
-            &Quiet,
-        ) {
-            AtOnce::Done {
-                statuses,
-                payload: read,
-            } => {
-                let done = command_done(alloc, host, &fields, statuses, read);
-                tell(&done.completions, data, posted);
-                keep_memory(&mut self.spare, payload);
-                Code::Done
-            }
-            AtOnce::Pending(under_way) => {
-                let job = job_of(host, &fields, payload);
-                self.pending = Some(Pending {
-                    number,
-                    job,
-                    under_way,
-                });
-                Code::Pending
-            }
-            AtOnce::Apart => {
-                let mut held = Some(job_of(host, &fields, payload));
-                self.begin_numbered(alloc, number, &mut held, data, posted)
-            }
-        }
+            host,
+            BodyFields::Single(fields),
+            payload,
+            compared,
+            data,
+            posted,
+        )
     }
 
     /// Submits a fused pair of a Compare and a Write.
@@ -132,34 +108,70 @@ impl Engine {
         let Ok(compared) = payload_of(alloc, front, &mut self.compared) else {
             return Code::NoMemory;
         };
-        let Ok(written) = payload_of(alloc, rest, &mut self.spare) else {
+        let Ok(payload) = payload_of(alloc, rest, &mut self.spare) else {
             return Code::NoMemory;
         };
+        self.submit_fields(
+            alloc,
+            host,
+            BodyFields::Pair(compare, write),
+            payload,
+            compared,
+            data,
+            posted,
+        )
+    }
+
+    /// Submits the job of entries with these fields and this data.
+    #[inline(always)]
+    fn submit_fields(
+        &mut self,
+        alloc: Global,
+        host: u16,
+        fields: BodyFields,
+        payload: Payload,
+        compared: Payload,
+        data: &mut [u8],
+        posted: &mut [u8],
+    ) -> Code
+        requires sound { IsSound self.old }
+        requires idle { self.old.pending ≡ None }
+        requires unrecorded { self.old.log ≡ None }
+        requires unlisted { (space_of self.old).lists ≡ false }
+        requires host { host ≡ self.old.port.number + 1 }
+        requires whole { IsWholeBody (namespace_of self.old).block_size (body_lent fields payload compared) }
+        requires room { length posted.old ≡ posted_length (body_lent fields payload compared) }
+        ensures sound { IsSound self.new }
+        ensures submits { (entries : List ℕ)
+            → IsAsked (namespace_of self.old).block_size host entries data.old (record { host = host; body = body_lent fields payload compared })
+            → Submits result self.old self.new entries
+            (record { bytes = data.old; posted = posted.old }) (record { bytes = data.new; posted = posted.new }) }
+    {
+        told_statuses_fit_their_entries();
         let Ok(number) = draw(&mut self.number, &mut self.log) else {
             return Code::NoMemory;
         };
-        match self.space.poll_pair(
+        match self.space.poll_lent(
             alloc,
             &mut self.port,
             number,
-            &compare,
-            &write,
+            fields,
+            payload.lend(),
             compared.lend(),
-            written.lend(),
             &Quiet,
         ) {
             AtOnce::Done {
                 statuses,
-                payload: _,
+                payload: read,
             } => {
-                let done = pair_done(alloc, host, &compare, &write, statuses);
+                let done = done(alloc, host, fields, statuses, read);
                 tell(&done.completions, data, posted);
                 keep_memory(&mut self.compared, compared);
-                keep_memory(&mut self.spare, written);
+                keep_memory(&mut self.spare, payload);
                 Code::Done
             }
             AtOnce::Pending(under_way) => {
-                let job = job_of_pair(host, &compare, &write, compared, written);
+                let job = job_of(host, fields, payload, compared);
                 self.pending = Some(Pending {
                     number,
                     job,
@@ -168,7 +180,7 @@ impl Engine {
                 Code::Pending
             }
             AtOnce::Apart => {
-                let mut held = Some(job_of_pair(host, &compare, &write, compared, written));
+                let mut held = Some(job_of(host, fields, payload, compared));
                 self.begin_numbered(alloc, number, &mut held, data, posted)
             }
         }
@@ -205,100 +217,65 @@ fn fits_buffer(fields: &EntryFields, size: BlockSize, data: &[u8]) -> bool
     }
 }
 
-/// What is reported about the job of a command by itself.
+/// What is reported about the job of entries with these fields.
 #[inline(always)]
-fn command_done(
+fn done(
     alloc: Global,
     host: u16,
-    fields: &EntryFields,
+    fields: BodyFields,
     statuses: Statuses,
     payload: Option<ReadData>,
 ) -> JobDone
-    requires { (bytes : List ℕ) × IsForEach (Single (command_lent fields.now bytes)) statuses }
-    ensures completions { (job : Asked) (bytes : List ℕ) → job ≡ record { host = host; body = Single (command_lent fields.now bytes) }
-        → result.completions ≡ completions_of job statuses payload }
+    requires { (bytes compared : List ℕ) × IsForEach (body_lent fields bytes compared) statuses }
+    ensures completions { (bytes compared : List ℕ)
+        → result.completions ≡ completions_of (record { host = host; body = body_lent fields bytes compared }) statuses payload }
     ensures parts { result.parts.items ≡ [] }
 {
-    let Statuses::One(status) = statuses else {
-        unreachable!("a command by itself has one status")
-    };
-    JobDone {
-        completions: Completions::One(Completion {
-            host,
-            cid: fields.cid,
-            status,
-            payload,
-        }),
-        parts: Vec::new(alloc),
-    }
-}
-
-/// What is reported about the job of a pair.
-#[inline(always)]
-fn pair_done(
-    alloc: Global,
-    host: u16,
-    compare: &EntryFields,
-    write: &EntryFields,
-    statuses: Statuses,
-) -> JobDone
-    requires { (compared written : List ℕ) × IsForEach (Pair (command_lent compare.now compared) (command_lent write.now written)) statuses }
-    ensures completions { (job : Asked) (compared written : List ℕ)
-        → job ≡ record { host = host; body = Pair (command_lent compare.now compared) (command_lent write.now written) }
-        → result.completions ≡ completions_of job statuses None }
-    ensures parts { result.parts.items ≡ [] }
-{
-    let Statuses::Two(first, second) = statuses else {
-        unreachable!("a pair has two statuses")
-    };
-    JobDone {
-        completions: Completions::Two(
-            completion(host, compare, first),
-            completion(host, write, second),
+    let completions = match (fields, statuses) {
+        (BodyFields::Single(alone), Statuses::One(status)) => {
+            Completions::One(completion(host, alone, status, payload))
+        }
+        (BodyFields::Pair(compare, write), Statuses::Two(first, second)) => Completions::Two(
+            completion(host, compare, first, None),
+            completion(host, write, second, None),
         ),
+        _ => unreachable!("each command has a status"),
+    };
+    JobDone {
+        completions,
         parts: Vec::new(alloc),
     }
 }
 
-/// The completion of a command that reads nothing.
-fn completion(host: u16, fields: &EntryFields, status: Status) -> Completion
-    ensures { result ≡ record { host = host; cid = fields.now.cid; status = status; payload = None } }
+/// What is reported about a command.
+#[inline(always)]
+fn completion(
+    host: u16,
+    fields: EntryFields,
+    status: Status,
+    payload: Option<ReadData>,
+) -> Completion
+    ensures { result ≡ record { host = host; cid = fields.cid; status = status; payload = payload } }
 {
     Completion {
         host,
         cid: fields.cid,
         status,
-        payload: None,
+        payload,
     }
 }
 
-/// The job of a command by itself.
-#[inline(never)]
-fn job_of(host: u16, fields: &EntryFields, payload: Payload) -> Job
-    ensures { result ≡ record { host = host; body = Single (command_lent fields.now payload) } }
+/// The job of entries with these fields and this data.
+#[inline(always)]
+fn job_of(host: u16, fields: BodyFields, payload: Payload, compared: Payload) -> Job
+    ensures { result ≡ record { host = host; body = body_lent fields payload compared } }
 {
-    Job {
-        host,
-        body: Body::Single(command_with(fields, payload)),
-    }
-}
-
-/// The job of a pair.
-#[inline(never)]
-fn job_of_pair(
-    host: u16,
-    compare: &EntryFields,
-    write: &EntryFields,
-    compared: Payload,
-    written: Payload,
-) -> Job
-    ensures { result ≡ record { host = host; body = Pair (command_lent compare.now compared) (command_lent write.now written) } }
-{
-    Job {
-        host,
-        body: Body::Pair(
-            command_with(compare, compared),
-            command_with(write, written),
+    let body = match fields {
+        BodyFields::Single(alone) => Body::Single(command_with(&alone, payload)),
+        BodyFields::Pair(compare, write) => Body::Pair(
+            command_with(&compare, compared),
+            command_with(&write, payload),
         ),
-    }
+    };
+    Job { host, body }
 }

@@ -9,6 +9,7 @@
 //! its outcome is, only specs say; [`laws`] and [`job_laws`] have what holds of these.
 #![tactic(auto)]
 
+mod body_fields;
 mod checks;
 mod completions;
 mod decision;
@@ -18,7 +19,6 @@ pub mod job_laws;
 mod job_list;
 mod kind;
 pub mod laws;
-mod lent_command;
 mod lent_part;
 mod pairing;
 mod part;
@@ -27,6 +27,7 @@ mod profile;
 mod reach;
 mod units;
 
+pub use body_fields::{BodyFields, only_part};
 pub use checks::plan;
 pub use completions::Completions;
 pub use decision::Plan;
@@ -34,7 +35,6 @@ pub use fit::{MOST_HOSTS, fits};
 pub use job::{Body, Job};
 pub use job_list::jobs;
 pub use kind::{Kind, is_read};
-pub use lent_command::{only_part, only_part_of_pair};
 pub use lent_part::{LentPart, job_part_in, job_part_there};
 pub use part::{Part, PartResult};
 pub use place::unit_place;

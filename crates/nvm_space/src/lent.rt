@@ -1,6 +1,5 @@
-//! A command, or a pair, whose data is lent and whose range lies in one unit: it is done in one step, without a job that holds it.
+//! A job whose data is lent and whose range lies in one unit: it is done in one step, without a `Job` that holds it.
 ghost use Rattle.std.specs.Prelude.{◌≡◌, ◌↔◌, ◌≤◌, ℕ, Bool, List, [], IsTrue, false, length};
-ghost use Rattle.nvm_record.specs.Entry.{IsWhole};
 ghost use Rattle.nvm_record.specs.PayloadRef.{lent_bytes};
 ghost use Rattle.nvm_record.specs.Status.{IsSuccess};
 ghost use Rattle.nvm_record.specs.Step.{Operation};
@@ -8,10 +7,10 @@ ghost use Rattle.nvm_geometry.specs.Boundaries.{units_of};
 ghost use Rattle.nvm_geometry.specs.Namespace.{Namespace};
 ghost use Rattle.nvm_store.specs.Place.{IsCovered};
 ghost use Rattle.nvm_store.specs.declared.place.Place.{Place as UnitPlace};
+ghost use Rattle.nvm_plan.specs.Fits.{IsWholeBody};
 ghost use Rattle.nvm_plan.specs.LentPart.{part_operation_of};
-ghost use Rattle.nvm_plan.specs.OnlyPart.{IsOnlyPart, command_lent};
+ghost use Rattle.nvm_plan.specs.OnlyPart.{IsOnlyPart, body_lent};
 ghost use Rattle.nvm_plan.specs.UnitPlace.{IsUnitPlace};
-ghost use Rattle.nvm_plan.specs.declared.job.Body.TheVariants.{Pair, Single};
 ghost use Rattle.nvm_plan.specs.declared.job.Job.{Job as Asked};
 ghost use Rattle.nvm_unit.specs.Ends.{views_of};
 ghost use Rattle.nvm_unit.specs.Replies.{Waits};
@@ -34,8 +33,8 @@ use nvm_plan::laws::{
     answers_of_the_step_are_replies, each_command_has_a_status, outcomes_are_made_part_by_part,
     outcomes_by_plan, parts_of_jobs,
 };
-use nvm_plan::{LentPart, only_part, only_part_of_pair};
-use nvm_record::{EntryFields, PayloadRef, ReadData, Statuses};
+use nvm_plan::{BodyFields, LentPart, only_part};
+use nvm_record::{PayloadRef, ReadData, Statuses};
 use nvm_unit::{Gate, Kept, Pass, Unit};
 use std::alloc::Global;
 
@@ -56,66 +55,29 @@ pub enum AtOnce {
 }
 
 impl<K: Kept> Space<K> {
-    /// Does the job of a command by itself, as [`begin_job`](Space::begin_job) and [`poll_job`](Space::poll_job) do, where no check refuses it
-    /// and its range lies in one unit. The command is that of an entry with these fields and of this data, which is lent. It takes no memory but that of the step and of
-    /// a Read's data, and waits for nothing.
+    /// Does a job, as [`begin_job`](Space::begin_job) and [`poll_job`](Space::poll_job) do, where no check refuses it and its range lies in one
+    /// unit. Its entries have these fields, and its data is lent: the payload is that of its command, or of a pair's second, and `compared` that of a
+    /// pair's first. It takes no memory but that of the step and of a Read's data, and waits for nothing.
     #[inline(always)]
-    pub fn poll_command<G: Gate>(
+    pub fn poll_lent<G: Gate>(
         &self,
         alloc: Global,
         port: &mut Port<K>,
         number: u32,
-        fields: &EntryFields,
+        fields: BodyFields,
         payload: PayloadRef<'_>,
-        gate: &G,
-    ) -> AtOnce
-        requires of { IsPortOf self.now port.old }
-        requires unlisted { self.now.lists ≡ false }
-        requires whole { IsWhole self.now.namespace.block_size (command_lent fields.now (lent_bytes payload)) }
-        ensures of { IsPortOf self.now port.new }
-        ensures number { port.new.number ≡ port.old.number }
-        ensures goes { (job : Asked) → job.body ≡ Single (command_lent fields.now (lent_bytes payload.entry))
-            → IsAtOnce self.now.namespace number job (views_of port.old.passes) (views_of port.new.passes) result }
-    {
-        match only_part(&self.geometry, fields, payload) {
-            Some((unit, part)) => poll_only_part(
-                alloc,
-                &self.geometry,
-                &self.units,
-                &mut port.passes,
-                number,
-                unit,
-                part,
-                gate,
-            ),
-            None => AtOnce::Apart,
-        }
-    }
-
-    /// Does the job of a fused pair, as [`poll_command`](Space::poll_command) does that of a command by itself.
-    #[inline(always)]
-    pub fn poll_pair<G: Gate>(
-        &self,
-        alloc: Global,
-        port: &mut Port<K>,
-        number: u32,
-        compare: &EntryFields,
-        write: &EntryFields,
         compared: PayloadRef<'_>,
-        written: PayloadRef<'_>,
         gate: &G,
     ) -> AtOnce
         requires of { IsPortOf self.now port.old }
         requires unlisted { self.now.lists ≡ false }
-        requires compare { IsWhole self.now.namespace.block_size (command_lent compare.now (lent_bytes compared)) }
-        requires write { IsWhole self.now.namespace.block_size (command_lent write.now (lent_bytes written)) }
+        requires whole { IsWholeBody self.now.namespace.block_size (body_lent fields (lent_bytes payload) (lent_bytes compared)) }
         ensures of { IsPortOf self.now port.new }
         ensures number { port.new.number ≡ port.old.number }
-        ensures goes { (job : Asked)
-            → job.body ≡ Pair (command_lent compare.now (lent_bytes compared.entry)) (command_lent write.now (lent_bytes written.entry))
+        ensures goes { (job : Asked) → job.body ≡ body_lent fields (lent_bytes payload.entry) (lent_bytes compared.entry)
             → IsAtOnce self.now.namespace number job (views_of port.old.passes) (views_of port.new.passes) result }
     {
-        match only_part_of_pair(&self.geometry, compare, write, compared, written) {
+        match only_part(&self.geometry, fields, payload, compared) {
             Some((unit, part)) => poll_only_part(
                 alloc,
                 &self.geometry,

@@ -2,8 +2,8 @@
 //!
 //! [`Space::new`] gives a space with its ports, which threads take with them. A port holds a pass of each
 //! unit, and what its passes have seen grows at each call. [`Space::close`] gives the histories of all units.
-//! [`Space::unrecorded`] gives one that keeps the number of each unit's changes alone, in which [`Space::poll_command`] and
-//! [`Space::poll_pair`] do at once what lies in one unit.
+//! [`Space::unrecorded`] gives one that keeps the number of each unit's changes alone, in which [`Space::poll_lent`] does at
+//! once what lies in one unit.
 #![tactic(auto)]
 
 mod closing;
