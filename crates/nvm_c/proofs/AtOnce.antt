@@ -1,11 +1,10 @@
--- What a command that is done at once leaves.
-use Rattle.std.proofs.Common.{◌≡◌, ℕ, ◌+◌, ◌<◌, Option, None, refl, sym, subst, inl, arith}
+-- What a job that is done at once leaves.
+use Rattle.std.proofs.Common.{◌≡◌, ◌∙◌, ℕ, ◌+◌, ◌<◌, List, Option, None, refl, sym, ap, subst, arith}
 use Rattle.nvm_geometry.specs.Namespace.{Namespace}
-use Rattle.nvm_record.specs.Entry.{IsWhole}
-use Rattle.nvm_record.specs.declared.command.Command.{Command}
-use Rattle.nvm_plan.specs.Fits.{FitsNamespace}
-use Rattle.nvm_plan.specs.Profile.{IsFusedPair}
-use Rattle.nvm_plan.specs.declared.job.Body.TheVariants.{Pair, Single}
+use Rattle.nvm_plan.specs.Fits.{FitsNamespace, IsWholeBody}
+use Rattle.nvm_plan.specs.OnlyPart.{body_lent}
+use Rattle.nvm_plan.specs.declared.body_fields.BodyFields.{BodyFields}
+use Rattle.nvm_plan.specs.declared.job.Body.{Body}
 use Rattle.nvm_plan.specs.declared.job.Job.{Job}
 use Rattle.nvm_space.specs.declared.job_done.JobDone.{JobDone}
 use Rattle.nvm_c.specs.Logs.{HasDrawn, LogState, kept_by, with_kept}
@@ -18,11 +17,12 @@ none_kept log after next next' number job told unrecorded drawn =
     let here : HasDrawn next next' None after number = subst (λ (l : Option Log). HasDrawn next next' (kept_by l) after number) unrecorded drawn in
     subst (λ (l : Option LogState). l ≡ with_kept l number job told) (sym here.0) refl
 
--- a job of a whole command, or of a pair of such, by one of the 64 hosts
-pub command_fits : (ns : Namespace) (host : ℕ) (c : Command) (port : ℕ) → host ≡ port + 1 → port < 64 → IsWhole ns.block_size c
-    → FitsNamespace ns (let job : Job = record { host = host; body = Single c } in job)
-command_fits ns host c port is few whole = record { host = omega (arith, is); host_end = omega (arith, is, few); body = inl whole }
+-- a job of a whole body by one of the 64 hosts
+pub body_fits : (ns : Namespace) (host : ℕ) (body : Body) (port : ℕ) → host ≡ port + 1 → port < 64 → IsWholeBody ns.block_size body
+    → FitsNamespace ns (let job : Job = record { host = host; body = body } in job)
+body_fits ns host body port is few whole = record { host = omega (arith, is); host_end = omega (arith, is, few); body = whole }
 
-pub pair_fits : (ns : Namespace) (host : ℕ) (c d : Command) (port : ℕ) → host ≡ port + 1 → port < 64 → IsWhole ns.block_size c → IsWhole ns.block_size d
-    → IsFusedPair c d → FitsNamespace ns (let job : Job = record { host = host; body = Pair c d } in job)
-pair_fits ns host c d port is few whole also fused = record { host = omega (arith, is); host_end = omega (arith, is, few); body = (whole, also, fused) }
+-- Data that is lent is what it is lent of.
+pub lent_as : (fields : BodyFields) {payload compared lent also : List ℕ} → lent ≡ payload → also ≡ compared → body_lent fields payload compared ≡ body_lent fields lent also
+lent_as fields {payload} {compared} {lent} {also} is is_too =
+    ap (λ (bytes : List ℕ). body_lent fields bytes compared) (sym is) ∙ ap (body_lent fields lent) (sym is_too)

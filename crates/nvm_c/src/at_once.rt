@@ -1,17 +1,18 @@
-//! Commands that are done as they are submitted: one by itself, or a fused pair, that lies in one unit which is free.
+//! Jobs that are done as they are submitted: a command by itself, or a fused pair, that lies in one unit which is free.
 ghost use Rattle.std.specs.Prelude.{◌≡◌, ◌+◌, ◌*◌, ℕ, List, [], IsTrue, None, false, length};
 ghost use Rattle.std.specs.Bool.{OnTrue};
 ghost use Rattle.nvm_record.specs.Entry.{data_length};
 ghost use Rattle.nvm_record.specs.Op.{carries_ranges};
 ghost use Rattle.nvm_plan.specs.Completions.{completions_of};
 ghost use Rattle.nvm_plan.specs.Profile.{IsFusedPair};
-ghost use Rattle.nvm_plan.specs.OnlyPart.{command_lent};
+ghost use Rattle.nvm_plan.specs.Fits.{IsWholeBody};
+ghost use Rattle.nvm_plan.specs.OnlyPart.{body_lent, command_lent};
 ghost use Rattle.nvm_plan.specs.Shape.{IsForEach};
-ghost use Rattle.nvm_plan.specs.declared.job.Body.TheVariants.{Pair, Single};
-ghost use Rattle.nvm_plan.specs.declared.job.Job.{Job as Asked};
 ghost use Rattle.nvm_c.specs.Asked as spec;
-ghost use Rattle.nvm_c.specs.Engines.{IsSound, space_of};
+ghost use Rattle.nvm_c.specs.Asked.{IsAsked};
+ghost use Rattle.nvm_c.specs.Engines.{IsSound, namespace_of, space_of};
 ghost use Rattle.nvm_c.specs.Submitted.{Submits};
+ghost use Rattle.nvm_c.specs.Told.{posted_length};
 
 use crate::asking::{command_with, payload_of, plain_fields, reads, sent_with};
 use crate::code::Code;
@@ -48,7 +49,6 @@ impl Engine {
         ensures submits { Submits result self.old self.new entry.now
             (record { bytes = data.old; posted = posted.old }) (record { bytes = data.new; posted = posted.new }) }
     {
-        told_statuses_fit_their_entries();
         let fields = plain_fields(entry);
         let size = self.space.geometry().block_size();
         if !fits_buffer(&fields, size, data) || posted.len() != 16 {
@@ -89,7 +89,6 @@ impl Engine {
         ensures submits { Submits result self.old self.new entries.now
             (record { bytes = data.old; posted = posted.old }) (record { bytes = data.new; posted = posted.new }) }
     {
-        told_statuses_fit_their_entries();
         let (first, second) = entries.split_at(64);
         let compare = plain_fields(first);
         let write = plain_fields(second);
@@ -164,7 +163,7 @@ impl Engine {
                 statuses,
                 payload: read,
             } => {
-                let done = done(alloc, host, fields, statuses, read);
+                let done = job_done(alloc, host, fields, statuses, read);
                 tell(&done.completions, data, posted);
                 keep_memory(&mut self.compared, compared);
                 keep_memory(&mut self.spare, payload);
@@ -219,7 +218,7 @@ fn fits_buffer(fields: &EntryFields, size: BlockSize, data: &[u8]) -> bool
 
 /// What is reported about the job of entries with these fields.
 #[inline(always)]
-fn done(
+fn job_done(
     alloc: Global,
     host: u16,
     fields: BodyFields,

@@ -1,16 +1,15 @@
 use Rattle.std.proofs.Common.{◌≡◌, List, ap, refl, sym, subst, ◌∙◌}
 use Rattle.nvm_record.specs.PayloadRef.{lent_bytes}
-use Rattle.nvm_plan.specs.OnlyPart.{command_lent}
-use Rattle.nvm_plan.specs.declared.job.Body.TheVariants.{Single}
+use Rattle.nvm_plan.specs.OnlyPart.{body_lent}
 use Rattle.nvm_plan.specs.declared.job.Job.{Job}
 use Rattle.nvm_unit.specs.Passes.{UnitName}
 use Rattle.nvm_space.specs.Ports.{PortState, ArePassesOfAll}
 use Rattle.nvm_space.specs.Spaces.{SpaceName}
-use Rattle.nvm_space.proofs.space.Space.poll_command.Goals as goal
+use Rattle.nvm_space.proofs.space.Space.poll_lent.Goals as goal
 
 pub poll_only_part-requires-clause-only : goal.poll_only_part-requires-clause-only
 poll_only_part-requires-clause-only g c =
-    let job : Job = record { host = 1; body = Single (command_lent c.args.fields.now (lent_bytes c.args.payload)) } in
+    let job : Job = record { host = 1; body = body_lent c.args.fields (lent_bytes c.args.payload) (lent_bytes c.args.compared) } in
     (job, c.in-Some.ensures.part job refl)
 
 pub returns-in-Some-clause-of : goal.returns-in-Some-clause-of
