@@ -10,12 +10,14 @@ use Rattle.nvm_space.specs.declared.job_done.JobDone.{JobDone}
 use Rattle.nvm_c.specs.Logs.{HasDrawn, LogState, kept_by, with_kept}
 use Rattle.nvm_c.specs.declared.log.Log.{Log}
 
--- Nothing is kept where nothing is recorded.
-pub none_kept : (log : Option Log) (after : Option LogState) (next next' number : ℕ) (job : Job) (told : JobDone) → log ≡ None
-    → HasDrawn next next' (kept_by log) after number → after ≡ with_kept after number job told
-none_kept log after next next' number job told unrecorded drawn =
+-- Nothing is recorded after a number was drawn where nothing was before, and nothing is kept there.
+pub none_drawn : (log : Option Log) (after : Option LogState) (next next' number : ℕ) → log ≡ None → HasDrawn next next' (kept_by log) after number → after ≡ None
+none_drawn log after next next' number unrecorded drawn =
     let here : HasDrawn next next' None after number = subst (λ (l : Option Log). HasDrawn next next' (kept_by l) after number) unrecorded drawn in
-    subst (λ (l : Option LogState). l ≡ with_kept l number job told) (sym here.0) refl
+    here.0
+
+pub none_kept : (log : Option LogState) (number : ℕ) (job : Job) (told : JobDone) → log ≡ None → log ≡ with_kept log number job told
+none_kept log number job told unrecorded = subst (λ (l : Option LogState). l ≡ with_kept l number job told) (sym unrecorded) refl
 
 -- a job of a whole body by one of the 64 hosts
 pub body_fits : (ns : Namespace) (host : ℕ) (body : Body) (port : ℕ) → host ≡ port + 1 → port < 64 → IsWholeBody ns.block_size body

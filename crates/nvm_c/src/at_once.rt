@@ -1,5 +1,5 @@
 //! Jobs that are done as they are submitted: a command by itself, or a fused pair, that lies in one unit which is free.
-ghost use Rattle.std.specs.Prelude.{◌≡◌, ◌+◌, ◌*◌, ℕ, List, [], IsTrue, None, false, length};
+ghost use Rattle.std.specs.Prelude.{◌≡◌, ◌+◌, ◌*◌, ◌<◌, ℕ, List, [], IsTrue, None, false, length};
 ghost use Rattle.std.specs.Bool.{OnTrue};
 ghost use Rattle.nvm_record.specs.Entry.{data_length};
 ghost use Rattle.nvm_record.specs.Op.{carries_ranges};
@@ -8,10 +8,11 @@ ghost use Rattle.nvm_plan.specs.Profile.{IsFusedPair};
 ghost use Rattle.nvm_plan.specs.Fits.{IsWholeBody};
 ghost use Rattle.nvm_plan.specs.OnlyPart.{body_lent, command_lent};
 ghost use Rattle.nvm_plan.specs.Shape.{IsForEach};
+ghost use Rattle.nvm_space.specs.Ports.{IsPortOf};
 ghost use Rattle.nvm_c.specs.Asked as spec;
-ghost use Rattle.nvm_c.specs.Asked.{IsAsked};
-ghost use Rattle.nvm_c.specs.Engines.{IsSound, namespace_of, space_of};
-ghost use Rattle.nvm_c.specs.Submitted.{Submits};
+ghost use Rattle.nvm_c.specs.Engines.{IsSound, namespace_of, seen_by, space_of};
+ghost use Rattle.nvm_c.specs.Logs.{HasRoomIn, kept_by};
+ghost use Rattle.nvm_c.specs.Submitted.{Progresses, Submits};
 ghost use Rattle.nvm_c.specs.Told.{posted_length};
 
 use crate::asking::{command_with, payload_of, plain_fields, reads, sent_with};
@@ -57,9 +58,13 @@ impl Engine {
         let Ok(payload) = payload_of(alloc, sent_with(fields.op, data), &mut self.spare) else {
             return Code::NoMemory;
         };
+        let Ok(number) = draw(&mut self.number, &mut self.log) else {
+            return Code::NoMemory;
+        };
         let compared = Payload::empty();
         self.submit_fields(
             alloc,
+            number,
             host,
             BodyFields::Single(fields),
             payload,
@@ -110,8 +115,12 @@ impl Engine {
         let Ok(payload) = payload_of(alloc, rest, &mut self.spare) else {
             return Code::NoMemory;
         };
+        let Ok(number) = draw(&mut self.number, &mut self.log) else {
+            return Code::NoMemory;
+        };
         self.submit_fields(
             alloc,
+            number,
             host,
             BodyFields::Pair(compare, write),
             payload,
@@ -121,11 +130,12 @@ impl Engine {
         )
     }
 
-    /// Submits the job of entries with these fields and this data.
+    /// Begins the job of this number, of entries with these fields and this data, and goes on with it.
     #[inline(always)]
     fn submit_fields(
         &mut self,
         alloc: Global,
+        number: u32,
         host: u16,
         fields: BodyFields,
         payload: Payload,
@@ -133,23 +143,23 @@ impl Engine {
         data: &mut [u8],
         posted: &mut [u8],
     ) -> Code
-        requires sound { IsSound self.old }
+        requires of { IsPortOf (space_of self.old) self.old.port }
+        requires few { self.old.port.number < 64 }
         requires idle { self.old.pending ≡ None }
-        requires unrecorded { self.old.log ≡ None }
+        requires unrecorded { kept_by self.old.log ≡ None }
+        requires log { HasRoomIn self.old.log }
         requires unlisted { (space_of self.old).lists ≡ false }
         requires host { host ≡ self.old.port.number + 1 }
         requires whole { IsWholeBody (namespace_of self.old).block_size (body_lent fields payload compared) }
         requires room { length posted.old ≡ posted_length (body_lent fields payload compared) }
         ensures sound { IsSound self.new }
-        ensures submits { (entries : List ℕ)
-            → IsAsked (namespace_of self.old).block_size host entries data.old (record { host = host; body = body_lent fields payload compared })
-            → Submits result self.old self.new entries
+        ensures space { space_of self.new ≡ space_of self.old }
+        ensures number { self.new.number ≡ self.old.number }
+        ensures progress { Progresses result (space_of self.old) number (record { host = host; body = body_lent fields payload compared })
+            (seen_by self.old) (seen_by self.new) self.new.pending (kept_by self.old.log) (kept_by self.new.log)
             (record { bytes = data.old; posted = posted.old }) (record { bytes = data.new; posted = posted.new }) }
     {
         told_statuses_fit_their_entries();
-        let Ok(number) = draw(&mut self.number, &mut self.log) else {
-            return Code::NoMemory;
-        };
         match self.space.poll_lent(
             alloc,
             &mut self.port,

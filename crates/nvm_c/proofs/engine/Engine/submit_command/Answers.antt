@@ -3,11 +3,16 @@ use Rattle.nvm_record.specs.Entry.{IsSpelling, data_length}
 use Rattle.nvm_record.specs.Op.{carries_ranges}
 use Rattle.nvm_record.specs.declared.op.Op.{Op}
 use Rattle.nvm_geometry.specs.Namespace.{Namespace}
-use Rattle.nvm_plan.specs.Fits.{IsWholeBody}
 use Rattle.nvm_plan.specs.OnlyPart.{command_lent}
+use Rattle.nvm_plan.specs.declared.job.Body.TheVariants.{Single}
+use Rattle.nvm_plan.specs.declared.job.Job.{Job}
 use Rattle.nvm_space.specs.Spaces.{SpaceName}
-use Rattle.nvm_c.specs.Asked.{op_in, reads, sent_with}
+use Rattle.nvm_c.specs.Asked.{IsAsked, op_in, reads, sent_with}
 use Rattle.nvm_c.specs.Engines.{namespace_of}
+use Rattle.nvm_c.specs.Logs.{HasDrawn, kept_by}
+use Rattle.nvm_c.specs.Submitted.{Buffers}
+use Rattle.nvm_c.proofs.AtOnce.{none_drawn}
+use Rattle.nvm_c.proofs.Steps.{submits_of}
 use Rattle.nvm_c.proofs.engine.Engine.submit_command.Goals as goal
 
 pub submit_fields-requires-clause-whole : goal.submit_fields-requires-clause-whole
@@ -23,23 +28,40 @@ submit_fields-requires-clause-whole c =
 pub submit_fields-requires-clause-room : goal.submit_fields-requires-clause-room
 submit_fields-requires-clause-room c = omega (arith, c.if-posted-ne16.false)
 
+pub submit_fields-requires-clause-unrecorded : goal.submit_fields-requires-clause-unrecorded
+submit_fields-requires-clause-unrecorded c =
+    none_drawn c.args.self.now.log (kept_by c.draw.new.log) c.args.self.now.number c.draw.new.next c.in-Ok-draw.number c.requires.unrecorded c.in-Ok-draw.ensures.drawn
+
 pub returns-clause-submits : goal.returns-clause-submits
 returns-clause-submits c =
+    let e = c.args.self.now in
     let entry = c.args.entry.now in
-    let data = c.args.data.now in
-    let size = (namespace_of c.args.self.now).block_size in
+    let buffer = c.args.data.now in
+    let size = (namespace_of e).block_size in
     let fields = c.plain_fields-fields.result in
     let plain : carries_ranges fields.op ≡ false = ap carries_ranges c.plain_fields-fields.ensures.op ∙ c.requires.plain in
     let here : c.block_size-size.result ≡ size = c.block_size-size.ensures.value ∙ ap (λ (ns : Namespace). ns.block_size) c.geometry.ensures ∙ ap (λ (s : SpaceName). s.namespace.block_size) c.deref.ensures in
-    let sent : c.in-Ok.payload ≡ sent_with fields.op data = c.in-Ok.ensures ∙ c.sent_with.ensures in
+    let sent : c.in-Ok.payload ≡ sent_with fields.op buffer = c.in-Ok.ensures ∙ c.sent_with.ensures in
     let long : length c.in-Ok.payload ≡ data_length size fields.op fields.nlb fields.nr =
     ap length sent ∙ c.if-not-fits_buffer.ensures.sent ∙ ap (λ (n : ℕ). data_length n fields.op fields.nlb fields.nr) here in
-    let also : c.in-Ok.payload ≡ sent_with (op_in entry) data = sent ∙ ap (λ (op : Op). sent_with op data) c.plain_fields-fields.ensures.op in
-    c.submit_fields.ensures.submits entry (record {
-      by_host = refl;
+    let also : c.in-Ok.payload ≡ sent_with (op_in entry) buffer = sent ∙ ap (λ (op : Op). sent_with op buffer) c.plain_fields-fields.ensures.op in
+    let job : Job = record { host = c.args.host; body = Single (command_lent fields c.in-Ok.payload) } in
+    let old : Buffers = record { bytes = buffer; posted = c.args.posted.now } in
+    let new : Buffers = record { bytes = c.submit_fields.new.data; posted = c.submit_fields.new.posted } in
+    let asked : IsAsked size (e.port.number + 1) entry buffer job = record {
+      by_host = c.requires.host;
       body = record {
         spelled = subst (λ (bs : List ℕ). IsSpelling size (entry ++ bs) (command_lent fields c.in-Ok.payload)) also (c.plain_fields-fields.ensures.spelled size c.in-Ok.payload plain long);
         room = λ read. c.if-not-fits_buffer.ensures.read (subst (λ (op : Op). IsTrue (reads op)) (sym c.plain_fields-fields.ensures.op) read)
             ∙ (ap (λ (n : ℕ). (fields.nlb + 1) * n) here ∙ ap (λ (n : ℕ). (n + 1) * size) (c.plain_fields-fields.ensures.nlb plain));
       };
+    } in
+    submits_of c.submit_fields.result e c.submit_fields.new.self entry old new c.requires.idle (record {
+      job = job;
+      asked = asked;
+      number = c.in-Ok-draw.number;
+      log = kept_by c.draw.new.log;
+      drawn = subst (λ (n : ℕ). HasDrawn e.number n (kept_by e.log) (kept_by c.draw.new.log) c.in-Ok-draw.number) (sym c.submit_fields.ensures.number) c.in-Ok-draw.ensures.drawn;
+      progress = c.submit_fields.ensures.progress;
+      space = c.submit_fields.ensures.space;
     })

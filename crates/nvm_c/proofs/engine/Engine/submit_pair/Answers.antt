@@ -1,9 +1,16 @@
-use Rattle.std.proofs.Common.{◌≡◌, ◌∙◌, ◌++◌, ℕ, List, length, take, drop, refl, sym, ap, subst, arith}
+use Rattle.std.proofs.Common.{◌≡◌, ◌∙◌, ◌++◌, ℕ, ◌+◌, List, length, take, drop, refl, sym, ap, subst, arith}
 use Rattle.nvm_record.specs.Entry.{IsSpelling, called_for, data_length}
 use Rattle.nvm_geometry.specs.Namespace.{Namespace}
 use Rattle.nvm_plan.specs.OnlyPart.{command_lent}
+use Rattle.nvm_plan.specs.declared.job.Body.TheVariants.{Pair}
+use Rattle.nvm_plan.specs.declared.job.Job.{Job}
 use Rattle.nvm_space.specs.Spaces.{SpaceName}
+use Rattle.nvm_c.specs.Asked.{IsAsked}
 use Rattle.nvm_c.specs.Engines.{namespace_of}
+use Rattle.nvm_c.specs.Logs.{HasDrawn, kept_by}
+use Rattle.nvm_c.specs.Submitted.{Buffers}
+use Rattle.nvm_c.proofs.AtOnce.{none_drawn}
+use Rattle.nvm_c.proofs.Steps.{submits_of}
 use Rattle.nvm_c.proofs.engine.Engine.submit_pair.Goals as goal
 
 pub submit_fields-requires-clause-whole : goal.submit_fields-requires-clause-whole
@@ -25,11 +32,16 @@ submit_fields-requires-clause-whole c =
 pub submit_fields-requires-clause-room : goal.submit_fields-requires-clause-room
 submit_fields-requires-clause-room c = omega (arith, c.if-posted-ne32.false)
 
+pub submit_fields-requires-clause-unrecorded : goal.submit_fields-requires-clause-unrecorded
+submit_fields-requires-clause-unrecorded c =
+    none_drawn c.args.self.now.log (kept_by c.draw.new.log) c.args.self.now.number c.draw.new.next c.in-Ok-draw.number c.requires.unrecorded c.in-Ok-draw.ensures.drawn
+
 pub returns-clause-submits : goal.returns-clause-submits
 returns-clause-submits c =
+    let e = c.args.self.now in
     let entries = c.args.entries.now in
-    let data = c.args.data.now in
-    let size = (namespace_of c.args.self.now).block_size in
+    let buffer = c.args.data.now in
+    let size = (namespace_of e).block_size in
     let compare = c.plain_fields-compare.result in
     let write = c.plain_fields-write.result in
     let a = c.in-Ok.compared in
@@ -38,19 +50,31 @@ returns-clause-submits c =
     let here : c.block_size-size.result ≡ size = c.block_size-size.ensures.value ∙ ap (λ (ns : Namespace). ns.block_size) c.geometry.ensures ∙ ap (λ (s : SpaceName). s.namespace.block_size) c.deref.ensures in
     let called : c.data_length-called.result ≡ data_length size compare.op compare.nlb compare.nr =
     c.data_length-called.ensures ∙ ap (λ (n : ℕ). data_length n compare.op compare.nlb compare.nr) here in
-    let front : a ≡ take c.data_length-called.result data = c.in-Ok.ensures ∙ c.split_at-2.ensures.front in
-    let back : b ≡ drop c.data_length-called.result data = c.in-Ok-payload_of.ensures ∙ c.split_at-2.ensures.back in
+    let front : a ≡ take c.data_length-called.result buffer = c.in-Ok.ensures ∙ c.split_at-2.ensures.front in
+    let back : b ≡ drop c.data_length-called.result buffer = c.in-Ok-payload_of.ensures ∙ c.split_at-2.ensures.back in
     let long : length a ≡ data_length size compare.op compare.nlb compare.nr = ap length c.in-Ok.ensures ∙ c.split_at-2.ensures.front_len ∙ called in
     let rest : length b ≡ data_length size write.op write.nlb write.nr =
     ap length c.in-Ok-payload_of.ensures ∙ c.if-rest-data_length.false ∙ c.data_length.ensures ∙ ap (λ (n : ℕ). data_length n write.op write.nlb write.nr) here in
     let cut : c.data_length-called.result ≡ called_for size (take 64 entries) =
     called ∙ c.plain_fields-compare.ensures.called size plain.0 ∙ ap (called_for size) c.split_at.ensures.front in
-    c.submit_fields.ensures.submits entries (record {
-      by_host = refl;
+    let job : Job = record { host = c.args.host; body = Pair (command_lent compare a) (command_lent write b) } in
+    let old : Buffers = record { bytes = buffer; posted = c.args.posted.now } in
+    let new : Buffers = record { bytes = c.submit_fields.new.data; posted = c.submit_fields.new.posted } in
+    let asked : IsAsked size (e.port.number + 1) entries buffer job = record {
+      by_host = c.requires.host;
       body = record {
-        first = subst (λ (bs : List ℕ). IsSpelling size (take 64 entries ++ bs) (command_lent compare a)) (front ∙ ap (λ (n : ℕ). take n data) cut)
+        first = subst (λ (bs : List ℕ). IsSpelling size (take 64 entries ++ bs) (command_lent compare a)) (front ∙ ap (λ (n : ℕ). take n buffer) cut)
             (subst (λ (entry : List ℕ). IsSpelling size (entry ++ a) (command_lent compare a)) c.split_at.ensures.front (c.plain_fields-compare.ensures.spelled size a plain.0 long));
-        second = subst (λ (bs : List ℕ). IsSpelling size (drop 64 entries ++ bs) (command_lent write b)) (back ∙ ap (λ (n : ℕ). drop n data) cut)
+        second = subst (λ (bs : List ℕ). IsSpelling size (drop 64 entries ++ bs) (command_lent write b)) (back ∙ ap (λ (n : ℕ). drop n buffer) cut)
             (subst (λ (entry : List ℕ). IsSpelling size (entry ++ b) (command_lent write b)) c.split_at.ensures.back (c.plain_fields-write.ensures.spelled size b plain.1 rest));
       };
+    } in
+    submits_of c.submit_fields.result e c.submit_fields.new.self entries old new c.requires.idle (record {
+      job = job;
+      asked = asked;
+      number = c.in-Ok-draw.number;
+      log = kept_by c.draw.new.log;
+      drawn = subst (λ (n : ℕ). HasDrawn e.number n (kept_by e.log) (kept_by c.draw.new.log) c.in-Ok-draw.number) (sym c.submit_fields.ensures.number) c.in-Ok-draw.ensures.drawn;
+      progress = c.submit_fields.ensures.progress;
+      space = c.submit_fields.ensures.space;
     })
