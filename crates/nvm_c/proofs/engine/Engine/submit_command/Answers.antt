@@ -1,4 +1,4 @@
-use Rattle.std.proofs.Common.{◌≡◌, ◌∙◌, ◌++◌, ℕ, ◌+◌, ◌*◌, List, IsTrue, [], false, length, inl, refl, sym, ap, subst, arith}
+use Rattle.std.proofs.Common.{◌≡◌, ◌∙◌, ◌++◌, ℕ, ◌+◌, ◌*◌, List, IsTrue, false, length, inl, sym, ap, subst, arith}
 use Rattle.nvm_record.specs.Entry.{IsSpelling, data_length}
 use Rattle.nvm_record.specs.Op.{carries_ranges}
 use Rattle.nvm_record.specs.declared.op.Op.{Op}

@@ -1,9 +1,6 @@
 use Rattle.std.proofs.Common.{◌≡◌, ◌∙◌, ℕ, ◌<◌, Bool, List, Some, false, refl, sym, ap, subst}
-use Rattle.nvm_record.specs.PayloadRef.{lent_bytes}
 use Rattle.nvm_plan.specs.Fits.{FitsNamespace}
 use Rattle.nvm_plan.specs.OnlyPart.{body_lent}
-use Rattle.nvm_plan.specs.declared.body_fields.BodyFields.{BodyFields}
-use Rattle.nvm_plan.specs.declared.job.Body.{Body}
 use Rattle.nvm_plan.specs.declared.job.Job.{Job}
 use Rattle.nvm_space.specs.Ports.{IsPortOf}
 use Rattle.nvm_space.specs.Spaces.{SpaceName}
