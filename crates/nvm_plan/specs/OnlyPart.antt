@@ -30,11 +30,6 @@ abbrev pub body_lent : BodyFields → List ℕ → List ℕ → Body
 body_lent (fields.Single alone) payload compared = Single (command_lent alone payload)
 body_lent (fields.Pair compare write) payload compared = Pair (command_lent compare compared) (command_lent write payload)
 
--- the entry whose range is the job's
-abbrev pub leading : BodyFields → EntryFields
-leading (fields.Single alone) = alone
-leading (fields.Pair compare write) = compare
-
 -- No check refuses the job, and it has this part in this unit and no other.
 pub record IsOnlyPart (ns : Namespace) (job : Job) (unit : ℕ) (part : Operation) : Type 0 where
   pub free : refusal_of ns job ≡ None

@@ -1,5 +1,5 @@
 //! The part of a command, or of a pair, that lies in one unit, without a job that holds it.
-ghost use Rattle.std.specs.Prelude.{◌≡◌, ◌+◌, ◌≤◌, ℕ, List, IfSome, IsTrue, Some, false};
+ghost use Rattle.std.specs.Prelude.{◌≡◌, ◌+◌, ◌<◌, ◌≤◌, ℕ, List, IfSome, IsTrue, Some, false};
 ghost use Rattle.std.specs.Bool.{OnTrue};
 ghost use Rattle.nvm_record.specs.Deeds.{IsOnRange};
 ghost use Rattle.nvm_record.specs.Op.{carries_ranges};
@@ -11,7 +11,7 @@ ghost use Rattle.nvm_store.specs.declared.place.Place.{Place as UnitPlace};
 ghost use Rattle.nvm_plan.specs.Checks.{namespace_identifier};
 ghost use Rattle.nvm_plan.specs.Fits.{IsWholeBody};
 ghost use Rattle.nvm_plan.specs.LentPart.{part_operation_of};
-ghost use Rattle.nvm_plan.specs.OnlyPart.{IsOnlyPart, body_lent, command_lent, leading};
+ghost use Rattle.nvm_plan.specs.OnlyPart.{IsOnlyPart, body_lent, command_lent};
 ghost use Rattle.nvm_plan.specs.Operation.{operation_of_body, single_operation};
 ghost use Rattle.nvm_plan.specs.Profile.{is_in_profile};
 ghost use Rattle.nvm_plan.specs.Ready.{IsReadyBody, IsReadyPair};
@@ -26,7 +26,7 @@ use nvm_record::{EntryFields, Fuse, Op, PayloadRef};
 use nvm_store::{ActRef, Look};
 
 /// What a job's entries say of its commands, which is all but their data.
-#[derive(Clone, Copy, Debug, PartialEq, Eq)]
+#[derive(Clone, Copy, Debug)]
 pub enum BodyFields {
     /// The entry of a command by itself.
     Single(EntryFields),
@@ -55,63 +55,52 @@ pub fn only_part<'a>(
     ready_jobs();
     parts_of_jobs();
     jobs_that_fit_have_their_data();
-    let part = ready_part(geometry, fields, payload, compared)?;
-    let leading = fields.leading();
-    let blocks = u32::from(leading.nlb) + 1;
-    if geometry.crosses(leading.slba, blocks) {
+    let (first, blocks, part) = ready_part(geometry, fields, payload, compared)?;
+    if geometry.crosses(first, blocks) {
         return None;
     }
-    Some((geometry.unit_of(leading.slba), part))
+    Some((geometry.unit_of(first), part))
 }
 
-impl BodyFields {
-    ghost use Rattle.nvm_plan.specs.OnlyPart.{leading};
-
-    /// The fields of the entry whose range is the job's.
-    #[inline(always)]
-    fn leading(self) -> EntryFields
-        ensures { result ≡ leading self }
-    {
-        match self {
-            BodyFields::Single(fields) => fields,
-            BodyFields::Pair(compare, _) => compare,
-        }
-    }
-}
-
-/// All that a job asks for on its range, where no check refuses it. It may be `None` all the same; as it is written it is so for a Dataset Management.
+/// The first LBA of a job's range, its blocks, and all that the job asks for there, where no check refuses it. It may be `None` all the same; as it is
+/// written it is so for a Dataset Management.
 #[inline(always)]
 fn ready_part<'a>(
     geometry: &Geometry,
     fields: BodyFields,
     payload: PayloadRef<'a>,
     compared: PayloadRef<'a>,
-) -> Option<LentPart<'a>>
-    ensures ready { IfSome result (λ part. IsReadyBody geometry.now (body_lent fields (lent_bytes payload.entry) (lent_bytes compared.entry))) }
-    ensures range { IfSome result (λ part. (leading fields).slba + ((leading fields).nlb + 1) ≤ geometry.now.nsze) }
-    ensures part { IfSome result (λ part. operation_of_body geometry.now (body_lent fields (lent_bytes payload.entry) (lent_bytes compared.entry))
-        ≡ Some (part_operation_of part)) }
-    ensures deed { IfSome result (λ part. IsOnRange (part_operation_of part).deed) }
-    ensures first { IfSome result (λ part. (part_operation_of part).first ≡ (leading fields).slba) }
-    ensures blocks { IfSome result (λ part. (part_operation_of part).blocks ≡ (leading fields).nlb + 1) }
+) -> Option<(u64, u32, LentPart<'a>)>
+    ensures ready { IfSome result (λ all. IsReadyBody geometry.now (body_lent fields (lent_bytes payload.entry) (lent_bytes compared.entry))) }
+    ensures some { IfSome result (λ all. 0 < all.1) }
+    ensures range { IfSome result (λ all. all.0 + all.1 ≤ geometry.now.nsze) }
+    ensures part { IfSome result (λ all. operation_of_body geometry.now (body_lent fields (lent_bytes payload.entry) (lent_bytes compared.entry))
+        ≡ Some (part_operation_of all.2)) }
+    ensures deed { IfSome result (λ all. IsOnRange (part_operation_of all.2).deed) }
+    ensures first { IfSome result (λ all. (part_operation_of all.2).first ≡ all.0) }
+    ensures blocks { IfSome result (λ all. (part_operation_of all.2).blocks ≡ all.1) }
 {
     match fields {
         BodyFields::Single(alone) => {
             if !passes_checks(geometry, &alone) {
                 return None;
             }
-            Some(whole_part(&alone, payload)?)
+            let part = whole_part(&alone, payload)?;
+            Some((alone.slba, u32::from(alone.nlb) + 1, part))
         }
         BodyFields::Pair(compare, write) => {
             if !is_ready_pair(geometry, &compare, &write) {
                 return None;
             }
-            Some(LentPart::Act(ActRef::Pair {
-                first: compare.slba,
-                blocks: u32::from(compare.nlb) + 1,
+            let first = compare.slba;
+            let blocks = u32::from(compare.nlb) + 1;
+            let act = ActRef::Pair {
+                first,
+                blocks,
                 compare: compared,
                 write: payload,
-            }))
+            };
+            Some((first, blocks, LentPart::Act(act)))
         }
     }
 }

@@ -9,11 +9,11 @@ returns-else-not-is_ready_pair-clause-ready c =
     rw c.in-Pair.is (c.if-not-is_ready_pair.ensures (lent_bytes c.args.compared) (lent_bytes c.args.payload))
 
 pub returns-else-not-is_ready_pair-clause-range : goal.returns-else-not-is_ready_pair-clause-range
-returns-else-not-is_ready_pair-clause-range c = rw c.in-Pair.is (c.if-not-is_ready_pair.ensures [] []).range
+returns-else-not-is_ready_pair-clause-range c = rw c.from-blocks.ensures (c.if-not-is_ready_pair.ensures [] []).range
 
 pub returns-else-not-is_ready_pair-clause-part : goal.returns-else-not-is_ready_pair-clause-part
 returns-else-not-is_ready_pair-clause-part c =
     let compare = command_lent c.in-Pair.compare (lent_bytes c.args.compared) in
     let write = command_lent c.in-Pair.write (lent_bytes c.args.payload) in
     let ready = c.if-not-is_ready_pair.ensures (lent_bytes c.args.compared) (lent_bytes c.args.payload) in
-    rw c.in-Pair.is (rw c.from.ensures (operation_of_pair c.args.geometry.now compare write ready.compare ready.write))
+    rw c.in-Pair.is (rw c.from-blocks.ensures (operation_of_pair c.args.geometry.now compare write ready.compare ready.write))
